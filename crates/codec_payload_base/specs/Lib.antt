@@ -1,0 +1,5 @@
+pub mod Answers
+pub mod Faults
+pub mod Payloads
+pub mod Pieces
+pub mod Time

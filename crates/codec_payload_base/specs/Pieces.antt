@@ -1,0 +1,35 @@
+-- How a frame is cut into pieces of one size, the last with the rest.
+use Rattle.std.specs.Prelude.{◌≡◌, ℕ, ◌+◌, ◌-◌, ◌/◌, ◌<◌, ◌≤◌, List, [], ◌∷◌, length, take, drop, ◌++◌, Result, Ok, Err, refl}
+use Rattle.std.specs.List.{flat_map}
+use Rattle.std.proofs.Common.{lit<, lit≤}
+use Rattle.codec_payload_base.specs.declared.error.PacketError.{PacketError}
+use Rattle.codec_payload_base.specs.declared.error.PacketError.TheVariants as faults
+
+-- byte strings, one behind the other
+abbrev pub joined : List (List ℕ) → List ℕ
+joined pieces = flat_map (λ piece. piece) pieces
+
+-- all have that size but the last, which has at most that size and is not empty
+abbrev pub AreOfSize : ℕ → List (List ℕ) → Type 0
+AreOfSize size [] = Unit {0}
+AreOfSize size (piece ∷ []) = (0 < length piece) × (length piece ≤ size)
+AreOfSize size (piece ∷ next ∷ pieces) = (length piece ≡ size) × AreOfSize size (next ∷ pieces)
+
+-- the pieces of a frame
+pub record ArePieces (size : ℕ) (frame : List ℕ) (pieces : List (List ℕ)) : Type 0 where
+  pub join : joined pieces ≡ frame
+  pub sizes : AreOfSize size pieces
+
+-- n divided by size, rounded up
+abbrev pub rounded_up : ℕ → ℕ → ℕ
+rounded_up n size = (n + size - 1) / size
+
+-- what a packetizer of pieces answers: no packets exactly where the frame is empty or the MTU is 0, and else the pieces
+-- of MTU bytes, as many as the length over the MTU, rounded up; the only fault is want of memory
+abbrev pub AnswersPieces : ℕ → List ℕ → Result (List (List ℕ)) PacketError → Type 0
+AnswersPieces mtu frame (Ok packets) = (mtu ≡ 0 → packets ≡ []) × (0 < mtu → ArePieces mtu frame packets) × (0 < mtu → length packets ≡ rounded_up (length frame) mtu)
+AnswersPieces mtu frame (Err fault) = (fault ≡ faults.OutOfMemory) × (0 < mtu) × (0 < length frame)
+
+-- three bytes at an MTU of 2 are two pieces
+pub pieces-two : ArePieces 2 (0x90 ∷ 0x90 ∷ 0x90 ∷ []) ((0x90 ∷ 0x90 ∷ []) ∷ (0x90 ∷ []) ∷ [])
+pieces-two = record { join = refl; sizes = (refl, lit< tt, lit≤ tt) }

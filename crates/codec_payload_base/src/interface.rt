@@ -1,0 +1,115 @@
+//! What a packetizer and a depacketizer are, and what they tell besides bytes.
+
+ghost use Rattle.std.specs.Prelude.{◌≡◌, ℕ, List, Bool, false, IsTrue, Option, Result, ⊤};
+ghost use Rattle.std.specs.Option.{option_copied};
+ghost use Rattle.codec_payload_base.specs.Answers.{packets_of};
+ghost use Rattle.codec_payload_base.specs.declared.error.PacketError.{PacketError as Fault};
+ghost use Rattle.codec_payload_base.specs.declared.interface.CodecExtra.{CodecExtra as Extra};
+
+use crate::error::PacketError;
+use std::alloc::Global;
+use std::fmt::Debug;
+
+/// What the payloads of a frame told besides its bytes.
+#[derive(Clone, Copy, Debug, PartialEq, Eq)]
+pub enum CodecExtra {
+    /// Nothing was told.
+    None,
+}
+
+/// How VP9 frames refer to one another (RFC 9628, section 3).
+#[derive(Clone, Copy, Debug, Default, PartialEq, Eq)]
+pub enum Vp9PacketizerMode {
+    /// Each frame lists the frames that it refers to.
+    Flexible,
+    /// The references follow a pattern that was told before.
+    #[default]
+    NonFlexible,
+}
+
+/// Cuts media frames into RTP payloads.
+pub trait Packetizer: Debug + Drop {
+    /// What it holds now, as numbers that its kind chooses.
+    ghost state: { Self → List ℕ };
+
+    /// The packetizer before the call, the MTU and the frame; the answer, and what it holds afterwards.
+    ghost packetize_step: { Self → ℕ → List ℕ → Result (List (List ℕ)) Fault → List ℕ → Type 0 };
+
+    /// The packetizer before the call, the packet, the packet before it, whether it is the last of its frame; the
+    /// answer, and what it holds afterwards.
+    ghost marker_step: { Self → List ℕ → Option (List ℕ) → Bool → Bool → List ℕ → Type 0 };
+
+    /// Whether it may mark where a talk spurt starts.
+    ghost may_mark: { Self → Type 0 };
+
+    /// Whether a receiver may do without a lost packet of it.
+    ghost may_do_without: { Self → Type 0 };
+
+    /// The RTP payloads of the frame `b`, in order, none longer than `mtu` bytes unless the kind says otherwise.
+    fn packetize(
+        &mut self,
+        alloc: Global,
+        mtu: usize,
+        b: &[u8],
+    ) -> Result<Vec<Vec<u8>>, PacketError>
+        ensures { packetize_step self.old mtu b.now (packets_of result) (state self.new) };
+
+    /// Whether the packet with the payload `data` gets the marker of the RTP header. `previous` is the payload of the
+    /// packet sent before it, and `last` says that no packet of the frame follows.
+    fn is_marker(&mut self, data: &[u8], previous: Option<&[u8]>, last: bool) -> bool
+        ensures { marker_step self.old data.now (option_copied previous.entry) last result (state self.new) };
+
+    /// Whether the marker tells where a talk spurt starts (RFC 3551, section 4.1).
+    fn marks_talkspurt(&self) -> bool
+        ensures { IsTrue result → may_mark self.now }
+    {
+        false
+    }
+
+    /// Whether a receiver may ask for a lost packet again (RFC 4585, section 6.2.1).
+    fn nackable(&self) -> bool
+        ensures { result ≡ false → may_do_without self.now }
+    {
+        true
+    }
+}
+
+/// Puts media frames together from RTP payloads.
+pub trait Depacketizer: Debug + Drop {
+    /// What it holds now, as numbers that its kind chooses.
+    ghost state: { Self → List ℕ };
+
+    /// The depacketizer, the payload, the bytes and the extra before the call; the answer; what it holds, the bytes
+    /// and the extra afterwards.
+    ghost depacketize_step: { Self → List ℕ → List ℕ → Extra → Result ⊤ Fault → List ℕ → List ℕ → Extra → Type 0 };
+
+    /// How many bytes payloads of a total size may give.
+    ghost size_hint: { Self → ℕ → Option ℕ };
+
+    /// Whether a payload begins a unit.
+    ghost is_head: { Self → List ℕ → Bool };
+
+    /// Whether a payload under this marker ends a unit.
+    ghost is_tail: { Self → Bool → List ℕ → Bool };
+
+    /// How many bytes to make room for, where payloads of `packets_size` bytes in all are to come.
+    fn out_size_hint(&self, packets_size: usize) -> Option<usize>
+        ensures { result ≡ size_hint self.now packets_size };
+
+    /// Appends what the payload `packet` carries to `out`, and notes in `codec_extra` what it tells besides.
+    fn depacketize(
+        &mut self,
+        packet: &[u8],
+        out: &mut Vec<u8>,
+        codec_extra: &mut CodecExtra,
+    ) -> Result<(), PacketError>
+        ensures { depacketize_step self.old packet.now out.old.items codec_extra.old result (state self.new) out.new.items codec_extra.new };
+
+    /// Whether the payload begins a unit.
+    fn is_partition_head(&self, packet: &[u8]) -> bool
+        ensures { result ≡ is_head self.now packet.now };
+
+    /// Whether the payload, under this marker of its RTP header, ends a unit.
+    fn is_partition_tail(&self, marker: bool, packet: &[u8]) -> bool
+        ensures { result ≡ is_tail self.now marker packet.now };
+}
