@@ -5,3 +5,5 @@ pub use Rattle.codec_payload_base.specs.Pieces
 pub use Rattle.codec_payload_base.specs.Time
 pub mod Depack
 pub mod Pack
+pub mod Packets
+pub mod Sending

@@ -4,3 +4,4 @@
 pub use codec_payload_base::{error, interface, plain, wire};
 
 pub mod codec;
+pub mod payload;
