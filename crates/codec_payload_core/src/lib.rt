@@ -3,4 +3,5 @@
 
 pub use codec_payload_base::{error, interface, plain, wire};
 
+pub mod buffer;
 pub mod codec;
