@@ -3,7 +3,14 @@ pub use Rattle.codec_payload_base.specs.Faults
 pub use Rattle.codec_payload_base.specs.Payloads
 pub use Rattle.codec_payload_base.specs.Pieces
 pub use Rattle.codec_payload_base.specs.Time
+pub mod Buffer
 pub mod Depack
+pub mod Frames
+pub mod Held
 pub mod Pack
 pub mod Packets
+pub mod Release
+pub mod Scan
 pub mod Sending
+pub mod Steps
+pub mod Stretches

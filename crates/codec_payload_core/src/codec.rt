@@ -4,7 +4,7 @@ ghost use Rattle.std.specs.Prelude.{◌≡◌, ◌≤◌, option_map, IsTrue, fa
 ghost use Rattle.std.specs.Option.{option_copied};
 ghost use Rattle.codec_payload_base.specs.Answers.{packets_of};
 ghost use Rattle.codec_payload_core.specs.Pack.{pack_of, pack_for, PackStep, marker_of, talkspurt_of, nackable_of};
-ghost use Rattle.codec_payload_core.specs.Depack.{depack_of, depack_for, DepackStep, head_of, tail_of, hint_of};
+ghost use Rattle.codec_payload_core.specs.Depack.{depack_of, depack_for, kind_of_depack, DepackStep, head_of, tail_of, hint_of};
 
 use codec_payload_base::error::PacketError;
 pub use codec_payload_base::interface::{CodecExtra, Depacketizer, Packetizer, Vp9PacketizerMode};
@@ -174,6 +174,7 @@ impl Depacketizer for CodecDepacketizer {
     ) -> Result<(), PacketError>
         ensures step { ⟦<CodecDepacketizer as Depacketizer>⟧.depacketize_step self.old packet.now out.old.items codec_extra.old result (⟦<CodecDepacketizer as Depacketizer>⟧.state self.new) out.new.items codec_extra.new }
         ensures built_in { DepackStep (depack_of self.old) packet.now out.old.items codec_extra.old result (depack_of self.new) out.new.items codec_extra.new }
+        ensures kind { kind_of_depack (depack_of self.new) ≡ kind_of_depack (depack_of self.old) }
     {
         match self {
             CodecDepacketizer::G711(d) => d.depacketize(packet, out, codec_extra),
