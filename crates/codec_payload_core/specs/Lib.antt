@@ -11,6 +11,7 @@ pub mod Pack
 pub mod Packets
 pub mod Release
 pub mod Scan
+pub mod Schedule
 pub mod Sending
 pub mod Steps
 pub mod Stretches

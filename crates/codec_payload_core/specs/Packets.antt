@@ -15,15 +15,15 @@ pub record Packet : Type 0 where
 
 abbrev pub packet_of : OutgoingPacket → Packet
 packet_of p = record {
-    pt = p.pt;
-    number = p.seq_no.0;
-    rtp_time = p.rtp_time;
-    wallclock = p.wallclock.0;
-    marker = p.marker;
-    nackable = p.nackable;
-    ext_vals = p.ext_vals;
-    payload = p.payload.items;
-  }
+  pt = p.pt;
+  number = p.seq_no.0;
+  rtp_time = p.rtp_time;
+  wallclock = p.wallclock.0;
+  marker = p.marker;
+  nackable = p.nackable;
+  ext_vals = p.ext_vals;
+  payload = p.payload.items;
+}
 
 abbrev pub packets_in : List OutgoingPacket → List Packet
 packets_in = map packet_of

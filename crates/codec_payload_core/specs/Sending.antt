@@ -18,13 +18,13 @@ pub record Sample : Type 0 where
 
 abbrev pub sample_of : ToPayload → Sample
 sample_of s = record {
-    pt = s.pt;
-    wallclock = s.wallclock.0;
-    rtp_time = s.rtp_time;
-    bytes = s.bytes.items;
-    start_of_talk_spurt = s.start_of_talk_spurt;
-    ext_vals = s.ext_vals;
-  }
+  pt = s.pt;
+  wallclock = s.wallclock.0;
+  rtp_time = s.rtp_time;
+  bytes = s.bytes.items;
+  start_of_talk_spurt = s.start_of_talk_spurt;
+  ext_vals = s.ext_vals;
+}
 
 -- a payloader: its packetizer and the rate of the RTP clock
 pub record Payloading : Type 0 where
@@ -38,15 +38,15 @@ rtp_time_at clock_rate time = (rebased time clock_rate).numer % 2 ^ 32
 -- one packet of a sample; `last` says that no other of the sample follows
 abbrev pub packet_for : Pack → Sample → ℕ → ℕ → Bool → List ℕ → Packet
 packet_for pack sample rtp_time number last payload = record {
-    pt = sample.pt;
-    number = number;
-    rtp_time = rtp_time;
-    wallclock = sample.wallclock;
-    marker = marker_of pack last || (talkspurt_of pack && sample.start_of_talk_spurt);
-    nackable = nackable_of pack;
-    ext_vals = sample.ext_vals;
-    payload = payload;
-  }
+  pt = sample.pt;
+  number = number;
+  rtp_time = rtp_time;
+  wallclock = sample.wallclock;
+  marker = marker_of pack last || (talkspurt_of pack && sample.start_of_talk_spurt);
+  nackable = nackable_of pack;
+  ext_vals = sample.ext_vals;
+  payload = payload;
+}
 
 abbrev pub is_last : List (List ℕ) → Bool
 is_last [] = true

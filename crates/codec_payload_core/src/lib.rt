@@ -6,3 +6,4 @@ pub use codec_payload_base::{error, interface, plain, wire};
 pub mod buffer;
 pub mod codec;
 pub mod payload;
+pub mod schedule;

@@ -16,7 +16,7 @@ loop-payload-preserved g c =
       counted = search rules;
       left = count;
       so_far = next_so_far g.S.PacketSink.accepts g.S.PacketSink.sent g.S.PacketSink.next c.args.sink.now _ (pack_of c.packetize.new.self) c.loop-payload.self.pack (sample_of c.args.sample.now) (c.numer.result % 2 ^ 32) _ _ _ _ c.loop-payload.sink c.send_payload.new.sink
-        split count (ap (λ p. p.pack) c.loop-payload.invariant.same) c.loop-payload.invariant.so_far c.in_ok-send_payload.ensures.ok;
+          split count (ap (λ p. p.pack) c.loop-payload.invariant.same) c.loop-payload.invariant.so_far c.in_ok-send_payload.ensures.ok;
     }
 
 pub returns-clause-ok : goal.returns-clause-ok
