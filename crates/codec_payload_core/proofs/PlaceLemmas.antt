@@ -54,6 +54,11 @@ at_place n (q ∷ qs) x r l = at_test (at_place n qs x r.1) (ltb q.meta.seq_no.0
         let at_least : n ≤ q.meta.seq_no.0 = grind (arith, nat_tests, e) in
         grind (arith, nat_tests, not_below n (map held_of qs) (above_lower n q.meta.seq_no.0 (map held_of qs) at_least r.0))
 
+-- the packet that is found at that place tells it
+pub at_found : (n : ℕ) (xs : List HeldPacket) (i : ℕ) (q : HeldPacket) → Rises (map held_of xs) → i ≡ place_of n (map held_of xs) → i < length xs → q ≡ get_or xs i q → eqb q.meta.seq_no.0 n ≡ has_number n (map held_of xs)
+at_found n xs i q r at l is =
+    ap (λ (p : HeldPacket). eqb p.meta.seq_no.0 n) (is ∙ ap (λ k. get_or xs k q) at) ∙ at_place n xs q r (omega (arith, l, at))
+
 pub past_place : (n : ℕ) (hs : List Held) → Rises hs → length hs ≤ place_of n hs → has_number n hs ≡ false
 past_place n [] r l = refl
 past_place n (q ∷ qs) r l = grind (arith, nat_tests, past_place n qs r.1, place_within n qs)
