@@ -88,7 +88,7 @@ impl DepacketizingBuffer {
     ///
     /// Out of order it costs a binary search and a move of entries, not of payloads.
     pub fn push(&mut self, meta: RtpMeta, data: Vec<u8>) -> Result<(), PacketError>
-        ensures ok { OnOk result (self.new ≡ pushed self.old (arrived self.old.depack meta data.items)) }
+        ensures ok { OnOk result (self.new ≡ pushed self.old (arrived self.old.depack meta «data».items)) }
         ensures err { OnErr result (self.new ≡ self.old) }
         ensures fault { IfErr result (λ f. f ≡ OutOfMemory) }
         ensures dropped { IsTrue (is_dropped self.old meta.seq_no.0) → IsOk result }
