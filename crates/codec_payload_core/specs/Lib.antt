@@ -8,7 +8,10 @@ pub mod Depack
 pub mod Frames
 pub mod Held
 pub mod Pack
+pub mod Packets
 pub mod Release
 pub mod Scan
+pub mod Schedule
+pub mod Sending
 pub mod Steps
 pub mod Stretches

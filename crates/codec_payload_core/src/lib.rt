@@ -5,3 +5,5 @@ pub use codec_payload_base::{error, interface, plain, wire};
 
 pub mod buffer;
 pub mod codec;
+pub mod payload;
+pub mod schedule;
