@@ -10,3 +10,7 @@ by_test false P t f = f refl
 pub by_option : (o : Option ℕ) (P : Option ℕ → Type 0) → (o ≡ None → P None) → ((n : ℕ) → o ≡ Some n → P (Some n)) → P o
 by_option None P n s = n refl
 by_option (Some x) P n s = s x refl
+
+-- no test answers both
+pub not_both : (b : Bool) → b ≡ true → b ≡ false → ⊥
+not_both b t f = cc

@@ -6,7 +6,7 @@ use Rattle.std.proofs.lemmas.Bool.Decides.{nat_tests}
 use Rattle.codec_payload_core.specs.declared.buffer.frames.Segment.{Segment}
 use Rattle.codec_payload_core.specs.Held.{Held, Rises, AllAbove}
 use Rattle.codec_payload_core.specs.Frames.{frames, frames_after, frame_at, ended_at, lowest_head, row_before, leads_to, start_or_here, IsRow, IsHeadAt, IsFrame, StartAbove, StartsRise, StandApart, AreFramesOfSet, AreInOrder, AreApart, AreOnlyList}
-use Rattle.codec_payload_core.proofs.CaseLemmas.{by_test}
+use Rattle.codec_payload_core.proofs.CaseLemmas.{by_test, not_both}
 use Rattle.codec_payload_core.proofs.RowLemmas.{leads_parts, leads_from}
 use Rattle.codec_payload_core.proofs.MemberLemmas.{IsIn, contains_in, in_contains, in_left, in_right, in_append, KeysAbove, KeysRise, same_members}
 
@@ -136,9 +136,6 @@ lowest_step e p es f leads (Some n) low = record {
   ];
 }
 lowest_step e p es f leads None none = lowest_here p (e ∷ es) f (λ m row head l. none m (row_less e p es m f row l).1 (less_head p (e ∷ es) m head l))
-
-not_both : (b : Bool) → b ≡ true → b ≡ false → ⊥
-not_both b t f = cc
 
 lowest_is : (p : Held) (es : List Held) → Falls (p ∷ es) → AnswersLowest (p ∷ es) p (lowest_head (p ∷ row_before p es))
 lowest_is p [] f = lowest_here p [] f (λ m row head l. let r = row.each m (omega arith) (omega arith) in not_first p [] r.0 (in_contains r.0 (p ∷ []) r.1) (omega (arith, r.2)))
