@@ -9,7 +9,7 @@ use Rattle.codec_payload_core.specs.Sending.{Sample, Payloading, packets_for, rt
 use Rattle.codec_payload_core.specs.Schedule.{RunState, run_state, after_send, packets_sent, SendsIt, StopsSending}
 use Rattle.codec_payload_core.specs.Steps.{State}
 use Rattle.codec_payload_core.specs.declared.schedule.Sent.{Sent}
-use Rattle.codec_payload_core.proofs.SendLemmas.{Keeps, kept_all}
+use Rattle.codec_payload_core.proofs.SendLemmas.{Keeps, kept_all, kept_numbered}
 
 pub length-packets_for : (pack : Pack) (sample : Sample) (rtp_time number : ℕ) (payloads : List (List ℕ)) → length (packets_for pack sample rtp_time number payloads) ≡ length payloads
 length-packets_for pack sample rtp_time number [] = refl
@@ -49,6 +49,7 @@ sent_it place mtu sample p p' b sink sink' clock sent =
       packetized = sent.packetized;
       not_memory = λ e. cc;
       entry_is = ap (λ (n : ℕ). record { step = place; first = length sink.packets; count = n; fault = None }) count;
+      numbered = kept_numbered p'.pack sample (rtp_time_at p.clock_rate sample.rtp_time) (next_number sink) sent.payloads sink sent.images sink' refl sent.sends;
       left = left_by p p' b sink sink' packets clock kept.1;
     }
 
@@ -62,6 +63,7 @@ refused_it place mtu sample fault p p' b sink sink' clock other (inl nothing) =
       packetized = nothing.packetized;
       not_memory = λ e. other (cc);
       entry_is = refl;
+      numbered = tt;
       left = left_by p p' b sink sink' [] clock (nothing.same ∙ ap (λ (ps : List Packet). record sink { packets = ps }) (sym (append-nil sink.packets)));
     }
 refused_it place mtu sample fault p p' b sink sink' clock other (inr beginning) = absurd (other beginning.refusal.0)

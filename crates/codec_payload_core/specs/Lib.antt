@@ -6,6 +6,7 @@ pub use Rattle.codec_payload_base.specs.Time
 pub mod Buffer
 pub mod Depack
 pub mod Frames
+pub mod Headline
 pub mod Held
 pub mod Pack
 pub mod Packets
@@ -13,5 +14,7 @@ pub mod Release
 pub mod Scan
 pub mod Schedule
 pub mod Sending
+pub mod SentStream
 pub mod Steps
 pub mod Stretches
+pub mod Units
