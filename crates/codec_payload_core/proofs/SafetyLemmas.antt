@@ -275,3 +275,62 @@ module _ (all_steps : List Step) (clock_rate first : ℕ) (kind : DepackKind) (s
     | inl memory ↦ absurd (found (ap (λ (f : PacketError). Some (Err f)) memory.0))
     | inr refusal ↦ absurd (not_refused from pops.1.0 t fault (beyond_passes from s pops.1.0 pops.0 sound pops.1.1) refusal)
   ]
+
+  pub safe_from : (samples : List Sample) (later : List Step) (place from : ℕ) (s t : RunState) (sends : List Sent) (pops : List Answer)
+      → drop place all_steps ≡ later → Runs samples place later s sends pops t → t.sink.packets ≡ packets_of all → s.payloading.clock_rate ≡ clock_rate
+      → IsBeyond from s.buffer → InOrder all_steps clock_rate splits all from pops
+  safe_from samples [] place from s t sends pops at run whole clock sound = subst (InOrder all_steps clock_rate splits all from) (sym run.1) tt
+  safe_from samples (steps.Send i mtu ∷ later) place from s t sends pops at run whole clock sound =
+      let next = drop_next all_steps place (steps.Send i mtu) later at in
+      let mid = run.4 in
+      let same = sent_same (slice_get samples i) run.7.1 in
+      let rest = safe_from samples later (place + 1) from mid t run.1 run.3 next.1 run.8 whole (same.1 ∙ clock) (subst (IsBeyond from) (sym same.0) sound) in
+      subst (InOrder all_steps clock_rate splits all from) (sym (run.6 ∙ ap (λ (ps : List Answer). ps ++ run.3) run.7.0)) rest
+    where
+      sent_same : (o : Option Sample) → MatchOption o ((run.0 ≡ []) × (run.4 ≡ s)) (λ sample. (entry : Sent) × (run.0 ≡ entry ∷ []) × SendsIt place mtu sample s entry run.4)
+          → (run.4.buffer ≡ s.buffer) × (run.4.payloading.clock_rate ≡ s.payloading.clock_rate)
+      sent_same None step = (ap (λ (x : RunState). x.buffer) step.1, ap (λ (x : RunState). x.payloading.clock_rate) step.1)
+      sent_same (Some sample) step = (ap (λ (x : RunState). x.buffer) step.2.left, ap (λ (x : RunState). x.payloading.clock_rate) step.2.left)
+  safe_from samples (steps.Push k ∷ later) place from s t sends pops at run whole clock sound =
+      let next = drop_next all_steps place (steps.Push k) later at in
+      let mid = run.4 in
+      let stream = streams samples place (steps.Push k ∷ later) s t sends pops run in
+      let held : IsBeyond from (after_push place clock_rate (slice_get s.sink.packets k) s.buffer) =
+        push_beyond from s.buffer place k s.sink.packets (packets_of stream.units) (sym stream.gained ∙ whole) next.0 (slice_get s.sink.packets k) refl sound in
+      let buffer : mid.buffer ≡ after_push place clock_rate (slice_get s.sink.packets k) s.buffer =
+        ap (λ (x : RunState). x.buffer) run.7.2 ∙ ap (λ (rate : ℕ). after_push place rate (slice_get s.sink.packets k) s.buffer) clock in
+      let rest = safe_from samples later (place + 1) from mid t run.1 run.3 next.1 run.8 whole (ap (λ (x : RunState). x.payloading.clock_rate) run.7.2 ∙ clock) (subst (IsBeyond from) (sym buffer) held) in
+      subst (InOrder all_steps clock_rate splits all from) (sym (run.6 ∙ ap (λ (ps : List Answer). ps ++ run.3) run.7.1)) rest
+  safe_from samples (steps.Pop ∷ later) place from s t sends pops at run whole clock sound =
+      let next = drop_next all_steps place steps.Pop later at in
+      let mid = run.4 in
+      let answer = run.7.1 in
+      let buffer : mid.buffer ≡ run.7.2 = ap (λ (x : RunState). x.buffer) run.7.6 in
+      let all_answers : answer ∷ run.3 ≡ pops = sym (run.6 ∙ ap (λ (ps : List Answer). ps ++ run.3) run.7.3) in
+      subst (InOrder all_steps clock_rate splits all from) all_answers
+      (pop_in_order from s.buffer run.7.2 answer run.3 sound run.7.5 run.7.4
+        (λ n beyond. safe_from samples later (place + 1) n mid t run.1 run.3 next.1 run.8 whole (ap (λ (x : RunState). x.payloading.clock_rate) run.7.6 ∙ clock) (subst (IsBeyond n) (sym buffer) beyond)))
+
+-- a run over an unused sink and an unused buffer releases its units in order, each at most once
+pub safe : (samples : List Sample) (all_steps : List Step) (s t : RunState) (sends : List Sent) (pops : List Answer) → Runs samples 0 all_steps s sends pops t → IsUnused s → ReleasesInOrder samples all_steps s pops t
+safe samples all_steps s t sends pops run unused =
+    let stream = streams samples 0 all_steps s t sends pops run in
+    let kind = payloads_by s.payloading.pack in
+    let splits = may_split s.payloading.pack in
+    let whole : t.sink.packets ≡ packets_of stream.units = stream.gained ∙ ap (λ (ps : List Packet). ps ++ packets_of stream.units) unused.nothing_sent in
+    let none : s.sink.first + length s.sink.packets ≡ s.sink.first = omega (arith, ap length unused.nothing_sent) in
+    let numbered : AreNumbered s.sink.first (packets_of stream.units) = subst (λ (n : ℕ). AreNumbered n (packets_of stream.units)) none stream.numbered in
+    let fresh : IsBeyond all_steps s.payloading.clock_rate s.sink.first kind splits stream.units stream.lawful numbered 0 s.buffer = record {
+      rises = subst Rises (sym unused.nothing_held) tt;
+      beyond = subst (λ (o : Option ℕ). IsAboveCutoff o s.buffer.held) (sym unused.no_cutoff) tt;
+      sent = subst (AllSent all_steps s.payloading.clock_rate s.sink.first kind splits stream.units stream.lawful numbered) (sym unused.nothing_held) tt;
+      floor = rw unused.no_cutoff (omega arith);
+      reads = unused.alike;
+    } in
+    record {
+      units = stream.units;
+      canonical = stream.canonical;
+      packets = sym whole;
+      lawful = stream.lawful;
+      in_order = safe_from all_steps s.payloading.clock_rate s.sink.first kind splits stream.units stream.lawful numbered samples all_steps 0 0 s t sends pops refl run whole refl fresh;
+    }

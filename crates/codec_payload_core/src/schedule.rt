@@ -2,7 +2,8 @@
 
 ghost use Rattle.std.specs.Prelude.{◌≡◌, ◌≢◌, ◌++◌, List, map, IfOk, IfErr, OnOk, OnErr, Option, Result};
 ghost use Rattle.codec_payload_base.specs.declared.error.PacketError.TheVariants.{OutOfMemory};
-ghost use Rattle.codec_payload_core.specs.Packets.{packet_of, packets_in};
+ghost use Rattle.codec_payload_core.specs.Headline.{IsUnused, ReleasesInOrder};
+ghost use Rattle.codec_payload_core.specs.Packets.{packet_of};
 ghost use Rattle.codec_payload_core.specs.Release.{Release};
 ghost use Rattle.codec_payload_core.specs.Schedule.{run_state, SendsIt, StopsSending, DoesStep, StopsAt, Runs, Stops, Answer, after_push};
 ghost use Rattle.codec_payload_core.specs.Sending.{Sample, sample_of};
@@ -65,6 +66,9 @@ pub fn run_schedule(
 ) -> Result<Run, PacketError>
     ensures runs { IfOk result (λ run. Runs (map sample_of samples.now) 0 steps.now (run_state payloader.old buffer.old sink.old)
         run.sends.items run.pops.items (run_state payloader.new buffer.new sink.new)) }
+    // Whatever is lost, repeated and reordered: the canonical units of the samples, in order, each at most once and whole.
+    ensures safe { IfOk result (λ run. IsUnused (run_state payloader.old buffer.old sink.old)
+        → ReleasesInOrder (map sample_of samples.now) steps.now (run_state payloader.old buffer.old sink.old) run.pops.items (run_state payloader.new buffer.new sink.new)) }
     ensures fault { IfErr result (λ fault. fault ≡ OutOfMemory) }
     ensures stops { OnErr result (Stops (map sample_of samples.now) 0 steps.now (run_state payloader.old buffer.old sink.old)
         (run_state payloader.new buffer.new sink.new)) }
