@@ -10,6 +10,8 @@ ghost use Rattle.codec_payload_core.specs.Stretches.{LeavesNumbers, OrderIsFree}
 
 mod frames;
 mod packets;
+#[cfg(test)]
+mod tests;
 mod unit;
 
 pub use unit::{Depacketized, RtpMeta};
