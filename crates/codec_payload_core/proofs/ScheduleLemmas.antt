@@ -1,5 +1,5 @@
 -- What a sent sample leaves, as a step of a run.
-use Rattle.std.proofs.Common.{◌≡◌, ◌≢◌, ◌∙◌, sym, ap, refl, subst, ℕ, suc, ◌+◌, ◌-◌, ◌%◌, ◌^◌, ◌⊎◌, inl, inr, List, [], ◌∷◌, ◌++◌, length, arith, length-append, Option, Some, None, Result, Ok, Err}
+use Rattle.std.proofs.Common.{◌≡◌, ◌≢◌, ◌∙◌, sym, ap, refl, subst, ℕ, suc, ◌+◌, ◌-◌, ◌%◌, ◌^◌, ◌⊎◌, inl, inr, List, [], ◌∷◌, ◌++◌, length, arith, length-append, Option, Some, None, Result, Ok, Err, OnOk, OnErr}
 use Rattle.std.proofs.lemmas.List.{append-nil}
 use Rattle.codec_payload_base.specs.declared.error.PacketError.{PacketError}
 use Rattle.codec_payload_base.specs.declared.error.PacketError.TheVariants as faults
@@ -9,7 +9,7 @@ use Rattle.codec_payload_core.specs.Sending.{Sample, Payloading, packets_for, rt
 use Rattle.codec_payload_core.specs.Schedule.{RunState, run_state, after_send, packets_sent, SendsIt, StopsSending}
 use Rattle.codec_payload_core.specs.Steps.{State}
 use Rattle.codec_payload_core.specs.declared.schedule.Sent.{Sent}
-use Rattle.codec_payload_core.proofs.SendLemmas.{Keeps, kept_all}
+use Rattle.codec_payload_core.proofs.SendLemmas.{Keeps, kept_all, kept_numbered}
 
 pub length-packets_for : (pack : Pack) (sample : Sample) (rtp_time number : ℕ) (payloads : List (List ℕ)) → length (packets_for pack sample rtp_time number payloads) ≡ length payloads
 length-packets_for pack sample rtp_time number [] = refl
@@ -49,6 +49,7 @@ sent_it place mtu sample p p' b sink sink' clock sent =
       packetized = sent.packetized;
       not_memory = λ e. cc;
       entry_is = ap (λ (n : ℕ). record { step = place; first = length sink.packets; count = n; fault = None }) count;
+      numbered = kept_numbered p'.pack sample (rtp_time_at p.clock_rate sample.rtp_time) (next_number sink) sent.payloads sink sent.images sink' refl sent.sends;
       left = left_by p p' b sink sink' packets clock kept.1;
     }
 
@@ -62,6 +63,7 @@ refused_it place mtu sample fault p p' b sink sink' clock other (inl nothing) =
       packetized = nothing.packetized;
       not_memory = λ e. other (cc);
       entry_is = refl;
+      numbered = tt;
       left = left_by p p' b sink sink' [] clock (nothing.same ∙ ap (λ (ps : List Packet). record sink { packets = ps }) (sym (append-nil sink.packets)));
     }
 refused_it place mtu sample fault p p' b sink sink' clock other (inr beginning) = absurd (other beginning.refusal.0)
@@ -76,3 +78,13 @@ stopped_it mtu sample fault p p' b sink sink' clock memory (inr beginning) =
     let kept = kept_all sink beginning.begun beginning.images beginning.mid beginning.sends in
     (p'.pack, inr (beginning.payloads, beginning.begun, beginning.refused ∷ beginning.left, beginning.packetized, beginning.whole,
         left_by p p' b sink sink' beginning.begun clock (beginning.refusal.1 ∙ kept.1)))
+
+-- what holds anyway holds of an Err
+pub on_err : {T E P : Type 0} (r : Result T E) → P → OnErr r P
+on_err (Ok x) p = tt
+on_err (Err e) p = p
+
+-- what follows from a fact of an Ok
+pub on_ok : {T E P Q : Type 0} (r : Result T E) → (P → Q) → OnOk r P → OnOk r Q
+on_ok (Ok x) f p = f p
+on_ok (Err e) f p = p

@@ -1,9 +1,10 @@
 -- How what a sink took grows packet by packet.
-use Rattle.std.proofs.Common.{◌≡◌, ◌∙◌, sym, ap, refl, subst, ℕ, List, [], ◌∷◌, ◌++◌, append_assoc, map, length, ◌==◌, ◌+◌, ◌%◌, ◌^◌}
+use Rattle.std.proofs.Common.{◌≡◌, ◌∙◌, sym, ap, refl, subst, ℕ, List, [], ◌∷◌, ◌++◌, append_assoc, map, length, ◌==◌, ◌+◌, ◌%◌, ◌^◌, ◌<◌, arith, length-append}
 use Rattle.std.specs.Global.{Vec}
 use Rattle.std.proofs.lemmas.List.{append-nil}
 use Rattle.std.proofs.Math.Dec.{eqb-suc-zero}
-use Rattle.codec_payload_core.specs.Packets.{Packet, SentPackets}
+use Rattle.std.proofs.Math.Nat.{mod-eq_of_lt}
+use Rattle.codec_payload_core.specs.Packets.{Packet, SentPackets, AreNumbered}
 use Rattle.codec_payload_core.specs.Sending.{Sends, Sample, packet_for, packets_for, is_last}
 use Rattle.codec_payload_core.specs.Pack.{Pack}
 
@@ -63,7 +64,7 @@ next_so_far accepts sent next before all pack here sample rtp_time vs v left n m
 
 -- what a sink in memory makes of packets: it keeps them
 abbrev pub Keeps : SentPackets → Packet → Packet → SentPackets → Type 0
-Keeps before packet image after = (image ≡ packet) × (after ≡ record before { packets = before.packets ++ packet ∷ [] })
+Keeps before packet image after = (image ≡ packet) × (after ≡ record before { packets = before.packets ++ packet ∷ [] }) × (after.first + length after.packets < 2 ^ 64)
 
 pub kept_all : (before : SentPackets) (packets images : List Packet) (after : SentPackets) → Sends Keeps before packets images after
     → (images ≡ packets) × (after ≡ record before { packets = before.packets ++ packets })
@@ -73,3 +74,18 @@ kept_all before (p ∷ ps) images after sends =
     (sends.3 ∙ (ap (λ (x : Packet). x ∷ sends.1) sends.4.0 ∙ ap (λ (xs : List Packet). p ∷ xs) rest.0),
       rest.1 ∙ (ap (λ (s : SentPackets). record s { packets = s.packets ++ ps }) sends.4.1
         ∙ ap (λ (xs : List Packet). record before { packets = xs }) (append_assoc before.packets (p ∷ []) ps)))
+
+-- the packets of a sample have consecutive numbers in a sink in memory
+pub kept_numbered : (pack : Pack) (sample : Sample) (rtp_time number : ℕ) (payloads : List (List ℕ)) (before : SentPackets) (images : List Packet) (after : SentPackets)
+    → number ≡ before.first + length before.packets → Sends Keeps before (packets_for pack sample rtp_time number payloads) images after
+    → AreNumbered number (packets_for pack sample rtp_time number payloads)
+kept_numbered pack sample rtp_time number [] before images after at sends = tt
+kept_numbered pack sample rtp_time number (payload ∷ payloads) before images after at sends =
+    let mid = sends.2 in
+    let packet = packet_for pack sample rtp_time number (is_last payloads) payload in
+    let grown : mid.first + length mid.packets ≡ number + 1 =
+      ap (λ (s : SentPackets). s.first + length s.packets) sends.4.1 ∙ omega (arith, length-append before.packets (packet ∷ []), at) in
+    let small : (number + 1) % 2 ^ 64 ≡ number + 1 = mod-eq_of_lt (omega (arith, grown, sends.4.2)) in
+    let next : (number + 1) % 2 ^ 64 ≡ mid.first + length mid.packets = small ∙ sym grown in
+    (refl, subst (λ (n : ℕ). AreNumbered n (packets_for pack sample rtp_time ((number + 1) % 2 ^ 64) payloads)) small
+        (kept_numbered pack sample rtp_time ((number + 1) % 2 ^ 64) payloads mid sends.1 after next sends.5))

@@ -57,16 +57,22 @@ DepackStep OpusDepack payload out extra answer after out' extra' = Appends paylo
 DepackStep NullDepack payload out extra answer after out' extra' = Appends payload out extra answer out' extra' × (after ≡ NullDepack)
 
 -- whether a payload begins a unit
+abbrev pub head_in : DepackKind → List ℕ → Bool
+head_in G711Payloads payload = true
+head_in OpusPayloads payload = true
+head_in NullPayloads payload = true
+
 abbrev pub head_of : Depack → List ℕ → Bool
-head_of G711Depack payload = true
-head_of OpusDepack payload = true
-head_of NullDepack payload = true
+head_of depack payload = head_in (kind_of_depack depack) payload
 
 -- whether a payload under this marker ends a unit
+abbrev pub tail_in : DepackKind → Bool → List ℕ → Bool
+tail_in G711Payloads marker payload = true
+tail_in OpusPayloads marker payload = true
+tail_in NullPayloads marker payload = true
+
 abbrev pub tail_of : Depack → Bool → List ℕ → Bool
-tail_of G711Depack marker payload = true
-tail_of OpusDepack marker payload = true
-tail_of NullDepack marker payload = true
+tail_of depack marker payload = tail_in (kind_of_depack depack) marker payload
 
 -- how many bytes payloads of a total size may give
 abbrev pub hint_of : Depack → ℕ → Option ℕ

@@ -7,6 +7,7 @@ pub mod Buffer
 pub mod BufferExamples
 pub mod Depack
 pub mod Frames
+pub mod Headline
 pub mod Held
 pub mod Pack
 pub mod Packets
@@ -14,5 +15,7 @@ pub mod Release
 pub mod Scan
 pub mod Schedule
 pub mod Sending
+pub mod SentStream
 pub mod Steps
 pub mod Stretches
+pub mod Units

@@ -1,5 +1,5 @@
 -- Packets on their way out, without where they lie in memory.
-use Rattle.std.specs.Prelude.{◌≡◌, ℕ, Bool, List, [], ◌∷◌, Option, option_map, slice_get, length, ◌-◌, map}
+use Rattle.std.specs.Prelude.{◌≡◌, ℕ, ◌+◌, Bool, List, [], ◌∷◌, Option, option_map, slice_get, length, ◌-◌, map}
 use Rattle.codec_payload_base.specs.declared.wire.ExtensionValues.{ExtensionValues}
 use Rattle.codec_payload_core.specs.declared.payload.OutgoingPacket.{OutgoingPacket}
 
@@ -36,3 +36,8 @@ pub record SentPackets : Type 0 where
 -- the payload of the last packet, if there is one
 abbrev pub last_payload : List Packet → Option (List ℕ)
 last_payload packets = option_map (λ p. p.payload) (slice_get packets (length packets - 1))
+
+-- the packets have consecutive numbers, from n on
+abbrev pub AreNumbered : ℕ → List Packet → Type 0
+AreNumbered n [] = Unit {0}
+AreNumbered n (p ∷ ps) = (p.number ≡ n) × AreNumbered (n + 1) ps

@@ -3,7 +3,7 @@ use Rattle.std.specs.Prelude.{false, ◌≡◌, ◌≢◌, ℕ, ◌+◌, ◌%◌
 use Rattle.codec_payload_base.specs.declared.error.PacketError.{PacketError}
 use Rattle.codec_payload_base.specs.declared.error.PacketError.TheVariants as faults
 use Rattle.codec_payload_core.specs.Pack.{Pack, PackStep}
-use Rattle.codec_payload_core.specs.Packets.{Packet, SentPackets}
+use Rattle.codec_payload_core.specs.Packets.{Packet, SentPackets, AreNumbered}
 use Rattle.codec_payload_core.specs.Sending.{Sample, Payloading, packets_for, rtp_time_at}
 use Rattle.codec_payload_core.specs.Release.{Release}
 use Rattle.codec_payload_core.specs.Steps.{State, arrived, pushed, Pops}
@@ -47,6 +47,7 @@ pub record SendsIt (place mtu : ℕ) (sample : Sample) (s : RunState) (entry : S
   pub packetized : PackStep s.payloading.pack mtu sample.bytes answer pack
   pub not_memory : answer ≢ Err faults.OutOfMemory
   pub entry_is : entry ≡ record { step = place; first = length s.sink.packets; count = length (payloads_of answer); fault = fault_of answer }
+  pub numbered : AreNumbered (s.sink.first + length s.sink.packets) (packets_sent s pack sample (payloads_of answer))
   pub left : t ≡ after_send s pack (packets_sent s pack sample (payloads_of answer))
 
 -- what is known of a packet that step `place` pushes

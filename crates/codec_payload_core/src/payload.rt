@@ -109,14 +109,14 @@ impl MemorySink {
 }
 
 impl PacketSink for MemorySink {
-    ghost use Rattle.std.specs.Prelude.{◌≡◌, ◌+◌, ◌++◌, ◌∷◌, [], length};
+    ghost use Rattle.std.specs.Prelude.{◌≡◌, ◌+◌, ◌<◌, ◌^◌, ◌++◌, ◌∷◌, [], length};
     ghost use Rattle.codec_payload_base.specs.declared.error.PacketError.TheVariants as faults;
 
     ghost sent = { λ s. s.packets };
 
     ghost next = { λ s. s.first + length s.packets };
 
-    ghost accepts = { λ before packet image after. (image ≡ packet) × (after ≡ record before { packets = before.packets ++ packet ∷ [] }) };
+    ghost accepts = { λ before packet image after. (image ≡ packet) × (after ≡ record before { packets = before.packets ++ packet ∷ [] }) × (after.first + length after.packets < 2 ^ 64) };
 
     ghost refuses = { λ before _ fault after. (fault ≡ faults.OutOfMemory) × (after ≡ before) };
 

@@ -1,8 +1,9 @@
 //! Whole runs: samples are sent, some of their packets are pushed, in any order, and units are popped.
 
-ghost use Rattle.std.specs.Prelude.{◌≡◌, ◌≢◌, [], map, IfOk, IfErr, OnOk, OnErr, Option, Result};
+ghost use Rattle.std.specs.Prelude.{◌≡◌, ◌≢◌, ◌++◌, List, map, IfOk, IfErr, OnOk, OnErr, Option, Result};
 ghost use Rattle.codec_payload_base.specs.declared.error.PacketError.TheVariants.{OutOfMemory};
-ghost use Rattle.codec_payload_core.specs.Packets.{packet_of, packets_in};
+ghost use Rattle.codec_payload_core.specs.Headline.{IsUnused, ReleasesInOrder};
+ghost use Rattle.codec_payload_core.specs.Packets.{packet_of};
 ghost use Rattle.codec_payload_core.specs.Release.{Release};
 ghost use Rattle.codec_payload_core.specs.Schedule.{run_state, SendsIt, StopsSending, DoesStep, StopsAt, Runs, Stops, Answer, after_push};
 ghost use Rattle.codec_payload_core.specs.Sending.{Sample, sample_of};
@@ -65,6 +66,9 @@ pub fn run_schedule(
 ) -> Result<Run, PacketError>
     ensures runs { IfOk result (λ run. Runs (map sample_of samples.now) 0 steps.now (run_state payloader.old buffer.old sink.old)
         run.sends.items run.pops.items (run_state payloader.new buffer.new sink.new)) }
+    // Whatever is lost, repeated and reordered: the canonical units of the samples, in order, each at most once and whole.
+    ensures safe { IfOk result (λ run. IsUnused (run_state payloader.old buffer.old sink.old)
+        → ReleasesInOrder (map sample_of samples.now) steps.now (run_state payloader.old buffer.old sink.old) run.pops.items (run_state payloader.new buffer.new sink.new)) }
     ensures fault { IfErr result (λ fault. fault ≡ OutOfMemory) }
     ensures stops { OnErr result (Stops (map sample_of samples.now) 0 steps.now (run_state payloader.old buffer.old sink.old)
         (run_state payloader.new buffer.new sink.new)) }
@@ -74,27 +78,50 @@ pub fn run_schedule(
         pops: Vec::new(alloc),
     };
     for (place, step) in steps.iter().enumerate() {
-        match *step {
-            Step::Send { sample, mtu } => {
-                if let Some(sample) = samples.get(sample) {
-                    run.sends.reserve(1)?;
-                    let entry = send_step(alloc, payloader, sink, sample, mtu, place)?;
-                    run.sends.push(entry).unwrap();
-                }
-            }
-            Step::Push(k) => {
-                if let Some(packet) = sink.packets().get(k) {
-                    push_step(alloc, payloader.clock_rate(), buffer, packet, place)?;
-                }
-            }
-            Step::Pop => {
-                run.pops.reserve(1)?;
-                let answer = pop_step(buffer)?;
-                run.pops.push(answer).unwrap();
-            }
-        }
+        do_step(payloader, buffer, sink, samples, place, *step, &mut run)?;
     }
     Ok(run)
+}
+
+/// Does one step, and notes what came of it.
+fn do_step(
+    payloader: &mut Payloader,
+    buffer: &mut DepacketizingBuffer,
+    sink: &mut MemorySink,
+    samples: &[ToPayload],
+    place: usize,
+    step: Step,
+    run: &mut Run,
+) -> Result<(), PacketError>
+    ensures ok { OnOk result ((sends : List Entry) × (pops : List Answer) × (run.new.sends.items ≡ run.old.sends.items ++ sends) × (run.new.pops.items ≡ run.old.pops.items ++ pops)
+        × DoesStep (map sample_of samples.now) place step (run_state payloader.old buffer.old sink.old) sends pops (run_state payloader.new buffer.new sink.new)) }
+    ensures fault { IfErr result (λ fault. fault ≡ OutOfMemory) }
+    ensures err { OnErr result (StopsAt (map sample_of samples.now) step (run_state payloader.old buffer.old sink.old) (run_state payloader.new buffer.new sink.new)) }
+{
+    let alloc = *run.sends.allocator();
+    match step {
+        Step::Send { sample, mtu } => {
+            let Some(sample) = samples.get(sample) else {
+                return Ok(());
+            };
+            run.sends.reserve(1)?;
+            let entry = send_step(alloc, payloader, sink, sample, mtu, place)?;
+            run.sends.push(entry).unwrap();
+            Ok(())
+        }
+        Step::Push(k) => {
+            let Some(packet) = sink.packets().get(k) else {
+                return Ok(());
+            };
+            push_step(alloc, payloader.clock_rate(), buffer, packet, place)
+        }
+        Step::Pop => {
+            run.pops.reserve(1)?;
+            let answer = pop_step(buffer)?;
+            run.pops.push(answer).unwrap();
+            Ok(())
+        }
+    }
 }
 
 /// Sends a sample.

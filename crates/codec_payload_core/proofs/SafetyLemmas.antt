@@ -1,0 +1,336 @@
+-- Whatever is lost, repeated and reordered, units are released in order, each at most once.
+use Rattle.std.proofs.Common.{◌≡◌, ◌≢◌, ℕ, zero, suc, ◌<◌, ◌≤◌, ◌+◌, [], ◌∷◌, ◌++◌, List, length, take, drop, refl, ap, sym, ◌∙◌, subst, arith, Bool, false, cond, Option, Some, None, Result, Ok, Err, add-one, append_assoc, inl, inr, ltb}
+use Rattle.std.specs.Prelude.{slice_get, MatchResult, MatchOption}
+use Rattle.std.proofs.lemmas.Bool.{cases_lt}
+use Rattle.std.proofs.lemmas.List.{length-append, append-nil}
+use Rattle.codec_payload_base.specs.Time.{Time}
+use Rattle.codec_payload_base.specs.declared.error.PacketError.{PacketError}
+use Rattle.codec_payload_base.specs.declared.error.PacketError.TheVariants as faults
+use Rattle.codec_payload_core.proofs.CaseLemmas.{by_test}
+use Rattle.codec_payload_core.proofs.FrameParts.{IsRun}
+use Rattle.codec_payload_core.proofs.PlaceLemmas.{placed_rises, placed_above_cutoff}
+use Rattle.codec_payload_core.proofs.PopLemmas.{part_due, above_rises, above_is_above}
+use Rattle.codec_payload_core.proofs.RowLemmas.{above_all, first_above, part_between, first_le_last, run_first, run_length}
+use Rattle.codec_payload_core.proofs.StreamLemmas.{Streams, streams}
+use Rattle.codec_payload_core.proofs.UnitRows.{held_as, slice_append, drop_at, drop_next, RowOf, Exact, unit_of_row, exact_length, exact_payloads, exact_metas, exact_starts}
+use Rattle.codec_payload_core.specs.Depack.{Depack, DepackKind, kind_of_depack, head_in, tail_in}
+use Rattle.codec_payload_core.specs.Headline.{IsPushOf, ArePushesOf, packets_before, IsUnitAt, InOrder, IsUnused, ReleasesInOrder}
+use Rattle.codec_payload_core.specs.Held.{Held, Rises, IsAboveCutoff, placed, above, between, has_number}
+use Rattle.codec_payload_core.specs.Packets.{Packet, AreNumbered}
+use Rattle.codec_payload_core.specs.Release.{Release}
+use Rattle.codec_payload_core.specs.Schedule.{Answer, RunState, Runs, SendsIt, after_push, meta_of_push}
+use Rattle.codec_payload_core.specs.Sending.{Sample}
+use Rattle.codec_payload_core.specs.SentStream.{SentUnit, packets_of, StartsWithHead, IsLawful, AllLawful, IsReleaseOf}
+use Rattle.codec_payload_core.specs.Steps.{State, Contiguity, arrived, pushed, kept_to_limit, without_lowest, is_dropped, is_at_most, without, metas_of, due_of, packets_in, Unpacked, Unpacks, nothing_unpacked, Gives, Passes, none, one_more, PassesOver, Releases, Refuses, Stalls, TakesFrame, Pops}
+use Rattle.codec_payload_core.specs.Units.{payloads_by, may_split}
+use Rattle.codec_payload_core.specs.declared.buffer.frames.Segment.{Segment}
+use Rattle.codec_payload_core.specs.declared.buffer.unit.RtpMeta.{RtpMeta}
+use Rattle.codec_payload_core.specs.declared.schedule.Sent.{Sent}
+use Rattle.codec_payload_core.specs.declared.schedule.Step.{Step}
+use Rattle.codec_payload_core.specs.declared.schedule.Step.TheVariants as steps
+
+-- the least number that a frame may start with
+abbrev pub next_after : ℕ → Option ℕ → ℕ
+next_after first None = first
+next_after first (Some c) = c + 1
+
+before_next : (units : List SentUnit) (place : ℕ) (u : SentUnit) → slice_get units place ≡ Some u → packets_before (place + 1) units ≡ packets_before place units + length u.packets
+before_next [] place u h = absurd (cc)
+before_next (v ∷ us) zero u h = let e : v ≡ u = cc in rw (← e) (omega (arith, length-append v.packets []))
+before_next (v ∷ us) (suc place) u h = rw add-one (omega (arith, rw add-one at (before_next us place u h), length-append v.packets (packets_of (take (suc place) us)), length-append v.packets (packets_of (take place us))))
+
+before_later : (units : List SentUnit) (place n : ℕ) (u : SentUnit) → slice_get units place ≡ Some u → place < n → packets_before place units + length u.packets ≤ packets_before n units
+before_later [] place n u h l = absurd (cc)
+before_later (v ∷ us) place zero u h l = absurd (omega arith)
+before_later (v ∷ us) zero (suc n) u h l = let e : v ≡ u = cc in rw (← e) (omega (arith, length-append v.packets (packets_of (take n us))))
+before_later (v ∷ us) (suc place) (suc n) u h l = omega (arith, before_later us place n u h (omega arith), length-append v.packets (packets_of (take place us)), length-append v.packets (packets_of (take n us)))
+
+lawful_at : (kind : DepackKind) (splits : Bool) (units : List SentUnit) (place : ℕ) (u : SentUnit) → AllLawful kind splits units → slice_get units place ≡ Some u → IsLawful kind splits u
+lawful_at kind splits [] place u l h = absurd (cc)
+lawful_at kind splits (v ∷ us) zero u l h = let e : v ≡ u = cc in rw (← e) l.0
+lawful_at kind splits (v ∷ us) (suc place) u l h = lawful_at kind splits us place u l.1 h
+
+number_at : (ps : List Packet) (n k : ℕ) (q : Packet) → AreNumbered n ps → slice_get ps k ≡ Some q → q.number ≡ n + k
+number_at [] n k q a h = absurd (cc)
+number_at (p ∷ ps) n zero q a h = let e : p ≡ q = cc in omega (arith, a.0, ap (λ (x : Packet). x.number) e)
+number_at (p ∷ ps) n (suc k) q a h = omega (arith, number_at ps (n + 1) k q a.1 h)
+
+module _ (all_steps : List Step) (clock_rate first : ℕ) (kind : DepackKind) (splits : Bool) (all : List SentUnit) (lawful : AllLawful kind splits all) (numbered : AreNumbered first (packets_of all)) where
+  -- a push of a packet that was sent
+  abbrev pub IsSent : Held → Type 0
+  IsSent p = (k : ℕ) × (q : Packet) × (slice_get (packets_of all) k ≡ Some q) × IsPushOf all_steps clock_rate k q p.meta × (p ≡ held_as kind p.meta q.payload)
+
+  abbrev pub AllSent : List Held → Type 0
+  AllSent [] = Unit {0}
+  AllSent (p ∷ ps) = IsSent p × AllSent ps
+
+  -- what holds of the buffer between the steps: it holds pushes of sent packets alone, and the units before `from` are
+  -- done with
+  pub record IsBeyond (from : ℕ) (s : State) : Type 0 where
+    pub rises : Rises s.held
+    pub beyond : IsAboveCutoff s.cutoff s.held
+    pub sent : AllSent s.held
+    pub floor : first + packets_before from all ≤ next_after first s.cutoff
+    pub reads : kind_of_depack s.depack ≡ kind
+
+  sent_append : (xs ys : List Held) → AllSent (xs ++ ys) → AllSent ys
+  sent_append [] ys a = a
+  sent_append (x ∷ xs) ys a = sent_append xs ys a.1
+
+  sent_front : (xs ys : List Held) → AllSent (xs ++ ys) → AllSent xs
+  sent_front [] ys a = tt
+  sent_front (x ∷ xs) ys a = (a.0, sent_front xs ys a.1)
+
+  sent_placed : (p : Held) (hs : List Held) → IsSent p → AllSent hs → AllSent (placed p hs)
+  sent_placed p [] i a = (i, tt)
+  sent_placed p (q ∷ qs) i a = by_test (ltb q.meta.seq_no.0 p.meta.seq_no.0) (λ b. AllSent (cond b (q ∷ placed p qs) (p ∷ q ∷ qs))) (λ e. (a.0, sent_placed p qs i a.1)) (λ e. (i, a))
+
+  number_of_sent : (p : Held) (s : IsSent p) → p.meta.seq_no.0 ≡ first + s.0
+  number_of_sent p s = ap (λ (m : RtpMeta). m.seq_no.0) s.3.2 ∙ number_at (packets_of all) first s.0 s.1 numbered s.2
+
+  -- a run of sent packets is a row of them
+  row_of_run : (k last : ℕ) (time : Time) (ps : List Held) → IsRun (first + k) last time ps → AllSent ps → RowOf all_steps clock_rate kind k (drop k (packets_of all)) ps
+  row_of_run k last time [] run sent = absurd run
+  row_of_run k last time (p ∷ []) run sent =
+      let i = sent.0 in
+      let same : i.0 ≡ k = omega (arith, number_of_sent p i, run.0) in
+      rw (← same, drop_at (packets_of all) i.0 i.1 i.2) (i.3, i.4, tt)
+  row_of_run k last time (p ∷ r ∷ rs) run sent =
+      let i = sent.0 in
+      let same : i.0 ≡ k = omega (arith, number_of_sent p i, run.0) in
+      let next : first + k + 1 ≡ first + (k + 1) = omega arith in
+      let rest = row_of_run (k + 1) last time (r ∷ rs) (rw next at run.3) sent.1 in
+      rw (drop_at (packets_of all) k i.1 (rw same at i.2)) (rw same at i.3, i.4, rest)
+
+  -- what is known of the packets of the frame that is due
+  pub record IsFrameOf (from : ℕ) (s : State) (f : Segment) : Type 0 where
+    pub packets : List Held
+    pub after : List Held
+    pub are : packets_in s f ≡ packets
+    pub left : above f.last s.held ≡ after
+    pub sent_after : AllSent after
+    pub place : ℕ
+    pub sent : SentUnit
+    pub at_place : slice_get all place ≡ Some sent
+    pub not_before : from ≤ place
+    pub missing : List Packet
+    pub rest : List Packet
+    pub whole : missing ++ rest ≡ sent.packets
+    pub exact : Exact all_steps clock_rate kind (packets_before place all + length missing) rest packets
+    pub starts : StartsWithHead kind rest
+    pub floor : first + packets_before (place + 1) all ≤ f.last + 1
+    pub higher : next_after first s.cutoff ≤ f.last + 1
+
+  first_sent : (f last : ℕ) (time : Time) (ps : List Held) → IsRun f last time ps → AllSent ps → (k : ℕ) × (f ≡ first + k)
+  first_sent f last time [] run sent = absurd run
+  first_sent f last time (p ∷ ps) run sent = (sent.0.0, sym (run_first p ps f last time run) ∙ number_of_sent p sent.0)
+
+  above_next : (cutoff : Option ℕ) (before packets after : List Held) (k f last : ℕ) (time : Time) → f ≡ first + k → IsRun f last time packets → IsAboveCutoff cutoff (before ++ (packets ++ after)) → next_after first cutoff ≤ f
+  above_next None before packets after k f last time is run a = omega arith
+  above_next (Some c) before packets after k f last time is run a = omega (arith, first_above c packets after f last time run (above_all c before (packets ++ after) a))
+
+  frame_of : (from : ℕ) (s : State) (f : Segment) → IsBeyond from s → due_of s ≡ Some f → IsFrameOf from s f
+  frame_of from s f sound due =
+      let found = part_due s f due in
+      let packets = found.0 in
+      let after = found.1 in
+      let part = found.2 in
+      let split = part_between part.before packets after f.first f.last part.time part.run (rw part.whole at sound.rises) in
+      let sent = sent_append part.before (packets ++ after) (rw part.whole at sound.sent) in
+      let begin = first_sent f.first f.last part.time packets part.run (sent_front packets after sent) in
+      let k = begin.0 in
+      let run : IsRun (first + k) f.last part.time packets = subst (λ (n : ℕ). IsRun n f.last part.time packets) begin.1 part.run in
+      let zero : 0 + k ≡ k = omega arith in
+      let row : RowOf all_steps clock_rate kind k (drop k (packets_of all)) packets = row_of_run k f.last part.time packets run (sent_front packets after sent) in
+      let end = unit_of_row all_steps clock_rate kind splits all k 0 (first + k) f.last part.time packets lawful run (subst (λ (n : ℕ). RowOf all_steps clock_rate kind n (drop k (packets_of all)) packets) (sym zero) row) in
+      let exact : Exact all_steps clock_rate kind (packets_before end.place all + length end.missing) end.rest packets = subst (λ (n : ℕ). Exact all_steps clock_rate kind n end.rest packets) (zero ∙ end.index) end.exact in
+      let low = above_next s.cutoff part.before packets after k f.first f.last part.time begin.1 part.run (rw part.whole at sound.beyond) in
+      let long = run_length packets f.first f.last part.time part.run in
+      let full = exact_length all_steps clock_rate kind (packets_before end.place all + length end.missing) end.rest packets exact in
+      let sizes : length end.sent.packets ≡ length end.missing + length end.rest = ap length (sym end.whole) ∙ length-append end.missing end.rest in
+      let some = first_le_last packets f.first f.last part.time part.run in
+      let ordered : from ≤ end.place = elim (cases_lt end.place from) [
+        | inl early ↦ absurd (omega (arith, before_later all end.place from end.sent end.at_place early, sound.floor, low, begin.1, end.index, sizes, long, full, some))
+        | inr le ↦ le
+      ] in
+      record {
+        packets = packets;
+        after = after;
+        are = ap (between f.first f.last) part.whole ∙ split.inside;
+        left = ap (above f.last) part.whole ∙ split.beyond;
+        sent_after = sent_append packets after sent;
+        place = end.place;
+        sent = end.sent;
+        at_place = end.at_place;
+        not_before = ordered;
+        missing = end.missing;
+        rest = end.rest;
+        whole = end.whole;
+        exact = exact;
+        starts = exact_starts all_steps clock_rate kind (packets_before end.place all + length end.missing) end.rest packets exact part.begins;
+        floor = omega (arith, before_next all end.place end.sent end.at_place, begin.1, end.index, sizes, long, full);
+        higher = omega (arith, low, some);
+      }
+
+  -- the lowest is evicted
+  beyond_lowest : (from : ℕ) (s : State) (hs : List Held) → hs ≡ s.held → IsBeyond from s → IsBeyond from (without_lowest s hs)
+  beyond_lowest from s [] is sound = sound
+  beyond_lowest from s (p ∷ ps) is sound =
+      let rises : Rises (p ∷ ps) = subst Rises (sym is) sound.rises in
+      let sent : AllSent (p ∷ ps) = subst AllSent (sym is) sound.sent in
+      let over : next_after first s.cutoff ≤ p.meta.seq_no.0 = next_le s.cutoff (subst (IsAboveCutoff s.cutoff) (sym is) sound.beyond) sent.0 in
+      record { rises = rises.1; beyond = rises.0; sent = sent.1; floor = omega (arith, sound.floor, over); reads = sound.reads }
+    where
+      next_le : (cutoff : Option ℕ) → IsAboveCutoff cutoff (p ∷ ps) → IsSent p → next_after first cutoff ≤ p.meta.seq_no.0
+      next_le None a i = omega (arith, number_of_sent p i)
+      next_le (Some c) a i = omega (arith, a.0)
+
+  beyond_kept : (from : ℕ) (s : State) → IsBeyond from s → IsBeyond from (kept_to_limit s)
+  beyond_kept from s sound =
+      by_test (ltb s.limit (length s.held)) (λ b. IsBeyond from (cond b (without_lowest s s.held) s)) (λ e. beyond_lowest from s s.held refl sound) (λ e. sound)
+
+  beyond_placed : (from : ℕ) (s : State) (p : Held) → IsSent p → is_at_most s.cutoff p.meta.seq_no.0 ≡ false → has_number p.meta.seq_no.0 s.held ≡ false → IsBeyond from s → IsBeyond from (record s { held = placed p s.held })
+  beyond_placed from s p i low fresh sound = record {
+    rises = placed_rises p s.held sound.rises fresh;
+    beyond = placed_above_cutoff s.cutoff p s.held low sound.beyond;
+    sent = sent_placed p s.held i sound.sent;
+    floor = sound.floor;
+    reads = sound.reads;
+  }
+
+  beyond_pushed : (from : ℕ) (s : State) (p : Held) → IsSent p → IsBeyond from s → IsBeyond from (pushed s p)
+  beyond_pushed from s p i sound =
+      by_test (is_dropped s p.meta.seq_no.0) (λ b. IsBeyond from (cond b s (kept_to_limit (record s { held = placed p s.held }))))
+      (λ e. sound)
+      (λ e. beyond_kept from (record s { held = placed p s.held }) (beyond_placed from s p i (grind (arith, e)) (grind (arith, e)) sound))
+
+  -- the frame that is due has left: what is held lies beyond its unit
+  beyond_without : (from : ℕ) (s : State) (f : Segment) (sound : IsBeyond from s) (due : due_of s ≡ Some f) (n : ℕ) → first + packets_before n all ≤ f.last + 1 → (d : Depack) → kind_of_depack d ≡ kind → (c : Contiguity) (mark : Bool) → IsBeyond n (without s f d c mark)
+  beyond_without from s f sound due n floor d reads c mark =
+      let frame = frame_of from s f sound due in
+      record { rises = above_rises f.last s.held sound.rises; beyond = above_is_above f.last s.held; sent = subst AllSent (sym frame.left) frame.sent_after; floor = floor; reads = reads }
+
+  -- what the depacketizer answers for the frame that is due
+  given : (from : ℕ) (s : State) (f : Segment) (sound : IsBeyond from s) (due : due_of s ≡ Some f) (answer : Result Unpacked PacketError) (e : Depack) → Gives s f answer e
+      → let frame = frame_of from s f sound due in (kind_of_depack e ≡ kind) × MatchResult answer (λ unpacked. IsReleaseOf splits frame.sent frame.missing unpacked.bytes) (λ fault. fault ≡ faults.OutOfMemory)
+  given from s f sound due answer e gives =
+      let frame = frame_of from s f sound due in
+      let law = lawful_at kind splits all frame.place frame.sent lawful frame.at_place in
+      law.gives frame.missing frame.rest frame.whole frame.starts frame.packets
+      (exact_payloads all_steps clock_rate kind (packets_before frame.place all + length frame.missing) frame.rest frame.packets frame.exact)
+      s.depack answer e sound.reads (subst (λ (ps : List Held). Unpacks s.depack ps nothing_unpacked answer e) frame.are gives)
+
+  beyond_over : (from : ℕ) (s t : State) → IsBeyond from s → PassesOver s t → IsBeyond from t
+  beyond_over from s t sound over =
+      let frame = frame_of from s over.frame sound over.is_due in
+      let reads = (given from s over.frame sound over.is_due (Ok over.unpacked) over.depack over.gives).0 in
+      subst (IsBeyond from) (sym over.left) (beyond_without from s over.frame sound over.is_due from (omega (arith, sound.floor, frame.higher)) over.depack reads _ s.mark)
+
+  beyond_passes : (from : ℕ) (s t : State) (over : List Segment) → IsBeyond from s → Passes s over t → IsBeyond from t
+  beyond_passes from s t over sound none = sound
+  beyond_passes from s u over sound (one_more passes passed) = beyond_over from _ u (beyond_passes from s _ _ sound passes) passed
+
+  -- a release is that of a unit further on
+  released : (from : ℕ) (s t : State) (r : Release) → IsBeyond from s → Releases s r t → (place : ℕ) × (from ≤ place) × IsUnitAt all_steps clock_rate splits all place r × IsBeyond (place + 1) t
+  released from s t r sound out =
+      let frame = frame_of from s out.frame sound out.is_due in
+      let answer = given from s out.frame sound out.is_due (Ok (record { bytes = r.bytes; extra = r.codec_extra })) out.depack out.gives in
+      let metas : r.metas ≡ metas_of frame.packets = out.metas ∙ ap metas_of frame.are in (
+        frame.place,
+        frame.not_before,
+        record {
+          sent = frame.sent;
+          at_place = frame.at_place;
+          missing = frame.missing;
+          rest = frame.rest;
+          whole = frame.whole;
+          bytes = answer.1;
+          metas = subst (ArePushesOf all_steps clock_rate (packets_before frame.place all + length frame.missing) frame.rest) (sym metas) (exact_metas all_steps clock_rate kind (packets_before frame.place all + length frame.missing) frame.rest frame.packets frame.exact);
+        },
+        subst (IsBeyond (frame.place + 1)) (sym out.left) (beyond_without from s out.frame sound out.is_due (frame.place + 1) frame.floor out.depack answer.0 _ false),
+      )
+
+  -- and no fault but for memory is answered
+  not_refused : (from : ℕ) (s t : State) (fault : PacketError) → IsBeyond from s → Refuses s fault t → ⊥
+  not_refused from s t fault sound refusal =
+      refusal.not_memory (given from s refusal.frame sound refusal.is_due (Err fault) refusal.depack refusal.gives).1
+
+  -- the packet that a push names
+  push_beyond : (from : ℕ) (s : State) (place k : ℕ) (sent more : List Packet) → sent ++ more ≡ packets_of all → slice_get all_steps place ≡ Some (steps.Push k) → (o : Option Packet) → slice_get sent k ≡ o → IsBeyond from s → IsBeyond from (after_push place clock_rate o s)
+  push_beyond from s place k sent more whole at None is sound = sound
+  push_beyond from s place k sent more whole at (Some q) is sound =
+      let meta = meta_of_push place clock_rate q in
+      let found : slice_get (packets_of all) k ≡ Some q = subst (λ (ps : List Packet). slice_get ps k ≡ Some q) whole (slice_append sent more k q is) in
+      let held : arrived s.depack meta q.payload ≡ held_as kind meta q.payload = ap (λ (x : DepackKind). held_as x meta q.payload) sound.reads in
+      beyond_pushed from s (arrived s.depack meta q.payload) (k, q, found, (place, at, refl), held) sound
+
+  -- what a pop answers
+  pop_in_order : (from : ℕ) (s t : State) (answer : Answer) (answers : List Answer) → IsBeyond from s → Pops s answer t → answer ≢ Some (Err faults.OutOfMemory)
+      → ((n : ℕ) → IsBeyond n t → InOrder all_steps clock_rate splits all n answers) → InOrder all_steps clock_rate splits all from (answer ∷ answers)
+  pop_in_order from s t None answers sound pops found later = later from (beyond_passes from s t pops.0 sound pops.1.0)
+  pop_in_order from s t (Some (Ok r)) answers sound pops found later =
+      let out = released from pops.1.0 t r (beyond_passes from s pops.1.0 pops.0 sound pops.1.1) pops.1.2 in
+      (out.0, out.1, out.2, later (out.0 + 1) out.3)
+  pop_in_order from s t (Some (Err fault)) answers sound pops found later = elim pops.1.2 [
+    | inl memory ↦ absurd (found (ap (λ (f : PacketError). Some (Err f)) memory.0))
+    | inr refusal ↦ absurd (not_refused from pops.1.0 t fault (beyond_passes from s pops.1.0 pops.0 sound pops.1.1) refusal)
+  ]
+
+  pub safe_from : (samples : List Sample) (later : List Step) (place from : ℕ) (s t : RunState) (sends : List Sent) (pops : List Answer)
+      → drop place all_steps ≡ later → Runs samples place later s sends pops t → t.sink.packets ≡ packets_of all → s.payloading.clock_rate ≡ clock_rate
+      → IsBeyond from s.buffer → InOrder all_steps clock_rate splits all from pops
+  safe_from samples [] place from s t sends pops at run whole clock sound = subst (InOrder all_steps clock_rate splits all from) (sym run.1) tt
+  safe_from samples (steps.Send i mtu ∷ later) place from s t sends pops at run whole clock sound =
+      let next = drop_next all_steps place (steps.Send i mtu) later at in
+      let mid = run.4 in
+      let same = sent_same (slice_get samples i) run.7.1 in
+      let rest = safe_from samples later (place + 1) from mid t run.1 run.3 next.1 run.8 whole (same.1 ∙ clock) (subst (IsBeyond from) (sym same.0) sound) in
+      subst (InOrder all_steps clock_rate splits all from) (sym (run.6 ∙ ap (λ (ps : List Answer). ps ++ run.3) run.7.0)) rest
+    where
+      sent_same : (o : Option Sample) → MatchOption o ((run.0 ≡ []) × (run.4 ≡ s)) (λ sample. (entry : Sent) × (run.0 ≡ entry ∷ []) × SendsIt place mtu sample s entry run.4)
+          → (run.4.buffer ≡ s.buffer) × (run.4.payloading.clock_rate ≡ s.payloading.clock_rate)
+      sent_same None step = (ap (λ (x : RunState). x.buffer) step.1, ap (λ (x : RunState). x.payloading.clock_rate) step.1)
+      sent_same (Some sample) step = (ap (λ (x : RunState). x.buffer) step.2.left, ap (λ (x : RunState). x.payloading.clock_rate) step.2.left)
+  safe_from samples (steps.Push k ∷ later) place from s t sends pops at run whole clock sound =
+      let next = drop_next all_steps place (steps.Push k) later at in
+      let mid = run.4 in
+      let stream = streams samples place (steps.Push k ∷ later) s t sends pops run in
+      let held : IsBeyond from (after_push place clock_rate (slice_get s.sink.packets k) s.buffer) =
+        push_beyond from s.buffer place k s.sink.packets (packets_of stream.units) (sym stream.gained ∙ whole) next.0 (slice_get s.sink.packets k) refl sound in
+      let buffer : mid.buffer ≡ after_push place clock_rate (slice_get s.sink.packets k) s.buffer =
+        ap (λ (x : RunState). x.buffer) run.7.2 ∙ ap (λ (rate : ℕ). after_push place rate (slice_get s.sink.packets k) s.buffer) clock in
+      let rest = safe_from samples later (place + 1) from mid t run.1 run.3 next.1 run.8 whole (ap (λ (x : RunState). x.payloading.clock_rate) run.7.2 ∙ clock) (subst (IsBeyond from) (sym buffer) held) in
+      subst (InOrder all_steps clock_rate splits all from) (sym (run.6 ∙ ap (λ (ps : List Answer). ps ++ run.3) run.7.1)) rest
+  safe_from samples (steps.Pop ∷ later) place from s t sends pops at run whole clock sound =
+      let next = drop_next all_steps place steps.Pop later at in
+      let mid = run.4 in
+      let answer = run.7.1 in
+      let buffer : mid.buffer ≡ run.7.2 = ap (λ (x : RunState). x.buffer) run.7.6 in
+      let all_answers : answer ∷ run.3 ≡ pops = sym (run.6 ∙ ap (λ (ps : List Answer). ps ++ run.3) run.7.3) in
+      subst (InOrder all_steps clock_rate splits all from) all_answers
+      (pop_in_order from s.buffer run.7.2 answer run.3 sound run.7.5 run.7.4
+        (λ n beyond. safe_from samples later (place + 1) n mid t run.1 run.3 next.1 run.8 whole (ap (λ (x : RunState). x.payloading.clock_rate) run.7.6 ∙ clock) (subst (IsBeyond n) (sym buffer) beyond)))
+
+-- a run over an unused sink and an unused buffer releases its units in order, each at most once
+pub safe : (samples : List Sample) (all_steps : List Step) (s t : RunState) (sends : List Sent) (pops : List Answer) → Runs samples 0 all_steps s sends pops t → IsUnused s → ReleasesInOrder samples all_steps s pops t
+safe samples all_steps s t sends pops run unused =
+    let stream = streams samples 0 all_steps s t sends pops run in
+    let kind = payloads_by s.payloading.pack in
+    let splits = may_split s.payloading.pack in
+    let whole : t.sink.packets ≡ packets_of stream.units = stream.gained ∙ ap (λ (ps : List Packet). ps ++ packets_of stream.units) unused.nothing_sent in
+    let none : s.sink.first + length s.sink.packets ≡ s.sink.first = omega (arith, ap length unused.nothing_sent) in
+    let numbered : AreNumbered s.sink.first (packets_of stream.units) = subst (λ (n : ℕ). AreNumbered n (packets_of stream.units)) none stream.numbered in
+    let fresh : IsBeyond all_steps s.payloading.clock_rate s.sink.first kind splits stream.units stream.lawful numbered 0 s.buffer = record {
+      rises = subst Rises (sym unused.nothing_held) tt;
+      beyond = subst (λ (o : Option ℕ). IsAboveCutoff o s.buffer.held) (sym unused.no_cutoff) tt;
+      sent = subst (AllSent all_steps s.payloading.clock_rate s.sink.first kind splits stream.units stream.lawful numbered) (sym unused.nothing_held) tt;
+      floor = rw unused.no_cutoff (omega arith);
+      reads = unused.alike;
+    } in
+    record {
+      units = stream.units;
+      canonical = stream.canonical;
+      packets = sym whole;
+      lawful = stream.lawful;
+      in_order = safe_from all_steps s.payloading.clock_rate s.sink.first kind splits stream.units stream.lawful numbered samples all_steps 0 0 s t sends pops refl run whole refl fresh;
+    }

@@ -1,0 +1,250 @@
+-- What a run sends is the stream of its canonical units, each lawful.
+use Rattle.std.proofs.Common.{◌≡◌, ◌≢◌, ◌∙◌, sym, ap, refl, subst, ℕ, zero, suc, ◌+◌, ◌<◌, ◌%◌, ◌^◌, ◌||◌, ◌==◌, ◌⊎◌, inl, inr, List, [], ◌∷◌, ◌++◌, length, map, arith, length-append, append_assoc, Bool, true, false, Option, Some, None, Result, Ok, Err, cond}
+use Rattle.std.specs.Prelude.{MatchResult, MatchOption, slice_get}
+use Rattle.std.proofs.Math.Dec.{eqb-suc-zero}
+use Rattle.std.proofs.lemmas.List.{append-nil, map-append}
+use Rattle.codec_payload_base.specs.Payloads.{Appends, AnswersItself}
+use Rattle.codec_payload_base.specs.Pieces.{ArePieces, AnswersPieces, pieces_of}
+use Rattle.codec_payload_base.specs.declared.error.PacketError.{PacketError}
+use Rattle.codec_payload_base.specs.declared.error.PacketError.TheVariants as faults
+use Rattle.codec_payload_base.specs.declared.interface.CodecExtra.{CodecExtra}
+use Rattle.codec_payload_base.proofs.PieceLemmas.{one_list, no_pieces}
+use Rattle.codec_payload_core.specs.Depack.{Depack, G711Depack, OpusDepack, NullDepack, DepackKind, G711Payloads, OpusPayloads, NullPayloads, kind_of_depack, DepackStep, head_in, tail_in}
+use Rattle.codec_payload_core.specs.Held.{Held}
+use Rattle.codec_payload_core.specs.Pack.{Pack, G711Pack, G722Pack, OpusPack, NullPack, PackStep}
+use Rattle.codec_payload_core.specs.Packets.{Packet, SentPackets, AreNumbered}
+use Rattle.codec_payload_core.specs.Sending.{Sample, packets_for, rtp_time_at}
+use Rattle.codec_payload_core.specs.Schedule.{payloads_of, RunState, Runs, SendsIt, Answer, packets_sent}
+use Rattle.codec_payload_core.specs.SentStream.{SentUnit, packets_of, EndsWithTail, StartsWithHead, IsReleaseOf, payloads_held, payloads_sent, IsLawful, AllLawful, units_of_run, units_of_sample, pack_after_sample}
+use Rattle.codec_payload_core.specs.declared.schedule.Sent.{Sent}
+use Rattle.codec_payload_core.specs.declared.schedule.Step.{Step}
+use Rattle.codec_payload_core.specs.declared.schedule.Step.TheVariants as steps
+use Rattle.codec_payload_core.specs.Steps.{Unpacked, Unpacks, nothing_unpacked}
+use Rattle.codec_payload_core.specs.Units.{canonical_units, pack_after, payloads_by, may_split, each_whole, is_empty}
+
+-- payloads of this kind are units, whole, and carry themselves
+pub data IsPlain : DepackKind → Type 0 where
+  g711 : IsPlain G711Payloads
+  opus : IsPlain OpusPayloads
+  null : IsPlain NullPayloads
+
+plain_head : (kind : DepackKind) → IsPlain kind → (payload : List ℕ) → head_in kind payload ≡ true
+plain_head kind g711 payload = refl
+plain_head kind opus payload = refl
+plain_head kind null payload = refl
+
+plain_tail : (kind : DepackKind) → IsPlain kind → (marker : Bool) (payload : List ℕ) → tail_in kind marker payload ≡ true
+plain_tail kind g711 marker payload = refl
+plain_tail kind opus marker payload = refl
+plain_tail kind null marker payload = refl
+
+-- every depacketizer that is there appends payloads and stays as it is
+appends : (d : Depack) (payload out : List ℕ) (extra : CodecExtra) (answer : Result (Unit {0}) PacketError) (e : Depack) (out' : List ℕ) (extra' : CodecExtra)
+    → DepackStep d payload out extra answer e out' extra' → Appends payload out extra answer out' extra' × (e ≡ d)
+appends G711Depack payload out extra answer e out' extra' step = step
+appends OpusDepack payload out extra answer e out' extra' step = step
+appends NullDepack payload out extra answer e out' extra' step = step
+
+-- a unit of one packet
+abbrev pub alone : Packet → SentUnit
+alone q = record { parts = q.payload ∷ []; packets = q ∷ [] }
+
+-- no packet is missing before a nonempty end of one packet
+only_whole : (q : Packet) (missing rest : List Packet) (kind : DepackKind) → missing ++ rest ≡ q ∷ [] → StartsWithHead kind rest → (missing ≡ []) × (rest ≡ q ∷ [])
+only_whole q [] rest kind e head = (refl, e)
+only_whole q (m ∷ []) [] kind e head = absurd head
+only_whole q (m ∷ []) (r ∷ rs) kind e head = absurd (cc)
+only_whole q (m ∷ n ∷ ms) rest kind e head = absurd (cc)
+
+one_held : (ps : List Held) (payload : List ℕ) → payloads_held ps ≡ payload ∷ [] → (p : Held) × (ps ≡ p ∷ []) × (p.bytes ≡ payload)
+one_held [] payload e = absurd (cc)
+one_held (p ∷ []) payload e = (p, refl, cc)
+one_held (p ∷ q ∷ ps) payload e = absurd (cc)
+
+given_alone : (q : Packet) (missing : List Packet) (kind : DepackKind) (d : Depack) (p : Held) (answer : Result Unpacked PacketError) (e : Depack) → missing ≡ [] → p.bytes ≡ q.payload → kind_of_depack d ≡ kind
+    → (one : Result (Unit {0}) PacketError) (mid : Depack) (v : Unpacked) → Appends p.bytes [] (nothing_unpacked).extra one v.bytes v.extra × (mid ≡ d)
+    → MatchResult one (λ _. (answer ≡ Ok v) × (e ≡ mid)) (λ fault. (answer ≡ Err fault) × (e ≡ mid))
+    → (kind_of_depack e ≡ kind) × MatchResult answer (λ unpacked. IsReleaseOf false (alone q) missing unpacked.bytes) (λ fault. fault ≡ faults.OutOfMemory)
+given_alone q missing kind d p answer e none same is (Ok u) mid v step rest =
+    (ap kind_of_depack (rest.1 ∙ step.1) ∙ is,
+      subst (λ (a : Result Unpacked PacketError). MatchResult a (λ unpacked. IsReleaseOf false (alone q) missing unpacked.bytes) (λ fault. fault ≡ faults.OutOfMemory)) (sym rest.0)
+      (inl (none, step.0.0 ∙ (same ∙ sym (append-nil q.payload)))))
+given_alone q missing kind d p answer e none same is (Err f) mid v step rest =
+    (ap kind_of_depack (rest.1 ∙ step.1) ∙ is,
+      subst (λ (a : Result Unpacked PacketError). MatchResult a (λ unpacked. IsReleaseOf false (alone q) missing unpacked.bytes) (λ fault. fault ≡ faults.OutOfMemory)) (sym rest.0) step.0.0)
+
+lawful_alone : (kind : DepackKind) → IsPlain kind → (q : Packet) → IsLawful kind false (alone q)
+lawful_alone kind plain q = record {
+  ends = plain_tail kind plain q.marker q.payload;
+  starts = plain_head kind plain q.payload;
+  gives = λ missing rest whole head ps same d answer e is gives.
+    let only = only_whole q missing rest kind whole head in
+    let found = one_held ps q.payload (same ∙ ap payloads_sent only.1) in
+    let one = subst (λ (hs : List Held). Unpacks d hs nothing_unpacked answer e) found.1 gives in
+    given_alone q missing kind d found.0 answer e only.0 found.2 is one.0 one.1 one.2 (appends d found.0.bytes [] (nothing_unpacked).extra one.0 one.1 one.2.bytes one.2.extra one.3) one.4;
+}
+
+pub all_alone : (kind : DepackKind) → IsPlain kind → (ps : List Packet) → AllLawful kind false (map alone ps)
+all_alone kind plain [] = tt
+all_alone kind plain (p ∷ ps) = (lawful_alone kind plain p, all_alone kind plain ps)
+
+pub packets_alone : (ps : List Packet) → packets_of (map alone ps) ≡ ps
+packets_alone [] = refl
+packets_alone (p ∷ ps) = ap (λ (qs : List Packet). p ∷ qs) (packets_alone ps)
+
+pub parts_alone : (pack : Pack) (sample : Sample) (rtp_time number : ℕ) (payloads : List (List ℕ)) → map (λ (u : SentUnit). u.parts) (map alone (packets_for pack sample rtp_time number payloads)) ≡ each_whole payloads
+parts_alone pack sample rtp_time number [] = refl
+parts_alone pack sample rtp_time number (payload ∷ payloads) = ap (λ (us : List (List (List ℕ))). (payload ∷ []) ∷ us) (parts_alone pack sample rtp_time ((number + 1) % 2 ^ 64) payloads)
+
+-- what a codec owes for each sample: its packets are those of lawful units, which are the canonical ones
+pub record SendsUnits (pack : Pack) (mtu : ℕ) (sample : Sample) (rtp_time number : ℕ) (payloads : List (List ℕ)) (after : Pack) : Type 0 where
+  pub units : List SentUnit
+  pub canonical : map (λ (u : SentUnit). u.parts) units ≡ canonical_units pack mtu sample.bytes
+  pub packets : packets_of units ≡ packets_for after sample rtp_time number payloads
+  pub lawful : AllLawful (payloads_by pack) (may_split pack) units
+  pub goes_on : after ≡ pack_after pack mtu sample.bytes
+
+-- the answer of a packetizer of pieces
+pieces_skipped : (mtu : ℕ) (frame : List ℕ) (payloads : List (List ℕ)) → AnswersPieces mtu frame (Ok payloads)
+    → each_whole payloads ≡ cond (is_empty frame || (mtu == 0) || false) [] (each_whole (pieces_of mtu frame))
+pieces_skipped zero [] payloads answer = ap each_whole (answer.0 refl)
+pieces_skipped (suc n) [] payloads answer =
+    let some : 0 < suc n = omega arith in
+    ap each_whole (one_list (suc n) [] payloads some (answer.1 some) ∙ sym (one_list (suc n) [] [] some (no_pieces (suc n) [] refl)))
+pieces_skipped zero (b ∷ bs) payloads answer = ap each_whole (answer.0 refl)
+pieces_skipped (suc n) (b ∷ bs) payloads answer =
+    let some : 0 < suc n = omega arith in
+    rw (eqb-suc-zero n) (ap each_whole (one_list (suc n) (b ∷ bs) payloads some (answer.1 some)))
+
+plain_sends : (pack after : Pack) (mtu : ℕ) (sample : Sample) (rtp_time number : ℕ) (payloads : List (List ℕ)) → IsPlain (payloads_by pack) → may_split pack ≡ false
+    → after ≡ pack_after pack mtu sample.bytes → each_whole payloads ≡ canonical_units pack mtu sample.bytes
+    → SendsUnits pack mtu sample rtp_time number payloads after
+plain_sends pack after mtu sample rtp_time number payloads plain whole goes_on canonical = record {
+  units = map alone (packets_for after sample rtp_time number payloads);
+  canonical = parts_alone after sample rtp_time number payloads ∙ canonical;
+  packets = packets_alone (packets_for after sample rtp_time number payloads);
+  lawful = rw whole (all_alone (payloads_by pack) plain (packets_for after sample rtp_time number payloads));
+  goes_on = goes_on;
+}
+
+-- every codec that is there keeps its law
+pub sends_units : (pack after : Pack) (mtu : ℕ) (sample : Sample) (rtp_time number : ℕ) (answer : Result (List (List ℕ)) PacketError)
+    → PackStep pack mtu sample.bytes answer after → answer ≢ Err faults.OutOfMemory
+    → SendsUnits pack mtu sample rtp_time number (payloads_of answer) after
+sends_units G711Pack after mtu sample rtp_time number (Ok payloads) step found = plain_sends G711Pack after mtu sample rtp_time number payloads g711 refl step.1 (pieces_skipped mtu sample.bytes payloads step.0)
+sends_units G722Pack after mtu sample rtp_time number (Ok payloads) step found = plain_sends G722Pack after mtu sample rtp_time number payloads g711 refl step.1 (pieces_skipped mtu sample.bytes payloads step.0)
+sends_units OpusPack after mtu sample rtp_time number (Ok payloads) step found = plain_sends OpusPack after mtu sample rtp_time number payloads opus refl step.1 (pieces_skipped mtu sample.bytes payloads step.0)
+sends_units NullPack after mtu sample rtp_time number (Ok payloads) step found = plain_sends NullPack after mtu sample rtp_time number payloads null refl step.1 (ap each_whole step.0)
+sends_units G711Pack after mtu sample rtp_time number (Err fault) step found = absurd (found (ap Err step.0.0))
+sends_units G722Pack after mtu sample rtp_time number (Err fault) step found = absurd (found (ap Err step.0.0))
+sends_units OpusPack after mtu sample rtp_time number (Err fault) step found = absurd (found (ap Err step.0.0))
+sends_units NullPack after mtu sample rtp_time number (Err fault) step found = absurd (found (ap Err step.0))
+
+packets_append : (us vs : List SentUnit) → packets_of (us ++ vs) ≡ packets_of us ++ packets_of vs
+packets_append [] vs = refl
+packets_append (u ∷ us) vs = ap (λ (zs : List Packet). u.packets ++ zs) (packets_append us vs) ∙ sym (append_assoc u.packets (packets_of us) (packets_of vs))
+
+lawful_append : (kind : DepackKind) (splits : Bool) (us vs : List SentUnit) → AllLawful kind splits us → AllLawful kind splits vs → AllLawful kind splits (us ++ vs)
+lawful_append kind splits [] vs a b = b
+lawful_append kind splits (u ∷ us) vs a b = (a.0, lawful_append kind splits us vs a.1 b)
+
+numbered_append : (n : ℕ) (ps qs : List Packet) → AreNumbered n ps → AreNumbered (n + length ps) qs → AreNumbered n (ps ++ qs)
+numbered_append n [] qs a b = let e : n + 0 ≡ n = omega arith in subst (λ (m : ℕ). AreNumbered m qs) e b
+numbered_append n (p ∷ ps) qs a b = let e : n + length (p ∷ ps) ≡ (n + 1) + length ps = omega arith in (a.0, numbered_append (n + 1) ps qs a.1 (subst (λ (m : ℕ). AreNumbered m qs) e b))
+
+-- a packetizer keeps its payloads' kind
+same_payloads : (pack : Pack) (mtu : ℕ) (frame : List ℕ) → payloads_by (pack_after pack mtu frame) ≡ payloads_by pack
+same_payloads G711Pack mtu frame = refl
+same_payloads G722Pack mtu frame = refl
+same_payloads OpusPack mtu frame = refl
+same_payloads NullPack mtu frame = refl
+
+same_splits : (pack : Pack) (mtu : ℕ) (frame : List ℕ) → may_split (pack_after pack mtu frame) ≡ may_split pack
+same_splits G711Pack mtu frame = refl
+same_splits G722Pack mtu frame = refl
+same_splits OpusPack mtu frame = refl
+same_splits NullPack mtu frame = refl
+
+-- what the steps of a run send from some state on
+pub record Streams (samples : List Sample) (later : List Step) (s t : RunState) : Type 0 where
+  pub units : List SentUnit
+  pub canonical : map (λ (u : SentUnit). u.parts) units ≡ units_of_run s.payloading.pack samples later
+  pub gained : t.sink.packets ≡ s.sink.packets ++ packets_of units
+  pub lawful : AllLawful (payloads_by s.payloading.pack) (may_split s.payloading.pack) units
+  pub numbered : AreNumbered (s.sink.first + length s.sink.packets) (packets_of units)
+  pub first : t.sink.first ≡ s.sink.first
+
+-- nothing is sent by these steps
+no_stream : (samples : List Sample) (later : List Step) (s t : RunState) → units_of_run s.payloading.pack samples later ≡ [] → t ≡ s → Streams samples later s t
+no_stream samples later s t none same = record {
+  units = [];
+  canonical = sym none;
+  gained = ap (λ (x : RunState). x.sink.packets) same ∙ sym (append-nil s.sink.packets);
+  lawful = tt;
+  numbered = tt;
+  first = ap (λ (x : RunState). x.sink.first) same;
+}
+
+-- a step that does not send, and those after it
+keeps_stream : (samples : List Sample) (later all : List Step) (s mid t : RunState) → mid.payloading.pack ≡ s.payloading.pack → mid.sink ≡ s.sink
+    → units_of_run s.payloading.pack samples all ≡ units_of_run s.payloading.pack samples later → Streams samples later mid t → Streams samples all s t
+keeps_stream samples later all s mid t pack sink units rest = record {
+  units = rest.units;
+  canonical = rest.canonical ∙ (ap (λ (p : Pack). units_of_run p samples later) pack ∙ sym units);
+  gained = rest.gained ∙ ap (λ (x : SentPackets). x.packets ++ packets_of rest.units) sink;
+  lawful = subst (λ (p : Pack). AllLawful (payloads_by p) (may_split p) rest.units) pack rest.lawful;
+  numbered = subst (λ (x : SentPackets). AreNumbered (x.first + length x.packets) (packets_of rest.units)) sink rest.numbered;
+  first = rest.first ∙ ap (λ (x : SentPackets). x.first) sink;
+}
+
+-- a step that sends a sample, and those after it
+sends_stream : (samples : List Sample) (later : List Step) (i mtu place : ℕ) (sample : Sample) (entry : Sent) (s mid t : RunState) → slice_get samples i ≡ Some sample
+    → SendsIt place mtu sample s entry mid → Streams samples later mid t → Streams samples (steps.Send i mtu ∷ later) s t
+sends_stream samples later i mtu place sample entry s mid t there sent rest =
+    let time = rtp_time_at s.payloading.clock_rate sample.rtp_time in
+    let here = sends_units s.payloading.pack sent.pack mtu sample time (s.sink.first + length s.sink.packets) sent.answer sent.packetized sent.not_memory in
+    let packets = packets_sent s sent.pack sample (payloads_of sent.answer) in
+    let pack : mid.payloading.pack ≡ pack_after s.payloading.pack mtu sample.bytes = ap (λ (x : RunState). x.payloading.pack) sent.left ∙ here.goes_on in
+    let sink : mid.sink.packets ≡ s.sink.packets ++ packets = ap (λ (x : RunState). x.sink.packets) sent.left in
+    let first : mid.sink.first ≡ s.sink.first = ap (λ (x : RunState). x.sink.first) sent.left in
+    let kind = ap payloads_by pack ∙ same_payloads s.payloading.pack mtu sample.bytes in
+    let splits = ap may_split pack ∙ same_splits s.payloading.pack mtu sample.bytes in
+    let whole : units_of_run s.payloading.pack samples (steps.Send i mtu ∷ later) ≡ canonical_units s.payloading.pack mtu sample.bytes ++ units_of_run (pack_after s.payloading.pack mtu sample.bytes) samples later =
+      ap (λ (o : Option Sample). units_of_sample s.payloading.pack mtu o ++ units_of_run (pack_after_sample s.payloading.pack mtu o) samples later) there in
+    let next : mid.sink.first + length mid.sink.packets ≡ (s.sink.first + length s.sink.packets) + length packets =
+      omega (arith, first, ap length sink, length-append s.sink.packets packets) in
+    record {
+      units = here.units ++ rest.units;
+      canonical = map-append (λ (u : SentUnit). u.parts) here.units rest.units
+        ∙ (ap (λ (us : List (List (List ℕ))). us ++ map (λ (u : SentUnit). u.parts) rest.units) here.canonical
+          ∙ (ap (λ (us : List (List (List ℕ))). canonical_units s.payloading.pack mtu sample.bytes ++ us) (rest.canonical ∙ ap (λ (p : Pack). units_of_run p samples later) pack) ∙ sym whole));
+      gained = rest.gained ∙ (ap (λ (ps : List Packet). ps ++ packets_of rest.units) (sink ∙ ap (λ (ps : List Packet). s.sink.packets ++ ps) (sym here.packets))
+        ∙ (append_assoc s.sink.packets (packets_of here.units) (packets_of rest.units) ∙ ap (λ (ps : List Packet). s.sink.packets ++ ps) (sym (packets_append here.units rest.units))));
+      lawful = lawful_append (payloads_by s.payloading.pack) (may_split s.payloading.pack) here.units rest.units here.lawful
+        (subst (λ (b : Bool). AllLawful (payloads_by s.payloading.pack) b rest.units) splits (subst (λ (k : DepackKind). AllLawful k (may_split mid.payloading.pack) rest.units) kind rest.lawful));
+      numbered = rw (packets_append here.units rest.units, here.packets)
+        (numbered_append (s.sink.first + length s.sink.packets) packets (packets_of rest.units) sent.numbered (subst (λ (n : ℕ). AreNumbered n (packets_of rest.units)) next rest.numbered));
+      first = rest.first ∙ first;
+    }
+
+pub streams : (samples : List Sample) (place : ℕ) (later : List Step) (s t : RunState) (sends : List Sent) (pops : List Answer) → Runs samples place later s sends pops t → Streams samples later s t
+streams samples place [] s t sends pops run = no_stream samples [] s t refl run.2
+streams samples place (steps.Push k ∷ later) s t sends pops run =
+    let mid = run.4 in
+    let rest = streams samples (place + 1) later mid t run.1 run.3 run.8 in
+    keeps_stream samples later (steps.Push k ∷ later) s mid t (ap (λ (x : RunState). x.payloading.pack) run.7.2) (ap (λ (x : RunState). x.sink) run.7.2) refl rest
+streams samples place (steps.Pop ∷ later) s t sends pops run =
+    let mid = run.4 in
+    let rest = streams samples (place + 1) later mid t run.1 run.3 run.8 in
+    keeps_stream samples later (steps.Pop ∷ later) s mid t (ap (λ (x : RunState). x.payloading.pack) run.7.6) (ap (λ (x : RunState). x.sink) run.7.6) refl rest
+streams samples place (steps.Send i mtu ∷ later) s t sends pops run =
+    let rest = streams samples (place + 1) later run.4 t run.1 run.3 run.8 in
+    by_sample (slice_get samples i) refl run.7.1 rest
+  where
+    by_sample : (o : Option Sample) → slice_get samples i ≡ o
+      → MatchOption o ((run.0 ≡ []) × (run.4 ≡ s)) (λ sample. (entry : Sent) × (run.0 ≡ entry ∷ []) × SendsIt place mtu sample s entry run.4)
+      → Streams samples later run.4 t → Streams samples (steps.Send i mtu ∷ later) s t
+    by_sample None none step rest =
+        keeps_stream samples later (steps.Send i mtu ∷ later) s run.4 t (ap (λ (x : RunState). x.payloading.pack) step.1) (ap (λ (x : RunState). x.sink) step.1)
+        (ap (λ (o : Option Sample). units_of_sample s.payloading.pack mtu o ++ units_of_run (pack_after_sample s.payloading.pack mtu o) samples later) none) rest
+    by_sample (Some sample) there step rest = sends_stream samples later i mtu place sample step.0 s run.4 t there step.2 rest

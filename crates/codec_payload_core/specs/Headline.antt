@@ -1,0 +1,62 @@
+-- What a buffer releases of a run, whatever is lost, repeated and reordered.
+use Rattle.std.specs.Prelude.{◌≡◌, ℕ, ◌+◌, ◌≤◌, Bool, List, [], ◌∷◌, ◌++◌, Option, Some, None, Result, Ok, Err, length, map, take, slice_get}
+use Rattle.codec_payload_core.specs.Depack.{kind_of_depack}
+use Rattle.codec_payload_core.specs.Packets.{Packet}
+use Rattle.codec_payload_core.specs.Release.{Release}
+use Rattle.codec_payload_core.specs.Schedule.{Answer, RunState, meta_of_push}
+use Rattle.codec_payload_core.specs.Sending.{Sample}
+use Rattle.codec_payload_core.specs.SentStream.{SentUnit, packets_of, IsReleaseOf, AllLawful, units_of_run}
+use Rattle.codec_payload_core.specs.Units.{payloads_by, may_split}
+use Rattle.codec_payload_core.specs.declared.buffer.unit.RtpMeta.{RtpMeta}
+use Rattle.codec_payload_core.specs.declared.schedule.Step.{Step}
+use Rattle.codec_payload_core.specs.declared.schedule.Step.TheVariants as steps
+
+-- what is known of one push of that packet, whose index is k
+abbrev pub IsPushOf : List Step → ℕ → ℕ → Packet → RtpMeta → Type 0
+IsPushOf all_steps clock_rate k p meta = (place : ℕ) × (slice_get all_steps place ≡ Some (steps.Push k)) × (meta ≡ meta_of_push place clock_rate p)
+
+-- what is known of one push each of exactly these packets, in order, from index k on
+abbrev pub ArePushesOf : List Step → ℕ → ℕ → List Packet → List RtpMeta → Type 0
+ArePushesOf all_steps clock_rate k [] [] = Unit {0}
+ArePushesOf all_steps clock_rate k (p ∷ ps) (m ∷ ms) = IsPushOf all_steps clock_rate k p m × ArePushesOf all_steps clock_rate (k + 1) ps ms
+ArePushesOf all_steps clock_rate k [] (m ∷ ms) = ⊥
+ArePushesOf all_steps clock_rate k (p ∷ ps) [] = ⊥
+
+-- how many packets the first n units have
+abbrev pub packets_before : ℕ → List SentUnit → ℕ
+packets_before n units = length (packets_of (take n units))
+
+-- the release is that of the unit at a place: whole, or, where units may be split and packets are missing, its last
+-- parts; and what is known of its packets is what is known of one push each of exactly those packets
+pub record IsUnitAt (all_steps : List Step) (clock_rate : ℕ) (splits : Bool) (units : List SentUnit) (place : ℕ) (r : Release) : Type 0 where
+  pub sent : SentUnit
+  pub at_place : slice_get units place ≡ Some sent
+  pub missing : List Packet
+  pub rest : List Packet
+  pub whole : missing ++ rest ≡ sent.packets
+  pub bytes : IsReleaseOf splits sent missing r.bytes
+  pub metas : ArePushesOf all_steps clock_rate (packets_before place units + length missing) rest r.metas
+
+-- the answers of the pops: no fault, and units at strictly rising places, from `from` on
+abbrev pub InOrder : List Step → ℕ → Bool → List SentUnit → ℕ → List Answer → Type 0
+InOrder all_steps clock_rate splits units from [] = Unit {0}
+InOrder all_steps clock_rate splits units from (None ∷ answers) = InOrder all_steps clock_rate splits units from answers
+InOrder all_steps clock_rate splits units from (Some (Err fault) ∷ answers) = ⊥
+InOrder all_steps clock_rate splits units from (Some (Ok r) ∷ answers) =
+    (place : ℕ) × (from ≤ place) × IsUnitAt all_steps clock_rate splits units place r × InOrder all_steps clock_rate splits units (place + 1) answers
+
+-- the sink and the buffer are unused, and the buffer's depacketizer reads what the payloader's packetizer makes
+pub record IsUnused (s : RunState) : Type 0 where
+  pub nothing_sent : s.sink.packets ≡ []
+  pub nothing_held : s.buffer.held ≡ []
+  pub no_cutoff : s.buffer.cutoff ≡ None
+  pub alike : kind_of_depack s.buffer.depack ≡ payloads_by s.payloading.pack
+
+-- the units of the samples, as the steps send them, with their packets, which the sink holds; and what the pops answered
+-- are these units, in order, each at most once
+pub record ReleasesInOrder (samples : List Sample) (all_steps : List Step) (s : RunState) (pops : List Answer) (t : RunState) : Type 0 where
+  pub units : List SentUnit
+  pub canonical : map (λ (u : SentUnit). u.parts) units ≡ units_of_run s.payloading.pack samples all_steps
+  pub packets : packets_of units ≡ t.sink.packets
+  pub lawful : AllLawful (payloads_by s.payloading.pack) (may_split s.payloading.pack) units
+  pub in_order : InOrder all_steps s.payloading.clock_rate (may_split s.payloading.pack) units 0 pops
