@@ -16,7 +16,7 @@ meta_at number time = record {
   received = record { 0 = 0 };
   time = record { numer = time; rate = 48000 };
   seq_no = record { 0 = number };
-  header = record { payload_type = 96; sequence_number = number; timestamp = time; ssrc = 0; marker = false; ext_vals = record { } };
+  header = record { payload_type = 96; sequence_number = number; timestamp = time; ssrc = 0; marker = false; ext_vals = record {} };
   last_sender_info = None;
 }
 
