@@ -76,8 +76,8 @@ placed_rises p (q ∷ qs) r new =
     by_test (ltb q.meta.seq_no.0 p.meta.seq_no.0) (λ b. Rises (cond b (q ∷ placed p qs) (p ∷ q ∷ qs)))
     (λ e. (placed_above q.meta.seq_no.0 p qs (grind (arith, nat_tests, e)) r.0, placed_rises p qs r.1 (grind (arith, nat_tests, new))))
     (λ e.
-      let over : p.meta.seq_no.0 < q.meta.seq_no.0 = grind (arith, nat_tests, e, new) in
-      ((over, above_lower p.meta.seq_no.0 q.meta.seq_no.0 qs (omega arith) r.0), r))
+    let over : p.meta.seq_no.0 < q.meta.seq_no.0 = grind (arith, nat_tests, e, new) in
+    ((over, above_lower p.meta.seq_no.0 q.meta.seq_no.0 qs (omega arith) r.0), r))
 
 pub length_placed : (p : Held) (hs : List Held) → length (placed p hs) ≡ length hs + 1
 length_placed p [] = refl

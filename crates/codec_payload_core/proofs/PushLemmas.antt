@@ -118,8 +118,8 @@ push_none_left s high p n =
     by_test (is_at_most s.cutoff p.meta.seq_no.0 || has_number p.meta.seq_no.0 high) (λ b. cond b (record s { held = high }) (kept_to_limit (record s { held = placed p high })) ≡ with_kept s (cond b high (placed p high)))
     (λ e. sym (kept_is s [] high n))
     (λ e. by_test (ltb s.limit (length (placed p high))) (λ b. cond b (without_lowest (record s { held = placed p high }) (placed p high)) (record s { held = placed p high }) ≡ with_kept s (placed p high))
-      (λ over. let full : length (placed p high) ≡ s.limit + 1 = grind (arith, nat_tests, over, n, length_placed p high) in evicted s [] (placed p high) (omega (arith, full)))
-      (λ fits. let room : length (placed p high) - s.limit ≡ 0 = grind (arith, nat_tests, fits) in sym (kept_is s [] (placed p high) room)))
+    (λ over. let full : length (placed p high) ≡ s.limit + 1 = grind (arith, nat_tests, over, n, length_placed p high) in evicted s [] (placed p high) (omega (arith, full)))
+    (λ fits. let room : length (placed p high) - s.limit ≡ 0 = grind (arith, nat_tests, fits) in sym (kept_is s [] (placed p high) room)))
 
 -- a buffer in which some were left out
 abbrev pub held_now : State → Held → List Held → List Held → State
@@ -138,27 +138,27 @@ not_last n m hs le without with = elim (cases_lt n m) [ inl lt ↦ lt | inr ge �
 push_some_left : (s : State) (q : Held) (low high : List Held) (p : Held) (m : ℕ) → IsLow (q ∷ low) high s.cutoff m → length high ≡ s.limit → pushed (record s { held = high; cutoff = last_number (q ∷ low) s.cutoff; mark = true }) p ≡ with_kept s (with_one s.cutoff (q ∷ low ++ high) p)
 push_some_left s q low high p m facts n = elim (cases_lt m p.meta.seq_no.0) [
   | inl over ↦
-    let fresh : has_number p.meta.seq_no.0 (q ∷ low) ≡ false = absent_up p.meta.seq_no.0 m (q ∷ low) facts.up_to over in
-    let behind = placed_behind p (q ∷ low) high (up_more m p.meta.seq_no.0 (q ∷ low) (omega arith) facts.up_to) fresh in
-    let free : is_at_most (last_number (q ∷ low) s.cutoff) p.meta.seq_no.0 ≡ false = rw facts.last (grind (arith, nat_tests, over)) in
-    let same : (is_at_most s.cutoff p.meta.seq_no.0 || has_number p.meta.seq_no.0 (q ∷ low ++ high)) ≡ has_number p.meta.seq_no.0 high = rw (facts.lower p.meta.seq_no.0 (omega arith)) (has_append p.meta.seq_no.0 (q ∷ low) high ∙ rw fresh refl) in
-    rw (free, same) (by_test (has_number p.meta.seq_no.0 high) (λ b. cond b (held_now s q low high) (kept_to_limit (held_now s q low (placed p high))) ≡ with_kept s (cond b (q ∷ low ++ high) (placed p (q ∷ low ++ high))))
+      let fresh : has_number p.meta.seq_no.0 (q ∷ low) ≡ false = absent_up p.meta.seq_no.0 m (q ∷ low) facts.up_to over in
+      let behind = placed_behind p (q ∷ low) high (up_more m p.meta.seq_no.0 (q ∷ low) (omega arith) facts.up_to) fresh in
+      let free : is_at_most (last_number (q ∷ low) s.cutoff) p.meta.seq_no.0 ≡ false = rw facts.last (grind (arith, nat_tests, over)) in
+      let same : (is_at_most s.cutoff p.meta.seq_no.0 || has_number p.meta.seq_no.0 (q ∷ low ++ high)) ≡ has_number p.meta.seq_no.0 high = rw (facts.lower p.meta.seq_no.0 (omega arith)) (has_append p.meta.seq_no.0 (q ∷ low) high ∙ rw fresh refl) in
+      rw (free, same) (by_test (has_number p.meta.seq_no.0 high) (λ b. cond b (held_now s q low high) (kept_to_limit (held_now s q low (placed p high))) ≡ with_kept s (cond b (q ∷ low ++ high) (placed p (q ∷ low ++ high))))
       (λ e. sym (kept_is s (q ∷ low) high (omega (arith, n, length-append (q ∷ low) high))))
       (λ e.
-        let full : ltb s.limit (length (placed p high)) ≡ true = grind (arith, nat_tests, n, length_placed p high) in
-        rw full (evicted s (q ∷ low) (placed p high) (omega (arith, n, length_placed p high)) ∙ ap (with_kept s) (sym behind))))
+      let full : ltb s.limit (length (placed p high)) ≡ true = grind (arith, nat_tests, n, length_placed p high) in
+      rw full (evicted s (q ∷ low) (placed p high) (omega (arith, n, length_placed p high)) ∙ ap (with_kept s) (sym behind))))
   | inr under ↦
-    let gone : is_at_most (last_number (q ∷ low) s.cutoff) p.meta.seq_no.0 ≡ true = rw facts.last (grind (arith, nat_tests, under)) in
-    rw gone (by_test (is_at_most s.cutoff p.meta.seq_no.0 || has_number p.meta.seq_no.0 (q ∷ low ++ high)) (λ b. held_now s q low high ≡ with_kept s (cond b (q ∷ low ++ high) (placed p (q ∷ low ++ high))))
+      let gone : is_at_most (last_number (q ∷ low) s.cutoff) p.meta.seq_no.0 ≡ true = rw facts.last (grind (arith, nat_tests, under)) in
+      rw gone (by_test (is_at_most s.cutoff p.meta.seq_no.0 || has_number p.meta.seq_no.0 (q ∷ low ++ high)) (λ b. held_now s q low high ≡ with_kept s (cond b (q ∷ low ++ high) (placed p (q ∷ low ++ high))))
       (λ e. sym (kept_is s (q ∷ low) high (omega (arith, n, length-append (q ∷ low) high))))
       (λ e.
-        let absent : has_number p.meta.seq_no.0 (q ∷ low ++ high) ≡ false = grind (arith, e) in
-        let absent_low : has_number p.meta.seq_no.0 (q ∷ low) ≡ false = grind (arith, has_append p.meta.seq_no.0 (q ∷ low) high, absent) in
-        let less : p.meta.seq_no.0 < m = not_last p.meta.seq_no.0 m (q ∷ low) under absent_low facts.present in
-        let within = placed_within p (q ∷ low) high s.cutoff m facts.last less refl in
-        let last = last_placed p (q ∷ low) s.cutoff m facts.last less refl in
-        let count : length (placed p (q ∷ low) ++ high) - s.limit ≡ length (placed p (q ∷ low)) = omega (arith, n, length-append (placed p (q ∷ low)) high) in
-        sym (ap (with_kept s) within ∙ kept_is s (placed p (q ∷ low)) high count ∙ rw (last, sym facts.last, some_placed p (q ∷ low)) refl)))
+      let absent : has_number p.meta.seq_no.0 (q ∷ low ++ high) ≡ false = grind (arith, e) in
+      let absent_low : has_number p.meta.seq_no.0 (q ∷ low) ≡ false = grind (arith, has_append p.meta.seq_no.0 (q ∷ low) high, absent) in
+      let less : p.meta.seq_no.0 < m = not_last p.meta.seq_no.0 m (q ∷ low) under absent_low facts.present in
+      let within = placed_within p (q ∷ low) high s.cutoff m facts.last less refl in
+      let last = last_placed p (q ∷ low) s.cutoff m facts.last less refl in
+      let count : length (placed p (q ∷ low) ++ high) - s.limit ≡ length (placed p (q ∷ low)) = omega (arith, n, length-append (placed p (q ∷ low)) high) in
+      sym (ap (with_kept s) within ∙ kept_is s (placed p (q ∷ low)) high count ∙ rw (last, sym facts.last, some_placed p (q ∷ low)) refl)))
 ]
 
 push_kept : (s : State) (low high : List Held) (p : Held) → Rises (low ++ high) → IsAboveCutoff s.cutoff (low ++ high) → length (low ++ high) - s.limit ≡ length low → pushed (with_kept s (low ++ high)) p ≡ with_kept s (with_one s.cutoff (low ++ high) p)
@@ -174,7 +174,7 @@ push_one s all p r a =
     let whole = take-append-drop n all in
     let count : length all - s.limit ≡ length (take n all) = omega (arith, length-take-le n all (omega arith)) in
     subst (λ (zs : List Held). pushed (with_kept s zs) p ≡ with_kept s (with_one s.cutoff zs p)) whole
-      (push_kept s (take n all) (drop n all) p (subst Rises (sym whole) r) (subst (IsAboveCutoff s.cutoff) (sym whole) a) (subst (λ (zs : List Held). length zs - s.limit ≡ length (take n all)) (sym whole) count))
+    (push_kept s (take n all) (drop n all) p (subst Rises (sym whole) r) (subst (IsAboveCutoff s.cutoff) (sym whole) a) (subst (λ (zs : List Held). length zs - s.limit ≡ length (take n all)) (sym whole) count))
 
 pub with_one_rises : (c : Option ℕ) (all : List Held) (p : Held) → Rises all → Rises (with_one c all p)
 with_one_rises c all p r = by_test (is_at_most c p.meta.seq_no.0 || has_number p.meta.seq_no.0 all) (λ b. Rises (cond b all (placed p all))) (λ e. r) (λ e. placed_rises p all r (grind (arith, e)))

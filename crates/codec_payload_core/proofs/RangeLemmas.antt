@@ -37,22 +37,22 @@ slice_between first last [] r le = record { order = omega arith; part = refl }
 slice_between first last (q ∷ qs) r le =
     let rest = slice_between first last qs r.1 le in
     elim (cases_lt q.meta.seq_no.0 first) [
-    | inl below ↦
-      let t : ltb q.meta.seq_no.0 first ≡ true = grind (arith, nat_tests) in
-      let u : ltb last q.meta.seq_no.0 ≡ false = grind (arith, nat_tests) in
-      let same : end_of last qs + 1 - (place_of first qs + 1) ≡ end_of last qs - place_of first qs = omega arith in
-      record { order = rw (t, u) (omega (arith, rest.order)); part = rw (t, u) (rw (same, add-one) rest.part) }
-    | inr at_least ↦ elim (cases_lt last q.meta.seq_no.0) [
-      | inl over ↦
-        let t : ltb q.meta.seq_no.0 first ≡ false = grind (arith, nat_tests) in
-        let u : ltb last q.meta.seq_no.0 ≡ true = grind (arith, nat_tests) in
-        record { order = rw (t, u) (omega arith); part = rw (t, u) (sym (none_between first last q.meta.seq_no.0 qs (omega arith) r.0)) }
-      | inr within ↦
-        let t : ltb q.meta.seq_no.0 first ≡ false = grind (arith, nat_tests) in
-        let u : ltb last q.meta.seq_no.0 ≡ false = grind (arith, nat_tests) in
-        let zero_place = place_zero first q.meta.seq_no.0 qs at_least r.0 in
-        let same : end_of last qs + 1 - 0 ≡ suc (end_of last qs) = omega arith in
-        let whole : end_of last qs - 0 ≡ end_of last qs = omega arith in
-        record { order = rw (t, u) (omega arith); part = rw (t, u) (rw same (ap (λ (zs : List Held). q ∷ zs) (rw whole at (rw zero_place at rest.part)))) }
+      | inl below ↦
+          let t : ltb q.meta.seq_no.0 first ≡ true = grind (arith, nat_tests) in
+          let u : ltb last q.meta.seq_no.0 ≡ false = grind (arith, nat_tests) in
+          let same : end_of last qs + 1 - (place_of first qs + 1) ≡ end_of last qs - place_of first qs = omega arith in
+          record { order = rw (t, u) (omega (arith, rest.order)); part = rw (t, u) (rw (same, add-one) rest.part) }
+      | inr at_least ↦ elim (cases_lt last q.meta.seq_no.0) [
+        | inl over ↦
+            let t : ltb q.meta.seq_no.0 first ≡ false = grind (arith, nat_tests) in
+            let u : ltb last q.meta.seq_no.0 ≡ true = grind (arith, nat_tests) in
+            record { order = rw (t, u) (omega arith); part = rw (t, u) (sym (none_between first last q.meta.seq_no.0 qs (omega arith) r.0)) }
+        | inr within ↦
+            let t : ltb q.meta.seq_no.0 first ≡ false = grind (arith, nat_tests) in
+            let u : ltb last q.meta.seq_no.0 ≡ false = grind (arith, nat_tests) in
+            let zero_place = place_zero first q.meta.seq_no.0 qs at_least r.0 in
+            let same : end_of last qs + 1 - 0 ≡ suc (end_of last qs) = omega arith in
+            let whole : end_of last qs - 0 ≡ end_of last qs = omega arith in
+            record { order = rw (t, u) (omega arith); part = rw (t, u) (rw same (ap (λ (zs : List Held). q ∷ zs) (rw whole at (rw zero_place at rest.part)))) }
+      ]
     ]
-]

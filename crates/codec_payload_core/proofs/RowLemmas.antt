@@ -67,14 +67,16 @@ row_split q acc [] n last time low run = here q acc [] n last time low run
 row_split q acc (e ∷ es) n last time low run =
     by_test (leads_to e q) (λ b. lowest_head (q ∷ cond b (e ∷ row_before e es) []) ≡ Some n → RowSplit (e ∷ es) (q ∷ acc) n last time)
     (λ leads. by_option (lowest_head (e ∷ row_before e es)) (λ o. start_or_here o q ≡ Some n → RowSplit (e ∷ es) (q ∷ acc) n last time)
-      (λ none low. here q acc (e ∷ es) n last time low run)
-      (λ m is low.
-        let longer = row_split e (q ∷ acc) es n last time (is ∙ low) (longer_run e q acc last time leads run) in
-        record {
-          before = longer.before; packets = longer.packets;
-          whole = ap (λ (zs : List Held). zs ++ q ∷ acc) (reverse-append (e ∷ []) es) ∙ append_assoc (reverse es) (e ∷ []) (q ∷ acc) ∙ longer.whole;
-          run = longer.run; begins = longer.begins;
-        }))
+    (λ none low. here q acc (e ∷ es) n last time low run)
+    (λ m is low.
+    let longer = row_split e (q ∷ acc) es n last time (is ∙ low) (longer_run e q acc last time leads run) in
+    record {
+      before = longer.before;
+      packets = longer.packets;
+      whole = ap (λ (zs : List Held). zs ++ q ∷ acc) (reverse-append (e ∷ []) es) ∙ append_assoc (reverse es) (e ∷ []) (q ∷ acc) ∙ longer.whole;
+      run = longer.run;
+      begins = longer.begins;
+    }))
     (λ no low. here q acc (e ∷ es) n last time low run)
     low
 
@@ -83,27 +85,35 @@ pub first_split : (earlier later : List Held) (f : Segment) → first_of (frames
 first_split earlier [] f h = absurd (cc)
 first_split earlier (p ∷ later) f h =
     let on : first_of (frames_after (p ∷ earlier) later) ≡ Some f → (packets after : List Held) × IsPart (reverse earlier ++ p ∷ later) f packets after = λ h.
-      let rest = first_split (p ∷ earlier) later f h in
-      let part = rest.2 in
-      (rest.0, rest.1, record {
+    let rest = first_split (p ∷ earlier) later f h in
+    let part = rest.2 in (
+      rest.0,
+      rest.1,
+      record {
         before = part.before;
         whole = sym (ap (λ (zs : List Held). zs ++ later) (reverse-append (p ∷ []) earlier) ∙ append_assoc (reverse earlier) (p ∷ []) later) ∙ part.whole;
-        time = part.time; run = part.run; begins = part.begins;
-      }) in
+        time = part.time;
+        run = part.run;
+        begins = part.begins;
+      },
+    ) in
     by_test p.tail (λ b. first_of (cond b (ended_at p (lowest_head (p ∷ row_before p earlier))) [] ++ frames_after (p ∷ earlier) later) ≡ Some f → (packets after : List Held) × IsPart (reverse earlier ++ p ∷ later) f packets after)
     (λ tail. by_option (lowest_head (p ∷ row_before p earlier)) (λ o. first_of (ended_at p o ++ frames_after (p ∷ earlier) later) ≡ Some f → (packets after : List Held) × IsPart (reverse earlier ++ p ∷ later) f packets after)
-      (λ none h. on h)
-      (λ n is h.
-        let frame : Segment = record { first = n; last = p.meta.seq_no.0 } in
-        let e : frame ≡ f = cc in
-        let split = row_split p [] earlier n p.meta.seq_no.0 p.meta.time is (refl, refl, refl, tail) in
-        (split.packets, later, record {
-          before = split.before;
-          whole = sym (append_assoc (reverse earlier) (p ∷ []) later) ∙ ap (λ (zs : List Held). zs ++ later) split.whole ∙ append_assoc split.before split.packets later;
-          time = p.meta.time;
-          run = rw (← e) split.run;
-          begins = split.begins;
-        })))
+    (λ none h. on h)
+    (λ n is h.
+    let frame : Segment = record { first = n; last = p.meta.seq_no.0 } in
+    let e : frame ≡ f = cc in
+    let split = row_split p [] earlier n p.meta.seq_no.0 p.meta.time is (refl, refl, refl, tail) in (
+      split.packets,
+      later,
+      record {
+        before = split.before;
+        whole = sym (append_assoc (reverse earlier) (p ∷ []) later) ∙ ap (λ (zs : List Held). zs ++ later) split.whole ∙ append_assoc split.before split.packets later;
+        time = p.meta.time;
+        run = rw (← e) split.run;
+        begins = split.begins;
+      },
+    )))
     (λ no h. on h)
     h
 

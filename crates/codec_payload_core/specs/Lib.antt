@@ -4,6 +4,7 @@ pub use Rattle.codec_payload_base.specs.Payloads
 pub use Rattle.codec_payload_base.specs.Pieces
 pub use Rattle.codec_payload_base.specs.Time
 pub mod Buffer
+pub mod BufferExamples
 pub mod Depack
 pub mod Frames
 pub mod Headline

@@ -14,8 +14,6 @@ mod packets;
 mod tests;
 mod unit;
 
-pub use unit::{Depacketized, RtpMeta};
-
 use crate::codec::{CodecDepacketizer, Depacketizer};
 use codec_payload_base::error::PacketError;
 use codec_payload_base::interface::CodecExtra;
@@ -27,6 +25,7 @@ use packets::{
 use std::alloc::Global;
 use std::collections::VecDeque;
 use std::marker::Model;
+pub use unit::{Depacketized, RtpMeta};
 
 /// How many packets a buffer from [`DepacketizingBuffer::new`] holds.
 const HELD_LIMIT: usize = 4_096;
@@ -63,17 +62,15 @@ impl DepacketizingBuffer {
     /// An empty buffer over that depacketizer, with room for 4,096 packets. A frame that does not start right after the
     /// cutoff is held back until more than `hold_back` complete frames are there. Takes no memory.
     pub fn new(alloc: Global, depack: CodecDepacketizer, hold_back: usize) -> Self
-        ensures {
-            result ≡ record {
-                held = [];
-                cutoff = Option.None;
-                mark = false;
-                contiguity = NoContiguity;
-                depack = depack_of depack;
-                hold_back = hold_back;
-                limit = 4096;
-            }
-        }
+        ensures { result ≡ record {
+          held = [];
+          cutoff = Option.None;
+          mark = false;
+          contiguity = NoContiguity;
+          depack = depack_of depack;
+          hold_back = hold_back;
+          limit = 4096;
+        } }
     {
         DepacketizingBuffer {
             packets: VecDeque::new(alloc),
@@ -191,13 +188,7 @@ impl DepacketizingBuffer {
         remove_up_to(&mut self.packets, frame.last);
         self.cutoff = Some(frame.last);
         self.mark = false;
-        Ok(Depacketized::new(
-            metas[0].time,
-            contiguous,
-            bytes,
-            codec_extra,
-            metas,
-        ))
+        Ok(Depacketized::new(metas[0].time, contiguous, bytes, codec_extra, metas))
     }
 }
 
@@ -215,12 +206,10 @@ pub fn frames_of_set()
     ensures apart { AreApart }
     ensures only { AreOnlyList }
     ensures longest { BothSaySame }
-{
-}
+{}
 
 /// What the pushes between two pops leave is told by the set of their numbers: neither their order nor repeats matter.
 pub fn order_of_pushes()
     ensures leaves { LeavesNumbers }
     ensures free { OrderIsFree }
-{
-}
+{}

@@ -164,11 +164,9 @@ pub(super) fn unpack(
 ) -> Result<(), PacketError>
     requires order { from ≤ to }
     requires within { to ≤ deque_len packets.now }
-    ensures unpacks {
-        Unpacks (depack_of depack.old) (map held_of (slice_range packets.now.items from to))
+    ensures unpacks { Unpacks (depack_of depack.old) (map held_of (slice_range packets.now.items from to))
         (record { bytes = bytes.old.items; extra = codec_extra.old })
-        (answer_of result (record { bytes = bytes.new.items; extra = codec_extra.new })) (depack_of depack.new)
-    }
+        (answer_of result (record { bytes = bytes.new.items; extra = codec_extra.new })) (depack_of depack.new) }
     ensures kind { kind_of_depack (depack_of depack.new) ≡ kind_of_depack (depack_of depack.old) }
 {
     for packet in packets.range(from..to) {

@@ -51,12 +51,7 @@ fn pop(buffer: &mut DepacketizingBuffer) -> Result<Option<(u64, bool)>, PacketEr
     }
 }
 
-fn do_steps(
-    rt: &impl Abort,
-    alloc: Global,
-    hold_back: usize,
-    steps: &[Step],
-) -> Result<(), Fail> {
+fn do_steps(rt: &impl Abort, alloc: Global, hold_back: usize, steps: &[Step]) -> Result<(), Fail> {
     let mut buffer = opus_buffer(alloc, hold_back);
     for (place, step) in steps.iter().enumerate() {
         match *step {

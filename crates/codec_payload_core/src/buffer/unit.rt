@@ -42,15 +42,13 @@ impl Model for Depacketized {
 
     ghost Value = { Release };
 
-    ghost view = {
-        λ u. record {
-            time = u.time;
-            contiguous = u.contiguous;
-            bytes = u.bytes.items;
-            codec_extra = u.codec_extra;
-            metas = u.metas.items;
-        }
-    };
+    ghost view = { λ u. record {
+      time = u.time;
+      contiguous = u.contiguous;
+      bytes = u.bytes.items;
+      codec_extra = u.codec_extra;
+      metas = u.metas.items;
+    } };
 
     ghost invariant = { λ u. 0 < length u.metas.items };
 }
@@ -64,15 +62,13 @@ impl Depacketized {
         metas: Vec<RtpMeta>,
     ) -> Self
         requires { 0 < length metas.items }
-        ensures {
-            result ≡ record {
-                time = time;
-                contiguous = contiguous;
-                bytes = bytes.items;
-                codec_extra = codec_extra;
-                metas = metas.items;
-            }
-        }
+        ensures { result ≡ record {
+          time = time;
+          contiguous = contiguous;
+          bytes = bytes.items;
+          codec_extra = codec_extra;
+          metas = metas.items;
+        } }
     {
         Depacketized {
             time,

@@ -23,14 +23,14 @@ returns-in-Err-clause-takes c =
     let packets = map held_of (slice_range c.self.inside.packets.items c.frame_range-from.result.0 c.frame_range-from.result.1) in
     let e = depack_of c.unpack.new.depack in
     elim c.if-not-is_out_of_memory.branch [
-    | then-not-is_out_of_memory w ↦
-        refused s c.args.self.now c.self.view_is c.args.frame due e _ c.in-Err.fault (map held_of w.remove_up_to.new.packets.items) w.self-is
-        (λ is. not_both c.is_out_of_memory.result (c.is_out_of_memory.ensures.1 is) w.if-not-is_out_of_memory.true)
-        (gives_of s c.args.frame packets c.in_ok-bytes.bytes.items (Err c.in-Err.fault) e c.frame_range-from.ensures.part c.in_ok-bytes.ensures c.in-Err.ensures.unpacks)
-        w.remove_up_to.ensures
-    | else-not-is_out_of_memory w ↦
-        stalled s c.args.self.now c.self.view_is c.args.frame due e _ c.in-Err.fault w.self-is
-        (c.is_out_of_memory.ensures.0 w.if-not-is_out_of_memory.false) c.in-Err.ensures.kind
+      | then-not-is_out_of_memory w ↦
+          refused s c.args.self.now c.self.view_is c.args.frame due e _ c.in-Err.fault (map held_of w.remove_up_to.new.packets.items) w.self-is
+          (λ is. not_both c.is_out_of_memory.result (c.is_out_of_memory.ensures.1 is) w.if-not-is_out_of_memory.true)
+          (gives_of s c.args.frame packets c.in_ok-bytes.bytes.items (Err c.in-Err.fault) e c.frame_range-from.ensures.part c.in_ok-bytes.ensures c.in-Err.ensures.unpacks)
+          w.remove_up_to.ensures
+      | else-not-is_out_of_memory w ↦
+          stalled s c.args.self.now c.self.view_is c.args.frame due e _ c.in-Err.fault w.self-is
+          (c.is_out_of_memory.ensures.0 w.if-not-is_out_of_memory.false) c.in-Err.ensures.kind
     ]
 
 pub index-requires : goal.index-requires

@@ -8,5 +8,5 @@ pub returns : goal.returns
 returns c =
     let items = c.args.packets.now.items in
     let point = IsPartitionPoint-from_clause (λ (p : HeldPacket). ltb p.meta.seq_no.0 c.args.number) items _ c.partition_point.ensures.partitioned
-      (IsPartitionedBy-ltb (λ (p : HeldPacket). p.meta.seq_no.0) items c.args.number (rises_by_number items c.requires)) (λ a r f called. search rules) in
+    (IsPartitionedBy-ltb (λ (p : HeldPacket). p.meta.seq_no.0) items c.args.number (rises_by_number items c.requires)) (λ a r f called. search rules) in
     place_from_point c.args.number items _ point (omega (arith, c.partition_point.ensures.bound, c.args.packets.now.ok.0))
