@@ -1,0 +1,6 @@
+//! Reads a codec, samples and steps, runs the steps, and prints what was sent and what came out.
+#![tactic(auto)]
+
+mod digits;
+
+fn main() {}
