@@ -2,5 +2,6 @@
 #![tactic(auto)]
 
 mod digits;
+mod line;
 
 fn main() {}
