@@ -1,1 +1,2 @@
 pub mod HexFieldLemmas
+pub mod Limits

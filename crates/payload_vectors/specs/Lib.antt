@@ -1,1 +1,2 @@
 pub mod HexField
+pub mod Program

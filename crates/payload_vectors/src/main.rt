@@ -3,5 +3,8 @@
 
 mod digits;
 mod line;
+mod print;
+mod run;
+mod script;
 
 fn main() {}
