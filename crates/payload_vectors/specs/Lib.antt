@@ -1,2 +1,3 @@
 pub mod HexField
+pub mod Line
 pub mod Program

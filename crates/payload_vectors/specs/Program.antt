@@ -1,5 +1,5 @@
 -- How the program ends.
-use Rattle.std.specs.Prelude.{◌≡◌, ◌≢◌, ℕ}
+use Rattle.std.specs.Prelude.{◌≡◌, ◌≢◌, ◌<◌, ℕ, ⊤}
 use Rattle.std.specs.IoError.{error_kind}
 use Rattle.std.specs.declared.io.Error.{Error}
 use Rattle.std.specs.declared.io.ErrorKind.TheVariants as kinds
@@ -17,3 +17,10 @@ status_of Io = 1
 abbrev pub IsFaultOf : Error → ProgramFault → Type 0
 IsFaultOf e fault =
     (error_kind e ≡ kinds.OutOfMemory → fault ≡ OutOfMemory) × (error_kind e ≢ kinds.OutOfMemory → fault ≡ Io)
+
+-- what can be wrong with lines that were read: one of them, by its number from 1, or want of memory
+abbrev pub IsLineFault : ProgramFault → Type 0
+IsLineFault (BadLine line) = 0 < line
+IsLineFault TooLong = ⊥
+IsLineFault OutOfMemory = ⊤
+IsLineFault Io = ⊥

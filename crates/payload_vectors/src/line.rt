@@ -1,6 +1,9 @@
 //! The lines of the input.
 
-ghost use Rattle.std.specs.Prelude.{◌≤◌, ◌^◌};
+ghost use Rattle.std.specs.Prelude.{◌≡◌, ◌↔◌, ◌+◌, ◌≤◌, ◌<◌, ◌^◌, codes, IsSome, IfSome, Some, false, true};
+ghost use Rattle.std.specs.Option.{SomeIff};
+ghost use Rattle.std.specs.Str.Parse.{digits_value};
+ghost use Rattle.payload_vectors.specs.Line.{IsNumber, codec_of};
 
 use crate::digits::hex_field;
 use codec_payload_core::schedule::Step;
@@ -112,7 +115,9 @@ fn send(sample: &str, mtu: &str) -> Option<Step> {
 }
 
 /// The codec of that name, where there is one.
-fn codec_named(name: &str) -> Option<Codec> {
+fn codec_named(name: &str) -> Option<Codec>
+    ensures { result ≡ codec_of name.now }
+{
     match name {
         "opus" => Some(Codec::Opus),
         "pcmu" => Some(Codec::PCMU),
@@ -124,18 +129,25 @@ fn codec_named(name: &str) -> Option<Codec> {
 }
 
 /// The number that decimal digits spell, where it fits: a sign is refused, and leading zeros are not.
-fn decimal(field: &str) -> Option<u64> {
+fn decimal(field: &str) -> Option<u64>
+    ensures { SomeIff result (IsNumber (2 ^ 64) field.now) (digits_value 10 field.now) }
+{
     if field.starts_with('+') {
         return None;
     }
     field.parse().ok()
 }
 
-fn count(field: &str) -> Option<usize> {
+fn count(field: &str) -> Option<usize>
+    ensures { SomeIff result (IsNumber (2 ^ 64) field.now) (digits_value 10 field.now) }
+{
     usize::try_from(decimal(field)?).ok()
 }
 
-fn truth(field: &str) -> Option<bool> {
+fn truth(field: &str) -> Option<bool>
+    ensures no { (result ≡ Some false) ↔ (field.now ≡ codes "0") }
+    ensures yes { (result ≡ Some true) ↔ (field.now ≡ codes "1") }
+{
     match field {
         "0" => Some(false),
         "1" => Some(true),

@@ -1,7 +1,7 @@
 //! The program's work, over any reader and writer.
 
-ghost use Rattle.std.specs.Prelude.{◌≡◌, ◌≤◌, ◌<◌, ◌^◌, length, IfOk, IfErr, IfSome, OnOk};
-ghost use Rattle.payload_vectors.specs.Program.{IsFaultOf, status_of};
+ghost use Rattle.std.specs.Prelude.{◌≡◌, ◌≢◌, ◌≤◌, ◌<◌, ◌^◌, ℕ, length, IfOk, IfErr, IfSome, OnOk};
+ghost use Rattle.payload_vectors.specs.Program.{IsFaultOf, IsLineFault, status_of};
 ghost use Rattle.payload_vectors.specs.declared.run.ProgramFault.TheVariants.{BadLine, OutOfMemory, TooLong};
 
 use crate::print::printed;
@@ -79,6 +79,7 @@ fn read_below<R: Read>(alloc: Global, input: &mut R, limit: usize) -> Result<Vec
     ensures all { IfOk result (λ bytes. IfSome (R.remaining input.old) (λ text. bytes.items ≡ text)) }
     ensures below { IfOk result (λ bytes. length bytes.items < limit) }
     ensures too_long { result ≡ Err TooLong → IfSome (R.remaining input.old) (λ text. limit ≤ length text) }
+    ensures no_line { (line : ℕ) → result ≢ Err (BadLine line) }
 {
     let mut bytes = Vec::new(alloc);
     input.take(limit as u64).read_to_end(&mut bytes)?;
@@ -94,7 +95,14 @@ pub fn run_lines<R: Read, W: Write>(
     alloc: Global,
     input: &mut R,
     output: &mut W,
-) -> Result<(), ProgramFault> {
+) -> Result<(), ProgramFault>
+    ensures ok { OnOk result (IfSome (R.remaining input.old) (λ text. length text ≤ 2 ^ 20)) }
+    ensures too_long { result ≡ Err TooLong → IfSome (R.remaining input.old) (λ text. 2 ^ 20 < length text) }
+    ensures bad_line { (line : ℕ) → result ≡ Err (BadLine line) → 0 < line }
+    ensures bad_line_short { (line : ℕ) → result ≡ Err (BadLine line)
+        → IfSome (R.remaining input.old) (λ text. length text ≤ 2 ^ 20) }
+    ensures nothing_written { IfErr result (λ fault. status_of fault ≡ 2 → output.new ≡ output.old) }
+{
     let bytes = read_below(alloc, input, INPUT_LIMIT + 1)?;
     let script = Script::read(alloc, &bytes)?;
     let text = output_of(alloc, &script)?;
@@ -104,7 +112,9 @@ pub fn run_lines<R: Read, W: Write>(
 }
 
 /// What the script's run prints.
-fn output_of(alloc: Global, script: &Script) -> Result<String, ProgramFault> {
+fn output_of(alloc: Global, script: &Script) -> Result<String, ProgramFault>
+    ensures { IfErr result IsLineFault }
+{
     let setup = script.setup;
     let spec = CodecSpec {
         codec: setup.codec,

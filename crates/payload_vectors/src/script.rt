@@ -1,5 +1,8 @@
 //! The whole input: what is set, the samples, and the steps.
 
+ghost use Rattle.std.specs.Prelude.{IfErr};
+ghost use Rattle.payload_vectors.specs.Program.{IsLineFault};
+
 use crate::line::{Line, Setup};
 use crate::run::ProgramFault;
 use codec_payload_core::schedule::Step;
@@ -19,7 +22,9 @@ pub struct Script {
 
 impl Script {
     /// The script whose lines are all of `input`. The first line sets up the run, and no other does.
-    pub fn read(alloc: Global, input: &[u8]) -> Result<Script, ProgramFault> {
+    pub fn read(alloc: Global, input: &[u8]) -> Result<Script, ProgramFault>
+        ensures { IfErr result IsLineFault }
+    {
         let mut setup = None;
         let mut samples = Vec::new(alloc);
         let mut steps = Vec::new(alloc);

@@ -1,0 +1,1 @@
+//! Whole inputs with what they print, and the faults.
