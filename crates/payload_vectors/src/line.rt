@@ -34,13 +34,16 @@ pub struct Setup {
 
 impl Setup {
     /// What the fields after `codec` set.
-    fn from_fields(
-        name: &str,
-        rate: &str,
-        hold_back: &str,
-        number: &str,
-        id: &str,
-    ) -> Option<Setup> {
+    fn from_fields(name: &str, rate: &str, hold_back: &str, number: &str, id: &str) -> Option<Setup>
+        ensures found { IsSome result ↔ (IsSome (codec_of name.now) × IsNumber (2 ^ 32) rate.now
+            × (0 < digits_value 10 rate.now) × IsNumber (2 ^ 64) hold_back.now
+            × IsNumber (2 ^ 62 + 1) number.now × IsNumber (2 ^ 15) id.now) }
+        ensures codec { IfSome result (λ setup. codec_of name.now ≡ Some setup.codec) }
+        ensures rate { IfSome result (λ setup. setup.rate ≡ digits_value 10 rate.now) }
+        ensures hold_back { IfSome result (λ setup. setup.hold_back ≡ digits_value 10 hold_back.now) }
+        ensures number { IfSome result (λ setup. setup.first_number ≡ digits_value 10 number.now) }
+        ensures id { IfSome result (λ setup. setup.first_id ≡ digits_value 10 id.now) }
+    {
         let codec = codec_named(name)?;
         let rate = Frequency::make(u32::try_from(decimal(rate)?).ok()?)?;
         let hold_back = count(hold_back)?;
