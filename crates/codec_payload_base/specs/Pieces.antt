@@ -1,6 +1,7 @@
 -- How a frame is cut into pieces of one size, the last with the rest.
-use Rattle.std.specs.Prelude.{◌≡◌, ℕ, ◌+◌, ◌-◌, ◌/◌, ◌<◌, ◌≤◌, List, [], ◌∷◌, length, take, drop, ◌++◌, Result, Ok, Err, refl}
+use Rattle.std.specs.Prelude.{◌≡◌, ℕ, zero, suc, ◌<◌, ◌≤◌, List, [], ◌∷◌, length, take, drop, Result, Ok, Err, refl}
 use Rattle.std.specs.List.{flat_map}
+use Rattle.std.specs.Int.{div_ceil}
 use Rattle.std.proofs.Common.{lit<, lit≤}
 use Rattle.codec_payload_base.specs.declared.error.PacketError.{PacketError}
 use Rattle.codec_payload_base.specs.declared.error.PacketError.TheVariants as faults
@@ -20,16 +21,28 @@ pub record ArePieces (size : ℕ) (frame : List ℕ) (pieces : List (List ℕ)) 
   pub join : joined pieces ≡ frame
   pub sizes : AreOfSize size pieces
 
--- n divided by size, rounded up
-abbrev pub rounded_up : ℕ → ℕ → ℕ
-rounded_up n size = (n + size - 1) / size
+-- the first `count` pieces of that size
+abbrev pub pieces_from : ℕ → ℕ → List ℕ → List (List ℕ)
+pieces_from zero size frame = []
+pieces_from (suc count) size frame = take size frame ∷ pieces_from count size (drop size frame)
+
+-- all pieces of a frame, for a size above 0
+abbrev pub pieces_of : ℕ → List ℕ → List (List ℕ)
+pieces_of size frame = pieces_from (div_ceil (length frame) size) size frame
+
+-- the pieces of a frame are one list
+abbrev pub IsOneList : Type 0
+IsOneList = (size : ℕ) (frame : List ℕ) (pieces : List (List ℕ)) → 0 < size → ArePieces size frame pieces → pieces ≡ pieces_of size frame
 
 -- what a packetizer of pieces answers: no packets exactly where the frame is empty or the MTU is 0, and else the pieces
 -- of MTU bytes, as many as the length over the MTU, rounded up; the only fault is want of memory
 abbrev pub AnswersPieces : ℕ → List ℕ → Result (List (List ℕ)) PacketError → Type 0
-AnswersPieces mtu frame (Ok packets) = (mtu ≡ 0 → packets ≡ []) × (0 < mtu → ArePieces mtu frame packets) × (0 < mtu → length packets ≡ rounded_up (length frame) mtu)
+AnswersPieces mtu frame (Ok packets) = (mtu ≡ 0 → packets ≡ []) × (0 < mtu → ArePieces mtu frame packets) × (0 < mtu → length packets ≡ div_ceil (length frame) mtu)
 AnswersPieces mtu frame (Err fault) = (fault ≡ faults.OutOfMemory) × (0 < mtu) × (0 < length frame)
+
+pub pieces_of-two : pieces_of 2 (0x90 ∷ 0x90 ∷ 0x90 ∷ []) ≡ (0x90 ∷ 0x90 ∷ []) ∷ (0x90 ∷ []) ∷ []
+pieces_of-two = refl
 
 -- three bytes at an MTU of 2 are two pieces
 pub pieces-two : ArePieces 2 (0x90 ∷ 0x90 ∷ 0x90 ∷ []) ((0x90 ∷ 0x90 ∷ []) ∷ (0x90 ∷ []) ∷ [])
-pieces-two = record { join = refl; sizes = (refl, lit< tt, lit≤ tt) }
+pieces-two = record { join = refl; sizes = (refl, (lit< tt, lit≤ tt)) }

@@ -57,7 +57,7 @@ pub trait Packetizer: Debug + Drop {
     /// Whether the packet with the payload `data` gets the marker of the RTP header. `previous` is the payload of the
     /// packet sent before it, and `last` says that no packet of the frame follows.
     fn is_marker(&mut self, data: &[u8], previous: Option<&[u8]>, last: bool) -> bool
-        ensures { marker_step self.old data.now (option_copied previous.entry) last result (state self.new) };
+        ensures { marker_step self.old «data».now (option_copied previous.entry) last result (state self.new) };
 
     /// Whether the marker tells where a talk spurt starts (RFC 3551, section 4.1).
     fn marks_talkspurt(&self) -> bool

@@ -1,0 +1,78 @@
+-- What a sent sample leaves, as a step of a run.
+use Rattle.std.proofs.Common.{◌≡◌, ◌≢◌, ◌∙◌, sym, ap, refl, subst, ℕ, suc, ◌+◌, ◌-◌, ◌%◌, ◌^◌, ◌⊎◌, inl, inr, List, [], ◌∷◌, ◌++◌, length, arith, length-append, Option, Some, None, Result, Ok, Err}
+use Rattle.std.proofs.lemmas.List.{append-nil}
+use Rattle.codec_payload_base.specs.declared.error.PacketError.{PacketError}
+use Rattle.codec_payload_base.specs.declared.error.PacketError.TheVariants as faults
+use Rattle.codec_payload_core.specs.Pack.{Pack, PackStep}
+use Rattle.codec_payload_core.specs.Packets.{Packet, SentPackets}
+use Rattle.codec_payload_core.specs.Sending.{Sample, Payloading, packets_for, rtp_time_at, SendsSample, SendsBeginning, SendsNothing}
+use Rattle.codec_payload_core.specs.Schedule.{RunState, run_state, after_send, packets_sent, SendsIt, StopsSending}
+use Rattle.codec_payload_core.specs.Steps.{State}
+use Rattle.codec_payload_core.specs.declared.schedule.Sent.{Sent}
+use Rattle.codec_payload_core.proofs.SendLemmas.{Keeps, kept_all}
+
+pub length-packets_for : (pack : Pack) (sample : Sample) (rtp_time number : ℕ) (payloads : List (List ℕ)) → length (packets_for pack sample rtp_time number payloads) ≡ length payloads
+length-packets_for pack sample rtp_time number [] = refl
+length-packets_for pack sample rtp_time number (p ∷ ps) = ap suc (length-packets_for pack sample rtp_time ((number + 1) % 2 ^ 64) ps)
+
+-- the number of the next packet of a sink in memory
+abbrev pub next_number : SentPackets → ℕ
+next_number s = s.first + length s.packets
+
+abbrev pub kept_packets : SentPackets → List Packet
+kept_packets s = s.packets
+
+-- a sink in memory refuses for want of memory alone, and stays as it was
+abbrev pub Stays : SentPackets → Packet → PacketError → SentPackets → Type 0
+Stays before packet fault after = (fault ≡ faults.OutOfMemory) × (after ≡ before)
+
+-- the states after a sample went through a packetizer
+left_by : (p p' : Payloading) (b : State) (sink sink' : SentPackets) (packets : List Packet) → p'.clock_rate ≡ p.clock_rate
+    → sink' ≡ record sink { packets = sink.packets ++ packets } → run_state p' b sink' ≡ after_send (run_state p b sink) p'.pack packets
+left_by p p' b sink sink' packets clock gained =
+    ap (λ (c : ℕ). run_state (record { pack = p'.pack; clock_rate = c }) b sink') clock
+    ∙ ap (λ (s : SentPackets). run_state (record p { pack = p'.pack }) b s) gained
+
+pub sent_it : (place mtu : ℕ) (sample : Sample) (p p' : Payloading) (b : State) (sink sink' : SentPackets) → p'.clock_rate ≡ p.clock_rate
+    → SendsSample Keeps kept_packets next_number mtu sample p sink p' sink'
+    → SendsIt place mtu sample (run_state p b sink) (record { step = place; first = length sink.packets; count = length sink'.packets - length sink.packets; fault = None }) (run_state p' b sink')
+sent_it place mtu sample p p' b sink sink' clock sent =
+    let packets = packets_for p'.pack sample (rtp_time_at p.clock_rate sample.rtp_time) (next_number sink) sent.payloads in
+    let kept = kept_all sink packets sent.images sink' sent.sends in
+    let grown = ap (λ (s : SentPackets). length s.packets) kept.1 in
+    let total = length-append sink.packets packets in
+    let many = length-packets_for p'.pack sample (rtp_time_at p.clock_rate sample.rtp_time) (next_number sink) sent.payloads in
+    let count : length sink'.packets - length sink.packets ≡ length sent.payloads = omega (arith, grown, total, many) in
+    record {
+      answer = Ok sent.payloads;
+      pack = p'.pack;
+      packetized = sent.packetized;
+      not_memory = λ e. cc;
+      entry_is = ap (λ (n : ℕ). record { step = place; first = length sink.packets; count = n; fault = None }) count;
+      left = left_by p p' b sink sink' packets clock kept.1;
+    }
+
+pub refused_it : (place mtu : ℕ) (sample : Sample) (fault : PacketError) (p p' : Payloading) (b : State) (sink sink' : SentPackets) → p'.clock_rate ≡ p.clock_rate → fault ≢ faults.OutOfMemory
+    → (SendsNothing mtu sample fault p sink p' sink' ⊎ SendsBeginning Keeps Stays kept_packets next_number mtu sample fault p sink p' sink')
+    → SendsIt place mtu sample (run_state p b sink) (record { step = place; first = length sink.packets; count = 0; fault = Some fault }) (run_state p' b sink')
+refused_it place mtu sample fault p p' b sink sink' clock other (inl nothing) =
+    record {
+      answer = Err fault;
+      pack = p'.pack;
+      packetized = nothing.packetized;
+      not_memory = λ e. other (cc);
+      entry_is = refl;
+      left = left_by p p' b sink sink' [] clock (nothing.same ∙ ap (λ (ps : List Packet). record sink { packets = ps }) (sym (append-nil sink.packets)));
+    }
+refused_it place mtu sample fault p p' b sink sink' clock other (inr beginning) = absurd (other beginning.refusal.0)
+
+pub stopped_it : (mtu : ℕ) (sample : Sample) (fault : PacketError) (p p' : Payloading) (b : State) (sink sink' : SentPackets) → p'.clock_rate ≡ p.clock_rate → fault ≡ faults.OutOfMemory
+    → (SendsNothing mtu sample fault p sink p' sink' ⊎ SendsBeginning Keeps Stays kept_packets next_number mtu sample fault p sink p' sink')
+    → StopsSending mtu sample (run_state p b sink) (run_state p' b sink')
+stopped_it mtu sample fault p p' b sink sink' clock memory (inl nothing) =
+    (p'.pack, inl (subst (λ (f : PacketError). PackStep p.pack mtu sample.bytes (Err f) p'.pack) memory nothing.packetized,
+        left_by p p' b sink sink' [] clock (nothing.same ∙ ap (λ (ps : List Packet). record sink { packets = ps }) (sym (append-nil sink.packets)))))
+stopped_it mtu sample fault p p' b sink sink' clock memory (inr beginning) =
+    let kept = kept_all sink beginning.begun beginning.images beginning.mid beginning.sends in
+    (p'.pack, inr (beginning.payloads, beginning.begun, beginning.refused ∷ beginning.left, beginning.packetized, beginning.whole,
+        left_by p p' b sink sink' beginning.begun clock (beginning.refusal.1 ∙ kept.1)))

@@ -1,0 +1,28 @@
+-- A search of the packets from the lowest on finds the frames.
+use Rattle.std.proofs.Common.{◌≡◌, ℕ, ◌+◌, [], ◌∷◌, ◌++◌, List, length, map, refl, ap, sym, ◌∙◌, arith, Option, Some, None}
+use Rattle.std.proofs.lemmas.List.{nil_from_length}
+use Rattle.codec_payload_core.specs.declared.buffer.packets.HeldPacket.{HeldPacket}
+use Rattle.codec_payload_core.specs.declared.buffer.frames.Found.{Found}
+use Rattle.codec_payload_core.specs.declared.buffer.frames.Segment.{Segment}
+use Rattle.codec_payload_core.specs.Held.{Held, held_of}
+use Rattle.codec_payload_core.specs.Frames.{frames, frames_after}
+use Rattle.codec_payload_core.specs.Scan.{noted, noted_all, none_found, first_of}
+
+noted_count : (s : Found) (fs : List Segment) → (noted_all s fs).count ≡ s.count + length fs
+noted_count s [] = omega arith
+noted_count s (f ∷ fs) = omega (arith, noted_count (noted s f) fs)
+
+noted_first : (g : Segment) (n : ℕ) (fs : List Segment) → (noted_all (record { first = Some g; count = n }) fs).first ≡ Some g
+noted_first g n [] = refl
+noted_first g n (f ∷ fs) = noted_first g (n + 1) fs
+
+-- all frames, noted one by one
+all_noted : (fs : List Segment) → record { first : (noted_all none_found fs).first ≡ first_of fs; count : (noted_all none_found fs).count ≡ length fs }
+all_noted [] = record { first = refl; count = refl }
+all_noted (f ∷ fs) = record { first = noted_first f 1 fs; count = omega (arith, noted_count (noted none_found f) fs) }
+
+-- where no packet is left, all frames have been noted
+pub found_all : (seen hs : List Held) (rest : List HeldPacket) (s : Found) → length rest ≡ 0 → noted_all s (frames_after seen (map held_of rest)) ≡ noted_all none_found (frames hs) → record { first : s.first ≡ first_of (frames hs); count : s.count ≡ length (frames hs) }
+found_all seen hs rest s none told =
+    let e : s ≡ noted_all none_found (frames hs) = sym (ap (λ (xs : List HeldPacket). noted_all s (frames_after seen (map held_of xs))) (nil_from_length rest none)) ∙ told in
+    record { first = ap (λ (t : Found). t.first) e ∙ (all_noted (frames hs)).first; count = ap (λ (t : Found). t.count) e ∙ (all_noted (frames hs)).count }

@@ -1,0 +1,75 @@
+-- How what a sink took grows packet by packet.
+use Rattle.std.proofs.Common.{◌≡◌, ◌∙◌, sym, ap, refl, subst, ℕ, List, [], ◌∷◌, ◌++◌, append_assoc, map, length, ◌==◌, ◌+◌, ◌%◌, ◌^◌}
+use Rattle.std.specs.Global.{Vec}
+use Rattle.std.proofs.lemmas.List.{append-nil}
+use Rattle.std.proofs.Math.Dec.{eqb-suc-zero}
+use Rattle.codec_payload_core.specs.Packets.{Packet, SentPackets}
+use Rattle.codec_payload_core.specs.Sending.{Sends, Sample, packet_for, packets_for, is_last}
+use Rattle.codec_payload_core.specs.Pack.{Pack}
+
+module _ {S : Type 0} (accepts : S → Packet → Packet → S → Type 0) (sent : S → List Packet) where
+  -- of all packets the rest is still to be sent: those before it were, and the sink gained their images
+  pub record SentSoFar (before : S) (all rest : List Packet) (now : S) : Type 0 where
+    pub begun : List Packet
+    pub images : List Packet
+    pub sends : Sends accepts before begun images now
+    pub gained : sent now ≡ sent before ++ images
+    pub whole : all ≡ begun ++ rest
+
+  -- one packet more behind those that were taken
+  pub sends_one : (before : S) (begun images : List Packet) (mid : S) (packet image : Packet) (after : S)
+      → Sends accepts before begun images mid → accepts mid packet image after
+      → Sends accepts before (begun ++ packet ∷ []) (images ++ image ∷ []) after
+  sends_one before [] images mid packet image after sends accepted =
+      (image, [], after, ap (λ xs. xs ++ image ∷ []) sends.0, subst (λ (x : S). accepts x packet image after) sends.1 accepted, (refl, refl))
+  sends_one before (p ∷ ps) images mid packet image after sends accepted =
+      (sends.0, sends.1 ++ image ∷ [], sends.2, ap (λ xs. xs ++ image ∷ []) sends.3, sends.4, sends_one sends.2 ps sends.1 mid packet image after sends.5 accepted)
+
+  pub none_so_far : (before : S) (all : List Packet) → SentSoFar before all all before
+  none_so_far before all = record { begun = []; images = []; sends = (refl, refl); gained = sym (append-nil _); whole = refl }
+
+  pub one_so_far : (before : S) (all : List Packet) (packet : Packet) (rest : List Packet) (mid : S) (image : Packet) (after : S)
+      → SentSoFar before all (packet ∷ rest) mid → accepts mid packet image after → sent after ≡ sent mid ++ image ∷ []
+      → SentSoFar before all rest after
+  one_so_far before all packet rest mid image after so_far accepted grown = record {
+    begun = so_far.begun ++ packet ∷ [];
+    images = so_far.images ++ image ∷ [];
+    sends = sends_one before so_far.begun so_far.images mid packet image after so_far.sends accepted;
+    gained = grown ∙ (ap (λ xs. xs ++ image ∷ []) so_far.gained ∙ append_assoc (sent before) so_far.images (image ∷ []));
+    whole = so_far.whole ∙ sym (append_assoc so_far.begun (packet ∷ []) rest);
+  }
+
+  -- where nothing is left, all were sent
+  pub all_so_far : (before : S) (all : List Packet) (now : S) (so_far : SentSoFar before all [] now) → Sends accepts before all so_far.images now
+  all_so_far before all now so_far = subst (λ (ps : List Packet). Sends accepts before ps so_far.images now) (sym (so_far.whole ∙ append-nil _)) so_far.sends
+
+-- no payload is left after the last
+pub is_last_at_none : (vs : List (Vec ℕ)) (n : ℕ) → n ≡ length vs → (n == 0) ≡ is_last (map (λ v. v.items) vs)
+is_last_at_none [] n e = rw e refl
+is_last_at_none (v ∷ vs) n e = rw e (eqb-suc-zero (length vs))
+
+-- the next payload was sent
+pub next_so_far : {S : Type 0} (accepts : S → Packet → Packet → S → Type 0) (sent : S → List Packet) (next : S → ℕ)
+    (before : S) (all : List Packet) (pack here : Pack) (sample : Sample) (rtp_time : ℕ) (vs : List (Vec ℕ)) (v : Vec ℕ) (left : List (Vec ℕ)) (n : ℕ) (mid after : S)
+    → vs ≡ v ∷ left → n ≡ length left → here ≡ pack
+    → SentSoFar accepts sent before all (packets_for pack sample rtp_time (next mid) (map (λ w. w.items) vs)) mid
+    → (image : Packet) × accepts mid (packet_for here sample rtp_time (next mid) (n == 0) v.items) image after × (sent after ≡ sent mid ++ image ∷ []) × (next after ≡ (next mid + 1) % 2 ^ 64)
+    → SentSoFar accepts sent before all (packets_for pack sample rtp_time (next after) (map (λ w. w.items) left)) after
+next_so_far accepts sent next before all pack here sample rtp_time vs v left n mid after split count same so_far one =
+    let last = is_last_at_none left n count in
+    let unfolded : SentSoFar accepts sent before all (packet_for pack sample rtp_time (next mid) (n == 0) v.items ∷ packets_for pack sample rtp_time (next after) (map (λ w. w.items) left)) mid =
+    rw (last, one.3) (subst (λ (ws : List (Vec ℕ)). SentSoFar accepts sent before all (packets_for pack sample rtp_time (next mid) (map (λ w. w.items) ws)) mid) split so_far) in
+    one_so_far accepts sent before all _ _ mid one.0 after unfolded (subst (λ (p : Pack). accepts mid (packet_for p sample rtp_time (next mid) (n == 0) v.items) one.0 after) same one.1) one.2
+
+-- what a sink in memory makes of packets: it keeps them
+abbrev pub Keeps : SentPackets → Packet → Packet → SentPackets → Type 0
+Keeps before packet image after = (image ≡ packet) × (after ≡ record before { packets = before.packets ++ packet ∷ [] })
+
+pub kept_all : (before : SentPackets) (packets images : List Packet) (after : SentPackets) → Sends Keeps before packets images after
+    → (images ≡ packets) × (after ≡ record before { packets = before.packets ++ packets })
+kept_all before [] images after sends = (sends.0, sends.1 ∙ ap (λ (ps : List Packet). record before { packets = ps }) (sym (append-nil before.packets)))
+kept_all before (p ∷ ps) images after sends =
+    let rest = kept_all sends.2 ps sends.1 after sends.5 in
+    (sends.3 ∙ (ap (λ (x : Packet). x ∷ sends.1) sends.4.0 ∙ ap (λ (xs : List Packet). p ∷ xs) rest.0),
+      rest.1 ∙ (ap (λ (s : SentPackets). record s { packets = s.packets ++ ps }) sends.4.1
+        ∙ ap (λ (xs : List Packet). record before { packets = xs }) (append_assoc before.packets (p ∷ []) ps)))

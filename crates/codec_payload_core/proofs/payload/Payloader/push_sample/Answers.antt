@@ -1,0 +1,37 @@
+use Rattle.std.proofs.Common.{rules, ◌≡◌, ◌∷◌, ◌-◌, [], length, map, refl, ap, ◌∙◌, ◌%◌, ◌^◌}
+use Rattle.std.proofs.lemmas.List.{nil_from_length}
+use Rattle.codec_payload_core.specs.Pack.{pack_of}
+use Rattle.codec_payload_core.specs.Sending.{sample_of, rtp_time_at}
+use Rattle.std.specs.Vec.Iter.{into_iter_items}
+use Rattle.codec_payload_core.proofs.SendLemmas.{next_so_far, all_so_far, SentSoFar}
+use Rattle.codec_payload_core.proofs.payload.Payloader.push_sample.Goals as goal
+
+pub loop-payload-preserved : goal.loop-payload-preserved
+loop-payload-preserved g c =
+    let split : into_iter_items c.loop-payload.payload-iterator ≡ c.in-Some.payload ∷ into_iter_items c.next.new.self = search rules in
+    let count : c.loop-payload.left - 1 ≡ length (into_iter_items c.next.new.self) = search rules in
+    record {
+      same = search rules;
+      kept = search rules;
+      counted = search rules;
+      left = count;
+      so_far = next_so_far g.S.PacketSink.accepts g.S.PacketSink.sent g.S.PacketSink.next c.args.sink.now _ (pack_of c.packetize.new.self) c.loop-payload.self.pack (sample_of c.args.sample.now) (c.numer.result % 2 ^ 32) _ _ _ _ c.loop-payload.sink c.send_payload.new.sink
+          split count (ap (λ p. p.pack) c.loop-payload.invariant.same) c.loop-payload.invariant.so_far c.in_ok-send_payload.ensures.ok;
+    }
+
+pub returns-clause-ok : goal.returns-clause-ok
+returns-clause-ok g c =
+    let none_left : into_iter_items c.loop-payload.payload-iterator ≡ [] = nil_from_length _ (c.loop-payload.invariant.counted ∙ c.in-None.ensures.steps.0) in
+    let pack : c.loop-payload.self.pack ≡ pack_of c.packetize.new.self = ap (λ p. p.pack) c.loop-payload.invariant.same in
+    let time : rtp_time_at c.args.self.now.clock_rate c.args.sample.now.rtp_time ≡ c.numer.result % 2 ^ 32 = search rules in
+    let bytes : c.deref.result.now ≡ c.args.sample.now.bytes.items = search rules in
+    let items : into_iter_items c.into_iter-payload-iterator.result ≡ c.in_ok-payloads.payloads.items = search rules in
+    let view : pack_of c.self.inside.pack ≡ c.args.self.now.pack = ap (λ p. p.pack) c.self.view_is in
+    let all : SentSoFar g.S.PacketSink.accepts g.S.PacketSink.sent c.args.sink.now _ [] c.loop-payload.sink = rw none_left at c.loop-payload.invariant.so_far in
+    record {
+      payloads = map (λ p. p.items) (into_iter_items c.into_iter-payload-iterator.result);
+      packetized = rw (items, pack, ← bytes, ← view) c.in_ok-payloads.ensures.built_in;
+      images = all.images;
+      sends = rw (pack, time) (all_so_far g.S.PacketSink.accepts g.S.PacketSink.sent _ _ _ all);
+      gained = all.gained;
+    }

@@ -1,0 +1,17 @@
+pub use Rattle.codec_payload_base.specs.Answers
+pub use Rattle.codec_payload_base.specs.Faults
+pub use Rattle.codec_payload_base.specs.Payloads
+pub use Rattle.codec_payload_base.specs.Pieces
+pub use Rattle.codec_payload_base.specs.Time
+pub mod Buffer
+pub mod Depack
+pub mod Frames
+pub mod Held
+pub mod Pack
+pub mod Packets
+pub mod Release
+pub mod Scan
+pub mod Schedule
+pub mod Sending
+pub mod Steps
+pub mod Stretches

@@ -1,0 +1,96 @@
+-- How a sample becomes packets, and how a sink takes them.
+use Rattle.std.specs.Prelude.{◌≡◌, ℕ, ◌+◌, ◌%◌, ◌^◌, ◌&&◌, ◌||◌, ◌⊎◌, Bool, true, false, List, [], ◌∷◌, ◌++◌, Result, Ok, Err, refl}
+use Rattle.codec_payload_base.specs.Time.{Time, rebased}
+use Rattle.codec_payload_base.specs.declared.error.PacketError.{PacketError}
+use Rattle.codec_payload_base.specs.declared.wire.ExtensionValues.{ExtensionValues}
+use Rattle.codec_payload_base.specs.declared.wire.ToPayload.{ToPayload}
+use Rattle.codec_payload_core.specs.Pack.{Pack, OpusPack, PackStep, marker_of, talkspurt_of, nackable_of}
+use Rattle.codec_payload_core.specs.Packets.{Packet}
+
+-- a sample, without where its bytes lie
+pub record Sample : Type 0 where
+  pub pt : ℕ
+  pub wallclock : ℕ
+  pub rtp_time : Time
+  pub bytes : List ℕ
+  pub start_of_talk_spurt : Bool
+  pub ext_vals : ExtensionValues
+
+abbrev pub sample_of : ToPayload → Sample
+sample_of s = record {
+  pt = s.pt;
+  wallclock = s.wallclock.0;
+  rtp_time = s.rtp_time;
+  bytes = s.bytes.items;
+  start_of_talk_spurt = s.start_of_talk_spurt;
+  ext_vals = s.ext_vals;
+}
+
+-- a payloader: its packetizer and the rate of the RTP clock
+pub record Payloading : Type 0 where
+  pub pack : Pack
+  pub clock_rate : ℕ
+
+-- the RTP time: that of the sample by the RTP clock, of which 32 bits are kept
+abbrev pub rtp_time_at : ℕ → Time → ℕ
+rtp_time_at clock_rate time = (rebased time clock_rate).numer % 2 ^ 32
+
+-- one packet of a sample; `last` says that no other of the sample follows
+abbrev pub packet_for : Pack → Sample → ℕ → ℕ → Bool → List ℕ → Packet
+packet_for pack sample rtp_time number last payload = record {
+  pt = sample.pt;
+  number = number;
+  rtp_time = rtp_time;
+  wallclock = sample.wallclock;
+  marker = marker_of pack last || (talkspurt_of pack && sample.start_of_talk_spurt);
+  nackable = nackable_of pack;
+  ext_vals = sample.ext_vals;
+  payload = payload;
+}
+
+abbrev pub is_last : List (List ℕ) → Bool
+is_last [] = true
+is_last (payload ∷ payloads) = false
+
+-- the packets of a sample, with consecutive numbers
+abbrev pub packets_for : Pack → Sample → ℕ → ℕ → List (List ℕ) → List Packet
+packets_for pack sample rtp_time number [] = []
+packets_for pack sample rtp_time number (payload ∷ payloads) =
+    packet_for pack sample rtp_time number (is_last payloads) payload ∷ packets_for pack sample rtp_time ((number + 1) % 2 ^ 64) payloads
+
+-- a sink takes these packets, one after another, and makes these images of them
+abbrev pub Sends : {S : Type 0} → (S → Packet → Packet → S → Type 0) → S → List Packet → List Packet → S → Type 0
+Sends accepts before [] images after = (images ≡ []) × (after ≡ before)
+Sends {S} accepts before (packet ∷ packets) images after =
+    (image : Packet) × (more : List Packet) × (mid : S) × (images ≡ image ∷ more) × accepts before packet image mid × Sends accepts mid packets more after
+
+-- the packets of the sample were sent: those of the payloads that the packetizer gives, and the sink gained their images
+pub record SendsSample {S : Type 0} (accepts : S → Packet → Packet → S → Type 0) (sent : S → List Packet) (next : S → ℕ) (mtu : ℕ) (sample : Sample) (p : Payloading) (before : S) (p' : Payloading) (after : S) : Type 0 where
+  pub payloads : List (List ℕ)
+  pub packetized : PackStep p.pack mtu sample.bytes (Ok payloads) p'.pack
+  pub images : List Packet
+  pub sends : Sends accepts before (packets_for p'.pack sample (rtp_time_at p.clock_rate sample.rtp_time) (next before) payloads) images after
+  pub gained : sent after ≡ sent before ++ images
+
+-- the sink refused a packet of the sample: those before it were sent
+pub record SendsBeginning {S : Type 0} (accepts : S → Packet → Packet → S → Type 0) (refuses : S → Packet → PacketError → S → Type 0) (sent : S → List Packet) (next : S → ℕ) (mtu : ℕ) (sample : Sample) (fault : PacketError) (p : Payloading) (before : S) (p' : Payloading) (after : S) : Type 0 where
+  pub payloads : List (List ℕ)
+  pub packetized : PackStep p.pack mtu sample.bytes (Ok payloads) p'.pack
+  pub begun : List Packet
+  pub refused : Packet
+  pub left : List Packet
+  pub whole : packets_for p'.pack sample (rtp_time_at p.clock_rate sample.rtp_time) (next before) payloads ≡ begun ++ refused ∷ left
+  pub images : List Packet
+  pub mid : S
+  pub sends : Sends accepts before begun images mid
+  pub refusal : refuses mid refused fault after
+  pub gained : sent after ≡ sent before ++ images
+
+-- the packetizer refused the sample, and nothing was sent
+pub record SendsNothing {S : Type 0} (mtu : ℕ) (sample : Sample) (fault : PacketError) (p : Payloading) (before : S) (p' : Payloading) (after : S) : Type 0 where
+  pub packetized : PackStep p.pack mtu sample.bytes (Err fault) p'.pack
+  pub same : after ≡ before
+
+-- a third of a second at 90 kHz is 16,000 ticks at 48 kHz
+pub rtp_time_at-video : rtp_time_at 48000 (record { numer = 30000; rate = 90000 }) ≡ 16000
+rtp_time_at-video = refl

@@ -1,0 +1,9 @@
+//! RTP payloads of media frames: cut, sent, held and put together again. A user names this crate alone.
+#![tactic(auto)]
+
+pub use codec_payload_base::{error, interface, plain, wire};
+
+pub mod buffer;
+pub mod codec;
+pub mod payload;
+pub mod schedule;

@@ -1,0 +1,196 @@
+//! Whole runs: samples are sent, some of their packets are pushed, in any order, and units are popped.
+
+ghost use Rattle.std.specs.Prelude.{◌≡◌, ◌≢◌, ◌++◌, List, map, IfOk, IfErr, OnOk, OnErr, Option, Result};
+ghost use Rattle.codec_payload_base.specs.declared.error.PacketError.TheVariants.{OutOfMemory};
+ghost use Rattle.codec_payload_core.specs.Packets.{packet_of, packets_in};
+ghost use Rattle.codec_payload_core.specs.Release.{Release};
+ghost use Rattle.codec_payload_core.specs.Schedule.{run_state, SendsIt, StopsSending, DoesStep, StopsAt, Runs, Stops, Answer, after_push};
+ghost use Rattle.codec_payload_core.specs.Sending.{Sample, sample_of};
+ghost use Rattle.codec_payload_core.specs.Steps.{State, Pops};
+ghost use Rattle.codec_payload_core.specs.declared.schedule.Sent.{Sent as Entry};
+
+use crate::buffer::{Depacketized, DepacketizingBuffer, RtpMeta};
+use crate::error::PacketError;
+use crate::payload::{MemorySink, OutgoingPacket, Payloader};
+use crate::wire::{Frequency, MediaTime, RtpHeader, Ticks, ToPayload};
+use std::alloc::Global;
+
+/// One step of a run.
+#[derive(Clone, Copy, Debug, PartialEq, Eq)]
+pub enum Step {
+    /// Sends the sample of that index, cut for an MTU in bytes. Passed over where there is no such sample.
+    Send { sample: usize, mtu: usize },
+    /// Pushes a copy of the packet of that index, from 0, that the sink holds. Passed over where there is no such packet.
+    Push(usize),
+    /// Pops.
+    Pop,
+}
+
+/// What came of the steps.
+#[derive(Debug, Drop)]
+pub struct Run {
+    /// One entry for each `Send` step that names a sample, in order.
+    pub sends: Vec<Sent>,
+    /// What each `Pop` step was answered, in order.
+    pub pops: Vec<Option<Result<Depacketized, PacketError>>>,
+}
+
+/// What came of a `Send` step.
+#[derive(Debug, Drop)]
+pub struct Sent {
+    /// The place of the step, from 0.
+    pub step: usize,
+    /// How many packets the sink held before it.
+    pub first: usize,
+    /// How many packets it sent.
+    pub count: usize,
+    /// Why nothing was sent, if the sample was refused.
+    pub fault: Option<PacketError>,
+}
+
+/// Does the steps in order: sends samples into the sink, pushes packets that the sink holds into the buffer, and pops.
+///
+/// A `Send` whose sample the packetizer refuses is noted with the fault, and the run goes on. Want of memory ends the run:
+/// the payloader, the buffer and the sink are then as the refused call left them, and the units popped before are given
+/// up with the entries. Room for an entry is found before its step begins, so no unit is popped that cannot be answered.
+///
+/// Each pushed packet is a copy. The cost is that of the calls, one after another.
+pub fn run_schedule(
+    alloc: Global,
+    payloader: &mut Payloader,
+    buffer: &mut DepacketizingBuffer,
+    sink: &mut MemorySink,
+    samples: &[ToPayload],
+    steps: &[Step],
+) -> Result<Run, PacketError>
+    ensures runs { IfOk result (λ run. Runs (map sample_of samples.now) 0 steps.now (run_state payloader.old buffer.old sink.old)
+        run.sends.items run.pops.items (run_state payloader.new buffer.new sink.new)) }
+    ensures fault { IfErr result (λ fault. fault ≡ OutOfMemory) }
+    ensures stops { OnErr result (Stops (map sample_of samples.now) 0 steps.now (run_state payloader.old buffer.old sink.old)
+        (run_state payloader.new buffer.new sink.new)) }
+{
+    let mut run = Run {
+        sends: Vec::new(alloc),
+        pops: Vec::new(alloc),
+    };
+    for (place, step) in steps.iter().enumerate() {
+        do_step(payloader, buffer, sink, samples, place, *step, &mut run)?;
+    }
+    Ok(run)
+}
+
+/// Does one step, and notes what came of it.
+fn do_step(
+    payloader: &mut Payloader,
+    buffer: &mut DepacketizingBuffer,
+    sink: &mut MemorySink,
+    samples: &[ToPayload],
+    place: usize,
+    step: Step,
+    run: &mut Run,
+) -> Result<(), PacketError>
+    ensures ok { OnOk result ((sends : List Entry) × (pops : List Answer) × (run.new.sends.items ≡ run.old.sends.items ++ sends) × (run.new.pops.items ≡ run.old.pops.items ++ pops)
+        × DoesStep (map sample_of samples.now) place step (run_state payloader.old buffer.old sink.old) sends pops (run_state payloader.new buffer.new sink.new)) }
+    ensures fault { IfErr result (λ fault. fault ≡ OutOfMemory) }
+    ensures err { OnErr result (StopsAt (map sample_of samples.now) step (run_state payloader.old buffer.old sink.old) (run_state payloader.new buffer.new sink.new)) }
+{
+    let alloc = *run.sends.allocator();
+    match step {
+        Step::Send { sample, mtu } => {
+            let Some(sample) = samples.get(sample) else {
+                return Ok(());
+            };
+            run.sends.reserve(1)?;
+            let entry = send_step(alloc, payloader, sink, sample, mtu, place)?;
+            run.sends.push(entry).unwrap();
+            Ok(())
+        }
+        Step::Push(k) => {
+            let Some(packet) = sink.packets().get(k) else {
+                return Ok(());
+            };
+            push_step(alloc, payloader.clock_rate(), buffer, packet, place)
+        }
+        Step::Pop => {
+            run.pops.reserve(1)?;
+            let answer = pop_step(buffer)?;
+            run.pops.push(answer).unwrap();
+            Ok(())
+        }
+    }
+}
+
+/// Sends a sample.
+fn send_step(
+    alloc: Global,
+    payloader: &mut Payloader,
+    sink: &mut MemorySink,
+    sample: &ToPayload,
+    mtu: usize,
+    place: usize,
+) -> Result<Sent, PacketError>
+    ensures ok { IfOk result (λ entry. (buffer : State) → SendsIt place mtu (sample_of sample.now) (run_state payloader.old buffer sink.old) entry (run_state payloader.new buffer sink.new)) }
+    ensures fault { IfErr result (λ fault. fault ≡ OutOfMemory) }
+    ensures err { OnErr result ((buffer : State) → StopsSending mtu (sample_of sample.now) (run_state payloader.old buffer sink.old) (run_state payloader.new buffer sink.new)) }
+{
+    let first = sink.packets().len();
+    match payloader.push_sample(alloc, sample, mtu, sink) {
+        Ok(()) => Ok(Sent {
+            step: place,
+            first,
+            count: sink.packets().len() - first,
+            fault: None,
+        }),
+        Err(PacketError::OutOfMemory) => Err(PacketError::OutOfMemory),
+        Err(fault) => Ok(Sent {
+            step: place,
+            first,
+            count: 0,
+            fault: Some(fault),
+        }),
+    }
+}
+
+/// Pushes a copy of a packet that was sent.
+fn push_step(
+    alloc: Global,
+    clock_rate: Frequency,
+    buffer: &mut DepacketizingBuffer,
+    packet: &OutgoingPacket,
+    place: usize,
+) -> Result<(), PacketError>
+    ensures ok { OnOk result (buffer.new ≡ after_push place clock_rate (Option.Some (packet_of packet.now)) buffer.old) }
+    ensures fault { IfErr result (λ fault. fault ≡ OutOfMemory) }
+    ensures err { OnErr result (buffer.new ≡ buffer.old) }
+{
+    let payload = Vec::from_slice(alloc, &packet.payload)?;
+    let meta = RtpMeta {
+        received: Ticks(place as u64),
+        time: MediaTime::new(u64::from(packet.rtp_time), clock_rate),
+        seq_no: packet.seq_no,
+        header: RtpHeader {
+            payload_type: packet.pt,
+            sequence_number: (packet.seq_no.0 % (1 << 16)) as u16,
+            timestamp: packet.rtp_time,
+            ssrc: 0,
+            marker: packet.marker,
+            ext_vals: packet.ext_vals,
+        },
+        last_sender_info: None,
+    };
+    buffer.push(meta, payload)
+}
+
+/// Pops. Want of memory is no answer.
+fn pop_step(
+    buffer: &mut DepacketizingBuffer,
+) -> Result<Option<Result<Depacketized, PacketError>>, PacketError>
+    ensures ok { IfOk result (λ answer. Pops buffer.old answer buffer.new × (answer ≢ Option.Some (Result.Err OutOfMemory))) }
+    ensures fault { IfErr result (λ fault. fault ≡ OutOfMemory) }
+    ensures err { OnErr result (Pops buffer.old (Option.Some (Result.Err OutOfMemory)) buffer.new) }
+{
+    match buffer.pop() {
+        Some(Err(PacketError::OutOfMemory)) => Err(PacketError::OutOfMemory),
+        answer => Ok(answer),
+    }
+}
