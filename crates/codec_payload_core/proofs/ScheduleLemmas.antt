@@ -1,5 +1,5 @@
 -- What a sent sample leaves, as a step of a run.
-use Rattle.std.proofs.Common.{◌≡◌, ◌≢◌, ◌∙◌, sym, ap, refl, subst, ℕ, suc, ◌+◌, ◌-◌, ◌%◌, ◌^◌, ◌⊎◌, inl, inr, List, [], ◌∷◌, ◌++◌, length, arith, length-append, Option, Some, None, Result, Ok, Err}
+use Rattle.std.proofs.Common.{◌≡◌, ◌≢◌, ◌∙◌, sym, ap, refl, subst, ℕ, suc, ◌+◌, ◌-◌, ◌%◌, ◌^◌, ◌⊎◌, inl, inr, List, [], ◌∷◌, ◌++◌, length, arith, length-append, Option, Some, None, Result, Ok, Err, OnOk, OnErr}
 use Rattle.std.proofs.lemmas.List.{append-nil}
 use Rattle.codec_payload_base.specs.declared.error.PacketError.{PacketError}
 use Rattle.codec_payload_base.specs.declared.error.PacketError.TheVariants as faults
@@ -76,3 +76,13 @@ stopped_it mtu sample fault p p' b sink sink' clock memory (inr beginning) =
     let kept = kept_all sink beginning.begun beginning.images beginning.mid beginning.sends in
     (p'.pack, inr (beginning.payloads, beginning.begun, beginning.refused ∷ beginning.left, beginning.packetized, beginning.whole,
         left_by p p' b sink sink' beginning.begun clock (beginning.refusal.1 ∙ kept.1)))
+
+-- what holds anyway holds of an Err
+pub on_err : {T E P : Type 0} (r : Result T E) → P → OnErr r P
+on_err (Ok x) p = tt
+on_err (Err e) p = p
+
+-- what follows from a fact of an Ok
+pub on_ok : {T E P Q : Type 0} (r : Result T E) → (P → Q) → OnOk r P → OnOk r Q
+on_ok (Ok x) f p = f p
+on_ok (Err e) f p = p
