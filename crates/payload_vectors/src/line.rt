@@ -1,9 +1,13 @@
 //! The lines of the input.
 
-ghost use Rattle.std.specs.Prelude.{◌≡◌, ◌↔◌, ◌+◌, ◌≤◌, ◌<◌, ◌^◌, codes, IsSome, IfSome, Some, false, true};
+ghost use Rattle.std.specs.Prelude.{◌≡◌, ◌⊎◌, ◌↔◌, ◌+◌, ◌≤◌, ◌<◌, ◌^◌, codes, IsSome, IfSome, IfOk, Some, false, true};
 ghost use Rattle.std.specs.Option.{SomeIff};
 ghost use Rattle.std.specs.Str.Parse.{digits_value};
-ghost use Rattle.payload_vectors.specs.Line.{IsNumber, codec_of};
+ghost use Rattle.codec_payload_core.specs.Depack.{depack_for};
+ghost use Rattle.codec_payload_core.specs.Pack.{pack_for};
+ghost use Rattle.codec_payload_core.specs.declared.schedule.Step.TheVariants.{Send};
+ghost use Rattle.payload_vectors.specs.HexField.{hex_field_of};
+ghost use Rattle.payload_vectors.specs.Line.{IsNumber, IsSample, codec_of};
 
 use crate::digits::hex_field;
 use codec_payload_core::schedule::Step;
@@ -30,6 +34,8 @@ pub struct Setup {
     pub first_id: u16,
     ghost number_fits: { first_number ≤ 2 ^ 62 },
     ghost id_fits: { first_id ≤ 32767 },
+    ghost is_cut: { IsSome (pack_for codec) },
+    ghost is_joined: { IsSome (depack_for codec) },
 }
 
 impl Setup {
@@ -96,7 +102,11 @@ fn sample(
     time: &str,
     talk_spurt: &str,
     bytes: &str,
-) -> Result<Option<Line>, AllocError> {
+) -> Result<Option<Line>, AllocError>
+    ensures found { IfOk result (λ found. IsSome found ↔ (IsNumber (2 ^ 64) time.now
+        × ((talk_spurt.now ≡ codes "0") ⊎ (talk_spurt.now ≡ codes "1")) × IsSome (hex_field_of bytes.now))) }
+    ensures value { IfOk result (λ found. IfSome found (IsSample time.now talk_spurt.now bytes.now)) }
+{
     let (Some(time), Some(talk_spurt)) = (decimal(time), truth(talk_spurt)) else {
         return Ok(None);
     };
@@ -110,7 +120,10 @@ fn sample(
     }))
 }
 
-fn send(sample: &str, mtu: &str) -> Option<Step> {
+fn send(sample: &str, mtu: &str) -> Option<Step>
+    ensures { SomeIff result (IsNumber (2 ^ 64) sample.now × IsNumber (2 ^ 64) mtu.now)
+        (Send (digits_value 10 sample.now) (digits_value 10 mtu.now)) }
+{
     Some(Step::Send {
         sample: count(sample)?,
         mtu: count(mtu)?,
@@ -119,7 +132,9 @@ fn send(sample: &str, mtu: &str) -> Option<Step> {
 
 /// The codec of that name, where there is one.
 fn codec_named(name: &str) -> Option<Codec>
-    ensures { result ≡ codec_of name.now }
+    ensures name { result ≡ codec_of name.now }
+    ensures is_cut { IfSome result (λ codec. IsSome (pack_for codec)) }
+    ensures is_joined { IfSome result (λ codec. IsSome (depack_for codec)) }
 {
     match name {
         "opus" => Some(Codec::Opus),
@@ -148,6 +163,7 @@ fn count(field: &str) -> Option<usize>
 }
 
 fn truth(field: &str) -> Option<bool>
+    ensures found { IsSome result ↔ ((field.now ≡ codes "0") ⊎ (field.now ≡ codes "1")) }
     ensures no { (result ≡ Some false) ↔ (field.now ≡ codes "0") }
     ensures yes { (result ≡ Some true) ↔ (field.now ≡ codes "1") }
 {

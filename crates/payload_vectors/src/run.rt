@@ -113,7 +113,7 @@ pub fn run_lines<R: Read, W: Write>(
 
 /// What the script's run prints.
 fn output_of(alloc: Global, script: &Script) -> Result<String, ProgramFault>
-    ensures { IfErr result IsLineFault }
+    ensures { IfErr result (λ fault. fault ≡ OutOfMemory) }
 {
     let setup = script.setup;
     let spec = CodecSpec {
@@ -121,11 +121,9 @@ fn output_of(alloc: Global, script: &Script) -> Result<String, ProgramFault>
         clock_rate: setup.rate,
         octet_align: false,
     };
-    let payloader = Payloader::new(spec, Vp9PacketizerMode::NonFlexible, setup.first_id);
-    let depack = CodecDepacketizer::from_codec(alloc, setup.codec);
-    let (Some(mut payloader), Some(depack)) = (payloader, depack) else {
-        return Err(ProgramFault::BadLine(1));
-    };
+    let mode = Vp9PacketizerMode::NonFlexible;
+    let mut payloader = Payloader::new(spec, mode, setup.first_id).unwrap();
+    let depack = CodecDepacketizer::from_codec(alloc, setup.codec).unwrap();
     let mut buffer = DepacketizingBuffer::new(alloc, depack, setup.hold_back);
     let mut sink = MemorySink::new(alloc, setup.first_number);
     let run = run_schedule(

@@ -1,6 +1,6 @@
 //! The whole input: what is set, the samples, and the steps.
 
-ghost use Rattle.std.specs.Prelude.{IfErr};
+ghost use Rattle.std.specs.Prelude.{◌≡◌, IfErr};
 ghost use Rattle.payload_vectors.specs.Program.{IsLineFault};
 
 use crate::line::{Line, Setup};
@@ -67,7 +67,13 @@ fn parse_line(alloc: Global, bytes: &[u8]) -> Result<Option<Line>, AllocError> {
     }
 }
 
-fn sample(setup: &Setup, time: u64, talk_spurt: bool, bytes: Vec<u8>) -> ToPayload {
+fn sample(setup: &Setup, time: u64, talk_spurt: bool, bytes: Vec<u8>) -> ToPayload
+    ensures payload_type { result.pt ≡ 96 }
+    ensures wallclock { result.wallclock.0 ≡ 0 }
+    ensures time { result.rtp_time ≡ record { numer = time; rate = setup.now.rate } }
+    ensures bytes { result.bytes.items ≡ bytes.items }
+    ensures talk_spurt { result.start_of_talk_spurt ≡ talk_spurt }
+{
     ToPayload {
         pt: Pt::new_with_value(PAYLOAD_TYPE),
         wallclock: Ticks(0),
