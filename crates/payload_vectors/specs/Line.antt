@@ -1,30 +1,29 @@
--- The fields of lines.
-use Rattle.std.specs.Prelude.{◌≡◌, ◌↔◌, ℕ, ◌<◌, IsTrue, if◌then◌else◌, List, codes, Option, Some, None}
-use Rattle.std.specs.Str.{bytes_eq}
-use Rattle.std.specs.Str.Parse.{IsNumeral, digits_value}
-use Rattle.codec_payload_core.specs.declared.wire.Codec.{Codec}
-use Rattle.codec_payload_core.specs.declared.wire.Codec.TheVariants as codecs
+-- What lines say.
+use Rattle.std.specs.Prelude.{◌≡◌, ◌↔◌, ℕ, IsTrue, List, codes, Some}
+use Rattle.std.specs.Str.Parse.{digits_value}
+use Rattle.payload_vectors.specs.Fields.{codec_of}
 use Rattle.payload_vectors.specs.HexField.{hex_field_of}
 use Rattle.payload_vectors.specs.declared.line.Line.{Line}
 use Rattle.payload_vectors.specs.declared.line.Line.TheVariants as lines
+use Rattle.payload_vectors.specs.declared.line.Setup.{Setup}
 
--- a number is one decimal digit or more, and nothing else, whose value is below the limit
-abbrev pub IsNumber : ℕ → List ℕ → Type 0
-IsNumber limit text = IsNumeral 10 text × (digits_value 10 text < limit)
+-- what the fields after `codec` set
+pub record IsSetup (name rate hold_back number id : List ℕ) (setup : Setup) : Type 0 where
+  pub of_name : codec_of name ≡ Some setup.codec
+  pub of_rate : setup.rate ≡ digits_value 10 rate
+  pub of_hold_back : setup.hold_back ≡ digits_value 10 hold_back
+  pub of_number : setup.first_number ≡ digits_value 10 number
+  pub of_id : setup.first_id ≡ digits_value 10 id
 
--- the codec that a name stands for
-abbrev pub codec_of : List ℕ → Option Codec
-codec_of name =
-    if bytes_eq name (codes "opus") then Some codecs.Opus
-    else if bytes_eq name (codes "pcmu") then Some codecs.PCMU
-    else if bytes_eq name (codes "pcma") then Some codecs.PCMA
-    else if bytes_eq name (codes "g722") then Some codecs.G722
-    else if bytes_eq name (codes "null") then Some codecs.Null
-    else None
+-- the line of `codec` with these fields
+abbrev pub IsCodecLine : List ℕ → List ℕ → List ℕ → List ℕ → List ℕ → Line → Type 0
+IsCodecLine name rate hold_back number id (lines.Codec setup) = IsSetup name rate hold_back number id setup
+IsCodecLine name rate hold_back number id (lines.Sample _ _ _) = ⊥
+IsCodecLine name rate hold_back number id (lines.Step _) = ⊥
 
--- the line of a sample with these fields
-abbrev pub IsSample : List ℕ → List ℕ → List ℕ → Line → Type 0
-IsSample time talk_spurt hex (lines.Sample ticks starts bytes) =
+-- the line of `sample` with these fields
+abbrev pub IsSampleLine : List ℕ → List ℕ → List ℕ → Line → Type 0
+IsSampleLine time talk_spurt hex (lines.Sample ticks starts bytes) =
     (ticks ≡ digits_value 10 time) × (IsTrue starts ↔ (talk_spurt ≡ codes "1")) × (hex_field_of hex ≡ Some bytes.items)
-IsSample time talk_spurt hex (lines.Codec _) = ⊥
-IsSample time talk_spurt hex (lines.Step _) = ⊥
+IsSampleLine time talk_spurt hex (lines.Codec _) = ⊥
+IsSampleLine time talk_spurt hex (lines.Step _) = ⊥

@@ -1,15 +1,15 @@
 //! The lines of the input.
 
-ghost use Rattle.std.specs.Prelude.{◌≡◌, ◌⊎◌, ◌↔◌, ◌+◌, ◌≤◌, ◌<◌, ◌^◌, codes, IsSome, IfSome, IfOk, Some, false, true};
+ghost use Rattle.std.specs.Prelude.{ℕ, List, ◌≡◌, ◌∷◌, [], ◌⊎◌, ◌↔◌, ◌≤◌, ◌^◌, map, codes, IsSome, IfSome, IfOk, Some, None};
+ghost use Rattle.std.specs.List.{slice_split};
 ghost use Rattle.std.specs.Option.{SomeIff};
 ghost use Rattle.std.specs.Str.Parse.{digits_value};
 ghost use Rattle.codec_payload_core.specs.Depack.{depack_for};
 ghost use Rattle.codec_payload_core.specs.Pack.{pack_for};
-ghost use Rattle.codec_payload_core.specs.declared.schedule.Step.TheVariants.{Send};
-ghost use Rattle.payload_vectors.specs.HexField.{hex_field_of};
-ghost use Rattle.payload_vectors.specs.Line.{IsNumber, IsSample, codec_of};
+ghost use Rattle.payload_vectors.specs.Fields.{AreSample, AreSetup, IsNumber};
 
 use crate::digits::hex_field;
+use crate::fields::{codec_named, count, decimal, truth};
 use codec_payload_core::schedule::Step;
 use codec_payload_core::wire::{Codec, Frequency};
 use std::alloc::{AllocError, Global};
@@ -39,16 +39,12 @@ pub struct Setup {
 }
 
 impl Setup {
+    ghost use Rattle.payload_vectors.specs.Line.{IsSetup};
+
     /// What the fields after `codec` set.
     fn from_fields(name: &str, rate: &str, hold_back: &str, number: &str, id: &str) -> Option<Setup>
-        ensures found { IsSome result ↔ (IsSome (codec_of name.now) × IsNumber (2 ^ 32) rate.now
-            × (0 < digits_value 10 rate.now) × IsNumber (2 ^ 64) hold_back.now
-            × IsNumber (2 ^ 62 + 1) number.now × IsNumber (2 ^ 15) id.now) }
-        ensures codec { IfSome result (λ setup. codec_of name.now ≡ Some setup.codec) }
-        ensures rate { IfSome result (λ setup. setup.rate ≡ digits_value 10 rate.now) }
-        ensures hold_back { IfSome result (λ setup. setup.hold_back ≡ digits_value 10 hold_back.now) }
-        ensures number { IfSome result (λ setup. setup.first_number ≡ digits_value 10 number.now) }
-        ensures id { IfSome result (λ setup. setup.first_id ≡ digits_value 10 id.now) }
+        ensures found { IsSome result ↔ AreSetup name.now rate.now hold_back.now number.now id.now }
+        ensures value { IfSome result (IsSetup name.now rate.now hold_back.now number.now id.now) }
     {
         let codec = codec_named(name)?;
         let rate = Frequency::make(u32::try_from(decimal(rate)?).ok()?)?;
@@ -81,95 +77,63 @@ pub enum Line {
 }
 
 impl Line {
+    ghost use Rattle.codec_payload_core.specs.declared.schedule.Step.TheVariants.{Pop, Push, Send};
+    ghost use Rattle.payload_vectors.specs.Line.{IsCodecLine, IsSampleLine};
+    ghost use Rattle.payload_vectors.specs.declared.line.Line.TheVariants as lines;
+
     /// The line that a text spells, whose fields have one space between them. `Ok(None)` for any other text.
     pub fn parse(alloc: Global, text: &str) -> Result<Option<Line>, AllocError> {
         let fields: Vec<&str> = text.split(' ').collect(alloc)?;
-        match fields.as_slice() {
-            ["sample", time, talk_spurt, bytes] => sample(alloc, time, talk_spurt, bytes),
+        Line::from_fields(alloc, &fields)
+    }
+
+    /// The line of these fields.
+    fn from_fields(alloc: Global, fields: &[&str]) -> Result<Option<Line>, AllocError>
+        ensures pop { map (λ field. field.now) fields.now ≡ codes "pop" ∷ []
+            → IfOk result (λ found. found ≡ Some (lines.Step Pop)) }
+        ensures push { (packet : List ℕ) → map (λ field. field.now) fields.now ≡ codes "push" ∷ packet ∷ []
+            → IfOk result (λ found. SomeIff found (IsNumber (2 ^ 64) packet) (lines.Step (Push (digits_value 10 packet)))) }
+    {
+        match fields {
+            ["sample", time, talk_spurt, bytes] => Line::sample(alloc, time, talk_spurt, bytes),
             ["codec", name, rate, hold_back, number, id] => {
                 Ok(Setup::from_fields(name, rate, hold_back, number, id).map(Line::Codec))
             }
-            ["send", sample, mtu] => Ok(send(sample, mtu).map(Line::Step)),
-            ["push", packet] => Ok(count(packet).map(Step::Push).map(Line::Step)),
+            ["send", sample, mtu] => Ok(Line::send(sample, mtu)),
+            ["push", packet] => Ok(count(packet).map(|k| Line::Step(Step::Push(k)))),
             ["pop"] => Ok(Some(Line::Step(Step::Pop))),
             _ => Ok(None),
         }
     }
-}
 
-fn sample(
-    alloc: Global,
-    time: &str,
-    talk_spurt: &str,
-    bytes: &str,
-) -> Result<Option<Line>, AllocError>
-    ensures found { IfOk result (λ found. IsSome found ↔ (IsNumber (2 ^ 64) time.now
-        × ((talk_spurt.now ≡ codes "0") ⊎ (talk_spurt.now ≡ codes "1")) × IsSome (hex_field_of bytes.now))) }
-    ensures value { IfOk result (λ found. IfSome found (IsSample time.now talk_spurt.now bytes.now)) }
-{
-    let (Some(time), Some(talk_spurt)) = (decimal(time), truth(talk_spurt)) else {
-        return Ok(None);
-    };
-    let Some(bytes) = hex_field(alloc, bytes)? else {
-        return Ok(None);
-    };
-    Ok(Some(Line::Sample {
-        time,
-        talk_spurt,
-        bytes,
-    }))
-}
-
-fn send(sample: &str, mtu: &str) -> Option<Step>
-    ensures { SomeIff result (IsNumber (2 ^ 64) sample.now × IsNumber (2 ^ 64) mtu.now)
-        (Send (digits_value 10 sample.now) (digits_value 10 mtu.now)) }
-{
-    Some(Step::Send {
-        sample: count(sample)?,
-        mtu: count(mtu)?,
-    })
-}
-
-/// The codec of that name, where there is one.
-fn codec_named(name: &str) -> Option<Codec>
-    ensures name { result ≡ codec_of name.now }
-    ensures is_cut { IfSome result (λ codec. IsSome (pack_for codec)) }
-    ensures is_joined { IfSome result (λ codec. IsSome (depack_for codec)) }
-{
-    match name {
-        "opus" => Some(Codec::Opus),
-        "pcmu" => Some(Codec::PCMU),
-        "pcma" => Some(Codec::PCMA),
-        "g722" => Some(Codec::G722),
-        "null" => Some(Codec::Null),
-        _ => None,
+    fn sample(
+        alloc: Global,
+        time: &str,
+        talk_spurt: &str,
+        bytes: &str,
+    ) -> Result<Option<Line>, AllocError>
+        ensures found { IfOk result (λ found. IsSome found ↔ AreSample time.now talk_spurt.now bytes.now) }
+        ensures value { IfOk result (λ found. IfSome found (IsSampleLine time.now talk_spurt.now bytes.now)) }
+    {
+        let (Some(time), Some(talk_spurt)) = (decimal(time), truth(talk_spurt)) else {
+            return Ok(None);
+        };
+        let Some(bytes) = hex_field(alloc, bytes)? else {
+            return Ok(None);
+        };
+        Ok(Some(Line::Sample {
+            time,
+            talk_spurt,
+            bytes,
+        }))
     }
-}
 
-/// The number that decimal digits spell, where it fits: a sign is refused, and leading zeros are not.
-fn decimal(field: &str) -> Option<u64>
-    ensures { SomeIff result (IsNumber (2 ^ 64) field.now) (digits_value 10 field.now) }
-{
-    if field.starts_with('+') {
-        return None;
-    }
-    field.parse().ok()
-}
-
-fn count(field: &str) -> Option<usize>
-    ensures { SomeIff result (IsNumber (2 ^ 64) field.now) (digits_value 10 field.now) }
-{
-    usize::try_from(decimal(field)?).ok()
-}
-
-fn truth(field: &str) -> Option<bool>
-    ensures found { IsSome result ↔ ((field.now ≡ codes "0") ⊎ (field.now ≡ codes "1")) }
-    ensures no { (result ≡ Some false) ↔ (field.now ≡ codes "0") }
-    ensures yes { (result ≡ Some true) ↔ (field.now ≡ codes "1") }
-{
-    match field {
-        "0" => Some(false),
-        "1" => Some(true),
-        _ => None,
+    fn send(sample: &str, mtu: &str) -> Option<Line>
+        ensures { SomeIff result (IsNumber (2 ^ 64) sample.now × IsNumber (2 ^ 64) mtu.now)
+            (lines.Step (Send (digits_value 10 sample.now) (digits_value 10 mtu.now))) }
+    {
+        let sample = count(sample)?;
+        let mtu = count(mtu)?;
+        Some(Line::Step(Step::Send { sample, mtu }))
     }
 }

@@ -3,6 +3,7 @@
 #![tactic(auto)]
 
 mod digits;
+mod fields;
 mod line;
 mod print;
 mod run;
