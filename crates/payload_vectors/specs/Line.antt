@@ -1,7 +1,9 @@
 -- What lines say.
-use Rattle.std.specs.Prelude.{◌≡◌, ◌↔◌, ℕ, IsTrue, List, codes, Some}
+use Rattle.std.specs.Prelude.{◌≡◌, ◌↔◌, ◌^◌, ℕ, IsTrue, List, [], ◌∷◌, codes, IfSome, IsSome, Option, Some}
+use Rattle.std.specs.Option.{SomeIff}
 use Rattle.std.specs.Str.Parse.{digits_value}
-use Rattle.payload_vectors.specs.Fields.{codec_of}
+use Rattle.codec_payload_core.specs.declared.schedule.Step.TheVariants.{Push, Send}
+use Rattle.payload_vectors.specs.Fields.{AreSample, AreSetup, IsNumber, codec_of}
 use Rattle.payload_vectors.specs.HexField.{hex_field_of}
 use Rattle.payload_vectors.specs.declared.line.Line.{Line}
 use Rattle.payload_vectors.specs.declared.line.Line.TheVariants as lines
@@ -15,15 +17,44 @@ pub record IsSetup (name rate hold_back number id : List ℕ) (setup : Setup) : 
   pub of_number : setup.first_number ≡ digits_value 10 number
   pub of_id : setup.first_id ≡ digits_value 10 id
 
--- the line of `codec` with these fields
-abbrev pub IsCodecLine : List ℕ → List ℕ → List ℕ → List ℕ → List ℕ → Line → Type 0
-IsCodecLine name rate hold_back number id (lines.Codec setup) = IsSetup name rate hold_back number id setup
-IsCodecLine name rate hold_back number id (lines.Sample _ _ _) = ⊥
-IsCodecLine name rate hold_back number id (lines.Step _) = ⊥
+-- the fields have the form of a line: its word, and as many fields as it has
+abbrev pub HasForm : List (List ℕ) → Type 0
+HasForm (word ∷ []) = word ≡ codes "pop"
+HasForm (word ∷ packet ∷ []) = word ≡ codes "push"
+HasForm (word ∷ sample ∷ mtu ∷ []) = word ≡ codes "send"
+HasForm (word ∷ time ∷ talk_spurt ∷ hex ∷ []) = word ≡ codes "sample"
+HasForm (word ∷ name ∷ rate ∷ hold_back ∷ number ∷ id ∷ []) = word ≡ codes "codec"
+HasForm _ = ⊥
 
--- the line of `sample` with these fields
-abbrev pub IsSampleLine : List ℕ → List ℕ → List ℕ → Line → Type 0
-IsSampleLine time talk_spurt hex (lines.Sample ticks starts bytes) =
+-- the line that sets a codec
+abbrev pub SetsCodec : List ℕ → List ℕ → List ℕ → List ℕ → List ℕ → Line → Type 0
+SetsCodec name rate hold_back number id (lines.Codec setup) = IsSetup name rate hold_back number id setup
+SetsCodec name rate hold_back number id (lines.Sample _ _ _) = ⊥
+SetsCodec name rate hold_back number id (lines.Step _) = ⊥
+
+-- the line that gives a sample
+abbrev pub GivesSample : List ℕ → List ℕ → List ℕ → Line → Type 0
+GivesSample time talk_spurt hex (lines.Sample ticks starts bytes) =
     (ticks ≡ digits_value 10 time) × (IsTrue starts ↔ (talk_spurt ≡ codes "1")) × (hex_field_of hex ≡ Some bytes.items)
-IsSampleLine time talk_spurt hex (lines.Codec _) = ⊥
-IsSampleLine time talk_spurt hex (lines.Step _) = ⊥
+GivesSample time talk_spurt hex (lines.Codec _) = ⊥
+GivesSample time talk_spurt hex (lines.Step _) = ⊥
+
+-- what the fields after `codec` give
+abbrev pub IsCodec : List ℕ → List ℕ → List ℕ → List ℕ → List ℕ → Option Line → Type 0
+IsCodec name rate hold_back number id found =
+    (IsSome found ↔ AreSetup name rate hold_back number id) × IfSome found (SetsCodec name rate hold_back number id)
+
+-- what the fields after `sample` give
+abbrev pub IsSample : List ℕ → List ℕ → List ℕ → Option Line → Type 0
+IsSample time talk_spurt hex found =
+    (IsSome found ↔ AreSample time talk_spurt hex) × IfSome found (GivesSample time talk_spurt hex)
+
+-- what the fields after `send` give
+abbrev pub IsSend : List ℕ → List ℕ → Option Line → Type 0
+IsSend sample mtu found =
+    SomeIff found (IsNumber (2 ^ 64) sample × IsNumber (2 ^ 64) mtu)
+    (lines.Step (Send (digits_value 10 sample) (digits_value 10 mtu)))
+
+-- what the field after `push` gives
+abbrev pub IsPush : List ℕ → Option Line → Type 0
+IsPush packet found = SomeIff found (IsNumber (2 ^ 64) packet) (lines.Step (Push (digits_value 10 packet)))

@@ -77,8 +77,8 @@ pub enum Line {
 }
 
 impl Line {
-    ghost use Rattle.codec_payload_core.specs.declared.schedule.Step.TheVariants.{Pop, Push, Send};
-    ghost use Rattle.payload_vectors.specs.Line.{IsCodecLine, IsSampleLine};
+    ghost use Rattle.codec_payload_core.specs.declared.schedule.Step.TheVariants.{Pop};
+    ghost use Rattle.payload_vectors.specs.Line.{HasForm, IsCodec, IsPush, IsSample, IsSend};
     ghost use Rattle.payload_vectors.specs.declared.line.Line.TheVariants as lines;
 
     /// The line that a text spells, whose fields have one space between them. `Ok(None)` for any other text.
@@ -92,7 +92,16 @@ impl Line {
         ensures pop { map (λ field. field.now) fields.now ≡ codes "pop" ∷ []
             → IfOk result (λ found. found ≡ Some (lines.Step Pop)) }
         ensures push { (packet : List ℕ) → map (λ field. field.now) fields.now ≡ codes "push" ∷ packet ∷ []
-            → IfOk result (λ found. SomeIff found (IsNumber (2 ^ 64) packet) (lines.Step (Push (digits_value 10 packet)))) }
+            → IfOk result (IsPush packet) }
+        ensures send { (sample mtu : List ℕ) → map (λ field. field.now) fields.now ≡ codes "send" ∷ sample ∷ mtu ∷ []
+            → IfOk result (IsSend sample mtu) }
+        ensures sample { (time talk_spurt hex : List ℕ)
+            → map (λ field. field.now) fields.now ≡ codes "sample" ∷ time ∷ talk_spurt ∷ hex ∷ []
+            → IfOk result (IsSample time talk_spurt hex) }
+        ensures codec { (name rate hold_back number id : List ℕ)
+            → map (λ field. field.now) fields.now ≡ codes "codec" ∷ name ∷ rate ∷ hold_back ∷ number ∷ id ∷ []
+            → IfOk result (IsCodec name rate hold_back number id) }
+        ensures other { ¬ HasForm (map (λ field. field.now) fields.now) → IfOk result (λ found. found ≡ None) }
     {
         match fields {
             ["sample", time, talk_spurt, bytes] => Line::sample(alloc, time, talk_spurt, bytes),
@@ -112,8 +121,7 @@ impl Line {
         talk_spurt: &str,
         bytes: &str,
     ) -> Result<Option<Line>, AllocError>
-        ensures found { IfOk result (λ found. IsSome found ↔ AreSample time.now talk_spurt.now bytes.now) }
-        ensures value { IfOk result (λ found. IfSome found (IsSampleLine time.now talk_spurt.now bytes.now)) }
+        ensures { IfOk result (IsSample time.now talk_spurt.now bytes.now) }
     {
         let (Some(time), Some(talk_spurt)) = (decimal(time), truth(talk_spurt)) else {
             return Ok(None);
@@ -129,8 +137,7 @@ impl Line {
     }
 
     fn send(sample: &str, mtu: &str) -> Option<Line>
-        ensures { SomeIff result (IsNumber (2 ^ 64) sample.now × IsNumber (2 ^ 64) mtu.now)
-            (lines.Step (Send (digits_value 10 sample.now) (digits_value 10 mtu.now))) }
+        ensures { IsSend sample.now mtu.now result }
     {
         let sample = count(sample)?;
         let mtu = count(mtu)?;
