@@ -1,8 +1,9 @@
 -- What lines say.
-use Rattle.std.specs.Prelude.{◌≡◌, ◌↔◌, ◌^◌, ℕ, IsTrue, List, [], ◌∷◌, codes, IfSome, IsSome, Option, Some}
+use Rattle.std.specs.Prelude.{◌≡◌, ◌≢◌, ◌==◌, ◌↔◌, ◌^◌, ℕ, IsTrue, List, [], ◌∷◌, codes, IfSome, IsSome, Option, Some, None}
+use Rattle.std.specs.List.{slice_split}
 use Rattle.std.specs.Option.{SomeIff}
 use Rattle.std.specs.Str.Parse.{digits_value}
-use Rattle.codec_payload_core.specs.declared.schedule.Step.TheVariants.{Push, Send}
+use Rattle.codec_payload_core.specs.declared.schedule.Step.TheVariants.{Pop, Push, Send}
 use Rattle.payload_vectors.specs.Fields.{AreSample, AreSetup, IsNumber, codec_of}
 use Rattle.payload_vectors.specs.HexField.{hex_field_of}
 use Rattle.payload_vectors.specs.declared.line.Line.{Line}
@@ -58,3 +59,19 @@ IsSend sample mtu found =
 -- what the field after `push` gives
 abbrev pub IsPush : List ℕ → Option Line → Type 0
 IsPush packet found = SomeIff found (IsNumber (2 ^ 64) packet) (lines.Step (Push (digits_value 10 packet)))
+
+-- the fields of a line, with one space between two
+abbrev pub fields_of : List ℕ → List (List ℕ)
+fields_of text = slice_split (λ b. b == 32) text
+
+-- what a line of these fields says, by its word: nothing where it has no such word, other fields, or fields out of range
+abbrev pub Says : List (List ℕ) → Option Line → Type 0
+Says (word ∷ []) found = (word ≡ codes "pop" → found ≡ Some (lines.Step Pop)) × (word ≢ codes "pop" → found ≡ None)
+Says (word ∷ packet ∷ []) found = (word ≡ codes "push" → IsPush packet found) × (word ≢ codes "push" → found ≡ None)
+Says (word ∷ sample ∷ mtu ∷ []) found =
+    (word ≡ codes "send" → IsSend sample mtu found) × (word ≢ codes "send" → found ≡ None)
+Says (word ∷ time ∷ talk_spurt ∷ hex ∷ []) found =
+    (word ≡ codes "sample" → IsSample time talk_spurt hex found) × (word ≢ codes "sample" → found ≡ None)
+Says (word ∷ name ∷ rate ∷ hold_back ∷ number ∷ id ∷ []) found =
+    (word ≡ codes "codec" → IsCodec name rate hold_back number id found) × (word ≢ codes "codec" → found ≡ None)
+Says _ found = found ≡ None

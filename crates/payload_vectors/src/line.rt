@@ -78,11 +78,13 @@ pub enum Line {
 
 impl Line {
     ghost use Rattle.codec_payload_core.specs.declared.schedule.Step.TheVariants.{Pop};
-    ghost use Rattle.payload_vectors.specs.Line.{HasForm, IsCodec, IsPush, IsSample, IsSend};
+    ghost use Rattle.payload_vectors.specs.Line.{HasForm, IsCodec, IsPush, IsSample, IsSend, Says, fields_of};
     ghost use Rattle.payload_vectors.specs.declared.line.Line.TheVariants as lines;
 
     /// The line that a text spells, whose fields have one space between them. `Ok(None)` for any other text.
-    pub fn parse(alloc: Global, text: &str) -> Result<Option<Line>, AllocError> {
+    pub fn parse(alloc: Global, text: &str) -> Result<Option<Line>, AllocError>
+        ensures { IfOk result (Says (fields_of text.now)) }
+    {
         let fields: Vec<&str> = text.split(' ').collect(alloc)?;
         Line::from_fields(alloc, &fields)
     }
