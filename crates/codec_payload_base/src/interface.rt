@@ -15,6 +15,25 @@ use std::fmt::Debug;
 pub enum CodecExtra {
     /// Nothing was told.
     None,
+    /// What VP8 told.
+    Vp8(Vp8CodecExtra),
+}
+
+/// What the payloads of a VP8 frame told besides its bytes (RFC 7741, section 4.2).
+#[derive(Clone, Copy, Debug, PartialEq, Eq)]
+pub struct Vp8CodecExtra {
+    /// Whether no other frame depends on this one.
+    pub discardable: bool,
+    /// Whether this frame depends on frames of the base layer alone.
+    pub sync: bool,
+    /// The temporal layer.
+    pub layer_index: u8,
+    /// The picture id, extended beyond the bits that were sent, if one was sent.
+    pub picture_id: Option<u64>,
+    /// The picture id of the base layer, extended likewise, if one was sent.
+    pub tl0_picture_id: Option<u64>,
+    /// Whether the frame can be decoded without any other.
+    pub is_keyframe: bool,
 }
 
 /// How VP9 frames refer to one another (RFC 9628, section 3).
