@@ -61,3 +61,13 @@ noted_at s start p = if p.tail then noted_all s (ended_at p start) else s
 -- before the first packet
 abbrev pub none_found : Found
 none_found = record { first = None; count = 0 }
+
+-- how many bytes these packets carry
+abbrev pub total_size : List Held → ℕ
+total_size [] = 0
+total_size (p ∷ ps) = length p.bytes + total_size ps
+
+-- the room for which a size hint asks
+abbrev pub room_for : Option ℕ → ℕ
+room_for None = 0
+room_for (Some size) = size
