@@ -45,9 +45,9 @@ sizes_of_one size rest (next ∷ more) some left join sizes =
 
 pub one_piece : (size : ℕ) (rest : List ℕ) (more : List (List ℕ)) → 0 < size → 0 < length rest → ArePieces size (drop size rest) more → ArePieces size rest (take size rest ∷ more)
 one_piece size rest more some left are = record {
-    join = ap (λ x. take size rest ++ x) are.join ∙ take-append-drop size rest;
-    sizes = sizes_of_one size rest more some left are.join are.sizes;
-  }
+  join = ap (λ x. take size rest ++ x) are.join ∙ take-append-drop size rest;
+  sizes = sizes_of_one size rest more some left are.join are.sizes;
+}
 
 -- nothing is cut into no pieces
 pub no_pieces : (size : ℕ) (frame : List ℕ) → frame ≡ [] → ArePieces size frame []

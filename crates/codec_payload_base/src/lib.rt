@@ -4,4 +4,6 @@
 pub mod error;
 pub mod interface;
 pub mod plain;
+#[cfg(test)]
+mod tests;
 pub mod wire;

@@ -61,7 +61,9 @@ impl Model for Frequency {
 
 impl Frequency {
     pub const EIGHT_KHZ: Frequency = Frequency { hertz: 8_000 };
+
     pub const FORTY_EIGHT_KHZ: Frequency = Frequency { hertz: 48_000 };
+
     pub const NINETY_KHZ: Frequency = Frequency { hertz: 90_000 };
 
     /// The rate of that many hertz, or `None` for 0.

@@ -296,9 +296,9 @@ module _ (all_steps : List Step) (clock_rate first : ℕ) (kind : DepackKind) (s
       let mid = run.4 in
       let stream = streams samples place (steps.Push k ∷ later) s t sends pops run in
       let held : IsBeyond from (after_push place clock_rate (slice_get s.sink.packets k) s.buffer) =
-        push_beyond from s.buffer place k s.sink.packets (packets_of stream.units) (sym stream.gained ∙ whole) next.0 (slice_get s.sink.packets k) refl sound in
+      push_beyond from s.buffer place k s.sink.packets (packets_of stream.units) (sym stream.gained ∙ whole) next.0 (slice_get s.sink.packets k) refl sound in
       let buffer : mid.buffer ≡ after_push place clock_rate (slice_get s.sink.packets k) s.buffer =
-        ap (λ (x : RunState). x.buffer) run.7.2 ∙ ap (λ (rate : ℕ). after_push place rate (slice_get s.sink.packets k) s.buffer) clock in
+      ap (λ (x : RunState). x.buffer) run.7.2 ∙ ap (λ (rate : ℕ). after_push place rate (slice_get s.sink.packets k) s.buffer) clock in
       let rest = safe_from samples later (place + 1) from mid t run.1 run.3 next.1 run.8 whole (ap (λ (x : RunState). x.payloading.clock_rate) run.7.2 ∙ clock) (subst (IsBeyond from) (sym buffer) held) in
       subst (InOrder all_steps clock_rate splits all from) (sym (run.6 ∙ ap (λ (ps : List Answer). ps ++ run.3) run.7.1)) rest
   safe_from samples (steps.Pop ∷ later) place from s t sends pops at run whole clock sound =
@@ -309,7 +309,7 @@ module _ (all_steps : List Step) (clock_rate first : ℕ) (kind : DepackKind) (s
       let all_answers : answer ∷ run.3 ≡ pops = sym (run.6 ∙ ap (λ (ps : List Answer). ps ++ run.3) run.7.3) in
       subst (InOrder all_steps clock_rate splits all from) all_answers
       (pop_in_order from s.buffer run.7.2 answer run.3 sound run.7.5 run.7.4
-        (λ n beyond. safe_from samples later (place + 1) n mid t run.1 run.3 next.1 run.8 whole (ap (λ (x : RunState). x.payloading.clock_rate) run.7.6 ∙ clock) (subst (IsBeyond n) (sym buffer) beyond)))
+      (λ n beyond. safe_from samples later (place + 1) n mid t run.1 run.3 next.1 run.8 whole (ap (λ (x : RunState). x.payloading.clock_rate) run.7.6 ∙ clock) (subst (IsBeyond n) (sym buffer) beyond)))
 
 -- a run over an unused sink and an unused buffer releases its units in order, each at most once
 pub safe : (samples : List Sample) (all_steps : List Step) (s t : RunState) (sends : List Sent) (pops : List Answer) → Runs samples 0 all_steps s sends pops t → IsUnused s → ReleasesInOrder samples all_steps s pops t

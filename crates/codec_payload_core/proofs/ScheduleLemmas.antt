@@ -71,13 +71,25 @@ refused_it place mtu sample fault p p' b sink sink' clock other (inr beginning) 
 pub stopped_it : (mtu : ℕ) (sample : Sample) (fault : PacketError) (p p' : Payloading) (b : State) (sink sink' : SentPackets) → p'.clock_rate ≡ p.clock_rate → fault ≡ faults.OutOfMemory
     → (SendsNothing mtu sample fault p sink p' sink' ⊎ SendsBeginning Keeps Stays kept_packets next_number mtu sample fault p sink p' sink')
     → StopsSending mtu sample (run_state p b sink) (run_state p' b sink')
-stopped_it mtu sample fault p p' b sink sink' clock memory (inl nothing) =
-    (p'.pack, inl (subst (λ (f : PacketError). PackStep p.pack mtu sample.bytes (Err f) p'.pack) memory nothing.packetized,
-        left_by p p' b sink sink' [] clock (nothing.same ∙ ap (λ (ps : List Packet). record sink { packets = ps }) (sym (append-nil sink.packets)))))
+stopped_it mtu sample fault p p' b sink sink' clock memory (inl nothing) = (
+  p'.pack,
+  inl (
+    subst (λ (f : PacketError). PackStep p.pack mtu sample.bytes (Err f) p'.pack) memory nothing.packetized,
+    left_by p p' b sink sink' [] clock (nothing.same ∙ ap (λ (ps : List Packet). record sink { packets = ps }) (sym (append-nil sink.packets))),
+  ),
+)
 stopped_it mtu sample fault p p' b sink sink' clock memory (inr beginning) =
-    let kept = kept_all sink beginning.begun beginning.images beginning.mid beginning.sends in
-    (p'.pack, inr (beginning.payloads, beginning.begun, beginning.refused ∷ beginning.left, beginning.packetized, beginning.whole,
-        left_by p p' b sink sink' beginning.begun clock (beginning.refusal.1 ∙ kept.1)))
+    let kept = kept_all sink beginning.begun beginning.images beginning.mid beginning.sends in (
+      p'.pack,
+      inr (
+        beginning.payloads,
+        beginning.begun,
+        beginning.refused ∷ beginning.left,
+        beginning.packetized,
+        beginning.whole,
+        left_by p p' b sink sink' beginning.begun clock (beginning.refusal.1 ∙ kept.1),
+      ),
+    )
 
 -- what holds anyway holds of an Err
 pub on_err : {T E P : Type 0} (r : Result T E) → P → OnErr r P

@@ -70,10 +70,11 @@ pub kept_all : (before : SentPackets) (packets images : List Packet) (after : Se
     → (images ≡ packets) × (after ≡ record before { packets = before.packets ++ packets })
 kept_all before [] images after sends = (sends.0, sends.1 ∙ ap (λ (ps : List Packet). record before { packets = ps }) (sym (append-nil before.packets)))
 kept_all before (p ∷ ps) images after sends =
-    let rest = kept_all sends.2 ps sends.1 after sends.5 in
-    (sends.3 ∙ (ap (λ (x : Packet). x ∷ sends.1) sends.4.0 ∙ ap (λ (xs : List Packet). p ∷ xs) rest.0),
+    let rest = kept_all sends.2 ps sends.1 after sends.5 in (
+      sends.3 ∙ (ap (λ (x : Packet). x ∷ sends.1) sends.4.0 ∙ ap (λ (xs : List Packet). p ∷ xs) rest.0),
       rest.1 ∙ (ap (λ (s : SentPackets). record s { packets = s.packets ++ ps }) sends.4.1
-        ∙ ap (λ (xs : List Packet). record before { packets = xs }) (append_assoc before.packets (p ∷ []) ps)))
+          ∙ ap (λ (xs : List Packet). record before { packets = xs }) (append_assoc before.packets (p ∷ []) ps)),
+    )
 
 -- the packets of a sample have consecutive numbers in a sink in memory
 pub kept_numbered : (pack : Pack) (sample : Sample) (rtp_time number : ℕ) (payloads : List (List ℕ)) (before : SentPackets) (images : List Packet) (after : SentPackets)
@@ -84,8 +85,10 @@ kept_numbered pack sample rtp_time number (payload ∷ payloads) before images a
     let mid = sends.2 in
     let packet = packet_for pack sample rtp_time number (is_last payloads) payload in
     let grown : mid.first + length mid.packets ≡ number + 1 =
-      ap (λ (s : SentPackets). s.first + length s.packets) sends.4.1 ∙ omega (arith, length-append before.packets (packet ∷ []), at) in
+    ap (λ (s : SentPackets). s.first + length s.packets) sends.4.1 ∙ omega (arith, length-append before.packets (packet ∷ []), at) in
     let small : (number + 1) % 2 ^ 64 ≡ number + 1 = mod-eq_of_lt (omega (arith, grown, sends.4.2)) in
-    let next : (number + 1) % 2 ^ 64 ≡ mid.first + length mid.packets = small ∙ sym grown in
-    (refl, subst (λ (n : ℕ). AreNumbered n (packets_for pack sample rtp_time ((number + 1) % 2 ^ 64) payloads)) small
-        (kept_numbered pack sample rtp_time ((number + 1) % 2 ^ 64) payloads mid sends.1 after next sends.5))
+    let next : (number + 1) % 2 ^ 64 ≡ mid.first + length mid.packets = small ∙ sym grown in (
+      refl,
+      subst (λ (n : ℕ). AreNumbered n (packets_for pack sample rtp_time ((number + 1) % 2 ^ 64) payloads)) small
+          (kept_numbered pack sample rtp_time ((number + 1) % 2 ^ 64) payloads mid sends.1 after next sends.5),
+    )

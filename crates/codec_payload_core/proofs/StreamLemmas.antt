@@ -65,23 +65,25 @@ given_alone : (q : Packet) (missing : List Packet) (kind : DepackKind) (d : Depa
     → (one : Result (Unit {0}) PacketError) (mid : Depack) (v : Unpacked) → Appends p.bytes [] (nothing_unpacked).extra one v.bytes v.extra × (mid ≡ d)
     → MatchResult one (λ _. (answer ≡ Ok v) × (e ≡ mid)) (λ fault. (answer ≡ Err fault) × (e ≡ mid))
     → (kind_of_depack e ≡ kind) × MatchResult answer (λ unpacked. IsReleaseOf false (alone q) missing unpacked.bytes) (λ fault. fault ≡ faults.OutOfMemory)
-given_alone q missing kind d p answer e none same is (Ok u) mid v step rest =
-    (ap kind_of_depack (rest.1 ∙ step.1) ∙ is,
-      subst (λ (a : Result Unpacked PacketError). MatchResult a (λ unpacked. IsReleaseOf false (alone q) missing unpacked.bytes) (λ fault. fault ≡ faults.OutOfMemory)) (sym rest.0)
-      (inl (none, step.0.0 ∙ (same ∙ sym (append-nil q.payload)))))
-given_alone q missing kind d p answer e none same is (Err f) mid v step rest =
-    (ap kind_of_depack (rest.1 ∙ step.1) ∙ is,
-      subst (λ (a : Result Unpacked PacketError). MatchResult a (λ unpacked. IsReleaseOf false (alone q) missing unpacked.bytes) (λ fault. fault ≡ faults.OutOfMemory)) (sym rest.0) step.0.0)
+given_alone q missing kind d p answer e none same is (Ok u) mid v step rest = (
+  ap kind_of_depack (rest.1 ∙ step.1) ∙ is,
+  subst (λ (a : Result Unpacked PacketError). MatchResult a (λ unpacked. IsReleaseOf false (alone q) missing unpacked.bytes) (λ fault. fault ≡ faults.OutOfMemory)) (sym rest.0)
+      (inl (none, step.0.0 ∙ (same ∙ sym (append-nil q.payload)))),
+)
+given_alone q missing kind d p answer e none same is (Err f) mid v step rest = (
+  ap kind_of_depack (rest.1 ∙ step.1) ∙ is,
+  subst (λ (a : Result Unpacked PacketError). MatchResult a (λ unpacked. IsReleaseOf false (alone q) missing unpacked.bytes) (λ fault. fault ≡ faults.OutOfMemory)) (sym rest.0) step.0.0,
+)
 
 lawful_alone : (kind : DepackKind) → IsPlain kind → (q : Packet) → IsLawful kind false (alone q)
 lawful_alone kind plain q = record {
   ends = plain_tail kind plain q.marker q.payload;
   starts = plain_head kind plain q.payload;
   gives = λ missing rest whole head ps same d answer e is gives.
-    let only = only_whole q missing rest kind whole head in
-    let found = one_held ps q.payload (same ∙ ap payloads_sent only.1) in
-    let one = subst (λ (hs : List Held). Unpacks d hs nothing_unpacked answer e) found.1 gives in
-    given_alone q missing kind d found.0 answer e only.0 found.2 is one.0 one.1 one.2 (appends d found.0.bytes [] (nothing_unpacked).extra one.0 one.1 one.2.bytes one.2.extra one.3) one.4;
+      let only = only_whole q missing rest kind whole head in
+      let found = one_held ps q.payload (same ∙ ap payloads_sent only.1) in
+      let one = subst (λ (hs : List Held). Unpacks d hs nothing_unpacked answer e) found.1 gives in
+      given_alone q missing kind d found.0 answer e only.0 found.2 is one.0 one.1 one.2 (appends d found.0.bytes [] (nothing_unpacked).extra one.0 one.1 one.2.bytes one.2.extra one.3) one.4;
 }
 
 pub all_alone : (kind : DepackKind) → IsPlain kind → (ps : List Packet) → AllLawful kind false (map alone ps)
@@ -210,20 +212,20 @@ sends_stream samples later i mtu place sample entry s mid t there sent rest =
     let kind = ap payloads_by pack ∙ same_payloads s.payloading.pack mtu sample.bytes in
     let splits = ap may_split pack ∙ same_splits s.payloading.pack mtu sample.bytes in
     let whole : units_of_run s.payloading.pack samples (steps.Send i mtu ∷ later) ≡ canonical_units s.payloading.pack mtu sample.bytes ++ units_of_run (pack_after s.payloading.pack mtu sample.bytes) samples later =
-      ap (λ (o : Option Sample). units_of_sample s.payloading.pack mtu o ++ units_of_run (pack_after_sample s.payloading.pack mtu o) samples later) there in
+    ap (λ (o : Option Sample). units_of_sample s.payloading.pack mtu o ++ units_of_run (pack_after_sample s.payloading.pack mtu o) samples later) there in
     let next : mid.sink.first + length mid.sink.packets ≡ (s.sink.first + length s.sink.packets) + length packets =
-      omega (arith, first, ap length sink, length-append s.sink.packets packets) in
+    omega (arith, first, ap length sink, length-append s.sink.packets packets) in
     record {
       units = here.units ++ rest.units;
       canonical = map-append (λ (u : SentUnit). u.parts) here.units rest.units
-        ∙ (ap (λ (us : List (List (List ℕ))). us ++ map (λ (u : SentUnit). u.parts) rest.units) here.canonical
+          ∙ (ap (λ (us : List (List (List ℕ))). us ++ map (λ (u : SentUnit). u.parts) rest.units) here.canonical
           ∙ (ap (λ (us : List (List (List ℕ))). canonical_units s.payloading.pack mtu sample.bytes ++ us) (rest.canonical ∙ ap (λ (p : Pack). units_of_run p samples later) pack) ∙ sym whole));
       gained = rest.gained ∙ (ap (λ (ps : List Packet). ps ++ packets_of rest.units) (sink ∙ ap (λ (ps : List Packet). s.sink.packets ++ ps) (sym here.packets))
-        ∙ (append_assoc s.sink.packets (packets_of here.units) (packets_of rest.units) ∙ ap (λ (ps : List Packet). s.sink.packets ++ ps) (sym (packets_append here.units rest.units))));
+          ∙ (append_assoc s.sink.packets (packets_of here.units) (packets_of rest.units) ∙ ap (λ (ps : List Packet). s.sink.packets ++ ps) (sym (packets_append here.units rest.units))));
       lawful = lawful_append (payloads_by s.payloading.pack) (may_split s.payloading.pack) here.units rest.units here.lawful
-        (subst (λ (b : Bool). AllLawful (payloads_by s.payloading.pack) b rest.units) splits (subst (λ (k : DepackKind). AllLawful k (may_split mid.payloading.pack) rest.units) kind rest.lawful));
+          (subst (λ (b : Bool). AllLawful (payloads_by s.payloading.pack) b rest.units) splits (subst (λ (k : DepackKind). AllLawful k (may_split mid.payloading.pack) rest.units) kind rest.lawful));
       numbered = rw (packets_append here.units rest.units, here.packets)
-        (numbered_append (s.sink.first + length s.sink.packets) packets (packets_of rest.units) sent.numbered (subst (λ (n : ℕ). AreNumbered n (packets_of rest.units)) next rest.numbered));
+          (numbered_append (s.sink.first + length s.sink.packets) packets (packets_of rest.units) sent.numbered (subst (λ (n : ℕ). AreNumbered n (packets_of rest.units)) next rest.numbered));
       first = rest.first ∙ first;
     }
 
@@ -242,8 +244,8 @@ streams samples place (steps.Send i mtu ∷ later) s t sends pops run =
     by_sample (slice_get samples i) refl run.7.1 rest
   where
     by_sample : (o : Option Sample) → slice_get samples i ≡ o
-      → MatchOption o ((run.0 ≡ []) × (run.4 ≡ s)) (λ sample. (entry : Sent) × (run.0 ≡ entry ∷ []) × SendsIt place mtu sample s entry run.4)
-      → Streams samples later run.4 t → Streams samples (steps.Send i mtu ∷ later) s t
+        → MatchOption o ((run.0 ≡ []) × (run.4 ≡ s)) (λ sample. (entry : Sent) × (run.0 ≡ entry ∷ []) × SendsIt place mtu sample s entry run.4)
+        → Streams samples later run.4 t → Streams samples (steps.Send i mtu ∷ later) s t
     by_sample None none step rest =
         keeps_stream samples later (steps.Send i mtu ∷ later) s run.4 t (ap (λ (x : RunState). x.payloading.pack) step.1) (ap (λ (x : RunState). x.sink) step.1)
         (ap (λ (o : Option Sample). units_of_sample s.payloading.pack mtu o ++ units_of_run (pack_after_sample s.payloading.pack mtu o) samples later) none) rest

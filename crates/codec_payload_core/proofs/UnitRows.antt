@@ -86,24 +86,32 @@ module _ (all_steps : List Step) (clock_rate : ℕ) (kind : DepackKind) where
   unit_of_row splits [] (suc k) base f last time (p ∷ ps) lawful run row = absurd row
   unit_of_row splits (u ∷ us) k base f last time (p ∷ ps) lawful run row = elim (cases_lt k (length u.packets)) [
     | inl within ↦
-      let here = rw (drop-append-le k u.packets (packets_of us) (omega arith)) at row in
-      record {
-        place = 0; sent = u; at_place = refl; missing = take k u.packets; rest = drop k u.packets;
-        whole = take-append-drop k u.packets;
-        exact = row_exact (base + k) f last time (drop k u.packets) (packets_of us) (p ∷ ps) (ends_drop kind k u.packets lawful.0.ends within) run here;
-        index = omega (arith, length-take-le k u.packets (omega arith));
-      }
+        let here = rw (drop-append-le k u.packets (packets_of us) (omega arith)) at row in
+        record {
+          place = 0;
+          sent = u;
+          at_place = refl;
+          missing = take k u.packets;
+          rest = drop k u.packets;
+          whole = take-append-drop k u.packets;
+          exact = row_exact (base + k) f last time (drop k u.packets) (packets_of us) (p ∷ ps) (ends_drop kind k u.packets lawful.0.ends within) run here;
+          index = omega (arith, length-take-le k u.packets (omega arith));
+        }
     | inr over ↦
-      let n = length u.packets in
-      let same : base + k ≡ (base + n) + (k - n) = omega arith in
-      let there = rw (drop_over u.packets (packets_of us) k over, same) at row in
-      let rest = unit_of_row splits us (k - n) (base + n) f last time (p ∷ ps) lawful.1 run there in
-      record {
-        place = rest.place + 1; sent = rest.sent; at_place = rw add-one rest.at_place; missing = rest.missing; rest = rest.rest;
-        whole = rest.whole;
-        exact = rw same rest.exact;
-        index = rw add-one (omega (arith, rest.index, length-append u.packets (packets_of (take rest.place us))));
-      }
+        let n = length u.packets in
+        let same : base + k ≡ (base + n) + (k - n) = omega arith in
+        let there = rw (drop_over u.packets (packets_of us) k over, same) at row in
+        let rest = unit_of_row splits us (k - n) (base + n) f last time (p ∷ ps) lawful.1 run there in
+        record {
+          place = rest.place + 1;
+          sent = rest.sent;
+          at_place = rw add-one rest.at_place;
+          missing = rest.missing;
+          rest = rest.rest;
+          whole = rest.whole;
+          exact = rw same rest.exact;
+          index = rw add-one (omega (arith, rest.index, length-append u.packets (packets_of (take rest.place us))));
+        }
   ]
 
   pub exact_length : (k : ℕ) (rest : List Packet) (ps : List Held) → Exact k rest ps → length rest ≡ length ps

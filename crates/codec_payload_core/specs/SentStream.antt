@@ -70,10 +70,10 @@ pub record IsLawful (kind : DepackKind) (splits : Bool) (u : SentUnit) : Type 0 
   pub ends : EndsWithTail kind u.packets
   pub starts : StartsWithHead kind u.packets
   pub gives :
-    (missing rest : List Packet) → missing ++ rest ≡ u.packets → StartsWithHead kind rest
-    → (ps : List Held) → payloads_held ps ≡ payloads_sent rest
-    → (d : Depack) (answer : Result Unpacked PacketError) (e : Depack) → kind_of_depack d ≡ kind → Unpacks d ps nothing_unpacked answer e
-    → (kind_of_depack e ≡ kind) × MatchResult answer (λ unpacked. IsReleaseOf splits u missing unpacked.bytes) (λ fault. fault ≡ faults.OutOfMemory)
+      (missing rest : List Packet) → missing ++ rest ≡ u.packets → StartsWithHead kind rest
+      → (ps : List Held) → payloads_held ps ≡ payloads_sent rest
+      → (d : Depack) (answer : Result Unpacked PacketError) (e : Depack) → kind_of_depack d ≡ kind → Unpacks d ps nothing_unpacked answer e
+      → (kind_of_depack e ≡ kind) × MatchResult answer (λ unpacked. IsReleaseOf splits u missing unpacked.bytes) (λ fault. fault ≡ faults.OutOfMemory)
 
 abbrev pub AllLawful : DepackKind → Bool → List SentUnit → Type 0
 AllLawful kind splits [] = Unit {0}

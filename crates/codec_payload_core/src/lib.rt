@@ -7,3 +7,5 @@ pub mod buffer;
 pub mod codec;
 pub mod payload;
 pub mod schedule;
+#[cfg(test)]
+mod tests;

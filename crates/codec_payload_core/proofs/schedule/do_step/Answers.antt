@@ -43,10 +43,24 @@ pub returns-in-Some-get-clause-ok : goal.returns-in-Some-get-clause-ok
 returns-in-Some-get-clause-ok c =
     let there = slice_get_read c.packets.result.now (length c.packets.result.now) c.in-Push.k c.in-Some-get.packet.now refl c.in-Some-get.ensures.lookup.3.0 c.in-Some-get.ensures.lookup.1 in
     let here = ap (λ ps. slice_get ps c.in-Push.k) (sym c.packets.ensures) ∙ (slice_get-map packet_of c.packets.result.now c.in-Push.k ∙ ap (λ o. option_map packet_of o) there) in
-    on_ok c.push_step.result (λ pushed. ([], [], sym (append-nil _), sym (append-nil _), rw c.in-Push.is (refl, refl, rw here (ap (λ (b : State). run_state c.args.payloader.now b c.args.sink.now)
-      (pushed ∙ ap (λ (rate : ℕ). after_push c.args.place rate (Some (packet_of c.in-Some-get.packet.now)) c.args.buffer.now) c.clock_rate.ensures))))) c.push_step.ensures.ok
+    on_ok c.push_step.result (λ pushed. (
+      [],
+      [],
+      sym (append-nil _),
+      sym (append-nil _),
+      rw c.in-Push.is (
+        refl,
+        refl,
+        rw here (ap (λ (b : State). run_state c.args.payloader.now b c.args.sink.now)
+            (pushed ∙ ap (λ (rate : ℕ). after_push c.args.place rate (Some (packet_of c.in-Some-get.packet.now)) c.args.buffer.now) c.clock_rate.ensures)),
+      ),
+    )) c.push_step.ensures.ok
 
 pub returns-in_ok-answer-in-Pop-clause-ok : goal.returns-in_ok-answer-in-Pop-clause-ok
-returns-in_ok-answer-in-Pop-clause-ok c =
-    ([], c.in_ok-answer-in-Pop.answer ∷ [], sym (append-nil _), search rules,
-      rw c.in-Pop.is (refl, c.in_ok-answer-in-Pop.answer, c.pop_step.new.buffer, refl, c.in_ok-answer-in-Pop.ensures.ok.1, c.in_ok-answer-in-Pop.ensures.ok.0, refl))
+returns-in_ok-answer-in-Pop-clause-ok c = (
+  [],
+  c.in_ok-answer-in-Pop.answer ∷ [],
+  sym (append-nil _),
+  search rules,
+  rw c.in-Pop.is (refl, c.in_ok-answer-in-Pop.answer, c.pop_step.new.buffer, refl, c.in_ok-answer-in-Pop.ensures.ok.1, c.in_ok-answer-in-Pop.ensures.ok.0, refl),
+)

@@ -5,7 +5,6 @@ use Rattle.codec_payload_core.specs.Schedule.{run_state, Runs}
 use Rattle.codec_payload_core.specs.Sending.{sample_of}
 use Rattle.codec_payload_core.proofs.schedule.run_schedule.Goals as goal
 
-
 pub returns-clause-runs : goal.returns-clause-runs
 returns-clause-runs c =
     let at_end : length c.args.steps.now ≤ c.loop-place.place = search rules in

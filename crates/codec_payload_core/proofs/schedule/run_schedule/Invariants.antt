@@ -12,6 +12,6 @@ invariant-loop-place l =
     let now = run_state l.payloader l.buffer l.sink in
     record {
       completes : (sends : List Sent) (pops : List Answer) (after : RunState) → Runs samples l.place (drop l.place l.steps) now sends pops after
-        → Runs samples 0 l.steps before (l.run.sends.items ++ sends) (l.run.pops.items ++ pops) after;
+          → Runs samples 0 l.steps before (l.run.sends.items ++ sends) (l.run.pops.items ++ pops) after;
       stops : (after : RunState) → Stops samples l.place (drop l.place l.steps) now after → Stops samples 0 l.steps before after;
     }

@@ -1,0 +1,182 @@
+//! Whole runs of the codecs that are there.
+
+use crate::buffer::DepacketizingBuffer;
+use crate::codec::{CodecDepacketizer, CodecPacketizer, Vp9PacketizerMode};
+use crate::payload::{MemorySink, PacketSink, Payloader};
+use crate::schedule::{Run, Step, run_schedule};
+use crate::wire::{
+    Codec, CodecSpec, ExtensionValues, Frequency, MediaTime, Pt, SeqNo, Ticks, ToPayload,
+};
+use std::alloc::Global;
+use std::test::Fail;
+
+/// A sample of payload type 96, at 960 ticks of 48 kHz, that starts a talk spurt.
+fn sample(alloc: Global, bytes: &[u8]) -> Result<ToPayload, Fail> {
+    Ok(ToPayload {
+        pt: Pt::new_with_value(96),
+        wallclock: Ticks(5),
+        rtp_time: MediaTime::new(960, Frequency::FORTY_EIGHT_KHZ),
+        bytes: Vec::from_slice(alloc, bytes)?,
+        start_of_talk_spurt: true,
+        ext_vals: ExtensionValues::default(),
+    })
+}
+
+/// A run over an unused sink, whose first number is 10, and an unused buffer that holds nothing back.
+fn run(
+    alloc: Global,
+    codec: Codec,
+    bytes: &[u8],
+    steps: &[Step],
+) -> Result<(MemorySink, Run), Fail> {
+    let spec = CodecSpec {
+        codec,
+        clock_rate: Frequency::EIGHT_KHZ,
+        octet_align: false,
+    };
+    let mode = Vp9PacketizerMode::NonFlexible;
+    let mut payloader = Payloader::new(spec, mode, 0).ok_or("no packetizer")?;
+    let depack = CodecDepacketizer::from_codec(alloc, codec).ok_or("no depacketizer")?;
+    let mut buffer = DepacketizingBuffer::new(alloc, depack, 0);
+    let mut sink = MemorySink::new(alloc, 10);
+    let mut samples = Vec::new(alloc);
+    samples.push(sample(alloc, bytes)?)?;
+    let run = run_schedule(
+        alloc,
+        &mut payloader,
+        &mut buffer,
+        &mut sink,
+        &samples,
+        steps,
+    )?;
+    Ok((sink, run))
+}
+
+/// The units that were popped, each behind its length; a pop without a unit counts as 255.
+fn units(alloc: Global, run: &Run) -> Result<Vec<u8>, Fail> {
+    let mut all = Vec::new(alloc);
+    for pop in &run.pops {
+        match pop {
+            Some(Ok(unit)) => {
+                all.push((unit.bytes.len() % 255) as u8)?;
+                all.extend_from_slice(&unit.bytes)?;
+            }
+            _ => all.push(255)?,
+        }
+    }
+    Ok(all)
+}
+
+#[test]
+fn g7xx_as_opus(rt: HostRuntime) -> Result<(), Fail> {
+    let alloc = rt.alloc();
+    let cut = Step::Send { sample: 0, mtu: 2 };
+    let steps = [
+        cut,
+        Step::Push(1),
+        Step::Push(0),
+        Step::Pop,
+        Step::Pop,
+        Step::Pop,
+    ];
+    for codec in [Codec::PCMU, Codec::PCMA, Codec::G722, Codec::Opus] {
+        let (sink, done) = run(alloc, codec, &[0x90, 0x90, 0x90], &steps)?;
+        assert_eq!(rt; sink.packets().len(), 2);
+        assert_eq!(rt;
+            sink.packets()[0].payload.as_slice(),
+            [0x90u8, 0x90].as_slice()
+        );
+        assert_eq!(rt; sink.packets()[1].payload.as_slice(), [0x90u8].as_slice());
+        assert_eq!(rt;
+            units(alloc, &done)?.as_slice(),
+            [2u8, 0x90, 0x90, 1, 0x90, 255].as_slice()
+        );
+        let (empty, skipped) = run(
+            alloc,
+            codec,
+            &[0x90, 0x90, 0x90],
+            &[Step::Send { sample: 0, mtu: 0 }],
+        )?;
+        assert!(rt; empty.packets().is_empty());
+        assert_eq!(rt; skipped.sends.len(), 1);
+        assert_eq!(rt; skipped.sends[0].count, 0);
+        assert!(rt; skipped.sends[0].fault.is_none());
+    }
+    Ok(())
+}
+
+#[test]
+fn null_empty_frame(rt: HostRuntime) -> Result<(), Fail> {
+    let alloc = rt.alloc();
+    let steps = [
+        Step::Send { sample: 0, mtu: 0 },
+        Step::Push(0),
+        Step::Pop,
+        Step::Pop,
+    ];
+    let (sink, done) = run(alloc, Codec::Null, &[], &steps)?;
+    assert_eq!(rt; sink.packets().len(), 1);
+    assert!(rt; sink.packets()[0].payload.is_empty());
+    assert_eq!(rt; units(alloc, &done)?.as_slice(), [0u8, 255].as_slice());
+    Ok(())
+}
+
+#[test]
+fn what_packets_carry(rt: HostRuntime) -> Result<(), Fail> {
+    let alloc = rt.alloc();
+    let steps = [
+        Step::Send { sample: 0, mtu: 2 },
+        Step::Send { sample: 1, mtu: 2 },
+        Step::Push(7),
+    ];
+    let (mut sink, done) = run(alloc, Codec::Opus, &[1, 2, 3], &steps)?;
+    assert_eq!(rt; done.sends.len(), 1);
+    assert_eq!(rt; done.sends[0].count, 2);
+    assert_eq!(rt; sink.packets().len(), 2);
+    let last = &sink.packets()[1];
+    assert_eq!(rt; last.pt, Pt::new_with_value(96));
+    assert_eq!(rt; last.seq_no, SeqNo(11));
+    assert_eq!(rt; last.rtp_time, 160);
+    assert_eq!(rt; last.wallclock, Ticks(5));
+    assert!(rt; last.marker);
+    assert!(rt; !last.nackable);
+    assert_eq!(rt; sink.last_packet().ok_or("no packet")?, [3u8].as_slice());
+    assert_eq!(rt; sink.next_seq_no(), SeqNo(12));
+    Ok(())
+}
+
+#[test]
+fn codecs_that_are_there(rt: HostRuntime) -> Result<(), Fail> {
+    let alloc = rt.alloc();
+    let there = [
+        Codec::Opus,
+        Codec::PCMU,
+        Codec::PCMA,
+        Codec::G722,
+        Codec::Null,
+    ];
+    let absent = [
+        Codec::H264,
+        Codec::H265,
+        Codec::H266,
+        Codec::Rtx,
+        Codec::Red,
+        Codec::Unknown,
+    ];
+    for codec in there {
+        assert!(rt; CodecPacketizer::from_codec(codec).is_some());
+        assert!(rt; CodecDepacketizer::from_codec(alloc, codec).is_some());
+    }
+    for codec in absent {
+        assert!(rt; CodecPacketizer::from_codec(codec).is_none());
+        assert!(rt; CodecDepacketizer::from_codec(alloc, codec).is_none());
+    }
+    let opus = CodecPacketizer::from_codec(Codec::Opus).ok_or("no packetizer")?;
+    assert_eq!(rt;
+        format!(in alloc; "{opus:?}")?.as_str(),
+        "Opus(OpusPacketizer)"
+    );
+    let payloader = Payloader::with_packetizer(opus, Frequency::FORTY_EIGHT_KHZ);
+    assert_eq!(rt; payloader.clock_rate(), Frequency::FORTY_EIGHT_KHZ);
+    Ok(())
+}

@@ -1,0 +1,3 @@
+pub mod HexFieldLemmas
+pub mod Limits
+pub mod LineLemmas

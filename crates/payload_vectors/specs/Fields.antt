@@ -1,0 +1,32 @@
+-- The fields of lines.
+use Rattle.std.specs.Prelude.{◌≡◌, ℕ, ◌+◌, ◌^◌, ◌<◌, ◌⊎◌, IsSome, if◌then◌else◌, List, codes, Option, Some, None}
+use Rattle.std.specs.Str.{bytes_eq}
+use Rattle.std.specs.Str.Parse.{IsNumeral, digits_value}
+use Rattle.codec_payload_core.specs.declared.wire.Codec.{Codec}
+use Rattle.codec_payload_core.specs.declared.wire.Codec.TheVariants as codecs
+use Rattle.payload_vectors.specs.HexField.{hex_field_of}
+
+-- a number is one decimal digit or more, and nothing else, whose value is below the limit
+abbrev pub IsNumber : ℕ → List ℕ → Type 0
+IsNumber limit text = IsNumeral 10 text × (digits_value 10 text < limit)
+
+-- the codec that a name stands for
+abbrev pub codec_of : List ℕ → Option Codec
+codec_of name =
+    if bytes_eq name (codes "opus") then Some codecs.Opus
+    else if bytes_eq name (codes "pcmu") then Some codecs.PCMU
+    else if bytes_eq name (codes "pcma") then Some codecs.PCMA
+    else if bytes_eq name (codes "g722") then Some codecs.G722
+    else if bytes_eq name (codes "null") then Some codecs.Null
+    else None
+
+-- the fields after `codec` are in range: the rate is above 0, the first number at most 2^62, the id below 2^15
+abbrev pub AreSetup : List ℕ → List ℕ → List ℕ → List ℕ → List ℕ → Type 0
+AreSetup name rate hold_back number id =
+    IsSome (codec_of name) × IsNumber (2 ^ 32) rate × (0 < digits_value 10 rate) × IsNumber (2 ^ 64) hold_back
+    × IsNumber (2 ^ 62 + 1) number × IsNumber (2 ^ 15) id
+
+-- the fields after `sample` are a time, `0` or `1`, and hexadecimal digits
+abbrev pub AreSample : List ℕ → List ℕ → List ℕ → Type 0
+AreSample time talk_spurt hex =
+    IsNumber (2 ^ 64) time × ((talk_spurt ≡ codes "0") ⊎ (talk_spurt ≡ codes "1")) × IsSome (hex_field_of hex)

@@ -1,0 +1,77 @@
+-- What lines say.
+use Rattle.std.specs.Prelude.{◌≡◌, ◌≢◌, ◌==◌, ◌↔◌, ◌^◌, ℕ, IsTrue, List, [], ◌∷◌, codes, IfSome, IsSome, Option, Some, None}
+use Rattle.std.specs.List.{slice_split}
+use Rattle.std.specs.Option.{SomeIff}
+use Rattle.std.specs.Str.Parse.{digits_value}
+use Rattle.codec_payload_core.specs.declared.schedule.Step.TheVariants.{Pop, Push, Send}
+use Rattle.payload_vectors.specs.Fields.{AreSample, AreSetup, IsNumber, codec_of}
+use Rattle.payload_vectors.specs.HexField.{hex_field_of}
+use Rattle.payload_vectors.specs.declared.line.Line.{Line}
+use Rattle.payload_vectors.specs.declared.line.Line.TheVariants as lines
+use Rattle.payload_vectors.specs.declared.line.Setup.{Setup}
+
+-- what the fields after `codec` set
+pub record IsSetup (name rate hold_back number id : List ℕ) (setup : Setup) : Type 0 where
+  pub of_name : codec_of name ≡ Some setup.codec
+  pub of_rate : setup.rate ≡ digits_value 10 rate
+  pub of_hold_back : setup.hold_back ≡ digits_value 10 hold_back
+  pub of_number : setup.first_number ≡ digits_value 10 number
+  pub of_id : setup.first_id ≡ digits_value 10 id
+
+-- the fields have the form of a line: its word, and as many fields as it has
+abbrev pub HasForm : List (List ℕ) → Type 0
+HasForm (word ∷ []) = word ≡ codes "pop"
+HasForm (word ∷ packet ∷ []) = word ≡ codes "push"
+HasForm (word ∷ sample ∷ mtu ∷ []) = word ≡ codes "send"
+HasForm (word ∷ time ∷ talk_spurt ∷ hex ∷ []) = word ≡ codes "sample"
+HasForm (word ∷ name ∷ rate ∷ hold_back ∷ number ∷ id ∷ []) = word ≡ codes "codec"
+HasForm _ = ⊥
+
+-- the line that sets a codec
+abbrev pub SetsCodec : List ℕ → List ℕ → List ℕ → List ℕ → List ℕ → Line → Type 0
+SetsCodec name rate hold_back number id (lines.Codec setup) = IsSetup name rate hold_back number id setup
+SetsCodec name rate hold_back number id (lines.Sample _ _ _) = ⊥
+SetsCodec name rate hold_back number id (lines.Step _) = ⊥
+
+-- the line that gives a sample
+abbrev pub GivesSample : List ℕ → List ℕ → List ℕ → Line → Type 0
+GivesSample time talk_spurt hex (lines.Sample ticks starts bytes) =
+    (ticks ≡ digits_value 10 time) × (IsTrue starts ↔ (talk_spurt ≡ codes "1")) × (hex_field_of hex ≡ Some bytes.items)
+GivesSample time talk_spurt hex (lines.Codec _) = ⊥
+GivesSample time talk_spurt hex (lines.Step _) = ⊥
+
+-- what the fields after `codec` give
+abbrev pub IsCodec : List ℕ → List ℕ → List ℕ → List ℕ → List ℕ → Option Line → Type 0
+IsCodec name rate hold_back number id found =
+    (IsSome found ↔ AreSetup name rate hold_back number id) × IfSome found (SetsCodec name rate hold_back number id)
+
+-- what the fields after `sample` give
+abbrev pub IsSample : List ℕ → List ℕ → List ℕ → Option Line → Type 0
+IsSample time talk_spurt hex found =
+    (IsSome found ↔ AreSample time talk_spurt hex) × IfSome found (GivesSample time talk_spurt hex)
+
+-- what the fields after `send` give
+abbrev pub IsSend : List ℕ → List ℕ → Option Line → Type 0
+IsSend sample mtu found =
+    SomeIff found (IsNumber (2 ^ 64) sample × IsNumber (2 ^ 64) mtu)
+    (lines.Step (Send (digits_value 10 sample) (digits_value 10 mtu)))
+
+-- what the field after `push` gives
+abbrev pub IsPush : List ℕ → Option Line → Type 0
+IsPush packet found = SomeIff found (IsNumber (2 ^ 64) packet) (lines.Step (Push (digits_value 10 packet)))
+
+-- the fields of a line, with one space between two
+abbrev pub fields_of : List ℕ → List (List ℕ)
+fields_of text = slice_split (λ b. b == 32) text
+
+-- what a line of these fields says, by its word: nothing where it has no such word, other fields, or fields out of range
+abbrev pub Says : List (List ℕ) → Option Line → Type 0
+Says (word ∷ []) found = (word ≡ codes "pop" → found ≡ Some (lines.Step Pop)) × (word ≢ codes "pop" → found ≡ None)
+Says (word ∷ packet ∷ []) found = (word ≡ codes "push" → IsPush packet found) × (word ≢ codes "push" → found ≡ None)
+Says (word ∷ sample ∷ mtu ∷ []) found =
+    (word ≡ codes "send" → IsSend sample mtu found) × (word ≢ codes "send" → found ≡ None)
+Says (word ∷ time ∷ talk_spurt ∷ hex ∷ []) found =
+    (word ≡ codes "sample" → IsSample time talk_spurt hex found) × (word ≢ codes "sample" → found ≡ None)
+Says (word ∷ name ∷ rate ∷ hold_back ∷ number ∷ id ∷ []) found =
+    (word ≡ codes "codec" → IsCodec name rate hold_back number id found) × (word ≢ codes "codec" → found ≡ None)
+Says _ found = found ≡ None

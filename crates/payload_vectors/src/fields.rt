@@ -1,0 +1,56 @@
+//! The fields of lines.
+
+ghost use Rattle.std.specs.Prelude.{◌≡◌, ◌⊎◌, ◌↔◌, ◌^◌, codes, IsSome, IfSome, Some, false, true};
+ghost use Rattle.std.specs.Option.{SomeIff};
+ghost use Rattle.std.specs.Str.Parse.{digits_value};
+ghost use Rattle.codec_payload_core.specs.Depack.{depack_for};
+ghost use Rattle.codec_payload_core.specs.Pack.{pack_for};
+ghost use Rattle.payload_vectors.specs.Fields.{IsNumber, codec_of};
+
+use codec_payload_core::wire::Codec;
+
+/// The codec of that name, if a payloader and a buffer can be made for it.
+pub fn codec_named(name: &str) -> Option<Codec>
+    ensures name { result ≡ codec_of name.now }
+    ensures is_cut { IfSome result (λ codec. IsSome (pack_for codec)) }
+    ensures is_joined { IfSome result (λ codec. IsSome (depack_for codec)) }
+{
+    match name {
+        "opus" => Some(Codec::Opus),
+        "pcmu" => Some(Codec::PCMU),
+        "pcma" => Some(Codec::PCMA),
+        "g722" => Some(Codec::G722),
+        "null" => Some(Codec::Null),
+        _ => None,
+    }
+}
+
+/// The number that decimal digits spell, where it fits: a sign is refused, and leading zeros are not.
+pub fn decimal(field: &str) -> Option<u64>
+    ensures { SomeIff result (IsNumber (2 ^ 64) field.now) (digits_value 10 field.now) }
+{
+    if field.starts_with('+') {
+        return None;
+    }
+    field.parse().ok()
+}
+
+/// The same of a number that is an index or a length.
+pub fn count(field: &str) -> Option<usize>
+    ensures { SomeIff result (IsNumber (2 ^ 64) field.now) (digits_value 10 field.now) }
+{
+    usize::try_from(decimal(field)?).ok()
+}
+
+/// Whether the field is `1`, where it is `0` or `1`.
+pub fn truth(field: &str) -> Option<bool>
+    ensures found { IsSome result ↔ ((field.now ≡ codes "0") ⊎ (field.now ≡ codes "1")) }
+    ensures no { (result ≡ Some false) ↔ (field.now ≡ codes "0") }
+    ensures yes { (result ≡ Some true) ↔ (field.now ≡ codes "1") }
+{
+    match field {
+        "0" => Some(false),
+        "1" => Some(true),
+        _ => None,
+    }
+}

@@ -1,0 +1,148 @@
+//! The lines of the input.
+
+ghost use Rattle.std.specs.Prelude.{ℕ, List, ◌≡◌, ◌∷◌, [], ◌⊎◌, ◌↔◌, ◌≤◌, ◌^◌, map, codes, IsSome, IfSome, IfOk, Some, None};
+ghost use Rattle.std.specs.List.{slice_split};
+ghost use Rattle.std.specs.Option.{SomeIff};
+ghost use Rattle.std.specs.Str.Parse.{digits_value};
+ghost use Rattle.codec_payload_core.specs.Depack.{depack_for};
+ghost use Rattle.codec_payload_core.specs.Pack.{pack_for};
+ghost use Rattle.payload_vectors.specs.Fields.{AreSample, AreSetup, IsNumber};
+
+use crate::digits::hex_field;
+use crate::fields::{codec_named, count, decimal, truth};
+use codec_payload_core::schedule::Step;
+use codec_payload_core::wire::{Codec, Frequency};
+use std::alloc::{AllocError, Global};
+
+/// The greatest number that the first packet may have.
+const GREATEST_FIRST_NUMBER: u64 = 1 << 62;
+
+/// The greatest picture id, which has 15 bits.
+const GREATEST_PICTURE_ID: u16 = 0x7fff;
+
+/// What the first line sets.
+#[derive(Clone, Copy, Debug)]
+pub struct Setup {
+    pub codec: Codec,
+    /// The rate of the RTP clock and of the times of samples.
+    pub rate: Frequency,
+    /// How many later frames a missing one is waited for.
+    pub hold_back: usize,
+    /// The number of the first packet.
+    pub first_number: u64,
+    /// The picture id of the first frame.
+    pub first_id: u16,
+    ghost number_fits: { first_number ≤ 2 ^ 62 },
+    ghost id_fits: { first_id ≤ 32767 },
+    ghost is_cut: { IsSome (pack_for codec) },
+    ghost is_joined: { IsSome (depack_for codec) },
+}
+
+impl Setup {
+    ghost use Rattle.payload_vectors.specs.Line.{IsSetup};
+
+    /// What the fields after `codec` set.
+    fn from_fields(name: &str, rate: &str, hold_back: &str, number: &str, id: &str) -> Option<Setup>
+        ensures found { IsSome result ↔ AreSetup name.now rate.now hold_back.now number.now id.now }
+        ensures value { IfSome result (IsSetup name.now rate.now hold_back.now number.now id.now) }
+    {
+        let codec = codec_named(name)?;
+        let rate = Frequency::make(u32::try_from(decimal(rate)?).ok()?)?;
+        let hold_back = count(hold_back)?;
+        let first_number = decimal(number)?;
+        let first_id = u16::try_from(decimal(id)?).ok()?;
+        if first_number > GREATEST_FIRST_NUMBER || first_id > GREATEST_PICTURE_ID {
+            return None;
+        }
+        Some(Setup {
+            codec,
+            rate,
+            hold_back,
+            first_number,
+            first_id,
+        })
+    }
+}
+
+/// A line of the input, without its newline.
+#[derive(Debug, Drop)]
+pub enum Line {
+    Codec(Setup),
+    Sample {
+        time: u64,
+        talk_spurt: bool,
+        bytes: Vec<u8>,
+    },
+    Step(Step),
+}
+
+impl Line {
+    ghost use Rattle.codec_payload_core.specs.declared.schedule.Step.TheVariants.{Pop};
+    ghost use Rattle.payload_vectors.specs.Line.{HasForm, IsCodec, IsPush, IsSample, IsSend, Says, fields_of};
+    ghost use Rattle.payload_vectors.specs.declared.line.Line.TheVariants as lines;
+
+    /// The line that a text spells, whose fields have one space between them. `Ok(None)` for any other text.
+    pub fn parse(alloc: Global, text: &str) -> Result<Option<Line>, AllocError>
+        ensures { IfOk result (Says (fields_of text.now)) }
+    {
+        let fields: Vec<&str> = text.split(' ').collect(alloc)?;
+        Line::from_fields(alloc, &fields)
+    }
+
+    /// The line of these fields.
+    fn from_fields(alloc: Global, fields: &[&str]) -> Result<Option<Line>, AllocError>
+        ensures pop { map (λ field. field.now) fields.now ≡ codes "pop" ∷ []
+            → IfOk result (λ found. found ≡ Some (lines.Step Pop)) }
+        ensures push { (packet : List ℕ) → map (λ field. field.now) fields.now ≡ codes "push" ∷ packet ∷ []
+            → IfOk result (IsPush packet) }
+        ensures send { (sample mtu : List ℕ) → map (λ field. field.now) fields.now ≡ codes "send" ∷ sample ∷ mtu ∷ []
+            → IfOk result (IsSend sample mtu) }
+        ensures sample { (time talk_spurt hex : List ℕ)
+            → map (λ field. field.now) fields.now ≡ codes "sample" ∷ time ∷ talk_spurt ∷ hex ∷ []
+            → IfOk result (IsSample time talk_spurt hex) }
+        ensures codec { (name rate hold_back number id : List ℕ)
+            → map (λ field. field.now) fields.now ≡ codes "codec" ∷ name ∷ rate ∷ hold_back ∷ number ∷ id ∷ []
+            → IfOk result (IsCodec name rate hold_back number id) }
+        ensures other { ¬ HasForm (map (λ field. field.now) fields.now) → IfOk result (λ found. found ≡ None) }
+    {
+        match fields {
+            ["sample", time, talk_spurt, bytes] => Line::sample(alloc, time, talk_spurt, bytes),
+            ["codec", name, rate, hold_back, number, id] => {
+                Ok(Setup::from_fields(name, rate, hold_back, number, id).map(Line::Codec))
+            }
+            ["send", sample, mtu] => Ok(Line::send(sample, mtu)),
+            ["push", packet] => Ok(count(packet).map(|k| Line::Step(Step::Push(k)))),
+            ["pop"] => Ok(Some(Line::Step(Step::Pop))),
+            _ => Ok(None),
+        }
+    }
+
+    fn sample(
+        alloc: Global,
+        time: &str,
+        talk_spurt: &str,
+        bytes: &str,
+    ) -> Result<Option<Line>, AllocError>
+        ensures { IfOk result (IsSample time.now talk_spurt.now bytes.now) }
+    {
+        let (Some(time), Some(talk_spurt)) = (decimal(time), truth(talk_spurt)) else {
+            return Ok(None);
+        };
+        let Some(bytes) = hex_field(alloc, bytes)? else {
+            return Ok(None);
+        };
+        Ok(Some(Line::Sample {
+            time,
+            talk_spurt,
+            bytes,
+        }))
+    }
+
+    fn send(sample: &str, mtu: &str) -> Option<Line>
+        ensures { IsSend sample.now mtu.now result }
+    {
+        let sample = count(sample)?;
+        let mtu = count(mtu)?;
+        Some(Line::Step(Step::Send { sample, mtu }))
+    }
+}

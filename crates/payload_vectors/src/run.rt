@@ -1,0 +1,141 @@
+//! The program's work, over any reader and writer.
+
+ghost use Rattle.std.specs.Prelude.{◌≡◌, ◌≢◌, ◌≤◌, ◌<◌, ◌^◌, ℕ, length, IfOk, IfErr, IfSome, OnOk};
+ghost use Rattle.payload_vectors.specs.Program.{IsFaultOf, IsLineFault, status_of};
+ghost use Rattle.payload_vectors.specs.declared.run.ProgramFault.TheVariants.{BadLine, OutOfMemory, TooLong};
+
+use crate::print::printed;
+use crate::script::Script;
+use codec_payload_core::buffer::DepacketizingBuffer;
+use codec_payload_core::codec::{CodecDepacketizer, Vp9PacketizerMode};
+use codec_payload_core::payload::{MemorySink, Payloader};
+use codec_payload_core::schedule::run_schedule;
+use codec_payload_core::wire::CodecSpec;
+use std::alloc::{AllocError, AllocFailed, Global};
+use std::io;
+use std::io::{ErrorKind, Read, Write};
+use thiserror::Error;
+
+/// The greatest length of the input, in bytes.
+const INPUT_LIMIT: usize = 1_048_576;
+
+/// Why the program gives up. Each text is one line.
+#[derive(Debug, PartialEq, Eq, Drop, Error)]
+pub enum ProgramFault {
+    /// The number, from 1, of the first line that is none of the program's, or 1 where there is no line.
+    #[error("bad line {0}")]
+    BadLine(usize),
+    /// The input has more than 1,048,576 bytes. No line was looked at.
+    #[error("input too long")]
+    TooLong,
+    #[error("out of memory")]
+    OutOfMemory,
+    #[error("input or output failed")]
+    Io,
+}
+
+impl ProgramFault {
+    /// The exit status.
+    pub fn status(&self) -> u8
+        ensures { result ≡ status_of self.now }
+    {
+        match self {
+            ProgramFault::BadLine(_) | ProgramFault::TooLong => 2,
+            ProgramFault::OutOfMemory | ProgramFault::Io => 1,
+        }
+    }
+}
+
+impl From<AllocError> for ProgramFault {
+    ghost from_gives = { λ _ fault. fault ≡ OutOfMemory };
+
+    fn from(_e: AllocError) -> ProgramFault {
+        ProgramFault::OutOfMemory
+    }
+}
+
+impl<T: Drop> From<AllocFailed<T>> for ProgramFault {
+    ghost from_gives = { λ _ fault. fault ≡ OutOfMemory };
+
+    fn from(_e: AllocFailed<T>) -> ProgramFault {
+        ProgramFault::OutOfMemory
+    }
+}
+
+impl From<io::Error> for ProgramFault {
+    ghost from_gives = { IsFaultOf };
+
+    fn from(e: io::Error) -> ProgramFault {
+        if e.kind() == ErrorKind::OutOfMemory {
+            ProgramFault::OutOfMemory
+        } else {
+            ProgramFault::Io
+        }
+    }
+}
+
+/// All of the input, which is to be shorter than the limit, in bytes.
+fn read_below<R: Read>(alloc: Global, input: &mut R, limit: usize) -> Result<Vec<u8>, ProgramFault>
+    ensures all { IfOk result (λ bytes. IfSome (R.remaining input.old) (λ text. bytes.items ≡ text)) }
+    ensures below { IfOk result (λ bytes. length bytes.items < limit) }
+    ensures too_long { result ≡ Err TooLong → IfSome (R.remaining input.old) (λ text. limit ≤ length text) }
+    ensures no_line { (line : ℕ) → result ≢ Err (BadLine line) }
+{
+    let mut bytes = Vec::new(alloc);
+    input.take(limit as u64).read_to_end(&mut bytes)?;
+    if bytes.len() >= limit {
+        return Err(ProgramFault::TooLong);
+    }
+    Ok(bytes)
+}
+
+/// Reads all of the input, runs its steps, and writes what was sent and what came out. Nothing is written before all of
+/// it is there to be written; a write that fails leaves a beginning of it.
+pub fn run_lines<R: Read, W: Write>(
+    alloc: Global,
+    input: &mut R,
+    output: &mut W,
+) -> Result<(), ProgramFault>
+    ensures ok { OnOk result (IfSome (R.remaining input.old) (λ text. length text ≤ 2 ^ 20)) }
+    ensures too_long { result ≡ Err TooLong → IfSome (R.remaining input.old) (λ text. 2 ^ 20 < length text) }
+    ensures bad_line { (line : ℕ) → result ≡ Err (BadLine line) → 0 < line }
+    ensures bad_line_short { (line : ℕ) → result ≡ Err (BadLine line)
+        → IfSome (R.remaining input.old) (λ text. length text ≤ 2 ^ 20) }
+    ensures nothing_written { IfErr result (λ fault. status_of fault ≡ 2 → output.new ≡ output.old) }
+{
+    let bytes = read_below(alloc, input, INPUT_LIMIT + 1)?;
+    let script = Script::read(alloc, &bytes)?;
+    let text = output_of(alloc, &script)?;
+    output.write_all(text.as_bytes())?;
+    output.flush()?;
+    Ok(())
+}
+
+/// What the script's run prints.
+fn output_of(alloc: Global, script: &Script) -> Result<String, ProgramFault>
+    ensures { IfErr result (λ fault. fault ≡ OutOfMemory) }
+{
+    let setup = script.setup;
+    let spec = CodecSpec {
+        codec: setup.codec,
+        clock_rate: setup.rate,
+        octet_align: false,
+    };
+    let mode = Vp9PacketizerMode::NonFlexible;
+    let mut payloader = Payloader::new(spec, mode, setup.first_id).unwrap();
+    let depack = CodecDepacketizer::from_codec(alloc, setup.codec).unwrap();
+    let mut buffer = DepacketizingBuffer::new(alloc, depack, setup.hold_back);
+    let mut sink = MemorySink::new(alloc, setup.first_number);
+    let run = run_schedule(
+        alloc,
+        &mut payloader,
+        &mut buffer,
+        &mut sink,
+        &script.samples,
+        &script.steps,
+    );
+    let Ok(run) = run else {
+        return Err(ProgramFault::OutOfMemory);
+    };
+    Ok(printed(alloc, &run, sink.packets())?)
+}
