@@ -1,5 +1,5 @@
 -- A search of the packets from the lowest on finds the frames.
-use Rattle.std.proofs.Common.{◌≡◌, ℕ, ◌+◌, ◌≤◌, [], ◌∷◌, ◌++◌, List, length, map, refl, ap, sym, ◌∙◌, arith, Option, Some, None}
+use Rattle.std.proofs.Common.{◌≡◌, ℕ, ◌+◌, ◌≤◌, [], ◌∷◌, List, length, map, refl, ap, sym, ◌∙◌, arith, Some}
 use Rattle.std.specs.Prelude.{min}
 use Rattle.std.proofs.lemmas.List.{nil_from_length}
 use Rattle.codec_payload_core.specs.declared.buffer.packets.HeldPacket.{HeldPacket}

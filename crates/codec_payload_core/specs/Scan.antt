@@ -1,5 +1,5 @@
 -- What the buffer's helpers compute: places of numbers among packets in order, and what a search for frames keeps.
-use Rattle.std.specs.Prelude.{◌≡◌, ℕ, ◌+◌, ◌<◌, Bool, true, false, List, [], ◌∷◌, ◌++◌, nat_lt, if◌then◌else◌, Option, Some, None, length}
+use Rattle.std.specs.Prelude.{ℕ, ◌+◌, Bool, false, List, [], ◌∷◌, nat_lt, if◌then◌else◌, Option, Some, None, length}
 use Rattle.codec_payload_core.specs.Held.{Held, held_of, number_of}
 use Rattle.codec_payload_core.specs.declared.buffer.packets.HeldPacket.{HeldPacket}
 use Rattle.codec_payload_core.specs.Frames.{row_before, lowest_head, leads_to, ended_at}
