@@ -1,8 +1,8 @@
 #!/bin/sh
-# Refuses each allocation of the program payload_vectors in turn, as it runs on its stored input, and checks that it then
-# either prints its whole stored output, with status 0 and nothing on standard error, or prints nothing but the line
-# `out of memory` on standard error, with status 1. The first is what happens where std asks for room ahead of need and, refused,
-# asks again when it stores. Needs rt and a C compiler, $CC or cc, for a C library that takes LD_PRELOAD.
+# Refuses each allocation of the program payload_vectors in turn, as it runs on its stored input, and checks what then
+# comes: its whole stored output, with status 0 and nothing on standard error, or nothing but the line `out of memory` on
+# standard error, with status 1. The first comes where std asks for room ahead of need and, refused, asks again when it
+# stores. Needs rt and a C compiler, $CC or cc, for a C library that takes LD_PRELOAD.
 set -eu
 
 root=$(cd "$(dirname "$0")/.." && pwd)

@@ -1,5 +1,5 @@
 -- A complete frame, as a part of the list of packets.
-use Rattle.std.specs.Prelude.{◌≡◌, ℕ, ◌+◌, Bool, true, false, List, [], ◌∷◌, ◌++◌}
+use Rattle.std.specs.Prelude.{◌≡◌, ℕ, ◌+◌, true, false, List, [], ◌∷◌, ◌++◌}
 use Rattle.codec_payload_base.specs.Time.{Time}
 use Rattle.codec_payload_core.specs.Held.{Held, number_of}
 use Rattle.codec_payload_core.specs.declared.buffer.frames.Segment.{Segment}

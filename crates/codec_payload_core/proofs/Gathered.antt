@@ -1,5 +1,5 @@
 -- What the pushes of a stretch gather, packet by packet.
-use Rattle.std.specs.Prelude.{ℕ, ◌-◌, ◌||◌, Bool, true, false, List, [], ◌∷◌, Option, Some, None, length, take, drop, if◌then◌else◌}
+use Rattle.std.specs.Prelude.{ℕ, ◌-◌, ◌||◌, Bool, true, false, List, [], ◌∷◌, Option, Some, length, take, drop, if◌then◌else◌}
 use Rattle.codec_payload_core.specs.Held.{Held, number_of, has_number, placed}
 use Rattle.codec_payload_core.specs.Steps.{State, is_at_most}
 

@@ -1,6 +1,5 @@
 -- The place of a number among packets in order.
-use Rattle.std.proofs.Common.{◌≡◌, ℕ, zero, suc, ◌<◌, ◌≤◌, ◌+◌, eqb, ◌≢◌, [], ◌∷◌, ◌++◌, List, length, get_or, take, drop, map, if◌then◌else◌, refl, ap, sym, ◌∙◌, arith, Bool, true, false, cond, Option, Some, None, add-one, inl, inr, ◌||◌, ltb, ◌⊎◌}
-use Rattle.std.proofs.lemmas.Bool.{cases_lt, cases_eq}
+use Rattle.std.proofs.Common.{◌≡◌, ℕ, zero, suc, ◌<◌, ◌≤◌, ◌+◌, eqb, [], ◌∷◌, List, length, get_or, take, drop, map, refl, ap, ◌∙◌, arith, Bool, true, false, cond, Option, Some, None, add-one, ltb}
 use Rattle.std.proofs.lemmas.List.{map-append, take-map, drop-map, length-map}
 use Rattle.std.specs.List.{insert}
 use Rattle.std.proofs.lemmas.Bool.Decides.{nat_tests}

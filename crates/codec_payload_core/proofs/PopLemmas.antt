@@ -1,5 +1,5 @@
 -- The frame that is due, and what is left once it has gone.
-use Rattle.std.proofs.Common.{◌≡◌, ℕ, ◌<◌, ◌≤◌, ◌+◌, [], ◌∷◌, ◌++◌, List, length, map, refl, ap, sym, ◌∙◌, arith, Bool, true, false, cond, Option, Some, None, ltb, ◌||◌, ◌&&◌, not}
+use Rattle.std.proofs.Common.{◌≡◌, ℕ, ◌<◌, ◌≤◌, ◌+◌, [], ◌∷◌, ◌++◌, List, length, map, ap, sym, ◌∙◌, arith, cond, Some, None, ltb, ◌||◌}
 use Rattle.std.proofs.lemmas.List.{length-append, length-map}
 use Rattle.std.proofs.lemmas.Bool.Decides.{nat_tests}
 use Rattle.codec_payload_core.specs.declared.buffer.frames.Segment.{Segment}

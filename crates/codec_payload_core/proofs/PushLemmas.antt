@@ -1,14 +1,14 @@
 -- Pushes one by one keep the greatest of what was pushed.
-use Rattle.std.proofs.Common.{◌≡◌, if◌then◌else◌, ℕ, zero, suc, ◌<◌, ◌≤◌, ◌+◌, ◌-◌, ◌⊎◌, [], ◌∷◌, ◌++◌, List, length, map, take, drop, refl, ap, sym, ◌∙◌, subst, arith, Bool, true, false, cond, Option, Some, None, add-one, append_assoc, inl, inr, ltb, ◌||◌}
+use Rattle.std.proofs.Common.{◌≡◌, if◌then◌else◌, ℕ, ◌<◌, ◌≤◌, ◌+◌, ◌-◌, [], ◌∷◌, ◌++◌, List, length, take, drop, refl, ap, sym, ◌∙◌, subst, arith, true, false, cond, Option, Some, None, append_assoc, inl, inr, ltb, ◌||◌}
 use Rattle.std.proofs.lemmas.Bool.{cases_lt}
 use Rattle.std.proofs.lemmas.Bool.Decides.{nat_tests}
-use Rattle.std.proofs.lemmas.List.{length-append, append-nil, take-append-drop, drop-append-le, take_at, drop_at, length-take, length-drop, length-take-le}
+use Rattle.std.proofs.lemmas.List.{length-append, take-append-drop, take_at, drop_at, length-take-le}
 use Rattle.codec_payload_core.specs.Held.{Held, Rises, AllAbove, IsAboveCutoff, placed, has_number}
-use Rattle.codec_payload_core.specs.Steps.{State, pushed, kept_to_limit, without_lowest, is_dropped, is_at_most}
-use Rattle.codec_payload_core.proofs.Gathered.{gathered, last_number, is_some_left, packets_left_out, with_kept}
+use Rattle.codec_payload_core.specs.Steps.{State, pushed, kept_to_limit, without_lowest, is_at_most}
+use Rattle.codec_payload_core.proofs.Gathered.{gathered, last_number, is_some_left, with_kept}
 use Rattle.codec_payload_core.specs.Stretches.{after_pushes}
 use Rattle.codec_payload_core.proofs.CaseLemmas.{by_test}
-use Rattle.codec_payload_core.proofs.PlaceLemmas.{above_lower, placed_rises, placed_above_cutoff, length_placed, placed_above}
+use Rattle.codec_payload_core.proofs.PlaceLemmas.{placed_rises, placed_above_cutoff, length_placed}
 
 -- all numbers are at most n
 abbrev AllUpTo : ℕ → List Held → Type 0

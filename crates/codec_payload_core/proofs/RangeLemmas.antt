@@ -1,5 +1,5 @@
 -- A part of the packets by their numbers is a part by place.
-use Rattle.std.proofs.Common.{◌≡◌, ℕ, zero, suc, ◌<◌, ◌≤◌, ◌+◌, ◌-◌, [], ◌∷◌, ◌++◌, List, length, map, take, drop, refl, ap, sym, ◌∙◌, arith, Bool, true, false, cond, Option, Some, None, eqb, ltb, add-one}
+use Rattle.std.proofs.Common.{◌≡◌, ℕ, suc, ◌≤◌, ◌+◌, ◌-◌, [], ◌∷◌, List, length, take, drop, refl, ap, sym, arith, true, false, cond, ltb, add-one}
 use Rattle.std.proofs.lemmas.Bool.{cases_lt}
 use Rattle.std.proofs.Common.{inl, inr}
 use Rattle.std.proofs.lemmas.Bool.Decides.{nat_tests}

@@ -1,15 +1,14 @@
 -- The packets of a frame stand together in the list.
-use Rattle.std.proofs.Common.{◌≡◌, ℕ, zero, suc, ◌<◌, ◌≤◌, ◌+◌, ◌-◌, [], ◌∷◌, ◌++◌, List, length, map, reverse, refl, ap, sym, ◌∙◌, arith, Bool, true, false, cond, Option, Some, None, eqb, ltb, append_assoc, ◌&&◌}
-use Rattle.std.proofs.lemmas.List.{reverse-append, append-nil}
+use Rattle.std.proofs.Common.{◌≡◌, ℕ, ◌<◌, ◌≤◌, ◌+◌, [], ◌∷◌, ◌++◌, List, length, reverse, refl, ap, sym, ◌∙◌, arith, true, false, cond, Some, None, append_assoc}
+use Rattle.std.proofs.lemmas.List.{reverse-append}
 use Rattle.std.proofs.lemmas.Bool.Decides.{nat_tests}
 use Rattle.codec_payload_core.specs.declared.buffer.frames.Segment.{Segment}
 use Rattle.codec_payload_core.specs.Held.{Held, Rises, AllAbove, between, above}
-use Rattle.codec_payload_core.specs.Frames.{frames, frames_after, frame_at, ended_at, lowest_head, row_before, leads_to, start_or_here, is_same_time}
+use Rattle.codec_payload_core.specs.Frames.{frames_after, ended_at, lowest_head, row_before, leads_to, start_or_here, is_same_time}
 use Rattle.codec_payload_base.specs.Time.{Time}
 use Rattle.codec_payload_core.proofs.FrameParts.{IsRun, BeginsWithHead, IsPart}
 use Rattle.codec_payload_core.specs.Scan.{first_of}
 use Rattle.codec_payload_core.proofs.CaseLemmas.{by_test, by_option}
-use Rattle.codec_payload_core.proofs.PlaceLemmas.{above_lower}
 
 -- what a row that begins at a head gives
 record RowSplit (earlier : List Held) (row : List Held) (n last : ℕ) (time : Time) : Type 0 where

@@ -1,8 +1,8 @@
 -- Whatever is lost, repeated and reordered, units are released in order, each at most once.
-use Rattle.std.proofs.Common.{◌≡◌, ◌≢◌, ℕ, zero, suc, ◌<◌, ◌≤◌, ◌+◌, [], ◌∷◌, ◌++◌, List, length, take, drop, refl, ap, sym, ◌∙◌, subst, arith, Bool, false, cond, Option, Some, None, Result, Ok, Err, add-one, append_assoc, inl, inr, ltb}
+use Rattle.std.proofs.Common.{◌≡◌, ◌≢◌, ℕ, zero, suc, ◌<◌, ◌≤◌, ◌+◌, [], ◌∷◌, ◌++◌, List, length, take, drop, refl, ap, sym, ◌∙◌, subst, arith, Bool, false, cond, Option, Some, None, Result, Ok, Err, add-one, inl, inr, ltb}
 use Rattle.std.specs.Prelude.{slice_get, MatchResult, MatchOption}
 use Rattle.std.proofs.lemmas.Bool.{cases_lt}
-use Rattle.std.proofs.lemmas.List.{length-append, append-nil}
+use Rattle.std.proofs.lemmas.List.{length-append}
 use Rattle.codec_payload_base.specs.Time.{Time}
 use Rattle.codec_payload_base.specs.declared.error.PacketError.{PacketError}
 use Rattle.codec_payload_base.specs.declared.error.PacketError.TheVariants as faults
@@ -11,9 +11,9 @@ use Rattle.codec_payload_core.proofs.FrameParts.{IsRun}
 use Rattle.codec_payload_core.proofs.PlaceLemmas.{placed_rises, placed_above_cutoff}
 use Rattle.codec_payload_core.proofs.PopLemmas.{part_due, above_rises, above_is_above}
 use Rattle.codec_payload_core.proofs.RowLemmas.{above_all, first_above, part_between, first_le_last, run_first, run_length}
-use Rattle.codec_payload_core.proofs.StreamLemmas.{Streams, streams}
+use Rattle.codec_payload_core.proofs.StreamLemmas.{streams}
 use Rattle.codec_payload_core.proofs.UnitRows.{held_as, slice_append, drop_at, drop_next, RowOf, Exact, unit_of_row, exact_length, exact_payloads, exact_metas, exact_starts}
-use Rattle.codec_payload_core.specs.Depack.{Depack, DepackKind, kind_of_depack, head_in, tail_in}
+use Rattle.codec_payload_core.specs.Depack.{Depack, DepackKind, kind_of_depack}
 use Rattle.codec_payload_core.specs.Headline.{IsPushOf, ArePushesOf, packets_before, IsUnitAt, InOrder, IsUnused, ReleasesInOrder}
 use Rattle.codec_payload_core.specs.Held.{Held, Rises, IsAboveCutoff, placed, above, between, has_number}
 use Rattle.codec_payload_core.specs.Packets.{Packet, AreNumbered}
@@ -21,7 +21,7 @@ use Rattle.codec_payload_core.specs.Release.{Release}
 use Rattle.codec_payload_core.specs.Schedule.{Answer, RunState, Runs, SendsIt, after_push, meta_of_push}
 use Rattle.codec_payload_core.specs.Sending.{Sample}
 use Rattle.codec_payload_core.specs.SentStream.{SentUnit, packets_of, StartsWithHead, IsLawful, AllLawful, IsReleaseOf}
-use Rattle.codec_payload_core.specs.Steps.{State, Contiguity, arrived, pushed, kept_to_limit, without_lowest, is_dropped, is_at_most, without, metas_of, due_of, packets_in, Unpacked, Unpacks, nothing_unpacked, Gives, Passes, none, one_more, PassesOver, Releases, Refuses, Stalls, TakesFrame, Pops}
+use Rattle.codec_payload_core.specs.Steps.{State, Contiguity, arrived, pushed, kept_to_limit, without_lowest, is_dropped, is_at_most, without, metas_of, due_of, packets_in, Unpacked, Unpacks, nothing_unpacked, Gives, Passes, none, one_more, PassesOver, Releases, Refuses, Pops}
 use Rattle.codec_payload_core.specs.Units.{payloads_by, may_split}
 use Rattle.codec_payload_core.specs.declared.buffer.frames.Segment.{Segment}
 use Rattle.codec_payload_core.specs.declared.buffer.unit.RtpMeta.{RtpMeta}

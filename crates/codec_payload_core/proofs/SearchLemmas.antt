@@ -1,12 +1,13 @@
 -- A search of the packets from the lowest on finds the frames.
-use Rattle.std.proofs.Common.{◌≡◌, ℕ, ◌+◌, [], ◌∷◌, ◌++◌, List, length, map, refl, ap, sym, ◌∙◌, arith, Option, Some, None}
+use Rattle.std.proofs.Common.{◌≡◌, ℕ, ◌+◌, ◌≤◌, [], ◌∷◌, List, length, map, refl, ap, sym, ◌∙◌, arith, Some}
+use Rattle.std.specs.Prelude.{min}
 use Rattle.std.proofs.lemmas.List.{nil_from_length}
 use Rattle.codec_payload_core.specs.declared.buffer.packets.HeldPacket.{HeldPacket}
 use Rattle.codec_payload_core.specs.declared.buffer.frames.Found.{Found}
 use Rattle.codec_payload_core.specs.declared.buffer.frames.Segment.{Segment}
 use Rattle.codec_payload_core.specs.Held.{Held, held_of}
 use Rattle.codec_payload_core.specs.Frames.{frames, frames_after}
-use Rattle.codec_payload_core.specs.Scan.{noted, noted_all, none_found, first_of}
+use Rattle.codec_payload_core.specs.Scan.{noted, noted_all, none_found, first_of, total_size}
 
 noted_count : (s : Found) (fs : List Segment) → (noted_all s fs).count ≡ s.count + length fs
 noted_count s [] = omega arith
@@ -26,3 +27,8 @@ pub found_all : (seen hs : List Held) (rest : List HeldPacket) (s : Found) → l
 found_all seen hs rest s none told =
     let e : s ≡ noted_all none_found (frames hs) = sym (ap (λ (xs : List HeldPacket). noted_all s (frames_after seen (map held_of xs))) (nil_from_length rest none)) ∙ told in
     record { first = ap (λ (t : Found). t.first) e ∙ (all_noted (frames hs)).first; count = ap (λ (t : Found). t.count) e ∙ (all_noted (frames hs)).count }
+
+-- where no packet is left, all bytes have been counted
+pub all_counted : (rest : List HeldPacket) (size total most : ℕ) → length rest ≡ 0 → size ≤ most → min (size + total_size (map held_of rest)) most ≡ min total most → size ≡ min total most
+all_counted [] size total most none fits counted = omega (arith, counted)
+all_counted (x ∷ rest) size total most none fits counted = absurd (omega arith)

@@ -1,10 +1,10 @@
 -- What a run sends is the stream of its canonical units, each lawful.
-use Rattle.std.proofs.Common.{◌≡◌, ◌≢◌, ◌∙◌, sym, ap, refl, subst, ℕ, zero, suc, ◌+◌, ◌<◌, ◌%◌, ◌^◌, ◌||◌, ◌==◌, ◌⊎◌, inl, inr, List, [], ◌∷◌, ◌++◌, length, map, arith, length-append, append_assoc, Bool, true, false, Option, Some, None, Result, Ok, Err, cond}
+use Rattle.std.proofs.Common.{◌≡◌, ◌≢◌, ◌∙◌, sym, ap, refl, subst, ℕ, zero, suc, ◌+◌, ◌<◌, ◌%◌, ◌^◌, ◌||◌, ◌==◌, inl, List, [], ◌∷◌, ◌++◌, length, map, arith, length-append, append_assoc, Bool, true, false, Option, Some, None, Result, Ok, Err, cond}
 use Rattle.std.specs.Prelude.{MatchResult, MatchOption, slice_get}
 use Rattle.std.proofs.Math.Dec.{eqb-suc-zero}
 use Rattle.std.proofs.lemmas.List.{append-nil, map-append}
-use Rattle.codec_payload_base.specs.Payloads.{Appends, AnswersItself}
-use Rattle.codec_payload_base.specs.Pieces.{ArePieces, AnswersPieces, pieces_of}
+use Rattle.codec_payload_base.specs.Payloads.{Appends}
+use Rattle.codec_payload_base.specs.Pieces.{AnswersPieces, pieces_of}
 use Rattle.codec_payload_base.specs.declared.error.PacketError.{PacketError}
 use Rattle.codec_payload_base.specs.declared.error.PacketError.TheVariants as faults
 use Rattle.codec_payload_base.specs.declared.interface.CodecExtra.{CodecExtra}
@@ -15,7 +15,7 @@ use Rattle.codec_payload_core.specs.Pack.{Pack, G711Pack, G722Pack, OpusPack, Nu
 use Rattle.codec_payload_core.specs.Packets.{Packet, SentPackets, AreNumbered}
 use Rattle.codec_payload_core.specs.Sending.{Sample, packets_for, rtp_time_at}
 use Rattle.codec_payload_core.specs.Schedule.{payloads_of, RunState, Runs, SendsIt, Answer, packets_sent}
-use Rattle.codec_payload_core.specs.SentStream.{SentUnit, packets_of, EndsWithTail, StartsWithHead, IsReleaseOf, payloads_held, payloads_sent, IsLawful, AllLawful, units_of_run, units_of_sample, pack_after_sample}
+use Rattle.codec_payload_core.specs.SentStream.{SentUnit, packets_of, StartsWithHead, IsReleaseOf, payloads_held, payloads_sent, IsLawful, AllLawful, units_of_run, units_of_sample, pack_after_sample}
 use Rattle.codec_payload_core.specs.declared.schedule.Sent.{Sent}
 use Rattle.codec_payload_core.specs.declared.schedule.Step.{Step}
 use Rattle.codec_payload_core.specs.declared.schedule.Step.TheVariants as steps

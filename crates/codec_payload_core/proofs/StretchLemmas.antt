@@ -7,7 +7,7 @@ use Rattle.std.proofs.lemmas.List.{take-map, drop-map, length-map}
 use Rattle.codec_payload_core.specs.Held.{Held, number_of, has_number, Rises, AllAbove, placed}
 use Rattle.codec_payload_core.specs.Steps.{State, IsSound, is_at_most}
 use Rattle.codec_payload_core.proofs.Gathered.{gathered, last_number, is_some_left, with_kept}
-use Rattle.codec_payload_core.specs.Stretches.{after_pushes, numbers_from, last_or, is_some_of, counts, stretch_numbers, IsLeft, IsInRange, LeavesNumbers, HaveSameNumbers, OrderIsFree}
+use Rattle.codec_payload_core.specs.Stretches.{after_pushes, numbers_from, last_or, is_some_of, stretch_numbers, IsLeft, IsInRange, LeavesNumbers, HaveSameNumbers, OrderIsFree}
 use Rattle.codec_payload_core.proofs.CaseLemmas.{by_test}
 use Rattle.codec_payload_core.proofs.PushLemmas.{with_one, with_one_rises, stretch_is}
 use Rattle.codec_payload_core.proofs.MemberLemmas.{IsIn, KeysAbove, KeysRise, same_members}

@@ -1,5 +1,5 @@
 -- What comes of the frame that is due, from what the code has done.
-use Rattle.std.proofs.Common.{◌≡◌, ◌≢◌, ℕ, refl, sym, subst, List, [], Some, Ok, Err, Bool, true, false, Result, inl, inr}
+use Rattle.std.proofs.Common.{◌≡◌, ◌≢◌, ℕ, refl, sym, subst, List, [], Some, Ok, Err, Bool, false, Result, inl, inr}
 use Rattle.codec_payload_base.specs.Time.{Time}
 use Rattle.codec_payload_base.specs.declared.error.PacketError.{PacketError}
 use Rattle.codec_payload_base.specs.declared.error.PacketError.TheVariants as faults
@@ -7,7 +7,7 @@ use Rattle.codec_payload_base.specs.declared.interface.CodecExtra.TheVariants as
 use Rattle.codec_payload_core.specs.Depack.{Depack, kind_of_depack}
 use Rattle.codec_payload_core.specs.Held.{Held, above}
 use Rattle.codec_payload_core.specs.Release.{Release}
-use Rattle.codec_payload_core.specs.Steps.{State, Unpacked, Unpacks, Gives, NoContiguity, due_of, packets_in, metas_of, AllOfTime, follows, without, TakesFrame, Releases}
+use Rattle.codec_payload_core.specs.Steps.{State, Unpacked, Unpacks, Gives, NoContiguity, due_of, packets_in, metas_of, AllOfTime, follows, TakesFrame, Releases}
 use Rattle.codec_payload_core.specs.declared.buffer.frames.Segment.{Segment}
 use Rattle.codec_payload_core.specs.declared.buffer.unit.RtpMeta.{RtpMeta}
 

@@ -1,10 +1,8 @@
 -- What the definitions of the buffer say of a few packets.
-use Rattle.std.specs.Prelude.{◌≡◌, ℕ, Bool, true, false, List, [], ◌∷◌, Option, Some, None, Ok, map, refl}
-use Rattle.codec_payload_base.specs.declared.interface.CodecExtra.TheVariants as extras
-use Rattle.codec_payload_core.specs.Depack.{Depack, OpusDepack}
-use Rattle.codec_payload_core.specs.Held.{Held, number_of}
+use Rattle.std.specs.Prelude.{◌≡◌, ℕ, Bool, true, false, List, [], ◌∷◌, Some, None, map, refl}
+use Rattle.codec_payload_core.specs.Depack.{OpusDepack}
+use Rattle.codec_payload_core.specs.Held.{Held}
 use Rattle.codec_payload_core.specs.Frames.{frames}
-use Rattle.codec_payload_core.specs.Release.{Release}
 use Rattle.codec_payload_core.specs.Steps.{State, NoContiguity, arrived, pushed, due_of, follows, without}
 use Rattle.codec_payload_core.specs.Stretches.{after_pushes}
 use Rattle.codec_payload_core.specs.declared.buffer.frames.Segment.{Segment}

@@ -1,5 +1,5 @@
 -- Packetizers as contracts see them, and what each call of theirs does.
-use Rattle.std.specs.Prelude.{◌≡◌, ℕ, List, [], ◌∷◌, Bool, true, false, Option, Some, None, Result, Ok, Err, refl}
+use Rattle.std.specs.Prelude.{◌≡◌, ℕ, List, Bool, true, false, Option, Some, None, Result}
 use Rattle.codec_payload_base.specs.Pieces.{AnswersPieces}
 use Rattle.codec_payload_base.specs.Payloads.{AnswersItself}
 use Rattle.codec_payload_base.specs.declared.error.PacketError.{PacketError}

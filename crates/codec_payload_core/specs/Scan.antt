@@ -1,5 +1,5 @@
 -- What the buffer's helpers compute: places of numbers among packets in order, and what a search for frames keeps.
-use Rattle.std.specs.Prelude.{◌≡◌, ℕ, ◌+◌, ◌<◌, Bool, true, false, List, [], ◌∷◌, ◌++◌, nat_lt, if◌then◌else◌, Option, Some, None, length}
+use Rattle.std.specs.Prelude.{ℕ, ◌+◌, Bool, false, List, [], ◌∷◌, nat_lt, if◌then◌else◌, Option, Some, None, length}
 use Rattle.codec_payload_core.specs.Held.{Held, held_of, number_of}
 use Rattle.codec_payload_core.specs.declared.buffer.packets.HeldPacket.{HeldPacket}
 use Rattle.codec_payload_core.specs.Frames.{row_before, lowest_head, leads_to, ended_at}
@@ -61,3 +61,13 @@ noted_at s start p = if p.tail then noted_all s (ended_at p start) else s
 -- before the first packet
 abbrev pub none_found : Found
 none_found = record { first = None; count = 0 }
+
+-- how many bytes these packets carry
+abbrev pub total_size : List Held → ℕ
+total_size [] = 0
+total_size (p ∷ ps) = length p.bytes + total_size ps
+
+-- the room for which a size hint asks
+abbrev pub room_for : Option ℕ → ℕ
+room_for None = 0
+room_for (Some size) = size

@@ -1,10 +1,10 @@
 -- How a sample becomes packets, and how a sink takes them.
-use Rattle.std.specs.Prelude.{◌≡◌, ℕ, ◌+◌, ◌%◌, ◌^◌, ◌&&◌, ◌||◌, ◌⊎◌, Bool, true, false, List, [], ◌∷◌, ◌++◌, Result, Ok, Err, refl}
+use Rattle.std.specs.Prelude.{◌≡◌, ℕ, ◌+◌, ◌%◌, ◌^◌, ◌&&◌, ◌||◌, Bool, true, false, List, [], ◌∷◌, ◌++◌, Ok, Err, refl}
 use Rattle.codec_payload_base.specs.Time.{Time, rebased}
 use Rattle.codec_payload_base.specs.declared.error.PacketError.{PacketError}
 use Rattle.codec_payload_base.specs.declared.wire.ExtensionValues.{ExtensionValues}
 use Rattle.codec_payload_base.specs.declared.wire.ToPayload.{ToPayload}
-use Rattle.codec_payload_core.specs.Pack.{Pack, OpusPack, PackStep, marker_of, talkspurt_of, nackable_of}
+use Rattle.codec_payload_core.specs.Pack.{Pack, PackStep, marker_of, talkspurt_of, nackable_of}
 use Rattle.codec_payload_core.specs.Packets.{Packet}
 
 -- a sample, without where its bytes lie

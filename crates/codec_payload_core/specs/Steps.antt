@@ -1,5 +1,5 @@
 -- What a push and a pop do to a buffer.
-use Rattle.std.specs.Prelude.{◌≡◌, ◌≢◌, ℕ, ◌+◌, ◌<◌, ◌≤◌, ◌&&◌, ◌||◌, not, Bool, true, false, List, [], ◌∷◌, ◌++◌, nat_lt, nat_le, ◌==◌, if◌then◌else◌, Option, Some, None, Result, Ok, Err, length, map, All, MatchResult, ⊤, ◌⊎◌}
+use Rattle.std.specs.Prelude.{◌≡◌, ◌≢◌, ℕ, ◌+◌, ◌≤◌, ◌&&◌, ◌||◌, not, Bool, true, false, List, [], ◌∷◌, nat_lt, nat_le, ◌==◌, if◌then◌else◌, Option, Some, None, Result, Ok, Err, length, map, All, MatchResult, ⊤, ◌⊎◌}
 use Rattle.codec_payload_base.specs.Time.{Time}
 use Rattle.codec_payload_base.specs.declared.error.PacketError.{PacketError}
 use Rattle.codec_payload_base.specs.declared.error.PacketError.TheVariants as faults
@@ -21,7 +21,8 @@ abbrev pub checked : Contiguity → CodecExtra → Bool → Bool × Bool × Cont
 checked NoContiguity extra seq = (true, seq, NoContiguity)
 
 -- a buffer, as contracts see it: the held packets, in rising order; the number up to which packets come too late, if
--- there is one; whether a packet was evicted since the latest release; and what does not change by itself
+-- there is one; whether a packet was evicted since the latest release; what is remembered of released units; the
+-- depacketizer; how many complete frames wait for what is missing before them; and how many packets are held at most
 pub record State : Type 0 where
   pub held : List Held
   pub cutoff : Option ℕ

@@ -1,6 +1,6 @@
 -- What a stretch of pushes leaves, in terms of the set of numbers that were pushed.
-use Rattle.std.specs.Prelude.{◌≡◌, ℕ, zero, suc, ◌+◌, ◌-◌, ◌<◌, ◌≤◌, ◌&&◌, ◌||◌, not, Bool, true, false, List, [], ◌∷◌, Option, Some, None, length, map, take, drop, filter, if◌then◌else◌}
-use Rattle.codec_payload_core.specs.Held.{Held, number_of, has_number, placed}
+use Rattle.std.specs.Prelude.{◌≡◌, ℕ, zero, suc, ◌+◌, ◌-◌, ◌<◌, ◌≤◌, ◌&&◌, ◌||◌, not, Bool, true, false, List, [], ◌∷◌, Option, Some, length, map, take, drop, filter}
+use Rattle.codec_payload_core.specs.Held.{Held, number_of, has_number}
 use Rattle.codec_payload_core.specs.Steps.{State, IsSound, pushed, is_at_most}
 
 -- the pushes of one stretch, one by one

@@ -1,5 +1,5 @@
 -- The units of a frame: what a receiver is to be given of it.
-use Rattle.std.specs.Prelude.{◌≡◌, ℕ, ◌||◌, Bool, true, false, List, [], ◌∷◌, Option, Some, None, is_some, ◌==◌, if◌then◌else◌, map, refl}
+use Rattle.std.specs.Prelude.{◌≡◌, ℕ, ◌||◌, Bool, true, false, List, [], ◌∷◌, Option, None, is_some, ◌==◌, if◌then◌else◌, map, refl}
 use Rattle.codec_payload_base.specs.Pieces.{pieces_of}
 use Rattle.codec_payload_core.specs.Depack.{DepackKind, G711Payloads, OpusPayloads, NullPayloads}
 use Rattle.codec_payload_core.specs.Pack.{Pack, G711Pack, G722Pack, OpusPack, NullPack}

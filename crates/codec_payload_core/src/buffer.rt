@@ -37,7 +37,9 @@ const HELD_LIMIT: usize = 4_096;
 #[derive(Debug, Drop)]
 pub struct DepacketizingBuffer {
     packets: VecDeque<HeldPacket>,
+    /// The number up to which packets come too late.
     cutoff: Option<u64>,
+    /// Whether a packet was evicted since the latest release.
     mark: bool,
     depack: CodecDepacketizer,
     hold_back: usize,

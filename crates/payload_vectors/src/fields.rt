@@ -12,8 +12,8 @@ use codec_payload_core::wire::Codec;
 /// The codec of that name, if a payloader and a buffer can be made for it.
 pub fn codec_named(name: &str) -> Option<Codec>
     ensures name { result ≡ codec_of name.now }
-    ensures is_cut { IfSome result (λ codec. IsSome (pack_for codec)) }
-    ensures is_joined { IfSome result (λ codec. IsSome (depack_for codec)) }
+    ensures has_packetizer { IfSome result (λ codec. IsSome (pack_for codec)) }
+    ensures has_depacketizer { IfSome result (λ codec. IsSome (depack_for codec)) }
 {
     match name {
         "opus" => Some(Codec::Opus),

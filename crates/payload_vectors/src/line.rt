@@ -34,8 +34,8 @@ pub struct Setup {
     pub first_id: u16,
     ghost number_fits: { first_number ≤ 2 ^ 62 },
     ghost id_fits: { first_id ≤ 32767 },
-    ghost is_cut: { IsSome (pack_for codec) },
-    ghost is_joined: { IsSome (depack_for codec) },
+    ghost has_packetizer: { IsSome (pack_for codec) },
+    ghost has_depacketizer: { IsSome (depack_for codec) },
 }
 
 impl Setup {

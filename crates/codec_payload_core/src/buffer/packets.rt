@@ -1,10 +1,10 @@
 //! The packets that a buffer holds, in rising order of sequence number.
 
-ghost use Rattle.std.specs.Prelude.{◌≡◌, ◌≤◌, ◌<◌, IfOk, OnOk, OnErr, map, drop, slice_range, []};
+ghost use Rattle.std.specs.Prelude.{◌≡◌, ◌≤◌, ◌<◌, IfOk, OnOk, OnErr, map, drop, slice_range, [], min, vec_capacity};
 ghost use Rattle.std.specs.VecDeque.{deque_len};
-ghost use Rattle.codec_payload_core.specs.Depack.{depack_of, kind_of_depack};
+ghost use Rattle.codec_payload_core.specs.Depack.{depack_of, kind_of_depack, hint_of};
 ghost use Rattle.codec_payload_core.specs.Held.{held_of, Rises, has_number, placed, between, above, TakesLowest};
-ghost use Rattle.codec_payload_core.specs.Scan.{place_of, end_of};
+ghost use Rattle.codec_payload_core.specs.Scan.{place_of, end_of, total_size, room_for};
 ghost use Rattle.codec_payload_core.specs.Steps.{is_at_most, starts_right_after, metas_of, Unpacks, answer_of};
 
 use super::frames::Segment;
@@ -127,6 +127,7 @@ pub(super) fn copy_metas(
 fn payload_size(packets: &VecDeque<HeldPacket>, from: usize, to: usize) -> usize
     requires order { from ≤ to }
     requires within { to ≤ deque_len packets.now }
+    ensures { result ≡ min (total_size (map held_of (slice_range packets.now.items from to))) usize.MAX }
 {
     let mut size = 0usize;
     for packet in packets.range(from..to) {
@@ -145,7 +146,8 @@ pub(super) fn make_room(
 ) -> Result<Vec<u8>, AllocError>
     requires order { from ≤ to }
     requires within { to ≤ deque_len packets.now }
-    ensures { IfOk result (λ bytes. bytes.items ≡ []) }
+    ensures empty { IfOk result (λ bytes. bytes.items ≡ []) }
+    ensures room { IfOk result (λ bytes. vec_capacity bytes ≡ room_for (hint_of (depack_of depack.now) (min (total_size (map held_of (slice_range packets.now.items from to))) usize.MAX))) }
 {
     match depack.out_size_hint(payload_size(packets, from, to)) {
         Some(size) => Vec::with_capacity(alloc, size),

@@ -1,4 +1,4 @@
-use Rattle.std.proofs.Common.{rules, ◌≡◌, ◌∙◌, sym, ap, refl, ℕ, map, [], ◌∷◌, length, Option, option_map, Some, None, inl, inr}
+use Rattle.std.proofs.Common.{rules, ◌∙◌, sym, ap, refl, ℕ, [], ◌∷◌, length, option_map, Some, inl, inr}
 use Rattle.std.specs.Prelude.{slice_get}
 use Rattle.std.proofs.lemmas.List.{append-nil}
 use Rattle.std.proofs.lemmas.Option.{slice_get-map, slice_get_past, slice_get_read}

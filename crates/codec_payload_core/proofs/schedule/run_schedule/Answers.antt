@@ -1,7 +1,7 @@
-use Rattle.std.proofs.Common.{rules, ◌≡◌, ◌≤◌, [], map, length, drop, refl}
+use Rattle.std.proofs.Common.{rules, ◌≤◌, [], map, length, refl}
 use Rattle.std.proofs.lemmas.List.{append-nil, drop_all}
 use Rattle.codec_payload_core.proofs.SafetyLemmas.{safe}
-use Rattle.codec_payload_core.specs.Schedule.{run_state, Runs}
+use Rattle.codec_payload_core.specs.Schedule.{run_state}
 use Rattle.codec_payload_core.specs.Sending.{sample_of}
 use Rattle.codec_payload_core.proofs.schedule.run_schedule.Goals as goal
 

@@ -1,4 +1,4 @@
-use Rattle.std.proofs.Common.{rules, ◌≡◌, ◌<◌, length, arith, Err}
+use Rattle.std.proofs.Common.{rules, ◌≡◌, Err}
 use Rattle.hex.specs.Hex.{decode_of}
 use Rattle.payload_vectors.proofs.HexFieldLemmas.{hex_field_of-decoded, hex_field_of-refused}
 use Rattle.payload_vectors.proofs.digits.hex_field.Goals as goal

@@ -1,4 +1,4 @@
-use Rattle.std.proofs.Common.{length, map, ◌≡◌, ◌∙◌, arith, sym, false}
+use Rattle.std.proofs.Common.{map, ◌≡◌, ◌∙◌, arith, sym, false}
 use Rattle.std.proofs.lemmas.List.{length-map}
 use Rattle.codec_payload_core.specs.Held.{Held, held_of, has_number}
 use Rattle.codec_payload_core.proofs.PlaceLemmas.{lowest_out, with_new}

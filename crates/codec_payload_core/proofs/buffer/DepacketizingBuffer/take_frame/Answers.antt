@@ -26,7 +26,7 @@ returns-in-Err-clause-takes c =
       | then-not-is_out_of_memory w ↦
           refused s c.args.self.now c.self.view_is c.args.frame due e _ c.in-Err.fault (map held_of w.remove_up_to.new.packets.items) w.self-is
           (λ is. not_both c.is_out_of_memory.result (c.is_out_of_memory.ensures.1 is) w.if-not-is_out_of_memory.true)
-          (gives_of s c.args.frame packets c.in_ok-bytes.bytes.items (Err c.in-Err.fault) e c.frame_range-from.ensures.part c.in_ok-bytes.ensures c.in-Err.ensures.unpacks)
+          (gives_of s c.args.frame packets c.in_ok-bytes.bytes.items (Err c.in-Err.fault) e c.frame_range-from.ensures.part c.in_ok-bytes.ensures.empty c.in-Err.ensures.unpacks)
           w.remove_up_to.ensures
       | else-not-is_out_of_memory w ↦
           stalled s c.args.self.now c.self.view_is c.args.frame due e _ c.in-Err.fault w.self-is
@@ -65,6 +65,6 @@ returns-clause-takes c =
     ] in
     released s c.args.self.now c.self.view_is frame due e c.new.result c.index.result.now.time c.if-starts_next.contiguous unpacked c.in_ok-metas.metas.items (map held_of c.remove_up_to-2.new.packets.items)
     c.new.ensures refl
-    (gives_of s frame packets c.in_ok-bytes.bytes.items (Ok unpacked) e c.frame_range-from.ensures.part c.in_ok-bytes.ensures c.in-Ok.ensures.unpacks)
+    (gives_of s frame packets c.in_ok-bytes.bytes.items (Ok unpacked) e c.frame_range-from.ensures.part c.in_ok-bytes.ensures.empty c.in-Ok.ensures.unpacks)
     (due_time s frame c.in_ok-metas.metas.items c.index.result.now c.self.invariant.rises due metas c.index.ensures)
     metas test c.remove_up_to-2.ensures

@@ -1,4 +1,4 @@
-use Rattle.std.proofs.Common.{arith, map, length, ap, sym, ◌∙◌, ◌-◌, take, drop}
+use Rattle.std.proofs.Common.{arith, map, ap, sym, ◌∙◌, ◌-◌, take, drop}
 use Rattle.std.proofs.lemmas.List.{length-map, take-map, drop-map}
 use Rattle.codec_payload_core.specs.Held.{held_of}
 use Rattle.codec_payload_core.specs.Scan.{place_of, end_of}

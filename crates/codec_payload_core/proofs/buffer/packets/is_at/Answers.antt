@@ -1,4 +1,4 @@
-use Rattle.std.proofs.Common.{length, map, ◌∙◌, sym, arith, ◌≡◌, false, eqb, ◌≤◌}
+use Rattle.std.proofs.Common.{length, map, arith, ◌≡◌, false, ◌≤◌}
 use Rattle.std.proofs.lemmas.List.{length-map}
 use Rattle.std.proofs.lemmas.Bool.Decides.{nat_tests}
 use Rattle.codec_payload_core.specs.Held.{held_of, has_number}

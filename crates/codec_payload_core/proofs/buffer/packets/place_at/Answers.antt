@@ -1,4 +1,4 @@
-use Rattle.std.proofs.Common.{length, map, arith}
+use Rattle.std.proofs.Common.{map, arith}
 use Rattle.std.proofs.lemmas.List.{length-map}
 use Rattle.codec_payload_core.specs.Held.{held_of}
 use Rattle.codec_payload_core.proofs.PlaceLemmas.{place_within, place_ok}

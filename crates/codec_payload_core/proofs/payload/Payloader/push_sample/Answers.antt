@@ -1,4 +1,4 @@
-use Rattle.std.proofs.Common.{rules, ◌≡◌, ◌∷◌, ◌-◌, [], length, map, refl, ap, ◌∙◌, ◌%◌, ◌^◌}
+use Rattle.std.proofs.Common.{rules, ◌≡◌, ◌∷◌, ◌-◌, [], length, map, ap, ◌∙◌, ◌%◌, ◌^◌}
 use Rattle.std.proofs.lemmas.List.{nil_from_length}
 use Rattle.codec_payload_core.specs.Pack.{pack_of}
 use Rattle.codec_payload_core.specs.Sending.{sample_of, rtp_time_at}
