@@ -1,9 +1,14 @@
 -- Pieces behind their descriptors.
-use Rattle.std.proofs.Common.{◌≡◌, ◌∙◌, sym, ap, refl, subst, ℕ, suc, ◌<◌, List, [], ◌∷◌, ◌++◌, length, take, drop, Bool, true, false, arith, append_assoc}
+use Rattle.std.proofs.Common.{◌≡◌, ◌∙◌, sym, ap, refl, subst, ℕ, zero, suc, ◌<◌, ◌-◌, min, map, Result, Ok, Err, List, [], ◌∷◌, ◌++◌, length, take, drop, Bool, true, false, arith, append_assoc}
 use Rattle.std.proofs.lemmas.List.{append-nil}
+use Rattle.std.specs.Prelude.{IfOk, IfErr}
+use Rattle.std.specs.Global.{Vec}
+use Rattle.codec_payload_base.specs.Answers.{packets_of}
 use Rattle.codec_payload_base.specs.Pieces.{ArePieces}
-use Rattle.codec_payload_base.proofs.PieceLemmas.{one_piece, no_pieces}
-use Rattle.codec_payload_video.specs.Vp8.{described, descriptor, AreDescribed}
+use Rattle.codec_payload_base.specs.declared.error.PacketError.{PacketError}
+use Rattle.codec_payload_base.specs.declared.error.PacketError.TheVariants as faults
+use Rattle.codec_payload_base.proofs.PieceLemmas.{one_piece, no_pieces, count_of_pieces}
+use Rattle.codec_payload_video.specs.Vp8.{described, descriptor, AreDescribed, AnswersDescribed}
 
 -- whether the next piece is the first, where these came before
 abbrev pub is_first_after : Bool → List (List ℕ) → Bool
@@ -53,3 +58,14 @@ one_described size frame rest payloads first payload some left so_far is = recor
 pub all_described : (size : ℕ) (frame rest : List ℕ) (payloads : List (List ℕ)) (first : Bool) → rest ≡ [] → DescribedSoFar size frame rest payloads first → AreDescribed size frame payloads
 all_described size frame rest payloads first nothing so_far =
     (so_far.done, subst (λ (ps : List (List ℕ)). ArePieces size frame ps) (append-nil so_far.done) (so_far.completes [] (no_pieces size rest nothing)), so_far.are)
+
+-- what a packetizer of described pieces answers
+pub answer_described : (mtu : ℕ) (frame : List ℕ) (payloads : List (List ℕ)) → 1 < mtu → AreDescribed (mtu - 1) frame payloads → AnswersDescribed mtu frame (Ok payloads)
+answer_described mtu frame payloads some are =
+    (λ few. absurd (omega arith), λ _. are,
+      λ _. ap length are.2 ∙ (length-described true are.0 ∙ count_of_pieces (mtu - 1) frame are.0 (omega arith) are.1))
+
+pub answer_of : (mtu : ℕ) (frame : List ℕ) (r : Result (Vec (Vec ℕ)) PacketError) → 1 < mtu → 0 < length frame
+    → IfOk r (λ v. AreDescribed (mtu - 1) frame (map (λ p. p.items) v.items)) → IfErr r (λ fault. fault ≡ faults.OutOfMemory) → AnswersDescribed mtu frame (packets_of r)
+answer_of mtu frame (Ok v) some full ok err = answer_described mtu frame (map (λ p. p.items) v.items) some ok
+answer_of mtu frame (Err fault) some full ok err = (err, some, full)

@@ -58,9 +58,10 @@ with_first_byte d byte = record d { x = extended_bit byte; n = discardable_bit b
 abbrev pub without_extension : Vp8Depacketizer → Vp8Depacketizer
 without_extension d = record d { i = 0; l = 0; t = 0; k = 0 }
 
--- P, the low bit of the first byte of a frame, is 0 in a keyframe; it counts as 1 elsewhere
-abbrev pub inverse_key_bit : ℕ → ℕ → ℕ
-inverse_key_bit byte first = if (start_bit byte == 1) && (partition_index byte == 0) then first % 2 else 1
+-- P, the low bit of the first byte of a frame, is 0 in a keyframe; behind a descriptor that begins no frame it counts
+-- as 1
+abbrev pub inverse_key_bit : Vp8Depacketizer → ℕ → ℕ
+inverse_key_bit d first = if (d.s == 1) && (d.pid == 0) then first % 2 else 1
 
 -- the extra that was handed in told of a keyframe
 abbrev pub was_keyframe : CodecExtra → Bool
@@ -78,11 +79,11 @@ extra_of d before = extras.Vp8 (record {
   })
 
 -- what follows the descriptor: something, which is appended, or nothing, which is too short
-abbrev pub Vp8Rest : Vp8Depacketizer → ℕ → List ℕ → List ℕ → CodecExtra → Result ⊤ PacketError → Vp8Depacketizer → List ℕ → CodecExtra → Type 0
-Vp8Rest d byte [] out extra answer after out' extra' = (answer ≡ Err faults.ErrShortPacket) × (after ≡ d) × (out' ≡ out) × (extra' ≡ extra)
-Vp8Rest d byte (first ∷ more) out extra (Ok _) after out' extra' =
-    (after ≡ record d { p = inverse_key_bit byte first }) × (out' ≡ out ++ first ∷ more) × (extra' ≡ extra_of after extra)
-Vp8Rest d byte (first ∷ more) out extra (Err fault) after out' extra' = (fault ≡ faults.OutOfMemory) × (after ≡ d) × (out' ≡ out) × (extra' ≡ extra)
+abbrev pub Vp8Rest : Vp8Depacketizer → List ℕ → List ℕ → CodecExtra → Result ⊤ PacketError → Vp8Depacketizer → List ℕ → CodecExtra → Type 0
+Vp8Rest d [] out extra answer after out' extra' = (answer ≡ Err faults.ErrShortPacket) × (after ≡ d) × (out' ≡ out) × (extra' ≡ extra)
+Vp8Rest d (first ∷ more) out extra (Ok _) after out' extra' =
+    (after ≡ record d { p = inverse_key_bit d first }) × (out' ≡ out ++ first ∷ more) × (extra' ≡ extra_of after extra)
+Vp8Rest d (first ∷ more) out extra (Err fault) after out' extra' = (fault ≡ faults.OutOfMemory) × (after ≡ d) × (out' ≡ out) × (extra' ≡ extra)
 
 -- one payload: the depacketizer, the payload, the bytes and the extra before; the answer; the three afterwards.
 -- An empty payload is too short, one with an extension is corrupted, and of any other what follows the descriptor counts
@@ -90,7 +91,7 @@ abbrev pub Vp8Step : Vp8Depacketizer → List ℕ → List ℕ → CodecExtra �
 Vp8Step d [] out extra answer after out' extra' = (answer ≡ Err faults.ErrShortPacket) × (after ≡ d) × (out' ≡ out) × (extra' ≡ extra)
 Vp8Step d (byte ∷ rest) out extra answer after out' extra' =
     (extended_bit byte ≡ 1 → (answer ≡ Err faults.ErrVP8CorruptedPacket) × (after ≡ with_first_byte d byte) × (out' ≡ out) × (extra' ≡ extra))
-    × (extended_bit byte ≢ 1 → Vp8Rest (without_extension (with_first_byte d byte)) byte rest out extra answer after out' extra')
+    × (extended_bit byte ≢ 1 → Vp8Rest (without_extension (with_first_byte d byte)) rest out extra answer after out' extra')
 
 -- the fields as a list of numbers; of a field that may be absent, one more than its value, or 0
 abbrev pub number_of_option : Option ℕ → ℕ

@@ -3,7 +3,7 @@
 ghost use Rattle.std.specs.Prelude.{◌≡◌, ◌<◌, ◌≤◌, ◌∷◌, [], Some, true, false, IsTrue, IfOk, IfErr, map, length};
 ghost use Rattle.codec_payload_base.specs.Answers.{packets_of};
 ghost use Rattle.codec_payload_base.specs.declared.error.PacketError.TheVariants.{OutOfMemory};
-ghost use Rattle.codec_payload_video.specs.Vp8.{AnswersDescribed, AreDescribed, descriptor, extra_of, is_start, numbers_of, with_first_byte, without_extension, Vp8Step, StepsTo};
+ghost use Rattle.codec_payload_video.specs.Vp8.{AnswersDescribed, AreDescribed, descriptor, extra_of, inverse_key_bit, is_start, numbers_of, with_first_byte, without_extension, Vp8Step, StepsTo};
 
 pub use codec_payload_base::interface::Vp8CodecExtra;
 
@@ -149,6 +149,17 @@ impl Vp8Depacketizer {
         self.k = 0;
     }
 
+    /// The P bit, where a frame begins behind the descriptor, or 1.
+    fn inverse_key_bit(&self, first: u8) -> u8
+        ensures { result ≡ inverse_key_bit self.now first }
+    {
+        if self.s == 1 && self.pid == 0 {
+            first % 2
+        } else {
+            1
+        }
+    }
+
     /// What the descriptor and the frame's first byte told, after what `before` told of the frame.
     fn extra(&self, before: &CodecExtra) -> CodecExtra
         ensures { result ≡ extra_of self.now before.now }
@@ -209,7 +220,7 @@ impl Depacketizer for Vp8Depacketizer {
             return Err(PacketError::ErrShortPacket);
         };
         out.extend_from_slice(rest)?;
-        self.p = if self.s == 1 && self.pid == 0 { first % 2 } else { 1 };
+        self.p = self.inverse_key_bit(first);
         *codec_extra = self.extra(codec_extra);
         Ok(())
     }
