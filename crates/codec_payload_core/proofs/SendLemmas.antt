@@ -6,6 +6,7 @@ use Rattle.std.proofs.Math.Dec.{eqb-suc-zero}
 use Rattle.std.proofs.Math.Nat.{mod-eq_of_lt}
 use Rattle.codec_payload_core.specs.Packets.{Packet, SentPackets, AreNumbered}
 use Rattle.codec_payload_core.specs.Sending.{Sends, Sample, packet_for, packets_for, is_last}
+use Rattle.codec_payload_base.specs.declared.error.PacketError.{PacketError}
 use Rattle.codec_payload_core.specs.Pack.{Pack}
 
 module _ {S : Type 0} (accepts : S → Packet → Packet → S → Type 0) (sent : S → List Packet) where
@@ -92,3 +93,37 @@ kept_numbered pack sample rtp_time number (payload ∷ payloads) before images a
       subst (λ (n : ℕ). AreNumbered n (packets_for pack sample rtp_time ((number + 1) % 2 ^ 64) payloads)) small
           (kept_numbered pack sample rtp_time ((number + 1) % 2 ^ 64) payloads mid sends.1 after next sends.5),
     )
+
+-- a payload was refused: those before it were sent
+pub record RefusedSoFar {S : Type 0} (accepts : S → Packet → Packet → S → Type 0) (refuses : S → Packet → PacketError → S → Type 0) (sent : S → List Packet) (before : S) (all : List Packet) (fault : PacketError) (after : S) : Type 0 where
+  pub begun : List Packet
+  pub refused : Packet
+  pub left : List Packet
+  pub whole : all ≡ begun ++ refused ∷ left
+  pub images : List Packet
+  pub mid : S
+  pub sends : Sends accepts before begun images mid
+  pub refusal : refuses mid refused fault after
+  pub gained : sent after ≡ sent before ++ images
+
+pub refused_so_far : {S : Type 0} (accepts : S → Packet → Packet → S → Type 0) (refuses : S → Packet → PacketError → S → Type 0) (sent : S → List Packet) (next : S → ℕ)
+    (before : S) (all : List Packet) (pack here : Pack) (sample : Sample) (rtp_time : ℕ) (vs : List (Vec ℕ)) (v : Vec ℕ) (left : List (Vec ℕ)) (n : ℕ) (mid after : S) (fault : PacketError)
+    → vs ≡ v ∷ left → n ≡ length left → here ≡ pack
+    → SentSoFar accepts sent before all (packets_for pack sample rtp_time (next mid) (map (λ w. w.items) vs)) mid
+    → refuses mid (packet_for here sample rtp_time (next mid) (n == 0) v.items) fault after × (sent after ≡ sent mid) × (next after ≡ next mid)
+    → RefusedSoFar accepts refuses sent before all fault after
+refused_so_far accepts refuses sent next before all pack here sample rtp_time vs v left n mid after fault split count same so_far one =
+    let last = is_last_at_none left n count in
+    let unfolded : SentSoFar accepts sent before all (packet_for pack sample rtp_time (next mid) (n == 0) v.items ∷ packets_for pack sample rtp_time ((next mid + 1) % 2 ^ 64) (map (λ w. w.items) left)) mid =
+      rw last (subst (λ (ws : List (Vec ℕ)). SentSoFar accepts sent before all (packets_for pack sample rtp_time (next mid) (map (λ w. w.items) ws)) mid) split so_far) in
+    record {
+      begun = unfolded.begun;
+      refused = packet_for pack sample rtp_time (next mid) (n == 0) v.items;
+      left = packets_for pack sample rtp_time ((next mid + 1) % 2 ^ 64) (map (λ w. w.items) left);
+      whole = unfolded.whole;
+      images = unfolded.images;
+      mid = mid;
+      sends = unfolded.sends;
+      refusal = subst (λ (p : Pack). refuses mid (packet_for p sample rtp_time (next mid) (n == 0) v.items) fault after) same one.0;
+      gained = one.1 ∙ unfolded.gained;
+    }

@@ -1,17 +1,21 @@
 -- What a run sends is the stream of its canonical units, each lawful.
-use Rattle.std.proofs.Common.{◌≡◌, ◌≢◌, ◌∙◌, sym, ap, refl, subst, ℕ, zero, suc, ◌+◌, ◌<◌, ◌%◌, ◌^◌, ◌||◌, ◌==◌, inl, List, [], ◌∷◌, ◌++◌, length, map, arith, length-append, append_assoc, Bool, true, false, Option, Some, None, Result, Ok, Err, cond}
+use Rattle.std.proofs.Common.{◌≡◌, ◌≢◌, ◌∙◌, sym, ap, refl, subst, ℕ, zero, suc, ◌+◌, ◌<◌, ◌%◌, ◌^◌, ◌||◌, ◌==◌, inl, List, [], ◌∷◌, ◌++◌, length, map, arith, length-append, append_assoc, Bool, true, false, Option, Some, None, Result, Ok, Err, cond, leb, ◌-◌}
 use Rattle.std.specs.Prelude.{MatchResult, MatchOption, slice_get}
 use Rattle.std.proofs.Math.Dec.{eqb-suc-zero}
 use Rattle.std.proofs.lemmas.List.{append-nil, map-append}
 use Rattle.codec_payload_base.specs.Payloads.{Appends}
-use Rattle.codec_payload_base.specs.Pieces.{AnswersPieces, pieces_of}
+use Rattle.codec_payload_base.specs.Pieces.{AnswersPieces, ArePieces, joined, pieces_of}
+use Rattle.codec_payload_video.specs.Vp8.{AnswersDescribed, described}
+use Rattle.codec_payload_core.proofs.CaseLemmas.{by_test}
+use Rattle.codec_payload_core.proofs.Vp8Units.{none_empty, whole_frame, lawful_frame}
+use Rattle.std.proofs.lemmas.Bool.Decides.{nat_tests}
 use Rattle.codec_payload_base.specs.declared.error.PacketError.{PacketError}
 use Rattle.codec_payload_base.specs.declared.error.PacketError.TheVariants as faults
 use Rattle.codec_payload_base.specs.declared.interface.CodecExtra.{CodecExtra}
 use Rattle.codec_payload_base.proofs.PieceLemmas.{one_list, no_pieces}
-use Rattle.codec_payload_core.specs.Depack.{Depack, G711Depack, OpusDepack, NullDepack, DepackKind, G711Payloads, OpusPayloads, NullPayloads, kind_of_depack, DepackStep, head_in, tail_in}
+use Rattle.codec_payload_core.specs.Depack.{Depack, G711Depack, OpusDepack, NullDepack, Vp8Depack, DepackKind, G711Payloads, OpusPayloads, NullPayloads, Vp8Payloads, kind_of_depack, DepackStep, head_in, tail_in}
 use Rattle.codec_payload_core.specs.Held.{Held}
-use Rattle.codec_payload_core.specs.Pack.{Pack, G711Pack, G722Pack, OpusPack, NullPack, PackStep}
+use Rattle.codec_payload_core.specs.Pack.{Pack, G711Pack, G722Pack, OpusPack, NullPack, Vp8Pack, PackStep}
 use Rattle.codec_payload_core.specs.Packets.{Packet, SentPackets, AreNumbered}
 use Rattle.codec_payload_core.specs.Sending.{Sample, packets_for, rtp_time_at}
 use Rattle.codec_payload_core.specs.Schedule.{payloads_of, RunState, Runs, SendsIt, Answer, packets_sent}
@@ -38,12 +42,13 @@ plain_tail kind g711 marker payload = refl
 plain_tail kind opus marker payload = refl
 plain_tail kind null marker payload = refl
 
--- every depacketizer that is there appends payloads and stays as it is
-appends : (d : Depack) (payload out : List ℕ) (extra : CodecExtra) (answer : Result (Unit {0}) PacketError) (e : Depack) (out' : List ℕ) (extra' : CodecExtra)
+-- a depacketizer of such payloads appends them and stays as it is
+appends : (d : Depack) → IsPlain (kind_of_depack d) → (payload out : List ℕ) (extra : CodecExtra) (answer : Result (Unit {0}) PacketError) (e : Depack) (out' : List ℕ) (extra' : CodecExtra)
     → DepackStep d payload out extra answer e out' extra' → Appends payload out extra answer out' extra' × (e ≡ d)
-appends G711Depack payload out extra answer e out' extra' step = step
-appends OpusDepack payload out extra answer e out' extra' step = step
-appends NullDepack payload out extra answer e out' extra' step = step
+appends G711Depack plain payload out extra answer e out' extra' step = step
+appends OpusDepack plain payload out extra answer e out' extra' step = step
+appends NullDepack plain payload out extra answer e out' extra' step = step
+appends (Vp8Depack d) plain payload out extra answer e out' extra' step = elim plain [ ]
 
 -- a unit of one packet
 abbrev pub alone : Packet → SentUnit
@@ -83,7 +88,7 @@ lawful_alone kind plain q = record {
       let only = only_whole q missing rest kind whole head in
       let found = one_held ps q.payload (same ∙ ap payloads_sent only.1) in
       let one = subst (λ (hs : List Held). Unpacks d hs nothing_unpacked answer e) found.1 gives in
-      given_alone q missing kind d found.0 answer e only.0 found.2 is one.0 one.1 one.2 (appends d found.0.bytes [] (nothing_unpacked).extra one.0 one.1 one.2.bytes one.2.extra one.3) one.4;
+      given_alone q missing kind d found.0 answer e only.0 found.2 is one.0 one.1 one.2 (appends d (subst IsPlain (sym is) plain) found.0.bytes [] (nothing_unpacked).extra one.0 one.1 one.2.bytes one.2.extra one.3) one.4;
 }
 
 pub all_alone : (kind : DepackKind) → IsPlain kind → (ps : List Packet) → AllLawful kind false (map alone ps)
@@ -129,6 +134,49 @@ plain_sends pack after mtu sample rtp_time number payloads plain whole goes_on c
   goes_on = goes_on;
 }
 
+-- nothing is sent of a frame that is skipped
+no_units : (pack : Pack) (mtu : ℕ) (sample : Sample) (rtp_time number : ℕ) (payloads : List (List ℕ)) → payloads ≡ [] → canonical_units pack mtu sample.bytes ≡ []
+    → SendsUnits pack mtu sample rtp_time number payloads (pack_after pack mtu sample.bytes)
+no_units pack mtu sample rtp_time number payloads nothing none = record {
+  units = [];
+  canonical = sym none;
+  packets = ap (packets_for (pack_after pack mtu sample.bytes) sample rtp_time number) (sym nothing);
+  lawful = tt;
+  goes_on = refl;
+}
+
+not_empty : (frame : List ℕ) → 0 < length frame → is_empty frame ≡ false
+not_empty [] some = absurd (omega arith)
+not_empty (b ∷ bs) some = refl
+
+-- a VP8 frame at an MTU above 1: no pieces, or one unit
+vp8_pieces : (mtu : ℕ) (sample : Sample) (rtp_time number : ℕ) (payloads : List (List ℕ)) → leb mtu 1 ≡ false → 1 < mtu → (pieces : List (List ℕ)) → ArePieces (mtu - 1) sample.bytes pieces → payloads ≡ described true pieces
+    → SendsUnits Vp8Pack mtu sample rtp_time number payloads Vp8Pack
+vp8_pieces mtu sample rtp_time number payloads large some [] are is =
+    no_units Vp8Pack mtu sample rtp_time number payloads is (rw (sym are.join) refl)
+vp8_pieces mtu sample rtp_time number payloads large some (piece ∷ pieces) are is =
+    let full = none_empty (mtu - 1) (piece ∷ pieces) (omega arith) are.sizes in
+    let sizes = ap length are.join in
+    let frame : is_empty sample.bytes ≡ false = not_empty sample.bytes (omega (arith, full.0, sizes, length-append piece (joined pieces))) in
+    record {
+      units = whole_frame sample rtp_time number piece pieces ∷ [];
+      canonical = rw (frame, large) (ap (λ (bytes : List ℕ). (bytes ∷ []) ∷ []) are.join);
+      packets = append-nil _ ∙ ap (packets_for Vp8Pack sample rtp_time number) (sym is);
+      lawful = (lawful_frame sample rtp_time number piece pieces full, tt);
+      goes_on = refl;
+    }
+
+vp8_sends : (mtu : ℕ) (sample : Sample) (rtp_time number : ℕ) (payloads : List (List ℕ)) → AnswersDescribed mtu sample.bytes (Ok payloads) → SendsUnits Vp8Pack mtu sample rtp_time number payloads Vp8Pack
+vp8_sends mtu sample rtp_time number payloads answer =
+    by_test (leb mtu 1) (λ b. leb mtu 1 ≡ b → SendsUnits Vp8Pack mtu sample rtp_time number payloads Vp8Pack)
+    (λ small _. no_units Vp8Pack mtu sample rtp_time number payloads (answer.0 (grind (arith, nat_tests, small))) (rw small (skipped sample.bytes)))
+    (λ large _. let some : 1 < mtu = grind (arith, nat_tests, large) in let described = answer.1 some in vp8_pieces mtu sample rtp_time number payloads large some described.0 described.1 described.2)
+    refl
+  where
+    skipped : (frame : List ℕ) → cond (is_empty frame || true || false) [] ((frame ∷ []) ∷ []) ≡ []
+    skipped [] = refl
+    skipped (b ∷ bs) = refl
+
 -- every codec that is there keeps its law
 pub sends_units : (pack after : Pack) (mtu : ℕ) (sample : Sample) (rtp_time number : ℕ) (answer : Result (List (List ℕ)) PacketError)
     → PackStep pack mtu sample.bytes answer after → answer ≢ Err faults.OutOfMemory
@@ -141,6 +189,9 @@ sends_units G711Pack after mtu sample rtp_time number (Err fault) step found = a
 sends_units G722Pack after mtu sample rtp_time number (Err fault) step found = absurd (found (ap Err step.0.0))
 sends_units OpusPack after mtu sample rtp_time number (Err fault) step found = absurd (found (ap Err step.0.0))
 sends_units NullPack after mtu sample rtp_time number (Err fault) step found = absurd (found (ap Err step.0))
+sends_units Vp8Pack after mtu sample rtp_time number (Ok payloads) step found =
+    subst (λ (p : Pack). SendsUnits Vp8Pack mtu sample rtp_time number payloads p) (sym step.1) (vp8_sends mtu sample rtp_time number payloads step.0)
+sends_units Vp8Pack after mtu sample rtp_time number (Err fault) step found = absurd (found (ap Err step.0.0))
 
 packets_append : (us vs : List SentUnit) → packets_of (us ++ vs) ≡ packets_of us ++ packets_of vs
 packets_append [] vs = refl
@@ -160,12 +211,14 @@ same_payloads G711Pack mtu frame = refl
 same_payloads G722Pack mtu frame = refl
 same_payloads OpusPack mtu frame = refl
 same_payloads NullPack mtu frame = refl
+same_payloads Vp8Pack mtu frame = refl
 
 same_splits : (pack : Pack) (mtu : ℕ) (frame : List ℕ) → may_split (pack_after pack mtu frame) ≡ may_split pack
 same_splits G711Pack mtu frame = refl
 same_splits G722Pack mtu frame = refl
 same_splits OpusPack mtu frame = refl
 same_splits NullPack mtu frame = refl
+same_splits Vp8Pack mtu frame = refl
 
 -- what the steps of a run send from some state on
 pub record Streams (samples : List Sample) (later : List Step) (s t : RunState) : Type 0 where

@@ -3,6 +3,7 @@ pub use Rattle.codec_payload_base.specs.Faults
 pub use Rattle.codec_payload_base.specs.Payloads
 pub use Rattle.codec_payload_base.specs.Pieces
 pub use Rattle.codec_payload_base.specs.Time
+pub use Rattle.codec_payload_video.specs.Vp8
 pub mod Buffer
 pub mod BufferExamples
 pub mod Depack

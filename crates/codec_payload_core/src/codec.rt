@@ -13,6 +13,7 @@ use codec_payload_base::plain::{
     OpusDepacketizer, OpusPacketizer,
 };
 use codec_payload_base::wire::Codec;
+use codec_payload_video::vp8::{Vp8Depacketizer, Vp8Packetizer};
 use std::alloc::Global;
 
 /// A packetizer of a built-in codec.
@@ -22,6 +23,7 @@ pub enum CodecPacketizer {
     G722(G722Packetizer),
     Opus(OpusPacketizer),
     Null(NullPacketizer),
+    Vp8(Vp8Packetizer),
 }
 
 impl CodecPacketizer {
@@ -36,6 +38,7 @@ impl CodecPacketizer {
             Codec::G722 => Some(CodecPacketizer::G722(G722Packetizer {})),
             Codec::Opus => Some(CodecPacketizer::Opus(OpusPacketizer {})),
             Codec::Null => Some(CodecPacketizer::Null(NullPacketizer {})),
+            Codec::Vp8 => Some(CodecPacketizer::Vp8(Vp8Packetizer::default())),
             _ => None,
         }
     }
@@ -50,17 +53,17 @@ impl CodecPacketizer {
 
 /// Each call is that of the chosen packetizer.
 impl Packetizer for CodecPacketizer {
-    ghost use Rattle.codec_payload_core.specs.declared.codec.CodecPacketizer.TheVariants.{G711, G722, Opus, Null};
+    ghost use Rattle.codec_payload_core.specs.declared.codec.CodecPacketizer.TheVariants.{G711, G722, Opus, Null, Vp8};
 
-    ghost state = { elim [ G711 p ↦ ⟦<G711Packetizer as Packetizer>⟧.state p | G722 p ↦ ⟦<G722Packetizer as Packetizer>⟧.state p | Opus p ↦ ⟦<OpusPacketizer as Packetizer>⟧.state p | Null p ↦ ⟦<NullPacketizer as Packetizer>⟧.state p ] };
+    ghost state = { elim [ G711 p ↦ ⟦<G711Packetizer as Packetizer>⟧.state p | G722 p ↦ ⟦<G722Packetizer as Packetizer>⟧.state p | Opus p ↦ ⟦<OpusPacketizer as Packetizer>⟧.state p | Null p ↦ ⟦<NullPacketizer as Packetizer>⟧.state p | Vp8 p ↦ ⟦<Vp8Packetizer as Packetizer>⟧.state p ] };
 
-    ghost packetize_step = { elim [ G711 p ↦ ⟦<G711Packetizer as Packetizer>⟧.packetize_step p | G722 p ↦ ⟦<G722Packetizer as Packetizer>⟧.packetize_step p | Opus p ↦ ⟦<OpusPacketizer as Packetizer>⟧.packetize_step p | Null p ↦ ⟦<NullPacketizer as Packetizer>⟧.packetize_step p ] };
+    ghost packetize_step = { elim [ G711 p ↦ ⟦<G711Packetizer as Packetizer>⟧.packetize_step p | G722 p ↦ ⟦<G722Packetizer as Packetizer>⟧.packetize_step p | Opus p ↦ ⟦<OpusPacketizer as Packetizer>⟧.packetize_step p | Null p ↦ ⟦<NullPacketizer as Packetizer>⟧.packetize_step p | Vp8 p ↦ ⟦<Vp8Packetizer as Packetizer>⟧.packetize_step p ] };
 
-    ghost marker_step = { elim [ G711 p ↦ ⟦<G711Packetizer as Packetizer>⟧.marker_step p | G722 p ↦ ⟦<G722Packetizer as Packetizer>⟧.marker_step p | Opus p ↦ ⟦<OpusPacketizer as Packetizer>⟧.marker_step p | Null p ↦ ⟦<NullPacketizer as Packetizer>⟧.marker_step p ] };
+    ghost marker_step = { elim [ G711 p ↦ ⟦<G711Packetizer as Packetizer>⟧.marker_step p | G722 p ↦ ⟦<G722Packetizer as Packetizer>⟧.marker_step p | Opus p ↦ ⟦<OpusPacketizer as Packetizer>⟧.marker_step p | Null p ↦ ⟦<NullPacketizer as Packetizer>⟧.marker_step p | Vp8 p ↦ ⟦<Vp8Packetizer as Packetizer>⟧.marker_step p ] };
 
-    ghost may_mark = { elim [ G711 p ↦ ⟦<G711Packetizer as Packetizer>⟧.may_mark p | G722 p ↦ ⟦<G722Packetizer as Packetizer>⟧.may_mark p | Opus p ↦ ⟦<OpusPacketizer as Packetizer>⟧.may_mark p | Null p ↦ ⟦<NullPacketizer as Packetizer>⟧.may_mark p ] };
+    ghost may_mark = { elim [ G711 p ↦ ⟦<G711Packetizer as Packetizer>⟧.may_mark p | G722 p ↦ ⟦<G722Packetizer as Packetizer>⟧.may_mark p | Opus p ↦ ⟦<OpusPacketizer as Packetizer>⟧.may_mark p | Null p ↦ ⟦<NullPacketizer as Packetizer>⟧.may_mark p | Vp8 p ↦ ⟦<Vp8Packetizer as Packetizer>⟧.may_mark p ] };
 
-    ghost may_do_without = { elim [ G711 p ↦ ⟦<G711Packetizer as Packetizer>⟧.may_do_without p | G722 p ↦ ⟦<G722Packetizer as Packetizer>⟧.may_do_without p | Opus p ↦ ⟦<OpusPacketizer as Packetizer>⟧.may_do_without p | Null p ↦ ⟦<NullPacketizer as Packetizer>⟧.may_do_without p ] };
+    ghost may_do_without = { elim [ G711 p ↦ ⟦<G711Packetizer as Packetizer>⟧.may_do_without p | G722 p ↦ ⟦<G722Packetizer as Packetizer>⟧.may_do_without p | Opus p ↦ ⟦<OpusPacketizer as Packetizer>⟧.may_do_without p | Null p ↦ ⟦<NullPacketizer as Packetizer>⟧.may_do_without p | Vp8 p ↦ ⟦<Vp8Packetizer as Packetizer>⟧.may_do_without p ] };
 
     fn packetize(
         &mut self,
@@ -76,6 +79,7 @@ impl Packetizer for CodecPacketizer {
             CodecPacketizer::G722(p) => p.packetize(alloc, mtu, b),
             CodecPacketizer::Opus(p) => p.packetize(alloc, mtu, b),
             CodecPacketizer::Null(p) => p.packetize(alloc, mtu, b),
+            CodecPacketizer::Vp8(p) => p.packetize(alloc, mtu, b),
         }
     }
 
@@ -89,6 +93,7 @@ impl Packetizer for CodecPacketizer {
             CodecPacketizer::G722(p) => p.is_marker(data, previous, last),
             CodecPacketizer::Opus(p) => p.is_marker(data, previous, last),
             CodecPacketizer::Null(p) => p.is_marker(data, previous, last),
+            CodecPacketizer::Vp8(p) => p.is_marker(data, previous, last),
         }
     }
 
@@ -101,6 +106,7 @@ impl Packetizer for CodecPacketizer {
             CodecPacketizer::G722(p) => p.marks_talkspurt(),
             CodecPacketizer::Opus(p) => p.marks_talkspurt(),
             CodecPacketizer::Null(p) => p.marks_talkspurt(),
+            CodecPacketizer::Vp8(p) => p.marks_talkspurt(),
         }
     }
 
@@ -113,6 +119,7 @@ impl Packetizer for CodecPacketizer {
             CodecPacketizer::G722(p) => p.nackable(),
             CodecPacketizer::Opus(p) => p.nackable(),
             CodecPacketizer::Null(p) => p.nackable(),
+            CodecPacketizer::Vp8(p) => p.nackable(),
         }
     }
 }
@@ -123,6 +130,7 @@ pub enum CodecDepacketizer {
     G711(G711Depacketizer),
     Opus(OpusDepacketizer),
     Null(NullDepacketizer),
+    Vp8(Vp8Depacketizer),
 }
 
 impl CodecDepacketizer {
@@ -136,6 +144,7 @@ impl CodecDepacketizer {
             }
             Codec::Opus => Some(CodecDepacketizer::Opus(OpusDepacketizer {})),
             Codec::Null => Some(CodecDepacketizer::Null(NullDepacketizer {})),
+            Codec::Vp8 => Some(CodecDepacketizer::Vp8(Vp8Depacketizer::default())),
             _ => None,
         }
     }
@@ -143,17 +152,17 @@ impl CodecDepacketizer {
 
 /// Each call is that of the chosen depacketizer.
 impl Depacketizer for CodecDepacketizer {
-    ghost use Rattle.codec_payload_core.specs.declared.codec.CodecDepacketizer.TheVariants.{G711 as G711In, Opus as OpusIn, Null as NullIn};
+    ghost use Rattle.codec_payload_core.specs.declared.codec.CodecDepacketizer.TheVariants.{G711 as G711In, Opus as OpusIn, Null as NullIn, Vp8 as Vp8In};
 
-    ghost state = { elim [ G711In p ↦ ⟦<G711Depacketizer as Depacketizer>⟧.state p | OpusIn p ↦ ⟦<OpusDepacketizer as Depacketizer>⟧.state p | NullIn p ↦ ⟦<NullDepacketizer as Depacketizer>⟧.state p ] };
+    ghost state = { elim [ G711In p ↦ ⟦<G711Depacketizer as Depacketizer>⟧.state p | OpusIn p ↦ ⟦<OpusDepacketizer as Depacketizer>⟧.state p | NullIn p ↦ ⟦<NullDepacketizer as Depacketizer>⟧.state p | Vp8In p ↦ ⟦<Vp8Depacketizer as Depacketizer>⟧.state p ] };
 
-    ghost depacketize_step = { elim [ G711In p ↦ ⟦<G711Depacketizer as Depacketizer>⟧.depacketize_step p | OpusIn p ↦ ⟦<OpusDepacketizer as Depacketizer>⟧.depacketize_step p | NullIn p ↦ ⟦<NullDepacketizer as Depacketizer>⟧.depacketize_step p ] };
+    ghost depacketize_step = { elim [ G711In p ↦ ⟦<G711Depacketizer as Depacketizer>⟧.depacketize_step p | OpusIn p ↦ ⟦<OpusDepacketizer as Depacketizer>⟧.depacketize_step p | NullIn p ↦ ⟦<NullDepacketizer as Depacketizer>⟧.depacketize_step p | Vp8In p ↦ ⟦<Vp8Depacketizer as Depacketizer>⟧.depacketize_step p ] };
 
-    ghost size_hint = { elim [ G711In p ↦ ⟦<G711Depacketizer as Depacketizer>⟧.size_hint p | OpusIn p ↦ ⟦<OpusDepacketizer as Depacketizer>⟧.size_hint p | NullIn p ↦ ⟦<NullDepacketizer as Depacketizer>⟧.size_hint p ] };
+    ghost size_hint = { elim [ G711In p ↦ ⟦<G711Depacketizer as Depacketizer>⟧.size_hint p | OpusIn p ↦ ⟦<OpusDepacketizer as Depacketizer>⟧.size_hint p | NullIn p ↦ ⟦<NullDepacketizer as Depacketizer>⟧.size_hint p | Vp8In p ↦ ⟦<Vp8Depacketizer as Depacketizer>⟧.size_hint p ] };
 
-    ghost is_head = { elim [ G711In p ↦ ⟦<G711Depacketizer as Depacketizer>⟧.is_head p | OpusIn p ↦ ⟦<OpusDepacketizer as Depacketizer>⟧.is_head p | NullIn p ↦ ⟦<NullDepacketizer as Depacketizer>⟧.is_head p ] };
+    ghost is_head = { elim [ G711In p ↦ ⟦<G711Depacketizer as Depacketizer>⟧.is_head p | OpusIn p ↦ ⟦<OpusDepacketizer as Depacketizer>⟧.is_head p | NullIn p ↦ ⟦<NullDepacketizer as Depacketizer>⟧.is_head p | Vp8In p ↦ ⟦<Vp8Depacketizer as Depacketizer>⟧.is_head p ] };
 
-    ghost is_tail = { elim [ G711In p ↦ ⟦<G711Depacketizer as Depacketizer>⟧.is_tail p | OpusIn p ↦ ⟦<OpusDepacketizer as Depacketizer>⟧.is_tail p | NullIn p ↦ ⟦<NullDepacketizer as Depacketizer>⟧.is_tail p ] };
+    ghost is_tail = { elim [ G711In p ↦ ⟦<G711Depacketizer as Depacketizer>⟧.is_tail p | OpusIn p ↦ ⟦<OpusDepacketizer as Depacketizer>⟧.is_tail p | NullIn p ↦ ⟦<NullDepacketizer as Depacketizer>⟧.is_tail p | Vp8In p ↦ ⟦<Vp8Depacketizer as Depacketizer>⟧.is_tail p ] };
 
     fn out_size_hint(&self, packets_size: usize) -> Option<usize>
         ensures step { result ≡ ⟦<CodecDepacketizer as Depacketizer>⟧.size_hint self.now packets_size }
@@ -163,6 +172,7 @@ impl Depacketizer for CodecDepacketizer {
             CodecDepacketizer::G711(d) => d.out_size_hint(packets_size),
             CodecDepacketizer::Opus(d) => d.out_size_hint(packets_size),
             CodecDepacketizer::Null(d) => d.out_size_hint(packets_size),
+            CodecDepacketizer::Vp8(d) => d.out_size_hint(packets_size),
         }
     }
 
@@ -180,6 +190,7 @@ impl Depacketizer for CodecDepacketizer {
             CodecDepacketizer::G711(d) => d.depacketize(packet, out, codec_extra),
             CodecDepacketizer::Opus(d) => d.depacketize(packet, out, codec_extra),
             CodecDepacketizer::Null(d) => d.depacketize(packet, out, codec_extra),
+            CodecDepacketizer::Vp8(d) => d.depacketize(packet, out, codec_extra),
         }
     }
 
@@ -191,6 +202,7 @@ impl Depacketizer for CodecDepacketizer {
             CodecDepacketizer::G711(d) => d.is_partition_head(packet),
             CodecDepacketizer::Opus(d) => d.is_partition_head(packet),
             CodecDepacketizer::Null(d) => d.is_partition_head(packet),
+            CodecDepacketizer::Vp8(d) => d.is_partition_head(packet),
         }
     }
 
@@ -202,6 +214,7 @@ impl Depacketizer for CodecDepacketizer {
             CodecDepacketizer::G711(d) => d.is_partition_tail(marker, packet),
             CodecDepacketizer::Opus(d) => d.is_partition_tail(marker, packet),
             CodecDepacketizer::Null(d) => d.is_partition_tail(marker, packet),
+            CodecDepacketizer::Vp8(d) => d.is_partition_tail(marker, packet),
         }
     }
 }

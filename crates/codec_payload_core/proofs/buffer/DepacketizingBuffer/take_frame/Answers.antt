@@ -1,5 +1,6 @@
-use Rattle.std.proofs.Common.{◌≡◌, refl, sym, ◌∙◌, ap, map, arith, Some, Ok, Err}
+use Rattle.std.proofs.Common.{inl, inr, ◌≡◌, refl, sym, ◌∙◌, ap, map, arith, Some, Ok, Err}
 use Rattle.std.specs.Prelude.{slice_range}
+use Rattle.std.proofs.lemmas.Result.{err_from_is_err_and}
 use Rattle.codec_payload_core.specs.Buffer.{state_of}
 use Rattle.codec_payload_core.specs.Depack.{depack_of}
 use Rattle.codec_payload_core.specs.Held.{held_of}
@@ -68,3 +69,13 @@ returns-clause-takes c =
     (gives_of s frame packets c.in_ok-bytes.bytes.items (Ok unpacked) e c.frame_range-from.ensures.part c.in_ok-bytes.ensures.empty c.in-Ok.ensures.unpacks)
     (due_time s frame c.in_ok-metas.metas.items c.index.result.now c.self.invariant.rises due metas c.index.ensures)
     metas test c.remove_up_to-2.ensures
+
+pub returns-in_err-metas-clause-takes : goal.returns-in_err-metas-clause-takes
+returns-in_err-metas-clause-takes c =
+    let exit = err_from_is_err_and c.from_residual.result c.from_residual.ensures.1 in
+    rw (exit.1, exit.2) (inl (refl, record { frame = c.args.frame; is_due = c.requires; depack = c.args.self.now.depack; kind = refl; left = refl }))
+
+pub returns-in_err-bytes-clause-takes : goal.returns-in_err-bytes-clause-takes
+returns-in_err-bytes-clause-takes c =
+    let exit = err_from_is_err_and c.from_residual-in_err-bytes.result c.from_residual-in_err-bytes.ensures.1 in
+    rw (exit.1, exit.2) (inl (refl, record { frame = c.args.frame; is_due = c.requires; depack = c.args.self.now.depack; kind = refl; left = refl }))
