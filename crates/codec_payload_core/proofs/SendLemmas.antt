@@ -115,7 +115,7 @@ pub refused_so_far : {S : Type 0} (accepts : S → Packet → Packet → S → T
 refused_so_far accepts refuses sent next before all pack here sample rtp_time vs v left n mid after fault split count same so_far one =
     let last = is_last_at_none left n count in
     let unfolded : SentSoFar accepts sent before all (packet_for pack sample rtp_time (next mid) (n == 0) v.items ∷ packets_for pack sample rtp_time ((next mid + 1) % 2 ^ 64) (map (λ w. w.items) left)) mid =
-      rw last (subst (λ (ws : List (Vec ℕ)). SentSoFar accepts sent before all (packets_for pack sample rtp_time (next mid) (map (λ w. w.items) ws)) mid) split so_far) in
+    rw last (subst (λ (ws : List (Vec ℕ)). SentSoFar accepts sent before all (packets_for pack sample rtp_time (next mid) (map (λ w. w.items) ws)) mid) split so_far) in
     record {
       begun = unfolded.begun;
       refused = packet_for pack sample rtp_time (next mid) (n == 0) v.items;

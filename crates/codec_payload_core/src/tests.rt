@@ -22,13 +22,14 @@ fn sample(alloc: Global, bytes: &[u8]) -> Result<ToPayload, Fail> {
     })
 }
 
-/// A run over an unused sink, whose first number is 10, and an unused buffer that holds nothing back.
+/// A run over an unused sink, whose first number is 10, and an unused buffer that holds nothing back; last, how many
+/// packets the buffer holds in the end.
 fn run(
     alloc: Global,
     codec: Codec,
     bytes: &[u8],
     steps: &[Step],
-) -> Result<(MemorySink, Run), Fail> {
+) -> Result<(MemorySink, Run, usize), Fail> {
     let spec = CodecSpec {
         codec,
         clock_rate: Frequency::EIGHT_KHZ,
@@ -49,7 +50,7 @@ fn run(
         &samples,
         steps,
     )?;
-    Ok((sink, run))
+    Ok((sink, run, buffer.held()))
 }
 
 /// The units that were popped, each behind its length; a pop without a unit counts as 255.
@@ -80,7 +81,7 @@ fn g7xx_as_opus(rt: HostRuntime) -> Result<(), Fail> {
         Step::Pop,
     ];
     for codec in [Codec::PCMU, Codec::PCMA, Codec::G722, Codec::Opus] {
-        let (sink, done) = run(alloc, codec, &[0x90, 0x90, 0x90], &steps)?;
+        let (sink, done, _) = run(alloc, codec, &[0x90, 0x90, 0x90], &steps)?;
         assert_eq!(rt; sink.packets().len(), 2);
         assert_eq!(rt;
             sink.packets()[0].payload.as_slice(),
@@ -91,7 +92,7 @@ fn g7xx_as_opus(rt: HostRuntime) -> Result<(), Fail> {
             units(alloc, &done)?.as_slice(),
             [2u8, 0x90, 0x90, 1, 0x90, 255].as_slice()
         );
-        let (empty, skipped) = run(
+        let (empty, skipped, _) = run(
             alloc,
             codec,
             &[0x90, 0x90, 0x90],
@@ -114,7 +115,7 @@ fn null_empty_frame(rt: HostRuntime) -> Result<(), Fail> {
         Step::Pop,
         Step::Pop,
     ];
-    let (sink, done) = run(alloc, Codec::Null, &[], &steps)?;
+    let (sink, done, _) = run(alloc, Codec::Null, &[], &steps)?;
     assert_eq!(rt; sink.packets().len(), 1);
     assert!(rt; sink.packets()[0].payload.is_empty());
     assert_eq!(rt; units(alloc, &done)?.as_slice(), [0u8, 255].as_slice());
@@ -129,7 +130,7 @@ fn what_packets_carry(rt: HostRuntime) -> Result<(), Fail> {
         Step::Send { sample: 1, mtu: 2 },
         Step::Push(7),
     ];
-    let (mut sink, done) = run(alloc, Codec::Opus, &[1, 2, 3], &steps)?;
+    let (mut sink, done, _) = run(alloc, Codec::Opus, &[1, 2, 3], &steps)?;
     assert_eq!(rt; done.sends.len(), 1);
     assert_eq!(rt; done.sends[0].count, 2);
     assert_eq!(rt; sink.packets().len(), 2);
@@ -178,5 +179,81 @@ fn codecs_that_are_there(rt: HostRuntime) -> Result<(), Fail> {
     );
     let payloader = Payloader::with_packetizer(opus, Frequency::FORTY_EIGHT_KHZ);
     assert_eq!(rt; payloader.clock_rate(), Frequency::FORTY_EIGHT_KHZ);
+    Ok(())
+}
+
+/// The lengths of the units that were popped; a pop without a unit counts as 9,999.
+fn lengths(alloc: Global, run: &Run) -> Result<Vec<usize>, Fail> {
+    let mut all = Vec::new(alloc);
+    for pop in &run.pops {
+        all.push(match pop {
+            Some(Ok(unit)) => unit.bytes.len(),
+            _ => 9_999,
+        })?;
+    }
+    Ok(all)
+}
+
+#[test]
+fn vp8_4096_packets_reversed(rt: HostRuntime) -> Result<(), Fail> {
+    let alloc = rt.alloc();
+    let frame = vec![in alloc; 0x90u8; 4_096]?;
+    let mut steps = Vec::new(alloc);
+    steps.push(Step::Send { sample: 0, mtu: 2 })?;
+    for k in 0..4_096 {
+        steps.push(Step::Push(4_095 - k))?;
+        steps.push(Step::Push(4_095 - k))?;
+    }
+    steps.push(Step::Pop)?;
+    steps.push(Step::Pop)?;
+    let (sink, done, held) = run(alloc, Codec::Vp8, &frame, &steps)?;
+    assert_eq!(rt; sink.packets().len(), 4_096);
+    assert_eq!(rt;
+        lengths(alloc, &done)?.as_slice(),
+        [4_096usize, 9_999].as_slice()
+    );
+    Ok(())
+}
+
+#[test]
+fn vp8_4097_packets_evicts(rt: HostRuntime) -> Result<(), Fail> {
+    let alloc = rt.alloc();
+    let frame = vec![in alloc; 0x90u8; 4_097]?;
+    let mut steps = Vec::new(alloc);
+    steps.push(Step::Send { sample: 0, mtu: 2 })?;
+    for k in 0..4_097 {
+        steps.push(Step::Push(k))?;
+    }
+    steps.push(Step::Pop)?;
+    let (sink, done, held) = run(alloc, Codec::Vp8, &frame, &steps)?;
+    assert_eq!(rt; sink.packets().len(), 4_097);
+    assert_eq!(rt; lengths(alloc, &done)?.as_slice(), [9_999usize].as_slice());
+    assert_eq!(rt; held, 4_096);
+    Ok(())
+}
+
+#[test]
+fn vp8_equal_times_apart(rt: HostRuntime) -> Result<(), Fail> {
+    let alloc = rt.alloc();
+    let cut = Step::Send { sample: 0, mtu: 2 };
+    let steps = [
+        cut,
+        cut,
+        Step::Push(0),
+        Step::Push(2),
+        Step::Push(3),
+        Step::Pop,
+        Step::Pop,
+    ];
+    let (sink, done, held) = run(alloc, Codec::Vp8, &[0x91, 0x92], &steps)?;
+    assert_eq!(rt; sink.packets().len(), 4);
+    let Some(Some(Ok(unit))) = done.pops.first() else {
+        return Err(Fail::from("no unit"));
+    };
+    assert_eq!(rt; unit.bytes.as_slice(), [0x91u8, 0x92].as_slice());
+    assert_eq!(rt; unit.seq_range(), SeqNo(12)..=SeqNo(13));
+    assert!(rt; done.pops.len() == 2);
+    assert!(rt; done.pops[1].is_none());
+    assert_eq!(rt; held, 0);
     Ok(())
 }

@@ -48,11 +48,11 @@ pub one_described : (size : ℕ) (frame rest : List ℕ) (payloads : List (List 
 one_described size frame rest payloads first payload some left so_far is = record {
   done = so_far.done ++ take size rest ∷ [];
   are = ap (λ (xs : List (List ℕ)). xs ++ payload ∷ []) so_far.are
-    ∙ (ap (λ (p : List ℕ). described true so_far.done ++ p ∷ []) (is ∙ ap (λ (b : Bool). descriptor b ∷ take size rest) so_far.next)
+      ∙ (ap (λ (p : List ℕ). described true so_far.done ++ p ∷ []) (is ∙ ap (λ (b : Bool). descriptor b ∷ take size rest) so_far.next)
       ∙ sym (described-append true so_far.done (take size rest)));
   next = not_first so_far.done (take size rest);
   completes = λ more are. subst (λ (ps : List (List ℕ)). ArePieces size frame ps) (sym (append_assoc so_far.done (take size rest ∷ []) more))
-    (so_far.completes (take size rest ∷ more) (one_piece size rest more some left are));
+      (so_far.completes (take size rest ∷ more) (one_piece size rest more some left are));
 }
 
 pub all_described : (size : ℕ) (frame rest : List ℕ) (payloads : List (List ℕ)) (first : Bool) → rest ≡ [] → DescribedSoFar size frame rest payloads first → AreDescribed size frame payloads
@@ -61,9 +61,11 @@ all_described size frame rest payloads first nothing so_far =
 
 -- what a packetizer of described pieces answers
 pub answer_described : (mtu : ℕ) (frame : List ℕ) (payloads : List (List ℕ)) → 1 < mtu → AreDescribed (mtu - 1) frame payloads → AnswersDescribed mtu frame (Ok payloads)
-answer_described mtu frame payloads some are =
-    (λ few. absurd (omega arith), λ _. are,
-      λ _. ap length are.2 ∙ (length-described true are.0 ∙ count_of_pieces (mtu - 1) frame are.0 (omega arith) are.1))
+answer_described mtu frame payloads some are = (
+  λ few. absurd (omega arith),
+  λ _. are,
+  λ _. ap length are.2 ∙ (length-described true are.0 ∙ count_of_pieces (mtu - 1) frame are.0 (omega arith) are.1),
+)
 
 pub answer_of : (mtu : ℕ) (frame : List ℕ) (r : Result (Vec (Vec ℕ)) PacketError) → 1 < mtu → 0 < length frame
     → IfOk r (λ v. AreDescribed (mtu - 1) frame (map (λ p. p.items) v.items)) → IfErr r (λ fault. fault ≡ faults.OutOfMemory) → AnswersDescribed mtu frame (packets_of r)

@@ -70,13 +70,13 @@ was_keyframe (extras.Vp8 extra) = extra.is_keyframe
 
 abbrev pub extra_of : Vp8Depacketizer → CodecExtra → CodecExtra
 extra_of d before = extras.Vp8 (record {
-    discardable = d.n == 1;
-    sync = d.y == 1;
-    layer_index = d.tid;
-    picture_id = None;
-    tl0_picture_id = None;
-    is_keyframe = (d.p == 0) || was_keyframe before;
-  })
+  discardable = d.n == 1;
+  sync = d.y == 1;
+  layer_index = d.tid;
+  picture_id = None;
+  tl0_picture_id = None;
+  is_keyframe = (d.p == 0) || was_keyframe before;
+})
 
 -- what follows the descriptor: something, which is appended, or nothing, which is too short
 abbrev pub Vp8Rest : Vp8Depacketizer → List ℕ → List ℕ → CodecExtra → Result ⊤ PacketError → Vp8Depacketizer → List ℕ → CodecExtra → Type 0

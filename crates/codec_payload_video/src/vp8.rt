@@ -5,9 +5,8 @@ ghost use Rattle.codec_payload_base.specs.Answers.{packets_of};
 ghost use Rattle.codec_payload_base.specs.declared.error.PacketError.TheVariants.{OutOfMemory};
 ghost use Rattle.codec_payload_video.specs.Vp8.{AnswersDescribed, AreDescribed, descriptor, extra_of, inverse_key_bit, is_start, numbers_of, with_first_byte, without_extension, Vp8Step, StepsTo};
 
-pub use codec_payload_base::interface::Vp8CodecExtra;
-
 use codec_payload_base::error::PacketError;
+pub use codec_payload_base::interface::Vp8CodecExtra;
 use codec_payload_base::interface::{CodecExtra, Depacketizer, Packetizer};
 use std::alloc::Global;
 
@@ -62,11 +61,7 @@ impl Packetizer for Vp8Packetizer {
 }
 
 /// The pieces of a frame, of `size` bytes each but the last, each behind its descriptor.
-fn describe_pieces(
-    alloc: Global,
-    size: usize,
-    frame: &[u8],
-) -> Result<Vec<Vec<u8>>, PacketError>
+fn describe_pieces(alloc: Global, size: usize, frame: &[u8]) -> Result<Vec<Vec<u8>>, PacketError>
     requires some { 0 < size }
     requires full { 0 < length frame.now }
     ensures ok { IfOk result (λ packets. AreDescribed size frame.now (map (λ p. p.items) packets.items)) }

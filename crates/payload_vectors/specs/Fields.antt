@@ -17,6 +17,7 @@ codec_of name =
     else if bytes_eq name (codes "pcmu") then Some codecs.PCMU
     else if bytes_eq name (codes "pcma") then Some codecs.PCMA
     else if bytes_eq name (codes "g722") then Some codecs.G722
+    else if bytes_eq name (codes "vp8") then Some codecs.Vp8
     else if bytes_eq name (codes "null") then Some codecs.Null
     else None
 

@@ -20,6 +20,7 @@ pub fn codec_named(name: &str) -> Option<Codec>
         "pcmu" => Some(Codec::PCMU),
         "pcma" => Some(Codec::PCMA),
         "g722" => Some(Codec::G722),
+        "vp8" => Some(Codec::Vp8),
         "null" => Some(Codec::Null),
         _ => None,
     }

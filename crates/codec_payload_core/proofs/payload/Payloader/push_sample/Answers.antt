@@ -50,17 +50,17 @@ returns-in_err-send_payload-clause-err g c =
     let items : into_iter_items c.into_iter-payload-iterator.result ≡ c.in_ok-payloads.payloads.items = search rules in
     let view : pack_of c.self.inside.pack ≡ c.args.self.now.pack = ap (λ p. p.pack) c.self.view_is in
     let refused = refused_so_far sink.accepts sink.refuses sink.sent sink.next c.args.sink.now _ (pack_of c.packetize.new.self) c.loop-payload.self.pack (sample_of c.args.sample.now) (c.numer.result % 2 ^ 32) _ _ _ _ c.loop-payload.sink c.send_payload.new.sink
-      c.in_err-send_payload.field-0.0 split count here c.loop-payload.invariant.so_far c.in_err-send_payload.ensures.err in
+    c.in_err-send_payload.field-0.0 split count here c.loop-payload.invariant.so_far c.in_err-send_payload.ensures.err in
     rw (exit.1, exit.2) (inr (record {
-        payloads = map (λ p. p.items) (into_iter_items c.into_iter-payload-iterator.result);
-        packetized = rw (items, pack, ← bytes, ← view) c.in_ok-payloads.ensures.built_in;
-        begun = refused.begun;
-        refused = refused.refused;
-        left = refused.left;
-        whole = rw (pack, time) refused.whole;
-        images = refused.images;
-        mid = refused.mid;
-        sends = refused.sends;
-        refusal = refused.refusal;
-        gained = refused.gained;
-      }))
+      payloads = map (λ p. p.items) (into_iter_items c.into_iter-payload-iterator.result);
+      packetized = rw (items, pack, ← bytes, ← view) c.in_ok-payloads.ensures.built_in;
+      begun = refused.begun;
+      refused = refused.refused;
+      left = refused.left;
+      whole = rw (pack, time) refused.whole;
+      images = refused.images;
+      mid = refused.mid;
+      sends = refused.sends;
+      refusal = refused.refusal;
+      gained = refused.gained;
+    }))
