@@ -85,7 +85,7 @@ module _ (all_steps : List Step) (clock_rate first : ℕ) (kind : DepackKind) (s
   sent_placed p [] i a = (i, tt)
   sent_placed p (q ∷ qs) i a = by_test (ltb q.meta.seq_no.0 p.meta.seq_no.0) (λ b. AllSent (cond b (q ∷ placed p qs) (p ∷ q ∷ qs))) (λ e. (a.0, sent_placed p qs i a.1)) (λ e. (i, a))
 
-  number_of_sent : (p : Held) (s : IsSent p) → p.meta.seq_no.0 ≡ first + s.0
+  pub number_of_sent : (p : Held) (s : IsSent p) → p.meta.seq_no.0 ≡ first + s.0
   number_of_sent p s = ap (λ (m : RtpMeta). m.seq_no.0) s.3.2 ∙ number_at (packets_of all) first s.0 s.1 numbered s.2
 
   -- a run of sent packets is a row of them
@@ -189,7 +189,7 @@ module _ (all_steps : List Step) (clock_rate first : ℕ) (kind : DepackKind) (s
   beyond_kept from s sound =
       by_test (ltb s.limit (length s.held)) (λ b. IsBeyond from (cond b (without_lowest s s.held) s)) (λ e. beyond_lowest from s s.held refl sound) (λ e. sound)
 
-  beyond_placed : (from : ℕ) (s : State) (p : Held) → IsSent p → is_at_most s.cutoff p.meta.seq_no.0 ≡ false → has_number p.meta.seq_no.0 s.held ≡ false → IsBeyond from s → IsBeyond from (record s { held = placed p s.held })
+  pub beyond_placed : (from : ℕ) (s : State) (p : Held) → IsSent p → is_at_most s.cutoff p.meta.seq_no.0 ≡ false → has_number p.meta.seq_no.0 s.held ≡ false → IsBeyond from s → IsBeyond from (record s { held = placed p s.held })
   beyond_placed from s p i low fresh sound = record {
     rises = placed_rises p s.held sound.rises fresh;
     beyond = placed_above_cutoff s.cutoff p s.held low sound.beyond;

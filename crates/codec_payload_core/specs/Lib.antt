@@ -6,6 +6,7 @@ pub use Rattle.codec_payload_base.specs.Time
 pub mod Buffer
 pub mod BufferExamples
 pub mod Depack
+pub mod Exact
 pub mod Frames
 pub mod Headline
 pub mod Held
