@@ -11,14 +11,14 @@ use Rattle.codec_payload_core.proofs.FrameParts.{IsRun}
 use Rattle.codec_payload_core.proofs.PlaceLemmas.{placed_rises, placed_above_cutoff}
 use Rattle.codec_payload_core.proofs.PopLemmas.{part_due, above_rises, above_is_above}
 use Rattle.codec_payload_core.proofs.RowLemmas.{above_all, first_above, part_between, first_le_last, run_first, run_length}
-use Rattle.codec_payload_core.proofs.StreamLemmas.{streams}
+use Rattle.codec_payload_core.proofs.StreamLemmas.{Streams, streams}
 use Rattle.codec_payload_core.proofs.UnitRows.{held_as, slice_append, drop_at, drop_next, RowOf, Exact, unit_of_row, exact_length, exact_payloads, exact_metas, exact_starts}
 use Rattle.codec_payload_core.specs.Depack.{Depack, DepackKind, kind_of_depack}
 use Rattle.codec_payload_core.specs.Headline.{IsPushOf, ArePushesOf, packets_before, IsUnitAt, InOrder, IsUnused, ReleasesInOrder}
 use Rattle.codec_payload_core.specs.Held.{Held, Rises, IsAboveCutoff, placed, above, between, has_number}
 use Rattle.codec_payload_core.specs.Packets.{Packet, AreNumbered}
 use Rattle.codec_payload_core.specs.Release.{Release}
-use Rattle.codec_payload_core.specs.Schedule.{Answer, RunState, Runs, SendsIt, after_push, meta_of_push}
+use Rattle.codec_payload_core.specs.Schedule.{Answer, RunState, Runs, DoesStep, SendsIt, after_push, meta_of_push}
 use Rattle.codec_payload_core.specs.Sending.{Sample}
 use Rattle.codec_payload_core.specs.SentStream.{SentUnit, packets_of, StartsWithHead, IsLawful, AllLawful, IsReleaseOf}
 use Rattle.codec_payload_core.specs.Steps.{State, Contiguity, arrived, pushed, kept_to_limit, without_lowest, is_dropped, is_at_most, without, metas_of, due_of, packets_in, Unpacked, Unpacks, nothing_unpacked, Gives, Passes, none, one_more, PassesOver, Releases, Refuses, Pops}
@@ -50,10 +50,20 @@ lawful_at kind splits [] place u l h = absurd (cc)
 lawful_at kind splits (v ∷ us) zero u l h = let e : v ≡ u = cc in rw (← e) l.0
 lawful_at kind splits (v ∷ us) (suc place) u l h = lawful_at kind splits us place u l.1 h
 
-number_at : (ps : List Packet) (n k : ℕ) (q : Packet) → AreNumbered n ps → slice_get ps k ≡ Some q → q.number ≡ n + k
+pub number_at : (ps : List Packet) (n k : ℕ) (q : Packet) → AreNumbered n ps → slice_get ps k ≡ Some q → q.number ≡ n + k
 number_at [] n k q a h = absurd (cc)
 number_at (p ∷ ps) n zero q a h = let e : p ≡ q = cc in omega (arith, a.0, ap (λ (x : Packet). x.number) e)
 number_at (p ∷ ps) n (suc k) q a h = omega (arith, number_at ps (n + 1) k q a.1 h)
+
+-- a step that sends leaves the buffer and the clock as they were
+pub send_keeps : (samples : List Sample) (place i mtu : ℕ) (s mid : RunState) (sends : List Sent) (pops : List Answer) → DoesStep samples place (steps.Send i mtu) s sends pops mid
+    → (mid.buffer ≡ s.buffer) × (mid.payloading.clock_rate ≡ s.payloading.clock_rate)
+send_keeps samples place i mtu s mid sends pops step = at (slice_get samples i) step.1
+  where
+    at : (o : Option Sample) → MatchOption o ((sends ≡ []) × (mid ≡ s)) (λ sample. (entry : Sent) × (sends ≡ entry ∷ []) × SendsIt place mtu sample s entry mid)
+        → (mid.buffer ≡ s.buffer) × (mid.payloading.clock_rate ≡ s.payloading.clock_rate)
+    at None step = (ap (λ (x : RunState). x.buffer) step.1, ap (λ (x : RunState). x.payloading.clock_rate) step.1)
+    at (Some sample) step = (ap (λ (x : RunState). x.buffer) step.2.left, ap (λ (x : RunState). x.payloading.clock_rate) step.2.left)
 
 module _ (all_steps : List Step) (clock_rate first : ℕ) (kind : DepackKind) (splits : Bool) (all : List SentUnit) (lawful : AllLawful kind splits all) (numbered : AreNumbered first (packets_of all)) where
   -- a push of a packet that was sent
@@ -85,7 +95,7 @@ module _ (all_steps : List Step) (clock_rate first : ℕ) (kind : DepackKind) (s
   sent_placed p [] i a = (i, tt)
   sent_placed p (q ∷ qs) i a = by_test (ltb q.meta.seq_no.0 p.meta.seq_no.0) (λ b. AllSent (cond b (q ∷ placed p qs) (p ∷ q ∷ qs))) (λ e. (a.0, sent_placed p qs i a.1)) (λ e. (i, a))
 
-  number_of_sent : (p : Held) (s : IsSent p) → p.meta.seq_no.0 ≡ first + s.0
+  pub number_of_sent : (p : Held) (s : IsSent p) → p.meta.seq_no.0 ≡ first + s.0
   number_of_sent p s = ap (λ (m : RtpMeta). m.seq_no.0) s.3.2 ∙ number_at (packets_of all) first s.0 s.1 numbered s.2
 
   -- a run of sent packets is a row of them
@@ -189,7 +199,7 @@ module _ (all_steps : List Step) (clock_rate first : ℕ) (kind : DepackKind) (s
   beyond_kept from s sound =
       by_test (ltb s.limit (length s.held)) (λ b. IsBeyond from (cond b (without_lowest s s.held) s)) (λ e. beyond_lowest from s s.held refl sound) (λ e. sound)
 
-  beyond_placed : (from : ℕ) (s : State) (p : Held) → IsSent p → is_at_most s.cutoff p.meta.seq_no.0 ≡ false → has_number p.meta.seq_no.0 s.held ≡ false → IsBeyond from s → IsBeyond from (record s { held = placed p s.held })
+  pub beyond_placed : (from : ℕ) (s : State) (p : Held) → IsSent p → is_at_most s.cutoff p.meta.seq_no.0 ≡ false → has_number p.meta.seq_no.0 s.held ≡ false → IsBeyond from s → IsBeyond from (record s { held = placed p s.held })
   beyond_placed from s p i low fresh sound = record {
     rises = placed_rises p s.held sound.rises fresh;
     beyond = placed_above_cutoff s.cutoff p s.held low sound.beyond;
@@ -283,14 +293,9 @@ module _ (all_steps : List Step) (clock_rate first : ℕ) (kind : DepackKind) (s
   safe_from samples (steps.Send i mtu ∷ later) place from s t sends pops at run whole clock sound =
       let next = drop_next all_steps place (steps.Send i mtu) later at in
       let mid = run.4 in
-      let same = sent_same (slice_get samples i) run.7.1 in
+      let same = send_keeps samples place i mtu s mid run.0 run.2 run.7 in
       let rest = safe_from samples later (place + 1) from mid t run.1 run.3 next.1 run.8 whole (same.1 ∙ clock) (subst (IsBeyond from) (sym same.0) sound) in
       subst (InOrder all_steps clock_rate splits all from) (sym (run.6 ∙ ap (λ (ps : List Answer). ps ++ run.3) run.7.0)) rest
-    where
-      sent_same : (o : Option Sample) → MatchOption o ((run.0 ≡ []) × (run.4 ≡ s)) (λ sample. (entry : Sent) × (run.0 ≡ entry ∷ []) × SendsIt place mtu sample s entry run.4)
-          → (run.4.buffer ≡ s.buffer) × (run.4.payloading.clock_rate ≡ s.payloading.clock_rate)
-      sent_same None step = (ap (λ (x : RunState). x.buffer) step.1, ap (λ (x : RunState). x.payloading.clock_rate) step.1)
-      sent_same (Some sample) step = (ap (λ (x : RunState). x.buffer) step.2.left, ap (λ (x : RunState). x.payloading.clock_rate) step.2.left)
   safe_from samples (steps.Push k ∷ later) place from s t sends pops at run whole clock sound =
       let next = drop_next all_steps place (steps.Push k) later at in
       let mid = run.4 in
@@ -311,26 +316,44 @@ module _ (all_steps : List Step) (clock_rate first : ℕ) (kind : DepackKind) (s
       (pop_in_order from s.buffer run.7.2 answer run.3 sound run.7.5 run.7.4
       (λ n beyond. safe_from samples later (place + 1) n mid t run.1 run.3 next.1 run.8 whole (ap (λ (x : RunState). x.payloading.clock_rate) run.7.6 ∙ clock) (subst (IsBeyond n) (sym buffer) beyond)))
 
--- a run over an unused sink and an unused buffer releases its units in order, each at most once
-pub safe : (samples : List Sample) (all_steps : List Step) (s t : RunState) (sends : List Sent) (pops : List Answer) → Runs samples 0 all_steps s sends pops t → IsUnused s → ReleasesInOrder samples all_steps s pops t
-safe samples all_steps s t sends pops run unused =
-    let stream = streams samples 0 all_steps s t sends pops run in
-    let kind = payloads_by s.payloading.pack in
-    let splits = may_split s.payloading.pack in
-    let whole : t.sink.packets ≡ packets_of stream.units = stream.gained ∙ ap (λ (ps : List Packet). ps ++ packets_of stream.units) unused.nothing_sent in
+-- before the first step nothing is held and nothing done with
+pub fresh : (all_steps : List Step) (s : RunState) (units : List SentUnit) (lawful : AllLawful (payloads_by s.payloading.pack) (may_split s.payloading.pack) units) (numbered : AreNumbered s.sink.first (packets_of units)) → IsUnused s
+    → IsBeyond all_steps s.payloading.clock_rate s.sink.first (payloads_by s.payloading.pack) (may_split s.payloading.pack) units lawful numbered 0 s.buffer
+fresh all_steps s units lawful numbered unused = record {
+  rises = subst Rises (sym unused.nothing_held) tt;
+  beyond = subst (λ (o : Option ℕ). IsAboveCutoff o s.buffer.held) (sym unused.no_cutoff) tt;
+  sent = subst (AllSent all_steps s.payloading.clock_rate s.sink.first (payloads_by s.payloading.pack) (may_split s.payloading.pack) units lawful numbered) (sym unused.nothing_held) tt;
+  floor = rw unused.no_cutoff (omega arith);
+  reads = unused.alike;
+}
+
+-- what an unused sink holds after the run
+pub record SendsAll (s t : RunState) (units : List SentUnit) : Type 0 where
+  pub whole : t.sink.packets ≡ packets_of units
+  pub numbered : AreNumbered s.sink.first (packets_of units)
+
+pub sends_all : (samples : List Sample) (all_steps : List Step) (s t : RunState) → IsUnused s → (stream : Streams samples all_steps s t) → SendsAll s t stream.units
+sends_all samples all_steps s t unused stream =
     let none : s.sink.first + length s.sink.packets ≡ s.sink.first = omega (arith, ap length unused.nothing_sent) in
-    let numbered : AreNumbered s.sink.first (packets_of stream.units) = subst (λ (n : ℕ). AreNumbered n (packets_of stream.units)) none stream.numbered in
-    let fresh : IsBeyond all_steps s.payloading.clock_rate s.sink.first kind splits stream.units stream.lawful numbered 0 s.buffer = record {
-      rises = subst Rises (sym unused.nothing_held) tt;
-      beyond = subst (λ (o : Option ℕ). IsAboveCutoff o s.buffer.held) (sym unused.no_cutoff) tt;
-      sent = subst (AllSent all_steps s.payloading.clock_rate s.sink.first kind splits stream.units stream.lawful numbered) (sym unused.nothing_held) tt;
-      floor = rw unused.no_cutoff (omega arith);
-      reads = unused.alike;
-    } in
     record {
+      whole = stream.gained ∙ ap (λ (ps : List Packet). ps ++ packets_of stream.units) unused.nothing_sent;
+      numbered = subst (λ (n : ℕ). AreNumbered n (packets_of stream.units)) none stream.numbered;
+    }
+
+-- a run over an unused sink and an unused buffer releases the units that it sends in order, each at most once
+pub safe_stream : (samples : List Sample) (all_steps : List Step) (s t : RunState) (sends : List Sent) (pops : List Answer) → Runs samples 0 all_steps s sends pops t → IsUnused s
+    → (stream : Streams samples all_steps s t) → (released : ReleasesInOrder samples all_steps s pops t) × (released.units ≡ stream.units)
+safe_stream samples all_steps s t sends pops run unused stream =
+    let sent = sends_all samples all_steps s t unused stream in
+    let released : ReleasesInOrder samples all_steps s pops t = record {
       units = stream.units;
       canonical = stream.canonical;
-      packets = sym whole;
+      packets = sym sent.whole;
       lawful = stream.lawful;
-      in_order = safe_from all_steps s.payloading.clock_rate s.sink.first kind splits stream.units stream.lawful numbered samples all_steps 0 0 s t sends pops refl run whole refl fresh;
-    }
+      in_order = safe_from all_steps s.payloading.clock_rate s.sink.first (payloads_by s.payloading.pack) (may_split s.payloading.pack) stream.units stream.lawful sent.numbered samples all_steps 0 0 s t sends pops refl run sent.whole refl
+          (fresh all_steps s stream.units stream.lawful sent.numbered unused);
+    } in
+    (released, refl)
+
+pub safe : (samples : List Sample) (all_steps : List Step) (s t : RunState) (sends : List Sent) (pops : List Answer) → Runs samples 0 all_steps s sends pops t → IsUnused s → ReleasesInOrder samples all_steps s pops t
+safe samples all_steps s t sends pops run unused = (safe_stream samples all_steps s t sends pops run unused (streams samples 0 all_steps s t sends pops run)).0

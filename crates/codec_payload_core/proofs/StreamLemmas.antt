@@ -13,6 +13,7 @@ use Rattle.codec_payload_base.specs.declared.error.PacketError.{PacketError}
 use Rattle.codec_payload_base.specs.declared.error.PacketError.TheVariants as faults
 use Rattle.codec_payload_base.specs.declared.interface.CodecExtra.{CodecExtra}
 use Rattle.codec_payload_base.proofs.PieceLemmas.{one_list, no_pieces}
+use Rattle.codec_payload_core.proofs.UnitTimes.{AllOneTime, times_of_sample, times_append}
 use Rattle.codec_payload_core.specs.Depack.{Depack, G711Depack, OpusDepack, NullDepack, Vp8Depack, DepackKind, G711Payloads, OpusPayloads, NullPayloads, Vp8Payloads, kind_of_depack, DepackStep, head_in, tail_in}
 use Rattle.codec_payload_core.specs.Held.{Held}
 use Rattle.codec_payload_core.specs.Pack.{Pack, G711Pack, G722Pack, OpusPack, NullPack, Vp8Pack, PackStep}
@@ -226,6 +227,7 @@ pub record Streams (samples : List Sample) (later : List Step) (s t : RunState) 
   pub canonical : map (λ (u : SentUnit). u.parts) units ≡ units_of_run s.payloading.pack samples later
   pub gained : t.sink.packets ≡ s.sink.packets ++ packets_of units
   pub lawful : AllLawful (payloads_by s.payloading.pack) (may_split s.payloading.pack) units
+  pub one_time : AllOneTime units
   pub numbered : AreNumbered (s.sink.first + length s.sink.packets) (packets_of units)
   pub first : t.sink.first ≡ s.sink.first
 
@@ -236,6 +238,7 @@ no_stream samples later s t none same = record {
   canonical = sym none;
   gained = ap (λ (x : RunState). x.sink.packets) same ∙ sym (append-nil s.sink.packets);
   lawful = tt;
+  one_time = tt;
   numbered = tt;
   first = ap (λ (x : RunState). x.sink.first) same;
 }
@@ -248,6 +251,7 @@ keeps_stream samples later all s mid t pack sink units rest = record {
   canonical = rest.canonical ∙ (ap (λ (p : Pack). units_of_run p samples later) pack ∙ sym units);
   gained = rest.gained ∙ ap (λ (x : SentPackets). x.packets ++ packets_of rest.units) sink;
   lawful = subst (λ (p : Pack). AllLawful (payloads_by p) (may_split p) rest.units) pack rest.lawful;
+  one_time = rest.one_time;
   numbered = subst (λ (x : SentPackets). AreNumbered (x.first + length x.packets) (packets_of rest.units)) sink rest.numbered;
   first = rest.first ∙ ap (λ (x : SentPackets). x.first) sink;
 }
@@ -277,6 +281,7 @@ sends_stream samples later i mtu place sample entry s mid t there sent rest =
           ∙ (append_assoc s.sink.packets (packets_of here.units) (packets_of rest.units) ∙ ap (λ (ps : List Packet). s.sink.packets ++ ps) (sym (packets_append here.units rest.units))));
       lawful = lawful_append (payloads_by s.payloading.pack) (may_split s.payloading.pack) here.units rest.units here.lawful
           (subst (λ (b : Bool). AllLawful (payloads_by s.payloading.pack) b rest.units) splits (subst (λ (k : DepackKind). AllLawful k (may_split mid.payloading.pack) rest.units) kind rest.lawful));
+      one_time = times_append here.units rest.units (times_of_sample sent.pack sample time (s.sink.first + length s.sink.packets) (payloads_of sent.answer) here.units here.packets) rest.one_time;
       numbered = rw (packets_append here.units rest.units, here.packets)
           (numbered_append (s.sink.first + length s.sink.packets) packets (packets_of rest.units) sent.numbered (subst (λ (n : ℕ). AreNumbered n (packets_of rest.units)) next rest.numbered));
       first = rest.first ∙ first;

@@ -12,7 +12,7 @@ use Rattle.codec_payload_core.proofs.CaseLemmas.{by_test}
 use Rattle.codec_payload_core.proofs.PushLemmas.{with_one, with_one_rises, stretch_is}
 use Rattle.codec_payload_core.proofs.MemberLemmas.{IsIn, KeysAbove, KeysRise, same_members}
 
-has_placed : (n : ℕ) (p : Held) (hs : List Held) → has_number n (placed p hs) ≡ (eqb p.meta.seq_no.0 n || has_number n hs)
+pub has_placed : (n : ℕ) (p : Held) (hs : List Held) → has_number n (placed p hs) ≡ (eqb p.meta.seq_no.0 n || has_number n hs)
 has_placed n p [] = refl
 has_placed n p (q ∷ qs) =
     by_test (ltb q.meta.seq_no.0 p.meta.seq_no.0) (λ b. has_number n (cond b (q ∷ placed p qs) (p ∷ q ∷ qs)) ≡ (eqb p.meta.seq_no.0 n || has_number n (q ∷ qs)))

@@ -58,7 +58,7 @@ module _ (all_steps : List Step) (clock_rate : ℕ) (kind : DepackKind) where
   Exact k (q ∷ qs) [] = ⊥
   Exact k (q ∷ qs) (p ∷ ps) = IsPushOf all_steps clock_rate k q p.meta × (p ≡ held_as kind p.meta q.payload) × Exact (k + 1) qs ps
 
-  tail_is : (k : ℕ) (q : Packet) (p : Held) → IsPushOf all_steps clock_rate k q p.meta → p ≡ held_as kind p.meta q.payload → p.tail ≡ tail_in kind q.marker q.payload
+  pub tail_is : (k : ℕ) (q : Packet) (p : Held) → IsPushOf all_steps clock_rate k q p.meta → p ≡ held_as kind p.meta q.payload → p.tail ≡ tail_in kind q.marker q.payload
   tail_is k q p push is = ap (λ (h : Held). h.tail) is ∙ ap (λ (m : RtpMeta). tail_in kind m.header.marker q.payload) push.2
 
   row_exact : (k f last : ℕ) (time : Time) (back rest : List Packet) (ps : List Held) → EndsWithTail kind back → IsRun f last time ps → RowOf k (back ++ rest) ps → Exact k back ps

@@ -7,6 +7,7 @@ pub use Rattle.codec_payload_video.specs.Vp8
 pub mod Buffer
 pub mod BufferExamples
 pub mod Depack
+pub mod Exact
 pub mod Frames
 pub mod Headline
 pub mod Held

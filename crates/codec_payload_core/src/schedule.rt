@@ -2,6 +2,7 @@
 
 ghost use Rattle.std.specs.Prelude.{◌≡◌, ◌≢◌, ◌++◌, List, map, IfOk, IfErr, OnOk, OnErr, Option, Result};
 ghost use Rattle.codec_payload_base.specs.declared.error.PacketError.TheVariants.{OutOfMemory};
+ghost use Rattle.codec_payload_core.specs.Exact.{ReleasesUnits};
 ghost use Rattle.codec_payload_core.specs.Headline.{IsUnused, ReleasesInOrder};
 ghost use Rattle.codec_payload_core.specs.Packets.{packet_of};
 ghost use Rattle.codec_payload_core.specs.Release.{Release};
@@ -69,6 +70,9 @@ pub fn run_schedule(
     // Whatever is lost, repeated and reordered: the canonical units of the samples, in order, each at most once and whole.
     ensures safe { IfOk result (λ run. IsUnused (run_state payloader.old buffer.old sink.old)
         → ReleasesInOrder (map sample_of samples.now) steps.now (run_state payloader.old buffer.old sink.old) run.pops.items (run_state payloader.new buffer.new sink.new)) }
+    // And where the buffer has room for all packets that were sent, and each was pushed before the first pop: all those units, whole.
+    ensures exact { IfOk result (λ run. IsUnused (run_state payloader.old buffer.old sink.old)
+        → ReleasesUnits (map sample_of samples.now) steps.now (run_state payloader.old buffer.old sink.old) run.sends.items run.pops.items (run_state payloader.new buffer.new sink.new)) }
     ensures fault { IfErr result (λ fault. fault ≡ OutOfMemory) }
     ensures stops { OnErr result (Stops (map sample_of samples.now) 0 steps.now (run_state payloader.old buffer.old sink.old)
         (run_state payloader.new buffer.new sink.new)) }

@@ -1,5 +1,6 @@
 use Rattle.std.proofs.Common.{rules, ◌≤◌, [], map, length, refl}
 use Rattle.std.proofs.lemmas.List.{append-nil, drop_all}
+use Rattle.codec_payload_core.proofs.AllPushedLemmas.{exact}
 use Rattle.codec_payload_core.proofs.SafetyLemmas.{safe}
 use Rattle.codec_payload_core.specs.Schedule.{run_state}
 use Rattle.codec_payload_core.specs.Sending.{sample_of}
@@ -13,3 +14,6 @@ returns-clause-runs c =
 
 pub returns-clause-safe : goal.returns-clause-safe
 returns-clause-safe c = λ unused. safe (map sample_of c.args.samples.now) c.args.steps.now _ _ _ _ (returns-clause-runs c) unused
+
+pub returns-clause-exact : goal.returns-clause-exact
+returns-clause-exact c = λ unused. exact (map sample_of c.args.samples.now) c.args.steps.now _ _ _ _ (returns-clause-runs c) unused

@@ -1,0 +1,43 @@
+-- Where everything was pushed before the first pop, a buffer releases exactly the units of a run.
+use Rattle.std.specs.Prelude.{◌≡◌, ◌≢◌, ℕ, ◌+◌, ◌<◌, ◌≤◌, List, [], ◌∷◌, Some, None, Ok, Contains, length, slice_get}
+use Rattle.codec_payload_base.specs.Pieces.{joined}
+use Rattle.codec_payload_core.specs.Headline.{ArePushesOf, ReleasesInOrder}
+use Rattle.codec_payload_core.specs.Release.{Release}
+use Rattle.codec_payload_core.specs.Schedule.{Answer, RunState}
+use Rattle.codec_payload_core.specs.Sending.{Sample}
+use Rattle.codec_payload_core.specs.SentStream.{SentUnit}
+use Rattle.codec_payload_core.specs.declared.schedule.Sent.{Sent}
+use Rattle.codec_payload_core.specs.declared.schedule.Step.{Step}
+use Rattle.codec_payload_core.specs.declared.schedule.Step.TheVariants as steps
+
+-- a step before the first pop pushes the packet of index k, which the sink holds since an entry from before that step
+pub record IsPushedFirst (all_steps : List Step) (sends : List Sent) (k : ℕ) : Type 0 where
+  pub place : ℕ
+  pub pushes : slice_get all_steps place ≡ Some (steps.Push k)
+  pub before_pops : (other : ℕ) → other < place → slice_get all_steps other ≢ Some steps.Pop
+  pub entry : Sent
+  pub noted : Contains sends entry
+  pub sent_before : entry.step < place
+  pub reaches : k < entry.first + entry.count
+
+-- the buffer has room for all packets of the run, and each is pushed before the first pop
+pub record IsAllPushed (all_steps : List Step) (sends : List Sent) (s t : RunState) : Type 0 where
+  pub few : length t.sink.packets ≤ s.buffer.limit
+  pub pushed : (k : ℕ) → k < length t.sink.packets → IsPushedFirst all_steps sends k
+
+-- the release is this unit with nothing missing; its packets have the indices from k on
+pub record IsWhole (all_steps : List Step) (clock_rate k : ℕ) (u : SentUnit) (r : Release) : Type 0 where
+  pub bytes : r.bytes ≡ joined u.parts
+  pub metas : ArePushesOf all_steps clock_rate k u.packets r.metas
+
+-- the pops answer each of these units in turn, whole, and then None for ever; the packets have the indices from k on
+abbrev pub AnswersAll : List Step → ℕ → ℕ → List SentUnit → List Answer → Type 0
+AnswersAll all_steps clock_rate k units [] = Unit {0}
+AnswersAll all_steps clock_rate k [] (answer ∷ answers) = (answer ≡ None) × AnswersAll all_steps clock_rate k [] answers
+AnswersAll all_steps clock_rate k (u ∷ us) (answer ∷ answers) =
+    (r : Release) × (answer ≡ Some (Ok r)) × IsWhole all_steps clock_rate k u r × AnswersAll all_steps clock_rate (k + length u.packets) us answers
+
+-- the units are released in order, each at most once; and where all packets are pushed first, exactly all of them
+pub record ReleasesUnits (samples : List Sample) (all_steps : List Step) (s : RunState) (sends : List Sent) (pops : List Answer) (t : RunState) : Type 0 where
+  pub in_order : ReleasesInOrder samples all_steps s pops t
+  pub exactly : IsAllPushed all_steps sends s t → AnswersAll all_steps s.payloading.clock_rate 0 in_order.units pops
