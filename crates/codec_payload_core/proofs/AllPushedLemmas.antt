@@ -267,3 +267,21 @@ exact samples all_steps s t sends pops run unused =
           (record { beyond = beyond; no_cutoff = unused.no_cutoff; room = omega (arith, pushed.few, many); depack = refl; contiguity = refl })
           (λ k l. inr (pushed_first all_steps sends (length s.sink.packets) k (pushed.pushed k (omega (arith, l, many))))));
     }
+
+-- The premises can be met: two packets are sent, and pushed the other way round, one of them again between two pops.
+abbrev example_steps : List Step
+example_steps = steps.Send 0 1 ∷ steps.Push 1 ∷ steps.Push 0 ∷ steps.Pop ∷ steps.Push 1 ∷ steps.Pop ∷ []
+
+abbrev example_entry : Sent
+example_entry = record { step = 0; first = 0; count = 2; fault = None }
+
+no_pop_before : (other : ℕ) → other < 3 → slice_get example_steps other ≢ Some steps.Pop
+no_pop_before zero l e = cc
+no_pop_before (suc zero) l e = cc
+no_pop_before (suc (suc zero)) l e = cc
+no_pop_before (suc (suc (suc n))) l e = omega (arith, l)
+
+all_pushed_first : (k : ℕ) → k < 2 → IsPushedFirst example_steps (example_entry ∷ []) k
+all_pushed_first zero l = record { place = 2; pushes = refl; before_pops = λ other m. no_pop_before other (omega (arith, m)); entry = example_entry; noted = (0, omega arith, refl); sent_before = omega arith; reaches = omega arith }
+all_pushed_first (suc zero) l = record { place = 1; pushes = refl; before_pops = λ other m. no_pop_before other (omega (arith, m)); entry = example_entry; noted = (0, omega arith, refl); sent_before = omega arith; reaches = omega arith }
+all_pushed_first (suc (suc k)) l = absurd (omega (arith, l))

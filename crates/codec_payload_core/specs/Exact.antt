@@ -10,7 +10,8 @@ use Rattle.codec_payload_core.specs.declared.schedule.Sent.{Sent}
 use Rattle.codec_payload_core.specs.declared.schedule.Step.{Step}
 use Rattle.codec_payload_core.specs.declared.schedule.Step.TheVariants as steps
 
--- a step before the first pop pushes the packet of index k, which the sink holds since an entry from before that step
+-- a step before the first pop pushes the packet of index k, and the sink holds that packet by then: an earlier step
+-- sent it, whose entry tells so
 pub record IsPushedFirst (all_steps : List Step) (sends : List Sent) (k : ℕ) : Type 0 where
   pub place : ℕ
   pub pushes : slice_get all_steps place ≡ Some (steps.Push k)
@@ -20,24 +21,25 @@ pub record IsPushedFirst (all_steps : List Step) (sends : List Sent) (k : ℕ) :
   pub sent_before : entry.step < place
   pub reaches : k < entry.first + entry.count
 
--- the buffer has room for all packets of the run, and each is pushed before the first pop
+-- the buffer has room for all packets that the run sends, and each of them is pushed before the first pop
 pub record IsAllPushed (all_steps : List Step) (sends : List Sent) (s t : RunState) : Type 0 where
   pub few : length t.sink.packets ≤ s.buffer.limit
   pub pushed : (k : ℕ) → k < length t.sink.packets → IsPushedFirst all_steps sends k
 
--- the release is this unit with nothing missing; its packets have the indices from k on
+-- the release is this unit with nothing missing: the bytes of all its parts, and what is known of one push each of
+-- exactly its packets, whose indices go from k on
 pub record IsWhole (all_steps : List Step) (clock_rate k : ℕ) (u : SentUnit) (r : Release) : Type 0 where
   pub bytes : r.bytes ≡ joined u.parts
   pub metas : ArePushesOf all_steps clock_rate k u.packets r.metas
 
--- the pops answer each of these units in turn, whole, and then None for ever; the packets have the indices from k on
+-- the pops answer each of these units in turn, whole, and then None for ever; their packets have the indices from k on
 abbrev pub AnswersAll : List Step → ℕ → ℕ → List SentUnit → List Answer → Type 0
 AnswersAll all_steps clock_rate k units [] = Unit {0}
 AnswersAll all_steps clock_rate k [] (answer ∷ answers) = (answer ≡ None) × AnswersAll all_steps clock_rate k [] answers
 AnswersAll all_steps clock_rate k (u ∷ us) (answer ∷ answers) =
     (r : Release) × (answer ≡ Some (Ok r)) × IsWhole all_steps clock_rate k u r × AnswersAll all_steps clock_rate (k + length u.packets) us answers
 
--- the units are released in order, each at most once; and where all packets are pushed first, exactly all of them
+-- units are released in order, each at most once; and where all packets are pushed first, exactly all of them
 pub record ReleasesUnits (samples : List Sample) (all_steps : List Step) (s : RunState) (sends : List Sent) (pops : List Answer) (t : RunState) : Type 0 where
   pub in_order : ReleasesInOrder samples all_steps s pops t
   pub exactly : IsAllPushed all_steps sends s t → AnswersAll all_steps s.payloading.clock_rate 0 in_order.units pops

@@ -70,7 +70,7 @@ pub fn run_schedule(
     // Whatever is lost, repeated and reordered: the canonical units of the samples, in order, each at most once and whole.
     ensures safe { IfOk result (λ run. IsUnused (run_state payloader.old buffer.old sink.old)
         → ReleasesInOrder (map sample_of samples.now) steps.now (run_state payloader.old buffer.old sink.old) run.pops.items (run_state payloader.new buffer.new sink.new)) }
-    // And where the buffer has room for all packets that were sent, and each was pushed before the first pop: all those units, whole.
+    // The same units; and where the buffer has room for all packets and each was pushed before the first pop, all of them.
     ensures exact { IfOk result (λ run. IsUnused (run_state payloader.old buffer.old sink.old)
         → ReleasesUnits (map sample_of samples.now) steps.now (run_state payloader.old buffer.old sink.old) run.sends.items run.pops.items (run_state payloader.new buffer.new sink.new)) }
     ensures fault { IfErr result (λ fault. fault ≡ OutOfMemory) }
