@@ -1,14 +1,14 @@
 -- A VP8 frame is one lawful unit: all of its packets, from the one with the S bit to the one with the marker.
-use Rattle.std.proofs.Common.{◌≡◌, ◌≢◌, ◌∙◌, sym, ap, refl, subst, ℕ, zero, suc, ◌+◌, ◌-◌, ◌<◌, ◌≤◌, ◌%◌, ◌^◌, ◌||◌, inl, List, [], ◌∷◌, ◌++◌, length, map, arith, append_assoc, Bool, true, false, Result, Ok, Err, cond, leb}
+use Rattle.std.proofs.Common.{◌≡◌, ◌∙◌, sym, ap, refl, subst, ℕ, ◌+◌, ◌<◌, ◌%◌, ◌^◌, inl, List, [], ◌∷◌, ◌++◌, length, arith, append_assoc, Bool, true, false, Result, Ok, Err}
 use Rattle.std.specs.Prelude.{MatchResult}
 use Rattle.std.proofs.lemmas.List.{append-nil}
-use Rattle.codec_payload_base.specs.Pieces.{joined, AreOfSize, ArePieces}
+use Rattle.codec_payload_base.specs.Pieces.{joined, AreOfSize}
 use Rattle.codec_payload_base.specs.declared.error.PacketError.{PacketError}
 use Rattle.codec_payload_base.specs.declared.error.PacketError.TheVariants as faults
 use Rattle.codec_payload_base.specs.declared.interface.CodecExtra.{CodecExtra}
 use Rattle.codec_payload_video.specs.Vp8.{descriptor, described, Vp8Step, Vp8Rest}
 use Rattle.codec_payload_video.specs.declared.vp8.Vp8Depacketizer.{Vp8Depacketizer}
-use Rattle.codec_payload_core.specs.Depack.{Depack, G711Depack, OpusDepack, NullDepack, Vp8Depack, DepackKind, Vp8Payloads, kind_of_depack, DepackStep}
+use Rattle.codec_payload_core.specs.Depack.{Depack, G711Depack, OpusDepack, NullDepack, Vp8Depack, Vp8Payloads, kind_of_depack, DepackStep}
 use Rattle.codec_payload_core.specs.Held.{Held}
 use Rattle.codec_payload_core.specs.Pack.{Vp8Pack}
 use Rattle.codec_payload_core.specs.Packets.{Packet}

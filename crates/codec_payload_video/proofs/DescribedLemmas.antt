@@ -1,5 +1,5 @@
 -- Pieces behind their descriptors.
-use Rattle.std.proofs.Common.{◌≡◌, ◌∙◌, sym, ap, refl, subst, ℕ, zero, suc, ◌<◌, ◌-◌, min, map, Result, Ok, Err, List, [], ◌∷◌, ◌++◌, length, take, drop, Bool, true, false, arith, append_assoc}
+use Rattle.std.proofs.Common.{◌≡◌, ◌∙◌, sym, ap, refl, subst, ℕ, suc, ◌<◌, ◌-◌, map, Result, Ok, Err, List, [], ◌∷◌, ◌++◌, length, take, drop, Bool, true, false, arith, append_assoc}
 use Rattle.std.proofs.lemmas.List.{append-nil}
 use Rattle.std.specs.Prelude.{IfOk, IfErr}
 use Rattle.std.specs.Global.{Vec}

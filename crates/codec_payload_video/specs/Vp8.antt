@@ -1,13 +1,12 @@
 -- VP8 payloads (RFC 7741, section 4.2) without picture ids: a descriptor of one byte, X R N S R PID(3), and a piece of the
 -- frame.
-use Rattle.std.specs.Prelude.{◌≡◌, ◌≢◌, ℕ, ◌+◌, ◌-◌, ◌<◌, ◌≤◌, ◌/◌, ◌%◌, ◌&&◌, ◌||◌, not, Bool, true, false, List, [], ◌∷◌, ◌++◌, ◌==◌, if◌then◌else◌, Option, Some, None, Result, Ok, Err, length, slice_index, ⊤, refl}
+use Rattle.std.specs.Prelude.{◌≡◌, ◌≢◌, ℕ, ◌+◌, ◌-◌, ◌<◌, ◌≤◌, ◌/◌, ◌%◌, ◌&&◌, ◌||◌, Bool, true, false, List, [], ◌∷◌, ◌++◌, ◌==◌, if◌then◌else◌, Option, Some, None, Result, Ok, Err, length, ⊤, refl}
 use Rattle.std.specs.Int.{div_ceil}
-use Rattle.codec_payload_base.specs.Pieces.{ArePieces, pieces_of}
+use Rattle.codec_payload_base.specs.Pieces.{ArePieces}
 use Rattle.codec_payload_base.specs.declared.error.PacketError.{PacketError}
 use Rattle.codec_payload_base.specs.declared.error.PacketError.TheVariants as faults
 use Rattle.codec_payload_base.specs.declared.interface.CodecExtra.{CodecExtra}
 use Rattle.codec_payload_base.specs.declared.interface.CodecExtra.TheVariants as extras
-use Rattle.codec_payload_base.specs.declared.interface.Vp8CodecExtra.{Vp8CodecExtra}
 use Rattle.codec_payload_video.specs.declared.vp8.Vp8Depacketizer.{Vp8Depacketizer}
 
 -- the descriptor: S on the first piece of a frame, nothing on the others

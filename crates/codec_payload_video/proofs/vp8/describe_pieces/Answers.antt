@@ -1,4 +1,4 @@
-use Rattle.std.proofs.Common.{rules, arith, ℕ, ◌≡◌, ◌<◌, ◌∷◌, ◌++◌, [], length, map, take, drop, ap, ◌∙◌}
+use Rattle.std.proofs.Common.{rules, ℕ, ◌≡◌, ◌<◌, ◌∷◌, [], length, map, take, drop, ap, ◌∙◌}
 use Rattle.std.proofs.lemmas.List.{nil_from_length, map-append, take_min, drop_min}
 use Rattle.codec_payload_video.proofs.DescribedLemmas.{one_described, all_described}
 use Rattle.codec_payload_video.specs.Vp8.{descriptor}

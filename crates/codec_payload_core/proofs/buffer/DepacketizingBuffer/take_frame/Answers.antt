@@ -1,4 +1,4 @@
-use Rattle.std.proofs.Common.{inl, inr, ◌≡◌, refl, sym, ◌∙◌, ap, map, arith, Some, Ok, Err}
+use Rattle.std.proofs.Common.{inl, ◌≡◌, refl, sym, ◌∙◌, ap, map, arith, Some, Ok, Err}
 use Rattle.std.specs.Prelude.{slice_range}
 use Rattle.std.proofs.lemmas.Result.{err_from_is_err_and}
 use Rattle.codec_payload_core.specs.Buffer.{state_of}

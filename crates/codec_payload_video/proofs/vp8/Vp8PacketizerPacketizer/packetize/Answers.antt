@@ -1,4 +1,4 @@
-use Rattle.std.proofs.Common.{rules, arith, refl, Ok, Err}
+use Rattle.std.proofs.Common.{rules, refl}
 use Rattle.codec_payload_video.proofs.DescribedLemmas.{answer_of}
 use Rattle.codec_payload_video.proofs.vp8.Vp8PacketizerPacketizer.packetize.Goals as goal
 
