@@ -12,9 +12,9 @@ use Rattle.codec_payload_core.proofs.StreamLemmas.{streams}
 use Rattle.codec_payload_core.proofs.UnitRows.{held_as, slice_append, drop_next}
 use Rattle.codec_payload_core.proofs.UnitTimes.{AllOneTime}
 use Rattle.codec_payload_core.specs.Depack.{Depack, DepackKind}
-use Rattle.codec_payload_core.specs.Exact.{IsPushedFirst, IsAllPushed, AnswersAll, ReleasesUnits}
+use Rattle.codec_payload_core.specs.Exact.{IsPushedFirst, AnswersAll, ReleasesUnits}
 use Rattle.codec_payload_core.specs.Headline.{IsUnused}
-use Rattle.codec_payload_core.specs.Held.{Held, has_number}
+use Rattle.codec_payload_core.specs.Held.{has_number}
 use Rattle.codec_payload_core.specs.Packets.{Packet, AreNumbered}
 use Rattle.codec_payload_core.specs.Schedule.{Answer, RunState, Runs, DoesStep, SendsIt, after_push, meta_of_push, packets_sent, payloads_of}
 use Rattle.codec_payload_core.specs.Sending.{Sample, rtp_time_at}

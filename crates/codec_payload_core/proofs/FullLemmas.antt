@@ -1,5 +1,5 @@
 -- Where every packet is held, each pop releases the next unit.
-use Rattle.std.proofs.Common.{◌≡◌, ◌∙◌, refl, ap, ℕ, suc, subst, List, [], Option, Some, None, Result, Ok, Err, true, ◌++◌, ◌+◌, ◌-◌, ◌∷◌, ◌<◌, inl, inr, arith, length}
+use Rattle.std.proofs.Common.{◌≡◌, ◌∙◌, refl, ap, ℕ, suc, subst, List, [], Option, Some, None, Ok, Err, true, ◌++◌, ◌+◌, ◌-◌, ◌∷◌, ◌<◌, inl, inr, arith, length}
 use Rattle.std.proofs.lemmas.Bool.Decides.{nat_tests}
 use Rattle.codec_payload_base.specs.Time.{Time}
 use Rattle.codec_payload_base.specs.declared.error.PacketError.{PacketError}
