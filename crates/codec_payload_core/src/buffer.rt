@@ -122,8 +122,10 @@ impl DepacketizingBuffer {
     /// The next unit, where its turn has come: there is no cutoff, or it starts right after the cutoff, or more complete
     /// frames are held than `hold_back`. Else `None`, which takes no memory.
     ///
-    /// A fault other than want of memory is the depacketizer's, and its frame has left. On want of memory nothing has
-    /// changed but what the depacketizer holds. Looks at the held packets once.
+    /// A fault other than want of memory is the depacketizer's, and its frame has left; the next unit can be contiguous all
+    /// the same, since its numbers follow. On want of memory nothing has changed but what the depacketizer holds.
+    ///
+    /// Looks at the held packets once.
     pub fn pop(&mut self) -> Option<Result<Depacketized, PacketError>>
         ensures pops { Pops self.old result self.new }
         ensures waits { due_of self.old ≡ Option.None → result ≡ Option.None }
