@@ -7,7 +7,9 @@ ghost use Rattle.codec_payload_core.specs.Pack.{pack_of, pack_for, PackStep, mar
 ghost use Rattle.codec_payload_core.specs.Depack.{depack_of, depack_for, kind_of_depack, DepackStep, head_of, tail_of, hint_of};
 
 use codec_payload_base::error::PacketError;
-pub use codec_payload_base::interface::{CodecExtra, Depacketizer, Packetizer, Vp9PacketizerMode};
+pub use codec_payload_base::interface::{
+    CodecExtra, Depacketizer, Packetizer, Vp8CodecExtra, Vp9PacketizerMode,
+};
 use codec_payload_base::plain::{
     G711Depacketizer, G711Packetizer, G722Packetizer, NullDepacketizer, NullPacketizer,
     OpusDepacketizer, OpusPacketizer,
