@@ -17,6 +17,10 @@ pub enum CodecExtra {
     None,
     /// What VP8 told.
     Vp8(Vp8CodecExtra),
+    /// What AV1 told.
+    Av1(Av1CodecExtra),
+    /// The telephone event that was reported.
+    Tele(TelephoneEvent),
 }
 
 /// What the payloads of a VP8 frame told besides its bytes (RFC 7741, section 4.2).
@@ -34,6 +38,26 @@ pub struct Vp8CodecExtra {
     pub tl0_picture_id: Option<u64>,
     /// Whether the frame can be decoded without any other.
     pub is_keyframe: bool,
+}
+
+/// What the payloads of an AV1 temporal unit told besides its bytes.
+#[derive(Clone, Copy, Debug, Default, PartialEq, Eq)]
+pub struct Av1CodecExtra {
+    /// Whether a new coded video sequence starts here: the N bit of an aggregation header was set.
+    pub is_keyframe: bool,
+}
+
+/// A report on a telephone event (RFC 4733, section 2.3).
+#[derive(Clone, Copy, Debug, PartialEq, Eq)]
+pub struct TelephoneEvent {
+    /// The code of the event, as 0 to 9 for the digits of a keypad.
+    pub event: u8,
+    /// Whether the event has ended.
+    pub end: bool,
+    /// The power of the tone in dBm0, without its sign; 0 to 63.
+    pub volume: u8,
+    /// How long the event has lasted so far, in nanoseconds.
+    pub duration: u64,
 }
 
 /// How VP9 frames refer to one another (RFC 9628, section 3).
