@@ -1,1 +1,14 @@
+pub mod AmrWbCopyLemmas
+pub mod AmrWbEntryLemmas
+pub mod AmrWbFrameLemmas
+pub mod AmrWbFramesLemmas
+pub mod AmrWbPayloadLemmas
+pub mod AmrWbReadLemmas
+pub mod AmrWbReceivedLemmas
+pub mod AmrWbRoundTripLemmas
+pub mod BitLemmas
+pub mod ByteTables
+pub mod BytesLemmas
+pub mod Leb128Lemmas
 pub mod PieceLemmas
+pub mod TelephoneLemmas

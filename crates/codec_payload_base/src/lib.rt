@@ -1,9 +1,13 @@
-//! Numbers, times, headers and faults of RTP payloads, the interfaces of packetizers and depacketizers, and the plain codecs.
+//! Numbers, times, headers and faults of RTP payloads, the interfaces of packetizers and depacketizers, a reader of bits,
+//! and the audio codecs.
 #![tactic(auto)]
 
+pub mod amr_wb;
+pub mod bits;
 pub mod error;
 pub mod interface;
 pub mod plain;
+pub mod tele;
 #[cfg(test)]
 mod tests;
 pub mod wire;

@@ -1,14 +1,16 @@
-//! The codecs whose payloads carry themselves: Opus, G.711 and G.722, and Null.
+//! The codecs whose payloads carry themselves: Opus, G.711 and G.722, comfort noise, and Null.
 
 ghost use Rattle.codec_payload_base.specs.Answers.{packets_of};
-ghost use Rattle.codec_payload_base.specs.Payloads.{Appends};
+ghost use Rattle.codec_payload_base.specs.Payloads.{AnswersWhole, Appends};
 ghost use Rattle.codec_payload_base.specs.Pieces.{AnswersPieces, IsOneList};
 
+mod comfort_noise;
 mod g7xx;
 mod null;
 mod opus;
 
 use crate::error::PacketError;
+pub use comfort_noise::{ComfortNoiseDepacketizer, ComfortNoisePacketizer};
 pub use g7xx::{G7xxPacketizer, G711Depacketizer, G711Packetizer, G722Packetizer};
 pub use null::{NullDepacketizer, NullPacketizer};
 pub use opus::{OpusDepacketizer, OpusPacketizer};
@@ -42,4 +44,23 @@ fn append_payload(payload: &[u8], out: &mut Vec<u8>) -> Result<(), PacketError>
 {
     out.extend_from_slice(payload)?;
     Ok(())
+}
+
+/// A frame that goes into one packet, or is refused where it is longer than `mtu` bytes. Each byte is copied once.
+pub(crate) fn send_whole(
+    alloc: Global,
+    mtu: usize,
+    frame: &[u8],
+) -> Result<Vec<Vec<u8>>, PacketError>
+    ensures { AnswersWhole mtu frame.now (packets_of result) }
+{
+    if frame.is_empty() {
+        return Ok(Vec::new(alloc));
+    }
+    if frame.len() > mtu {
+        return Err(PacketError::ErrPayloadTooLarge);
+    }
+    let mut packets = Vec::with_capacity(alloc, 1)?;
+    packets.push(Vec::from_slice(alloc, frame)?)?;
+    Ok(packets)
 }

@@ -1,0 +1,85 @@
+-- Bytes as bits, the highest first, and readers of them.
+use Rattle.std.specs.Prelude.{◌≡◌, ℕ, zero, suc, ◌+◌, ◌*◌, ◌/◌, ◌%◌, ◌^◌, ◌<◌, ◌≤◌, ◌⊎◌, ⊤, List, [], ◌∷◌, ◌++◌, length, take, drop, Option, Some, None}
+
+-- v in n bits, the highest first
+unfoldable pub bits : ℕ → ℕ → List ℕ
+bits zero v = []
+bits (suc n) v = v / 2 ^ n % 2 ∷ bits n v
+
+-- a byte string as the list of its bits
+abbrev pub bits_of : List ℕ → List ℕ
+bits_of [] = []
+bits_of (b ∷ bs) = bits 8 b ++ bits_of bs
+
+-- a byte string and a place among its bits
+pub record Reader : Type 0 where
+  pub bytes : List ℕ
+  pub place : ℕ
+
+-- what remains: the bits from the place on
+abbrev pub left : Reader → List ℕ
+left r = drop r.place (bits_of r.bytes)
+
+-- the bytes from that byte on in which the place stands
+abbrev pub here : Reader → List ℕ
+here r = drop (r.place / 8) r.bytes
+
+abbrev pub moved : Reader → ℕ → Reader
+moved r n = record r { place = r.place + n }
+
+abbrev pub at_end : Reader → Reader
+at_end r = record r { place = 8 * length r.bytes }
+
+-- What is read are the first n remaining bits. Nothing, and the same place, where fewer remain.
+abbrev pub ReadsBits : ℕ → Reader → Reader → Option ℕ → Type 0
+ReadsBits n old new None = (length (left old) < n) × (new ≡ old)
+ReadsBits n old new (Some v) = (v < 2 ^ n) × (left old ≡ bits n v ++ left new) × (new ≡ moved old n)
+
+-- The n whole bytes from that byte on in which the place stands, and the place n bytes on. Nothing, and the same place, where fewer bits remain.
+abbrev pub LendsBytes : ℕ → Reader → Reader → Option (List ℕ) → Type 0
+LendsBytes n old new None = (length (left old) < 8 * n) × (new ≡ old)
+LendsBytes n old new (Some bs) = (8 * n ≤ length (left old)) × (bs ≡ take n (here old)) × (new ≡ moved old (8 * n))
+
+-- The place n bytes on, or the same place where fewer bits remain.
+abbrev pub Skips : ℕ → Reader → Reader → Type 0
+Skips n old new = (8 * n ≤ length (left old) → new ≡ moved old (8 * n)) × (length (left old) < 8 * n → new ≡ old)
+
+-- bytes from 0x80 on, after each of which a LEB128 text goes on
+abbrev pub AllGoOn : List ℕ → Type 0
+AllGoOn [] = ⊤
+AllGoOn (b ∷ bs) = (128 ≤ b) × (b < 256) × AllGoOn bs
+
+-- the sum of each byte's low 7 bits times 128 to the power of its place
+abbrev pub leb128_value : List ℕ → ℕ
+leb128_value [] = 0
+leb128_value (b ∷ bs) = b % 128 + 128 * leb128_value bs
+
+-- at most ten bytes, all but the last from 0x80 on, the last below it
+pub record IsLeb128 (text : List ℕ) (value : ℕ) : Type 0 where
+  pub front : List ℕ
+  pub last : ℕ
+  pub is : text ≡ front ++ last ∷ []
+  pub go_on : AllGoOn front
+  pub ends : last < 128
+  pub short : length text ≤ 10
+  pub sum : value ≡ leb128_value text % 2 ^ 64
+
+-- The reader has gone over the bytes.
+pub record Passes (text : List ℕ) (old new : Reader) : Type 0 where
+  pub front : left old ≡ bits_of text ++ left new
+  pub place : new ≡ moved old (8 * length text)
+
+-- What is read is the value of a text. Nothing where ten bytes go on, or fewer that go on and then no whole byte; they are passed too.
+abbrev pub ReadsLeb128 : Reader → Reader → Option ℕ → Type 0
+ReadsLeb128 old new None = (text : List ℕ) × AllGoOn text × Passes text old new × ((length text ≡ 10) ⊎ ((length text < 10) × (length (left new) < 8)))
+ReadsLeb128 old new (Some v) = (text : List ℕ) × IsLeb128 text v × Passes text old new
+
+-- the number that bits spell, the highest first
+abbrev pub number_of : List ℕ → ℕ
+number_of [] = 0
+number_of (b ∷ bs) = b * 2 ^ length bs + number_of bs
+
+-- a list of bits as bytes; what is left over of a last byte is not counted
+unfoldable pub bytes_of : List ℕ → List ℕ
+bytes_of (a ∷ b ∷ c ∷ d ∷ e ∷ f ∷ g ∷ h ∷ rest) = number_of (a ∷ b ∷ c ∷ d ∷ e ∷ f ∷ g ∷ h ∷ []) ∷ bytes_of rest
+bytes_of bs = []

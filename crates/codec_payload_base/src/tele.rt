@@ -1,0 +1,244 @@
+//! Telephone events (RFC 4733).
+
+ghost use Rattle.std.specs.Prelude.{◌≡◌, ◌+◌, ◌*◌, ◌/◌, ◌%◌, ◌<◌, ◌≤◌, SomeIff, IfSome, IsNone, ◌↔◌, length, min, [], ◌∷◌, Some, true, false, ⊤};
+ghost use Rattle.codec_payload_base.specs.Payloads.{AnswersWhole};
+ghost use Rattle.codec_payload_base.specs.TelephoneReport.{nanoseconds_of, units_of, report_of, bytes_of_report, reports_of, are_reports, first_report as first_report_of, without_reserved, TeleStep};
+
+use crate::error::PacketError;
+pub use crate::interface::TelephoneEvent;
+use crate::interface::{CodecExtra, Depacketizer, Packetizer};
+use crate::plain::send_whole;
+use crate::wire::Frequency;
+use std::alloc::Global;
+use std::marker::Model;
+
+/// The length of a report in bytes (RFC 4733, section 2.3).
+const REPORT_SIZE: usize = 4;
+
+/// The duration of so many units of a clock of that rate, in nanoseconds, to the nearest.
+pub fn duration_from_units(units: u16, rate: Frequency) -> u64
+    ensures value { result ≡ nanoseconds_of units rate }
+    ensures rated { 0 < rate }
+{
+    let rate = u64::from(rate.get());
+    (u64::from(units) * 1_000_000_000 + rate / 2) / rate
+}
+
+/// The units of a clock that so many nanoseconds are, to the nearest, where they fit sixteen bits.
+fn units_from_duration(nanoseconds: u64, rate: Frequency) -> Option<u16>
+    ensures { SomeIff result (units_of nanoseconds rate < 65536) (units_of nanoseconds rate) }
+{
+    let scaled = u128::from(nanoseconds) * u128::from(rate.get());
+    u16::try_from((scaled + 500_000_000) / 1_000_000_000).ok()
+}
+
+impl TelephoneEvent {
+    /// The report of the first four bytes, or `None` where there are fewer. What follows them is not looked at. The
+    /// reserved bit may have any value.
+    ///
+    /// Written again at the same rate, a report gives its bytes back, the reserved bit clear, where the rate is below
+    /// 1,000,000,000 Hz.
+    pub fn parse(buf: &[u8], rate: Frequency) -> Option<Self>
+        ensures value { result ≡ report_of buf.now rate }
+        ensures written { rate < 1000000000 → IfSome result (λ e. bytes_of_report e rate ≡ Some (without_reserved buf.now)) }
+    {
+        let [event, flags, high, low, ..] = *buf else {
+            return None;
+        };
+        Some(TelephoneEvent {
+            event,
+            end: flags & 0x80 != 0,
+            volume: flags & 0x3f,
+            duration: duration_from_units(u16::from_be_bytes([high, low]), rate),
+        })
+    }
+
+    /// The reports of a payload, in order, or `None` unless it is one or more whole reports and nothing else. A sender
+    /// may put several into one packet (RFC 4733, section 2.5.1.5); a depacketizer gives the first alone, so read them
+    /// here where the others matter.
+    pub fn parse_all<'a>(buf: &'a [u8], rate: Frequency) -> Option<TelephoneEvents<'a>>
+        ensures none { IsNone result ↔ (are_reports buf.now ≡ false) }
+        ensures all { IfSome result (λ events. events ≡ reports_of buf.now rate) }
+    {
+        if buf.is_empty() || buf.len() % REPORT_SIZE != 0 {
+            return None;
+        }
+        Some(TelephoneEvents { bytes: buf, rate })
+    }
+
+    /// The four bytes of the report, or `None` where its duration is more than 65,535 units of the clock. The reserved
+    /// bit is clear, and of the volume the low six bits are written.
+    pub fn to_bytes(&self, rate: Frequency) -> Option<[u8; 4]>
+        ensures { result ≡ bytes_of_report self.now rate }
+    {
+        let [high, low] = units_from_duration(self.duration, rate)?.to_be_bytes();
+        let end = if self.end { 0x80 } else { 0 };
+        Some([self.event, end | (self.volume & 0x3f), high, low])
+    }
+}
+
+/// The first report of a payload that is one or more whole reports.
+fn first_report(payload: &[u8], rate: Frequency) -> Option<TelephoneEvent>
+    ensures { result ≡ first_report_of payload.now rate }
+{
+    if payload.len() % REPORT_SIZE != 0 {
+        return None;
+    }
+    TelephoneEvent::parse(payload, rate)
+}
+
+/// The reports of a payload, in order. No step takes memory.
+#[derive(Debug, Drop)]
+pub struct TelephoneEvents<'a> {
+    bytes: &'a [u8],
+    rate: Frequency,
+}
+
+impl<'a> Model for TelephoneEvents<'a> {
+    ghost use Rattle.std.specs.Prelude.{List};
+    ghost use Rattle.codec_payload_base.specs.TelephoneReport.{reports_of};
+    ghost use Rattle.codec_payload_base.specs.declared.interface.TelephoneEvent.{TelephoneEvent as Event};
+
+    ghost Value = { List Event };
+
+    ghost view = { λ s. reports_of s.bytes.now s.rate };
+}
+
+impl<'a> Iterator for TelephoneEvents<'a> {
+    ghost use Rattle.std.specs.Iterator.{YieldsFirst, item_count};
+
+    type Item = TelephoneEvent;
+
+    ghost next_gives = { YieldsFirst (λ events. events) };
+
+    ghost remaining = { item_count (λ events. events) };
+
+    fn next(&mut self) -> Option<TelephoneEvent> {
+        let event = TelephoneEvent::parse(self.bytes, self.rate)?;
+        self.bytes = &self.bytes[REPORT_SIZE..];
+        Some(event)
+    }
+}
+
+/// Sends the reports of a frame in one packet.
+#[derive(Debug, Drop)]
+pub struct TelephoneEventPacketizer {}
+
+impl Packetizer for TelephoneEventPacketizer {
+    ghost state = { λ _. [] };
+
+    ghost packetize_step = { λ _ mtu frame answer after. AnswersWhole mtu frame answer × (after ≡ []) };
+
+    ghost marker_step = { λ _ _ _ _ answer after. (answer ≡ false) × (after ≡ []) };
+
+    ghost may_mark = { λ _. ⊤ };
+
+    ghost may_do_without = { λ _. ⊤ };
+
+    /// The frame in one packet; its bytes are not looked at. An empty one gives no packets; one longer than `mtu` bytes
+    /// is refused with `ErrPayloadTooLarge`. Each byte is copied once.
+    fn packetize(
+        &mut self,
+        alloc: Global,
+        mtu: usize,
+        b: &[u8],
+    ) -> Result<Vec<Vec<u8>>, PacketError> {
+        send_whole(alloc, mtu, b)
+    }
+
+    fn is_marker(&mut self, _data: &[u8], _previous: Option<&[u8]>, _last: bool) -> bool {
+        false
+    }
+
+    /// The first packet of an event is marked (RFC 4733, section 2.5.1.3): its sample starts a talk spurt.
+    fn marks_talkspurt(&self) -> bool
+        ensures { result ≡ true }
+    {
+        true
+    }
+
+    fn nackable(&self) -> bool
+        ensures { result ≡ false }
+    {
+        false
+    }
+}
+
+/// Gives the first report of each payload; each payload is a unit.
+#[derive(Debug, Drop)]
+pub struct TelephoneEventDepacketizer {
+    rate: Frequency,
+}
+
+impl Model for TelephoneEventDepacketizer {
+    ghost use Rattle.std.specs.Prelude.{ℕ};
+
+    ghost Value = { ℕ };
+
+    ghost view = { λ d. d.rate };
+
+    ghost inverse = { λ rate. record { rate = rate } };
+}
+
+impl TelephoneEventDepacketizer {
+    /// A depacketizer of reports whose durations count units of a clock of that rate.
+    pub fn new(rate: Frequency) -> Self
+        ensures { result ≡ rate }
+    {
+        TelephoneEventDepacketizer { rate }
+    }
+}
+
+impl Default for TelephoneEventDepacketizer {
+    /// A depacketizer for the clock of 8 kHz.
+    fn default() -> Self
+        ensures { result ≡ 8000 }
+    {
+        TelephoneEventDepacketizer::new(Frequency::EIGHT_KHZ)
+    }
+}
+
+impl Depacketizer for TelephoneEventDepacketizer {
+    ghost state = { λ rate. rate ∷ [] };
+
+    ghost depacketize_step = { λ rate payload out extra answer after out' extra'. TeleStep rate payload out extra answer out' extra' × (after ≡ rate ∷ []) };
+
+    ghost size_hint = { λ _ size. Some (min size 4) };
+
+    ghost is_head = { λ _ _. true };
+
+    ghost is_tail = { λ _ _ _. true };
+
+    fn out_size_hint(&self, packets_size: usize) -> Option<usize> {
+        Some(packets_size.min(REPORT_SIZE))
+    }
+
+    /// Appends the four bytes of the first report as they are, and tells it in the extra. Further reports of the payload
+    /// are not given: [`TelephoneEvent::parse_all`] reads them. A payload that is not one or more whole reports is
+    /// refused with `InvalidTelephoneEvent`.
+    fn depacketize(
+        &mut self,
+        packet: &[u8],
+        out: &mut Vec<u8>,
+        codec_extra: &mut CodecExtra,
+    ) -> Result<(), PacketError>
+        ensures step { TeleStep self.old packet.now out.old.items codec_extra.old result out.new.items codec_extra.new × (self.new ∷ [] ≡ self.old ∷ []) }
+    {
+        let Some(report) = first_report(packet, self.rate) else {
+            return Err(PacketError::InvalidTelephoneEvent(
+                "payload must contain one or more complete 4-byte reports",
+            ));
+        };
+        out.extend_from_slice(&packet[..REPORT_SIZE])?;
+        *codec_extra = CodecExtra::Tele(report);
+        Ok(())
+    }
+
+    fn is_partition_head(&self, _packet: &[u8]) -> bool {
+        true
+    }
+
+    fn is_partition_tail(&self, _marker: bool, _packet: &[u8]) -> bool {
+        true
+    }
+}
