@@ -3,6 +3,8 @@
 #![tactic(auto)]
 
 pub mod amr_wb;
+#[cfg(test)]
+mod audio_tests;
 pub mod bits;
 pub mod error;
 pub mod interface;
