@@ -223,6 +223,7 @@ impl Depacketizer for TelephoneEventDepacketizer {
         codec_extra: &mut CodecExtra,
     ) -> Result<(), PacketError>
         ensures step { TeleStep self.old packet.now out.old.items codec_extra.old result out.new.items codec_extra.new × (self.new ∷ [] ≡ self.old ∷ []) }
+        ensures same { self.new ≡ self.old }
     {
         let Some(report) = first_report(packet, self.rate) else {
             return Err(PacketError::InvalidTelephoneEvent(

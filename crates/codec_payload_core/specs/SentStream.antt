@@ -10,7 +10,7 @@ use Rattle.codec_payload_core.specs.Pack.{Pack}
 use Rattle.codec_payload_core.specs.Packets.{Packet}
 use Rattle.codec_payload_core.specs.Sending.{Sample}
 use Rattle.codec_payload_core.specs.Steps.{Unpacked, Unpacks, nothing_unpacked}
-use Rattle.codec_payload_core.specs.Units.{canonical_units, pack_after}
+use Rattle.codec_payload_core.specs.Units.{canonical_units, is_readable, pack_after}
 use Rattle.codec_payload_core.specs.declared.schedule.Step.{Step}
 use Rattle.codec_payload_core.specs.declared.schedule.Step.TheVariants as steps
 
@@ -30,6 +30,11 @@ units_of_run pack samples (steps.Send i mtu ∷ later) =
     units_of_sample pack mtu (slice_get samples i) ++ units_of_run (pack_after_sample pack mtu (slice_get samples i)) samples later
 units_of_run pack samples (steps.Push k ∷ later) = units_of_run pack samples later
 units_of_run pack samples (steps.Pop ∷ later) = units_of_run pack samples later
+
+-- what is sent of these samples can be read again
+abbrev pub AreReadable : Pack → List Sample → Type 0
+AreReadable pack [] = Unit {0}
+AreReadable pack (sample ∷ samples) = (is_readable pack sample.bytes ≡ true) × AreReadable pack samples
 
 -- a unit that was sent, in its parts, with its packets
 pub record SentUnit : Type 0 where

@@ -1,12 +1,23 @@
 -- The units of a frame: what a receiver is to be given of it.
-use Rattle.std.specs.Prelude.{◌≡◌, ℕ, ◌||◌, Bool, true, false, List, [], ◌∷◌, Option, None, is_some, ◌==◌, nat_le, if◌then◌else◌, map, refl}
+use Rattle.std.specs.Prelude.{◌≡◌, ℕ, ◌||◌, Bool, true, false, List, [], ◌∷◌, Option, Some, None, option_map, is_some, ◌==◌, nat_le, nat_lt, if◌then◌else◌, length, map, take, refl}
+use Rattle.codec_payload_base.specs.AmrWb.{Frame, amr_wb_is_skipped, amr_wb_refusal, canonical as canonical_frame, stored}
+use Rattle.codec_payload_base.specs.Bits.{bytes_of}
+use Rattle.codec_payload_base.specs.Faults.{fault_number}
 use Rattle.codec_payload_base.specs.Pieces.{pieces_of}
-use Rattle.codec_payload_core.specs.Depack.{DepackKind, G711Payloads, OpusPayloads, NullPayloads, Vp8Payloads}
-use Rattle.codec_payload_core.specs.Pack.{Pack, G711Pack, G722Pack, OpusPack, NullPack, Vp8Pack}
+use Rattle.codec_payload_base.specs.TelephoneReport.{are_reports}
+use Rattle.codec_payload_video.specs.Av1Obu.{Obu, canonical, frame_kept}
+use Rattle.codec_payload_core.specs.Depack.{DepackKind, G711Payloads, OpusPayloads, NullPayloads, Vp8Payloads, ComfortNoisePayloads, TelePayloads, Av1Payloads, AmrWbPayloads}
+use Rattle.codec_payload_core.specs.Pack.{Pack, G711Pack, G722Pack, OpusPack, NullPack, Vp8Pack, ComfortNoisePack, TelePack, Av1Pack, AmrWbPack}
 
 abbrev pub is_empty : List ℕ → Bool
 is_empty [] = true
 is_empty (b ∷ bs) = false
+
+-- whether none of the OBUs of an AV1 frame is kept
+abbrev pub keeps_nothing : Option (List Obu) → Bool
+keeps_nothing None = false
+keeps_nothing (Some []) = true
+keeps_nothing (Some (o ∷ os)) = false
 
 -- whether a frame gives no packets, and no fault
 abbrev pub is_skipped : Pack → ℕ → List ℕ → Bool
@@ -15,6 +26,15 @@ is_skipped G722Pack mtu frame = is_empty frame || (mtu == 0)
 is_skipped OpusPack mtu frame = is_empty frame || (mtu == 0)
 is_skipped NullPack mtu frame = false
 is_skipped Vp8Pack mtu frame = is_empty frame || nat_le mtu 1
+is_skipped ComfortNoisePack mtu frame = is_empty frame
+is_skipped TelePack mtu frame = is_empty frame
+is_skipped Av1Pack mtu frame = is_empty frame || nat_le mtu 1 || keeps_nothing (frame_kept frame)
+is_skipped (AmrWbPack octet) mtu frame = amr_wb_is_skipped frame
+
+-- the fault of a frame that is no sequence of OBUs
+abbrev pub refusal_of_obus : Option (List Obu) → Option ℕ
+refusal_of_obus None = Some 13
+refusal_of_obus (Some os) = None
 
 -- the number of the fault with which a frame is refused, if it is; want of memory is no such fault
 abbrev pub refusal_of : Pack → ℕ → List ℕ → Option ℕ
@@ -23,10 +43,24 @@ refusal_of G722Pack mtu frame = None
 refusal_of OpusPack mtu frame = None
 refusal_of NullPack mtu frame = None
 refusal_of Vp8Pack mtu frame = None
+refusal_of ComfortNoisePack mtu frame = if nat_lt mtu (length frame) then Some 2 else None
+refusal_of TelePack mtu frame = if nat_lt mtu (length frame) then Some 2 else None
+refusal_of Av1Pack mtu frame = refusal_of_obus (frame_kept frame)
+refusal_of (AmrWbPack octet) mtu frame = option_map fault_number (amr_wb_refusal octet mtu frame)
 
 -- each of these byte strings is a unit of one part
 abbrev pub each_whole : List (List ℕ) → List (List (List ℕ))
 each_whole = map (λ bytes. bytes ∷ [])
+
+-- the canonical form of an AMR-WB frame, as bytes
+abbrev pub bytes_of_frame : Option Frame → List ℕ
+bytes_of_frame None = []
+bytes_of_frame (Some f) = bytes_of (canonical_frame f)
+
+-- the kept OBUs in canonical form
+abbrev pub canonical_obus : Option (List Obu) → List (List ℕ)
+canonical_obus None = []
+canonical_obus (Some os) = map canonical os
 
 -- the units of a frame that is sent, each in its parts: units of several parts are those of which a receiver may lose
 -- the first
@@ -36,6 +70,10 @@ units_sent G722Pack mtu frame = each_whole (pieces_of mtu frame)
 units_sent OpusPack mtu frame = each_whole (pieces_of mtu frame)
 units_sent NullPack mtu frame = each_whole (frame ∷ [])
 units_sent Vp8Pack mtu frame = each_whole (frame ∷ [])
+units_sent ComfortNoisePack mtu frame = each_whole (frame ∷ [])
+units_sent TelePack mtu frame = each_whole (take 4 frame ∷ [])
+units_sent Av1Pack mtu frame = canonical_obus (frame_kept frame) ∷ []
+units_sent (AmrWbPack octet) mtu frame = each_whole (bytes_of_frame (stored frame) ∷ [])
 
 -- the units of a frame at an MTU
 abbrev pub canonical_units : Pack → ℕ → List ℕ → List (List (List ℕ))
@@ -48,6 +86,10 @@ pack_after G722Pack mtu frame = G722Pack
 pack_after OpusPack mtu frame = OpusPack
 pack_after NullPack mtu frame = NullPack
 pack_after Vp8Pack mtu frame = Vp8Pack
+pack_after ComfortNoisePack mtu frame = ComfortNoisePack
+pack_after TelePack mtu frame = TelePack
+pack_after Av1Pack mtu frame = Av1Pack
+pack_after (AmrWbPack octet) mtu frame = AmrWbPack octet
 
 -- the payloads that a packetizer makes
 abbrev pub payloads_by : Pack → DepackKind
@@ -56,6 +98,10 @@ payloads_by G722Pack = G711Payloads
 payloads_by OpusPack = OpusPayloads
 payloads_by NullPack = NullPayloads
 payloads_by Vp8Pack = Vp8Payloads
+payloads_by ComfortNoisePack = ComfortNoisePayloads
+payloads_by TelePack = TelePayloads
+payloads_by Av1Pack = Av1Payloads
+payloads_by (AmrWbPack octet) = AmrWbPayloads octet
 
 -- whether a receiver may be given the last parts of a unit alone
 abbrev pub may_split : Pack → Bool
@@ -64,6 +110,15 @@ may_split G722Pack = false
 may_split OpusPack = false
 may_split NullPack = false
 may_split Vp8Pack = false
+may_split ComfortNoisePack = false
+may_split TelePack = false
+may_split Av1Pack = true
+may_split (AmrWbPack octet) = false
+
+-- whether what is sent of a frame can be read again: of telephone events whole reports, and all of any other codec
+abbrev pub is_readable : Pack → List ℕ → Bool
+is_readable TelePack frame = is_empty frame || are_reports frame
+is_readable pack frame = true
 
 -- Opus at an MTU of 2: three bytes are two units; at an MTU of 0 they are none
 pub canonical_units-opus : canonical_units OpusPack 2 (0x90 ∷ 0x90 ∷ 0x90 ∷ []) ≡ ((0x90 ∷ 0x90 ∷ []) ∷ []) ∷ ((0x90 ∷ []) ∷ []) ∷ []
@@ -75,3 +130,10 @@ canonical_units-mtu_zero = refl
 -- an empty Null frame is one empty unit
 pub canonical_units-null : canonical_units NullPack 0 [] ≡ ([] ∷ []) ∷ []
 canonical_units-null = refl
+
+-- two telephone reports at an MTU of 8 are one unit, the first of them; at an MTU of 7 they are refused
+pub canonical_units-tele : canonical_units TelePack 8 (0x05 ∷ 0x8a ∷ 0x03 ∷ 0x20 ∷ 0x06 ∷ 0x0a ∷ 0x01 ∷ 0x40 ∷ []) ≡ ((0x05 ∷ 0x8a ∷ 0x03 ∷ 0x20 ∷ []) ∷ []) ∷ []
+canonical_units-tele = refl
+
+pub canonical_units-tele_refused : canonical_units TelePack 7 (0x05 ∷ 0x8a ∷ 0x03 ∷ 0x20 ∷ 0x06 ∷ 0x0a ∷ 0x01 ∷ 0x40 ∷ []) ≡ []
+canonical_units-tele_refused = refl

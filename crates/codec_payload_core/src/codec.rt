@@ -3,18 +3,22 @@
 ghost use Rattle.std.specs.Prelude.{◌≡◌, ◌≤◌, option_map, IsTrue, false};
 ghost use Rattle.std.specs.Option.{option_copied};
 ghost use Rattle.codec_payload_base.specs.Answers.{packets_of};
-ghost use Rattle.codec_payload_core.specs.Pack.{pack_of, pack_for, PackStep, marker_of, talkspurt_of, nackable_of};
-ghost use Rattle.codec_payload_core.specs.Depack.{depack_of, depack_for, kind_of_depack, DepackStep, head_of, tail_of, hint_of};
+ghost use Rattle.codec_payload_core.specs.Pack.{pack_of, pack_for, configured, PackStep, marker_of, talkspurt_of, nackable_of};
+ghost use Rattle.codec_payload_core.specs.Depack.{depack_of, depack_for, configured_depack, kind_of_depack, DepackStep, head_of, tail_of, hint_of};
 
 use codec_payload_base::error::PacketError;
+use codec_payload_base::amr_wb::{AmrWbDepacketizer, AmrWbPacketizer};
 pub use codec_payload_base::interface::{
-    CodecExtra, Depacketizer, Packetizer, Vp8CodecExtra, Vp9PacketizerMode,
+    Av1CodecExtra, CodecExtra, Depacketizer, Packetizer, TelephoneEvent, Vp8CodecExtra,
+    Vp9PacketizerMode,
 };
 use codec_payload_base::plain::{
-    G711Depacketizer, G711Packetizer, G722Packetizer, NullDepacketizer, NullPacketizer,
-    OpusDepacketizer, OpusPacketizer,
+    ComfortNoiseDepacketizer, ComfortNoisePacketizer, G711Depacketizer, G711Packetizer,
+    G722Packetizer, NullDepacketizer, NullPacketizer, OpusDepacketizer, OpusPacketizer,
 };
-use codec_payload_base::wire::Codec;
+use codec_payload_base::tele::{TelephoneEventDepacketizer, TelephoneEventPacketizer};
+use codec_payload_base::wire::{Codec, CodecSpec};
+use codec_payload_video::av1::{Av1Depacketizer, Av1Packetizer};
 use codec_payload_video::vp8::{Vp8Depacketizer, Vp8Packetizer};
 use std::alloc::Global;
 
@@ -24,8 +28,12 @@ pub enum CodecPacketizer {
     G711(G711Packetizer),
     G722(G722Packetizer),
     Opus(OpusPacketizer),
-    Null(NullPacketizer),
+    ComfortNoise(ComfortNoisePacketizer),
+    Tele(TelephoneEventPacketizer),
     Vp8(Vp8Packetizer),
+    Av1(Av1Packetizer),
+    AmrWb(AmrWbPacketizer),
+    Null(NullPacketizer),
 }
 
 impl CodecPacketizer {
@@ -39,8 +47,12 @@ impl CodecPacketizer {
             Codec::PCMU | Codec::PCMA => Some(CodecPacketizer::G711(G711Packetizer {})),
             Codec::G722 => Some(CodecPacketizer::G722(G722Packetizer {})),
             Codec::Opus => Some(CodecPacketizer::Opus(OpusPacketizer {})),
-            Codec::Null => Some(CodecPacketizer::Null(NullPacketizer {})),
+            Codec::CN => Some(CodecPacketizer::ComfortNoise(ComfortNoisePacketizer {})),
+            Codec::Tele => Some(CodecPacketizer::Tele(TelephoneEventPacketizer {})),
             Codec::Vp8 => Some(CodecPacketizer::Vp8(Vp8Packetizer::default())),
+            Codec::Av1 => Some(CodecPacketizer::Av1(Av1Packetizer::default())),
+            Codec::AmrWb => Some(CodecPacketizer::AmrWb(AmrWbPacketizer::default())),
+            Codec::Null => Some(CodecPacketizer::Null(NullPacketizer {})),
             _ => None,
         }
     }
@@ -51,21 +63,30 @@ impl CodecPacketizer {
     {
         CodecPacketizer::new(codec, Vp9PacketizerMode::NonFlexible, 0)
     }
+
+    /// Takes over what a specification says of payloads: the layout of AMR-WB. Other codecs stay as they are.
+    pub fn configure_for(&mut self, spec: &CodecSpec)
+        ensures { pack_of self.new ≡ configured spec.now.octet_align (pack_of self.old) }
+    {
+        if let CodecPacketizer::AmrWb(p) = self {
+            p.octet_align = spec.octet_align;
+        }
+    }
 }
 
 /// Each call is that of the chosen packetizer.
 impl Packetizer for CodecPacketizer {
-    ghost use Rattle.codec_payload_core.specs.declared.codec.CodecPacketizer.TheVariants.{G711, G722, Opus, Null, Vp8};
+    ghost use Rattle.codec_payload_core.specs.declared.codec.CodecPacketizer.TheVariants.{G711, G722, Opus, ComfortNoise, Tele, Vp8, Av1, AmrWb, Null};
 
-    ghost state = { elim [ G711 p ↦ ⟦<G711Packetizer as Packetizer>⟧.state p | G722 p ↦ ⟦<G722Packetizer as Packetizer>⟧.state p | Opus p ↦ ⟦<OpusPacketizer as Packetizer>⟧.state p | Null p ↦ ⟦<NullPacketizer as Packetizer>⟧.state p | Vp8 p ↦ ⟦<Vp8Packetizer as Packetizer>⟧.state p ] };
+    ghost state = { elim [ G711 p ↦ ⟦<G711Packetizer as Packetizer>⟧.state p | G722 p ↦ ⟦<G722Packetizer as Packetizer>⟧.state p | Opus p ↦ ⟦<OpusPacketizer as Packetizer>⟧.state p | ComfortNoise p ↦ ⟦<ComfortNoisePacketizer as Packetizer>⟧.state p | Tele p ↦ ⟦<TelephoneEventPacketizer as Packetizer>⟧.state p | Vp8 p ↦ ⟦<Vp8Packetizer as Packetizer>⟧.state p | Av1 p ↦ ⟦<Av1Packetizer as Packetizer>⟧.state p | AmrWb p ↦ ⟦<AmrWbPacketizer as Packetizer>⟧.state p | Null p ↦ ⟦<NullPacketizer as Packetizer>⟧.state p ] };
 
-    ghost packetize_step = { elim [ G711 p ↦ ⟦<G711Packetizer as Packetizer>⟧.packetize_step p | G722 p ↦ ⟦<G722Packetizer as Packetizer>⟧.packetize_step p | Opus p ↦ ⟦<OpusPacketizer as Packetizer>⟧.packetize_step p | Null p ↦ ⟦<NullPacketizer as Packetizer>⟧.packetize_step p | Vp8 p ↦ ⟦<Vp8Packetizer as Packetizer>⟧.packetize_step p ] };
+    ghost packetize_step = { elim [ G711 p ↦ ⟦<G711Packetizer as Packetizer>⟧.packetize_step p | G722 p ↦ ⟦<G722Packetizer as Packetizer>⟧.packetize_step p | Opus p ↦ ⟦<OpusPacketizer as Packetizer>⟧.packetize_step p | ComfortNoise p ↦ ⟦<ComfortNoisePacketizer as Packetizer>⟧.packetize_step p | Tele p ↦ ⟦<TelephoneEventPacketizer as Packetizer>⟧.packetize_step p | Vp8 p ↦ ⟦<Vp8Packetizer as Packetizer>⟧.packetize_step p | Av1 p ↦ ⟦<Av1Packetizer as Packetizer>⟧.packetize_step p | AmrWb p ↦ ⟦<AmrWbPacketizer as Packetizer>⟧.packetize_step p | Null p ↦ ⟦<NullPacketizer as Packetizer>⟧.packetize_step p ] };
 
-    ghost marker_step = { elim [ G711 p ↦ ⟦<G711Packetizer as Packetizer>⟧.marker_step p | G722 p ↦ ⟦<G722Packetizer as Packetizer>⟧.marker_step p | Opus p ↦ ⟦<OpusPacketizer as Packetizer>⟧.marker_step p | Null p ↦ ⟦<NullPacketizer as Packetizer>⟧.marker_step p | Vp8 p ↦ ⟦<Vp8Packetizer as Packetizer>⟧.marker_step p ] };
+    ghost marker_step = { elim [ G711 p ↦ ⟦<G711Packetizer as Packetizer>⟧.marker_step p | G722 p ↦ ⟦<G722Packetizer as Packetizer>⟧.marker_step p | Opus p ↦ ⟦<OpusPacketizer as Packetizer>⟧.marker_step p | ComfortNoise p ↦ ⟦<ComfortNoisePacketizer as Packetizer>⟧.marker_step p | Tele p ↦ ⟦<TelephoneEventPacketizer as Packetizer>⟧.marker_step p | Vp8 p ↦ ⟦<Vp8Packetizer as Packetizer>⟧.marker_step p | Av1 p ↦ ⟦<Av1Packetizer as Packetizer>⟧.marker_step p | AmrWb p ↦ ⟦<AmrWbPacketizer as Packetizer>⟧.marker_step p | Null p ↦ ⟦<NullPacketizer as Packetizer>⟧.marker_step p ] };
 
-    ghost may_mark = { elim [ G711 p ↦ ⟦<G711Packetizer as Packetizer>⟧.may_mark p | G722 p ↦ ⟦<G722Packetizer as Packetizer>⟧.may_mark p | Opus p ↦ ⟦<OpusPacketizer as Packetizer>⟧.may_mark p | Null p ↦ ⟦<NullPacketizer as Packetizer>⟧.may_mark p | Vp8 p ↦ ⟦<Vp8Packetizer as Packetizer>⟧.may_mark p ] };
+    ghost may_mark = { elim [ G711 p ↦ ⟦<G711Packetizer as Packetizer>⟧.may_mark p | G722 p ↦ ⟦<G722Packetizer as Packetizer>⟧.may_mark p | Opus p ↦ ⟦<OpusPacketizer as Packetizer>⟧.may_mark p | ComfortNoise p ↦ ⟦<ComfortNoisePacketizer as Packetizer>⟧.may_mark p | Tele p ↦ ⟦<TelephoneEventPacketizer as Packetizer>⟧.may_mark p | Vp8 p ↦ ⟦<Vp8Packetizer as Packetizer>⟧.may_mark p | Av1 p ↦ ⟦<Av1Packetizer as Packetizer>⟧.may_mark p | AmrWb p ↦ ⟦<AmrWbPacketizer as Packetizer>⟧.may_mark p | Null p ↦ ⟦<NullPacketizer as Packetizer>⟧.may_mark p ] };
 
-    ghost may_do_without = { elim [ G711 p ↦ ⟦<G711Packetizer as Packetizer>⟧.may_do_without p | G722 p ↦ ⟦<G722Packetizer as Packetizer>⟧.may_do_without p | Opus p ↦ ⟦<OpusPacketizer as Packetizer>⟧.may_do_without p | Null p ↦ ⟦<NullPacketizer as Packetizer>⟧.may_do_without p | Vp8 p ↦ ⟦<Vp8Packetizer as Packetizer>⟧.may_do_without p ] };
+    ghost may_do_without = { elim [ G711 p ↦ ⟦<G711Packetizer as Packetizer>⟧.may_do_without p | G722 p ↦ ⟦<G722Packetizer as Packetizer>⟧.may_do_without p | Opus p ↦ ⟦<OpusPacketizer as Packetizer>⟧.may_do_without p | ComfortNoise p ↦ ⟦<ComfortNoisePacketizer as Packetizer>⟧.may_do_without p | Tele p ↦ ⟦<TelephoneEventPacketizer as Packetizer>⟧.may_do_without p | Vp8 p ↦ ⟦<Vp8Packetizer as Packetizer>⟧.may_do_without p | Av1 p ↦ ⟦<Av1Packetizer as Packetizer>⟧.may_do_without p | AmrWb p ↦ ⟦<AmrWbPacketizer as Packetizer>⟧.may_do_without p | Null p ↦ ⟦<NullPacketizer as Packetizer>⟧.may_do_without p ] };
 
     fn packetize(
         &mut self,
@@ -80,8 +101,12 @@ impl Packetizer for CodecPacketizer {
             CodecPacketizer::G711(p) => p.packetize(alloc, mtu, b),
             CodecPacketizer::G722(p) => p.packetize(alloc, mtu, b),
             CodecPacketizer::Opus(p) => p.packetize(alloc, mtu, b),
-            CodecPacketizer::Null(p) => p.packetize(alloc, mtu, b),
+            CodecPacketizer::ComfortNoise(p) => p.packetize(alloc, mtu, b),
+            CodecPacketizer::Tele(p) => p.packetize(alloc, mtu, b),
             CodecPacketizer::Vp8(p) => p.packetize(alloc, mtu, b),
+            CodecPacketizer::Av1(p) => p.packetize(alloc, mtu, b),
+            CodecPacketizer::AmrWb(p) => p.packetize(alloc, mtu, b),
+            CodecPacketizer::Null(p) => p.packetize(alloc, mtu, b),
         }
     }
 
@@ -94,8 +119,12 @@ impl Packetizer for CodecPacketizer {
             CodecPacketizer::G711(p) => p.is_marker(data, previous, last),
             CodecPacketizer::G722(p) => p.is_marker(data, previous, last),
             CodecPacketizer::Opus(p) => p.is_marker(data, previous, last),
-            CodecPacketizer::Null(p) => p.is_marker(data, previous, last),
+            CodecPacketizer::ComfortNoise(p) => p.is_marker(data, previous, last),
+            CodecPacketizer::Tele(p) => p.is_marker(data, previous, last),
             CodecPacketizer::Vp8(p) => p.is_marker(data, previous, last),
+            CodecPacketizer::Av1(p) => p.is_marker(data, previous, last),
+            CodecPacketizer::AmrWb(p) => p.is_marker(data, previous, last),
+            CodecPacketizer::Null(p) => p.is_marker(data, previous, last),
         }
     }
 
@@ -107,8 +136,12 @@ impl Packetizer for CodecPacketizer {
             CodecPacketizer::G711(p) => p.marks_talkspurt(),
             CodecPacketizer::G722(p) => p.marks_talkspurt(),
             CodecPacketizer::Opus(p) => p.marks_talkspurt(),
-            CodecPacketizer::Null(p) => p.marks_talkspurt(),
+            CodecPacketizer::ComfortNoise(p) => p.marks_talkspurt(),
+            CodecPacketizer::Tele(p) => p.marks_talkspurt(),
             CodecPacketizer::Vp8(p) => p.marks_talkspurt(),
+            CodecPacketizer::Av1(p) => p.marks_talkspurt(),
+            CodecPacketizer::AmrWb(p) => p.marks_talkspurt(),
+            CodecPacketizer::Null(p) => p.marks_talkspurt(),
         }
     }
 
@@ -120,8 +153,12 @@ impl Packetizer for CodecPacketizer {
             CodecPacketizer::G711(p) => p.nackable(),
             CodecPacketizer::G722(p) => p.nackable(),
             CodecPacketizer::Opus(p) => p.nackable(),
-            CodecPacketizer::Null(p) => p.nackable(),
+            CodecPacketizer::ComfortNoise(p) => p.nackable(),
+            CodecPacketizer::Tele(p) => p.nackable(),
             CodecPacketizer::Vp8(p) => p.nackable(),
+            CodecPacketizer::Av1(p) => p.nackable(),
+            CodecPacketizer::AmrWb(p) => p.nackable(),
+            CodecPacketizer::Null(p) => p.nackable(),
         }
     }
 }
@@ -131,13 +168,17 @@ impl Packetizer for CodecPacketizer {
 pub enum CodecDepacketizer {
     G711(G711Depacketizer),
     Opus(OpusDepacketizer),
-    Null(NullDepacketizer),
+    ComfortNoise(ComfortNoiseDepacketizer),
+    Tele(TelephoneEventDepacketizer),
     Vp8(Vp8Depacketizer),
+    Av1(Av1Depacketizer),
+    AmrWb(AmrWbDepacketizer),
+    Null(NullDepacketizer),
 }
 
 impl CodecDepacketizer {
     /// The depacketizer of a codec, or `None` where the codec has none. G.722 is put together as G.711 is.
-    pub fn from_codec(_alloc: Global, codec: Codec) -> Option<Self>
+    pub fn from_codec(alloc: Global, codec: Codec) -> Option<Self>
         ensures { option_map depack_of result ≡ depack_for codec }
     {
         match codec {
@@ -145,26 +186,42 @@ impl CodecDepacketizer {
                 Some(CodecDepacketizer::G711(G711Depacketizer {}))
             }
             Codec::Opus => Some(CodecDepacketizer::Opus(OpusDepacketizer {})),
-            Codec::Null => Some(CodecDepacketizer::Null(NullDepacketizer {})),
+            Codec::CN => Some(CodecDepacketizer::ComfortNoise(ComfortNoiseDepacketizer {})),
+            Codec::Tele => Some(CodecDepacketizer::Tele(TelephoneEventDepacketizer::default())),
             Codec::Vp8 => Some(CodecDepacketizer::Vp8(Vp8Depacketizer::default())),
+            Codec::Av1 => Some(CodecDepacketizer::Av1(Av1Depacketizer::new(alloc))),
+            Codec::AmrWb => Some(CodecDepacketizer::AmrWb(AmrWbDepacketizer::default())),
+            Codec::Null => Some(CodecDepacketizer::Null(NullDepacketizer {})),
             _ => None,
+        }
+    }
+
+    /// Takes over what a specification says of payloads: the layout of AMR-WB, and the clock of telephone events. Other
+    /// codecs stay as they are.
+    pub fn configure_for(&mut self, spec: &CodecSpec)
+        ensures { depack_of self.new ≡ configured_depack spec.now.octet_align spec.now.clock_rate (depack_of self.old) }
+    {
+        match self {
+            CodecDepacketizer::AmrWb(d) => d.octet_align = spec.octet_align,
+            CodecDepacketizer::Tele(d) => *d = TelephoneEventDepacketizer::new(spec.clock_rate),
+            _ => {}
         }
     }
 }
 
 /// Each call is that of the chosen depacketizer.
 impl Depacketizer for CodecDepacketizer {
-    ghost use Rattle.codec_payload_core.specs.declared.codec.CodecDepacketizer.TheVariants.{G711 as G711In, Opus as OpusIn, Null as NullIn, Vp8 as Vp8In};
+    ghost use Rattle.codec_payload_core.specs.declared.codec.CodecDepacketizer.TheVariants.{G711 as G711In, Opus as OpusIn, ComfortNoise as ComfortNoiseIn, Tele as TeleIn, Vp8 as Vp8In, Av1 as Av1In, AmrWb as AmrWbIn, Null as NullIn};
 
-    ghost state = { elim [ G711In p ↦ ⟦<G711Depacketizer as Depacketizer>⟧.state p | OpusIn p ↦ ⟦<OpusDepacketizer as Depacketizer>⟧.state p | NullIn p ↦ ⟦<NullDepacketizer as Depacketizer>⟧.state p | Vp8In p ↦ ⟦<Vp8Depacketizer as Depacketizer>⟧.state p ] };
+    ghost state = { elim [ G711In p ↦ ⟦<G711Depacketizer as Depacketizer>⟧.state p | OpusIn p ↦ ⟦<OpusDepacketizer as Depacketizer>⟧.state p | ComfortNoiseIn p ↦ ⟦<ComfortNoiseDepacketizer as Depacketizer>⟧.state p | TeleIn p ↦ ⟦<TelephoneEventDepacketizer as Depacketizer>⟧.state p | Vp8In p ↦ ⟦<Vp8Depacketizer as Depacketizer>⟧.state p | Av1In p ↦ ⟦<Av1Depacketizer as Depacketizer>⟧.state p | AmrWbIn p ↦ ⟦<AmrWbDepacketizer as Depacketizer>⟧.state p | NullIn p ↦ ⟦<NullDepacketizer as Depacketizer>⟧.state p ] };
 
-    ghost depacketize_step = { elim [ G711In p ↦ ⟦<G711Depacketizer as Depacketizer>⟧.depacketize_step p | OpusIn p ↦ ⟦<OpusDepacketizer as Depacketizer>⟧.depacketize_step p | NullIn p ↦ ⟦<NullDepacketizer as Depacketizer>⟧.depacketize_step p | Vp8In p ↦ ⟦<Vp8Depacketizer as Depacketizer>⟧.depacketize_step p ] };
+    ghost depacketize_step = { elim [ G711In p ↦ ⟦<G711Depacketizer as Depacketizer>⟧.depacketize_step p | OpusIn p ↦ ⟦<OpusDepacketizer as Depacketizer>⟧.depacketize_step p | ComfortNoiseIn p ↦ ⟦<ComfortNoiseDepacketizer as Depacketizer>⟧.depacketize_step p | TeleIn p ↦ ⟦<TelephoneEventDepacketizer as Depacketizer>⟧.depacketize_step p | Vp8In p ↦ ⟦<Vp8Depacketizer as Depacketizer>⟧.depacketize_step p | Av1In p ↦ ⟦<Av1Depacketizer as Depacketizer>⟧.depacketize_step p | AmrWbIn p ↦ ⟦<AmrWbDepacketizer as Depacketizer>⟧.depacketize_step p | NullIn p ↦ ⟦<NullDepacketizer as Depacketizer>⟧.depacketize_step p ] };
 
-    ghost size_hint = { elim [ G711In p ↦ ⟦<G711Depacketizer as Depacketizer>⟧.size_hint p | OpusIn p ↦ ⟦<OpusDepacketizer as Depacketizer>⟧.size_hint p | NullIn p ↦ ⟦<NullDepacketizer as Depacketizer>⟧.size_hint p | Vp8In p ↦ ⟦<Vp8Depacketizer as Depacketizer>⟧.size_hint p ] };
+    ghost size_hint = { elim [ G711In p ↦ ⟦<G711Depacketizer as Depacketizer>⟧.size_hint p | OpusIn p ↦ ⟦<OpusDepacketizer as Depacketizer>⟧.size_hint p | ComfortNoiseIn p ↦ ⟦<ComfortNoiseDepacketizer as Depacketizer>⟧.size_hint p | TeleIn p ↦ ⟦<TelephoneEventDepacketizer as Depacketizer>⟧.size_hint p | Vp8In p ↦ ⟦<Vp8Depacketizer as Depacketizer>⟧.size_hint p | Av1In p ↦ ⟦<Av1Depacketizer as Depacketizer>⟧.size_hint p | AmrWbIn p ↦ ⟦<AmrWbDepacketizer as Depacketizer>⟧.size_hint p | NullIn p ↦ ⟦<NullDepacketizer as Depacketizer>⟧.size_hint p ] };
 
-    ghost is_head = { elim [ G711In p ↦ ⟦<G711Depacketizer as Depacketizer>⟧.is_head p | OpusIn p ↦ ⟦<OpusDepacketizer as Depacketizer>⟧.is_head p | NullIn p ↦ ⟦<NullDepacketizer as Depacketizer>⟧.is_head p | Vp8In p ↦ ⟦<Vp8Depacketizer as Depacketizer>⟧.is_head p ] };
+    ghost is_head = { elim [ G711In p ↦ ⟦<G711Depacketizer as Depacketizer>⟧.is_head p | OpusIn p ↦ ⟦<OpusDepacketizer as Depacketizer>⟧.is_head p | ComfortNoiseIn p ↦ ⟦<ComfortNoiseDepacketizer as Depacketizer>⟧.is_head p | TeleIn p ↦ ⟦<TelephoneEventDepacketizer as Depacketizer>⟧.is_head p | Vp8In p ↦ ⟦<Vp8Depacketizer as Depacketizer>⟧.is_head p | Av1In p ↦ ⟦<Av1Depacketizer as Depacketizer>⟧.is_head p | AmrWbIn p ↦ ⟦<AmrWbDepacketizer as Depacketizer>⟧.is_head p | NullIn p ↦ ⟦<NullDepacketizer as Depacketizer>⟧.is_head p ] };
 
-    ghost is_tail = { elim [ G711In p ↦ ⟦<G711Depacketizer as Depacketizer>⟧.is_tail p | OpusIn p ↦ ⟦<OpusDepacketizer as Depacketizer>⟧.is_tail p | NullIn p ↦ ⟦<NullDepacketizer as Depacketizer>⟧.is_tail p | Vp8In p ↦ ⟦<Vp8Depacketizer as Depacketizer>⟧.is_tail p ] };
+    ghost is_tail = { elim [ G711In p ↦ ⟦<G711Depacketizer as Depacketizer>⟧.is_tail p | OpusIn p ↦ ⟦<OpusDepacketizer as Depacketizer>⟧.is_tail p | ComfortNoiseIn p ↦ ⟦<ComfortNoiseDepacketizer as Depacketizer>⟧.is_tail p | TeleIn p ↦ ⟦<TelephoneEventDepacketizer as Depacketizer>⟧.is_tail p | Vp8In p ↦ ⟦<Vp8Depacketizer as Depacketizer>⟧.is_tail p | Av1In p ↦ ⟦<Av1Depacketizer as Depacketizer>⟧.is_tail p | AmrWbIn p ↦ ⟦<AmrWbDepacketizer as Depacketizer>⟧.is_tail p | NullIn p ↦ ⟦<NullDepacketizer as Depacketizer>⟧.is_tail p ] };
 
     fn out_size_hint(&self, packets_size: usize) -> Option<usize>
         ensures step { result ≡ ⟦<CodecDepacketizer as Depacketizer>⟧.size_hint self.now packets_size }
@@ -173,8 +230,12 @@ impl Depacketizer for CodecDepacketizer {
         match self {
             CodecDepacketizer::G711(d) => d.out_size_hint(packets_size),
             CodecDepacketizer::Opus(d) => d.out_size_hint(packets_size),
-            CodecDepacketizer::Null(d) => d.out_size_hint(packets_size),
+            CodecDepacketizer::ComfortNoise(d) => d.out_size_hint(packets_size),
+            CodecDepacketizer::Tele(d) => d.out_size_hint(packets_size),
             CodecDepacketizer::Vp8(d) => d.out_size_hint(packets_size),
+            CodecDepacketizer::Av1(d) => d.out_size_hint(packets_size),
+            CodecDepacketizer::AmrWb(d) => d.out_size_hint(packets_size),
+            CodecDepacketizer::Null(d) => d.out_size_hint(packets_size),
         }
     }
 
@@ -191,8 +252,12 @@ impl Depacketizer for CodecDepacketizer {
         match self {
             CodecDepacketizer::G711(d) => d.depacketize(packet, out, codec_extra),
             CodecDepacketizer::Opus(d) => d.depacketize(packet, out, codec_extra),
-            CodecDepacketizer::Null(d) => d.depacketize(packet, out, codec_extra),
+            CodecDepacketizer::ComfortNoise(d) => d.depacketize(packet, out, codec_extra),
+            CodecDepacketizer::Tele(d) => d.depacketize(packet, out, codec_extra),
             CodecDepacketizer::Vp8(d) => d.depacketize(packet, out, codec_extra),
+            CodecDepacketizer::Av1(d) => d.depacketize(packet, out, codec_extra),
+            CodecDepacketizer::AmrWb(d) => d.depacketize(packet, out, codec_extra),
+            CodecDepacketizer::Null(d) => d.depacketize(packet, out, codec_extra),
         }
     }
 
@@ -203,8 +268,12 @@ impl Depacketizer for CodecDepacketizer {
         match self {
             CodecDepacketizer::G711(d) => d.is_partition_head(packet),
             CodecDepacketizer::Opus(d) => d.is_partition_head(packet),
-            CodecDepacketizer::Null(d) => d.is_partition_head(packet),
+            CodecDepacketizer::ComfortNoise(d) => d.is_partition_head(packet),
+            CodecDepacketizer::Tele(d) => d.is_partition_head(packet),
             CodecDepacketizer::Vp8(d) => d.is_partition_head(packet),
+            CodecDepacketizer::Av1(d) => d.is_partition_head(packet),
+            CodecDepacketizer::AmrWb(d) => d.is_partition_head(packet),
+            CodecDepacketizer::Null(d) => d.is_partition_head(packet),
         }
     }
 
@@ -215,8 +284,12 @@ impl Depacketizer for CodecDepacketizer {
         match self {
             CodecDepacketizer::G711(d) => d.is_partition_tail(marker, packet),
             CodecDepacketizer::Opus(d) => d.is_partition_tail(marker, packet),
-            CodecDepacketizer::Null(d) => d.is_partition_tail(marker, packet),
+            CodecDepacketizer::ComfortNoise(d) => d.is_partition_tail(marker, packet),
+            CodecDepacketizer::Tele(d) => d.is_partition_tail(marker, packet),
             CodecDepacketizer::Vp8(d) => d.is_partition_tail(marker, packet),
+            CodecDepacketizer::Av1(d) => d.is_partition_tail(marker, packet),
+            CodecDepacketizer::AmrWb(d) => d.is_partition_tail(marker, packet),
+            CodecDepacketizer::Null(d) => d.is_partition_tail(marker, packet),
         }
     }
 }

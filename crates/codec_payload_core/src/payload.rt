@@ -3,7 +3,7 @@
 ghost use Rattle.std.specs.Prelude.{◌≡◌, ◌∷◌, ◌++◌, ◌+◌, ◌%◌, ◌^◌, ◌≤◌, ◌⊎◌, ℕ, List, [], Bool, Option, map, option_map, vec_len, IsOk, OnOk, OnErr, IfErr, Ok, Err};
 ghost use Rattle.std.specs.Option.{option_copied};
 ghost use Rattle.codec_payload_base.specs.declared.error.PacketError.{PacketError as Fault};
-ghost use Rattle.codec_payload_core.specs.Pack.{pack_of, pack_for};
+ghost use Rattle.codec_payload_core.specs.Pack.{pack_of, pack_for, configured};
 ghost use Rattle.codec_payload_core.specs.Packets.{Packet, packet_of, packets_in, last_payload};
 ghost use Rattle.codec_payload_core.specs.Sending.{sample_of, packet_for, SendsSample, SendsBeginning, SendsNothing};
 
@@ -162,15 +162,14 @@ impl Model for Payloader {
 
 impl Payloader {
     /// A payloader for a codec, or `None` where the codec has no packetizer. Its RTP clock has the rate that the
-    /// specification gives. `mode` and `first_id` are those of VP9: its mode, and the picture id of the first frame.
+    /// specification gives, and payloads have the layout that it gives. `mode` and `first_id` are those of VP9: its mode, and the picture id of the first frame.
     pub fn new(spec: CodecSpec, mode: Vp9PacketizerMode, first_id: u16) -> Option<Self>
         requires { first_id ≤ 32767 }
-        ensures { result ≡ option_map (λ pack. record { pack = pack; clock_rate = spec.clock_rate }) (pack_for spec.codec) }
+        ensures { result ≡ option_map (λ pack. record { pack = configured spec.octet_align pack; clock_rate = spec.clock_rate }) (pack_for spec.codec) }
     {
-        match CodecPacketizer::new(spec.codec, mode, first_id) {
-            Some(pack) => Some(Payloader::with_packetizer(pack, spec.clock_rate)),
-            None => None,
-        }
+        let mut pack = CodecPacketizer::new(spec.codec, mode, first_id)?;
+        pack.configure_for(&spec);
+        Some(Payloader::with_packetizer(pack, spec.clock_rate))
     }
 
     /// A payloader over that packetizer, with an RTP clock of that rate.
