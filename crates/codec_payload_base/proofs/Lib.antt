@@ -1,1 +1,2 @@
+pub mod LebLemmas
 pub mod PieceLemmas
