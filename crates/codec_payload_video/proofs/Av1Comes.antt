@@ -159,13 +159,16 @@ split_stands begun (p ∷ front) q qs strings h head =
       more.3,
     )
 
+same_front : (o : Obu) (xs ys : List Obu) → xs ≡ ys → o ∷ xs ≡ o ∷ ys
+same_front o xs ys e = cc
+
 split_map : (os : List Obu) (a b : List (List ℕ)) → map string os ≡ a ++ b → (first : List Obu) × (last : List Obu) × (os ≡ first ++ last) × (map string last ≡ b)
 split_map os [] b e = ([], os, refl, e)
 split_map [] (x ∷ a) b e = absurd cc
 split_map (o ∷ os) (x ∷ a) b e =
     let t : map string os ≡ a ++ b = cc in
     let more = split_map os a b t in
-    (o ∷ more.0, more.1, ap (λ (ys : List Obu). o ∷ ys) more.2, more.3)
+    (o ∷ more.0, more.1, same_front o os (more.0 ++ more.1) more.2, more.3)
 
 kept_last : (first last : List Obu) → AllKept (first ++ last) → AllKept last
 kept_last [] last h = h

@@ -1,10 +1,9 @@
 -- What holds of the packets of a frame.
 use Rattle.std.proofs.Common.{◌≡◌, ℕ, ◌≤◌, ◌<◌, ◌^◌, false, eqb, List, [], ◌∷◌, ◌++◌, length, map, take, Some, None, Ok, Err, refl, sym, ap, ◌∙◌, ◌⊎◌, inl, inr, arith}
 use Rattle.std.specs.List.{AllByRecursion}
-use Rattle.std.specs.Global.{Vec}
 use Rattle.std.proofs.lemmas.List.{length-map}
 use Rattle.codec_payload_video.specs.Av1Leb.{◌>>=◌}
-use Rattle.codec_payload_video.specs.Av1Obu.{Obu, IsSequence, kept, string, strings_of, starts_sequence, starts_strings, obus_of, frame_strings}
+use Rattle.codec_payload_video.specs.Av1Obu.{Obu, IsSequence, kept, string, strings_of, starts_sequence, obus_of, frame_kept}
 use Rattle.codec_payload_video.specs.Av1Payload.{written}
 use Rattle.codec_payload_video.specs.Av1Packing.{Packs, reach}
 use Rattle.codec_payload_video.specs.Av1Laying.{AreSent}
@@ -13,49 +12,31 @@ use Rattle.codec_payload_video.specs.Av1Outcome.{Fails}
 use Rattle.codec_payload_base.specs.declared.error.PacketError.{PacketError}
 use Rattle.codec_payload_base.specs.declared.error.PacketError.TheVariants as faults
 use Rattle.codec_payload_video.specs.Av1Receiving.{all_received}
-use Rattle.codec_payload_video.specs.Av1Size.{items_of}
 use Rattle.codec_payload_video.proofs.Av1Lengths.{bind_some, some_is}
-use Rattle.codec_payload_video.proofs.Av1Again.{IsGood, masked_type}
+use Rattle.codec_payload_video.proofs.Av1Again.{IsGood}
 use Rattle.codec_payload_video.proofs.Av1Sequence.{IsBytes, sequence_sound, sequence_complete, sequence_good}
 use Rattle.codec_payload_video.proofs.Av1Comes.{AllKept, kept_all, frame_comes, last_packets_come, sent_are_read}
 use Rattle.codec_payload_video.proofs.Av1Packed.{fewest, furthest}
 
-pub frame_read : (bytes : List ℕ) (ss : List (List ℕ)) → frame_strings bytes ≡ Some ss → (os : List Obu) × IsSequence os bytes × (ss ≡ strings_of os)
-unfolding frame_strings
-frame_read bytes ss e =
-    let h = bind_some (obus_of bytes) (λ os. Some (strings_of os)) ss e in
-    (h.0, sequence_sound bytes h.0 h.1, sym (some_is (strings_of h.0) ss h.2))
+pub frame_read : (bytes : List ℕ) (ks : List Obu) → frame_kept bytes ≡ Some ks → (os : List Obu) × IsSequence os bytes × (ks ≡ kept os)
+unfolding frame_kept
+frame_read bytes ks e =
+    let h = bind_some (obus_of bytes) (λ os. Some (kept os)) ks e in
+    (h.0, sequence_sound bytes h.0 h.1, sym (some_is (kept h.0) ks h.2))
 
 pub same_sequence : (bytes : List ℕ) (os others : List Obu) → IsSequence os bytes → IsSequence others bytes → os ≡ others
 same_sequence bytes os others a b = some_is os others (sym (sequence_complete os bytes a) ∙ sequence_complete others bytes b)
 
-pub frame_refused : (bytes : List ℕ) → frame_strings bytes ≡ None → (os : List Obu) → IsSequence os bytes → ⊥
-unfolding frame_strings
-frame_refused bytes e os h = let read = sequence_complete os bytes h in let other : (obus_of bytes >>= λ ys. Some (strings_of ys)) ≡ Some (strings_of os) = rw read refl in cc
+pub frame_refused : (bytes : List ℕ) → frame_kept bytes ≡ None → (os : List Obu) → IsSequence os bytes → ⊥
+unfolding frame_kept
+frame_refused bytes e os h = let read = sequence_complete os bytes h in let other : (obus_of bytes >>= λ ys. Some (kept ys)) ≡ Some (kept os) = rw read refl in cc
 
-starts_kept : (os : List Obu) → AllKept os → starts_strings (map string os) ≡ starts_sequence os
-unfolding string
-starts_kept [] h = refl
-starts_kept (o ∷ os) h = ap (λ n. eqb n 0x08) (masked_type o.header h.0.0.byte)
-
-pub starts_are : (os : List Obu) → AllByRecursion IsGood os → starts_strings (strings_of os) ≡ starts_sequence (kept os)
-starts_are os good = starts_kept (kept os) (kept_all os good)
-
-pub strings_some : (vs : List (Vec ℕ)) (os : List Obu) → items_of vs ≡ map string os → AllByRecursion (λ v. 0 < length v.items) vs
-unfolding string
-strings_some [] os e = tt
-strings_some (v ∷ vs) [] e = absurd cc
-strings_some (v ∷ vs) (o ∷ os) e =
-    let one : v.items ≡ string o = cc in
-    let others : items_of vs ≡ map string os = cc in
-    (omega (arith, ap length one), strings_some vs os others)
-
-refused_frame_of : (e : PacketError) (mtu : ℕ) (bytes : List ℕ) → 1 < mtu → 0 < length bytes → Fails e (frame_strings bytes) → IsRefusedFrame e mtu bytes
+refused_frame_of : (e : PacketError) (mtu : ℕ) (bytes : List ℕ) → 1 < mtu → 0 < length bytes → Fails e (frame_kept bytes) → IsRefusedFrame e mtu bytes
 refused_frame_of faults.OutOfMemory mtu bytes large full f = (large, full)
 refused_frame_of faults.ErrAv1CorruptedPacket mtu bytes large full f = (large, full, frame_refused bytes f)
 refused_frame_of _ mtu bytes large full f = absurd f
 
-pub refused_frame : (e : PacketError) (mtu : ℕ) (bytes : List ℕ) → 2 ≤ mtu → 0 < length bytes → Fails e (frame_strings bytes) → AnswersAv1 mtu bytes (Err e)
+pub refused_frame : (e : PacketError) (mtu : ℕ) (bytes : List ℕ) → 2 ≤ mtu → 0 < length bytes → Fails e (frame_kept bytes) → AnswersAv1 mtu bytes (Err e)
 refused_frame e mtu bytes large full f = refused_frame_of e mtu bytes large full f
 
 none_received : (pending : List ℕ) → all_received pending [] ≡ Some ([], pending)

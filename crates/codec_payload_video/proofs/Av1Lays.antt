@@ -1,27 +1,27 @@
--- The steps of a packer, in the bytes of its packets.
+-- The steps of a packer.
 use Rattle.std.proofs.Common.{◌≡◌, ℕ, zero, suc, ◌+◌, ◌≤◌, ◌<◌, Bool, true, false, List, [], ◌∷◌, ◌++◌, length, map, refl, sym, ap, ◌∙◌, arith}
 use Rattle.std.proofs.lemmas.List.{map_push, length-append}
 use Rattle.std.proofs.lemmas.Bool.{lt-ltb, ne_eqb}
 use Rattle.codec_payload_video.specs.Av1Payload.{Payload, written}
-use Rattle.codec_payload_video.specs.Av1Packing.{IsElement, with_next}
+use Rattle.codec_payload_video.specs.Av1Packing.{IsElement, with_next, Sent}
 use Rattle.codec_payload_video.specs.Av1Size.{packet_size, own, leb_len, lengths}
 use Rattle.codec_payload_video.specs.Av1Laying.{IsClosed, Lays, AreSent, starts_next, starts_with}
 use Rattle.codec_payload_video.proofs.Av1Lengths.{length_written, leb_len_rises}
 use Rattle.codec_payload_video.proofs.Av1Laying.{laying_none, lay_end, lay_part, lay_between, lay_last}
 use Rattle.codec_payload_video.proofs.Av1Room.{size_push}
 
-starts_same : (starts : Bool) (ps : List Payload) → starts_with starts (map written ps) ≡ starts_next starts ps
+starts_same : (starts : Bool) (ps : List Payload) → starts_with starts ps ≡ starts_next starts ps
 starts_same true [] = refl
 starts_same false [] = refl
-starts_same true (p ∷ ps) = ne_eqb (length (map written (p ∷ ps))) 0 (λ e. absurd (omega (arith, e)))
+starts_same true (p ∷ ps) = ne_eqb (length (p ∷ ps)) 0 (λ e. absurd (omega (arith, e)))
 starts_same false (p ∷ ps) = refl
 
 abbrev made : Bool → Bool → Bool → List (List ℕ) → Payload
 made continues goes_on starts es = record { continues = continues; goes_on = goes_on; starts = starts; elements = es }
 
 -- the payload that is closed
-abbrev pub closing : Bool → List (List ℕ) → Bool → Bool → List (List ℕ) → Payload
-closing starts packets continues goes_on es = record { continues = continues; goes_on = goes_on; starts = starts_with starts packets; elements = es }
+abbrev pub closing : Bool → List Payload → Bool → Bool → List (List ℕ) → Payload
+closing starts ps continues goes_on es = record { continues = continues; goes_on = goes_on; starts = starts_with starts ps; elements = es }
 
 next_between : (next : ℕ) (es : List (List ℕ)) → 0 < length es → lengths (with_next false next es) ≡ lengths es ++ 1 ∷ []
 next_between next [] ne = absurd (omega (arith, ne))
@@ -34,54 +34,37 @@ next_part next (f ∷ []) e = ap (λ (n : ℕ). length f ∷ n ∷ []) (length-a
 next_part next (f ∷ g ∷ es) e = ap (λ (t : List ℕ). length f ∷ t) (next_part next (g ∷ es) e)
 
 pub lays_none : (mtu : ℕ) (starts : Bool) → 1 ≤ mtu → Lays starts [] [] [] false (record { mtu = mtu; elements = [] })
-lays_none mtu starts le = ([], refl, laying_none mtu starts, le)
+lays_none mtu starts le = (laying_none mtu starts, le)
 
-push_written : (packets : List (List ℕ)) (ps : List Payload) (p : Payload) → packets ≡ map written ps → packets ++ written p ∷ [] ≡ map written (ps ++ p ∷ [])
-push_written packets ps p is = ap (λ (t : List (List ℕ)). t ++ written p ∷ []) is ∙ sym (map_push written ps p)
-
-module _ (starts : Bool) (before : List (List ℕ)) (partial : List ℕ) (packets : List (List ℕ)) (continues : Bool) (mtu : ℕ) (es : List (List ℕ)) (h : Lays starts before partial packets continues (record { mtu = mtu; elements = es })) where
-  starts_is : starts_with starts packets ≡ starts_next starts h.0
-  starts_is = ap (λ (t : List (List ℕ)). starts_with starts t) h.1 ∙ starts_same starts h.0
-
-  pub lays_between : 0 < length es → 1 ≤ mtu → mtu < packet_size leb_len (lengths es ++ 1 ∷ []) → Lays starts before [] (packets ++ written (closing starts packets continues false es) ∷ []) false (record { mtu = mtu; elements = [] })
+module _ (starts : Bool) (before : List (List ℕ)) (partial : List ℕ) (ps : List Payload) (continues : Bool) (mtu : ℕ) (es : List (List ℕ)) (h : Lays starts before partial ps continues (record { mtu = mtu; elements = es })) where
+  pub lays_between : 0 < length es → 1 ≤ mtu → mtu < packet_size leb_len (lengths es ++ 1 ∷ []) → Lays starts before [] (ps ++ closing starts ps continues false es ∷ []) false (record { mtu = mtu; elements = [] })
   lays_between ne le most =
-      let p = closing starts packets continues false es in
+      let p = closing starts ps continues false es in
       let closed : IsClosed mtu p = record {
         nonempty = ne;
-        within = rw (length_written p) h.3;
+        within = rw (length_written p) h.1;
         full = λ next. rw (length_written (record p { elements = with_next false next es }), next_between next es ne) most;
-      } in (
-        h.0 ++ p ∷ [],
-        push_written packets h.0 p h.1,
-        lay_between mtu starts before partial h.0 continues es p h.2 ne (ap (λ (n : Bool). made continues false n es) starts_is) closed,
-        le,
-      )
+      } in
+      (lay_between mtu starts before partial ps continues es p h.0 ne (ap (λ (n : Bool). made continues false n es) (starts_same starts ps)) closed, le)
 
   pub lays_part : (e : List ℕ) → IsElement e → 1 ≤ mtu → packet_size leb_len (lengths es ++ length e ∷ []) ≤ mtu → mtu < packet_size leb_len (lengths es ++ (length e + 1) ∷ [])
-      → Lays starts before (partial ++ e) (packets ++ written (closing starts packets continues true (es ++ e ∷ [])) ∷ []) true (record { mtu = mtu; elements = [] })
+      → Lays starts before (partial ++ e) (ps ++ closing starts ps continues true (es ++ e ∷ []) ∷ []) true (record { mtu = mtu; elements = [] })
   lays_part e one le fits most =
-      let p = closing starts packets continues true (es ++ e ∷ []) in
+      let p = closing starts ps continues true (es ++ e ∷ []) in
       let closed : IsClosed mtu p = record {
         nonempty = omega (arith, length-append es (e ∷ []));
         within = rw (length_written p, map_push (length {A = ℕ}) es e) fits;
         full = λ next. rw (length_written (record p { elements = with_next true next (es ++ e ∷ []) }), next_part next es e) most;
-      } in (
-        h.0 ++ p ∷ [],
-        push_written packets h.0 p h.1,
-        lay_part mtu starts before partial h.0 continues es e p h.2 one (ap (λ (n : Bool). made continues true n (es ++ e ∷ [])) starts_is) closed,
-        le,
-      )
+      } in
+      (lay_part mtu starts before partial ps continues es e p h.0 one (ap (λ (n : Bool). made continues true n (es ++ e ∷ [])) (starts_same starts ps)) closed, le)
 
-  pub lays_end : (e : List ℕ) → IsElement e → packet_size leb_len (lengths es ++ length e ∷ []) ≤ mtu → Lays starts (before ++ (partial ++ e) ∷ []) [] packets continues (record { mtu = mtu; elements = es ++ e ∷ [] })
-  lays_end e one fits = (h.0, h.1, lay_end mtu starts before partial h.0 continues es e h.2 one, rw (map_push (length {A = ℕ}) es e) fits)
+  pub lays_end : (e : List ℕ) → IsElement e → packet_size leb_len (lengths es ++ length e ∷ []) ≤ mtu → Lays starts (before ++ (partial ++ e) ∷ []) [] ps continues (record { mtu = mtu; elements = es ++ e ∷ [] })
+  lays_end e one fits = (lay_end mtu starts before partial ps continues es e h.0 one, rw (map_push (length {A = ℕ}) es e) fits)
 
-  pub lays_last : 0 < length es → AreSent mtu starts before (packets ++ written (closing starts packets continues false es) ∷ [])
+  pub lays_last : 0 < length es → Sent mtu starts before (ps ++ closing starts ps continues false es ∷ [])
   lays_last ne =
-      let p = closing starts packets continues false es in (
-        h.0 ++ p ∷ [],
-        push_written packets h.0 p h.1,
-        lay_last mtu starts before partial h.0 continues es p h.2 ne (ap (λ (n : Bool). made continues false n es) starts_is) (rw (length_written p) h.3),
-      )
+      let p = closing starts ps continues false es in
+      lay_last mtu starts before partial ps continues es p h.0 ne (ap (λ (n : Bool). made continues false n es) (starts_same starts ps)) (rw (length_written p) h.1)
 
 own_rises : (es : List ℕ) (m n : ℕ) → m ≤ n → own leb_len es m ≤ own leb_len es n
 own_rises [] m n le = omega arith
@@ -104,5 +87,5 @@ some_room es zero mtu fits most = absurd (omega (arith, fits, most))
 some_room es (suc room) mtu fits most = omega arith
 
 -- no strings are sent in no packets
-pub sent_none : (mtu : ℕ) (starts : Bool) → AreSent mtu starts [] []
-sent_none mtu starts = ([], refl, record { stands = (refl, refl); nonempty = tt; within = tt; full = tt; first = tt })
+pub sent_none : (mtu : ℕ) (starts : Bool) → Sent mtu starts [] []
+sent_none mtu starts = record { stands = (refl, refl); nonempty = tt; within = tt; full = tt; first = tt }

@@ -35,14 +35,13 @@ starts_next starts [] = starts
 starts_next starts (p ∷ ps) = false
 
 -- The packets so far, and the open one, hold these strings and this much of the next.
-abbrev pub Lays : Bool → List (List ℕ) → List ℕ → List (List ℕ) → Bool → Opened → Type 0
-Lays starts before partial packets continues opened = (ps : List Payload) × (packets ≡ map written ps) × Laying opened.mtu starts before partial ps continues opened.elements
-    × (packet_size leb_len (lengths opened.elements) ≤ opened.mtu)
+abbrev pub Lays : Bool → List (List ℕ) → List ℕ → List Payload → Bool → Opened → Type 0
+Lays starts before partial ps continues opened = Laying opened.mtu starts before partial ps continues opened.elements × (packet_size leb_len (lengths opened.elements) ≤ opened.mtu)
 
 -- these are the packets in which the strings are sent
 abbrev pub AreSent : ℕ → Bool → List (List ℕ) → List (List ℕ) → Type 0
 AreSent mtu starts strings packets = (ps : List Payload) × (packets ≡ map written ps) × Sent mtu starts strings ps
 
--- N stands where these packets are before it
-abbrev pub starts_with : Bool → List (List ℕ) → Bool
-starts_with starts packets = starts && length packets == 0
+-- N stands where no packets are before it
+abbrev pub starts_with : Bool → List Payload → Bool
+starts_with starts ps = starts && length ps == 0

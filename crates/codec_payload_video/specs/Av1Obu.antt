@@ -96,11 +96,6 @@ obus_within (suc k) (b ∷ bytes) = obu_at (b ∷ bytes) >>= λ o. obus_within k
 unfoldable pub obus_of : List ℕ → Option (List Obu)
 obus_of bytes = obus_within (length bytes) bytes
 
--- the strings of a frame, and whether the first is a sequence header
-unfoldable pub frame_strings : List ℕ → Option (List (List ℕ))
-frame_strings bytes = obus_of bytes >>= λ os. Some (strings_of os)
-
-abbrev pub starts_strings : List (List ℕ) → Bool
-starts_strings [] = false
-starts_strings ([] ∷ ss) = false
-starts_strings ((header ∷ bytes) ∷ ss) = bit_and header 0x78 == 0x08
+-- the kept OBUs of a frame
+unfoldable pub frame_kept : List ℕ → Option (List Obu)
+frame_kept bytes = obus_of bytes >>= λ os. Some (kept os)

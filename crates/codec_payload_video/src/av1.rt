@@ -11,6 +11,8 @@ mod obu;
 mod packer;
 mod packetizer;
 mod payload;
+mod piece;
+mod plan;
 
 pub use codec_payload_base::interface::Av1CodecExtra;
 pub use depacketizer::Av1Depacketizer;

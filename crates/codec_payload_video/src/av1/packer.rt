@@ -1,89 +1,45 @@
-//! How strings are laid into packets.
+//! How the kept OBUs of a frame are laid into payloads.
 
-ghost use Rattle.std.specs.Prelude.{◌≡◌, ◌+◌, ◌-◌, ◌<◌, ◌≤◌, ◌++◌, ◌∷◌, [], List, ℕ, Bool, length, map, OnOk, IfOk, OnErr, All};
-ghost use Rattle.codec_payload_video.specs.Av1Payload.{Payload, written, each_with_length, body};
+ghost use Rattle.std.specs.Prelude.{◌≡◌, ◌+◌, ◌-◌, ◌<◌, ◌≤◌, ◌++◌, ◌∷◌, [], List, ℕ, Bool, length, map, OnOk, IfOk};
+ghost use Rattle.codec_payload_video.specs.Av1Obu.{string, starts_sequence, view};
+ghost use Rattle.codec_payload_video.specs.Av1Payload.{Payload, written};
+ghost use Rattle.codec_payload_video.specs.Av1Packing.{Sent};
 ghost use Rattle.codec_payload_video.specs.Av1Size.{Opened, packet_size, owed, own, leb_len, lengths, items_of};
 ghost use Rattle.codec_payload_video.specs.Av1Laying.{Lays, AreSent, starts_with};
+ghost use Rattle.codec_payload_video.specs.Av1Piece.{piece_bytes, pieces_of, plan_view, plans_of, views};
 
-use crate::av1::leb::{longest, number_len, put_number};
+use crate::av1::leb::{longest, number_len};
+use crate::av1::obu::ObuSlices;
+use crate::av1::piece::Piece;
+use crate::av1::plan::Plan;
 use std::alloc::{AllocError, Global};
 use std::marker::Model;
 
-/// Writes each element behind its length.
-fn put_each(out: &mut Vec<u8>, elements: &[Vec<u8>]) -> Result<(), AllocError>
-    ensures { OnOk result (out.new.items ≡ out.old.items ++ each_with_length (items_of elements.now)) }
-{
-    for element in elements {
-        put_number(out, element.len() as u64)?;
-        out.extend_from_slice(element)?;
-    }
-    Ok(())
-}
-
-/// Writes the elements, up to three of them with no length before the last.
-fn put_body(out: &mut Vec<u8>, elements: &[Vec<u8>]) -> Result<(), AllocError>
-    ensures { OnOk result (out.new.items ≡ out.old.items ++ body (items_of elements.now)) }
-{
-    if elements.len() > 3 {
-        return put_each(out, elements);
-    }
-    if let Some((last, others)) = elements.split_last() {
-        put_each(out, others)?;
-        out.extend_from_slice(last)?;
-    }
-    Ok(())
-}
-
-/// The bytes of a payload.
-#[tactic(auto, unfolding(crate::specs::Av1Payload::written))]
-fn write_payload(
-    alloc: Global,
-    continues: bool,
-    goes_on: bool,
-    starts: bool,
-    elements: &[Vec<u8>],
-) -> Result<Vec<u8>, AllocError>
-    ensures { IfOk result (λ v. v.items ≡ written (record { continues = continues; goes_on = goes_on; starts = starts; elements = items_of elements.now })) }
-{
-    let count = if elements.len() > 3 {
-        0
-    } else {
-        elements.len() as u8
-    };
-    let z = if continues { 128 } else { 0 };
-    let y = if goes_on { 64 } else { 0 };
-    let n = if starts { 8 } else { 0 };
-    let mut out = Vec::new(alloc);
-    out.push(z + y + 16 * count + n)?;
-    put_body(&mut out, elements)?;
-    Ok(out)
-}
-
-/// The packet that is being filled.
+/// The payload that is being planned.
 #[derive(Drop)]
-struct OpenPacket {
+struct OpenPlan<'a> {
     mtu: usize,
     /// The bytes that are left.
     left: usize,
     /// What the length of the last element takes once another follows, where it stands without one.
     promised: usize,
-    elements: Vec<Vec<u8>>,
+    elements: Vec<Piece<'a>>,
 }
 
-impl Model for OpenPacket {
+impl<'a> Model for OpenPlan<'a> {
     ghost Value = { Opened };
 
-    ghost view = { λ p. record { mtu = p.mtu; elements = items_of p.elements.items } };
+    ghost view = { λ p. record { mtu = p.mtu; elements = pieces_of p.elements.items } };
 
-    ghost invariant = { λ p. (p.left + packet_size leb_len (lengths (items_of p.elements.items)) ≡ p.mtu) × (p.promised ≡ owed leb_len (lengths (items_of p.elements.items))) };
+    ghost invariant = { λ p. (p.left + packet_size leb_len (lengths (pieces_of p.elements.items)) ≡ p.mtu) × (p.promised ≡ owed leb_len (lengths (pieces_of p.elements.items))) };
 }
 
-impl OpenPacket {
+impl<'a> OpenPlan<'a> {
     fn new(alloc: Global, mtu: usize) -> Self
         requires { 1 ≤ mtu }
         ensures { result ≡ record { mtu = mtu; elements = [] } }
     {
-        OpenPacket {
+        OpenPlan {
             mtu,
             left: mtu - 1,
             promised: 0,
@@ -104,23 +60,10 @@ impl OpenPacket {
         }
     }
 
-    /// The payload that it is.
-    fn bytes(
-        &self,
-        alloc: Global,
-        continues: bool,
-        goes_on: bool,
-        starts: bool,
-    ) -> Result<Vec<u8>, AllocError>
-        ensures { IfOk result (λ v. v.items ≡ written (record { continues = continues; goes_on = goes_on; starts = starts; elements = self.now.elements })) }
-    {
-        write_payload(alloc, continues, goes_on, starts, &self.elements)
-    }
-
     /// Adds an element for which there is room.
-    fn add(&mut self, element: Vec<u8>) -> Result<(), AllocError>
-        requires { packet_size leb_len (lengths self.old.elements ++ length element.items ∷ []) ≤ self.old.mtu }
-        ensures ok { OnOk result (self.new ≡ record self.old { elements = self.old.elements ++ element.items ∷ [] }) }
+    fn add(&mut self, element: &Piece<'a>) -> Result<(), AllocError>
+        requires { packet_size leb_len (lengths self.old.elements ++ length (piece_bytes element.now) ∷ []) ≤ self.old.mtu }
+        ensures ok { OnOk result (self.new ≡ record self.old { elements = self.old.elements ++ piece_bytes element.now ∷ [] }) }
         ensures mtu { self.new.mtu ≡ self.old.mtu }
     {
         let len = element.len();
@@ -130,49 +73,67 @@ impl OpenPacket {
         } else {
             (own_len, 0)
         };
-        self.elements.push(element)?;
-        self.left -= self.promised + now + len;
+        self.elements.push(*element)?;
+        self.left = self.left - self.promised - now - len;
         self.promised = later;
         Ok(())
     }
+
+    /// The plan as it is now. The next begins with no elements.
+    fn close(&mut self, alloc: Global, continues: bool, goes_on: bool, starts: bool) -> Plan<'a>
+        requires { 1 ≤ self.old.mtu }
+        ensures plan { plan_view result ≡ record { continues = continues; goes_on = goes_on; starts = starts; elements = self.old.elements } }
+        ensures opened { self.new ≡ record { mtu = self.old.mtu; elements = [] } }
+    {
+        let elements = std::mem::replace(&mut self.elements, Vec::new(alloc));
+        let size = self.mtu - self.left;
+        self.left = self.mtu - 1;
+        self.promised = 0;
+        Plan {
+            continues,
+            goes_on,
+            starts,
+            size,
+            elements,
+        }
+    }
 }
 
-/// Lays strings into packets.
+/// Lays OBUs into payloads.
 #[derive(Drop)]
-struct Packer {
+struct Packer<'a> {
     alloc: Global,
-    /// Whether the first string starts a coded video sequence.
+    /// Whether the first OBU starts a coded video sequence.
     starts: bool,
-    /// Whether the first element of the open packet goes on from the packet before.
+    /// Whether the first element of the open payload goes on from the payload before.
     continues: bool,
-    packets: Vec<Vec<u8>>,
-    opened: OpenPacket,
+    plans: Vec<Plan<'a>>,
+    opened: OpenPlan<'a>,
 }
 
-impl Packer {
-    /// Ends the open packet, and begins the next.
+impl<'a> Packer<'a> {
+    /// Ends the open payload, and begins the next.
     fn close(&mut self, goes_on: bool) -> Result<(), AllocError>
         requires { 1 ≤ self.old.opened.mtu }
-        ensures packets { OnOk result (items_of self.new.packets.items ≡ items_of self.old.packets.items
-            ++ written (record { continues = self.old.continues; goes_on = goes_on; starts = starts_with self.old.starts (items_of self.old.packets.items); elements = self.old.opened.elements }) ∷ []) }
+        ensures plans { OnOk result (plans_of self.new.plans.items ≡ plans_of self.old.plans.items
+            ++ record { continues = self.old.continues; goes_on = goes_on; starts = starts_with self.old.starts (plans_of self.old.plans.items); elements = self.old.opened.elements } ∷ []) }
         ensures opened { OnOk result (self.new.opened ≡ record { mtu = self.old.opened.mtu; elements = [] }) }
         ensures flags { OnOk result ((self.new.starts ≡ self.old.starts) × (self.new.continues ≡ goes_on)) }
     {
-        let starts = self.starts && self.packets.is_empty();
-        let payload = self
+        let starts = self.starts && self.plans.is_empty();
+        let plan = self
             .opened
-            .bytes(self.alloc, self.continues, goes_on, starts)?;
-        self.packets.push(payload)?;
-        self.opened = OpenPacket::new(self.alloc, self.opened.mtu);
+            .close(self.alloc, self.continues, goes_on, starts);
+        self.plans.push(plan)?;
         self.continues = goes_on;
         Ok(())
     }
 
-    /// Ends the open packet where no byte of another string fits.
-    fn start_string(&mut self) -> Result<(), AllocError>
+    /// Ends the open payload where no byte of another OBU fits.
+    fn start_obu(&mut self) -> Result<(), AllocError>
         requires { 2 ≤ self.old.opened.mtu }
-        ensures laid { OnOk result ((before : List (List ℕ)) → Lays self.old.starts before [] (items_of self.old.packets.items) self.old.continues self.old.opened
-            → Lays self.new.starts before [] (items_of self.new.packets.items) self.new.continues self.new.opened) }
+        ensures laid { OnOk result ((before : List (List ℕ)) → Lays self.old.starts before [] (plans_of self.old.plans.items) self.old.continues self.old.opened
+            → Lays self.new.starts before [] (plans_of self.new.plans.items) self.new.continues self.new.opened) }
         ensures room { OnOk result (packet_size leb_len (lengths self.new.opened.elements ++ 1 ∷ []) ≤ self.old.opened.mtu) }
         ensures kept { OnOk result ((self.new.opened.mtu ≡ self.old.opened.mtu) × (self.new.starts ≡ self.old.starts)) }
     {
@@ -182,64 +143,70 @@ impl Packer {
         Ok(())
     }
 
-    /// Adds a piece of a string to the open packet.
-    fn add(&mut self, piece: &[u8]) -> Result<(), AllocError>
-        requires { packet_size leb_len (lengths self.old.opened.elements ++ length piece.now ∷ []) ≤ self.old.opened.mtu }
-        ensures { OnOk result ((self.new.opened ≡ record self.old.opened { elements = self.old.opened.elements ++ piece.now ∷ [] })
-            × (self.new.packets ≡ self.old.packets) × (self.new.continues ≡ self.old.continues) × (self.new.starts ≡ self.old.starts)) }
-    {
-        let element = Vec::from_slice(self.alloc, piece)?;
-        self.opened.add(element)
-    }
-
-    /// Lays a string behind the others.
-    fn lay(&mut self, string: &[u8]) -> Result<(), AllocError>
-        requires mtu { 2 ≤ self.old.opened.mtu }
-        requires some { 0 < length string.now }
-        ensures laid { OnOk result ((before : List (List ℕ)) → Lays self.old.starts before [] (items_of self.old.packets.items) self.old.continues self.old.opened
-            → Lays self.new.starts (before ++ string.now ∷ []) [] (items_of self.new.packets.items) self.new.continues self.new.opened) }
+    /// Lays an OBU behind the others: whole where it fits, else in the longest pieces that fit.
+    fn lay(&mut self, obu: &ObuSlices<'a>) -> Result<(), AllocError>
+        requires { 2 ≤ self.old.opened.mtu }
+        ensures laid { OnOk result ((before : List (List ℕ)) → Lays self.old.starts before [] (plans_of self.old.plans.items) self.old.continues self.old.opened
+            → Lays self.new.starts (before ++ string (view obu.now) ∷ []) [] (plans_of self.new.plans.items) self.new.continues self.new.opened) }
         ensures some { OnOk result (0 < length self.new.opened.elements) }
         ensures kept { OnOk result ((self.new.opened.mtu ≡ self.old.opened.mtu) × (self.new.starts ≡ self.old.starts)) }
     {
-        self.start_string()?;
-        let mut rest = string;
+        self.start_obu()?;
+        let mut rest = Piece::whole(obu);
         let mut room = self.opened.room();
         while room < rest.len() {
             let (piece, after) = rest.split_at(room);
-            self.add(piece)?;
+            self.opened.add(&piece)?;
             self.close(true)?;
             rest = after;
             room = self.opened.room();
         }
-        self.add(rest)?;
+        self.opened.add(&rest)?;
         Ok(())
     }
 }
 
-/// The packets in which the strings are sent.
-pub fn pack(
-    alloc: Global,
-    mtu: usize,
-    starts: bool,
-    strings: &[Vec<u8>],
-) -> Result<Vec<Vec<u8>>, AllocError>
-    requires mtu { 2 ≤ mtu }
-    requires some { All (λ s. 0 < length s.items) strings.now }
-    ensures { IfOk result (λ packets. AreSent mtu starts (items_of strings.now) (items_of packets.items)) }
+/// Whether the first of the kept OBUs is a sequence header.
+fn starts_with_sequence(obus: &[ObuSlices<'_>]) -> bool
+    ensures { result ≡ starts_sequence (views obus.now) }
 {
-    if strings.is_empty() {
+    match obus {
+        [] => false,
+        [first, ..] => first.header & 0x78 == 0x08,
+    }
+}
+
+/// Where the bytes of the payloads lie in which the kept OBUs are sent.
+fn plans<'a>(alloc: Global, mtu: usize, obus: &[ObuSlices<'a>]) -> Result<Vec<Plan<'a>>, AllocError>
+    requires { 2 ≤ mtu }
+    ensures { IfOk result (λ plans. Sent mtu (starts_sequence (views obus.now)) (map string (views obus.now)) (plans_of plans.items)) }
+{
+    if obus.is_empty() {
         return Ok(Vec::new(alloc));
     }
     let mut packer = Packer {
         alloc,
-        starts,
+        starts: starts_with_sequence(obus),
         continues: false,
-        packets: Vec::new(alloc),
-        opened: OpenPacket::new(alloc, mtu),
+        plans: Vec::new(alloc),
+        opened: OpenPlan::new(alloc, mtu),
     };
-    for string in strings {
-        packer.lay(string)?;
+    for obu in obus {
+        packer.lay(obu)?;
     }
     packer.close(false)?;
-    Ok(packer.packets)
+    Ok(packer.plans)
+}
+
+/// The payloads in which the kept OBUs are sent.
+pub fn pack(alloc: Global, mtu: usize, obus: &[ObuSlices<'_>]) -> Result<Vec<Vec<u8>>, AllocError>
+    requires { 2 ≤ mtu }
+    ensures { IfOk result (λ packets. AreSent mtu (starts_sequence (views obus.now)) (map string (views obus.now)) (items_of packets.items)) }
+{
+    let plans = plans(alloc, mtu, obus)?;
+    let mut packets = Vec::with_capacity(alloc, plans.len())?;
+    for plan in &plans {
+        packets.push(plan.write(alloc)?)?;
+    }
+    Ok(packets)
 }

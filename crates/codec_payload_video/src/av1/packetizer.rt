@@ -2,8 +2,8 @@
 
 ghost use Rattle.std.specs.Prelude.{◌≡◌, ◌+◌, ◌<◌, ◌≤◌, ◌++◌, ◌∷◌, [], List, ℕ, length, map, true, false, Some, None, OnOk, IfOk, IfErr};
 ghost use Rattle.codec_payload_base.specs.Answers.{packets_of};
-ghost use Rattle.codec_payload_video.specs.Av1Obu.{kept, string, strings_of, starts_sequence, frame_strings, starts_strings, view};
-ghost use Rattle.codec_payload_video.specs.Av1Laying.{AreSent};
+ghost use Rattle.codec_payload_video.specs.Av1Obu.{kept, frame_kept, view};
+ghost use Rattle.codec_payload_video.specs.Av1Piece.{views};
 ghost use Rattle.codec_payload_video.specs.Av1Size.{items_of};
 ghost use Rattle.codec_payload_video.specs.Av1Outcome.{Gives};
 ghost use Rattle.codec_payload_video.specs.Av1Steps.{AnswersAv1, IsLeast, ReachesFurthest};
@@ -48,9 +48,8 @@ impl Packetizer for Av1Packetizer {
         if b.is_empty() || mtu < 2 {
             return Ok(Vec::new(alloc));
         }
-        let strings = kept_strings(alloc, b)?;
-        let packets = pack(alloc, mtu, starts_with_sequence(&strings), &strings)?;
-        Ok(packets)
+        let obus = kept_obus(alloc, b)?;
+        Ok(pack(alloc, mtu, &obus)?)
     }
 
     /// The last packet of a temporal unit is marked (RTP Payload Format for AV1, section 4.2).
@@ -71,53 +70,28 @@ impl Packetizer for Av1Packetizer {
     }
 }
 
-/// The bytes that packets carry of an OBU.
-#[tactic(auto, unfolding(crate::specs::Av1Obu::string))]
-fn string_of(alloc: Global, obu: &ObuSlices<'_>) -> Result<Vec<u8>, AllocError>
-    ensures { IfOk result (λ v. v.items ≡ string (view obu.now)) }
-{
-    let mut out = Vec::new(alloc);
-    out.push(obu.header & 0xfd)?;
-    out.extend_from_slice(obu.extension)?;
-    out.extend_from_slice(obu.payload)?;
-    Ok(out)
-}
-
-/// Adds what packets carry of an OBU, where it is kept.
-fn keep(alloc: Global, strings: &mut Vec<Vec<u8>>, obu: &ObuSlices<'_>) -> Result<(), AllocError>
-    ensures { OnOk result (items_of strings.new.items ≡ items_of strings.old.items ++ strings_of (view obu.now ∷ [])) }
+/// Adds an OBU where it is kept.
+fn keep<'a>(obus: &mut Vec<ObuSlices<'a>>, obu: &ObuSlices<'a>) -> Result<(), AllocError>
+    ensures { OnOk result (views obus.new.items ≡ views obus.old.items ++ kept (view obu.now ∷ [])) }
 {
     if is_kept(obu.header) {
-        strings.push(string_of(alloc, obu)?)?;
+        obus.push(*obu)?;
     }
     Ok(())
 }
 
-/// What packets carry of the kept OBUs of a frame.
-fn kept_strings(alloc: Global, frame: &[u8]) -> Result<Vec<Vec<u8>>, PacketError>
-    ensures { Gives (λ v. items_of v.items) result (frame_strings frame.now) }
+/// The kept OBUs of a frame, in order.
+fn kept_obus(alloc: Global, frame: &[u8]) -> Result<Vec<ObuSlices<'_>>, PacketError>
+    ensures { Gives (λ v. views v.items) result (frame_kept frame.now) }
 {
-    let mut strings = Vec::new(alloc);
+    let mut obus = Vec::new(alloc);
     let mut rest = frame;
     while !rest.is_empty() {
         let Some((obu, after)) = obu_of(rest) else {
             return Err(PacketError::ErrAv1CorruptedPacket);
         };
-        keep(alloc, &mut strings, &obu)?;
+        keep(&mut obus, &obu)?;
         rest = after;
     }
-    Ok(strings)
-}
-
-/// Whether the first string is of a sequence header.
-fn starts_with_sequence(strings: &[Vec<u8>]) -> bool
-    ensures { result ≡ starts_strings (items_of strings.now) }
-{
-    match strings {
-        [] => false,
-        [first, ..] => match first.as_slice() {
-            [] => false,
-            [header, ..] => *header & 0x78 == 0x08,
-        },
-    }
+    Ok(obus)
 }

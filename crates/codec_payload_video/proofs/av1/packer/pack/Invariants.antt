@@ -1,11 +1,8 @@
-use Rattle.std.proofs.Common.{◌≡◌, ◌<◌, [], length, take}
+use Rattle.std.proofs.Common.{◌≡◌, map, take}
+use Rattle.codec_payload_video.specs.Av1Payload.{written}
+use Rattle.codec_payload_video.specs.Av1Piece.{plans_of}
 use Rattle.codec_payload_video.specs.Av1Size.{items_of}
-use Rattle.codec_payload_video.specs.Av1Laying.{Lays}
 use Rattle.codec_payload_video.proofs.av1.packer.pack.Given as goal
 
-abbrev pub invariant-loop-string : goal.invariant-loop-string
-invariant-loop-string l = record {
-  laid : Lays l.starts (items_of (take l.string-index l.strings)) [] (items_of l.packer.packets.items) l.packer.continues l.packer.opened;
-  some : 0 < l.string-index → 0 < length l.packer.opened.elements;
-  kept : (l.packer.opened.mtu ≡ l.mtu) × (l.packer.starts ≡ l.starts);
-}
+abbrev pub invariant-loop-plan : goal.invariant-loop-plan
+invariant-loop-plan l = items_of l.packets.items ≡ map written (plans_of (take l.plan-index l.plan-items))
