@@ -13,6 +13,8 @@ mod packetizer;
 mod payload;
 mod piece;
 mod plan;
+#[cfg(test)]
+mod tests;
 
 pub use codec_payload_base::interface::Av1CodecExtra;
 pub use depacketizer::Av1Depacketizer;

@@ -15,9 +15,9 @@ no_obu = record { header = 0; extension = record { ref_ptr = (0, 0); now = [] };
 one_more : (os : List ObuSlices) (i : ℕ) → i < length os → map string (views (take i os)) ++ string (view (get_or os i no_obu)) ∷ [] ≡ map string (views (take (i + 1) os))
 one_more os i lt =
     sym (
-      ap (λ (t : List ObuSlices). map string (views t)) (take_more os i no_obu lt)
-      ∙ ap (λ (t : List Obu). map string t) (map_push view (take i os) (get_or os i no_obu))
-      ∙ map_push string (views (take i os)) (view (get_or os i no_obu))
+    ap (λ (t : List ObuSlices). map string (views t)) (take_more os i no_obu lt)
+    ∙ ap (λ (t : List Obu). map string t) (map_push view (take i os) (get_or os i no_obu))
+    ∙ map_push string (views (take i os)) (view (get_or os i no_obu))
     )
 
 pub loop-obu-preserved : goal.loop-obu-preserved
