@@ -10,5 +10,6 @@ pub mod BitLemmas
 pub mod ByteTables
 pub mod BytesLemmas
 pub mod Leb128Lemmas
+pub mod LebLemmas
 pub mod PieceLemmas
 pub mod TelephoneLemmas

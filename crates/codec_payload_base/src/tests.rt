@@ -6,7 +6,7 @@ use crate::plain::{
     G7xxPacketizer, G711Depacketizer, NullDepacketizer, NullPacketizer, OpusDepacketizer,
     OpusPacketizer,
 };
-use crate::wire::{ExtensionValues, Frequency, MediaTime, Pt};
+use crate::wire::{ExtensionValues, Frequency, MediaTime, Pt, encode_leb_u63};
 use std::alloc::Global;
 use std::test::Fail;
 
@@ -135,4 +135,17 @@ fn times_and_defaults(rt: HostRuntime) -> Result<(), Fail> {
     );
     assert_eq!(rt; ExtensionValues::default(), ExtensionValues {});
     Ok(())
+}
+
+#[test]
+fn leb_at_the_front(rt: HostRuntime) {
+    let mut short = [0xee; 3];
+    assert_eq!(rt; encode_leb_u63(300, &mut short), 2);
+    assert_eq!(rt; short.as_slice(), [0xacu8, 0x02, 0xee].as_slice());
+    let mut long = [0xee; 9];
+    assert_eq!(rt; encode_leb_u63(0x7fff_ffff_ffff_ffff, &mut long), 9);
+    assert_eq!(rt;
+        long.as_slice(),
+        [0xffu8, 0xff, 0xff, 0xff, 0xff, 0xff, 0xff, 0xff, 0x7f].as_slice()
+    );
 }

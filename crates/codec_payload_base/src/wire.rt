@@ -1,6 +1,7 @@
 //! Numbers, times, headers and codecs, as RTP has them (RFC 3550, section 5.1).
 
-ghost use Rattle.std.specs.Prelude.{◌≡◌, ◌↔◌, ◌<◌, IsNone, IfSome};
+ghost use Rattle.std.specs.Prelude.{◌≡◌, ◌↔◌, ◌<◌, ◌≤◌, ◌^◌, ◌++◌, IsNone, IfSome, drop, length};
+ghost use Rattle.codec_payload_base.specs.Leb.{leb};
 ghost use Rattle.codec_payload_base.specs.Time.{rebased};
 
 use std::marker::Model;
@@ -235,4 +236,25 @@ pub enum MediaType {
     Video,
     Application,
     Unknown,
+}
+
+/// Writes a number at the front of `buf` as the shortest LEB128 (AV1 bitstream specification, section 4.10.5), leaves
+/// the rest, and answers how many bytes it took: 1 to 9.
+pub fn encode_leb_u63(value: u64, buf: &mut [u8]) -> usize
+    requires value { value < 2 ^ 63 }
+    requires room { length (leb value) ≤ length buf.old }
+    ensures length { result ≡ length (leb value) }
+    ensures bytes { buf.new ≡ leb value ++ drop result buf.old }
+{
+    let mut rest = value;
+    for place in 0..8usize {
+        if rest < 128 {
+            buf[place] = rest as u8;
+            return place + 1;
+        }
+        buf[place] = (rest % 128) as u8 + 128;
+        rest /= 128;
+    }
+    buf[8] = rest as u8;
+    9
 }

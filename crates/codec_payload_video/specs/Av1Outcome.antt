@@ -1,0 +1,29 @@
+-- What a call answered, beside what reading gives.
+use Rattle.std.specs.Prelude.{◌≡◌, List, ℕ, ◌++◌, Option, Some, None, Result, Ok, Err}
+use Rattle.codec_payload_base.specs.declared.error.PacketError.{PacketError}
+use Rattle.codec_payload_base.specs.declared.error.PacketError.TheVariants as faults
+
+-- Seen by view, it is what reading finds.
+abbrev pub Finds : {X Y : Type 0} → (X → Y) → Option X → Option Y → Type 0
+Finds view (Some x) read = read ≡ Some (view x)
+Finds view None read = read ≡ None
+
+-- A fault of the bytes comes only where reading finds nothing; memory can run out anywhere.
+abbrev pub Fails : {Y : Type 0} → PacketError → Option Y → Type 0
+Fails faults.OutOfMemory read = Unit {0}
+Fails faults.ErrAv1CorruptedPacket read = read ≡ None
+Fails _ read = ⊥
+
+abbrev pub Gives : {X Y : Type 0} → (X → Y) → Result X PacketError → Option Y → Type 0
+Gives view (Ok x) read = read ≡ Some (view x)
+Gives view (Err e) read = Fails e read
+
+-- What reading finds was added at the end.
+abbrev pub Appends : {X : Type 0} → Result X PacketError → List ℕ → List ℕ → Option (List ℕ) → Type 0
+Appends (Ok x) old new read = (added : List ℕ) × (read ≡ Some added) × (new ≡ old ++ added)
+Appends (Err e) old new read = Fails e read
+
+-- What reading finds first was added at the end, and what it finds next is left.
+abbrev pub Takes : {X : Type 0} → Result X PacketError → List ℕ → List ℕ → List ℕ → Option (List ℕ × List ℕ) → Type 0
+Takes (Ok x) old new left read = (added : List ℕ) × (read ≡ Some (added, left)) × (new ≡ old ++ added)
+Takes (Err e) old new left read = Fails e read

@@ -1,0 +1,44 @@
+-- What a packet takes, by the lengths of its elements.
+use Rattle.std.specs.Prelude.{ℕ, ◌+◌, List, [], ◌∷◌, length, map, nat_lt, if◌then◌else◌}
+use Rattle.std.specs.Global.{Vec}
+use Rattle.codec_payload_base.specs.Leb.{leb}
+
+-- ---- what a packet of elements of these lengths takes; cost is what a length takes
+
+abbrev pub full : (ℕ → ℕ) → List ℕ → ℕ
+full cost [] = 0
+full cost (e ∷ es) = cost e + e + full cost es
+
+abbrev pub lean : (ℕ → ℕ) → List ℕ → ℕ
+lean cost [] = 0
+lean cost (e ∷ []) = e
+lean cost (e ∷ f ∷ es) = cost e + e + lean cost (f ∷ es)
+
+abbrev pub packet_size : (ℕ → ℕ) → List ℕ → ℕ
+packet_size cost es = 1 + (if nat_lt 3 (length es) then full cost es else lean cost es)
+
+abbrev pub leb_len : ℕ → ℕ
+leb_len n = length (leb n)
+
+-- what the last element's length takes once another follows, where it stands without one
+abbrev pub owed : (ℕ → ℕ) → List ℕ → ℕ
+owed cost [] = 0
+owed cost (a ∷ []) = cost a
+owed cost (a ∷ b ∷ []) = cost b
+owed cost (a ∷ b ∷ c ∷ []) = cost c
+owed cost (a ∷ b ∷ c ∷ d ∷ es) = 0
+
+-- what the length of an element behind these takes
+abbrev pub own : (ℕ → ℕ) → List ℕ → ℕ → ℕ
+own cost es n = if nat_lt 2 (length es) then cost n else 0
+
+-- the packet that is being filled: what a packet may take, and the elements so far
+pub record Opened : Type 0 where
+  pub mtu : ℕ
+  pub elements : List (List ℕ)
+
+abbrev pub lengths : List (List ℕ) → List ℕ
+lengths es = map length es
+
+abbrev pub items_of : List (Vec ℕ) → List (List ℕ)
+items_of vs = map (λ v. v.items) vs

@@ -1,0 +1,22 @@
+//! Laws of AV1 packets.
+
+ghost use Rattle.std.specs.Prelude.{◌≡◌, ◌<◌, ◌^◌, ◌++◌, ◌∷◌, ℕ, Bool, true, List, Some, length, slice_index};
+ghost use Rattle.std.specs.List.{flat_map};
+ghost use Rattle.codec_payload_video.specs.Av1Obu.{Obu, IsSequence, kept, strings_of, canonical, canonical_unit};
+ghost use Rattle.codec_payload_video.specs.Av1Payload.{is_head};
+ghost use Rattle.codec_payload_video.specs.Av1Laying.{AreSent};
+ghost use Rattle.codec_payload_video.specs.Av1Receiving.{all_received};
+
+/// The canonical unit of a canonical unit is itself.
+pub fn canonical_unit_is_its_own()
+    ensures { (bytes : List ℕ) (os : List Obu) → ((i : ℕ) → slice_index bytes i < 256) → length bytes < 2 ^ 64 → IsSequence os bytes
+        → (again : List Obu) × IsSequence again (canonical_unit os) × (canonical_unit again ≡ canonical_unit os) }
+{}
+
+/// The last packets of a frame, from a head on, give the last of its kept OBUs, whatever a receiver had pending.
+pub fn last_packets_give_last_obus()
+    ensures { (bytes : List ℕ) (os : List Obu) → ((i : ℕ) → slice_index bytes i < 256) → length bytes < 2 ^ 64 → IsSequence os bytes
+        → (mtu : ℕ) (starts : Bool) (front : List (List ℕ)) (packet : List ℕ) (packets : List (List ℕ)) → mtu < 2 ^ 64
+        → AreSent mtu starts (strings_of os) (front ++ packet ∷ packets) → is_head packet ≡ true
+        → (pending : List ℕ) → (first : List Obu) × (last : List Obu) × (end : List ℕ) × (kept os ≡ first ++ last) × (0 < length last) × (all_received pending (packet ∷ packets) ≡ Some (flat_map canonical last, end)) }
+{}

@@ -1,0 +1,127 @@
+//! A packer that takes byte after byte, and measures the whole payload each time.
+
+use std::alloc::{AllocError, Global};
+
+/// How many bytes a length takes.
+fn leb_size(number: usize) -> usize {
+    let mut rest = number;
+    for size in 1..10usize {
+        if rest < 128 {
+            return size;
+        }
+        rest /= 128;
+    }
+    10
+}
+
+/// Writes a length at the end.
+pub fn put_leb(out: &mut Vec<u8>, number: usize) -> Result<(), AllocError> {
+    let mut rest = number;
+    for _ in 1..leb_size(number) {
+        out.push((rest % 128) as u8 + 128)?;
+        rest /= 128;
+    }
+    out.push((rest % 128) as u8)?;
+    Ok(())
+}
+
+/// The payload that is being filled.
+#[derive(Drop)]
+struct Filling {
+    continues: bool,
+    elements: Vec<Vec<u8>>,
+}
+
+impl Filling {
+    /// The length of the payload.
+    fn size(&self) -> usize {
+        let mut size = 1usize;
+        for (i, element) in self.elements.iter().enumerate() {
+            size = size.saturating_add(element.len());
+            if self.elements.len() > 3 || i + 1 < self.elements.len() {
+                size = size.saturating_add(leb_size(element.len()));
+            }
+        }
+        size
+    }
+
+    /// Adds a byte, in a new element where there is none that it goes on.
+    fn push(&mut self, alloc: Global, byte: u8, is_first: bool) -> Result<(), AllocError> {
+        if is_first || self.elements.is_empty() {
+            self.elements.push(Vec::new(alloc))?;
+        }
+        if let Some(element) = self.elements.last_mut() {
+            element.push(byte)?;
+        }
+        Ok(())
+    }
+
+    /// Takes the last byte away.
+    fn pop(&mut self) {
+        let is_empty = match self.elements.last_mut() {
+            Some(element) => {
+                element.pop();
+                element.is_empty()
+            }
+            None => false,
+        };
+        if is_empty {
+            self.elements.pop();
+        }
+    }
+
+    fn write(&self, alloc: Global, goes_on: bool, starts: bool) -> Result<Vec<u8>, AllocError> {
+        let count = self.elements.len();
+        let w: u8 = if count > 3 { 0 } else { count as u8 };
+        let z: u8 = if self.continues { 0x80 } else { 0 };
+        let y: u8 = if goes_on { 0x40 } else { 0 };
+        let n: u8 = if starts { 0x08 } else { 0 };
+        let mut out = Vec::new(alloc);
+        out.push(z | y | (w << 4) | n)?;
+        for (i, element) in self.elements.iter().enumerate() {
+            if count > 3 || i + 1 < count {
+                put_leb(&mut out, element.len())?;
+            }
+            out.extend_from_slice(element)?;
+        }
+        Ok(out)
+    }
+}
+
+/// The payloads of strings: each takes the next byte as long as it then stays within the MTU. N stands on the first where
+/// the first string is a sequence header.
+pub fn plain_packets(
+    alloc: Global,
+    mtu: usize,
+    strings: &[Vec<u8>],
+) -> Result<Vec<Vec<u8>>, AllocError> {
+    let starts = match strings {
+        [first, ..] => first.first() == Some(&0x08),
+        [] => false,
+    };
+    let mut packets = Vec::new(alloc);
+    let mut filling = Filling {
+        continues: false,
+        elements: Vec::new(alloc),
+    };
+    for string in strings {
+        for (i, byte) in string.iter().enumerate() {
+            filling.push(alloc, *byte, i == 0)?;
+            if filling.size() > mtu {
+                filling.pop();
+                let is_first = packets.is_empty();
+                packets.push(filling.write(alloc, i > 0, starts && is_first)?)?;
+                filling = Filling {
+                    continues: i > 0,
+                    elements: Vec::new(alloc),
+                };
+                filling.push(alloc, *byte, true)?;
+            }
+        }
+    }
+    if !filling.elements.is_empty() {
+        let is_first = packets.is_empty();
+        packets.push(filling.write(alloc, false, starts && is_first)?)?;
+    }
+    Ok(packets)
+}
