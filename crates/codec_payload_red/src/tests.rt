@@ -271,21 +271,19 @@ fn encode_and_decode_where_memory_is_refused(rt: HostRuntime) -> Result<(), Fail
     Ok(())
 }
 
-/// A payload that is wrapped at the second attempt, since memory was refused to the first, is wrapped as it would have
-/// been at the first.
+/// Where memory is refused to one attempt to wrap a payload, the next gives what the first would have given, and so do
+/// those for the payloads after it.
 #[test]
 fn wrap_where_memory_is_refused(rt: HostRuntime) -> Result<(), Fail> {
     let alloc = rt.alloc();
-    let Ok(mut sender) = sender_of_four(alloc) else {
-        return Ok(());
-    };
-    let Ok(media) = Vec::from_slice(alloc, &[0x2a]) else {
-        return Ok(());
-    };
-    let last = match found(sender.wrap(media, 3_840, 1_200))? {
-        Some(bytes) => bytes,
-        None => wrapped(alloc, &mut sender, &[0x2a], 3_840, 1_200)?,
-    };
+    let mut sender = sender(alloc, &[1, 3]);
+    let mut last = Vec::new(alloc);
+    for (byte, rtp_time) in [(0u8, 0u32), (1, 960), (2, 1_920), (3, 2_880), (0x2a, 3_840)] {
+        last = match found(wrapped(alloc, &mut sender, &[byte], rtp_time, 1_200))? {
+            Some(bytes) => bytes,
+            None => wrapped(alloc, &mut sender, &[byte], rtp_time, 1_200)?,
+        };
+    }
     assert_eq!(rt;
         last.as_slice(),
         [
