@@ -3,6 +3,11 @@ pub use Rattle.codec_payload_base.specs.Faults
 pub use Rattle.codec_payload_base.specs.Payloads
 pub use Rattle.codec_payload_base.specs.Pieces
 pub use Rattle.codec_payload_base.specs.Time
+pub use Rattle.codec_payload_red.specs.Blocks
+pub use Rattle.codec_payload_red.specs.History
+pub use Rattle.codec_payload_red.specs.Levels
+pub use Rattle.codec_payload_red.specs.Payload
+pub use Rattle.codec_payload_red.specs.Reading
 pub use Rattle.codec_payload_video.specs.Vp8
 pub mod Buffer
 pub mod BufferExamples
@@ -13,6 +18,7 @@ pub mod Headline
 pub mod Held
 pub mod Pack
 pub mod Packets
+pub mod RedPackets
 pub mod Release
 pub mod Scan
 pub mod Schedule

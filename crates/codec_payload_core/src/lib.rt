@@ -2,6 +2,7 @@
 #![tactic(auto)]
 
 pub use codec_payload_base::{error, interface, plain, wire};
+pub use codec_payload_red::red;
 pub use codec_payload_video::vp8;
 
 pub mod buffer;

@@ -7,9 +7,14 @@ ghost use Rattle.codec_payload_core.specs.Pack.{pack_of, pack_for, configured};
 ghost use Rattle.codec_payload_core.specs.Packets.{Packet, packet_of, packets_in, last_payload};
 ghost use Rattle.codec_payload_core.specs.Sending.{sample_of, packet_for, SendsSample, SendsBeginning, SendsNothing};
 
+mod red_sink;
+#[cfg(test)]
+mod tests;
+
 use crate::codec::{CodecPacketizer, Packetizer, Vp9PacketizerMode};
 use crate::error::PacketError;
 use crate::wire::{CodecSpec, ExtensionValues, Frequency, Pt, SeqNo, Ticks, ToPayload};
+pub use red_sink::RedSink;
 use std::alloc::Global;
 use std::marker::Model;
 

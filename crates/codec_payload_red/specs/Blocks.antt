@@ -1,0 +1,57 @@
+-- Blocks as they lie in memory, and what calls answer.
+use Rattle.std.specs.Prelude.{◌≡◌, ◌++◌, ℕ, Bool, true, false, ◌&&◌, ◌==◌, nat_lt, List, [], ◌∷◌, map, drop, filter, Option, Some, None}
+use Rattle.codec_payload_base.specs.declared.error.PacketError.{PacketError}
+use Rattle.codec_payload_base.specs.declared.error.PacketError.TheVariants as faults
+use Rattle.codec_payload_red.specs.declared.red.blocks.RedBlock.{RedBlock}
+use Rattle.codec_payload_red.specs.declared.red.blocks.RedundantBlock.{RedundantBlock}
+use Rattle.codec_payload_red.specs.declared.red.blocks.SamePtBlocks.{SamePtBlocks}
+use Rattle.codec_payload_red.specs.Payload.{Redundant, Red}
+
+-- a block without where it lies
+pub record Block : Type 0 where
+  pub pt : ℕ
+  pub timestamp_offset : ℕ
+  pub payload : List ℕ
+  pub is_primary : Bool
+
+abbrev pub block_of : RedBlock → Block
+block_of b = record { pt = b.pt; timestamp_offset = b.timestamp_offset; payload = b.payload.now; is_primary = b.is_primary }
+
+abbrev pub blocks_of : List RedBlock → List Block
+blocks_of bs = map block_of bs
+
+abbrev pub older : Redundant → Block
+older b = record { pt = b.pt; timestamp_offset = b.offset; payload = b.bytes; is_primary = false }
+
+-- the older blocks in order, and the primary last
+abbrev pub blocks_in : Red → List Block
+blocks_in r = map older r.redundant ++ record { pt = r.pt; timestamp_offset = 0; payload = r.primary; is_primary = true } ∷ []
+
+-- a block as an older one
+abbrev pub older_of : RedBlock → Redundant
+older_of b = record { pt = b.pt; offset = b.timestamp_offset; bytes = b.payload.now }
+
+abbrev pub redundant_of : RedundantBlock → Redundant
+redundant_of b = record { pt = b.pt; offset = b.timestamp_offset; bytes = b.payload.items }
+
+-- Seen by view, it is what reading finds.
+abbrev pub Finds : {X Y : Type 0} → (X → Y) → Option X → Option Y → Type 0
+Finds view (Some x) read = read ≡ Some (view x)
+Finds view None read = read ≡ None
+
+-- The fault of the bytes comes only where reading finds nothing; memory can run out anywhere.
+abbrev pub Fails : PacketError → Option Red → Type 0
+Fails faults.OutOfMemory read = Unit {0}
+Fails faults.ErrRedCorruptedPacket read = read ≡ None
+Fails _ read = ⊥
+
+-- The blocks are those that reading finds.
+abbrev pub Decodes : Option Red → List Block → Type 0
+Decodes read blocks = (r : Red) × (read ≡ Some r) × (blocks ≡ blocks_in r)
+
+abbrev pub same_pt : ℕ → List RedBlock → List RedBlock
+same_pt pt = filter (λ b. (b.pt == pt) && nat_lt 0 b.timestamp_offset)
+
+-- those that are still to come
+abbrev pub same_pt_left : SamePtBlocks → List RedBlock
+same_pt_left s = same_pt s.pt (drop s.at s.blocks.now)

@@ -1,0 +1,14 @@
+//! RED: payloads that carry older media beside the media of the packet itself (RFC 2198).
+//!
+//! A payload is a row of headers with the blocks behind it, in the order of their headers. The primary block is the
+//! packet's own media and comes last; the others are redundant, each as many ticks of the RTP clock older as its
+//! timestamp offset says. [`RedEncoder`] writes such payloads and [`RedDecoder`] reads them; [`RedSender`] remembers
+//! what was sent and wraps each new payload with some of it.
+
+mod blocks;
+mod sender;
+
+pub use blocks::{
+    RedBlock, RedDecoder, RedEncoder, RedundantBlock, SamePtBlocks, red_same_pt_blocks,
+};
+pub use sender::{MAX_RED_RECOVERY_DEPTH, RedSender};

@@ -1,0 +1,295 @@
+//! RED payloads, written and read (RFC 2198, section 3).
+
+ghost use Rattle.std.specs.Prelude.{◌≡◌, ◌≤◌, ◌<◌, ◌*◌, ◌++◌, ◌%◌, false, nat_le, ◌&&◌, Some, IfErr, IfOk, IfSome, OnOk, IsErrOf, map, length, take, filter, MatchResult};
+ghost use Rattle.std.specs.Iterator.{YieldsFirstRef, item_count};
+ghost use Rattle.std.specs.List.{flat_map};
+ghost use Rattle.codec_payload_base.specs.declared.error.PacketError.TheVariants.{ErrRedCorruptedPacket, OutOfMemory};
+ghost use Rattle.codec_payload_red.specs.Payload.{Red, IsRed, header_of, header, masked, fits, encoded, kept_of};
+ghost use Rattle.codec_payload_red.specs.Reading.{count_at, block_at, blocks_at, red_at};
+ghost use Rattle.codec_payload_red.specs.Blocks.{blocks_of, blocks_in, older_of, redundant_of, Finds, Fails, Decodes, same_pt, same_pt_left};
+
+use codec_payload_base::error::PacketError;
+use std::alloc::{AllocError, Global};
+
+/// The greatest timestamp offset that 14 bits hold, in ticks of the RTP clock.
+const MAX_OFFSET: u32 = 16_383;
+
+/// The greatest block length that 10 bits hold, in bytes.
+const MAX_BLOCK_LEN: usize = 1_023;
+
+/// How many redundant blocks a payload has at most.
+const MAX_REDUNDANT: u32 = 32;
+
+/// The length of the header of a redundant block, in bytes.
+pub(crate) const REDUNDANT_HEADER_LEN: usize = 4;
+
+/// A block of older media, to be written before the primary one.
+#[derive(Debug, Drop)]
+pub struct RedundantBlock {
+    /// The payload type. Its low 7 bits are written.
+    pub pt: u8,
+    /// How much older than the primary block the media is, in ticks of the RTP clock.
+    pub timestamp_offset: u32,
+    /// The media.
+    pub payload: Vec<u8>,
+}
+
+/// Whether an offset has at most 14 bits and a length at most 10.
+pub(crate) fn fits_fields(offset: u32, len: usize) -> bool
+    ensures { result ≡ (nat_le offset 16383 && nat_le len 1023) }
+{
+    offset <= MAX_OFFSET && len <= MAX_BLOCK_LEN
+}
+
+impl RedundantBlock {
+    /// Whether the header has room for the block: the timestamp offset is at most 16,383 ticks and the payload has at
+    /// most 1,023 bytes (RFC 2198, section 3).
+    pub fn fits(&self) -> bool
+        ensures { result ≡ fits (redundant_of self.now) }
+    {
+        fits_fields(self.timestamp_offset, self.payload.len())
+    }
+}
+
+/// A block of a payload that was read. It borrows its bytes from the payload.
+#[derive(Clone, Debug, PartialEq, Eq, Drop)]
+pub struct RedBlock<'a> {
+    /// The payload type, from 0 to 127.
+    pub pt: u8,
+    /// How much older than the primary block the media is, in ticks of the RTP clock: at most 16,383, and 0 for the
+    /// primary block itself.
+    pub timestamp_offset: u32,
+    /// The media: at most 1,023 bytes in a redundant block, any number in the primary one.
+    pub payload: &'a [u8],
+    /// Whether this is the packet's own media.
+    pub is_primary: bool,
+}
+
+/// How many redundant headers stand before the primary one, or `None` where the bytes end inside the headers or there
+/// are more than `most`.
+#[tactic(auto, unfolding(crate::specs::Reading::count_at))]
+fn count_of(most: u32, bytes: &[u8]) -> Option<usize>
+    ensures found { result ≡ count_at most bytes.now }
+    ensures most { IfSome result (λ n. n ≤ most) }
+    ensures there { IfSome result (λ n. 4 * n < length bytes.now) }
+{
+    let first = bytes.first()?;
+    if *first < 128 {
+        return Some(0);
+    }
+    if most == 0 || bytes.len() < REDUNDANT_HEADER_LEN {
+        return None;
+    }
+    let (_, rest) = bytes.split_at(REDUNDANT_HEADER_LEN);
+    let count = count_of(most - 1, rest)?;
+    Some(count + 1)
+}
+
+/// The block whose header stands first in `headers`, taken from the front of `bodies`, and what stands behind it there.
+#[tactic(auto, unfolding(crate::specs::Reading::block_at))]
+fn block_of_header<'a>(headers: &[u8], bodies: &'a [u8]) -> Option<(RedBlock<'a>, &'a [u8])>
+    requires { 4 ≤ length headers.now }
+    ensures found { Finds (λ x. (older_of x.0, x.1.now)) result (block_at headers.now bodies.now) }
+    ensures older { IfSome result (λ x. x.0.is_primary ≡ false) }
+{
+    let len = usize::from(headers[2] % 4) * 256 + usize::from(headers[3]);
+    if bodies.len() < len {
+        return None;
+    }
+    let (payload, behind) = bodies.split_at(len);
+    let block = RedBlock {
+        pt: headers[0] % 128,
+        timestamp_offset: u32::from(headers[1]) * 64 + u32::from(headers[2] / 4),
+        payload,
+        is_primary: false,
+    };
+    Some((block, behind))
+}
+
+/// The `count` blocks whose headers stand first, and the primary one.
+fn blocks_from<'a>(
+    alloc: Global,
+    count: usize,
+    headers: &[u8],
+    bodies: &'a [u8],
+) -> Result<Vec<RedBlock<'a>>, PacketError>
+    requires { 4 * count < length headers.now }
+    ensures { MatchResult result (λ v. Decodes (blocks_at count headers.now bodies.now) (blocks_of v.items)) (λ e. Fails e (blocks_at count headers.now bodies.now)) }
+{
+    let mut found = Vec::new(alloc);
+    let mut heads = headers;
+    let mut rest = bodies;
+    for _ in 0..count {
+        let Some((block, behind)) = block_of_header(heads, rest) else {
+            return Err(PacketError::ErrRedCorruptedPacket);
+        };
+        found.push(block)?;
+        let (_, others) = heads.split_at(REDUNDANT_HEADER_LEN);
+        heads = others;
+        rest = behind;
+    }
+    found.push(RedBlock {
+        pt: heads[0],
+        timestamp_offset: 0,
+        payload: rest,
+        is_primary: true,
+    })?;
+    Ok(found)
+}
+
+/// Writes the header of a redundant block: a set bit, 7 bits of type, 14 of offset and 10 of length.
+pub(crate) fn put_header(
+    out: &mut Vec<u8>,
+    pt: u8,
+    offset: u32,
+    len: usize,
+) -> Result<(), AllocError>
+    requires low { offset ≤ 16383 }
+    requires short { len ≤ 1023 }
+    ensures written { OnOk result (out.new.items ≡ out.old.items ++ header_of (pt % 128) offset len) }
+{
+    out.extend_from_slice(&[
+        128 + pt % 128,
+        (offset / 64) as u8,
+        (offset % 64 * 4) as u8 + (len / 256) as u8,
+        (len % 256) as u8,
+    ])
+}
+
+/// Writes the headers of the first 32 blocks that fit.
+fn put_headers(out: &mut Vec<u8>, redundant: &[RedundantBlock]) -> Result<(), AllocError>
+    ensures { OnOk result (out.new.items ≡ out.old.items ++ flat_map header (map masked (take 32 (filter fits (map redundant_of redundant.now))))) }
+{
+    let mut left = MAX_REDUNDANT;
+    for block in redundant {
+        if left > 0 && block.fits() {
+            put_header(out, block.pt, block.timestamp_offset, block.payload.len())?;
+            left -= 1;
+        }
+    }
+    Ok(())
+}
+
+/// Writes the bytes of the first 32 blocks that fit.
+fn put_bytes(out: &mut Vec<u8>, redundant: &[RedundantBlock]) -> Result<(), AllocError>
+    ensures { OnOk result (out.new.items ≡ out.old.items ++ flat_map (λ b. b.bytes) (map masked (take 32 (filter fits (map redundant_of redundant.now))))) }
+{
+    let mut left = MAX_REDUNDANT;
+    for block in redundant {
+        if left > 0 && block.fits() {
+            out.extend_from_slice(&block.payload)?;
+            left -= 1;
+        }
+    }
+    Ok(())
+}
+
+/// The payload of the first 32 redundant blocks that fit, and the primary one.
+fn encoded_bytes(
+    alloc: Global,
+    primary_pt: u8,
+    primary: &[u8],
+    redundant: &[RedundantBlock],
+) -> Result<Vec<u8>, AllocError>
+    ensures { IfOk result (λ v. v.items ≡ encoded primary_pt primary.now (map redundant_of redundant.now)) }
+{
+    let mut out = Vec::new(alloc);
+    put_headers(&mut out, redundant)?;
+    out.push(primary_pt % 128)?;
+    put_bytes(&mut out, redundant)?;
+    out.extend_from_slice(primary)?;
+    Ok(out)
+}
+
+/// Writes RED payloads.
+pub struct RedEncoder;
+
+impl RedEncoder {
+    /// A payload of the first 32 redundant blocks that fit (see [`RedundantBlock::fits`]), in order, and of the primary
+    /// block, which may be empty and as long as it likes (RFC 2198, section 3). Blocks that do not fit, and those past
+    /// the 32nd that does, are left out. Payload types are written in 7 bits, the eighth is dropped.
+    ///
+    /// The only fault is 17, `OutOfMemory`.
+    pub fn encode(
+        alloc: Global,
+        primary_pt: u8,
+        primary: &[u8],
+        redundant: &[RedundantBlock],
+    ) -> Result<Vec<u8>, PacketError>
+        ensures written { IfOk result (λ v. v.items ≡ encoded primary_pt primary.now (map redundant_of redundant.now)) }
+        ensures payload { IfOk result (λ v. IsRed v.items (kept_of primary_pt primary.now (map redundant_of redundant.now))) }
+
+        // What `decode` reads in the bytes is what was kept.
+        ensures comes_back { IfOk result (λ v. red_at v.items ≡ Some (kept_of primary_pt primary.now (map redundant_of redundant.now))) }
+        ensures fault { IfErr result (λ e. e ≡ OutOfMemory) }
+    {
+        Ok(encoded_bytes(alloc, primary_pt, primary, redundant)?)
+    }
+}
+
+/// The blocks that reading finds.
+#[tactic(auto, unfolding(crate::specs::Reading::red_at))]
+fn decoded<'a>(alloc: Global, payload: &'a [u8]) -> Result<Vec<RedBlock<'a>>, PacketError>
+    ensures { MatchResult result (λ v. Decodes (red_at payload.now) (blocks_of v.items)) (λ e. Fails e (red_at payload.now)) }
+{
+    let Some(count) = count_of(MAX_REDUNDANT, payload) else {
+        return Err(PacketError::ErrRedCorruptedPacket);
+    };
+    let (_, bodies) = payload.split_at(REDUNDANT_HEADER_LEN * count + 1);
+    blocks_from(alloc, count, payload, bodies)
+}
+
+/// Reads RED payloads.
+pub struct RedDecoder;
+
+impl RedDecoder {
+    /// The blocks of a payload in the order of their headers, so the primary one is last. Each borrows its bytes from
+    /// the payload; nothing is copied (RFC 2198, section 3).
+    ///
+    /// Fault 14, `ErrRedCorruptedPacket`, comes for all that is no RED payload: where the bytes end inside the headers,
+    /// where more than 32 redundant blocks are announced, and where a redundant block goes past the end. Any other
+    /// bytes are a RED payload, whatever was meant by them. Fault 17, `OutOfMemory`, comes where the list of blocks
+    /// finds no memory.
+    pub fn decode<'a>(alloc: Global, payload: &'a [u8]) -> Result<Vec<RedBlock<'a>>, PacketError>
+        // The blocks are those of the payload, and encoding them gives its bytes.
+        ensures payload { IfOk result (λ v. (r : Red) × IsRed payload.now r × (blocks_of v.items ≡ blocks_in r) × (encoded r.pt r.primary r.redundant ≡ payload.now)) }
+        ensures refused { IsErrOf result ErrRedCorruptedPacket → (r : Red) → ¬ IsRed payload.now r }
+        ensures exact { MatchResult result (λ v. Decodes (red_at payload.now) (blocks_of v.items)) (λ e. Fails e (red_at payload.now)) }
+    {
+        decoded(alloc, payload)
+    }
+}
+
+/// The redundant blocks of one payload type. See [`red_same_pt_blocks`].
+#[derive(Debug, Drop)]
+pub struct SamePtBlocks<'a> {
+    blocks: &'a [RedBlock<'a>],
+    pt: u8,
+    at: usize,
+}
+
+/// Those of the blocks that have the payload type and a timestamp offset above 0, in order. It takes no memory.
+pub fn red_same_pt_blocks<'a>(blocks: &'a [RedBlock<'a>], pt: u8) -> SamePtBlocks<'a>
+    ensures { same_pt_left result ≡ same_pt pt blocks.now }
+{
+    SamePtBlocks { blocks, pt, at: 0 }
+}
+
+impl<'a> Iterator for SamePtBlocks<'a> {
+    type Item = &'a RedBlock<'a>;
+
+    ghost next_gives = { YieldsFirstRef same_pt_left };
+
+    ghost remaining = { item_count same_pt_left };
+
+    fn next(&mut self) -> Option<&'a RedBlock<'a>> {
+        while self.at < self.blocks.len() {
+            let block = &self.blocks[self.at];
+            self.at += 1;
+            if block.pt == self.pt && block.timestamp_offset > 0 {
+                return Some(block);
+            }
+        }
+        None
+    }
+}

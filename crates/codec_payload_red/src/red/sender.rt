@@ -1,0 +1,352 @@
+//! The sender of RED payloads, which remembers what it sent (RFC 2198, section 3).
+
+ghost use Rattle.std.specs.Prelude.{◌≡◌, ◌-◌, ◌%◌, ◌<◌, ◌≤◌, ◌++◌, [], length, take, reverse, sum_by, IfOk, IfErr, IfSome, OnOk, IsTrue};
+ghost use Rattle.std.specs.List.{flat_map};
+ghost use Rattle.codec_payload_base.specs.declared.error.PacketError.TheVariants.{OutOfMemory};
+ghost use Rattle.codec_payload_red.specs.Payload.{IsRed, header, spelling};
+ghost use Rattle.codec_payload_red.specs.Levels.{is_accepted, deepest, back, as_block, level, levels, levels_of, within, room_of, cost, kept, wrapped, output, recorded, synced, IsLongest};
+ghost use Rattle.codec_payload_red.specs.Blocks.{Finds};
+ghost use Rattle.codec_payload_red.specs.History.{entry_of, entries_of};
+
+use crate::red::blocks::{REDUNDANT_HEADER_LEN, fits_fields, put_header};
+use codec_payload_base::error::PacketError;
+use codec_payload_base::wire::Pt;
+use std::alloc::{AllocError, Global};
+use std::collections::VecDeque;
+use std::marker::Model;
+
+/// How many packets back a receiver looks for what a redundant block carries, and so the greatest distance of a sender.
+pub const MAX_RED_RECOVERY_DEPTH: u64 = 8;
+
+/// A payload that was sent.
+#[derive(Debug, Drop)]
+struct SentPayload {
+    bytes: Vec<u8>,
+    /// In ticks of the RTP clock, modulo 2^32.
+    time: u32,
+}
+
+/// The payload that was sent so many before.
+fn back_of(history: &VecDeque<SentPayload>, distance: u32) -> Option<&SentPayload>
+    ensures { Finds (λ x. entry_of x.now) result (back (entries_of history.now.items) distance) }
+{
+    let index = distance.checked_sub(1)?;
+    history.get(index as usize)
+}
+
+/// A payload as a block's offset and bytes, if it fits the header's fields.
+fn as_block_of(sent: &SentPayload, pt: u8, time: u32) -> Option<(u32, &[u8])>
+    ensures { Finds (λ x. record { pt = pt; offset = x.0; bytes = x.1.now }) result (as_block pt time (entry_of sent.now)) }
+{
+    let offset = time.wrapping_sub(sent.time);
+    if !fits_fields(offset, sent.bytes.len()) {
+        return None;
+    }
+    Some((offset, sent.bytes.as_slice()))
+}
+
+/// The level of a distance: the payload that was sent so many before, as a block's offset and bytes.
+fn level_of(
+    history: &VecDeque<SentPayload>,
+    pt: u8,
+    time: u32,
+    distance: u32,
+) -> Option<(u32, &[u8])>
+    ensures found { Finds (λ x. record { pt = pt; offset = x.0; bytes = x.1.now }) result (level pt time (entries_of history.now.items) distance) }
+    ensures low { IfSome result (λ x. x.0 ≤ 16383) }
+    ensures short { IfSome result (λ x. length x.1.now ≤ 1023) }
+{
+    let sent = back_of(history, distance)?;
+    as_block_of(sent, pt, time)
+}
+
+/// How many distances, from the shallowest on, have levels that fit the room together, and how many bytes these take.
+#[tactic(auto, unfolding(crate::specs::Levels::levels, crate::specs::Levels::within))]
+fn choose(
+    history: &VecDeque<SentPayload>,
+    pt: u8,
+    time: u32,
+    distances: &[u32],
+    room: usize,
+) -> (usize, usize)
+    ensures kept { within room (levels pt time (entries_of history.now.items) distances.now) ≡ levels pt time (entries_of history.now.items) (take result.0 distances.now) }
+    ensures count { result.0 ≤ length distances.now }
+    ensures cost { result.1 ≡ sum_by cost (levels pt time (entries_of history.now.items) (take result.0 distances.now)) }
+    ensures fits { result.1 ≤ room }
+{
+    let Some((first, deeper)) = distances.split_first() else {
+        return (0, 0);
+    };
+    match level_of(history, pt, time, *first) {
+        None => {
+            let (count, size) = choose(history, pt, time, deeper, room);
+            (count + 1, size)
+        }
+        Some((_, bytes)) => {
+            let size = REDUNDANT_HEADER_LEN + bytes.len();
+            if room < size {
+                return (0, 0);
+            }
+            let (count, others) = choose(history, pt, time, deeper, room - size);
+            (count + 1, size + others)
+        }
+    }
+}
+
+/// Writes the headers of the levels, deepest first.
+#[tactic(auto, unfolding(crate::specs::Levels::levels))]
+fn put_level_headers(
+    out: &mut Vec<u8>,
+    history: &VecDeque<SentPayload>,
+    pt: u8,
+    time: u32,
+    distances: &[u32],
+) -> Result<(), AllocError>
+    requires { pt < 128 }
+    ensures { OnOk result (out.new.items ≡ out.old.items ++ flat_map header (reverse (levels pt time (entries_of history.now.items) distances.now))) }
+{
+    let Some((first, deeper)) = distances.split_first() else {
+        return Ok(());
+    };
+    put_level_headers(out, history, pt, time, deeper)?;
+    if let Some((offset, bytes)) = level_of(history, pt, time, *first) {
+        put_header(out, pt, offset, bytes.len())?;
+    }
+    Ok(())
+}
+
+/// Writes the bytes of the levels, deepest first.
+#[tactic(auto, unfolding(crate::specs::Levels::levels))]
+fn put_level_bytes(
+    out: &mut Vec<u8>,
+    history: &VecDeque<SentPayload>,
+    pt: u8,
+    time: u32,
+    distances: &[u32],
+) -> Result<(), AllocError>
+    ensures { OnOk result (out.new.items ≡ out.old.items ++ flat_map (λ b. b.bytes) (reverse (levels pt time (entries_of history.now.items) distances.now))) }
+{
+    let Some((first, deeper)) = distances.split_first() else {
+        return Ok(());
+    };
+    put_level_bytes(out, history, pt, time, deeper)?;
+    if let Some((_, bytes)) = level_of(history, pt, time, *first) {
+        out.extend_from_slice(bytes)?;
+    }
+    Ok(())
+}
+
+/// The levels that the budget has room for, deepest first, and the payload behind them.
+fn wrapped_bytes(
+    alloc: Global,
+    history: &VecDeque<SentPayload>,
+    pt: u8,
+    time: u32,
+    distances: &[u32],
+    payload: &[u8],
+    budget: usize,
+) -> Result<Vec<u8>, AllocError>
+    requires room { length payload.now < budget }
+    requires small { pt < 128 }
+    ensures { IfOk result (λ v. v.items ≡ spelling (record { redundant = reverse (within (budget - length payload.now - 1) (levels pt time (entries_of history.now.items) distances.now)); pt = pt; primary = payload.now })) }
+{
+    let (count, size) = choose(history, pt, time, distances, budget - payload.len() - 1);
+    let (kept, _) = distances.split_at(count);
+    let mut out = Vec::with_capacity(alloc, size + 1 + payload.len())?;
+    put_level_headers(&mut out, history, pt, time, kept)?;
+    out.push(pt)?;
+    put_level_bytes(&mut out, history, pt, time, kept)?;
+    out.extend_from_slice(payload)?;
+    Ok(out)
+}
+
+/// Up to eight distances, strictly rising.
+#[derive(Debug, Drop)]
+struct Distances {
+    list: [u32; MAX_RED_RECOVERY_DEPTH as usize],
+    count: usize,
+}
+
+impl Model for Distances {
+    ghost use Rattle.std.specs.Prelude.{List, ℕ, take, ◌≤◌};
+
+    ghost Value = { List ℕ };
+
+    ghost view = { λ d. take d.count d.list };
+
+    ghost invariant = { λ d. d.count ≤ 8 };
+}
+
+impl Distances {
+    #[tactic(auto, using(crate::proofs::Sending::accepted_few))]
+    fn from_list(distances: &[u32]) -> Self
+        requires { IsTrue (is_accepted distances.now) }
+        ensures { result ≡ distances.now }
+    {
+        let mut list = [0; MAX_RED_RECOVERY_DEPTH as usize];
+        for (i, distance) in distances.iter().enumerate() {
+            list[i] = *distance;
+        }
+        Distances {
+            list,
+            count: distances.len(),
+        }
+    }
+
+    fn as_slice(&self) -> &[u32]
+        ensures { result.now ≡ self.now }
+    {
+        &self.list[..self.count]
+    }
+}
+
+/// How many payloads the history holds at most: as many as the greatest distance, and one where there is no distance.
+fn depth_of(distances: &[u32]) -> usize
+    ensures { result ≡ deepest distances.now }
+{
+    match distances {
+        [] => 1,
+        [.., last] => *last as usize,
+    }
+}
+
+/// Sends each payload together with some of those before it, so that a receiver finds lost ones again (RFC 2198).
+///
+/// A *distance* says how many payloads back a redundant block goes: 1 is the payload right before. The sender keeps as
+/// many payloads as its greatest distance.
+#[derive(Debug, Drop)]
+pub struct RedSender {
+    red_pt: Pt,
+    primary_pt: Pt,
+    distances: Distances,
+    /// Newest first.
+    history: VecDeque<SentPayload>,
+}
+
+impl Model for RedSender {
+    ghost use Rattle.std.specs.Prelude.{IsTrue, length, ◌≤◌};
+    ghost use Rattle.codec_payload_red.specs.Levels.{Sender, is_accepted, deepest};
+    ghost use Rattle.codec_payload_red.specs.History.{entries_of};
+
+    ghost Value = { Sender };
+
+    ghost view = { λ s. record { red_pt = s.red_pt; primary_pt = s.primary_pt; distances = s.distances; history = entries_of s.history.items } };
+
+    ghost invariant = { λ s. IsTrue (is_accepted s.distances) × (length s.history.items ≤ deepest s.distances) };
+}
+
+impl RedSender {
+    /// Whether a sender takes these distances: they rise strictly, and each is from 1 to 8. The empty list is taken too.
+    pub fn accepts(distances: &[u32]) -> bool
+        ensures { result ≡ is_accepted distances.now }
+    {
+        let mut low = 0;
+        for distance in distances {
+            if *distance <= low || *distance > 8 {
+                return false;
+            }
+            low = *distance;
+        }
+        true
+    }
+
+    /// A sender that has sent nothing. `red_pt` is the payload type of the packets, `primary_pt` that of the blocks, of
+    /// which 7 bits are written. It takes no memory; `alloc` is where the history will grow.
+    pub fn new(alloc: Global, red_pt: Pt, primary_pt: Pt, distances: &[u32]) -> Self
+        requires { IsTrue (is_accepted distances.now) }
+        ensures { result ≡ record { red_pt = red_pt; primary_pt = primary_pt; distances = distances.now; history = [] } }
+    {
+        RedSender {
+            red_pt,
+            primary_pt,
+            distances: Distances::from_list(distances),
+            history: VecDeque::new(alloc),
+        }
+    }
+
+    /// Takes over new payload types and distances. Of the history the newest payloads stay, as many as the new greatest
+    /// distance. It takes no memory.
+    pub fn sync(&mut self, red_pt: Pt, primary_pt: Pt, distances: &[u32])
+        requires { IsTrue (is_accepted distances.now) }
+        ensures { self.new ≡ synced self.old red_pt primary_pt distances.now }
+    {
+        self.red_pt = red_pt;
+        self.primary_pt = primary_pt;
+        self.distances = Distances::from_list(distances);
+        self.history.truncate(depth_of(distances));
+    }
+
+    /// The payload type of the packets.
+    pub fn red_pt(&self) -> Pt
+        ensures { result ≡ self.now.red_pt }
+    {
+        self.red_pt
+    }
+
+    /// What goes out for a payload.
+    #[tactic(auto, using(crate::proofs::Sending::output_is_red))]
+    fn output(&self, payload: &[u8], time: u32, budget: usize) -> Result<Vec<u8>, AllocError>
+        ensures written { IfOk result (λ v. v.items ≡ output self.now payload.now time budget) }
+        ensures payload { IfOk result (λ v. length payload.now < budget → IsRed v.items (wrapped self.now payload.now time budget)) }
+        ensures longest { IsLongest (room_of (length payload.now) budget) (levels_of self.now time) (kept self.now (length payload.now) time budget) }
+    {
+        let alloc = *self.history.allocator();
+        if payload.len() < budget {
+            wrapped_bytes(
+                alloc,
+                &self.history,
+                self.primary_pt.value() % 128,
+                time,
+                self.distances.as_slice(),
+                payload,
+                budget,
+            )
+        } else {
+            Vec::from_slice(alloc, payload)
+        }
+    }
+
+    /// Puts a payload into the history, which the oldest ones leave.
+    fn record(&mut self, payload: Vec<u8>, time: u32) -> Result<(), PacketError>
+        ensures ok { OnOk result (self.new ≡ recorded self.old payload.items time) }
+        ensures err { IfErr result (λ e. (e ≡ OutOfMemory) × (self.new ≡ self.old)) }
+    {
+        self.history.push_front(SentPayload {
+            bytes: payload,
+            time,
+        })?;
+        self.history.truncate(depth_of(self.distances.as_slice()));
+        Ok(())
+    }
+
+    /// The RED payload of a media payload, whose RTP time is `rtp_time` ticks modulo 2^32, in at most `budget` bytes
+    /// (RFC 2198, section 3). Redundant blocks repeat earlier payloads: of the distances, shallowest first, those whose
+    /// payload was sent and fits a block (an offset of at most 16,383 ticks, at most 1,023 bytes), as long as each with
+    /// its header of 4 bytes finds room. They are written deepest first. The payload is then remembered.
+    ///
+    /// **A payload of `budget` bytes or more comes back as it is**, without the one byte of RED's last header, and is
+    /// remembered all the same. Sent under the RED payload type, as [`RedSender::red_pt`] has it, such bytes are no RED
+    /// to a receiver, or worse: by chance they read as RED, as blocks that nobody sent. So cut media for one byte less
+    /// than the budget: where samples are packetized, let the MTU be `budget - 1`.
+    ///
+    /// The only fault is 17, `OutOfMemory`, which leaves the sender as it was; the payload is then gone. The payload
+    /// moves into the history and is copied once, into the answer, and so is each payload that is repeated.
+    #[tactic(auto, using(crate::proofs::Sending::output_bounded))]
+    pub fn wrap(
+        &mut self,
+        payload: Vec<u8>,
+        rtp_time: u32,
+        budget: usize,
+    ) -> Result<Vec<u8>, PacketError>
+        ensures written { IfOk result (λ v. v.items ≡ output self.old payload.items rtp_time budget) }
+        ensures payload { IfOk result (λ v. length payload.items < budget → IsRed v.items (wrapped self.old payload.items rtp_time budget)) }
+        ensures longest { OnOk result (IsLongest (room_of (length payload.items) budget) (levels_of self.old rtp_time) (kept self.old (length payload.items) rtp_time budget)) }
+        ensures bounded { IfOk result (λ v. length payload.items < budget → length v.items ≤ budget) }
+        ensures recorded { OnOk result (self.new ≡ recorded self.old payload.items rtp_time) }
+        ensures err { IfErr result (λ e. (e ≡ OutOfMemory) × (self.new ≡ self.old)) }
+    {
+        let out = self.output(&payload, rtp_time, budget)?;
+        self.record(payload, rtp_time)?;
+        Ok(out)
+    }
+}
