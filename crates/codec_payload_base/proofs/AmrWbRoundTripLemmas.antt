@@ -1,15 +1,15 @@
 -- The payload of a frame gives its canonical form back.
-use Rattle.std.proofs.Common.{◌≡◌, ℕ, ◌+◌, ◌*◌, ◌/◌, ◌%◌, ◌<◌, ◌≤◌, List, [], ◌∷◌, ◌++◌, length, drop, replicate, refl, sym, ◌∙◌, ap, arith, append-nil, length-append, Some, Ok, Err, Result, Bool, true, false, ltb, IfOk, ◌≢◌}
+use Rattle.std.proofs.Common.{◌≡◌, ℕ, ◌+◌, ◌*◌, ◌/◌, ◌%◌, ◌<◌, ◌≤◌, List, [], ◌∷◌, ◌++◌, length, drop, replicate, refl, sym, ◌∙◌, ap, arith, append-nil, length-append, subst, cond, eqb, Option, Some, None, Ok, Err, Result, Bool, true, false, ltb, IfOk, ◌≢◌}
 use Rattle.std.specs.Int.{div_ceil}
 use Rattle.std.specs.Int.Bits.{bit_and}
 use Rattle.std.proofs.lemmas.Nat.{and_mask}
 use Rattle.codec_payload_base.proofs.AmrWbPayloadLemmas.{toc_frame, stored_is}
-use Rattle.std.proofs.lemmas.Bool.{lt-ltb, le-ltb}
+use Rattle.std.proofs.lemmas.Bool.{lt-ltb, le-ltb, eqb-true}
 use Rattle.std.proofs.lemmas.List.{take_at, drop_at, drop_all, length-replicate, length-take-le}
 use Rattle.codec_payload_base.specs.Bits.{bits, bits_of}
 use Rattle.codec_payload_base.proofs.BitLemmas.{length-bits_of}
 use Rattle.codec_payload_base.specs.declared.error.PacketError.{PacketError}
-use Rattle.codec_payload_base.specs.AmrWb.{Frame, AnswersAmrWb, AnswersFrame, frame_from, stored, speech_size, gap, entry, canonical, payload}
+use Rattle.codec_payload_base.specs.AmrWb.{Frame, AnswersAmrWb, AnswersFrame, frame_from, sized, stored, speech_size, gap, entry, canonical, payload}
 use Rattle.codec_payload_base.specs.AmrWbReceived.{entries_at, entry_from, frames_at, whole, received, CarriesCanonical}
 
 gap_sixteen : (n : ℕ) → gap (16 + n) ≡ gap n
@@ -101,3 +101,25 @@ module _ (octet : Bool) (mtu first n : ℕ) (bytes rest : List ℕ) (e : bytes �
 
   pub stored_carries : (r : Result (List (List ℕ)) PacketError) → AnswersFrame octet mtu (frame_from (bit_and first 124) n rest) r → IfOk r (λ packets. CarriesCanonical octet (stored bytes) packets)
   stored_carries r answer = rw is_stored (carries_if r (frame_answer r answer))
+
+some_injective : {x y : Frame} → Some x ≡ Some y → x ≡ y
+some_injective e = cc
+
+none_is_some : {x : Frame} → ◌≡◌ {A = Option Frame} None (Some x) → ⊥
+none_is_some e = cc
+
+sized_frame : (first : ℕ) (rest : List ℕ) (o : Option ℕ) (f : Frame) → speech_size (first / 8 % 16) ≡ o → sized first rest o ≡ Some f → IsFrame f
+sized_frame first rest None f size is = cc
+sized_frame first rest (Some n) f size is = by_length (eqb (length rest) (div_ceil n 8)) refl
+  where
+    by_length : (b : Bool) → eqb (length rest) (div_ceil n 8) ≡ b → IsFrame f
+    by_length true same =
+        let whole : length rest ≡ div_ceil n 8 = eqb-true (length rest) (div_ceil n 8) same in
+        let f_is : frame_from first n rest ≡ f = some_injective (sym (ap (λ b. cond b (Some (frame_from first n rest)) None) same) ∙ is) in
+        subst IsFrame f_is (is_frame first n rest size (omega (arith, whole)))
+    by_length false other = absurd (none_is_some (sym (ap (λ b. cond b (Some (frame_from first n rest)) None) other) ∙ is))
+
+-- what bytes store is a frame
+pub stored_is_frame : (bytes : List ℕ) (f : Frame) → stored bytes ≡ Some f → IsFrame f
+stored_is_frame [] f is = cc
+stored_is_frame (b ∷ bs) f is = sized_frame b bs (speech_size (b / 8 % 16)) f refl is

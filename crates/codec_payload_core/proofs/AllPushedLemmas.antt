@@ -18,7 +18,7 @@ use Rattle.codec_payload_core.specs.Held.{has_number}
 use Rattle.codec_payload_core.specs.Packets.{Packet, AreNumbered}
 use Rattle.codec_payload_core.specs.Schedule.{Answer, RunState, Runs, DoesStep, SendsIt, after_push, meta_of_push, packets_sent, payloads_of}
 use Rattle.codec_payload_core.specs.Sending.{Sample, rtp_time_at}
-use Rattle.codec_payload_core.specs.SentStream.{SentUnit, packets_of, AllLawful}
+use Rattle.codec_payload_core.specs.SentStream.{AreReadable, SentUnit, packets_of, AllLawful}
 use Rattle.codec_payload_core.specs.Steps.{State, arrived}
 use Rattle.codec_payload_core.specs.Units.{payloads_by, may_split}
 use Rattle.codec_payload_core.specs.declared.schedule.Sent.{Sent}
@@ -250,19 +250,20 @@ pushed_first all_steps sends n k p = record {
 }
 
 -- a run over an unused sink and an unused buffer releases its units in order, and all of them where all are pushed first
-pub exact : (samples : List Sample) (all_steps : List Step) (s t : RunState) (sends : List Sent) (pops : List Answer) → Runs samples 0 all_steps s sends pops t → IsUnused s → ReleasesUnits samples all_steps s sends pops t
-exact samples all_steps s t sends pops run unused =
+pub exact : (samples : List Sample) (all_steps : List Step) (s t : RunState) (sends : List Sent) (pops : List Answer) → Runs samples 0 all_steps s sends pops t → IsUnused s → AreReadable s.payloading.pack samples → ReleasesUnits samples all_steps s sends pops t
+exact samples all_steps s t sends pops run unused readable =
     let stream = streams samples 0 all_steps s t sends pops run in
-    let released = safe_stream samples all_steps s t sends pops run unused stream in
+    let released = safe_stream samples all_steps s t sends pops run unused readable stream in
+    let lawful = stream.lawful readable in
     let sent = sends_all samples all_steps s t unused stream in
     let kind = payloads_by s.payloading.pack in
     let splits = may_split s.payloading.pack in
-    let beyond = fresh all_steps s stream.units stream.lawful sent.numbered unused in
+    let beyond = fresh all_steps s stream.units lawful sent.numbered unused in
     let many : length t.sink.packets ≡ length (packets_of stream.units) = ap length sent.whole in
     record {
       in_order = released.0;
       exactly = λ pushed. subst (λ (us : List SentUnit). AnswersAll all_steps s.payloading.clock_rate 0 us pops) (sym released.1)
-          (fill_from all_steps s.payloading.clock_rate s.sink.first kind splits stream.units stream.lawful sent.numbered
+          (fill_from all_steps s.payloading.clock_rate s.sink.first kind splits stream.units lawful sent.numbered
           s.buffer stream.one_time (may_go_all stream.units s.buffer.depack s.buffer.contiguity) samples all_steps 0 s t sends pops refl run sent.whole refl
           (record { beyond = beyond; no_cutoff = unused.no_cutoff; room = omega (arith, pushed.few, many); depack = refl; contiguity = refl })
           (λ k l. inr (pushed_first all_steps sends (length s.sink.packets) k (pushed.pushed k (omega (arith, l, many))))));

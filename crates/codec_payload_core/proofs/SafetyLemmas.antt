@@ -20,7 +20,7 @@ use Rattle.codec_payload_core.specs.Packets.{Packet, AreNumbered}
 use Rattle.codec_payload_core.specs.Release.{Release}
 use Rattle.codec_payload_core.specs.Schedule.{Answer, RunState, Runs, DoesStep, SendsIt, after_push, meta_of_push}
 use Rattle.codec_payload_core.specs.Sending.{Sample}
-use Rattle.codec_payload_core.specs.SentStream.{SentUnit, packets_of, StartsWithHead, IsLawful, AllLawful, IsReleaseOf}
+use Rattle.codec_payload_core.specs.SentStream.{AreReadable, SentUnit, packets_of, StartsWithHead, IsLawful, AllLawful, IsReleaseOf}
 use Rattle.codec_payload_core.specs.Steps.{State, Contiguity, arrived, pushed, kept_to_limit, without_lowest, is_dropped, is_at_most, without, metas_of, due_of, packets_in, Unpacked, Unpacks, nothing_unpacked, Gives, Passes, none, one_more, PassesOver, Releases, Refuses, Pops}
 use Rattle.codec_payload_core.specs.Units.{payloads_by, may_split}
 use Rattle.codec_payload_core.specs.declared.buffer.frames.Segment.{Segment}
@@ -341,19 +341,20 @@ sends_all samples all_steps s t unused stream =
     }
 
 -- a run over an unused sink and an unused buffer releases the units that it sends in order, each at most once
-pub safe_stream : (samples : List Sample) (all_steps : List Step) (s t : RunState) (sends : List Sent) (pops : List Answer) → Runs samples 0 all_steps s sends pops t → IsUnused s
+pub safe_stream : (samples : List Sample) (all_steps : List Step) (s t : RunState) (sends : List Sent) (pops : List Answer) → Runs samples 0 all_steps s sends pops t → IsUnused s → AreReadable s.payloading.pack samples
     → (stream : Streams samples all_steps s t) → (released : ReleasesInOrder samples all_steps s pops t) × (released.units ≡ stream.units)
-safe_stream samples all_steps s t sends pops run unused stream =
+safe_stream samples all_steps s t sends pops run unused readable stream =
     let sent = sends_all samples all_steps s t unused stream in
+    let lawful = stream.lawful readable in
     let released : ReleasesInOrder samples all_steps s pops t = record {
       units = stream.units;
       canonical = stream.canonical;
       packets = sym sent.whole;
-      lawful = stream.lawful;
-      in_order = safe_from all_steps s.payloading.clock_rate s.sink.first (payloads_by s.payloading.pack) (may_split s.payloading.pack) stream.units stream.lawful sent.numbered samples all_steps 0 0 s t sends pops refl run sent.whole refl
-          (fresh all_steps s stream.units stream.lawful sent.numbered unused);
+      lawful = lawful;
+      in_order = safe_from all_steps s.payloading.clock_rate s.sink.first (payloads_by s.payloading.pack) (may_split s.payloading.pack) stream.units lawful sent.numbered samples all_steps 0 0 s t sends pops refl run sent.whole refl
+          (fresh all_steps s stream.units lawful sent.numbered unused);
     } in
     (released, refl)
 
-pub safe : (samples : List Sample) (all_steps : List Step) (s t : RunState) (sends : List Sent) (pops : List Answer) → Runs samples 0 all_steps s sends pops t → IsUnused s → ReleasesInOrder samples all_steps s pops t
-safe samples all_steps s t sends pops run unused = (safe_stream samples all_steps s t sends pops run unused (streams samples 0 all_steps s t sends pops run)).0
+pub safe : (samples : List Sample) (all_steps : List Step) (s t : RunState) (sends : List Sent) (pops : List Answer) → Runs samples 0 all_steps s sends pops t → IsUnused s → AreReadable s.payloading.pack samples → ReleasesInOrder samples all_steps s pops t
+safe samples all_steps s t sends pops run unused readable = (safe_stream samples all_steps s t sends pops run unused readable (streams samples 0 all_steps s t sends pops run)).0

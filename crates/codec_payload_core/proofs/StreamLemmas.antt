@@ -1,5 +1,5 @@
 -- What a run sends is the stream of its canonical units, each lawful.
-use Rattle.std.proofs.Common.{◌≡◌, ◌≢◌, ◌∙◌, sym, ap, refl, subst, ℕ, zero, suc, ◌+◌, ◌<◌, ◌%◌, ◌^◌, ◌||◌, ◌==◌, inl, List, [], ◌∷◌, ◌++◌, length, map, arith, length-append, append_assoc, Bool, true, false, Option, Some, None, Result, Ok, Err, cond, leb, ◌-◌}
+use Rattle.std.proofs.Common.{◌≡◌, ◌≢◌, ◌∙◌, sym, ap, refl, subst, ℕ, zero, suc, ◌+◌, ◌<◌, ◌%◌, ◌^◌, ◌||◌, ◌==◌, inl, inr, List, [], ◌∷◌, ◌++◌, length, map, arith, length-append, append_assoc, Bool, true, false, Option, Some, None, Result, Ok, Err, cond, leb, ◌-◌}
 use Rattle.std.specs.Prelude.{MatchResult, MatchOption, slice_get}
 use Rattle.std.proofs.Math.Dec.{eqb-suc-zero}
 use Rattle.std.proofs.lemmas.List.{append-nil, map-append}
@@ -7,6 +7,9 @@ use Rattle.codec_payload_base.specs.Payloads.{Appends}
 use Rattle.codec_payload_base.specs.Pieces.{AnswersPieces, ArePieces, joined, pieces_of}
 use Rattle.codec_payload_video.specs.Vp8.{AnswersDescribed, described}
 use Rattle.codec_payload_core.proofs.CaseLemmas.{by_test}
+use Rattle.codec_payload_core.proofs.Av1Units.{av1_sends}
+use Rattle.codec_payload_core.proofs.OnePacketUnits.{OneOrNone, one_packet, only_whole, one_held, lawful_one, noise_units, tele_units, amr_wb_units}
+use Rattle.codec_payload_core.proofs.SendsUnits.{SendsUnits, no_units}
 use Rattle.codec_payload_core.proofs.Vp8Units.{none_empty, whole_frame, lawful_frame}
 use Rattle.std.proofs.lemmas.Bool.Decides.{nat_tests}
 use Rattle.codec_payload_base.specs.declared.error.PacketError.{PacketError}
@@ -14,18 +17,18 @@ use Rattle.codec_payload_base.specs.declared.error.PacketError.TheVariants as fa
 use Rattle.codec_payload_base.specs.declared.interface.CodecExtra.{CodecExtra}
 use Rattle.codec_payload_base.proofs.PieceLemmas.{one_list, no_pieces}
 use Rattle.codec_payload_core.proofs.UnitTimes.{AllOneTime, times_of_sample, times_append}
-use Rattle.codec_payload_core.specs.Depack.{Depack, G711Depack, OpusDepack, NullDepack, Vp8Depack, DepackKind, G711Payloads, OpusPayloads, NullPayloads, kind_of_depack, DepackStep, head_in, tail_in}
+use Rattle.codec_payload_core.specs.Depack.{Depack, G711Depack, OpusDepack, ComfortNoiseDepack, TeleDepack, NullDepack, Vp8Depack, Av1Depack, AmrWbDepack, DepackKind, G711Payloads, OpusPayloads, NullPayloads, kind_of_depack, DepackStep, head_in, tail_in}
 use Rattle.codec_payload_core.specs.Held.{Held}
-use Rattle.codec_payload_core.specs.Pack.{Pack, G711Pack, G722Pack, OpusPack, NullPack, Vp8Pack, PackStep}
+use Rattle.codec_payload_core.specs.Pack.{Pack, G711Pack, G722Pack, OpusPack, ComfortNoisePack, TelePack, NullPack, Vp8Pack, Av1Pack, AmrWbPack, PackStep}
 use Rattle.codec_payload_core.specs.Packets.{Packet, SentPackets, AreNumbered}
 use Rattle.codec_payload_core.specs.Sending.{Sample, packets_for, rtp_time_at}
 use Rattle.codec_payload_core.specs.Schedule.{payloads_of, RunState, Runs, SendsIt, Answer, packets_sent}
-use Rattle.codec_payload_core.specs.SentStream.{SentUnit, packets_of, StartsWithHead, IsReleaseOf, payloads_held, payloads_sent, IsLawful, AllLawful, units_of_run, units_of_sample, pack_after_sample}
+use Rattle.codec_payload_core.specs.SentStream.{SentUnit, packets_of, StartsWithHead, IsReleaseOf, payloads_held, payloads_sent, IsLawful, AllLawful, AreReadable, units_of_run, units_of_sample, pack_after_sample}
 use Rattle.codec_payload_core.specs.declared.schedule.Sent.{Sent}
 use Rattle.codec_payload_core.specs.declared.schedule.Step.{Step}
 use Rattle.codec_payload_core.specs.declared.schedule.Step.TheVariants as steps
 use Rattle.codec_payload_core.specs.Steps.{Unpacked, Unpacks, nothing_unpacked}
-use Rattle.codec_payload_core.specs.Units.{canonical_units, pack_after, payloads_by, may_split, each_whole, is_empty}
+use Rattle.codec_payload_core.specs.Units.{canonical_units, is_readable, pack_after, payloads_by, may_split, each_whole, is_empty}
 
 -- payloads of this kind are units, whole, and carry themselves
 pub data IsPlain : DepackKind → Type 0 where
@@ -49,23 +52,15 @@ appends : (d : Depack) → IsPlain (kind_of_depack d) → (payload out : List �
 appends G711Depack plain payload out extra answer e out' extra' step = step
 appends OpusDepack plain payload out extra answer e out' extra' step = step
 appends NullDepack plain payload out extra answer e out' extra' step = step
+appends ComfortNoiseDepack plain payload out extra answer e out' extra' step = elim plain [ ]
+appends (TeleDepack rate) plain payload out extra answer e out' extra' step = elim plain [ ]
 appends (Vp8Depack d) plain payload out extra answer e out' extra' step = elim plain [ ]
+appends (Av1Depack pending) plain payload out extra answer e out' extra' step = elim plain [ ]
+appends (AmrWbDepack octet) plain payload out extra answer e out' extra' step = elim plain [ ]
 
 -- a unit of one packet
 abbrev pub alone : Packet → SentUnit
 alone q = record { parts = q.payload ∷ []; packets = q ∷ [] }
-
--- no packet is missing before a nonempty end of one packet
-only_whole : (q : Packet) (missing rest : List Packet) (kind : DepackKind) → missing ++ rest ≡ q ∷ [] → StartsWithHead kind rest → (missing ≡ []) × (rest ≡ q ∷ [])
-only_whole q [] rest kind e head = (refl, e)
-only_whole q (m ∷ []) [] kind e head = absurd head
-only_whole q (m ∷ []) (r ∷ rs) kind e head = absurd (cc)
-only_whole q (m ∷ n ∷ ms) rest kind e head = absurd (cc)
-
-one_held : (ps : List Held) (payload : List ℕ) → payloads_held ps ≡ payload ∷ [] → (p : Held) × (ps ≡ p ∷ []) × (p.bytes ≡ payload)
-one_held [] payload e = absurd (cc)
-one_held (p ∷ []) payload e = (p, refl, cc)
-one_held (p ∷ q ∷ ps) payload e = absurd (cc)
 
 given_alone : (q : Packet) (missing : List Packet) (kind : DepackKind) (d : Depack) (p : Held) (answer : Result Unpacked PacketError) (e : Depack) → missing ≡ [] → p.bytes ≡ q.payload → kind_of_depack d ≡ kind
     → (one : Result (Unit {0}) PacketError) (mid : Depack) (v : Unpacked) → Appends p.bytes [] (nothing_unpacked).extra one v.bytes v.extra × (mid ≡ d)
@@ -104,14 +99,6 @@ pub parts_alone : (pack : Pack) (sample : Sample) (rtp_time number : ℕ) (paylo
 parts_alone pack sample rtp_time number [] = refl
 parts_alone pack sample rtp_time number (payload ∷ payloads) = ap (λ (us : List (List (List ℕ))). (payload ∷ []) ∷ us) (parts_alone pack sample rtp_time ((number + 1) % 2 ^ 64) payloads)
 
--- what a codec owes for each sample: its packets are those of lawful units, which are the canonical ones
-pub record SendsUnits (pack : Pack) (mtu : ℕ) (sample : Sample) (rtp_time number : ℕ) (payloads : List (List ℕ)) (after : Pack) : Type 0 where
-  pub units : List SentUnit
-  pub canonical : map (λ (u : SentUnit). u.parts) units ≡ canonical_units pack mtu sample.bytes
-  pub packets : packets_of units ≡ packets_for after sample rtp_time number payloads
-  pub lawful : AllLawful (payloads_by pack) (may_split pack) units
-  pub goes_on : after ≡ pack_after pack mtu sample.bytes
-
 -- the answer of a packetizer of pieces
 pieces_skipped : (mtu : ℕ) (frame : List ℕ) (payloads : List (List ℕ)) → AnswersPieces mtu frame (Ok payloads)
     → each_whole payloads ≡ cond (is_empty frame || (mtu == 0) || false) [] (each_whole (pieces_of mtu frame))
@@ -131,19 +118,8 @@ plain_sends pack after mtu sample rtp_time number payloads plain whole goes_on c
   units = map alone (packets_for after sample rtp_time number payloads);
   canonical = parts_alone after sample rtp_time number payloads ∙ canonical;
   packets = packets_alone (packets_for after sample rtp_time number payloads);
-  lawful = rw whole (all_alone (payloads_by pack) plain (packets_for after sample rtp_time number payloads));
+  lawful = λ _. rw whole (all_alone (payloads_by pack) plain (packets_for after sample rtp_time number payloads));
   goes_on = goes_on;
-}
-
--- nothing is sent of a frame that is skipped
-no_units : (pack : Pack) (mtu : ℕ) (sample : Sample) (rtp_time number : ℕ) (payloads : List (List ℕ)) → payloads ≡ [] → canonical_units pack mtu sample.bytes ≡ []
-    → SendsUnits pack mtu sample rtp_time number payloads (pack_after pack mtu sample.bytes)
-no_units pack mtu sample rtp_time number payloads nothing none = record {
-  units = [];
-  canonical = sym none;
-  packets = ap (packets_for (pack_after pack mtu sample.bytes) sample rtp_time number) (sym nothing);
-  lawful = tt;
-  goes_on = refl;
 }
 
 not_empty : (frame : List ℕ) → 0 < length frame → is_empty frame ≡ false
@@ -163,7 +139,7 @@ vp8_pieces mtu sample rtp_time number payloads large some (piece ∷ pieces) are
       units = whole_frame sample rtp_time number piece pieces ∷ [];
       canonical = rw (frame, large) (ap (λ (bytes : List ℕ). (bytes ∷ []) ∷ []) are.join);
       packets = append-nil _ ∙ ap (packets_for Vp8Pack sample rtp_time number) (sym is);
-      lawful = (lawful_frame sample rtp_time number piece pieces full, tt);
+      lawful = λ _. (lawful_frame sample rtp_time number piece pieces full, tt);
       goes_on = refl;
     }
 
@@ -178,6 +154,19 @@ vp8_sends mtu sample rtp_time number payloads answer =
     skipped [] = refl
     skipped (b ∷ bs) = refl
 
+-- a codec whose frames are each one packet and one unit
+one_sends : (pack after : Pack) (mtu : ℕ) (sample : Sample) (rtp_time number : ℕ) (payloads : List (List ℕ)) → may_split pack ≡ false → after ≡ pack_after pack mtu sample.bytes → OneOrNone pack mtu sample.bytes payloads
+    → SendsUnits pack mtu sample rtp_time number payloads after
+one_sends pack after mtu sample rtp_time number payloads whole goes_on (inl none) =
+    subst (SendsUnits pack mtu sample rtp_time number payloads) (sym goes_on) (no_units pack mtu sample rtp_time number payloads none.0 none.1)
+one_sends pack after mtu sample rtp_time number payloads whole goes_on (inr (payload, bytes, is, canonical, carried)) = record {
+  units = map (one_packet bytes) (packets_for after sample rtp_time number (payload ∷ []));
+  canonical = sym canonical;
+  packets = ap (packets_for after sample rtp_time number) (sym is);
+  lawful = λ readable. rw whole (lawful_one (payloads_by pack) bytes _ (carried readable), tt);
+  goes_on = goes_on;
+}
+
 -- every codec that is there keeps its law
 pub sends_units : (pack after : Pack) (mtu : ℕ) (sample : Sample) (rtp_time number : ℕ) (answer : Result (List (List ℕ)) PacketError)
     → PackStep pack mtu sample.bytes answer after → answer ≢ Err faults.OutOfMemory
@@ -186,6 +175,11 @@ sends_units G711Pack after mtu sample rtp_time number (Ok payloads) step found =
 sends_units G722Pack after mtu sample rtp_time number (Ok payloads) step found = plain_sends G722Pack after mtu sample rtp_time number payloads g711 refl step.1 (pieces_skipped mtu sample.bytes payloads step.0)
 sends_units OpusPack after mtu sample rtp_time number (Ok payloads) step found = plain_sends OpusPack after mtu sample rtp_time number payloads opus refl step.1 (pieces_skipped mtu sample.bytes payloads step.0)
 sends_units NullPack after mtu sample rtp_time number (Ok payloads) step found = plain_sends NullPack after mtu sample rtp_time number payloads null refl step.1 (ap each_whole step.0)
+sends_units ComfortNoisePack after mtu sample rtp_time number answer step found = one_sends ComfortNoisePack after mtu sample rtp_time number (payloads_of answer) refl step.1 (noise_units mtu sample.bytes answer step.0 found)
+sends_units TelePack after mtu sample rtp_time number answer step found = one_sends TelePack after mtu sample rtp_time number (payloads_of answer) refl step.1 (tele_units mtu sample.bytes answer step.0 found)
+sends_units (AmrWbPack octet) after mtu sample rtp_time number answer step found = one_sends (AmrWbPack octet) after mtu sample rtp_time number (payloads_of answer) refl step.1 (amr_wb_units octet mtu sample.bytes answer step.0 found)
+sends_units Av1Pack after mtu sample rtp_time number answer step found =
+    subst (SendsUnits Av1Pack mtu sample rtp_time number (payloads_of answer)) (sym step.1) (av1_sends mtu sample rtp_time number answer step.0 found)
 sends_units G711Pack after mtu sample rtp_time number (Err fault) step found = absurd (found (ap Err step.0.0))
 sends_units G722Pack after mtu sample rtp_time number (Err fault) step found = absurd (found (ap Err step.0.0))
 sends_units OpusPack after mtu sample rtp_time number (Err fault) step found = absurd (found (ap Err step.0.0))
@@ -213,6 +207,10 @@ same_payloads G722Pack mtu frame = refl
 same_payloads OpusPack mtu frame = refl
 same_payloads NullPack mtu frame = refl
 same_payloads Vp8Pack mtu frame = refl
+same_payloads ComfortNoisePack mtu frame = refl
+same_payloads TelePack mtu frame = refl
+same_payloads Av1Pack mtu frame = refl
+same_payloads (AmrWbPack octet) mtu frame = refl
 
 same_splits : (pack : Pack) (mtu : ℕ) (frame : List ℕ) → may_split (pack_after pack mtu frame) ≡ may_split pack
 same_splits G711Pack mtu frame = refl
@@ -220,13 +218,37 @@ same_splits G722Pack mtu frame = refl
 same_splits OpusPack mtu frame = refl
 same_splits NullPack mtu frame = refl
 same_splits Vp8Pack mtu frame = refl
+same_splits ComfortNoisePack mtu frame = refl
+same_splits TelePack mtu frame = refl
+same_splits Av1Pack mtu frame = refl
+same_splits (AmrWbPack octet) mtu frame = refl
+
+same_readable : (pack : Pack) (mtu : ℕ) (frame other : List ℕ) → is_readable (pack_after pack mtu frame) other ≡ is_readable pack other
+same_readable G711Pack mtu frame other = refl
+same_readable G722Pack mtu frame other = refl
+same_readable OpusPack mtu frame other = refl
+same_readable ComfortNoisePack mtu frame other = refl
+same_readable TelePack mtu frame other = refl
+same_readable Vp8Pack mtu frame other = refl
+same_readable Av1Pack mtu frame other = refl
+same_readable (AmrWbPack octet) mtu frame other = refl
+same_readable NullPack mtu frame other = refl
+
+readable_after : (pack : Pack) (mtu : ℕ) (frame : List ℕ) (samples : List Sample) → AreReadable pack samples → AreReadable (pack_after pack mtu frame) samples
+readable_after pack mtu frame [] readable = tt
+readable_after pack mtu frame (sample ∷ samples) readable = (same_readable pack mtu frame sample.bytes ∙ readable.0, readable_after pack mtu frame samples readable.1)
+
+readable_at : (pack : Pack) (samples : List Sample) (i : ℕ) (sample : Sample) → AreReadable pack samples → slice_get samples i ≡ Some sample → is_readable pack sample.bytes ≡ true
+readable_at pack [] i sample readable there = absurd (cc)
+readable_at pack (s ∷ samples) zero sample readable there = let same : s ≡ sample = cc in ap (λ (x : Sample). is_readable pack x.bytes) (sym same) ∙ readable.0
+readable_at pack (s ∷ samples) (suc i) sample readable there = readable_at pack samples i sample readable.1 there
 
 -- what the steps of a run send from some state on
 pub record Streams (samples : List Sample) (later : List Step) (s t : RunState) : Type 0 where
   pub units : List SentUnit
   pub canonical : map (λ (u : SentUnit). u.parts) units ≡ units_of_run s.payloading.pack samples later
   pub gained : t.sink.packets ≡ s.sink.packets ++ packets_of units
-  pub lawful : AllLawful (payloads_by s.payloading.pack) (may_split s.payloading.pack) units
+  pub lawful : AreReadable s.payloading.pack samples → AllLawful (payloads_by s.payloading.pack) (may_split s.payloading.pack) units
   pub one_time : AllOneTime units
   pub numbered : AreNumbered (s.sink.first + length s.sink.packets) (packets_of units)
   pub first : t.sink.first ≡ s.sink.first
@@ -237,7 +259,7 @@ no_stream samples later s t none same = record {
   units = [];
   canonical = sym none;
   gained = ap (λ (x : RunState). x.sink.packets) same ∙ sym (append-nil s.sink.packets);
-  lawful = tt;
+  lawful = λ _. tt;
   one_time = tt;
   numbered = tt;
   first = ap (λ (x : RunState). x.sink.first) same;
@@ -250,7 +272,7 @@ keeps_stream samples later all s mid t pack sink units rest = record {
   units = rest.units;
   canonical = rest.canonical ∙ (ap (λ (p : Pack). units_of_run p samples later) pack ∙ sym units);
   gained = rest.gained ∙ ap (λ (x : SentPackets). x.packets ++ packets_of rest.units) sink;
-  lawful = subst (λ (p : Pack). AllLawful (payloads_by p) (may_split p) rest.units) pack rest.lawful;
+  lawful = λ readable. subst (λ (p : Pack). AllLawful (payloads_by p) (may_split p) rest.units) pack (rest.lawful (subst (λ (p : Pack). AreReadable p samples) (sym pack) readable));
   one_time = rest.one_time;
   numbered = subst (λ (x : SentPackets). AreNumbered (x.first + length x.packets) (packets_of rest.units)) sink rest.numbered;
   first = rest.first ∙ ap (λ (x : SentPackets). x.first) sink;
@@ -279,8 +301,9 @@ sends_stream samples later i mtu place sample entry s mid t there sent rest =
           ∙ (ap (λ (us : List (List (List ℕ))). canonical_units s.payloading.pack mtu sample.bytes ++ us) (rest.canonical ∙ ap (λ (p : Pack). units_of_run p samples later) pack) ∙ sym whole));
       gained = rest.gained ∙ (ap (λ (ps : List Packet). ps ++ packets_of rest.units) (sink ∙ ap (λ (ps : List Packet). s.sink.packets ++ ps) (sym here.packets))
           ∙ (append_assoc s.sink.packets (packets_of here.units) (packets_of rest.units) ∙ ap (λ (ps : List Packet). s.sink.packets ++ ps) (sym (packets_append here.units rest.units))));
-      lawful = lawful_append (payloads_by s.payloading.pack) (may_split s.payloading.pack) here.units rest.units here.lawful
-          (subst (λ (b : Bool). AllLawful (payloads_by s.payloading.pack) b rest.units) splits (subst (λ (k : DepackKind). AllLawful k (may_split mid.payloading.pack) rest.units) kind rest.lawful));
+      lawful = λ readable. lawful_append (payloads_by s.payloading.pack) (may_split s.payloading.pack) here.units rest.units (here.lawful (readable_at s.payloading.pack samples i sample readable there))
+          (subst (λ (b : Bool). AllLawful (payloads_by s.payloading.pack) b rest.units) splits (subst (λ (k : DepackKind). AllLawful k (may_split mid.payloading.pack) rest.units) kind
+          (rest.lawful (subst (λ (p : Pack). AreReadable p samples) (sym pack) (readable_after s.payloading.pack mtu sample.bytes samples readable)))));
       one_time = times_append here.units rest.units (times_of_sample sent.pack sample time (s.sink.first + length s.sink.packets) (payloads_of sent.answer) here.units here.packets) rest.one_time;
       numbered = rw (packets_append here.units rest.units, here.packets)
           (numbered_append (s.sink.first + length s.sink.packets) packets (packets_of rest.units) sent.numbered (subst (λ (n : ℕ). AreNumbered n (packets_of rest.units)) next rest.numbered));

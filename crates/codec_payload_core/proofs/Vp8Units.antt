@@ -8,7 +8,7 @@ use Rattle.codec_payload_base.specs.declared.error.PacketError.TheVariants as fa
 use Rattle.codec_payload_base.specs.declared.interface.CodecExtra.{CodecExtra}
 use Rattle.codec_payload_video.specs.Vp8.{descriptor, described, Vp8Step, Vp8Rest}
 use Rattle.codec_payload_video.specs.declared.vp8.Vp8Depacketizer.{Vp8Depacketizer}
-use Rattle.codec_payload_core.specs.Depack.{Depack, G711Depack, OpusDepack, NullDepack, Vp8Depack, Vp8Payloads, kind_of_depack, DepackStep}
+use Rattle.codec_payload_core.specs.Depack.{Depack, G711Depack, OpusDepack, ComfortNoiseDepack, TeleDepack, NullDepack, Vp8Depack, Av1Depack, AmrWbDepack, Vp8Payloads, kind_of_depack, DepackStep}
 use Rattle.codec_payload_core.specs.Held.{Held}
 use Rattle.codec_payload_core.specs.Pack.{Vp8Pack}
 use Rattle.codec_payload_core.specs.Packets.{Packet}
@@ -64,6 +64,10 @@ module _ (sample : Sample) (rtp_time : ℕ) where
   depack_given first G711Depack piece out extra one e out' extra' is some step = absurd (cc)
   depack_given first OpusDepack piece out extra one e out' extra' is some step = absurd (cc)
   depack_given first NullDepack piece out extra one e out' extra' is some step = absurd (cc)
+  depack_given first ComfortNoiseDepack piece out extra one e out' extra' is some step = absurd (cc)
+  depack_given first (TeleDepack rate) piece out extra one e out' extra' is some step = absurd (cc)
+  depack_given first (Av1Depack pending) piece out extra one e out' extra' is some step = absurd (cc)
+  depack_given first (AmrWbDepack octet) piece out extra one e out' extra' is some step = absurd (cc)
   depack_given first (Vp8Depack d) piece out extra one e out' extra' is some step =
       (ap kind_of_depack step.2, step_given first d piece out extra one step.0 out' extra' some step.1)
 

@@ -8,6 +8,7 @@ ghost use Rattle.codec_payload_core.specs.Packets.{packet_of};
 ghost use Rattle.codec_payload_core.specs.Release.{Release};
 ghost use Rattle.codec_payload_core.specs.Schedule.{run_state, SendsIt, StopsSending, DoesStep, StopsAt, Runs, Stops, Answer, after_push};
 ghost use Rattle.codec_payload_core.specs.Sending.{Sample, sample_of};
+ghost use Rattle.codec_payload_core.specs.SentStream.{AreReadable};
 ghost use Rattle.codec_payload_core.specs.Steps.{State, Pops};
 ghost use Rattle.codec_payload_core.specs.declared.schedule.Sent.{Sent as Entry};
 
@@ -68,10 +69,10 @@ pub fn run_schedule(
     ensures runs { IfOk result (λ run. Runs (map sample_of samples.now) 0 steps.now (run_state payloader.old buffer.old sink.old)
         run.sends.items run.pops.items (run_state payloader.new buffer.new sink.new)) }
     // Whatever is lost, repeated and reordered: the canonical units of the samples, in order, each at most once and whole.
-    ensures safe { IfOk result (λ run. IsUnused (run_state payloader.old buffer.old sink.old)
+    ensures safe { IfOk result (λ run. IsUnused (run_state payloader.old buffer.old sink.old) → AreReadable payloader.old.pack (map sample_of samples.now)
         → ReleasesInOrder (map sample_of samples.now) steps.now (run_state payloader.old buffer.old sink.old) run.pops.items (run_state payloader.new buffer.new sink.new)) }
     // The same units; and where the buffer has room for all packets and each was pushed before the first pop, all of them.
-    ensures exact { IfOk result (λ run. IsUnused (run_state payloader.old buffer.old sink.old)
+    ensures exact { IfOk result (λ run. IsUnused (run_state payloader.old buffer.old sink.old) → AreReadable payloader.old.pack (map sample_of samples.now)
         → ReleasesUnits (map sample_of samples.now) steps.now (run_state payloader.old buffer.old sink.old) run.sends.items run.pops.items (run_state payloader.new buffer.new sink.new)) }
     ensures fault { IfErr result (λ fault. fault ≡ OutOfMemory) }
     ensures stops { OnErr result (Stops (map sample_of samples.now) 0 steps.now (run_state payloader.old buffer.old sink.old)

@@ -13,7 +13,7 @@ returns-clause-runs c =
     simp append-nil at whole
 
 pub returns-clause-safe : goal.returns-clause-safe
-returns-clause-safe c = λ unused. safe (map sample_of c.args.samples.now) c.args.steps.now _ _ _ _ (returns-clause-runs c) unused
+returns-clause-safe c = λ unused readable. safe (map sample_of c.args.samples.now) c.args.steps.now _ _ _ _ (returns-clause-runs c) unused readable
 
 pub returns-clause-exact : goal.returns-clause-exact
-returns-clause-exact c = λ unused. exact (map sample_of c.args.samples.now) c.args.steps.now _ _ _ _ (returns-clause-runs c) unused
+returns-clause-exact c = λ unused readable. exact (map sample_of c.args.samples.now) c.args.steps.now _ _ _ _ (returns-clause-runs c) unused readable

@@ -1,0 +1,196 @@
+-- Units of one packet whose payload may carry other bytes than its own: comfort noise, telephone events and AMR-WB.
+use Rattle.std.proofs.Common.{◌≡◌, ◌≢◌, ◌∙◌, sym, ap, refl, subst, ℕ, ◌+◌, ◌*◌, ◌<◌, ◌≤◌, ◌%◌, ◌^◌, inl, inr, ◌⊎◌, List, [], ◌∷◌, ◌++◌, length, map, take, arith, Bool, true, false, Option, Some, None, Result, Ok, Err, cond, ltb, eqb, ◌||◌}
+use Rattle.std.specs.Prelude.{MatchResult, is_some, option_map}
+use Rattle.codec_payload_base.specs.Faults.{fault_number}
+use Rattle.std.proofs.lemmas.Bool.{le-ltb, ltb-false, eqb-true, eqb-false}
+use Rattle.std.proofs.lemmas.List.{append-nil}
+use Rattle.codec_payload_base.proofs.AmrWbRoundTripLemmas.{stored_is_frame, received_again}
+use Rattle.codec_payload_base.proofs.BitLemmas.{length-bits_of}
+use Rattle.codec_payload_base.proofs.FaultLemmas.{only_memory}
+use Rattle.codec_payload_base.specs.AmrWb.{Frame, AnswersAmrWb, AnswersFrame, AnswersStored, canonical, payload, stored, is_without_data, refusal_of_frame}
+use Rattle.codec_payload_base.specs.AmrWbReceived.{AmrWbStep, received}
+use Rattle.codec_payload_base.specs.Bits.{bits_of, bytes_of}
+use Rattle.codec_payload_base.specs.Payloads.{AnswersWhole}
+use Rattle.codec_payload_base.specs.TelephoneReport.{TeleStep, TakesFirst, are_reports}
+use Rattle.codec_payload_base.specs.declared.error.PacketError.{PacketError}
+use Rattle.codec_payload_base.specs.declared.error.PacketError.TheVariants as faults
+use Rattle.codec_payload_base.specs.declared.interface.CodecExtra.{CodecExtra}
+use Rattle.codec_payload_core.proofs.CaseLemmas.{by_test}
+use Rattle.codec_payload_core.specs.Depack.{Depack, DepackKind, G711Depack, OpusDepack, ComfortNoiseDepack, TeleDepack, Vp8Depack, Av1Depack, AmrWbDepack, NullDepack, ComfortNoisePayloads, TelePayloads, AmrWbPayloads, kind_of_depack, DepackStep, head_in, tail_in}
+use Rattle.codec_payload_core.specs.Held.{Held}
+use Rattle.codec_payload_core.specs.Pack.{Pack, ComfortNoisePack, TelePack, AmrWbPack}
+use Rattle.codec_payload_core.specs.Packets.{Packet}
+use Rattle.codec_payload_core.specs.Schedule.{payloads_of}
+use Rattle.codec_payload_core.specs.SentStream.{SentUnit, StartsWithHead, IsReleaseOf, payloads_held, payloads_sent, IsLawful}
+use Rattle.codec_payload_core.specs.Steps.{Unpacked, Unpacks, nothing_unpacked}
+use Rattle.codec_payload_core.specs.Units.{canonical_units, is_readable, payloads_by, bytes_of_frame}
+
+-- a payload begins and ends a unit, and carries these bytes
+pub record IsCarried (kind : DepackKind) (payload bytes : List ℕ) : Type 0 where
+  pub head : head_in kind payload ≡ true
+  pub tail : (marker : Bool) → tail_in kind marker payload ≡ true
+  pub gives : (d : Depack) (extra : CodecExtra) (one : Result (Unit {0}) PacketError) (e : Depack) (out' : List ℕ) (extra' : CodecExtra) → kind_of_depack d ≡ kind → DepackStep d payload [] extra one e out' extra'
+      → (kind_of_depack e ≡ kind) × MatchResult one (λ _. out' ≡ bytes) (λ fault. fault ≡ faults.OutOfMemory)
+
+-- a unit of one packet
+abbrev pub one_packet : List ℕ → Packet → SentUnit
+one_packet bytes q = record { parts = bytes ∷ []; packets = q ∷ [] }
+
+-- no packet is missing before a nonempty end of one packet
+pub only_whole : (q : Packet) (missing rest : List Packet) (kind : DepackKind) → missing ++ rest ≡ q ∷ [] → StartsWithHead kind rest → (missing ≡ []) × (rest ≡ q ∷ [])
+only_whole q [] rest kind e head = (refl, e)
+only_whole q (m ∷ []) [] kind e head = absurd head
+only_whole q (m ∷ []) (r ∷ rs) kind e head = absurd (cc)
+only_whole q (m ∷ n ∷ ms) rest kind e head = absurd (cc)
+
+pub one_held : (ps : List Held) (payload : List ℕ) → payloads_held ps ≡ payload ∷ [] → (p : Held) × (ps ≡ p ∷ []) × (p.bytes ≡ payload)
+one_held [] payload e = absurd (cc)
+one_held (p ∷ []) payload e = (p, refl, cc)
+one_held (p ∷ q ∷ ps) payload e = absurd (cc)
+
+given_one : (bytes : List ℕ) (q : Packet) (missing : List Packet) (kind : DepackKind) (answer : Result Unpacked PacketError) (e : Depack) → missing ≡ []
+    → (one : Result (Unit {0}) PacketError) (mid : Depack) (v : Unpacked) → (kind_of_depack mid ≡ kind) × MatchResult one (λ _. v.bytes ≡ bytes) (λ fault. fault ≡ faults.OutOfMemory)
+    → MatchResult one (λ _. (answer ≡ Ok v) × (e ≡ mid)) (λ fault. (answer ≡ Err fault) × (e ≡ mid))
+    → (kind_of_depack e ≡ kind) × MatchResult answer (λ unpacked. IsReleaseOf false (one_packet bytes q) missing unpacked.bytes) (λ fault. fault ≡ faults.OutOfMemory)
+given_one bytes q missing kind answer e none (Ok u) mid v step rest = (
+  ap kind_of_depack rest.1 ∙ step.0,
+  subst (λ (a : Result Unpacked PacketError). MatchResult a (λ unpacked. IsReleaseOf false (one_packet bytes q) missing unpacked.bytes) (λ fault. fault ≡ faults.OutOfMemory)) (sym rest.0)
+      (inl (none, step.1 ∙ sym (append-nil bytes))),
+)
+given_one bytes q missing kind answer e none (Err f) mid v step rest = (
+  ap kind_of_depack rest.1 ∙ step.0,
+  subst (λ (a : Result Unpacked PacketError). MatchResult a (λ unpacked. IsReleaseOf false (one_packet bytes q) missing unpacked.bytes) (λ fault. fault ≡ faults.OutOfMemory)) (sym rest.0) step.1,
+)
+
+pub lawful_one : (kind : DepackKind) (bytes : List ℕ) (q : Packet) → IsCarried kind q.payload bytes → IsLawful kind false (one_packet bytes q)
+lawful_one kind bytes q carried = record {
+  ends = carried.tail q.marker;
+  starts = carried.head;
+  gives = λ missing rest whole head ps same d answer e is gives.
+      let only = only_whole q missing rest kind whole head in
+      let found = one_held ps q.payload (same ∙ ap payloads_sent only.1) in
+      let one = subst (λ (hs : List Held). Unpacks d hs nothing_unpacked answer e) found.1 gives in
+      let step = subst (λ (payload : List ℕ). DepackStep d payload [] (nothing_unpacked).extra one.0 one.1 one.2.bytes one.2.extra) found.2 one.3 in
+      given_one bytes q missing kind answer e only.0 one.0 one.1 one.2 (carried.gives d (nothing_unpacked).extra one.0 one.1 one.2.bytes one.2.extra is step) one.4;
+}
+
+-- what a codec of such units owes for a frame: no packets and no units, or one of each
+abbrev pub OneOrNone : Pack → ℕ → List ℕ → List (List ℕ) → Type 0
+OneOrNone pack mtu frame payloads =
+    ((payloads ≡ []) × (canonical_units pack mtu frame ≡ []))
+    ⊎ ((payload : List ℕ) × (bytes : List ℕ) × (payloads ≡ payload ∷ []) × (canonical_units pack mtu frame ≡ (bytes ∷ []) ∷ []) × (is_readable pack frame ≡ true → IsCarried (payloads_by pack) payload bytes))
+
+-- comfort noise
+noise_given : (d : Depack) (b : ℕ) (bs : List ℕ) (extra : CodecExtra) (one : Result (Unit {0}) PacketError) (e : Depack) (out' : List ℕ) (extra' : CodecExtra) → kind_of_depack d ≡ ComfortNoisePayloads
+    → DepackStep d (b ∷ bs) [] extra one e out' extra' → (kind_of_depack e ≡ ComfortNoisePayloads) × MatchResult one (λ _. out' ≡ b ∷ bs) (λ fault. fault ≡ faults.OutOfMemory)
+noise_given G711Depack b bs extra one e out' extra' is step = absurd (cc)
+noise_given OpusDepack b bs extra one e out' extra' is step = absurd (cc)
+noise_given (TeleDepack rate) b bs extra one e out' extra' is step = absurd (cc)
+noise_given (Vp8Depack d) b bs extra one e out' extra' is step = absurd (cc)
+noise_given (Av1Depack pending) b bs extra one e out' extra' is step = absurd (cc)
+noise_given (AmrWbDepack octet) b bs extra one e out' extra' is step = absurd (cc)
+noise_given NullDepack b bs extra one e out' extra' is step = absurd (cc)
+noise_given ComfortNoiseDepack b bs extra (Ok _) e out' extra' is step = (ap kind_of_depack step.1, step.0.0)
+noise_given ComfortNoiseDepack b bs extra (Err fault) e out' extra' is step = (ap kind_of_depack step.1, step.0.0)
+
+noise_carried : (b : ℕ) (bs : List ℕ) → IsCarried ComfortNoisePayloads (b ∷ bs) (b ∷ bs)
+noise_carried b bs = record { head = refl; tail = λ marker. refl; gives = λ d extra one e out' extra' is step. noise_given d b bs extra one e out' extra' is step }
+
+pub noise_units : (mtu : ℕ) (frame : List ℕ) (answer : Result (List (List ℕ)) PacketError) → AnswersWhole mtu frame answer → answer ≢ Err faults.OutOfMemory → OneOrNone ComfortNoisePack mtu frame (payloads_of answer)
+noise_units mtu [] answer is found = inl (ap payloads_of is, refl)
+noise_units mtu (b ∷ bs) (Ok packets) is found = inr (b ∷ bs, b ∷ bs, is.1, rw (le-ltb mtu (length (b ∷ bs)) is.0) refl, λ _. noise_carried b bs)
+noise_units mtu (b ∷ bs) (Err fault) is found =
+    by_test (ltb mtu (length (b ∷ bs))) (λ r. ltb mtu (length (b ∷ bs)) ≡ r → OneOrNone ComfortNoisePack mtu (b ∷ bs) [])
+    (λ long _. inl (refl, rw long refl))
+    (λ short _. absurd (found (ap Err (is.1 (ltb-false mtu (length (b ∷ bs)) short)))))
+    refl
+
+-- telephone events
+first_given : (rate : ℕ) (payload out' : List ℕ) (extra' : CodecExtra) → TakesFirst rate payload [] out' extra' → out' ≡ take 4 payload
+first_given rate (a ∷ b ∷ c ∷ d ∷ rest) out' extra' takes = takes.0
+first_given rate [] out' extra' takes = absurd takes
+first_given rate (a ∷ []) out' extra' takes = absurd takes
+first_given rate (a ∷ b ∷ []) out' extra' takes = absurd takes
+first_given rate (a ∷ b ∷ c ∷ []) out' extra' takes = absurd takes
+
+tele_given : (d : Depack) (payload : List ℕ) (extra : CodecExtra) (one : Result (Unit {0}) PacketError) (e : Depack) (out' : List ℕ) (extra' : CodecExtra) → are_reports payload ≡ true → kind_of_depack d ≡ TelePayloads
+    → DepackStep d payload [] extra one e out' extra' → (kind_of_depack e ≡ TelePayloads) × MatchResult one (λ _. out' ≡ take 4 payload) (λ fault. fault ≡ faults.OutOfMemory)
+tele_given G711Depack payload extra one e out' extra' whole is step = absurd (cc)
+tele_given OpusDepack payload extra one e out' extra' whole is step = absurd (cc)
+tele_given ComfortNoiseDepack payload extra one e out' extra' whole is step = absurd (cc)
+tele_given (Vp8Depack d) payload extra one e out' extra' whole is step = absurd (cc)
+tele_given (Av1Depack pending) payload extra one e out' extra' whole is step = absurd (cc)
+tele_given (AmrWbDepack octet) payload extra one e out' extra' whole is step = absurd (cc)
+tele_given NullDepack payload extra one e out' extra' whole is step = absurd (cc)
+tele_given (TeleDepack rate) payload extra (Ok _) e out' extra' whole is step = (ap kind_of_depack step.1, first_given rate payload out' extra' step.0.1)
+tele_given (TeleDepack rate) payload extra (Err fault) e out' extra' whole is step = (ap kind_of_depack step.1, step.0.2 whole)
+
+tele_carried : (payload : List ℕ) → are_reports payload ≡ true → IsCarried TelePayloads payload (take 4 payload)
+tele_carried payload whole = record { head = refl; tail = λ marker. refl; gives = λ d extra one e out' extra' is step. tele_given d payload extra one e out' extra' whole is step }
+
+pub tele_units : (mtu : ℕ) (frame : List ℕ) (answer : Result (List (List ℕ)) PacketError) → AnswersWhole mtu frame answer → answer ≢ Err faults.OutOfMemory → OneOrNone TelePack mtu frame (payloads_of answer)
+tele_units mtu [] answer is found = inl (ap payloads_of is, refl)
+tele_units mtu (b ∷ bs) (Ok packets) is found = inr (b ∷ bs, take 4 (b ∷ bs), is.1, rw (le-ltb mtu (length (b ∷ bs)) is.0) refl, λ whole. tele_carried (b ∷ bs) whole)
+tele_units mtu (b ∷ bs) (Err fault) is found =
+    by_test (ltb mtu (length (b ∷ bs))) (λ r. ltb mtu (length (b ∷ bs)) ≡ r → OneOrNone TelePack mtu (b ∷ bs) [])
+    (λ long _. inl (refl, rw long refl))
+    (λ short _. absurd (found (ap Err (is.1 (ltb-false mtu (length (b ∷ bs)) short)))))
+    refl
+
+-- AMR-WB
+amr_wb_step : (octet : Bool) (packet frames : List ℕ) (extra : CodecExtra) (one : Result (Unit {0}) PacketError) (out' : List ℕ) (extra' : CodecExtra) → received octet (bits_of packet) ≡ Ok frames
+    → AmrWbStep octet packet [] extra one out' extra' → MatchResult one (λ _. out' ≡ bytes_of frames) (λ fault. fault ≡ faults.OutOfMemory)
+amr_wb_step octet packet frames extra (Ok _) out' extra' reads (given, is, bytes, same) = let e : given ≡ frames = cc in bytes ∙ ap bytes_of e
+amr_wb_step octet packet frames extra (Err fault) out' extra' reads step = only_memory fault (λ other. let e = sym reads ∙ step.0 other in cc)
+
+amr_wb_given : (d : Depack) (octet : Bool) (packet frames : List ℕ) (extra : CodecExtra) (one : Result (Unit {0}) PacketError) (e : Depack) (out' : List ℕ) (extra' : CodecExtra) → received octet (bits_of packet) ≡ Ok frames → kind_of_depack d ≡ AmrWbPayloads octet
+    → DepackStep d packet [] extra one e out' extra' → (kind_of_depack e ≡ AmrWbPayloads octet) × MatchResult one (λ _. out' ≡ bytes_of frames) (λ fault. fault ≡ faults.OutOfMemory)
+amr_wb_given G711Depack octet packet frames extra one e out' extra' reads is step = absurd (cc)
+amr_wb_given OpusDepack octet packet frames extra one e out' extra' reads is step = absurd (cc)
+amr_wb_given ComfortNoiseDepack octet packet frames extra one e out' extra' reads is step = absurd (cc)
+amr_wb_given (TeleDepack rate) octet packet frames extra one e out' extra' reads is step = absurd (cc)
+amr_wb_given (Vp8Depack d) octet packet frames extra one e out' extra' reads is step = absurd (cc)
+amr_wb_given (Av1Depack pending) octet packet frames extra one e out' extra' reads is step = absurd (cc)
+amr_wb_given NullDepack octet packet frames extra one e out' extra' reads is step = absurd (cc)
+amr_wb_given (AmrWbDepack own) octet packet frames extra one e out' extra' reads is step =
+    let same : own ≡ octet = cc in
+    (ap kind_of_depack step.1 ∙ is, amr_wb_step own packet frames extra one out' extra' (ap (λ (o : Bool). received o (bits_of packet)) same ∙ reads) step.0)
+
+amr_wb_carried : (octet : Bool) (packet frames : List ℕ) → received octet (bits_of packet) ≡ Ok frames → IsCarried (AmrWbPayloads octet) packet (bytes_of frames)
+amr_wb_carried octet packet frames reads = record { head = refl; tail = λ marker. refl; gives = λ d extra one e out' extra' is step. amr_wb_given d octet packet frames extra one e out' extra' reads is step }
+
+-- the units of bytes that store that frame, or none
+abbrev units_if : Bool → ℕ → Option Frame → List (List (List ℕ))
+units_if octet mtu o = cond (is_without_data o || is_some (option_map fault_number (refusal_of_frame octet mtu o))) [] ((bytes_of_frame o ∷ []) ∷ [])
+
+abbrev FrameUnits : Bool → ℕ → Option Frame → List (List ℕ) → Type 0
+FrameUnits octet mtu o payloads =
+    ((payloads ≡ []) × (units_if octet mtu o ≡ []))
+    ⊎ ((packet : List ℕ) × (bytes : List ℕ) × (payloads ≡ packet ∷ []) × (units_if octet mtu o ≡ (bytes ∷ []) ∷ []) × IsCarried (AmrWbPayloads octet) packet bytes)
+
+frame_units : (octet : Bool) (mtu : ℕ) (f : Frame) (frame : List ℕ) (answer : Result (List (List ℕ)) PacketError) → stored frame ≡ Some f → eqb f.kind 15 ≡ false → AnswersFrame octet mtu f answer → answer ≢ Err faults.OutOfMemory
+    → FrameUnits octet mtu (Some f) (payloads_of answer)
+frame_units octet mtu f frame (Ok packets) stores speaks (packet, one, spelled, fits) found =
+    let short : length (payload octet f) ≤ 8 * mtu = omega (arith, length-bits_of packet, ap length spelled, fits) in
+    inr (packet, bytes_of (canonical f), one, rw (speaks, le-ltb (8 * mtu) (length (payload octet f)) short) refl,
+    amr_wb_carried octet packet (canonical f) (ap (received octet) spelled ∙ received_again octet f (stored_is_frame frame f stores)))
+frame_units octet mtu f frame (Err fault) stores speaks answers found =
+    by_test (ltb (8 * mtu) (length (payload octet f))) (λ r. ltb (8 * mtu) (length (payload octet f)) ≡ r → FrameUnits octet mtu (Some f) [])
+    (λ long _. inl (refl, rw (speaks, long) refl))
+    (λ short _. absurd (found (ap Err (answers.1 (ltb-false (8 * mtu) (length (payload octet f)) short)))))
+    refl
+
+stored_units : (octet : Bool) (mtu : ℕ) (o : Option Frame) (frame : List ℕ) (answer : Result (List (List ℕ)) PacketError) → stored frame ≡ o → AnswersStored octet mtu o answer → answer ≢ Err faults.OutOfMemory → FrameUnits octet mtu o (payloads_of answer)
+stored_units octet mtu None frame answer stores is found = inl (ap payloads_of is, refl)
+stored_units octet mtu (Some f) frame answer stores is found =
+    by_test (eqb f.kind 15) (λ r. eqb f.kind 15 ≡ r → FrameUnits octet mtu (Some f) (payloads_of answer))
+    (λ none _. inl (ap payloads_of (is.0 (eqb-true f.kind 15 none)), rw none refl))
+    (λ speaks _. frame_units octet mtu f frame answer stores speaks (is.1 (eqb-false f.kind 15 speaks)) found)
+    refl
+
+pub amr_wb_units : (octet : Bool) (mtu : ℕ) (frame : List ℕ) (answer : Result (List (List ℕ)) PacketError) → AnswersAmrWb octet mtu frame answer → answer ≢ Err faults.OutOfMemory → OneOrNone (AmrWbPack octet) mtu frame (payloads_of answer)
+amr_wb_units octet mtu [] answer is found = inl (ap payloads_of is, refl)
+amr_wb_units octet mtu (b ∷ bs) answer is found = elim (stored_units octet mtu (stored (b ∷ bs)) (b ∷ bs) answer refl is found) [
+  | inl none ↦ inl none
+  | inr one ↦ inr (one.0, one.1, one.2, one.3, λ _. one.4)
+]
