@@ -1,5 +1,5 @@
 -- The fields of lines.
-use Rattle.std.specs.Prelude.{◌≡◌, ℕ, ◌+◌, ◌^◌, ◌<◌, ◌⊎◌, IsSome, if◌then◌else◌, List, codes, Option, Some, None}
+use Rattle.std.specs.Prelude.{◌≡◌, ℕ, ◌+◌, ◌^◌, ◌<◌, ◌⊎◌, IsSome, if◌then◌else◌, Bool, List, codes, Option, Some, None}
 use Rattle.std.specs.Str.{bytes_eq}
 use Rattle.std.specs.Str.Parse.{IsNumeral, digits_value}
 use Rattle.codec_payload_core.specs.declared.wire.Codec.{Codec}
@@ -17,9 +17,18 @@ codec_of name =
     else if bytes_eq name (codes "pcmu") then Some codecs.PCMU
     else if bytes_eq name (codes "pcma") then Some codecs.PCMA
     else if bytes_eq name (codes "g722") then Some codecs.G722
+    else if bytes_eq name (codes "cn") then Some codecs.CN
+    else if bytes_eq name (codes "amrwb") then Some codecs.AmrWb
+    else if bytes_eq name (codes "amrwb-octet") then Some codecs.AmrWb
     else if bytes_eq name (codes "vp8") then Some codecs.Vp8
+    else if bytes_eq name (codes "av1") then Some codecs.Av1
+    else if bytes_eq name (codes "tele") then Some codecs.Tele
     else if bytes_eq name (codes "null") then Some codecs.Null
     else None
+
+-- whether a name asks for the octet-aligned layout
+abbrev pub names_octet_aligned : List ℕ → Bool
+names_octet_aligned name = bytes_eq name (codes "amrwb-octet")
 
 -- the fields after `codec` are in range: the rate is above 0, the first number at most 2^62, the id below 2^15
 abbrev pub AreSetup : List ℕ → List ℕ → List ℕ → List ℕ → List ℕ → Type 0

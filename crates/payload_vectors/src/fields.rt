@@ -5,7 +5,7 @@ ghost use Rattle.std.specs.Option.{SomeIff};
 ghost use Rattle.std.specs.Str.Parse.{digits_value};
 ghost use Rattle.codec_payload_core.specs.Depack.{depack_for};
 ghost use Rattle.codec_payload_core.specs.Pack.{pack_for};
-ghost use Rattle.payload_vectors.specs.Fields.{IsNumber, codec_of};
+ghost use Rattle.payload_vectors.specs.Fields.{IsNumber, codec_of, names_octet_aligned};
 
 use codec_payload_core::wire::Codec;
 
@@ -20,10 +20,21 @@ pub fn codec_named(name: &str) -> Option<Codec>
         "pcmu" => Some(Codec::PCMU),
         "pcma" => Some(Codec::PCMA),
         "g722" => Some(Codec::G722),
+        "cn" => Some(Codec::CN),
+        "amrwb" | "amrwb-octet" => Some(Codec::AmrWb),
         "vp8" => Some(Codec::Vp8),
+        "av1" => Some(Codec::Av1),
+        "tele" => Some(Codec::Tele),
         "null" => Some(Codec::Null),
         _ => None,
     }
+}
+
+/// Whether payloads of the codec of that name have the octet-aligned layout of AMR-WB.
+pub fn is_octet_aligned(name: &str) -> bool
+    ensures { result ≡ names_octet_aligned name.now }
+{
+    name == "amrwb-octet"
 }
 
 /// The number that decimal digits spell, where it fits: a sign is refused, and leading zeros are not.

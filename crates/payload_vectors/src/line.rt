@@ -9,7 +9,7 @@ ghost use Rattle.codec_payload_core.specs.Pack.{pack_for};
 ghost use Rattle.payload_vectors.specs.Fields.{AreSample, AreSetup, IsNumber};
 
 use crate::digits::hex_field;
-use crate::fields::{codec_named, count, decimal, truth};
+use crate::fields::{codec_named, count, decimal, is_octet_aligned, truth};
 use codec_payload_core::schedule::Step;
 use codec_payload_core::wire::{Codec, Frequency};
 use std::alloc::{AllocError, Global};
@@ -24,6 +24,8 @@ const GREATEST_PICTURE_ID: u16 = 0x7fff;
 #[derive(Clone, Copy, Debug)]
 pub struct Setup {
     pub codec: Codec,
+    /// Whether AMR-WB has its octet-aligned layout.
+    pub octet_align: bool,
     /// The rate of the RTP clock and of the times of samples.
     pub rate: Frequency,
     /// How many later frames a missing one is waited for.
@@ -56,6 +58,7 @@ impl Setup {
         }
         Some(Setup {
             codec,
+            octet_align: is_octet_aligned(name),
             rate,
             hold_back,
             first_number,

@@ -119,11 +119,12 @@ fn output_of(alloc: Global, script: &Script) -> Result<String, ProgramFault>
     let spec = CodecSpec {
         codec: setup.codec,
         clock_rate: setup.rate,
-        octet_align: false,
+        octet_align: setup.octet_align,
     };
     let mode = Vp9PacketizerMode::NonFlexible;
     let mut payloader = Payloader::new(spec, mode, setup.first_id).unwrap();
-    let depack = CodecDepacketizer::from_codec(alloc, setup.codec).unwrap();
+    let mut depack = CodecDepacketizer::from_codec(alloc, setup.codec).unwrap();
+    depack.configure_for(&spec);
     let mut buffer = DepacketizingBuffer::new(alloc, depack, setup.hold_back);
     let mut sink = MemorySink::new(alloc, setup.first_number);
     let run = run_schedule(
