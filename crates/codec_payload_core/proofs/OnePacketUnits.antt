@@ -172,8 +172,13 @@ frame_units : (octet : Bool) (mtu : ℕ) (f : Frame) (frame : List ℕ) (answer 
     → FrameUnits octet mtu (Some f) (payloads_of answer)
 frame_units octet mtu f frame (Ok packets) stores speaks (packet, one, spelled, fits) found =
     let short : length (payload octet f) ≤ 8 * mtu = omega (arith, length-bits_of packet, ap length spelled, fits) in
-    inr (packet, bytes_of (canonical f), one, rw (speaks, le-ltb (8 * mtu) (length (payload octet f)) short) refl,
-    amr_wb_carried octet packet (canonical f) (ap (received octet) spelled ∙ received_again octet f (stored_is_frame frame f stores)))
+    inr (
+      packet,
+      bytes_of (canonical f),
+      one,
+      rw (speaks, le-ltb (8 * mtu) (length (payload octet f)) short) refl,
+      amr_wb_carried octet packet (canonical f) (ap (received octet) spelled ∙ received_again octet f (stored_is_frame frame f stores)),
+    )
 frame_units octet mtu f frame (Err fault) stores speaks answers found =
     by_test (ltb (8 * mtu) (length (payload octet f))) (λ r. ltb (8 * mtu) (length (payload octet f)) ≡ r → FrameUnits octet mtu (Some f) [])
     (λ long _. inl (refl, rw (speaks, long) refl))

@@ -6,8 +6,8 @@ ghost use Rattle.codec_payload_base.specs.Answers.{packets_of};
 ghost use Rattle.codec_payload_core.specs.Pack.{pack_of, pack_for, configured, PackStep, marker_of, talkspurt_of, nackable_of};
 ghost use Rattle.codec_payload_core.specs.Depack.{depack_of, depack_for, configured_depack, kind_of_depack, DepackStep, head_of, tail_of, hint_of};
 
-use codec_payload_base::error::PacketError;
 use codec_payload_base::amr_wb::{AmrWbDepacketizer, AmrWbPacketizer};
+use codec_payload_base::error::PacketError;
 pub use codec_payload_base::interface::{
     Av1CodecExtra, CodecExtra, Depacketizer, Packetizer, TelephoneEvent, Vp8CodecExtra,
     Vp9PacketizerMode,

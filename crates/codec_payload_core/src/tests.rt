@@ -1,7 +1,10 @@
 //! Whole runs of the codecs that are there.
 
 use crate::buffer::DepacketizingBuffer;
-use crate::codec::{CodecDepacketizer, CodecPacketizer, Vp9PacketizerMode};
+use crate::codec::{
+    Av1CodecExtra, CodecDepacketizer, CodecExtra, CodecPacketizer, Depacketizer, Packetizer,
+    TelephoneEvent, Vp9PacketizerMode,
+};
 use crate::payload::{MemorySink, PacketSink, Payloader};
 use crate::schedule::{Run, Step, run_schedule};
 use crate::wire::{
@@ -255,5 +258,126 @@ fn vp8_equal_times_apart(rt: HostRuntime) -> Result<(), Fail> {
     assert!(rt; done.pops.len() == 2);
     assert!(rt; done.pops[1].is_none());
     assert_eq!(rt; held, 0);
+    Ok(())
+}
+
+/// A temporal delimiter, a sequence header of one byte and a frame of two.
+const TWO_OBUS: [u8; 9] = [0x12, 0x00, 0x0a, 0x01, 0xaa, 0x32, 0x02, 0xbb, 0xcc];
+
+#[test]
+fn av1_leading_obu_lost(rt: HostRuntime) -> Result<(), Fail> {
+    let alloc = rt.alloc();
+    let steps = [
+        Step::Send { sample: 0, mtu: 3 },
+        Step::Push(1),
+        Step::Push(2),
+        Step::Pop,
+    ];
+    let (sink, done, _) = run(alloc, Codec::Av1, &TWO_OBUS, &steps)?;
+    assert_eq!(rt; sink.packets().len(), 3);
+    let Some(Some(Ok(unit))) = done.pops.first() else {
+        return Err(Fail::from("no unit"));
+    };
+    assert_eq!(rt;
+        unit.bytes.as_slice(),
+        [0x32u8, 0x02, 0xbb, 0xcc].as_slice()
+    );
+    assert_eq!(rt; unit.seq_range().start().0, 11);
+    assert_eq!(rt; unit.seq_range().end().0, 12);
+    assert!(rt; unit.contiguous);
+    let told = CodecExtra::Av1(Av1CodecExtra { is_keyframe: false });
+    assert_eq!(rt; unit.codec_extra, told);
+    Ok(())
+}
+
+#[test]
+fn av1_mtu_2_five_packets(rt: HostRuntime) -> Result<(), Fail> {
+    let alloc = rt.alloc();
+    let frame = &TWO_OBUS[2..];
+    let all = [
+        Step::Send { sample: 0, mtu: 2 },
+        Step::Push(4),
+        Step::Push(3),
+        Step::Push(2),
+        Step::Push(1),
+        Step::Push(0),
+        Step::Pop,
+        Step::Pop,
+    ];
+    let (sink, done, _) = run(alloc, Codec::Av1, frame, &all)?;
+    let payloads: [[u8; 2]; 5] = [
+        [0x58, 0x08],
+        [0x90, 0xaa],
+        [0x50, 0x30],
+        [0xd0, 0xbb],
+        [0x90, 0xcc],
+    ];
+    for (packet, payload) in sink.packets().iter().zip(payloads.iter()) {
+        assert_eq!(rt; packet.payload.as_slice(), payload.as_slice());
+    }
+    assert_eq!(rt; sink.packets().len(), payloads.len());
+    assert_eq!(rt;
+        units(alloc, &done)?.as_slice(),
+        [7u8, 0x0a, 0x01, 0xaa, 0x32, 0x02, 0xbb, 0xcc, 255].as_slice()
+    );
+    Ok(())
+}
+
+#[test]
+fn av1_mtu_2_first_lost(rt: HostRuntime) -> Result<(), Fail> {
+    let alloc = rt.alloc();
+    let late = [
+        Step::Send { sample: 0, mtu: 2 },
+        Step::Push(1),
+        Step::Push(2),
+        Step::Push(3),
+        Step::Push(4),
+        Step::Pop,
+    ];
+    let (_, done, _) = run(alloc, Codec::Av1, &TWO_OBUS[2..], &late)?;
+    let Some(Some(Ok(unit))) = done.pops.first() else {
+        return Err(Fail::from("no unit"));
+    };
+    assert_eq!(rt;
+        unit.bytes.as_slice(),
+        [0x32u8, 0x02, 0xbb, 0xcc].as_slice()
+    );
+    assert_eq!(rt; unit.seq_range().start().0, 12);
+    assert_eq!(rt; unit.seq_range().end().0, 14);
+    Ok(())
+}
+
+/// 800 units are 100 milliseconds at 8 kHz, and 50 at 16 kHz.
+#[test]
+fn a_specification_sets_the_clock_and_the_layout(rt: HostRuntime) -> Result<(), Fail> {
+    let alloc = rt.alloc();
+    let spec = CodecSpec {
+        codec: Codec::Tele,
+        clock_rate: Frequency::make(16_000).ok_or("a rate")?,
+        octet_align: true,
+    };
+    let mut events = CodecDepacketizer::from_codec(alloc, Codec::Tele).ok_or("no depacketizer")?;
+    events.configure_for(&spec);
+    let mut out = Vec::new(alloc);
+    let mut extra = CodecExtra::None;
+    events.depacketize(&[0x05, 0x8a, 0x03, 0x20], &mut out, &mut extra)?;
+    let event = TelephoneEvent {
+        event: 5,
+        end: true,
+        volume: 10,
+        duration: 50_000_000,
+    };
+    assert_eq!(rt; extra, CodecExtra::Tele(event));
+    let mut speech = CodecPacketizer::from_codec(Codec::AmrWb).ok_or("no packetizer")?;
+    speech.configure_for(&spec);
+    let payloads = speech.packetize(alloc, 1200, &[0x74])?;
+    assert_eq!(rt; payloads.len(), 1);
+    let payload = payloads.first().ok_or("a payload")?;
+    assert_eq!(rt; payload.as_slice(), [0xf0u8, 0x74].as_slice());
+    let mut received = CodecDepacketizer::from_codec(alloc, Codec::AmrWb).ok_or("no depacketizer")?;
+    received.configure_for(&spec);
+    let mut frame = Vec::new(alloc);
+    received.depacketize(payload, &mut frame, &mut extra)?;
+    assert_eq!(rt; frame.as_slice(), [0x74u8].as_slice());
     Ok(())
 }
