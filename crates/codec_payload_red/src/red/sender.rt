@@ -242,7 +242,7 @@ impl RedSender {
     {
         let mut low = 0;
         for distance in distances {
-            if *distance <= low || *distance > 8 {
+            if *distance <= low || u64::from(*distance) > MAX_RED_RECOVERY_DEPTH {
                 return false;
             }
             low = *distance;
