@@ -17,7 +17,10 @@ const MAX_OFFSET: u32 = 16_383;
 /// The greatest block length that 10 bits hold, in bytes.
 const MAX_BLOCK_LEN: usize = 1_023;
 
-/// How many redundant blocks a payload has at most.
+/// The bit F, the highest of a header: set in that of a redundant block, clear in that of the primary one.
+const F_BIT: u8 = 0x80;
+
+/// How many redundant blocks a payload has at most. RFC 2198 names no limit.
 const MAX_REDUNDANT: u32 = 32;
 
 /// The length of the header of a redundant block, in bytes.
@@ -74,7 +77,7 @@ fn count_of(most: u32, bytes: &[u8]) -> Option<usize>
     ensures there { IfSome result (λ n. 4 * n < length bytes.now) }
 {
     let first = bytes.first()?;
-    if *first < 128 {
+    if *first < F_BIT {
         return Some(0);
     }
     if most == 0 || bytes.len() < REDUNDANT_HEADER_LEN {
@@ -149,7 +152,7 @@ pub(crate) fn put_header(
     ensures written { OnOk result (out.new.items ≡ out.old.items ++ header_of (pt % 128) offset len) }
 {
     out.extend_from_slice(&[
-        128 + pt % 128,
+        F_BIT + pt % 128,
         (offset / 64) as u8,
         (offset % 64 * 4) as u8 + (len / 256) as u8,
         (len % 256) as u8,

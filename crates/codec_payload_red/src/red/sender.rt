@@ -242,7 +242,7 @@ impl RedSender {
     {
         let mut low = 0;
         for distance in distances {
-            if *distance <= low || *distance > 8 {
+            if *distance <= low || u64::from(*distance) > MAX_RED_RECOVERY_DEPTH {
                 return false;
             }
             low = *distance;
@@ -266,6 +266,7 @@ impl RedSender {
 
     /// Takes over new payload types and distances. Of the history the newest payloads stay, as many as the new greatest
     /// distance. It takes no memory.
+    #[tactic(auto, using(crate::proofs::Sending::synced_is))]
     pub fn sync(&mut self, red_pt: Pt, primary_pt: Pt, distances: &[u32])
         requires { IsTrue (is_accepted distances.now) }
         ensures { self.new ≡ synced self.old red_pt primary_pt distances.now }
