@@ -178,7 +178,7 @@ sound_last : (front ps : List Payload) → AllByRecursion IsSound (front ++ ps) 
 sound_last [] ps h = h
 sound_last (p ∷ front) ps h = sound_last front ps h.1
 
-stands_nonempty : (q : Payload) (qs : List Payload) → StandsAfter [] (q ∷ qs) [] → 0 < length q.elements → ⊥
+pub stands_nonempty : (q : Payload) (qs : List Payload) → StandsAfter [] (q ∷ qs) [] → 0 < length q.elements → ⊥
 stands_nonempty q qs h ne =
     let none = all_marks [] (q ∷ qs) [] h in
     let some = one_byte q.continues q.elements h.1 ne in
@@ -213,6 +213,9 @@ pub sent_are_read : (mtu : ℕ) (starts : Bool) (strings : List (List ℕ)) (ps 
 sent_are_read mtu starts strings ps lt sent = read_back [] ps strings sent.stands (sound mtu lt starts strings ps sent)
 
 -- the payload of a packet, among those before and behind it
+same_before : (p : Payload) (xs ys : List Payload) → xs ≡ ys → p ∷ xs ≡ p ∷ ys
+same_before p xs ys e = cc
+
 pick : (ps : List Payload) (front : List (List ℕ)) (packet : List ℕ) (packets : List (List ℕ)) → front ++ packet ∷ packets ≡ map written ps
     → (before : List Payload) × (p : Payload) × (behind : List Payload) × (ps ≡ before ++ p ∷ behind) × (packet ≡ written p) × (packets ≡ map written behind)
 pick [] [] packet packets e = absurd cc
@@ -221,7 +224,7 @@ pick (p ∷ ps) [] packet packets e = let a : packet ≡ written p = cc in let b
 pick (p ∷ ps) (f ∷ front) packet packets e =
     let t : front ++ packet ∷ packets ≡ map written ps = cc in
     let m = pick ps front packet packets t in
-    (p ∷ m.0, m.1, m.2, ap (λ (qs : List Payload). p ∷ qs) m.3, m.4, m.5)
+    (p ∷ m.0, m.1, m.2, same_before p ps (m.0 ++ m.1 ∷ m.2) m.3, m.4, m.5)
 
 same_list : (a b : List ℕ) (xs ys : List (List ℕ)) → a ≡ b → xs ≡ ys → a ∷ xs ≡ b ∷ ys
 same_list a b xs ys e f = cc

@@ -118,7 +118,7 @@ leb_at_len bytes x e =
     let less = front_len 9 bytes b.0 b.1 in
     rw (← some_is (b.0.0 % 2 ^ 64, b.0.1) x b.2) (omega (arith, less, within_rises 9 (b.0.0 % 2 ^ 64) b.0.0 (omega arith)))
 
-or_false : (a b : Bool) → (a || b) ≡ false → b ≡ false
+pub or_false : (a b : Bool) → (a || b) ≡ false → b ≡ false
 or_false true b e = absurd cc
 or_false false b e = e
 
