@@ -8,7 +8,7 @@ use Rattle.codec_payload_video.specs.Av1Leb.{◌>>=◌}
 use Rattle.codec_payload_video.specs.Av1Obu.{Obu, is_kept_type, string, canonical, kept, canonical_unit}
 use Rattle.codec_payload_video.specs.Av1Payload.{Payload, written, is_head, body, each_with_length, all_but_last_with_length, payload_at}
 use Rattle.codec_payload_video.specs.Av1Packing.{ended, left_open, is_begun, IsElement, StandsAfter, HasElement, Sent, AreRead}
-use Rattle.codec_payload_video.specs.Av1Receiving.{taken, unit_of, units_of, still_pending, usable, without_torn, received, all_received}
+use Rattle.codec_payload_video.specs.Av1Receiving.{taken, unit_of, units_of, still_pending, usable, without_orphan, received, all_received}
 use Rattle.codec_payload_video.proofs.Av1Lengths.{bind_some, some_is}
 use Rattle.codec_payload_video.proofs.Av1Again.{Spelled, payload_again, written_head, IsGood, unit_again}
 use Rattle.codec_payload_video.proofs.Av1Packed.{segments, segment, all_marks, one_byte}
@@ -62,17 +62,17 @@ units_append (x ∷ xs) ys u e =
       sym (some_is (first.0 ++ others.0) u others.2) ∙ ap (λ (t : List ℕ). first.0 ++ t) parts.4 ∙ sym (append_assoc first.0 parts.0 parts.1),
     )
 
-torn_no : (es : List (List ℕ)) → without_torn false es ≡ es
-torn_no [] = refl
-torn_no (e ∷ es) = refl
+no_orphan : (es : List (List ℕ)) → without_orphan false es ≡ es
+no_orphan [] = refl
+no_orphan (e ∷ es) = refl
 
 pending_is : (begun pending : List ℕ) (p : Payload) → p.continues ≡ is_begun begun → (p.continues ≡ true → p.starts ≡ false) → (is_begun begun ≡ true → pending ≡ begun) → still_pending p pending ≡ begun
 pending_is [] pending p z n same = rw z refl
 pending_is (b ∷ bs) pending p z n same = rw (z, n z) (same refl)
 
 usable_is : (begun : List ℕ) (p : Payload) → p.continues ≡ is_begun begun → usable p begun ≡ p.elements
-usable_is [] p z = rw z (torn_no p.elements)
-usable_is (b ∷ bs) p z = rw z (torn_no p.elements)
+usable_is [] p z = rw z (no_orphan p.elements)
+usable_is (b ∷ bs) p z = rw z (no_orphan p.elements)
 
 -- what can be said of each packet of a frame
 pub record IsSound (p : Payload) : Type 0 where

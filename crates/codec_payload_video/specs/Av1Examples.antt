@@ -28,9 +28,9 @@ unfolding all_received received taken unit_of units_of payload_at element_at eac
 all_received-three = refl
 
 -- the first packet was lost, and with it the beginning of an OBU
-pub all_received-torn : all_received [] ((0x90 ∷ 0xaa ∷ []) ∷ (0x50 ∷ 0x30 ∷ []) ∷ (0xd0 ∷ 0xbb ∷ []) ∷ (0x90 ∷ 0xcc ∷ []) ∷ []) ≡ Some ((0x32 ∷ 0x02 ∷ 0xbb ∷ 0xcc ∷ []), [])
+pub all_received-orphan : all_received [] ((0x90 ∷ 0xaa ∷ []) ∷ (0x50 ∷ 0x30 ∷ []) ∷ (0xd0 ∷ 0xbb ∷ []) ∷ (0x90 ∷ 0xcc ∷ []) ∷ []) ≡ Some ((0x32 ∷ 0x02 ∷ 0xbb ∷ 0xcc ∷ []), [])
 unfolding all_received received taken unit_of units_of payload_at element_at each_at counted_at obu_at canonical leb leb_at
-all_received-torn = refl
+all_received-orphan = refl
 
 -- a length of 0, a length past the end, two OBUs in one element
 pub received-zero_length : received [] (0x00 ∷ 0x00 ∷ []) ≡ None
