@@ -5,8 +5,7 @@ use Rattle.std.proofs.lemmas.List.{length-map}
 use Rattle.codec_payload_video.specs.Av1Leb.{◌>>=◌}
 use Rattle.codec_payload_video.specs.Av1Obu.{Obu, IsSequence, kept, string, strings_of, starts_sequence, obus_of, frame_kept}
 use Rattle.codec_payload_video.specs.Av1Payload.{written}
-use Rattle.codec_payload_video.specs.Av1Packing.{Packs, reach}
-use Rattle.codec_payload_video.specs.Av1Laying.{AreSent}
+use Rattle.codec_payload_video.specs.Av1Packing.{Packs, reach, AreSent}
 use Rattle.codec_payload_video.specs.Av1Steps.{ComesBack, LastComeBack, IsSentFrame, IsRefusedFrame, AnswersAv1, ReachesFurthest}
 use Rattle.codec_payload_video.specs.Av1Outcome.{Fails}
 use Rattle.codec_payload_base.specs.declared.error.PacketError.{PacketError}

@@ -11,8 +11,7 @@ use Rattle.codec_payload_base.specs.declared.interface.CodecExtra.{CodecExtra}
 use Rattle.codec_payload_video.specs.Av1Leb.{◌>>=◌}
 use Rattle.codec_payload_video.specs.Av1Obu.{Obu, IsSequence, canonical, canonical_unit, kept, string, strings_of, starts_sequence, obus_of}
 use Rattle.codec_payload_video.specs.Av1Payload.{Payload, written, is_head, payload_at}
-use Rattle.codec_payload_video.specs.Av1Packing.{Sent, StandsAfter, HasElement}
-use Rattle.codec_payload_video.specs.Av1Laying.{AreSent}
+use Rattle.codec_payload_video.specs.Av1Packing.{Sent, StandsAfter, HasElement, AreSent}
 use Rattle.codec_payload_video.specs.Av1Receiving.{received, all_received}
 use Rattle.codec_payload_video.specs.Av1Steps.{AnswersAv1, IsSentFrame, Av1Step, IsRefusedPayload}
 use Rattle.codec_payload_video.specs.Av1Units.{parts_of, canonical_obus, is_nil, is_unread, is_skipped_frame, is_refused_frame, BeginsWithHead, IsSentUnit}

@@ -38,10 +38,6 @@ starts_next starts (p ∷ ps) = false
 abbrev pub Lays : Bool → List (List ℕ) → List ℕ → List Payload → Bool → Opened → Type 0
 Lays starts before partial ps continues opened = Laying opened.mtu starts before partial ps continues opened.elements × (packet_size leb_len (lengths opened.elements) ≤ opened.mtu)
 
--- these are the packets in which the strings are sent
-abbrev pub AreSent : ℕ → Bool → List (List ℕ) → List (List ℕ) → Type 0
-AreSent mtu starts strings packets = (ps : List Payload) × (packets ≡ map written ps) × Sent mtu starts strings ps
-
 -- N stands where no packets are before it
 abbrev pub starts_with : Bool → List Payload → Bool
 starts_with starts ps = starts && length ps == 0

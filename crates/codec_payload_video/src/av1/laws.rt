@@ -4,7 +4,7 @@ ghost use Rattle.std.specs.Prelude.{◌≡◌, ◌<◌, ◌^◌, ◌++◌, ◌�
 ghost use Rattle.std.specs.List.{flat_map};
 ghost use Rattle.codec_payload_video.specs.Av1Obu.{Obu, IsSequence, kept, strings_of, canonical, canonical_unit};
 ghost use Rattle.codec_payload_video.specs.Av1Payload.{is_head};
-ghost use Rattle.codec_payload_video.specs.Av1Laying.{AreSent};
+ghost use Rattle.codec_payload_video.specs.Av1Packing.{AreSent};
 ghost use Rattle.codec_payload_video.specs.Av1Receiving.{all_received};
 ghost use Rattle.codec_payload_video.specs.Av1Grammar.{ReadsPayload, ReadsSequence};
 

@@ -3,9 +3,9 @@
 ghost use Rattle.std.specs.Prelude.{◌≡◌, ◌+◌, ◌-◌, ◌<◌, ◌≤◌, ◌++◌, ◌∷◌, [], List, ℕ, Bool, length, map, OnOk, IfOk};
 ghost use Rattle.codec_payload_video.specs.Av1Obu.{string, starts_sequence, view};
 ghost use Rattle.codec_payload_video.specs.Av1Payload.{Payload, written};
-ghost use Rattle.codec_payload_video.specs.Av1Packing.{Sent};
+ghost use Rattle.codec_payload_video.specs.Av1Packing.{Sent, AreSent};
 ghost use Rattle.codec_payload_video.specs.Av1Size.{Opened, packet_size, deferred, own, leb_len, lengths, items_of};
-ghost use Rattle.codec_payload_video.specs.Av1Laying.{Lays, AreSent, starts_with};
+ghost use Rattle.codec_payload_video.specs.Av1Laying.{Lays, starts_with};
 ghost use Rattle.codec_payload_video.specs.Av1Piece.{piece_bytes, pieces_of, plan_view, plans_of, views};
 
 use crate::av1::leb::{longest, number_len};
@@ -178,7 +178,11 @@ fn starts_with_sequence(obus: &[ObuSlices<'_>]) -> bool
 }
 
 /// Where the bytes of the payloads lie in which the kept OBUs are sent.
-fn plans<'a>(alloc: Global, mtu: usize, obus: &[ObuSlices<'a>]) -> Result<Vec<Plan<'a>>, AllocError>
+fn plan_payloads<'a>(
+    alloc: Global,
+    mtu: usize,
+    obus: &[ObuSlices<'a>],
+) -> Result<Vec<Plan<'a>>, AllocError>
     requires { 2 ≤ mtu }
     ensures { IfOk result (λ plans. Sent mtu (starts_sequence (views obus.now)) (map string (views obus.now)) (plans_of plans.items)) }
 {
@@ -204,7 +208,7 @@ pub fn pack(alloc: Global, mtu: usize, obus: &[ObuSlices<'_>]) -> Result<Vec<Vec
     requires { 2 ≤ mtu }
     ensures { IfOk result (λ packets. AreSent mtu (starts_sequence (views obus.now)) (map string (views obus.now)) (items_of packets.items)) }
 {
-    let plans = plans(alloc, mtu, obus)?;
+    let plans = plan_payloads(alloc, mtu, obus)?;
     let mut packets = Vec::with_capacity(alloc, plans.len())?;
     for plan in &plans {
         packets.push(plan.write(alloc)?)?;
