@@ -1,5 +1,5 @@
 -- What is sent of a frame is skipped, refused or a unit, and how packets give it step by step.
-use Rattle.std.proofs.Common.{◌≡◌, ℕ, ◌≤◌, ◌<◌, Bool, true, false, not, ltb, List, [], ◌∷◌, ◌++◌, length, map, Option, Some, None, Result, Ok, Err, refl, sym, ap, subst, ◌∙◌, ◌⊎◌, inl, inr, arith}
+use Rattle.std.proofs.Common.{◌≡◌, ℕ, ◌≤◌, ◌<◌, Bool, true, false, ltb, List, [], ◌∷◌, ◌++◌, length, map, Option, Some, None, Result, Ok, Err, refl, sym, ap, subst, ◌∙◌, ◌⊎◌, inl, inr, arith}
 use Rattle.std.specs.Prelude.{◌&&◌, ◌||◌, is_some, MatchResult}
 use Rattle.std.specs.List.{AllByRecursion, flat_map}
 use Rattle.std.proofs.lemmas.Bool.{ltb-true, ltb-false}
@@ -9,9 +9,9 @@ use Rattle.codec_payload_base.specs.declared.error.PacketError.{PacketError}
 use Rattle.codec_payload_base.specs.declared.error.PacketError.TheVariants as faults
 use Rattle.codec_payload_base.specs.declared.interface.CodecExtra.{CodecExtra}
 use Rattle.codec_payload_video.specs.Av1Leb.{◌>>=◌}
-use Rattle.codec_payload_video.specs.Av1Obu.{Obu, IsSequence, canonical, canonical_unit, kept, string, strings_of, starts_sequence, obus_of}
+use Rattle.codec_payload_video.specs.Av1Obu.{Obu, IsSequence, canonical, kept, string, strings_of, starts_sequence, obus_of}
 use Rattle.codec_payload_video.specs.Av1Payload.{Payload, written, is_head, payload_at}
-use Rattle.codec_payload_video.specs.Av1Packing.{Sent, StandsAfter, HasElement, AreSent}
+use Rattle.codec_payload_video.specs.Av1Packing.{Sent, StandsAfter}
 use Rattle.codec_payload_video.specs.Av1Receiving.{received, all_received}
 use Rattle.codec_payload_video.specs.Av1Steps.{AnswersAv1, IsSentFrame, Av1Step, IsRefusedPayload}
 use Rattle.codec_payload_video.specs.Av1Units.{parts_of, canonical_obus, is_nil, is_unread, is_skipped_frame, is_refused_frame, BeginsWithHead, IsSentUnit}

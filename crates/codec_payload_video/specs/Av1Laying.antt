@@ -1,8 +1,8 @@
 -- The state of a packer between two pieces.
-use Rattle.std.specs.Prelude.{◌&&◌, ◌==◌, ◌≡◌, ℕ, ◌≤◌, Bool, false, List, [], ◌∷◌, ◌++◌, length, map}
+use Rattle.std.specs.Prelude.{◌&&◌, ◌==◌, ◌≡◌, ℕ, ◌≤◌, Bool, false, List, [], ◌∷◌, ◌++◌, length}
 use Rattle.std.specs.List.{AllByRecursion}
 use Rattle.codec_payload_video.specs.Av1Payload.{Payload, written}
-use Rattle.codec_payload_video.specs.Av1Packing.{ended, left_open, is_begun, IsElement, IsFull, HasElement, StartsFirst, Sent}
+use Rattle.codec_payload_video.specs.Av1Packing.{ended, left_open, is_begun, IsElement, IsFull, HasElement, StartsFirst}
 use Rattle.codec_payload_video.specs.Av1Size.{Opened, packet_size, leb_len, lengths}
 
 -- after what came of the first string, the payloads stand for the strings, and this is left opened

@@ -2,7 +2,7 @@ use Rattle.std.proofs.Common.{◌≡◌, ℕ, ◌+◌, ◌-◌, List, length, ap
 use Rattle.std.specs.Global.{Vec}
 use Rattle.codec_payload_video.specs.declared.av1.piece.Piece.{Piece}
 use Rattle.codec_payload_video.specs.Av1Payload.{Payload, written}
-use Rattle.codec_payload_video.specs.Av1Piece.{pieces_of, plan_view}
+use Rattle.codec_payload_video.specs.Av1Piece.{pieces_of}
 use Rattle.codec_payload_video.specs.Av1Size.{packet_size, leb_len, lengths}
 use Rattle.codec_payload_video.proofs.Av1Lengths.{length_written}
 use Rattle.codec_payload_video.proofs.av1.packer.OpenPlan.close.Goals as goal
