@@ -1,5 +1,5 @@
 -- What was written is read again.
-use Rattle.std.proofs.Common.{◌≡◌, ℕ, zero, suc, ◌+◌, ◌*◌, ◌/◌, ◌%◌, ◌^◌, ◌<◌, ◌≤◌, Bool, true, false, not, cond, ltb, eqb, List, [], ◌∷◌, ◌++◌, length, Some, refl, ap, append_assoc, inl, inr, arith}
+use Rattle.std.proofs.Common.{◌≡◌, ℕ, zero, suc, ◌+◌, ◌*◌, ◌/◌, ◌%◌, ◌^◌, ◌<◌, ◌≤◌, Bool, true, false, not, cond, ltb, eqb, List, [], ◌∷◌, ◌++◌, length, Some, refl, ◌∙◌, ap, append_assoc, inl, inr, arith}
 use Rattle.std.specs.Prelude.{◌||◌, ◌&&◌, bit_and, bit_or}
 use Rattle.std.specs.List.{AllByRecursion}
 use Rattle.std.proofs.lemmas.List.{length-append, take_at, drop_at}
@@ -98,7 +98,7 @@ flags_again z y n (suc (suc (suc (suc w)))) le = absurd (omega (arith, le))
 abbrev pub Spelled : List ℕ → Type 0
 Spelled e = (0 < length e) × (length e < 2 ^ 64)
 
-nonzero_test : (n m : ℕ) → 0 < n → n ≤ m → (eqb n 0 || ltb m n) ≡ false
+pub nonzero_test : (n m : ℕ) → 0 < n → n ≤ m → (eqb n 0 || ltb m n) ≡ false
 nonzero_test n m lt le = rw (ne_eqb n 0 (omega arith), le-ltb m n le) refl
 
 element_again : (e rest : List ℕ) → Spelled e → element_at (leb (length e) ++ (e ++ rest)) ≡ Some (e, rest)
@@ -106,7 +106,7 @@ unfolding element_at
 element_again e rest h =
     rw (leb_again (length e) (e ++ rest) h.1, nonzero_test (length e) (length (e ++ rest)) h.0 (omega (arith, length-append e rest)), take_at e rest (length e) refl, drop_at e rest (length e) refl) refl
 
-each_step : (k : ℕ) (bytes : List ℕ) (e rest : List ℕ) (es : List (List ℕ)) → element_at bytes ≡ Some (e, rest) → each_at k rest ≡ Some es → each_at (suc k) bytes ≡ Some (e ∷ es)
+pub each_step : (k : ℕ) (bytes : List ℕ) (e rest : List ℕ) (es : List (List ℕ)) → element_at bytes ≡ Some (e, rest) → each_at k rest ≡ Some es → each_at (suc k) bytes ≡ Some (e ∷ es)
 unfolding each_at element_at leb_at
 each_step k [] e rest es one others = absurd cc
 each_step k (b ∷ bytes) e rest es one others = rw (one, others) refl
@@ -120,7 +120,7 @@ each_again (suc k) (e ∷ es) h le =
     each_step k (each_with_length (e ∷ es)) e (each_with_length es) es one
     (each_again k es h.1 (omega (arith, h.0.0, length-append (leb (length e) ++ e) (each_with_length es), length-append (leb (length e)) e, le)))
 
-counted_step : (k : ℕ) (bytes : List ℕ) (e rest : List ℕ) (es : List (List ℕ)) → element_at bytes ≡ Some (e, rest) → counted_at k rest ≡ Some es → counted_at (suc k) bytes ≡ Some (e ∷ es)
+pub counted_step : (k : ℕ) (bytes : List ℕ) (e rest : List ℕ) (es : List (List ℕ)) → element_at bytes ≡ Some (e, rest) → counted_at k rest ≡ Some es → counted_at (suc k) bytes ≡ Some (e ∷ es)
 unfolding counted_at element_at leb_at
 counted_step k [] e rest es one others = absurd cc
 counted_step k (b ∷ bytes) e rest es one others = rw (one, others) refl
@@ -230,3 +230,13 @@ unfolding written
 written_head p h =
     let f = flags_again p.continues p.goes_on p.starts (element_count p.elements) (count_small p.elements) in
     not_true p.continues (rw f.continues at h)
+
+true_not : (b : Bool) → b ≡ false → not b ≡ true
+true_not true e = absurd cc
+true_not false e = refl
+
+pub head_written : (p : Payload) → p.continues ≡ false → is_head (written p) ≡ true
+unfolding written
+head_written p h =
+    let f = flags_again p.continues p.goes_on p.starts (element_count p.elements) (count_small p.elements) in
+    true_not _ (f.continues ∙ h)

@@ -8,7 +8,7 @@ use Rattle.codec_payload_video.specs.Av1Leb.{◌>>=◌}
 use Rattle.codec_payload_video.specs.Av1Obu.{Obu, is_kept_type, string, canonical, kept, canonical_unit}
 use Rattle.codec_payload_video.specs.Av1Payload.{Payload, written, is_head, body, each_with_length, all_but_last_with_length, payload_at}
 use Rattle.codec_payload_video.specs.Av1Packing.{ended, left_open, is_begun, IsElement, StandsAfter, HasElement, Sent, AreRead}
-use Rattle.codec_payload_video.specs.Av1Receiving.{taken, unit_of, units_of, still_pending, usable, without_torn, received, all_received}
+use Rattle.codec_payload_video.specs.Av1Receiving.{taken, unit_of, units_of, still_pending, usable, without_orphan, received, all_received}
 use Rattle.codec_payload_video.proofs.Av1Lengths.{bind_some, some_is}
 use Rattle.codec_payload_video.proofs.Av1Again.{Spelled, payload_again, written_head, IsGood, unit_again}
 use Rattle.codec_payload_video.proofs.Av1Packed.{segments, segment, all_marks, one_byte}
@@ -62,17 +62,17 @@ units_append (x ∷ xs) ys u e =
       sym (some_is (first.0 ++ others.0) u others.2) ∙ ap (λ (t : List ℕ). first.0 ++ t) parts.4 ∙ sym (append_assoc first.0 parts.0 parts.1),
     )
 
-torn_no : (es : List (List ℕ)) → without_torn false es ≡ es
-torn_no [] = refl
-torn_no (e ∷ es) = refl
+no_orphan : (es : List (List ℕ)) → without_orphan false es ≡ es
+no_orphan [] = refl
+no_orphan (e ∷ es) = refl
 
 pending_is : (begun pending : List ℕ) (p : Payload) → p.continues ≡ is_begun begun → (p.continues ≡ true → p.starts ≡ false) → (is_begun begun ≡ true → pending ≡ begun) → still_pending p pending ≡ begun
 pending_is [] pending p z n same = rw z refl
 pending_is (b ∷ bs) pending p z n same = rw (z, n z) (same refl)
 
 usable_is : (begun : List ℕ) (p : Payload) → p.continues ≡ is_begun begun → usable p begun ≡ p.elements
-usable_is [] p z = rw z (torn_no p.elements)
-usable_is (b ∷ bs) p z = rw z (torn_no p.elements)
+usable_is [] p z = rw z (no_orphan p.elements)
+usable_is (b ∷ bs) p z = rw z (no_orphan p.elements)
 
 -- what can be said of each packet of a frame
 pub record IsSound (p : Payload) : Type 0 where
@@ -178,7 +178,7 @@ sound_last : (front ps : List Payload) → AllByRecursion IsSound (front ++ ps) 
 sound_last [] ps h = h
 sound_last (p ∷ front) ps h = sound_last front ps h.1
 
-stands_nonempty : (q : Payload) (qs : List Payload) → StandsAfter [] (q ∷ qs) [] → 0 < length q.elements → ⊥
+pub stands_nonempty : (q : Payload) (qs : List Payload) → StandsAfter [] (q ∷ qs) [] → 0 < length q.elements → ⊥
 stands_nonempty q qs h ne =
     let none = all_marks [] (q ∷ qs) [] h in
     let some = one_byte q.continues q.elements h.1 ne in
@@ -213,6 +213,9 @@ pub sent_are_read : (mtu : ℕ) (starts : Bool) (strings : List (List ℕ)) (ps 
 sent_are_read mtu starts strings ps lt sent = read_back [] ps strings sent.stands (sound mtu lt starts strings ps sent)
 
 -- the payload of a packet, among those before and behind it
+same_before : (p : Payload) (xs ys : List Payload) → xs ≡ ys → p ∷ xs ≡ p ∷ ys
+same_before p xs ys e = cc
+
 pick : (ps : List Payload) (front : List (List ℕ)) (packet : List ℕ) (packets : List (List ℕ)) → front ++ packet ∷ packets ≡ map written ps
     → (before : List Payload) × (p : Payload) × (behind : List Payload) × (ps ≡ before ++ p ∷ behind) × (packet ≡ written p) × (packets ≡ map written behind)
 pick [] [] packet packets e = absurd cc
@@ -221,7 +224,7 @@ pick (p ∷ ps) [] packet packets e = let a : packet ≡ written p = cc in let b
 pick (p ∷ ps) (f ∷ front) packet packets e =
     let t : front ++ packet ∷ packets ≡ map written ps = cc in
     let m = pick ps front packet packets t in
-    (p ∷ m.0, m.1, m.2, ap (λ (qs : List Payload). p ∷ qs) m.3, m.4, m.5)
+    (p ∷ m.0, m.1, m.2, same_before p ps (m.0 ++ m.1 ∷ m.2) m.3, m.4, m.5)
 
 same_list : (a b : List ℕ) (xs ys : List (List ℕ)) → a ≡ b → xs ≡ ys → a ∷ xs ≡ b ∷ ys
 same_list a b xs ys e f = cc

@@ -1,7 +1,7 @@
 -- A list of segments, each as long as the bound lets it be, is a shortest one.
 use Rattle.std.proofs.Common.{◌≡◌, ℕ, zero, suc, ◌+◌, ◌<◌, ◌≤◌, Bool, true, false, List, [], ◌∷◌, ◌++◌, length, take, refl, sym, ap, ◌∙◌, append_assoc, ◌⊎◌, inl, inr, arith}
 use Rattle.std.specs.List.{AllByRecursion}
-use Rattle.codec_payload_video.specs.Av1Size.{full, lean, packet_size}
+use Rattle.codec_payload_video.specs.Av1Size.{size_with_lengths, size_last_bare, packet_size}
 use Rattle.std.proofs.lemmas.List.{length-append}
 use Rattle.std.proofs.lemmas.Bool.{cases_lt, lt-ltb, le-ltb}
 
@@ -18,13 +18,13 @@ Within-skip : (es : List ℕ) (f : ℕ) (fs : List ℕ) → Within es fs → Wit
 Within-skip [] f fs w = tt
 Within-skip (e ∷ es) f fs w = inr w
 
-full_rises : (cost : ℕ → ℕ) → Rises cost → (es fs : List ℕ) → Within es fs → full cost es ≤ full cost fs
-full_rises cost rises [] fs w = omega arith
-full_rises cost rises (e ∷ es) [] w = absurd w
-full_rises cost rises (e ∷ es) (f ∷ fs) w =
+lengths_rise : (cost : ℕ → ℕ) → Rises cost → (es fs : List ℕ) → Within es fs → size_with_lengths cost es ≤ size_with_lengths cost fs
+lengths_rise cost rises [] fs w = omega arith
+lengths_rise cost rises (e ∷ es) [] w = absurd w
+lengths_rise cost rises (e ∷ es) (f ∷ fs) w =
     elim w [
-      | inl p ↦ omega (arith, rises e f p.0, full_rises cost rises es fs p.1, p.0)
-      | inr q ↦ omega (arith, full_rises cost rises (e ∷ es) fs q)
+      | inl p ↦ omega (arith, rises e f p.0, lengths_rise cost rises es fs p.1, p.0)
+      | inr q ↦ omega (arith, lengths_rise cost rises (e ∷ es) fs q)
     ]
 
 length_rises : (es fs : List ℕ) → Within es fs → length es ≤ length fs
@@ -36,35 +36,35 @@ length_rises (e ∷ es) (f ∷ fs) w =
       | inr q ↦ omega (arith, length_rises (e ∷ es) fs q)
     ]
 
-pub lean-le-full : (cost : ℕ → ℕ) (es : List ℕ) → lean cost es ≤ full cost es
-lean-le-full cost [] = omega arith
-lean-le-full cost (e ∷ []) = omega arith
-lean-le-full cost (e ∷ f ∷ es) = omega (arith, lean-le-full cost (f ∷ es))
+pub bare-le-lengths : (cost : ℕ → ℕ) (es : List ℕ) → size_last_bare cost es ≤ size_with_lengths cost es
+bare-le-lengths cost [] = omega arith
+bare-le-lengths cost (e ∷ []) = omega arith
+bare-le-lengths cost (e ∷ f ∷ es) = omega (arith, bare-le-lengths cost (f ∷ es))
 
-lean_rises : (cost : ℕ → ℕ) → Rises cost → (es fs : List ℕ) → Within es fs → lean cost es ≤ lean cost fs
-lean_rises cost rises [] fs w = omega arith
-lean_rises cost rises (e ∷ es) [] w = absurd w
-lean_rises cost rises (e ∷ []) (f ∷ []) w = elim w [ inl p ↦ p.0 | inr q ↦ absurd q ]
-lean_rises cost rises (e ∷ []) (f ∷ g ∷ fs) w =
+bare_rises : (cost : ℕ → ℕ) → Rises cost → (es fs : List ℕ) → Within es fs → size_last_bare cost es ≤ size_last_bare cost fs
+bare_rises cost rises [] fs w = omega arith
+bare_rises cost rises (e ∷ es) [] w = absurd w
+bare_rises cost rises (e ∷ []) (f ∷ []) w = elim w [ inl p ↦ p.0 | inr q ↦ absurd q ]
+bare_rises cost rises (e ∷ []) (f ∷ g ∷ fs) w =
     elim w [
       | inl p ↦ omega (arith, p.0)
-      | inr q ↦ omega (arith, lean_rises cost rises (e ∷ []) (g ∷ fs) q)
+      | inr q ↦ omega (arith, bare_rises cost rises (e ∷ []) (g ∷ fs) q)
     ]
-lean_rises cost rises (e ∷ d ∷ es) (f ∷ []) w = elim w [ inl p ↦ absurd p.1 | inr q ↦ absurd q ]
-lean_rises cost rises (e ∷ d ∷ es) (f ∷ g ∷ fs) w =
+bare_rises cost rises (e ∷ d ∷ es) (f ∷ []) w = elim w [ inl p ↦ absurd p.1 | inr q ↦ absurd q ]
+bare_rises cost rises (e ∷ d ∷ es) (f ∷ g ∷ fs) w =
     elim w [
-      | inl p ↦ omega (arith, p.0, rises e f p.0, lean_rises cost rises (d ∷ es) (g ∷ fs) p.1)
-      | inr q ↦ omega (arith, lean_rises cost rises (e ∷ d ∷ es) (g ∷ fs) q)
+      | inl p ↦ omega (arith, p.0, rises e f p.0, bare_rises cost rises (d ∷ es) (g ∷ fs) p.1)
+      | inr q ↦ omega (arith, bare_rises cost rises (e ∷ d ∷ es) (g ∷ fs) q)
     ]
 
 pub size_rises : (cost : ℕ → ℕ) → Rises cost → (es fs : List ℕ) → Within es fs → packet_size cost es ≤ packet_size cost fs
 size_rises cost rises es fs w =
     let n = length_rises es fs w in
     elim (cases_lt 3 (length es)) [
-      | inl more ↦ rw (lt-ltb 3 (length es) more, lt-ltb 3 (length fs) (omega arith)) (omega (arith, full_rises cost rises es fs w))
+      | inl more ↦ rw (lt-ltb 3 (length es) more, lt-ltb 3 (length fs) (omega arith)) (omega (arith, lengths_rise cost rises es fs w))
       | inr few ↦ elim (cases_lt 3 (length fs)) [
-        | inl more ↦ rw (le-ltb 3 (length es) few, lt-ltb 3 (length fs) more) (omega (arith, lean-le-full cost es, full_rises cost rises es fs w))
-        | inr some ↦ rw (le-ltb 3 (length es) few, le-ltb 3 (length fs) some) (omega (arith, lean_rises cost rises es fs w))
+        | inl more ↦ rw (le-ltb 3 (length es) few, lt-ltb 3 (length fs) more) (omega (arith, bare-le-lengths cost es, lengths_rise cost rises es fs w))
+        | inr some ↦ rw (le-ltb 3 (length es) few, le-ltb 3 (length fs) some) (omega (arith, bare_rises cost rises es fs w))
       ]
     ]
 

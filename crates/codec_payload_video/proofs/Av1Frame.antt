@@ -1,21 +1,18 @@
 -- What holds of the packets of a frame.
-use Rattle.std.proofs.Common.{◌≡◌, ℕ, ◌≤◌, ◌<◌, ◌^◌, false, eqb, List, [], ◌∷◌, ◌++◌, length, map, take, Some, None, Ok, Err, refl, sym, ap, ◌∙◌, ◌⊎◌, inl, inr, arith}
-use Rattle.std.specs.List.{AllByRecursion}
+use Rattle.std.proofs.Common.{◌≡◌, ℕ, ◌≤◌, ◌<◌, ◌^◌, false, List, [], ◌∷◌, ◌++◌, length, take, Some, None, Ok, Err, refl, sym, ap, ◌∙◌, ◌⊎◌, inl, inr, arith}
 use Rattle.std.proofs.lemmas.List.{length-map}
 use Rattle.codec_payload_video.specs.Av1Leb.{◌>>=◌}
-use Rattle.codec_payload_video.specs.Av1Obu.{Obu, IsSequence, kept, string, strings_of, starts_sequence, obus_of, frame_kept}
+use Rattle.codec_payload_video.specs.Av1Obu.{Obu, IsSequence, kept, strings_of, starts_sequence, obus_of, frame_kept}
 use Rattle.codec_payload_video.specs.Av1Payload.{written}
-use Rattle.codec_payload_video.specs.Av1Packing.{Packs, reach}
-use Rattle.codec_payload_video.specs.Av1Laying.{AreSent}
+use Rattle.codec_payload_video.specs.Av1Packing.{Packs, reach, AreSent}
 use Rattle.codec_payload_video.specs.Av1Steps.{ComesBack, LastComeBack, IsSentFrame, IsRefusedFrame, AnswersAv1, ReachesFurthest}
 use Rattle.codec_payload_video.specs.Av1Outcome.{Fails}
 use Rattle.codec_payload_base.specs.declared.error.PacketError.{PacketError}
 use Rattle.codec_payload_base.specs.declared.error.PacketError.TheVariants as faults
 use Rattle.codec_payload_video.specs.Av1Receiving.{all_received}
 use Rattle.codec_payload_video.proofs.Av1Lengths.{bind_some, some_is}
-use Rattle.codec_payload_video.proofs.Av1Again.{IsGood}
 use Rattle.codec_payload_video.proofs.Av1Sequence.{IsBytes, sequence_sound, sequence_complete, sequence_good}
-use Rattle.codec_payload_video.proofs.Av1Comes.{AllKept, kept_all, frame_comes, last_packets_come, sent_are_read}
+use Rattle.codec_payload_video.proofs.Av1Comes.{frame_comes, last_packets_come, sent_are_read}
 use Rattle.codec_payload_video.proofs.Av1Packed.{fewest, furthest}
 
 pub frame_read : (bytes : List ℕ) (ks : List Obu) → frame_kept bytes ≡ Some ks → (os : List Obu) × IsSequence os bytes × (ks ≡ kept os)

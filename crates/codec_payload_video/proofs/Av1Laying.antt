@@ -117,10 +117,10 @@ lay_between mtu starts before partial ps continues opened p s ne is closed =
 
 -- ---- the end
 
-full_push : (mtu : ℕ) (ps : List Payload) (p : Payload) → AllByRecursion (IsClosed mtu) ps → AllFullButLast mtu (ps ++ p ∷ [])
-full_push mtu [] p h = tt
-full_push mtu (q ∷ []) p h = (h.0.full, tt)
-full_push mtu (q ∷ r ∷ ps) p h = (h.0.full, full_push mtu (r ∷ ps) p h.1)
+lengths_push : (mtu : ℕ) (ps : List Payload) (p : Payload) → AllByRecursion (IsClosed mtu) ps → AllFullButLast mtu (ps ++ p ∷ [])
+lengths_push mtu [] p h = tt
+lengths_push mtu (q ∷ []) p h = (h.0.full, tt)
+lengths_push mtu (q ∷ r ∷ ps) p h = (h.0.full, lengths_push mtu (r ∷ ps) p h.1)
 
 nonempty_push : (mtu : ℕ) (ps : List Payload) (p : Payload) → AllByRecursion (IsClosed mtu) ps → HasElement p → AllByRecursion HasElement (ps ++ p ∷ [])
 nonempty_push mtu [] p h one = (one, tt)
@@ -142,6 +142,6 @@ lay_last mtu starts before partial ps continues opened p s ne is within =
       stands = laid_stands [] (ps ++ p ∷ []) before all;
       nonempty = nonempty_push mtu ps p s.closed (subst HasElement (sym is) ne);
       within = within_push mtu ps p s.closed within;
-      full = full_push mtu ps p s.closed;
+      full = lengths_push mtu ps p s.closed;
       first = first_push starts ps p s.first (ap (λ (q : Payload). q.starts) is);
     }

@@ -1,11 +1,11 @@
 -- The steps of a packer.
-use Rattle.std.proofs.Common.{◌≡◌, ℕ, zero, suc, ◌+◌, ◌≤◌, ◌<◌, Bool, true, false, List, [], ◌∷◌, ◌++◌, length, map, refl, sym, ap, ◌∙◌, arith}
+use Rattle.std.proofs.Common.{◌≡◌, ℕ, zero, suc, ◌+◌, ◌≤◌, ◌<◌, Bool, true, false, List, [], ◌∷◌, ◌++◌, length, refl, ap, arith}
 use Rattle.std.proofs.lemmas.List.{map_push, length-append}
 use Rattle.std.proofs.lemmas.Bool.{lt-ltb, ne_eqb}
-use Rattle.codec_payload_video.specs.Av1Payload.{Payload, written}
+use Rattle.codec_payload_video.specs.Av1Payload.{Payload}
 use Rattle.codec_payload_video.specs.Av1Packing.{IsElement, with_next, Sent}
 use Rattle.codec_payload_video.specs.Av1Size.{packet_size, own, leb_len, lengths}
-use Rattle.codec_payload_video.specs.Av1Laying.{IsClosed, Lays, AreSent, starts_next, starts_with}
+use Rattle.codec_payload_video.specs.Av1Laying.{IsClosed, Lays, starts_next, starts_with}
 use Rattle.codec_payload_video.proofs.Av1Lengths.{length_written, leb_len_rises}
 use Rattle.codec_payload_video.proofs.Av1Laying.{laying_none, lay_end, lay_part, lay_between, lay_last}
 use Rattle.codec_payload_video.proofs.Av1Room.{size_push}

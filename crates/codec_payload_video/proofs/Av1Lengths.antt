@@ -7,8 +7,8 @@ use Rattle.codec_payload_base.specs.Leb.{leb, leb_within}
 use Rattle.codec_payload_video.specs.Av1Leb.{◌>>=◌, leb_front, leb_at}
 use Rattle.codec_payload_video.specs.Av1Obu.{has_bit}
 use Rattle.codec_payload_video.specs.Av1Payload.{Payload, written, body, each_with_length, all_but_last_with_length, payload_at, element_at, each_at, counted_at, elements_at}
-use Rattle.codec_payload_video.specs.Av1Size.{full, lean, packet_size, leb_len}
-use Rattle.codec_payload_video.proofs.Av1Fewest.{lean-le-full, Rises}
+use Rattle.codec_payload_video.specs.Av1Size.{size_with_lengths, size_last_bare, packet_size, leb_len}
+use Rattle.codec_payload_video.proofs.Av1Fewest.{bare-le-lengths, Rises}
 use Rattle.std.specs.Prelude.{bit_and}
 use Rattle.std.proofs.lemmas.Nat.{and_le_r}
 
@@ -68,11 +68,11 @@ leb_len_most n = within_most 9 n
 
 -- ---- lengths of what is written
 
-length_each : (es : List (List ℕ)) → length (each_with_length es) ≡ full leb_len (map length es)
+length_each : (es : List (List ℕ)) → length (each_with_length es) ≡ size_with_lengths leb_len (map length es)
 length_each [] = refl
 length_each (e ∷ es) = simp length-append (omega (arith, length_each es))
 
-length_all_but_last : (es : List (List ℕ)) → length (all_but_last_with_length es) ≡ lean leb_len (map length es)
+length_all_but_last : (es : List (List ℕ)) → length (all_but_last_with_length es) ≡ size_last_bare leb_len (map length es)
 length_all_but_last [] = refl
 length_all_but_last (e ∷ []) = refl
 length_all_but_last (e ∷ f ∷ es) = simp length-append (omega (arith, length_all_but_last (f ∷ es)))
@@ -118,13 +118,13 @@ leb_at_len bytes x e =
     let less = front_len 9 bytes b.0 b.1 in
     rw (← some_is (b.0.0 % 2 ^ 64, b.0.1) x b.2) (omega (arith, less, within_rises 9 (b.0.0 % 2 ^ 64) b.0.0 (omega arith)))
 
-or_false : (a b : Bool) → (a || b) ≡ false → b ≡ false
+pub or_false : (a b : Bool) → (a || b) ≡ false → b ≡ false
 or_false true b e = absurd cc
 or_false false b e = e
 
-lean_cons : (e : ℕ) (es : List ℕ) → lean leb_len (e ∷ es) ≤ leb_len e + e + lean leb_len es
-lean_cons e [] = omega arith
-lean_cons e (f ∷ es) = omega arith
+bare_cons : (e : ℕ) (es : List ℕ) → size_last_bare leb_len (e ∷ es) ≤ leb_len e + e + size_last_bare leb_len es
+bare_cons e [] = omega arith
+bare_cons e (f ∷ es) = omega arith
 
 pub element_at_len : (bytes : List ℕ) (x : List ℕ × List ℕ) → element_at bytes ≡ Some x → leb_len (length x.0) + length x.0 + length x.1 ≤ length bytes
 unfolding element_at
@@ -139,7 +139,7 @@ element_at_len bytes x e =
           rw (← some_is (take n.0.0 n.0.1, drop n.0.0 n.0.1) x q.1, len) (omega (arith, less, length-drop n.0.0 n.0.1))
     ]
 
-each_at_len : (k : ℕ) (bytes : List ℕ) (es : List (List ℕ)) → each_at k bytes ≡ Some es → full leb_len (map length es) ≤ length bytes
+each_at_len : (k : ℕ) (bytes : List ℕ) (es : List (List ℕ)) → each_at k bytes ≡ Some es → size_with_lengths leb_len (map length es) ≤ length bytes
 unfolding each_at
 each_at_len k [] es e = rw (← some_is [] es e) (omega arith)
 each_at_len zero (b ∷ bytes) es e = absurd cc
@@ -148,7 +148,7 @@ each_at_len (suc k) (b ∷ bytes) es e =
     let ys = bind_some (each_at k x.0.1) (λ ys. Some (x.0.0 ∷ ys)) es x.2 in
     rw (← some_is (x.0.0 ∷ ys.0) es ys.2) (omega (arith, element_at_len (b ∷ bytes) x.0 x.1, each_at_len k x.0.1 ys.0 ys.1))
 
-counted_at_len : (k : ℕ) (bytes : List ℕ) (es : List (List ℕ)) → counted_at k bytes ≡ Some es → (lean leb_len (map length es) ≤ length bytes) × (length es ≤ k + 1)
+counted_at_len : (k : ℕ) (bytes : List ℕ) (es : List (List ℕ)) → counted_at k bytes ≡ Some es → (size_last_bare leb_len (map length es) ≤ length bytes) × (length es ≤ k + 1)
 unfolding counted_at
 counted_at_len k [] es e = rw (← some_is [] es e) (omega arith, omega arith)
 counted_at_len zero (b ∷ bytes) es e = rw (← some_is ((b ∷ bytes) ∷ []) es e) (omega arith, omega arith)
@@ -156,14 +156,14 @@ counted_at_len (suc k) (b ∷ bytes) es e =
     let x = bind_some (element_at (b ∷ bytes)) (λ x. counted_at k x.1 >>= λ ys. Some (x.0 ∷ ys)) es e in
     let ys = bind_some (counted_at k x.0.1) (λ ys. Some (x.0.0 ∷ ys)) es x.2 in
     let r = counted_at_len k x.0.1 ys.0 ys.1 in
-    rw (← some_is (x.0.0 ∷ ys.0) es ys.2) (omega (arith, element_at_len (b ∷ bytes) x.0 x.1, lean_cons (length x.0.0) (map length ys.0), r.0), omega (arith, r.1))
+    rw (← some_is (x.0.0 ∷ ys.0) es ys.2) (omega (arith, element_at_len (b ∷ bytes) x.0 x.1, bare_cons (length x.0.0) (map length ys.0), r.0), omega (arith, r.1))
 
 elements_size : (w : ℕ) → w ≤ 3 → (bytes : List ℕ) (es : List (List ℕ)) → elements_at w bytes ≡ Some es → packet_size leb_len (map length es) ≤ suc (length bytes)
 elements_size zero le bytes es e =
     let less = each_at_len (length bytes) bytes es e in
     elim (cases_lt 3 (length es)) [
       | inl more ↦ rw (length-map es (length {A = ℕ}), lt-ltb 3 (length es) more) (omega (arith, less))
-      | inr few ↦ rw (length-map es (length {A = ℕ}), le-ltb 3 (length es) few) (omega (arith, less, lean-le-full leb_len (map length es)))
+      | inr few ↦ rw (length-map es (length {A = ℕ}), le-ltb 3 (length es) few) (omega (arith, less, bare-le-lengths leb_len (map length es)))
     ]
 elements_size (suc w) le bytes es e =
     let less = counted_at_len w bytes es e in

@@ -42,7 +42,7 @@ front_more (suc k) (c ∷ cs) rest v b e =
           rw q.0 (more_high c (leb_front k (cs ++ rest)) h.0.0 (h.0.1 ++ rest) v (b ++ rest) (front_more k cs rest h.0.0 h.0.1 h.1) (ap (λ (x : ℕ × List ℕ). (x.0, x.1 ++ rest)) (some_is (c % 128 + 128 * h.0.0, h.0.1) (v, b) h.2)))
     ]
 
-leb_more : (a rest : List ℕ) (v : ℕ) (b : List ℕ) → leb_at a ≡ Some (v, b) → leb_at (a ++ rest) ≡ Some (v, b ++ rest)
+pub leb_more : (a rest : List ℕ) (v : ℕ) (b : List ℕ) → leb_at a ≡ Some (v, b) → leb_at (a ++ rest) ≡ Some (v, b ++ rest)
 unfolding leb_at
 leb_more a rest v b e =
     let h = bind_some (leb_front 9 a) (λ x. Some (x.0 % 2 ^ 64, x.1)) (v, b) e in
@@ -68,7 +68,7 @@ front_split (suc k) (c ∷ cs) v rest e =
           )
     ]
 
-leb_split : (bytes : List ℕ) (v : ℕ) (rest : List ℕ) → leb_at bytes ≡ Some (v, rest) → (size : List ℕ) × (bytes ≡ size ++ rest) × (leb_at size ≡ Some (v, []))
+pub leb_split : (bytes : List ℕ) (v : ℕ) (rest : List ℕ) → leb_at bytes ≡ Some (v, rest) → (size : List ℕ) × (bytes ≡ size ++ rest) × (leb_at size ≡ Some (v, []))
 unfolding leb_at
 leb_split bytes v rest e =
     let h = bind_some (leb_front 9 bytes) (λ x. Some (x.0 % 2 ^ 64, x.1)) (v, rest) e in

@@ -1,8 +1,8 @@
 -- The state of a packer between two pieces.
-use Rattle.std.specs.Prelude.{◌&&◌, ◌==◌, ◌≡◌, ℕ, ◌≤◌, Bool, false, List, [], ◌∷◌, ◌++◌, length, map}
+use Rattle.std.specs.Prelude.{◌&&◌, ◌==◌, ◌≡◌, ℕ, ◌≤◌, Bool, false, List, [], ◌∷◌, ◌++◌, length}
 use Rattle.std.specs.List.{AllByRecursion}
 use Rattle.codec_payload_video.specs.Av1Payload.{Payload, written}
-use Rattle.codec_payload_video.specs.Av1Packing.{ended, left_open, is_begun, IsElement, IsFull, HasElement, StartsFirst, Sent}
+use Rattle.codec_payload_video.specs.Av1Packing.{ended, left_open, is_begun, IsElement, IsFull, HasElement, StartsFirst}
 use Rattle.codec_payload_video.specs.Av1Size.{Opened, packet_size, leb_len, lengths}
 
 -- after what came of the first string, the payloads stand for the strings, and this is left opened
@@ -37,10 +37,6 @@ starts_next starts (p ∷ ps) = false
 -- The packets so far, and the open one, hold these strings and this much of the next.
 abbrev pub Lays : Bool → List (List ℕ) → List ℕ → List Payload → Bool → Opened → Type 0
 Lays starts before partial ps continues opened = Laying opened.mtu starts before partial ps continues opened.elements × (packet_size leb_len (lengths opened.elements) ≤ opened.mtu)
-
--- these are the packets in which the strings are sent
-abbrev pub AreSent : ℕ → Bool → List (List ℕ) → List (List ℕ) → Type 0
-AreSent mtu starts strings packets = (ps : List Payload) × (packets ≡ map written ps) × Sent mtu starts strings ps
 
 -- N stands where no packets are before it
 abbrev pub starts_with : Bool → List Payload → Bool

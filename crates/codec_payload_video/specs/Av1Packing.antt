@@ -1,5 +1,5 @@
 -- How the payloads of a list of packets stand for a list of strings, and which of these lists is sent.
-use Rattle.std.specs.Prelude.{◌≡◌, ℕ, ◌<◌, ◌≤◌, List, [], ◌∷◌, ◌++◌, length, Option, Some, None, Bool, true, false, if◌then◌else◌}
+use Rattle.std.specs.Prelude.{◌≡◌, ℕ, ◌<◌, ◌≤◌, List, [], ◌∷◌, ◌++◌, length, map, Option, Some, None, Bool, true, false, if◌then◌else◌}
 use Rattle.std.specs.List.{AllByRecursion, flat_map}
 use Rattle.codec_payload_base.specs.Pieces.{joined}
 use Rattle.codec_payload_video.specs.Av1Payload.{Payload, written, payload_at}
@@ -63,6 +63,10 @@ pub record Sent (mtu : ℕ) (starts : Bool) (strings : List (List ℕ)) (ps : Li
   pub within : AllByRecursion (λ p. length (written p) ≤ mtu) ps
   pub full : AllFullButLast mtu ps
   pub first : StartsFirst starts ps
+
+-- These are the packets in which the strings are sent.
+abbrev pub AreSent : ℕ → Bool → List (List ℕ) → List (List ℕ) → Type 0
+AreSent mtu starts strings packets = (ps : List Payload) × (packets ≡ map written ps) × Sent mtu starts strings ps
 
 -- ---- any other packets
 

@@ -1,5 +1,5 @@
 -- Parts of OBUs that lie in the memory of a frame, and packets made of them.
-use Rattle.std.specs.Prelude.{◌≡◌, ℕ, List, [], ◌∷◌, ◌++◌, Option, Some, None, map}
+use Rattle.std.specs.Prelude.{ℕ, List, [], ◌∷◌, ◌++◌, Option, Some, None, map}
 use Rattle.codec_payload_video.specs.declared.av1.obu.ObuSlices.{ObuSlices}
 use Rattle.codec_payload_video.specs.declared.av1.piece.Piece.{Piece}
 use Rattle.codec_payload_video.specs.declared.av1.plan.Plan.{Plan}

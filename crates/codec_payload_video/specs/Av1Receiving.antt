@@ -10,12 +10,12 @@ abbrev pub still_pending : Payload → List ℕ → List ℕ
 still_pending p pending = if p.continues && not p.starts then pending else []
 
 -- the elements without one whose beginning was lost
-abbrev pub without_torn : Bool → List (List ℕ) → List (List ℕ)
-without_torn torn [] = []
-without_torn torn (e ∷ es) = if torn then es else e ∷ es
+abbrev pub without_orphan : Bool → List (List ℕ) → List (List ℕ)
+without_orphan orphan [] = []
+without_orphan orphan (e ∷ es) = if orphan then es else e ∷ es
 
 abbrev pub usable : Payload → List ℕ → List (List ℕ)
-usable p begun = without_torn (p.continues && not (is_begun begun)) p.elements
+usable p begun = without_orphan (p.continues && not (is_begun begun)) p.elements
 
 -- what an element that is one OBU adds: nothing where it isn't kept
 abbrev pub added : List ℕ → Obu → List ℕ

@@ -5,28 +5,28 @@ use Rattle.codec_payload_base.specs.Leb.{leb}
 
 -- ---- what a packet of elements of these lengths takes; cost is what a length takes
 
-abbrev pub full : (ℕ → ℕ) → List ℕ → ℕ
-full cost [] = 0
-full cost (e ∷ es) = cost e + e + full cost es
+abbrev pub size_with_lengths : (ℕ → ℕ) → List ℕ → ℕ
+size_with_lengths cost [] = 0
+size_with_lengths cost (e ∷ es) = cost e + e + size_with_lengths cost es
 
-abbrev pub lean : (ℕ → ℕ) → List ℕ → ℕ
-lean cost [] = 0
-lean cost (e ∷ []) = e
-lean cost (e ∷ f ∷ es) = cost e + e + lean cost (f ∷ es)
+abbrev pub size_last_bare : (ℕ → ℕ) → List ℕ → ℕ
+size_last_bare cost [] = 0
+size_last_bare cost (e ∷ []) = e
+size_last_bare cost (e ∷ f ∷ es) = cost e + e + size_last_bare cost (f ∷ es)
 
 abbrev pub packet_size : (ℕ → ℕ) → List ℕ → ℕ
-packet_size cost es = 1 + (if nat_lt 3 (length es) then full cost es else lean cost es)
+packet_size cost es = 1 + (if nat_lt 3 (length es) then size_with_lengths cost es else size_last_bare cost es)
 
 abbrev pub leb_len : ℕ → ℕ
 leb_len n = length (leb n)
 
 -- what the last element's length takes once another follows, where it stands without one
-abbrev pub owed : (ℕ → ℕ) → List ℕ → ℕ
-owed cost [] = 0
-owed cost (a ∷ []) = cost a
-owed cost (a ∷ b ∷ []) = cost b
-owed cost (a ∷ b ∷ c ∷ []) = cost c
-owed cost (a ∷ b ∷ c ∷ d ∷ es) = 0
+abbrev pub deferred : (ℕ → ℕ) → List ℕ → ℕ
+deferred cost [] = 0
+deferred cost (a ∷ []) = cost a
+deferred cost (a ∷ b ∷ []) = cost b
+deferred cost (a ∷ b ∷ c ∷ []) = cost c
+deferred cost (a ∷ b ∷ c ∷ d ∷ es) = 0
 
 -- what the length of an element behind these takes
 abbrev pub own : (ℕ → ℕ) → List ℕ → ℕ → ℕ

@@ -7,8 +7,7 @@ use Rattle.codec_payload_base.specs.declared.interface.CodecExtra.{CodecExtra}
 use Rattle.codec_payload_base.specs.declared.interface.CodecExtra.TheVariants as extras
 use Rattle.codec_payload_video.specs.Av1Obu.{Obu, IsSequence, has_bit, kept, strings_of, starts_sequence, canonical, canonical_unit}
 use Rattle.codec_payload_video.specs.Av1Payload.{is_head}
-use Rattle.codec_payload_video.specs.Av1Packing.{Packs, reach}
-use Rattle.codec_payload_video.specs.Av1Laying.{AreSent}
+use Rattle.codec_payload_video.specs.Av1Packing.{Packs, reach, AreSent}
 use Rattle.codec_payload_video.specs.Av1Receiving.{received, all_received}
 
 -- ---- sending

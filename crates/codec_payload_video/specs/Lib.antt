@@ -1,3 +1,5 @@
+pub mod Av1Examples
+pub mod Av1Grammar
 pub mod Av1Laying
 pub mod Av1Leb
 pub mod Av1Obu
@@ -8,4 +10,5 @@ pub mod Av1Piece
 pub mod Av1Receiving
 pub mod Av1Size
 pub mod Av1Steps
+pub mod Av1Units
 pub mod Vp8

@@ -18,7 +18,9 @@ mod tests;
 
 pub use codec_payload_base::interface::Av1CodecExtra;
 pub use depacketizer::Av1Depacketizer;
-pub use laws::{canonical_unit_is_its_own, last_packets_give_last_obus};
+pub use laws::{
+    canonical_unit_is_its_own, last_packets_give_last_obus, reading_follows_the_grammars,
+};
 pub use packetizer::Av1Packetizer;
 
 /// How many bytes a number takes as the shortest LEB128 (AV1 bitstream specification, section 4.10.5): 1 to 10.

@@ -2,7 +2,7 @@
 
 ghost use Rattle.std.specs.Prelude.{◌≡◌, ◌++◌, ◌∷◌, List, [], Some, None, length, take, map, OnErr, ◌&&◌, ◌==◌, ℕ};
 ghost use Rattle.codec_payload_video.specs.Av1Payload.{is_head, now_of};
-ghost use Rattle.codec_payload_video.specs.Av1Receiving.{unit_of, taken, received, without_torn};
+ghost use Rattle.codec_payload_video.specs.Av1Receiving.{unit_of, taken, received, without_orphan};
 ghost use Rattle.codec_payload_video.specs.Av1Outcome.{Appends, Takes, Fails};
 ghost use Rattle.codec_payload_video.specs.Av1Steps.{Av1Step, extra_of};
 
@@ -14,7 +14,8 @@ use codec_payload_base::interface::{Av1CodecExtra, CodecExtra, Depacketizer};
 use std::alloc::Global;
 use std::marker::Model;
 
-/// Puts AV1 temporal units together, each OBU with its size (RTP Payload Format for AV1, section 4.4). It holds the bytes of an OBU whose end is still to come.
+/// Puts AV1 temporal units together, each OBU with its size (RTP Payload Format for AV1, sections 4.4 and 5). It holds
+/// the beginning of an OBU whose end is still to come.
 #[derive(Debug, Drop)]
 pub struct Av1Depacketizer {
     alloc: Global,
@@ -53,8 +54,8 @@ impl Av1Depacketizer {
         if !payload.continues || payload.starts {
             self.pending.clear();
         }
-        let torn = payload.continues && self.pending.is_empty();
-        let elements = untorn(torn, &payload.elements);
+        let orphan = payload.continues && self.pending.is_empty();
+        let elements = without_orphan(orphan, &payload.elements);
         take_elements(&mut self.pending, out, payload.goes_on, elements)
     }
 }
@@ -87,8 +88,8 @@ impl Depacketizer for Av1Depacketizer {
         Some(packets_size)
     }
 
-    /// Appends the kept OBUs that end in the payload, each with its size, and tells of the frame in the extra. A frame that
-    /// was told to be a keyframe stays one. The beginning of an OBU that goes on in the next payload stays pending.
+    /// Appends the kept OBUs that end in the payload, each with its size, and tells of the frame in the extra. A frame
+    /// that was told to be a keyframe stays one. The beginning of an OBU that goes on in the next payload stays pending.
     ///
     /// `ErrShortPacket` for the empty payload; `ErrAv1CorruptedPacket` where the length of an element is unreadable, 0 or
     /// past the end, or where an element is not exactly one OBU. `out` and the extra are then as before, and nothing is
@@ -130,7 +131,7 @@ impl Depacketizer for Av1Depacketizer {
     }
 }
 
-/// Adds what an element that is one OBU gives.
+/// Adds what an element gives, which has to be exactly one OBU: nothing where that is not kept.
 #[tactic(auto, using(crate::proofs::Av1Kept::kept_more, crate::proofs::Av1Kept::kept_same), unfolding(crate::specs::Av1Receiving::unit_of))]
 fn append_unit(out: &mut Vec<u8>, element: &[u8]) -> Result<(), PacketError>
     ensures added { Appends result out.old.items out.new.items (unit_of element.now) }
@@ -180,12 +181,12 @@ fn take_elements(
     Ok(())
 }
 
-/// The elements but the first where that one goes on from bytes that never came.
-fn untorn<'a, 'b>(torn: bool, elements: &'b [&'a [u8]]) -> &'b [&'a [u8]]
-    ensures { now_of result.now ≡ without_torn torn (now_of elements.now) }
+/// The elements without the first, where that one goes on from bytes that never came.
+fn without_orphan<'a, 'b>(orphan: bool, elements: &'b [&'a [u8]]) -> &'b [&'a [u8]]
+    ensures { now_of result.now ≡ without_orphan orphan (now_of elements.now) }
 {
     match elements {
-        [_, rest @ ..] if torn => rest,
+        [_, rest @ ..] if orphan => rest,
         _ => elements,
     }
 }

@@ -4,8 +4,15 @@ ghost use Rattle.std.specs.Prelude.{◌≡◌, ◌<◌, ◌^◌, ◌++◌, ◌�
 ghost use Rattle.std.specs.List.{flat_map};
 ghost use Rattle.codec_payload_video.specs.Av1Obu.{Obu, IsSequence, kept, strings_of, canonical, canonical_unit};
 ghost use Rattle.codec_payload_video.specs.Av1Payload.{is_head};
-ghost use Rattle.codec_payload_video.specs.Av1Laying.{AreSent};
+ghost use Rattle.codec_payload_video.specs.Av1Packing.{AreSent};
 ghost use Rattle.codec_payload_video.specs.Av1Receiving.{all_received};
+ghost use Rattle.codec_payload_video.specs.Av1Grammar.{ReadsPayload, ReadsSequence};
+
+/// Reading finds the OBUs of a frame, and the elements of a payload, that their grammars give, and no others.
+pub fn reading_follows_the_grammars()
+    ensures obus { ReadsSequence }
+    ensures payloads { ReadsPayload }
+{}
 
 /// The canonical unit of a canonical unit is itself.
 pub fn canonical_unit_is_its_own()

@@ -1,4 +1,4 @@
-//! LEB128 numbers.
+//! Numbers in LEB128 (AV1 bitstream specification, section 4.10.5).
 
 ghost use Rattle.std.specs.Prelude.{◌≡◌, ◌++◌, ◌<◌, ◌≤◌, ◌^◌, ◌%◌, ◌-◌, ◌+◌, OnOk, Some, length, take};
 ghost use Rattle.codec_payload_base.specs.Leb.{leb};
@@ -7,6 +7,7 @@ ghost use Rattle.codec_payload_video.specs.Av1Outcome.{Finds};
 
 use std::alloc::AllocError;
 
+/// A number of at most `more` + 1 bytes at the front, modulo 2^64, and what follows it.
 fn number_front(more: u32, bytes: &[u8]) -> Option<(u64, &[u8])>
     ensures { Finds (λ x. (x.0, x.1.now)) result (leb_low more bytes.now) }
 {
@@ -22,7 +23,8 @@ fn number_front(more: u32, bytes: &[u8]) -> Option<(u64, &[u8])>
     Some((low + high.wrapping_mul(128), rest))
 }
 
-/// The number at the front, and what follows it.
+/// The number at the front, of at most ten bytes and modulo 2^64, and what follows it. `None` where no byte below 0x80
+/// ends it.
 #[tactic(auto, unfolding(crate::specs::Av1Leb::leb_at))]
 pub fn number_at(bytes: &[u8]) -> Option<(u64, &[u8])>
     ensures { Finds (λ x. (x.0, x.1.now)) result (leb_at bytes.now) }
@@ -30,8 +32,8 @@ pub fn number_at(bytes: &[u8]) -> Option<(u64, &[u8])>
     number_front(9, bytes)
 }
 
-#[tactic(auto, using(crate::proofs::Av1Kept::kept_more, crate::proofs::Av1Kept::kept_same))]
 /// Writes a number at the end, in as few bytes as it takes.
+#[tactic(auto, using(crate::proofs::Av1Kept::kept_more, crate::proofs::Av1Kept::kept_same))]
 pub fn put_number(out: &mut Vec<u8>, number: u64) -> Result<(), AllocError>
     ensures written { OnOk result (out.new.items ≡ out.old.items ++ leb number) }
     ensures kept { take (length out.old.items) out.new.items ≡ out.old.items }
@@ -64,7 +66,7 @@ pub fn number_len(number: u64) -> usize
     10
 }
 
-/// The greatest number of bytes that fits with its own length.
+/// The greatest number of bytes that fits with its own length before it, or 0 where none does.
 pub fn longest(room: usize) -> usize
     ensures fits { 0 < result → result + length (leb result) ≤ room }
     ensures most { room < result + 1 + length (leb (result + 1)) }

@@ -1,4 +1,4 @@
-//! The OBUs of a frame.
+//! OBUs (AV1 bitstream specification, section 5.3).
 
 ghost use Rattle.std.specs.Prelude.{◌≡◌, ◌++◌, OnOk, Some, length, take};
 ghost use Rattle.codec_payload_video.specs.Av1Obu.{Obu, obu_at, extension_at, sized_at, canonical, string, has_size, has_extension, is_kept_type, view};
@@ -7,7 +7,7 @@ ghost use Rattle.codec_payload_video.specs.Av1Outcome.{Finds};
 use crate::av1::leb::{number_at, put_number};
 use std::alloc::AllocError;
 
-/// An OBU of a frame that lies in memory.
+/// An OBU that lies in memory: the first byte of its header, the extension byte where there is one, and its payload.
 #[derive(Clone, Copy)]
 pub struct ObuSlices<'a> {
     pub header: u8,
@@ -15,18 +15,22 @@ pub struct ObuSlices<'a> {
     pub payload: &'a [u8],
 }
 
+/// Whether the size of the payload stands before it.
 pub fn has_size_bit(header: u8) -> bool
     ensures { result ≡ has_size header }
 {
     header & 2 != 0
 }
 
+/// Whether the type is one that payloads carry: a sequence header, a frame header, a tile group, metadata, a frame or a
+/// redundant frame header.
 pub fn is_kept(header: u8) -> bool
     ensures { result ≡ is_kept_type header }
 {
     matches!(header & 0x78, 0x08 | 0x18 | 0x20 | 0x28 | 0x30 | 0x38)
 }
 
+/// The extension byte where the header says that there is one, and what follows it.
 fn extension_of(bytes: &[u8], has_one: bool) -> Option<(&[u8], &[u8])>
     ensures { Finds (λ x. (x.0.now, x.1.now)) result (extension_at has_one bytes.now) }
 {
@@ -39,6 +43,7 @@ fn extension_of(bytes: &[u8], has_one: bool) -> Option<(&[u8], &[u8])>
     Some(bytes.split_at(1))
 }
 
+/// The OBU whose size and payload stand at the front, and what follows it.
 fn sized_of<'a>(
     header: u8,
     extension: &'a [u8],
@@ -61,7 +66,7 @@ fn sized_of<'a>(
     ))
 }
 
-/// The OBU at the front, and what follows it.
+/// The OBU at the front, and what follows it. `None` where a byte of it is missing.
 #[tactic(auto, unfolding(crate::specs::Av1Obu::obu_at))]
 pub fn obu_of(bytes: &[u8]) -> Option<(ObuSlices<'_>, &[u8])>
     ensures { Finds (λ x. (view x.0, x.1.now)) result (obu_at bytes.now) }
@@ -83,7 +88,7 @@ pub fn obu_of(bytes: &[u8]) -> Option<(ObuSlices<'_>, &[u8])>
     }
 }
 
-/// Writes the canonical form at the end.
+/// Writes the canonical form at the end: the size bit set, and the size in as few bytes as it takes.
 #[tactic(auto, using(crate::proofs::Av1Kept::kept_more, crate::proofs::Av1Kept::kept_same, crate::proofs::Av1Kept::kept_trans), unfolding(crate::specs::Av1Obu::canonical))]
 pub fn put_canonical(out: &mut Vec<u8>, obu: &ObuSlices<'_>) -> Result<(), AllocError>
     ensures written { OnOk result (out.new.items ≡ out.old.items ++ canonical (view obu.now)) }

@@ -3,9 +3,9 @@
 ghost use Rattle.std.specs.Prelude.{◌≡◌, ◌+◌, ◌-◌, ◌<◌, ◌≤◌, ◌++◌, ◌∷◌, [], List, ℕ, Bool, length, map, OnOk, IfOk};
 ghost use Rattle.codec_payload_video.specs.Av1Obu.{string, starts_sequence, view};
 ghost use Rattle.codec_payload_video.specs.Av1Payload.{Payload, written};
-ghost use Rattle.codec_payload_video.specs.Av1Packing.{Sent};
-ghost use Rattle.codec_payload_video.specs.Av1Size.{Opened, packet_size, owed, own, leb_len, lengths, items_of};
-ghost use Rattle.codec_payload_video.specs.Av1Laying.{Lays, AreSent, starts_with};
+ghost use Rattle.codec_payload_video.specs.Av1Packing.{Sent, AreSent};
+ghost use Rattle.codec_payload_video.specs.Av1Size.{Opened, packet_size, deferred, own, leb_len, lengths, items_of};
+ghost use Rattle.codec_payload_video.specs.Av1Laying.{Lays, starts_with};
 ghost use Rattle.codec_payload_video.specs.Av1Piece.{piece_bytes, pieces_of, plan_view, plans_of, views};
 
 use crate::av1::leb::{longest, number_len};
@@ -22,7 +22,7 @@ struct OpenPlan<'a> {
     /// The bytes that are left.
     left: usize,
     /// What the length of the last element takes once another follows, where it stands without one.
-    promised: usize,
+    deferred_length: usize,
     elements: Vec<Piece<'a>>,
 }
 
@@ -31,7 +31,7 @@ impl<'a> Model for OpenPlan<'a> {
 
     ghost view = { λ p. record { mtu = p.mtu; elements = pieces_of p.elements.items } };
 
-    ghost invariant = { λ p. (p.left + packet_size leb_len (lengths (pieces_of p.elements.items)) ≡ p.mtu) × (p.promised ≡ owed leb_len (lengths (pieces_of p.elements.items))) };
+    ghost invariant = { λ p. (p.left + packet_size leb_len (lengths (pieces_of p.elements.items)) ≡ p.mtu) × (p.deferred_length ≡ deferred leb_len (lengths (pieces_of p.elements.items))) };
 }
 
 impl<'a> OpenPlan<'a> {
@@ -42,7 +42,7 @@ impl<'a> OpenPlan<'a> {
         OpenPlan {
             mtu,
             left: mtu - 1,
-            promised: 0,
+            deferred_length: 0,
             elements: Vec::new(alloc),
         }
     }
@@ -52,7 +52,7 @@ impl<'a> OpenPlan<'a> {
         ensures fits { 0 < result → packet_size leb_len (lengths self.now.elements ++ result ∷ []) ≤ self.now.mtu }
         ensures most { self.now.mtu < packet_size leb_len (lengths self.now.elements ++ (result + 1) ∷ []) }
     {
-        let left = self.left.saturating_sub(self.promised);
+        let left = self.left.saturating_sub(self.deferred_length);
         if self.elements.len() < 3 {
             left
         } else {
@@ -74,8 +74,8 @@ impl<'a> OpenPlan<'a> {
             (own_len, 0)
         };
         self.elements.push(*element)?;
-        self.left = self.left - self.promised - now - len;
-        self.promised = later;
+        self.left = self.left - self.deferred_length - now - len;
+        self.deferred_length = later;
         Ok(())
     }
 
@@ -83,12 +83,13 @@ impl<'a> OpenPlan<'a> {
     fn close(&mut self, alloc: Global, continues: bool, goes_on: bool, starts: bool) -> Plan<'a>
         requires { 1 ≤ self.old.mtu }
         ensures plan { plan_view result ≡ record { continues = continues; goes_on = goes_on; starts = starts; elements = self.old.elements } }
+        ensures size { result.size ≡ length (written (plan_view result)) }
         ensures opened { self.new ≡ record { mtu = self.old.mtu; elements = [] } }
     {
         let elements = std::mem::replace(&mut self.elements, Vec::new(alloc));
         let size = self.mtu - self.left;
         self.left = self.mtu - 1;
-        self.promised = 0;
+        self.deferred_length = 0;
         Plan {
             continues,
             goes_on,
@@ -177,7 +178,11 @@ fn starts_with_sequence(obus: &[ObuSlices<'_>]) -> bool
 }
 
 /// Where the bytes of the payloads lie in which the kept OBUs are sent.
-fn plans<'a>(alloc: Global, mtu: usize, obus: &[ObuSlices<'a>]) -> Result<Vec<Plan<'a>>, AllocError>
+fn plan_payloads<'a>(
+    alloc: Global,
+    mtu: usize,
+    obus: &[ObuSlices<'a>],
+) -> Result<Vec<Plan<'a>>, AllocError>
     requires { 2 ≤ mtu }
     ensures { IfOk result (λ plans. Sent mtu (starts_sequence (views obus.now)) (map string (views obus.now)) (plans_of plans.items)) }
 {
@@ -203,7 +208,7 @@ pub fn pack(alloc: Global, mtu: usize, obus: &[ObuSlices<'_>]) -> Result<Vec<Vec
     requires { 2 ≤ mtu }
     ensures { IfOk result (λ packets. AreSent mtu (starts_sequence (views obus.now)) (map string (views obus.now)) (items_of packets.items)) }
 {
-    let plans = plans(alloc, mtu, obus)?;
+    let plans = plan_payloads(alloc, mtu, obus)?;
     let mut packets = Vec::with_capacity(alloc, plans.len())?;
     for plan in &plans {
         packets.push(plan.write(alloc)?)?;

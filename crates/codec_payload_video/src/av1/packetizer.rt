@@ -14,7 +14,8 @@ use codec_payload_base::error::PacketError;
 use codec_payload_base::interface::Packetizer;
 use std::alloc::{AllocError, Global};
 
-/// Lays the OBUs of AV1 temporal units into payloads (RTP Payload Format for AV1, section 5). It keeps nothing between calls.
+/// Lays the OBUs of AV1 temporal units into payloads (RTP Payload Format for AV1, sections 4.4 and 5). It keeps nothing
+/// between calls.
 #[derive(Clone, Debug, Default, Drop)]
 pub struct Av1Packetizer {}
 

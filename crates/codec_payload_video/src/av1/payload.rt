@@ -1,4 +1,4 @@
-//! The payload of a packet.
+//! What is read of a payload (RTP Payload Format for AV1, section 4.4).
 
 ghost use Rattle.std.specs.Prelude.{◌≡◌, ◌+◌, ◌∷◌, length, map};
 ghost use Rattle.codec_payload_video.specs.Av1Payload.{now_of, view, element_at, each_at, counted_at, elements_at, payload_at};
@@ -8,7 +8,7 @@ use crate::av1::leb::number_at;
 use codec_payload_base::error::PacketError;
 use std::alloc::Global;
 
-/// A payload that lies in memory.
+/// A payload that lies in memory: Z, Y where all elements that W names came, N, and the elements.
 #[derive(Drop)]
 pub struct PayloadSlices<'a> {
     pub continues: bool,
@@ -17,6 +17,8 @@ pub struct PayloadSlices<'a> {
     pub elements: Vec<&'a [u8]>,
 }
 
+/// The element behind its length at the front, and what follows it. `None` where the length is unreadable, 0 or past the
+/// end.
 #[tactic(auto, unfolding(crate::specs::Av1Payload::element_at))]
 fn element_of(bytes: &[u8]) -> Option<(&[u8], &[u8])>
     ensures { Finds (λ x. (x.0.now, x.1.now)) result (element_at bytes.now) }
@@ -28,6 +30,7 @@ fn element_of(bytes: &[u8]) -> Option<(&[u8], &[u8])>
     Some(bytes.split_at(size as usize))
 }
 
+/// The elements, each behind its length.
 fn each_of(alloc: Global, bytes: &[u8]) -> Result<Vec<&[u8]>, PacketError>
     ensures { Gives (λ v. now_of v.items) result (each_at (length bytes.now) bytes.now) }
 {
@@ -43,6 +46,7 @@ fn each_of(alloc: Global, bytes: &[u8]) -> Result<Vec<&[u8]>, PacketError>
     Ok(elements)
 }
 
+/// The elements, up to `with_length` of them behind their lengths, and one that takes the rest.
 fn counted_of(alloc: Global, with_length: u8, bytes: &[u8]) -> Result<Vec<&[u8]>, PacketError>
     ensures { Gives (λ v. now_of v.items) result (counted_at with_length bytes.now) }
 {
@@ -64,6 +68,7 @@ fn counted_of(alloc: Global, with_length: u8, bytes: &[u8]) -> Result<Vec<&[u8]>
     Ok(elements)
 }
 
+/// The elements under a W of `count`.
 fn elements_of(alloc: Global, count: u8, bytes: &[u8]) -> Result<Vec<&[u8]>, PacketError>
     ensures { Gives (λ v. now_of v.items) result (elements_at count bytes.now) }
 {
@@ -74,6 +79,7 @@ fn elements_of(alloc: Global, count: u8, bytes: &[u8]) -> Result<Vec<&[u8]>, Pac
     }
 }
 
+/// The payload of an aggregation header and the bytes behind it. `ErrAv1CorruptedPacket` where an element cannot be read.
 #[tactic(auto, unfolding(crate::specs::Av1Payload::payload_at))]
 pub fn payload_of(alloc: Global, header: u8, bytes: &[u8]) -> Result<PayloadSlices<'_>, PacketError>
     ensures { Gives view result (payload_at (header ∷ bytes.now)) }

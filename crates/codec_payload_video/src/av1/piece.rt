@@ -51,19 +51,21 @@ impl<'a> Piece<'a> {
             return (none, *self);
         }
         let left = if self.header.is_some() { n - 1 } else { n };
-        let (e0, e1) = self.extension.split_at(left.min(self.extension.len()));
-        let (p0, p1) = self
+        let (extension_front, extension_back) = self
+            .extension
+            .split_at(left.min(self.extension.len()));
+        let (payload_front, payload_back) = self
             .payload
             .split_at(left.saturating_sub(self.extension.len()));
         let front = Piece {
             header: self.header,
-            extension: e0,
-            payload: p0,
+            extension: extension_front,
+            payload: payload_front,
         };
         let back = Piece {
             header: None,
-            extension: e1,
-            payload: p1,
+            extension: extension_back,
+            payload: payload_back,
         };
         (front, back)
     }

@@ -1,4 +1,4 @@
-use Rattle.std.proofs.Common.{◌<◌, length, arith}
+use Rattle.std.proofs.Common.{arith}
 use Rattle.std.proofs.lemmas.Grind.{common_steps}
 use Rattle.codec_payload_video.specs.Av1Obu.{frame_kept, view}
 use Rattle.codec_payload_video.specs.Av1Piece.{views}

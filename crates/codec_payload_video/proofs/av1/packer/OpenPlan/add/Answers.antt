@@ -1,7 +1,7 @@
 use Rattle.std.proofs.Common.{◌≡◌, ℕ, ◌+◌, ◌<◌, ◌≤◌, List, [], ◌∷◌, ◌++◌, length, ap, ◌∙◌, ◌⊎◌, inl, inr, arith}
 use Rattle.codec_payload_video.specs.declared.av1.piece.Piece.{Piece}
 use Rattle.std.proofs.lemmas.List.{length-map, map_push}
-use Rattle.codec_payload_video.specs.Av1Size.{leb_len, lengths, own, owed, packet_size}
+use Rattle.codec_payload_video.specs.Av1Size.{leb_len, lengths, own, deferred, packet_size}
 use Rattle.codec_payload_video.specs.Av1Piece.{piece_bytes, pieces_of}
 use Rattle.codec_payload_video.proofs.Av1Room.{has_room, less_left, own_either}
 use Rattle.codec_payload_video.proofs.av1.packer.OpenPlan.add.Goals as goal
@@ -9,7 +9,7 @@ use Rattle.codec_payload_video.proofs.av1.packer.OpenPlan.add.Goals.{then-len-lt
 
 -- what the two lengths are, over plain variables
 chosen : (es : List ℕ) (n count len own_len : ℕ) (pair : ℕ × ℕ) → count ≡ length es → len ≡ n → own_len ≡ leb_len len → ((count < 3) × (pair ≡ (0, own_len))) ⊎ ((3 ≤ count) × (pair ≡ (own_len, 0)))
-    → (pair.0 ≡ own leb_len es n) × (pair.1 ≡ owed leb_len (es ++ n ∷ []))
+    → (pair.0 ≡ own leb_len es n) × (pair.1 ≡ deferred leb_len (es ++ n ∷ []))
 chosen es n count len own_len pair count-is len-is own-is either =
     let own-of : own_len ≡ leb_len n = own-is ∙ ap leb_len len-is in
     elim either [
@@ -18,7 +18,7 @@ chosen es n count len own_len pair count-is len-is own-is either =
     ]
 
 both : (c : In_ok-push) → (c.if-len-lt3.now.0 ≡ own leb_len (lengths (pieces_of c.self.inside.elements.items)) (length (piece_bytes c.args.element.now)))
-    × (c.if-len-lt3.now.1 ≡ owed leb_len (lengths (pieces_of c.self.inside.elements.items) ++ length (piece_bytes c.args.element.now) ∷ []))
+    × (c.if-len-lt3.now.1 ≡ deferred leb_len (lengths (pieces_of c.self.inside.elements.items) ++ length (piece_bytes c.args.element.now) ∷ []))
 both c =
     let es = c.self.inside.elements.items in
     chosen (lengths (pieces_of es)) (length (piece_bytes c.args.element.now)) c.len.result c.len-len.result c.number_len-own_len.result c.if-len-lt3.now
@@ -33,10 +33,10 @@ both c =
 fits : (c : In_ok-push) → packet_size leb_len (lengths (pieces_of c.self.inside.elements.items) ++ length (piece_bytes c.args.element.now) ∷ []) ≤ c.self.inside.mtu
 fits c = rw (← c.self.view_is) at c.requires
 
-fits_left : (c : In_ok-push) → c.self.inside.promised + c.if-len-lt3.now.0 + c.len-len.result ≤ c.self.inside.left
+fits_left : (c : In_ok-push) → c.self.inside.deferred_length + c.if-len-lt3.now.0 + c.len-len.result ≤ c.self.inside.left
 fits_left c =
     let es = c.self.inside.elements.items in
-    let h = has_room leb_len (lengths (pieces_of es)) c.self.inside.mtu c.self.inside.left c.self.inside.promised c.self.invariant.0 c.self.invariant.1 (length (piece_bytes c.args.element.now)) (fits c) in
+    let h = has_room leb_len (lengths (pieces_of es)) c.self.inside.mtu c.self.inside.left c.self.inside.deferred_length c.self.invariant.0 c.self.invariant.1 (length (piece_bytes c.args.element.now)) (fits c) in
     omega (arith, h, (both c).0, c.len-len.ensures)
 
 pub overflow_sub-self : goal.overflow_sub-self
@@ -54,5 +54,5 @@ invariant_of-self-2 c =
     let n = length (piece_bytes c.args.element.now) in
     let pushed : lengths (pieces_of c.push.new.self.items) ≡ lengths (pieces_of es) ++ n ∷ [] =
     ap (λ (vs : List Piece). lengths (pieces_of vs)) c.in_ok-push.ensures.items ∙ ap lengths (map_push piece_bytes es c.args.element.now) ∙ map_push (length {A = ℕ}) (pieces_of es) (piece_bytes c.args.element.now) in
-    let h = less_left leb_len (lengths (pieces_of es)) c.self.inside.mtu c.self.inside.left c.self.inside.promised c.self.invariant.0 c.self.invariant.1 n (fits (goal.at.invariant_of-self-2 c).In_ok-push) in
+    let h = less_left leb_len (lengths (pieces_of es)) c.self.inside.mtu c.self.inside.left c.self.inside.deferred_length c.self.invariant.0 c.self.invariant.1 n (fits (goal.at.invariant_of-self-2 c).In_ok-push) in
     rw pushed (omega (arith, h, (both (goal.at.invariant_of-self-2 c).In_ok-push).0, c.len-len.ensures), (both (goal.at.invariant_of-self-2 c).In_ok-push).1)

@@ -1,7 +1,7 @@
-use Rattle.std.proofs.Common.{◌≡◌, ℕ, ◌<◌, ◌^◌, List, length, ap, ◌∙◌, ◌⊎◌, arith, rules}
+use Rattle.std.proofs.Common.{◌≡◌, ◌<◌, ◌^◌, List, length, ap, ◌∙◌, ◌⊎◌, arith, rules}
 use Rattle.std.proofs.lemmas.Result.{err_from_is_err_and}
 use Rattle.codec_payload_video.specs.Av1Obu.{Obu, IsSequence, kept, strings_of, starts_sequence}
-use Rattle.codec_payload_video.specs.Av1Laying.{AreSent}
+use Rattle.codec_payload_video.specs.Av1Packing.{AreSent}
 use Rattle.codec_payload_video.specs.Av1Piece.{views}
 use Rattle.codec_payload_video.specs.Av1Size.{items_of}
 use Rattle.codec_payload_video.proofs.Av1Sequence.{IsBytes}

@@ -1,6 +1,6 @@
-use Rattle.std.proofs.Common.{◌≡◌, ℕ, zero, suc, ◌-◌, ◌+◌, ◌<◌, ◌≤◌, Bool, true, false, Option, Some, None, List, [], ◌∷◌, ◌++◌, length, drop, min, refl, sym, ap, ◌∙◌, arith, ◌⊎◌, inl, inr}
+use Rattle.std.proofs.Common.{◌≡◌, ℕ, zero, suc, ◌-◌, ◌<◌, true, false, Option, Some, None, List, [], ◌∷◌, ◌++◌, length, drop, min, refl, sym, ap, ◌∙◌, arith, ◌⊎◌, inl, inr}
 use Rattle.std.specs.Option.{is_some}
-use Rattle.codec_payload_video.specs.Av1Piece.{header_bytes, piece_bytes}
+use Rattle.codec_payload_video.specs.Av1Piece.{header_bytes}
 use Rattle.codec_payload_video.proofs.av1.piece.Piece.split_at.Goals as goal
 use Rattle.codec_payload_video.proofs.av1.piece.Piece.split_at.Goals.{then-is_some, else-is_some}
 

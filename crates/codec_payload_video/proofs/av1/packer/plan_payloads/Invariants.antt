@@ -2,7 +2,7 @@ use Rattle.std.proofs.Common.{◌≡◌, ◌<◌, [], length, map, take}
 use Rattle.codec_payload_video.specs.Av1Obu.{string, starts_sequence}
 use Rattle.codec_payload_video.specs.Av1Piece.{plans_of, views}
 use Rattle.codec_payload_video.specs.Av1Laying.{Lays}
-use Rattle.codec_payload_video.proofs.av1.packer.plans.Given as goal
+use Rattle.codec_payload_video.proofs.av1.packer.plan_payloads.Given as goal
 
 abbrev pub invariant-loop-obu : goal.invariant-loop-obu
 invariant-loop-obu l = record {

@@ -7,7 +7,7 @@ use Rattle.codec_payload_video.specs.Av1Laying.{Lays}
 use Rattle.codec_payload_video.specs.Av1Size.{Opened}
 use Rattle.codec_payload_video.specs.Av1Piece.{plans_of, views}
 use Rattle.codec_payload_video.proofs.Av1Lays.{lays_none, lays_last, sent_none}
-use Rattle.codec_payload_video.proofs.av1.packer.plans.Goals as goal
+use Rattle.codec_payload_video.proofs.av1.packer.plan_payloads.Goals as goal
 
 abbrev no_obu : ObuSlices
 no_obu = record { header = 0; extension = record { ref_ptr = (0, 0); now = [] }; payload = record { ref_ptr = (0, 0); now = [] } }
