@@ -27,7 +27,7 @@ use Rattle.codec_payload_core.specs.Release.{Release}
 use Rattle.codec_payload_core.specs.Schedule.{Answer, RunState, Runs, after_push}
 use Rattle.codec_payload_core.specs.Sending.{Sample}
 use Rattle.codec_payload_core.specs.SentStream.{SentUnit, packets_of, payloads_held, payloads_sent, AllLawful, IsReleaseOf}
-use Rattle.codec_payload_core.specs.Steps.{State, Contiguity, NoContiguity, is_dropped, is_at_most, due_of, due_among, checked, follows, metas_of, packets_in, Unpacked, Unpacks, nothing_unpacked, Gives, Pops, PassesOver, Refuses}
+use Rattle.codec_payload_core.specs.Steps.{State, Contiguity, NoContiguity, is_dropped, is_at_most, due_of, due_among, checked, follows, metas_of, packets_of_frame, Unpacked, Unpacks, nothing_unpacked, Gives, Pops, PassesOver, Refuses}
 use Rattle.codec_payload_core.specs.declared.buffer.frames.Segment.{Segment}
 use Rattle.codec_payload_core.specs.declared.buffer.unit.RtpMeta.{RtpMeta}
 use Rattle.codec_payload_core.specs.declared.schedule.Sent.{Sent}
@@ -135,7 +135,7 @@ module _ (all_steps : List Step) (clock_rate first : ℕ) (kind : DepackKind) (s
     pub end : frame.last + 1 ≡ first + k + length u.packets
     pub packets : List Held
     pub after : List Held
-    pub taken : packets_in s frame ≡ packets
+    pub taken : packets_of_frame s frame ≡ packets
     pub left : above frame.last s.held ≡ after
     pub of_unit : Exact all_steps clock_rate kind k u.packets packets
     pub of_rest : Exact all_steps clock_rate kind (k + length u.packets) (packets_of us) after
@@ -213,8 +213,8 @@ module _ (all_steps : List Step) (clock_rate first : ℕ) (kind : DepackKind) (s
       same_frame : (f : Segment) → due_of s ≡ Some f → f ≡ unit.frame
       same_frame f due = let is = unit.is_due in cc
 
-      taken : (f : Segment) → due_of s ≡ Some f → packets_in s f ≡ unit.packets
-      taken f due = ap (λ (x : Segment). packets_in s x) (same_frame f due) ∙ unit.taken
+      taken : (f : Segment) → due_of s ≡ Some f → packets_of_frame s f ≡ unit.packets
+      taken f due = ap (λ (x : Segment). packets_of_frame s x) (same_frame f due) ∙ unit.taken
 
       gives_unit : (f : Segment) → due_of s ≡ Some f → (answer : Result Unpacked PacketError) (e : Depack) → Gives s f answer e → Unpacks s.depack unit.packets nothing_unpacked answer e
       gives_unit f due answer e gives = subst (λ (ps : List Held). Unpacks s.depack ps nothing_unpacked answer e) (taken f due) gives

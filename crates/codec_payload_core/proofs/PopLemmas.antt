@@ -9,7 +9,7 @@ use Rattle.codec_payload_core.specs.Frames.{frames}
 use Rattle.codec_payload_core.proofs.FrameParts.{IsPart, IsRun}
 use Rattle.codec_payload_base.specs.Time.{Time}
 use Rattle.codec_payload_core.specs.Scan.{first_of}
-use Rattle.codec_payload_core.specs.Steps.{State, IsSound, due_of, due_among, starts_right_after, packets_in, AllOfTime, metas_of, PassesOver}
+use Rattle.codec_payload_core.specs.Steps.{State, IsSound, due_of, due_among, starts_right_after, packets_of_frame, AllOfTime, metas_of, PassesOver}
 use Rattle.codec_payload_core.specs.declared.buffer.unit.RtpMeta.{RtpMeta}
 use Rattle.std.proofs.Common.{zero, suc, get_or, subst}
 use Rattle.codec_payload_core.proofs.CaseLemmas.{by_test}
@@ -75,26 +75,26 @@ run_times (p ∷ q ∷ ps) first last time run zero d l = run.1
 run_times (p ∷ q ∷ ps) first last time run (suc k) d l = run_times (q ∷ ps) (first + 1) last time run.3 k d (omega arith)
 
 -- the packets of the frame that is due are there, and have one time
-due_packets : (s : State) (f : Segment) → Rises s.held → due_of s ≡ Some f → (time : Time) × AllOfTime time (packets_in s f) × (0 < length (packets_in s f))
+due_packets : (s : State) (f : Segment) → Rises s.held → due_of s ≡ Some f → (time : Time) × AllOfTime time (packets_of_frame s f) × (0 < length (packets_of_frame s f))
 due_packets s f r h =
     let part = part_due s f h in
     let split = part_between part.2.before part.0 part.1 f.first f.last part.2.time part.2.run (rw (← part.2.whole) r) in
-    let inside : packets_in s f ≡ part.0 = ap (between f.first f.last) part.2.whole ∙ split.inside in
+    let inside : packets_of_frame s f ≡ part.0 = ap (between f.first f.last) part.2.whole ∙ split.inside in
     (part.2.time, rw inside (run_times part.0 f.first f.last part.2.time part.2.run), rw inside (not_empty part.0 f.first f.last part.2.time part.2.run))
 
-pub due_metas : (s : State) (f : Segment) (metas : List RtpMeta) → Rises s.held → due_of s ≡ Some f → metas ≡ metas_of (packets_in s f) → 0 < length metas
-due_metas s f metas r h is = omega (arith, (due_packets s f r h).2, ap length is, length-map (packets_in s f) (λ (p : Held). p.meta))
+pub due_metas : (s : State) (f : Segment) (metas : List RtpMeta) → Rises s.held → due_of s ≡ Some f → metas ≡ metas_of (packets_of_frame s f) → 0 < length metas
+due_metas s f metas r h is = omega (arith, (due_packets s f r h).2, ap length is, length-map (packets_of_frame s f) (λ (p : Held). p.meta))
 
 first_time : (ps : List Held) (m : RtpMeta) (time : Time) → AllOfTime time ps → 0 < length ps → m ≡ get_or (metas_of ps) 0 m → time ≡ m.time
 first_time [] m time all some is = absurd (omega arith)
 first_time (p ∷ ps) m time all some is = sym (ap (λ (x : RtpMeta). x.time) is ∙ all 0 p (omega arith))
 
 -- their time is that of the first
-pub due_time : (s : State) (f : Segment) (metas : List RtpMeta) (m : RtpMeta) → Rises s.held → due_of s ≡ Some f → metas ≡ metas_of (packets_in s f) → m ≡ get_or metas 0 m → AllOfTime m.time (packets_in s f)
+pub due_time : (s : State) (f : Segment) (metas : List RtpMeta) (m : RtpMeta) → Rises s.held → due_of s ≡ Some f → metas ≡ metas_of (packets_of_frame s f) → m ≡ get_or metas 0 m → AllOfTime m.time (packets_of_frame s f)
 due_time s f metas m r h is first =
     let packets = due_packets s f r h in
-    let same = first_time (packets_in s f) m packets.0 packets.1 packets.2 (first ∙ ap (λ (xs : List RtpMeta). get_or xs 0 m) is) in
-    subst (λ (t : Time). AllOfTime t (packets_in s f)) same packets.1
+    let same = first_time (packets_of_frame s f) m packets.0 packets.1 packets.2 (first ∙ ap (λ (xs : List RtpMeta). get_or xs 0 m) is) in
+    subst (λ (t : Time). AllOfTime t (packets_of_frame s f)) same packets.1
 
 -- what is left once the packets up to a number have gone is sound
 pub sound_left : (s t : State) (last : ℕ) → IsSound s → t.held ≡ above last s.held → t.cutoff ≡ Some last → t.limit ≡ s.limit → IsSound t

@@ -21,7 +21,7 @@ use Rattle.codec_payload_core.specs.Release.{Release}
 use Rattle.codec_payload_core.specs.Schedule.{Answer, RunState, Runs, DoesStep, SendsIt, after_push, meta_of_push}
 use Rattle.codec_payload_core.specs.Sending.{Sample}
 use Rattle.codec_payload_core.specs.SentStream.{AreReadable, SentUnit, packets_of, StartsWithHead, IsLawful, AllLawful, IsReleaseOf}
-use Rattle.codec_payload_core.specs.Steps.{State, Contiguity, arrived, pushed, kept_to_limit, without_lowest, is_dropped, is_at_most, without, metas_of, due_of, packets_in, Unpacked, Unpacks, nothing_unpacked, Gives, Passes, none, one_more, PassesOver, Releases, Refuses, Pops}
+use Rattle.codec_payload_core.specs.Steps.{State, Contiguity, arrived, pushed, kept_to_limit, without_lowest, is_dropped, is_at_most, without, metas_of, due_of, packets_of_frame, Unpacked, Unpacks, nothing_unpacked, Gives, Passes, none, one_more, PassesOver, Releases, Refuses, Pops}
 use Rattle.codec_payload_core.specs.Units.{payloads_by, may_split}
 use Rattle.codec_payload_core.specs.declared.buffer.frames.Segment.{Segment}
 use Rattle.codec_payload_core.specs.declared.buffer.unit.RtpMeta.{RtpMeta}
@@ -116,7 +116,7 @@ module _ (all_steps : List Step) (clock_rate first : ℕ) (kind : DepackKind) (s
   pub record IsFrameOf (from : ℕ) (s : State) (f : Segment) : Type 0 where
     pub packets : List Held
     pub after : List Held
-    pub are : packets_in s f ≡ packets
+    pub are : packets_of_frame s f ≡ packets
     pub left : above f.last s.held ≡ after
     pub sent_after : AllSent after
     pub place : ℕ

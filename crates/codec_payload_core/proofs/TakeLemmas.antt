@@ -7,19 +7,19 @@ use Rattle.codec_payload_base.specs.declared.interface.CodecExtra.TheVariants as
 use Rattle.codec_payload_core.specs.Depack.{Depack, kind_of_depack}
 use Rattle.codec_payload_core.specs.Held.{Held, above}
 use Rattle.codec_payload_core.specs.Release.{Release}
-use Rattle.codec_payload_core.specs.Steps.{State, Unpacked, Unpacks, Gives, NoContiguity, due_of, packets_in, metas_of, AllOfTime, follows, TakesFrame, Releases}
+use Rattle.codec_payload_core.specs.Steps.{State, Unpacked, Unpacks, Gives, NoContiguity, due_of, packets_of_frame, metas_of, AllOfTime, follows, TakesFrame, Releases}
 use Rattle.codec_payload_core.specs.declared.buffer.frames.Segment.{Segment}
 use Rattle.codec_payload_core.specs.declared.buffer.unit.RtpMeta.{RtpMeta}
 
 -- what the depacketizer gave for the packets of a frame
-pub gives_of : (s : State) (f : Segment) (packets : List Held) (bytes : List ℕ) (answer : Result Unpacked PacketError) (e : Depack) → packets ≡ packets_in s f → bytes ≡ [] → Unpacks s.depack packets (record { bytes = bytes; extra = extras.None }) answer e → Gives s f answer e
+pub gives_of : (s : State) (f : Segment) (packets : List Held) (bytes : List ℕ) (answer : Result Unpacked PacketError) (e : Depack) → packets ≡ packets_of_frame s f → bytes ≡ [] → Unpacks s.depack packets (record { bytes = bytes; extra = extras.None }) answer e → Gives s f answer e
 gives_of s f packets bytes answer e is empty gives = rw (is, empty) at gives
 
 module _ (s t : State) (same : s ≡ t) (f : Segment) (due : due_of s ≡ Some f) (e : Depack) where
   -- it goes out
   pub released : (r : Release) (time : Time) (contiguous : Bool) (u : Unpacked) (metas : List RtpMeta) (new : List Held)
       → r ≡ record { time = time; contiguous = contiguous; bytes = u.bytes; codec_extra = u.extra; metas = metas }
-      → s.contiguity ≡ NoContiguity → Gives s f (Ok u) e → AllOfTime time (packets_in s f) → metas ≡ metas_of (packets_in s f) → contiguous ≡ follows s f → new ≡ above f.last s.held
+      → s.contiguity ≡ NoContiguity → Gives s f (Ok u) e → AllOfTime time (packets_of_frame s f) → metas ≡ metas_of (packets_of_frame s f) → contiguous ≡ follows s f → new ≡ above f.last s.held
       → Releases t r (record s { held = new; cutoff = Some f.last; depack = e; mark = false })
   released r time contiguous u metas new is none gives of_time of_packets follow left =
       subst (λ (x : State). Releases x r (record s { held = new; cutoff = Some f.last; depack = e; mark = false })) same

@@ -8,11 +8,11 @@ pub use Rattle.codec_payload_base.specs.Payloads
 pub use Rattle.codec_payload_base.specs.Pieces
 pub use Rattle.codec_payload_base.specs.TelephoneReport
 pub use Rattle.codec_payload_base.specs.Time
-pub use Rattle.codec_payload_red.specs.Blocks
-pub use Rattle.codec_payload_red.specs.History
-pub use Rattle.codec_payload_red.specs.Levels
-pub use Rattle.codec_payload_red.specs.Payload
-pub use Rattle.codec_payload_red.specs.Reading
+pub use Rattle.codec_payload_red.specs.RedBlocks
+pub use Rattle.codec_payload_red.specs.RedHistory
+pub use Rattle.codec_payload_red.specs.RedLevels
+pub use Rattle.codec_payload_red.specs.RedPayload
+pub use Rattle.codec_payload_red.specs.RedReading
 pub use Rattle.codec_payload_video.specs.Av1Laying
 pub use Rattle.codec_payload_video.specs.Av1Leb
 pub use Rattle.codec_payload_video.specs.Av1Obu

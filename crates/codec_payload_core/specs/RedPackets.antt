@@ -2,8 +2,8 @@
 use Rattle.std.specs.Prelude.{◌≡◌, ℕ, List}
 use Rattle.codec_payload_base.specs.declared.error.PacketError.{PacketError}
 use Rattle.codec_payload_base.specs.declared.error.PacketError.TheVariants.{OutOfMemory}
-use Rattle.codec_payload_red.specs.Levels.{Sender, output, recorded}
-use Rattle.codec_payload_red.specs.Payload.{Red, IsRed}
+use Rattle.codec_payload_red.specs.RedLevels.{Sender, output, recorded}
+use Rattle.codec_payload_red.specs.RedPayload.{Red, IsRed}
 use Rattle.codec_payload_core.specs.declared.payload.red_sink.RedSink.{RedSink}
 use Rattle.codec_payload_core.specs.Packets.{Packet}
 

@@ -113,8 +113,8 @@ abbrev pub follows : State → Segment → Bool
 follows s f = starts_right_after s.cutoff f.first && not s.mark
 
 -- the packets of a frame
-abbrev pub packets_in : State → Segment → List Held
-packets_in s f = between f.first f.last s.held
+abbrev pub packets_of_frame : State → Segment → List Held
+packets_of_frame s f = between f.first f.last s.held
 
 -- the frame and all below it have left
 abbrev pub without : State → Segment → Depack → Contiguity → Bool → State
@@ -122,7 +122,7 @@ without s f depack contiguity mark = record s { held = above f.last s.held; cuto
 
 -- the packets of the frame give this answer, and the depacketizer is then e
 abbrev pub Gives : State → Segment → Result Unpacked PacketError → Depack → Type 0
-Gives s f answer e = Unpacks s.depack (packets_in s f) nothing_unpacked answer e
+Gives s f answer e = Unpacks s.depack (packets_of_frame s f) nothing_unpacked answer e
 
 -- the frame that is due was put together, and may not go out: it is passed over
 pub record PassesOver (s t : State) : Type 0 where
@@ -141,8 +141,8 @@ pub record Releases (s : State) (r : Release) (t : State) : Type 0 where
   pub depack : Depack
   pub gives : Gives s frame (Ok (record { bytes = r.bytes; extra = r.codec_extra })) depack
   pub may : (checked s.contiguity r.codec_extra (follows s frame)).0 ≡ true
-  pub time : AllOfTime r.time (packets_in s frame)
-  pub metas : r.metas ≡ metas_of (packets_in s frame)
+  pub time : AllOfTime r.time (packets_of_frame s frame)
+  pub metas : r.metas ≡ metas_of (packets_of_frame s frame)
   pub contiguous : r.contiguous ≡ (checked s.contiguity r.codec_extra (follows s frame)).1
   pub left : t ≡ without s frame depack (checked s.contiguity r.codec_extra (follows s frame)).2 false
 

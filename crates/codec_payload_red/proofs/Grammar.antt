@@ -3,8 +3,8 @@ use Rattle.std.proofs.Common.{◌≡◌, ℕ, zero, suc, ◌+◌, ◌*◌, ◌/�
 use Rattle.std.proofs.lemmas.List.{take_at, drop_at, take-append-drop, length-take-le}
 use Rattle.std.proofs.lemmas.Bool.{lt-ltb, le-ltb, cases_lt}
 use Rattle.std.specs.List.{flat_map, AllByRecursion}
-use Rattle.codec_payload_red.specs.Payload.{Redundant, Red, header_of, header, spelling, HasHeader, IsRed}
-use Rattle.codec_payload_red.specs.Reading.{◌>>=◌, count_at, cut_block, block_at, one_more, blocks_at, red_at}
+use Rattle.codec_payload_red.specs.RedPayload.{Redundant, Red, header_of, header, spelling, HasHeader, IsRed}
+use Rattle.codec_payload_red.specs.RedReading.{◌>>=◌, count_at, cut_block, block_at, one_more, blocks_at, red_at}
 
 bind_some : {A B : Type 0} (o : Option A) (f : A → Option B) (y : B) → (o >>= f) ≡ Some y → (x : A) × (o ≡ Some x) × (f x ≡ Some y)
 bind_some (Some x) f y h = (x, refl, h)

@@ -3,8 +3,8 @@ use Rattle.std.proofs.Common.{◌≡◌, ℕ, zero, suc, ◌+◌, ◌-◌, ◌<�
 use Rattle.std.proofs.lemmas.List.{drop_more, drop-map, drop_all, append-nil}
 use Rattle.std.specs.List.{flat_map}
 use Rattle.codec_payload_red.specs.declared.red.blocks.RedundantBlock.{RedundantBlock}
-use Rattle.codec_payload_red.specs.Payload.{Redundant, fits, masked}
-use Rattle.codec_payload_red.specs.Blocks.{redundant_of}
+use Rattle.codec_payload_red.specs.RedPayload.{Redundant, fits, masked}
+use Rattle.codec_payload_red.specs.RedBlocks.{redundant_of}
 
 -- what the first k that fit give, each by g
 abbrev pub given : (Redundant → List ℕ) → ℕ → List Redundant → List ℕ

@@ -3,12 +3,12 @@ use Rattle.std.proofs.Common.{◌≡◌, ℕ, zero, suc, ◌%◌, ◌<◌, ◌�
 use Rattle.std.proofs.lemmas.List.{length-take, length-map, take_all}
 use Rattle.std.proofs.lemmas.Bool.{leb-true, le-leb, and_parts, cases_Bool}
 use Rattle.std.specs.List.{AllByRecursion}
-use Rattle.codec_payload_red.specs.Payload.{Redundant, Red, HasHeader, IsRed, fits, masked, kept_of, encoded}
-use Rattle.codec_payload_red.specs.Reading.{red_at}
+use Rattle.codec_payload_red.specs.RedPayload.{Redundant, Red, HasHeader, IsRed, fits, masked, kept_of, encoded}
+use Rattle.codec_payload_red.specs.RedReading.{red_at}
 use Rattle.std.specs.Prelude.{MatchResult, IsErrOf}
 use Rattle.codec_payload_base.specs.declared.error.PacketError.{PacketError}
 use Rattle.codec_payload_base.specs.declared.error.PacketError.TheVariants.{ErrRedCorruptedPacket}
-use Rattle.codec_payload_red.specs.Blocks.{Block, Decodes, Fails, blocks_in}
+use Rattle.codec_payload_red.specs.RedBlocks.{Block, Decodes, Fails, blocks_in}
 use Rattle.codec_payload_red.proofs.Grammar.{reads_spelled, spells_read}
 
 fits_has : (b : Redundant) → fits b ≡ true → HasHeader (masked b)

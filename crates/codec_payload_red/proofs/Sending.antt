@@ -13,10 +13,10 @@ use Rattle.std.proofs.lemmas.List.{take-map, take_more, take_more_set}
 use Rattle.std.proofs.lemmas.Grind.{reverse_onto}
 use Rattle.std.proofs.lemmas.List.Sums.{sum_by_push, sum_by-cons}
 use Rattle.codec_payload_red.specs.declared.red.sender.SentPayload.{SentPayload}
-use Rattle.codec_payload_red.specs.Blocks.{Finds}
-use Rattle.codec_payload_red.specs.History.{entry_of, entries_of}
-use Rattle.codec_payload_red.specs.Payload.{Redundant, Red, HasHeader, IsRed, fits, header, spelling}
-use Rattle.codec_payload_red.specs.Levels.{rises_above, is_accepted, deepest, within, cost, back, as_block, level, levels, levels_of, room_of, offset_of, kept, wrapped, output, Sender, Entry, IsLongest}
+use Rattle.codec_payload_red.specs.RedBlocks.{Finds}
+use Rattle.codec_payload_red.specs.RedHistory.{entry_of, entries_of}
+use Rattle.codec_payload_red.specs.RedPayload.{Redundant, Red, HasHeader, IsRed, fits, header, spelling}
+use Rattle.codec_payload_red.specs.RedLevels.{rises_above, is_accepted, deepest, within, cost, back, as_block, level, levels, levels_of, room_of, offset_of, kept, wrapped, output, Sender, Entry, IsLongest}
 
 rises_few : (low : ℕ) (ds : List ℕ) → rises_above low ds ≡ true → low ≤ 8 → low + length ds ≤ 8
 rises_few low [] h le = omega arith

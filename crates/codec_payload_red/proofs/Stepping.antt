@@ -1,10 +1,10 @@
 -- The loop of the decoder: what was found stands before what is left to read.
 use Rattle.std.proofs.Common.{◌≡◌, ℕ, suc, List, [], ◌∷◌, ◌++◌, map, get_or, drop, Option, Some, None, true, refl, sym, ap, ◌∙◌, append_assoc}
 use Rattle.std.proofs.lemmas.List.{append-nil, map_push}
-use Rattle.codec_payload_red.specs.Payload.{Redundant, Red}
+use Rattle.codec_payload_red.specs.RedPayload.{Redundant, Red}
 use Rattle.codec_payload_red.specs.declared.red.blocks.RedBlock.{RedBlock}
-use Rattle.codec_payload_red.specs.Blocks.{block_of, blocks_of, blocks_in, older}
-use Rattle.codec_payload_red.specs.Reading.{◌>>=◌, block_at, one_more, blocks_at}
+use Rattle.codec_payload_red.specs.RedBlocks.{block_of, blocks_of, blocks_in, older}
+use Rattle.codec_payload_red.specs.RedReading.{◌>>=◌, block_at, one_more, blocks_at}
 
 abbrev pub with_front : List Redundant → Option Red → Option Red
 with_front found None = None

@@ -1,5 +1,5 @@
-pub mod Blocks
-pub mod History
-pub mod Levels
-pub mod Payload
-pub mod Reading
+pub mod RedBlocks
+pub mod RedHistory
+pub mod RedLevels
+pub mod RedPayload
+pub mod RedReading

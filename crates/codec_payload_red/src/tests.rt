@@ -1,7 +1,7 @@
 //! The worked examples, and what comes where memory is refused.
 
 ghost use Rattle.std.specs.Prelude.{IsTrue};
-ghost use Rattle.codec_payload_red.specs.Levels.{is_accepted};
+ghost use Rattle.codec_payload_red.specs.RedLevels.{is_accepted};
 
 use crate::red::{
     MAX_RED_RECOVERY_DEPTH, RedBlock, RedDecoder, RedEncoder, RedSender, RedundantBlock,

@@ -4,9 +4,9 @@ ghost use Rattle.std.specs.Prelude.{◌≡◌, ◌≤◌, ◌<◌, ◌*◌, ◌+
 ghost use Rattle.std.specs.Iterator.{YieldsFirstRef, item_count};
 ghost use Rattle.std.specs.List.{flat_map};
 ghost use Rattle.codec_payload_base.specs.declared.error.PacketError.TheVariants.{ErrRedCorruptedPacket, OutOfMemory};
-ghost use Rattle.codec_payload_red.specs.Payload.{Red, IsRed, header_of, header, masked, fits, encoded, kept_of};
-ghost use Rattle.codec_payload_red.specs.Reading.{count_at, block_at, blocks_at, red_at};
-ghost use Rattle.codec_payload_red.specs.Blocks.{blocks_of, blocks_in, older_of, redundant_of, Finds, Fails, Decodes, same_pt, same_pt_left};
+ghost use Rattle.codec_payload_red.specs.RedPayload.{Red, IsRed, header_of, header, masked, fits, encoded, kept_of};
+ghost use Rattle.codec_payload_red.specs.RedReading.{count_at, block_at, blocks_at, red_at};
+ghost use Rattle.codec_payload_red.specs.RedBlocks.{blocks_of, blocks_in, older_of, redundant_of, Finds, Fails, Decodes, same_pt, same_pt_left};
 
 use codec_payload_base::error::PacketError;
 use std::alloc::{AllocError, Global};
@@ -70,7 +70,7 @@ pub struct RedBlock<'a> {
 
 /// How many redundant headers stand before the primary one, or `None` where the bytes end inside the headers or there
 /// are more than `most`.
-#[tactic(auto, unfolding(crate::specs::Reading::count_at))]
+#[tactic(auto, unfolding(crate::specs::RedReading::count_at))]
 fn count_of(most: u32, bytes: &[u8]) -> Option<usize>
     ensures found { result ≡ count_at most bytes.now }
     ensures most { IfSome result (λ n. n ≤ most) }
@@ -89,7 +89,7 @@ fn count_of(most: u32, bytes: &[u8]) -> Option<usize>
 }
 
 /// The block whose header stands first in `headers`, taken from the front of `bodies`, and what stands behind it there.
-#[tactic(auto, unfolding(crate::specs::Reading::block_at))]
+#[tactic(auto, unfolding(crate::specs::RedReading::block_at))]
 fn block_of_header<'a>(headers: &[u8], bodies: &'a [u8]) -> Option<(RedBlock<'a>, &'a [u8])>
     requires { 4 ≤ length headers.now }
     ensures found { Finds (λ x. (older_of x.0, x.1.now)) result (block_at headers.now bodies.now) }
@@ -231,7 +231,7 @@ impl RedEncoder {
 }
 
 /// The blocks that reading finds.
-#[tactic(auto, unfolding(crate::specs::Reading::red_at))]
+#[tactic(auto, unfolding(crate::specs::RedReading::red_at))]
 fn decoded<'a>(alloc: Global, payload: &'a [u8]) -> Result<Vec<RedBlock<'a>>, PacketError>
     ensures { MatchResult result (λ v. Decodes (red_at payload.now) (blocks_of v.items)) (λ e. Fails e (red_at payload.now)) }
 {

@@ -3,10 +3,10 @@
 ghost use Rattle.std.specs.Prelude.{◌≡◌, ◌-◌, ◌%◌, ◌<◌, ◌≤◌, ◌++◌, [], length, take, reverse, sum_by, IfOk, IfErr, IfSome, OnOk, IsTrue};
 ghost use Rattle.std.specs.List.{flat_map};
 ghost use Rattle.codec_payload_base.specs.declared.error.PacketError.TheVariants.{OutOfMemory};
-ghost use Rattle.codec_payload_red.specs.Payload.{IsRed, header, spelling};
-ghost use Rattle.codec_payload_red.specs.Levels.{is_accepted, deepest, back, as_block, level, levels, levels_of, within, room_of, cost, kept, wrapped, output, recorded, synced, IsLongest};
-ghost use Rattle.codec_payload_red.specs.Blocks.{Finds};
-ghost use Rattle.codec_payload_red.specs.History.{entry_of, entries_of};
+ghost use Rattle.codec_payload_red.specs.RedPayload.{IsRed, header, spelling};
+ghost use Rattle.codec_payload_red.specs.RedLevels.{is_accepted, deepest, back, as_block, level, levels, levels_of, within, room_of, cost, kept, wrapped, output, recorded, synced, IsLongest};
+ghost use Rattle.codec_payload_red.specs.RedBlocks.{Finds};
+ghost use Rattle.codec_payload_red.specs.RedHistory.{entry_of, entries_of};
 
 use crate::red::blocks::{REDUNDANT_HEADER_LEN, fits_fields, put_header};
 use codec_payload_base::error::PacketError;
@@ -61,7 +61,7 @@ fn level_of(
 }
 
 /// How many distances, from the shallowest on, have levels that fit the room together, and how many bytes these take.
-#[tactic(auto, unfolding(crate::specs::Levels::levels, crate::specs::Levels::within))]
+#[tactic(auto, unfolding(crate::specs::RedLevels::levels, crate::specs::RedLevels::within))]
 fn choose(
     history: &VecDeque<SentPayload>,
     pt: u8,
@@ -94,7 +94,7 @@ fn choose(
 }
 
 /// Writes the headers of the levels, deepest first.
-#[tactic(auto, unfolding(crate::specs::Levels::levels))]
+#[tactic(auto, unfolding(crate::specs::RedLevels::levels))]
 fn put_level_headers(
     out: &mut Vec<u8>,
     history: &VecDeque<SentPayload>,
@@ -116,7 +116,7 @@ fn put_level_headers(
 }
 
 /// Writes the bytes of the levels, deepest first.
-#[tactic(auto, unfolding(crate::specs::Levels::levels))]
+#[tactic(auto, unfolding(crate::specs::RedLevels::levels))]
 fn put_level_bytes(
     out: &mut Vec<u8>,
     history: &VecDeque<SentPayload>,
@@ -225,8 +225,8 @@ pub struct RedSender {
 
 impl Model for RedSender {
     ghost use Rattle.std.specs.Prelude.{IsTrue, length, ◌≤◌};
-    ghost use Rattle.codec_payload_red.specs.Levels.{Sender, is_accepted, deepest};
-    ghost use Rattle.codec_payload_red.specs.History.{entries_of};
+    ghost use Rattle.codec_payload_red.specs.RedLevels.{Sender, is_accepted, deepest};
+    ghost use Rattle.codec_payload_red.specs.RedHistory.{entries_of};
 
     ghost Value = { Sender };
 

@@ -4,7 +4,7 @@ use Rattle.std.proofs.lemmas.Result.{err_from_is_err_and}
 use Rattle.codec_payload_core.specs.Buffer.{state_of}
 use Rattle.codec_payload_core.specs.Depack.{depack_of}
 use Rattle.codec_payload_core.specs.Held.{held_of}
-use Rattle.codec_payload_core.specs.Steps.{Unpacked, due_of, packets_in, metas_of, follows}
+use Rattle.codec_payload_core.specs.Steps.{Unpacked, due_of, packets_of_frame, metas_of, follows}
 use Rattle.codec_payload_core.proofs.CaseLemmas.{not_both}
 use Rattle.codec_payload_core.proofs.PopLemmas.{order_due, due_metas, due_time, sound_left}
 use Rattle.codec_payload_core.proofs.TakeLemmas.{gives_of, released, refused, stalled}
@@ -38,14 +38,14 @@ pub index-requires : goal.index-requires
 index-requires c =
     let s = state_of c.self.inside in
     let due : due_of s ≡ Some c.args.frame = ap due_of c.self.view_is ∙ c.requires in
-    let metas : c.in_ok-metas.metas.items ≡ metas_of (packets_in s c.args.frame) = c.in_ok-metas.ensures ∙ ap metas_of c.frame_range-from.ensures.part in
+    let metas : c.in_ok-metas.metas.items ≡ metas_of (packets_of_frame s c.args.frame) = c.in_ok-metas.ensures ∙ ap metas_of c.frame_range-from.ensures.part in
     omega (arith, due_metas s c.args.frame c.in_ok-metas.metas.items c.self.invariant.rises due metas, c.in_ok-metas.metas.ok.0)
 
 pub new-requires : goal.new-requires
 new-requires c =
     let s = state_of c.self.inside in
     let due : due_of s ≡ Some c.args.frame = ap due_of c.self.view_is ∙ c.requires in
-    let metas : c.in_ok-metas.metas.items ≡ metas_of (packets_in s c.args.frame) = c.in_ok-metas.ensures ∙ ap metas_of c.frame_range-from.ensures.part in
+    let metas : c.in_ok-metas.metas.items ≡ metas_of (packets_of_frame s c.args.frame) = c.in_ok-metas.ensures ∙ ap metas_of c.frame_range-from.ensures.part in
     due_metas s c.args.frame c.in_ok-metas.metas.items c.self.invariant.rises due metas
 
 pub invariant_of-self-2 : goal.invariant_of-self-2
@@ -57,7 +57,7 @@ returns-clause-takes c =
     let frame = c.args.frame in
     let due : due_of s ≡ Some frame = ap due_of c.self.view_is ∙ c.requires in
     let packets = map held_of (slice_range c.self.inside.packets.items c.frame_range-from.result.0 c.frame_range-from.result.1) in
-    let metas : c.in_ok-metas.metas.items ≡ metas_of (packets_in s frame) = c.in_ok-metas.ensures ∙ ap metas_of c.frame_range-from.ensures.part in
+    let metas : c.in_ok-metas.metas.items ≡ metas_of (packets_of_frame s frame) = c.in_ok-metas.ensures ∙ ap metas_of c.frame_range-from.ensures.part in
     let unpacked : Unpacked = record { bytes = c.unpack.new.bytes.items; extra = c.unpack.new.codec_extra } in
     let e = depack_of c.unpack.new.depack in
     let test : c.if-starts_next.contiguous ≡ follows s frame = elim c.if-starts_next.branch [

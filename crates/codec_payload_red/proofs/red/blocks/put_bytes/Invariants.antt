@@ -1,6 +1,6 @@
 use Rattle.std.proofs.Common.{◌≡◌, ◌++◌, map, drop}
-use Rattle.codec_payload_red.specs.Payload.{Redundant}
-use Rattle.codec_payload_red.specs.Blocks.{redundant_of}
+use Rattle.codec_payload_red.specs.RedPayload.{Redundant}
+use Rattle.codec_payload_red.specs.RedBlocks.{redundant_of}
 use Rattle.codec_payload_red.proofs.Keeping.{given}
 use Rattle.codec_payload_red.proofs.red.blocks.put_bytes.Given as goal
 

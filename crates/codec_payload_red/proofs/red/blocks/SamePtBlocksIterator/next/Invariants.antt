@@ -1,5 +1,5 @@
 use Rattle.std.proofs.Common.{◌≡◌, ◌-◌, length}
-use Rattle.codec_payload_red.specs.Blocks.{same_pt_left}
+use Rattle.codec_payload_red.specs.RedBlocks.{same_pt_left}
 use Rattle.codec_payload_red.proofs.red.blocks.SamePtBlocksIterator.next.Given as goal
 
 -- what was passed over is of another type

@@ -1,5 +1,5 @@
 use Rattle.std.proofs.Common.{◌≡◌, drop}
-use Rattle.codec_payload_red.specs.Levels.{rises_above}
+use Rattle.codec_payload_red.specs.RedLevels.{rises_above}
 use Rattle.codec_payload_red.proofs.red.sender.RedSender.accepts.Given as goal
 
 abbrev pub invariant-loop-distance : goal.invariant-loop-distance

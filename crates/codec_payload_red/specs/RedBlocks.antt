@@ -5,7 +5,7 @@ use Rattle.codec_payload_base.specs.declared.error.PacketError.TheVariants as fa
 use Rattle.codec_payload_red.specs.declared.red.blocks.RedBlock.{RedBlock}
 use Rattle.codec_payload_red.specs.declared.red.blocks.RedundantBlock.{RedundantBlock}
 use Rattle.codec_payload_red.specs.declared.red.blocks.SamePtBlocks.{SamePtBlocks}
-use Rattle.codec_payload_red.specs.Payload.{Redundant, Red}
+use Rattle.codec_payload_red.specs.RedPayload.{Redundant, Red}
 
 -- a block without where it lies
 pub record Block : Type 0 where

@@ -1,6 +1,6 @@
 -- RED payloads as they are read, from the left.
 use Rattle.std.specs.Prelude.{ℕ, zero, suc, ◌+◌, ◌*◌, ◌/◌, ◌%◌, List, [], ◌∷◌, length, take, drop, slice_index, Option, Some, None, nat_lt, if◌then◌else◌}
-use Rattle.codec_payload_red.specs.Payload.{Redundant, Red}
+use Rattle.codec_payload_red.specs.RedPayload.{Redundant, Red}
 
 infixl 10 ◌>>=◌
 abbrev pub ◌>>=◌ : {A B : Type 0} → Option A → (A → Option B) → Option B

@@ -2,7 +2,7 @@
 use Rattle.std.specs.Prelude.{◌≡◌, ℕ, zero, suc, ◌+◌, ◌-◌, ◌%◌, ◌^◌, ◌≤◌, Bool, true, ◌&&◌, nat_lt, nat_le, List, [], ◌∷◌, ◌++◌, length, take, reverse, slice_get, sum_by, Option, Some, None, if◌then◌else◌}
 use Rattle.std.specs.Option.{option_and_then}
 use Rattle.std.specs.List.{filter_map}
-use Rattle.codec_payload_red.specs.Payload.{Redundant, Red, fits, spelling}
+use Rattle.codec_payload_red.specs.RedPayload.{Redundant, Red, fits, spelling}
 
 -- a payload that was sent, and its RTP time
 pub record Entry : Type 0 where
