@@ -12,7 +12,6 @@ use Rattle.codec_payload_base.specs.Pieces.{joined}
 use Rattle.codec_payload_base.specs.declared.error.PacketError.{PacketError}
 use Rattle.codec_payload_base.specs.declared.error.PacketError.TheVariants as faults
 use Rattle.codec_payload_video.proofs.Av1Sequence.{sequence_sound, sequence_complete}
-use Rattle.codec_payload_video.specs.Av1Laying.{AreSent}
 use Rattle.codec_payload_video.specs.Av1Leb.{◌>>=◌}
 use Rattle.codec_payload_video.specs.Av1Obu.{Obu, IsSequence, canonical, canonical_unit, frame_kept, has_bit, kept, obus_of, obus_within, string, strings_of}
 use Rattle.codec_payload_video.specs.Av1Packing.{IsElement, HasElement, Sent, StandsAfter, StandsFor, ended, is_begun, left_open}
