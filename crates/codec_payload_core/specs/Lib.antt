@@ -13,6 +13,7 @@ pub use Rattle.codec_payload_red.specs.RedHistory
 pub use Rattle.codec_payload_red.specs.RedLevels
 pub use Rattle.codec_payload_red.specs.RedPayload
 pub use Rattle.codec_payload_red.specs.RedReading
+pub use Rattle.codec_payload_video.specs.Av1Grammar
 pub use Rattle.codec_payload_video.specs.Av1Laying
 pub use Rattle.codec_payload_video.specs.Av1Leb
 pub use Rattle.codec_payload_video.specs.Av1Obu

@@ -13,5 +13,4 @@ pub mod Av1Packed
 pub mod Av1Room
 pub mod Av1Sequence
 pub mod Av1Taking
-pub mod Av1UnitLemmas
 pub mod DescribedLemmas

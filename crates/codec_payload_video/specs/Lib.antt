@@ -10,5 +10,4 @@ pub mod Av1Piece
 pub mod Av1Receiving
 pub mod Av1Size
 pub mod Av1Steps
-pub mod Av1Units
 pub mod Vp8

@@ -70,7 +70,8 @@ fn program_first_run(rt: HostRuntime) -> Result<(), Fail> {
 
 #[test]
 fn program_tele_run(rt: HostRuntime) -> Result<(), Fail> {
-    let input = "codec tele 8000 0 1 0\nsample 0 1 058a0320060a0140\nsend 0 7\nsend 0 8\npush 0\npop\n";
+    let input =
+        "codec tele 8000 0 1 0\nsample 0 1 058a0320060a0140\nsend 0 7\nsend 0 8\npush 0\npop\n";
     let printed = output_for(rt.alloc(), input)?;
     assert_eq!(rt;
         printed.as_str(),
@@ -98,12 +99,18 @@ fn amr_wb_type_14_sent(rt: HostRuntime) -> Result<(), Fail> {
         alloc,
         "codec amrwb 16000 0 1 0\nsample 0 1 74\nsend 0 1200\npush 0\npop\n",
     )?;
-    assert_eq!(rt; efficient.as_str(), "sent 1\npacket 1 1 f740\nunit 1 1 1 74\n");
+    assert_eq!(rt;
+        efficient.as_str(),
+        "sent 1\npacket 1 1 f740\nunit 1 1 1 74\n"
+    );
     let aligned = output_for(
         alloc,
         "codec amrwb-octet 16000 0 1 0\nsample 0 0 74\nsend 0 1200\npush 0\npop\n",
     )?;
-    assert_eq!(rt; aligned.as_str(), "sent 1\npacket 1 0 f074\nunit 1 1 1 74\n");
+    assert_eq!(rt;
+        aligned.as_str(),
+        "sent 1\npacket 1 0 f074\nunit 1 1 1 74\n"
+    );
     Ok(())
 }
 
