@@ -1,11 +1,3 @@
-pub mod AmrWbCopyLemmas
-pub mod AmrWbEntryLemmas
-pub mod AmrWbFrameLemmas
-pub mod AmrWbFramesLemmas
-pub mod AmrWbPayloadLemmas
-pub mod AmrWbReadLemmas
-pub mod AmrWbReceivedLemmas
-pub mod AmrWbRoundTripLemmas
 pub mod BitLemmas
 pub mod ByteTables
 pub mod BytesLemmas

@@ -1,10 +1,7 @@
-pub mod AmrWb
-pub mod AmrWbReceived
 pub mod Answers
 pub mod Bits
 pub mod Faults
 pub mod Leb
-pub mod Payloads
 pub mod Pieces
 pub mod TelephoneReport
 pub mod Time

@@ -6,7 +6,10 @@ ghost use Rattle.codec_payload_base.specs.Answers.{packets_of};
 ghost use Rattle.codec_payload_base.specs.declared.error.PacketError.{PacketError as Fault};
 ghost use Rattle.codec_payload_base.specs.declared.interface.CodecExtra.{CodecExtra as Extra};
 
+mod report;
+
 use crate::error::PacketError;
+pub use report::{REPORT_SIZE, TelephoneEvents, duration_from_units};
 use std::alloc::Global;
 use std::fmt::Debug;
 

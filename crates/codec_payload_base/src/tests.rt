@@ -1,69 +1,59 @@
-//! What no clause says: texts of faults, that calls which take memory succeed, and the worked examples.
+//! What no clause says: texts of faults, defaults, and the worked examples of bits and numbers.
 
+use crate::bits::{BitRead, BitReader};
 use crate::error::PacketError;
-use crate::interface::{CodecExtra, Depacketizer, Packetizer, Vp9PacketizerMode};
-use crate::plain::{
-    G7xxPacketizer, G711Depacketizer, NullDepacketizer, NullPacketizer, OpusDepacketizer,
-    OpusPacketizer,
-};
+use crate::interface::Vp9PacketizerMode;
 use crate::wire::{ExtensionValues, Frequency, MediaTime, Pt, encode_leb_u63};
-use std::alloc::Global;
 use std::test::Fail;
 
-/// The payloads of a frame, one after another, each behind its length.
-fn spelled<P: Packetizer>(
-    alloc: Global,
-    packetizer: &mut P,
-    mtu: usize,
-    frame: &[u8],
-) -> Result<Vec<u8>, Fail> {
-    let mut all = Vec::new(alloc);
-    for payload in packetizer.packetize(alloc, mtu, frame)? {
-        all.push((payload.len() % 256) as u8)?;
-        all.extend_from_slice(&payload)?;
-    }
-    Ok(all)
-}
-
-/// What a depacketizer appends to the one byte 7.
-fn appended<D: Depacketizer>(
-    alloc: Global,
-    depacketizer: &mut D,
-    payload: &[u8],
-) -> Result<Vec<u8>, Fail> {
-    let mut out = Vec::from_slice(alloc, &[7])?;
-    let mut extra = CodecExtra::None;
-    depacketizer.depacketize(payload, &mut out, &mut extra)?;
-    Ok(out)
+#[test]
+fn bits_reads_and_refusals(rt: HostRuntime) {
+    let mut reader = BitReader::at(&[0xac, 0x50], 4);
+    assert_eq!(rt; reader.get_bits(6), Some(49));
+    assert_eq!(rt; reader.get_bits(3), Some(2));
+    assert_eq!(rt; reader.get_bits(9), None);
+    assert_eq!(rt; reader.get_bits(4), None);
+    assert_eq!(rt; reader.get_bits(3), Some(0));
+    assert_eq!(rt; reader.get_bits(0), Some(0));
 }
 
 #[test]
-fn opus_two_pieces(rt: HostRuntime) -> Result<(), Fail> {
-    let got = spelled(rt.alloc(), &mut OpusPacketizer {}, 2, &[0x90, 0x90, 0x90])?;
-    assert_eq!(rt; got.as_slice(), [2u8, 0x90, 0x90, 1, 0x90].as_slice());
-    Ok(())
+fn leb128_high_bits_lost(rt: HostRuntime) {
+    let bytes = [0xff, 0xff, 0xff, 0xff, 0xff, 0xff, 0xff, 0xff, 0xff, 0x7f];
+    assert_eq!(rt; BitReader::new(&bytes).get_leb128(), Some(u64::MAX));
 }
 
 #[test]
-fn opus_mtu_zero(rt: HostRuntime) -> Result<(), Fail> {
-    let got = spelled(rt.alloc(), &mut OpusPacketizer {}, 0, &[0x90, 0x90, 0x90])?;
-    assert!(rt; got.is_empty());
-    Ok(())
+fn leb128_ten_ff_none(rt: HostRuntime) {
+    let mut reader = BitReader::new(&[0xff; 11]);
+    assert_eq!(rt; reader.get_leb128(), None);
+    assert_eq!(rt; reader.byte_offset(), 10);
+}
+
+/// The sum of two bytes, by whatever reads bits.
+fn sum_of_two<'a, R: BitRead<'a>>(reader: &mut R) -> Option<u16> {
+    let first = reader.get_u8()?;
+    let second = reader.get_u8()?;
+    Some(u16::from(first) + u16::from(second))
 }
 
 #[test]
-fn other_codecs_once(rt: HostRuntime) -> Result<(), Fail> {
-    let alloc = rt.alloc();
-    let pieces = spelled(alloc, &mut G7xxPacketizer::default(), 2, &[1, 2, 3])?;
-    assert_eq!(rt; pieces.as_slice(), [2u8, 1, 2, 1, 3].as_slice());
-    let whole = spelled(alloc, &mut NullPacketizer {}, 2, &[1, 2, 3])?;
-    assert_eq!(rt; whole.as_slice(), [3u8, 1, 2, 3].as_slice());
-    let opus = appended(alloc, &mut OpusDepacketizer::default(), &[1, 2])?;
-    assert_eq!(rt; opus.as_slice(), [7u8, 1, 2].as_slice());
-    let g711 = appended(alloc, &mut G711Depacketizer::default(), &[1, 2])?;
-    assert_eq!(rt; g711.as_slice(), [7u8, 1, 2].as_slice());
-    let null = appended(alloc, &mut NullDepacketizer {}, &[])?;
-    assert_eq!(rt; null.as_slice(), [7u8].as_slice());
+fn any_reader_serves(rt: HostRuntime) {
+    assert_eq!(rt; sum_of_two(&mut BitReader::new(&[1, 2])), Some(3));
+    assert_eq!(rt; BitReader::new(&[1, 2]).get_u16(), Some(0x0102));
+}
+
+#[test]
+fn lent_bytes_outlive_the_next_read(rt: HostRuntime) -> Result<(), Fail> {
+    let bytes = [1, 2, 3, 4, 5];
+    let mut reader = BitReader::at(&bytes, 11);
+    let two = reader.get_bytes(2).ok_or("two bytes")?;
+    reader.skip_bytes(1);
+    let rest = reader.get_remaining();
+    assert_eq!(rt; two, [2u8, 3].as_slice());
+    assert_eq!(rt; rest, [5u8].as_slice());
+    assert_eq!(rt; reader.remaining_bits(), 0);
+    assert_eq!(rt; reader.remaining_bytes(), 0);
     Ok(())
 }
 

@@ -5,21 +5,21 @@ use Rattle.std.proofs.lemmas.Bool.{cases_lt}
 use Rattle.std.proofs.lemmas.List.{length-append}
 use Rattle.codec_payload_core.proofs.ExactLemmas.{MayGo, may_go_all, IsExactly, answers_from}
 use Rattle.codec_payload_core.proofs.FillLemmas.{IsFilling, filled, full_row}
-use Rattle.codec_payload_core.proofs.MemberLemmas.{IsIn, in_append, in_contains}
+use Rattle.codec_payload_buffer.proofs.MemberLemmas.{IsIn, in_append, in_contains}
 use Rattle.codec_payload_core.proofs.SafetyLemmas.{fresh, number_at, safe_stream, send_keeps, sends_all}
 use Rattle.codec_payload_core.proofs.ScheduleLemmas.{length-packets_for}
 use Rattle.codec_payload_core.proofs.StreamLemmas.{streams}
 use Rattle.codec_payload_core.proofs.UnitRows.{held_as, slice_append, drop_next}
 use Rattle.codec_payload_core.proofs.UnitTimes.{AllOneTime}
-use Rattle.codec_payload_core.specs.Depack.{Depack, DepackKind}
+use Rattle.codec_payload_buffer.specs.Depack.{Depack, DepackKind}
 use Rattle.codec_payload_core.specs.Exact.{IsPushedFirst, AnswersAll, ReleasesUnits}
 use Rattle.codec_payload_core.specs.Headline.{IsUnused}
-use Rattle.codec_payload_core.specs.Held.{has_number}
+use Rattle.codec_payload_buffer.specs.Held.{has_number}
 use Rattle.codec_payload_core.specs.Packets.{Packet, AreNumbered}
 use Rattle.codec_payload_core.specs.Schedule.{Answer, RunState, Runs, DoesStep, SendsIt, after_push, meta_of_push, packets_sent, payloads_of}
 use Rattle.codec_payload_core.specs.Sending.{Sample, rtp_time_at}
 use Rattle.codec_payload_core.specs.SentStream.{AreReadable, SentUnit, packets_of, AllLawful}
-use Rattle.codec_payload_core.specs.Steps.{State, arrived}
+use Rattle.codec_payload_buffer.specs.Steps.{State, arrived}
 use Rattle.codec_payload_core.specs.Units.{payloads_by, may_split}
 use Rattle.codec_payload_core.specs.declared.schedule.Sent.{Sent}
 use Rattle.codec_payload_core.specs.declared.schedule.Step.{Step}

@@ -1,6 +1,6 @@
 -- An AV1 frame is one lawful unit, whose parts are its kept OBUs: a receiver that lost its first packets may be given the
 -- last of them.
-use Rattle.std.proofs.Common.{◌≡◌, ◌≢◌, ◌∙◌, sym, ap, refl, subst, ℕ, zero, suc, ◌+◌, ◌*◌, ◌<◌, ◌≤◌, ◌%◌, ◌/◌, ◌^◌, ◌||◌, inl, inr, List, [], ◌∷◌, ◌++◌, length, map, arith, append_assoc, length-append, Bool, true, false, not, Option, Some, None, Result, Ok, Err, cond, leb, ltb, eqb}
+use Rattle.std.proofs.Common.{◌≡◌, ◌≢◌, ◌∙◌, sym, ap, refl, subst, ℕ, ◌+◌, ◌*◌, ◌<◌, ◌≤◌, ◌%◌, ◌^◌, ◌||◌, inl, inr, List, [], ◌∷◌, ◌++◌, length, map, arith, append_assoc, Bool, true, false, Option, Some, None, Result, Ok, Err, cond, leb, ltb}
 use Rattle.std.specs.Prelude.{MatchResult, is_some}
 use Rattle.std.specs.Int.Bits.{bit_and}
 use Rattle.std.specs.List.{AllByRecursion, flat_map}
@@ -11,23 +11,23 @@ use Rattle.std.proofs.lemmas.Nat.Bits.{and_pow}
 use Rattle.codec_payload_base.specs.Pieces.{joined}
 use Rattle.codec_payload_base.specs.declared.error.PacketError.{PacketError}
 use Rattle.codec_payload_base.specs.declared.error.PacketError.TheVariants as faults
-use Rattle.codec_payload_video.proofs.Av1Sequence.{sequence_sound, sequence_complete}
-use Rattle.codec_payload_video.specs.Av1Leb.{◌>>=◌}
-use Rattle.codec_payload_video.specs.Av1Obu.{Obu, IsSequence, canonical, canonical_unit, frame_kept, has_bit, kept, obus_of, obus_within, string, strings_of}
-use Rattle.codec_payload_video.specs.Av1Packing.{IsElement, HasElement, Sent, StandsAfter, StandsFor, ended, is_begun, left_open}
-use Rattle.codec_payload_video.specs.Av1Payload.{Payload, aggregation_header, body, element_count, is_head, payload_at, written}
-use Rattle.codec_payload_video.specs.Av1Receiving.{all_received, received}
-use Rattle.codec_payload_video.specs.Av1Steps.{AnswersAv1, Av1Step, IsRefusedFrame, IsRefusedPayload, IsSentFrame}
-use Rattle.codec_payload_core.proofs.CaseLemmas.{by_test}
+use Rattle.codec_payload_av1.proofs.Av1Sequence.{sequence_sound, sequence_complete}
+use Rattle.codec_payload_av1.specs.Av1Leb.{◌>>=◌}
+use Rattle.codec_payload_av1.specs.Av1Obu.{Obu, IsSequence, canonical, canonical_unit, frame_kept, kept, obus_of, obus_within, string, strings_of}
+use Rattle.codec_payload_av1.specs.Av1Packing.{IsElement, HasElement, StandsAfter, StandsFor, ended, is_begun, left_open}
+use Rattle.codec_payload_av1.specs.Av1Payload.{Payload, aggregation_header, body, element_count, is_head, payload_at, written}
+use Rattle.codec_payload_av1.specs.Av1Receiving.{all_received, received}
+use Rattle.codec_payload_av1.specs.Av1Steps.{AnswersAv1, Av1Step, IsRefusedFrame, IsRefusedPayload, IsSentFrame}
+use Rattle.codec_payload_buffer.proofs.CaseLemmas.{by_test}
 use Rattle.codec_payload_core.proofs.SendsUnits.{SendsUnits, no_units}
-use Rattle.codec_payload_core.specs.Depack.{Depack, G711Depack, OpusDepack, ComfortNoiseDepack, TeleDepack, Vp8Depack, Av1Depack, AmrWbDepack, NullDepack, Av1Payloads, kind_of_depack, DepackStep}
-use Rattle.codec_payload_core.specs.Held.{Held}
-use Rattle.codec_payload_core.specs.Pack.{Av1Pack}
+use Rattle.codec_payload_buffer.specs.Depack.{Depack, G711Depack, OpusDepack, ComfortNoiseDepack, TeleDepack, Vp8Depack, Av1Depack, AmrWbDepack, NullDepack, Av1Payloads, kind_of_depack}
+use Rattle.codec_payload_buffer.specs.Held.{Held}
+use Rattle.codec_payload_buffer.specs.Pack.{Av1Pack}
 use Rattle.codec_payload_core.specs.Packets.{Packet}
 use Rattle.codec_payload_core.specs.Schedule.{payloads_of}
 use Rattle.codec_payload_core.specs.Sending.{Sample, packets_for}
 use Rattle.codec_payload_core.specs.SentStream.{SentUnit, EndsWithTail, StartsWithHead, IsReleaseOf, payloads_held, payloads_sent, IsLawful}
-use Rattle.codec_payload_core.specs.Steps.{Unpacked, Unpacks, nothing_unpacked}
+use Rattle.codec_payload_buffer.specs.Steps.{Unpacked, Unpacks, nothing_unpacked}
 use Rattle.codec_payload_core.specs.Units.{canonical_obus, canonical_units, is_empty, keeps_nothing, refusal_of_obus}
 
 -- what comes of two reads, one after the other

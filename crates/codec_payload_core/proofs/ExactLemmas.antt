@@ -9,27 +9,27 @@ use Rattle.codec_payload_base.specs.Pieces.{joined}
 use Rattle.codec_payload_base.specs.declared.error.PacketError.{PacketError}
 use Rattle.codec_payload_base.specs.declared.error.PacketError.TheVariants as faults
 use Rattle.codec_payload_base.specs.declared.interface.CodecExtra.{CodecExtra}
-use Rattle.codec_payload_core.proofs.FrameParts.{IsRun}
+use Rattle.codec_payload_buffer.proofs.FrameParts.{IsRun}
 use Rattle.codec_payload_core.proofs.FullLemmas.{none_passed, numbered_front, numbered_back, exact_split, held_time, run_of_exact, next_due, pop_releases}
-use Rattle.codec_payload_core.proofs.PopLemmas.{above_rises}
-use Rattle.codec_payload_core.proofs.RowLemmas.{part_between}
+use Rattle.codec_payload_buffer.proofs.PopLemmas.{above_rises}
+use Rattle.codec_payload_buffer.proofs.RowLemmas.{part_between}
 use Rattle.codec_payload_core.proofs.SafetyLemmas.{next_after, number_at, send_keeps}
 use Rattle.codec_payload_core.proofs.StreamLemmas.{streams}
 use Rattle.codec_payload_core.proofs.UnitRows.{slice_append, Exact, exact_payloads, exact_metas}
 use Rattle.codec_payload_core.proofs.UnitTimes.{AllOneTime}
-use Rattle.codec_payload_core.specs.Depack.{Depack, DepackKind, kind_of_depack}
+use Rattle.codec_payload_buffer.specs.Depack.{Depack, DepackKind, kind_of_depack}
 use Rattle.codec_payload_core.specs.Exact.{IsWhole, AnswersAll}
-use Rattle.codec_payload_core.specs.Frames.{frames}
+use Rattle.codec_payload_buffer.specs.Frames.{frames}
 use Rattle.codec_payload_core.specs.Headline.{ArePushesOf}
-use Rattle.codec_payload_core.specs.Held.{Held, Rises, has_number, between, above}
+use Rattle.codec_payload_buffer.specs.Held.{Held, Rises, has_number, between, above}
 use Rattle.codec_payload_core.specs.Packets.{Packet, AreNumbered}
-use Rattle.codec_payload_core.specs.Release.{Release}
+use Rattle.codec_payload_buffer.specs.Release.{Release}
 use Rattle.codec_payload_core.specs.Schedule.{Answer, RunState, Runs, after_push}
 use Rattle.codec_payload_core.specs.Sending.{Sample}
 use Rattle.codec_payload_core.specs.SentStream.{SentUnit, packets_of, payloads_held, payloads_sent, AllLawful, IsReleaseOf}
-use Rattle.codec_payload_core.specs.Steps.{State, Contiguity, NoContiguity, is_dropped, is_at_most, due_of, due_among, checked, follows, metas_of, packets_of_frame, Unpacked, Unpacks, nothing_unpacked, Gives, Pops, PassesOver, Refuses}
-use Rattle.codec_payload_core.specs.declared.buffer.frames.Segment.{Segment}
-use Rattle.codec_payload_core.specs.declared.buffer.unit.RtpMeta.{RtpMeta}
+use Rattle.codec_payload_buffer.specs.Steps.{State, Contiguity, NoContiguity, is_dropped, is_at_most, due_of, due_among, checked, follows, metas_of, packets_of_frame, Unpacked, Unpacks, nothing_unpacked, Gives, Pops, PassesOver, Refuses}
+use Rattle.codec_payload_buffer.specs.declared.buffer.frames.Segment.{Segment}
+use Rattle.codec_payload_buffer.specs.declared.buffer.unit.RtpMeta.{RtpMeta}
 use Rattle.codec_payload_core.specs.declared.schedule.Sent.{Sent}
 use Rattle.codec_payload_core.specs.declared.schedule.Step.{Step}
 use Rattle.codec_payload_core.specs.declared.schedule.Step.TheVariants as steps

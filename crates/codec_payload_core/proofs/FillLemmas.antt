@@ -5,17 +5,17 @@ use Rattle.std.proofs.lemmas.Bool.{cases_lt}
 use Rattle.std.proofs.lemmas.Bool.Decides.{nat_tests}
 use Rattle.std.proofs.lemmas.List.{length-drop}
 use Rattle.std.proofs.lemmas.Option.{slice_get_within}
-use Rattle.codec_payload_core.proofs.CaseLemmas.{by_test}
-use Rattle.codec_payload_core.proofs.PlaceLemmas.{above_lower, not_below}
+use Rattle.codec_payload_buffer.proofs.CaseLemmas.{by_test}
+use Rattle.codec_payload_buffer.proofs.PlaceLemmas.{above_lower, not_below}
 use Rattle.codec_payload_core.proofs.SafetyLemmas.{IsSent, AllSent, IsBeyond, number_of_sent, beyond_placed}
-use Rattle.codec_payload_core.proofs.StretchLemmas.{has_placed}
+use Rattle.codec_payload_buffer.proofs.StretchLemmas.{has_placed}
 use Rattle.codec_payload_core.proofs.UnitRows.{held_as, drop_next, Exact}
-use Rattle.codec_payload_core.specs.Depack.{DepackKind}
+use Rattle.codec_payload_buffer.specs.Depack.{DepackKind}
 use Rattle.codec_payload_core.specs.Headline.{IsPushOf}
-use Rattle.codec_payload_core.specs.Held.{Held, Rises, AllAbove, placed, has_number}
+use Rattle.codec_payload_buffer.specs.Held.{Held, Rises, AllAbove, placed, has_number}
 use Rattle.codec_payload_core.specs.Packets.{Packet, AreNumbered}
 use Rattle.codec_payload_core.specs.SentStream.{SentUnit, packets_of, AllLawful}
-use Rattle.codec_payload_core.specs.Steps.{State, pushed, kept_to_limit, is_dropped, is_at_most}
+use Rattle.codec_payload_buffer.specs.Steps.{State, pushed, kept_to_limit, is_dropped, is_at_most}
 use Rattle.codec_payload_core.specs.declared.schedule.Step.{Step}
 
 -- all numbers are at least n

@@ -4,20 +4,20 @@ use Rattle.std.proofs.lemmas.Bool.Decides.{nat_tests}
 use Rattle.codec_payload_base.specs.Time.{Time}
 use Rattle.codec_payload_base.specs.declared.error.PacketError.{PacketError}
 use Rattle.codec_payload_base.specs.declared.error.PacketError.TheVariants as faults
-use Rattle.codec_payload_core.proofs.FrameParts.{IsRun, BeginsWithHead}
-use Rattle.codec_payload_core.proofs.FrontLemmas.{due_front}
+use Rattle.codec_payload_buffer.proofs.FrameParts.{IsRun, BeginsWithHead}
+use Rattle.codec_payload_buffer.proofs.FrontLemmas.{due_front}
 use Rattle.codec_payload_core.proofs.SafetyLemmas.{next_after}
 use Rattle.codec_payload_core.proofs.UnitRows.{Exact, tail_is}
 use Rattle.codec_payload_core.proofs.UnitTimes.{HasTime}
-use Rattle.codec_payload_core.specs.Depack.{DepackKind}
-use Rattle.codec_payload_core.specs.Held.{Held}
+use Rattle.codec_payload_buffer.specs.Depack.{DepackKind}
+use Rattle.codec_payload_buffer.specs.Held.{Held}
 use Rattle.codec_payload_core.specs.Packets.{Packet, AreNumbered}
-use Rattle.codec_payload_core.specs.Release.{Release}
+use Rattle.codec_payload_buffer.specs.Release.{Release}
 use Rattle.codec_payload_core.specs.Schedule.{Answer}
 use Rattle.codec_payload_core.specs.SentStream.{SentUnit, EndsWithTail, StartsWithHead}
-use Rattle.codec_payload_core.specs.Steps.{State, due_of, starts_right_after, Pops, Passes, none, one_more, PassesOver, Releases, Refuses}
-use Rattle.codec_payload_core.specs.declared.buffer.frames.Segment.{Segment}
-use Rattle.codec_payload_core.specs.declared.buffer.unit.RtpMeta.{RtpMeta}
+use Rattle.codec_payload_buffer.specs.Steps.{State, due_of, starts_right_after, Pops, Passes, none, one_more, PassesOver, Releases, Refuses}
+use Rattle.codec_payload_buffer.specs.declared.buffer.frames.Segment.{Segment}
+use Rattle.codec_payload_buffer.specs.declared.buffer.unit.RtpMeta.{RtpMeta}
 use Rattle.codec_payload_core.specs.declared.schedule.Step.{Step}
 
 -- no frame is passed over from s: so none in any number of steps

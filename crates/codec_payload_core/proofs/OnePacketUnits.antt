@@ -1,28 +1,28 @@
 -- Units of one packet whose payload may carry other bytes than its own: comfort noise, telephone events and AMR-WB.
-use Rattle.std.proofs.Common.{◌≡◌, ◌≢◌, ◌∙◌, sym, ap, refl, subst, ℕ, ◌+◌, ◌*◌, ◌<◌, ◌≤◌, ◌%◌, ◌^◌, inl, inr, ◌⊎◌, List, [], ◌∷◌, ◌++◌, length, map, take, arith, Bool, true, false, Option, Some, None, Result, Ok, Err, cond, ltb, eqb, ◌||◌}
+use Rattle.std.proofs.Common.{◌≡◌, ◌≢◌, ◌∙◌, sym, ap, refl, subst, ℕ, ◌*◌, ◌≤◌, inl, inr, ◌⊎◌, List, [], ◌∷◌, ◌++◌, length, take, arith, Bool, true, false, Option, Some, None, Result, Ok, Err, cond, ltb, eqb, ◌||◌}
 use Rattle.std.specs.Prelude.{MatchResult, is_some, option_map}
 use Rattle.codec_payload_base.specs.Faults.{fault_number}
 use Rattle.std.proofs.lemmas.Bool.{le-ltb, ltb-false, eqb-true, eqb-false}
 use Rattle.std.proofs.lemmas.List.{append-nil}
-use Rattle.codec_payload_base.proofs.AmrWbRoundTripLemmas.{stored_is_frame, received_again}
+use Rattle.codec_payload_audio.proofs.AmrWbRoundTripLemmas.{stored_is_frame, received_again}
 use Rattle.codec_payload_base.proofs.BitLemmas.{length-bits_of}
 use Rattle.codec_payload_base.proofs.FaultLemmas.{only_memory}
-use Rattle.codec_payload_base.specs.AmrWb.{Frame, AnswersAmrWb, AnswersFrame, AnswersStored, canonical, payload, stored, is_without_data, refusal_of_frame}
-use Rattle.codec_payload_base.specs.AmrWbReceived.{AmrWbStep, received}
+use Rattle.codec_payload_audio.specs.AmrWb.{Frame, AnswersAmrWb, AnswersFrame, AnswersStored, canonical, payload, stored, is_without_data, refusal_of_frame}
+use Rattle.codec_payload_audio.specs.AmrWbReceived.{AmrWbStep, received}
 use Rattle.codec_payload_base.specs.Bits.{bits_of, bytes_of}
-use Rattle.codec_payload_base.specs.Payloads.{AnswersWhole}
-use Rattle.codec_payload_base.specs.TelephoneReport.{TeleStep, TakesFirst, are_reports}
+use Rattle.codec_payload_audio.specs.Payloads.{AnswersWhole}
+use Rattle.codec_payload_base.specs.TelephoneReport.{TakesFirst, are_reports}
 use Rattle.codec_payload_base.specs.declared.error.PacketError.{PacketError}
 use Rattle.codec_payload_base.specs.declared.error.PacketError.TheVariants as faults
 use Rattle.codec_payload_base.specs.declared.interface.CodecExtra.{CodecExtra}
-use Rattle.codec_payload_core.proofs.CaseLemmas.{by_test}
-use Rattle.codec_payload_core.specs.Depack.{Depack, DepackKind, G711Depack, OpusDepack, ComfortNoiseDepack, TeleDepack, Vp8Depack, Av1Depack, AmrWbDepack, NullDepack, ComfortNoisePayloads, TelePayloads, AmrWbPayloads, kind_of_depack, DepackStep, head_in, tail_in}
-use Rattle.codec_payload_core.specs.Held.{Held}
-use Rattle.codec_payload_core.specs.Pack.{Pack, ComfortNoisePack, TelePack, AmrWbPack}
+use Rattle.codec_payload_buffer.proofs.CaseLemmas.{by_test}
+use Rattle.codec_payload_buffer.specs.Depack.{Depack, DepackKind, G711Depack, OpusDepack, ComfortNoiseDepack, TeleDepack, Vp8Depack, Av1Depack, AmrWbDepack, NullDepack, ComfortNoisePayloads, TelePayloads, AmrWbPayloads, kind_of_depack, DepackStep, head_in, tail_in}
+use Rattle.codec_payload_buffer.specs.Held.{Held}
+use Rattle.codec_payload_buffer.specs.Pack.{Pack, ComfortNoisePack, TelePack, AmrWbPack}
 use Rattle.codec_payload_core.specs.Packets.{Packet}
 use Rattle.codec_payload_core.specs.Schedule.{payloads_of}
 use Rattle.codec_payload_core.specs.SentStream.{SentUnit, StartsWithHead, IsReleaseOf, payloads_held, payloads_sent, IsLawful}
-use Rattle.codec_payload_core.specs.Steps.{Unpacked, Unpacks, nothing_unpacked}
+use Rattle.codec_payload_buffer.specs.Steps.{Unpacked, Unpacks, nothing_unpacked}
 use Rattle.codec_payload_core.specs.Units.{canonical_units, is_readable, payloads_by, bytes_of_frame}
 
 -- a payload begins and ends a unit, and carries these bytes

@@ -6,25 +6,25 @@ use Rattle.std.proofs.lemmas.List.{length-append}
 use Rattle.codec_payload_base.specs.Time.{Time}
 use Rattle.codec_payload_base.specs.declared.error.PacketError.{PacketError}
 use Rattle.codec_payload_base.specs.declared.error.PacketError.TheVariants as faults
-use Rattle.codec_payload_core.proofs.CaseLemmas.{by_test}
-use Rattle.codec_payload_core.proofs.FrameParts.{IsRun}
-use Rattle.codec_payload_core.proofs.PlaceLemmas.{placed_rises, placed_above_cutoff}
-use Rattle.codec_payload_core.proofs.PopLemmas.{part_due, above_rises, above_is_above}
-use Rattle.codec_payload_core.proofs.RowLemmas.{above_all, first_above, part_between, first_le_last, run_first, run_length}
+use Rattle.codec_payload_buffer.proofs.CaseLemmas.{by_test}
+use Rattle.codec_payload_buffer.proofs.FrameParts.{IsRun}
+use Rattle.codec_payload_buffer.proofs.PlaceLemmas.{placed_rises, placed_above_cutoff}
+use Rattle.codec_payload_buffer.proofs.PopLemmas.{part_due, above_rises, above_is_above}
+use Rattle.codec_payload_buffer.proofs.RowLemmas.{above_all, first_above, part_between, first_le_last, run_first, run_length}
 use Rattle.codec_payload_core.proofs.StreamLemmas.{Streams, streams}
 use Rattle.codec_payload_core.proofs.UnitRows.{held_as, slice_append, drop_at, drop_next, RowOf, Exact, unit_of_row, exact_length, exact_payloads, exact_metas, exact_starts}
-use Rattle.codec_payload_core.specs.Depack.{Depack, DepackKind, kind_of_depack}
+use Rattle.codec_payload_buffer.specs.Depack.{Depack, DepackKind, kind_of_depack}
 use Rattle.codec_payload_core.specs.Headline.{IsPushOf, ArePushesOf, packets_before, IsUnitAt, InOrder, IsUnused, ReleasesInOrder}
-use Rattle.codec_payload_core.specs.Held.{Held, Rises, IsAboveCutoff, placed, above, between, has_number}
+use Rattle.codec_payload_buffer.specs.Held.{Held, Rises, IsAboveCutoff, placed, above, between, has_number}
 use Rattle.codec_payload_core.specs.Packets.{Packet, AreNumbered}
-use Rattle.codec_payload_core.specs.Release.{Release}
+use Rattle.codec_payload_buffer.specs.Release.{Release}
 use Rattle.codec_payload_core.specs.Schedule.{Answer, RunState, Runs, DoesStep, SendsIt, after_push, meta_of_push}
 use Rattle.codec_payload_core.specs.Sending.{Sample}
 use Rattle.codec_payload_core.specs.SentStream.{AreReadable, SentUnit, packets_of, StartsWithHead, IsLawful, AllLawful, IsReleaseOf}
-use Rattle.codec_payload_core.specs.Steps.{State, Contiguity, arrived, pushed, kept_to_limit, without_lowest, is_dropped, is_at_most, without, metas_of, due_of, packets_of_frame, Unpacked, Unpacks, nothing_unpacked, Gives, Passes, none, one_more, PassesOver, Releases, Refuses, Pops}
+use Rattle.codec_payload_buffer.specs.Steps.{State, Contiguity, arrived, pushed, kept_to_limit, without_lowest, is_dropped, is_at_most, without, metas_of, due_of, packets_of_frame, Unpacked, Unpacks, nothing_unpacked, Gives, Passes, none, one_more, PassesOver, Releases, Refuses, Pops}
 use Rattle.codec_payload_core.specs.Units.{payloads_by, may_split}
-use Rattle.codec_payload_core.specs.declared.buffer.frames.Segment.{Segment}
-use Rattle.codec_payload_core.specs.declared.buffer.unit.RtpMeta.{RtpMeta}
+use Rattle.codec_payload_buffer.specs.declared.buffer.frames.Segment.{Segment}
+use Rattle.codec_payload_buffer.specs.declared.buffer.unit.RtpMeta.{RtpMeta}
 use Rattle.codec_payload_core.specs.declared.schedule.Sent.{Sent}
 use Rattle.codec_payload_core.specs.declared.schedule.Step.{Step}
 use Rattle.codec_payload_core.specs.declared.schedule.Step.TheVariants as steps

@@ -3,11 +3,11 @@ use Rattle.std.proofs.Common.{◌≡◌, ◌≢◌, ◌∙◌, sym, ap, refl, su
 use Rattle.std.proofs.lemmas.List.{append-nil}
 use Rattle.codec_payload_base.specs.declared.error.PacketError.{PacketError}
 use Rattle.codec_payload_base.specs.declared.error.PacketError.TheVariants as faults
-use Rattle.codec_payload_core.specs.Pack.{Pack, PackStep}
+use Rattle.codec_payload_buffer.specs.Pack.{Pack, PackStep}
 use Rattle.codec_payload_core.specs.Packets.{Packet, SentPackets}
 use Rattle.codec_payload_core.specs.Sending.{Sample, Payloading, packets_for, rtp_time_at, SendsSample, SendsBeginning, SendsNothing}
 use Rattle.codec_payload_core.specs.Schedule.{run_state, after_send, SendsIt, StopsSending}
-use Rattle.codec_payload_core.specs.Steps.{State}
+use Rattle.codec_payload_buffer.specs.Steps.{State}
 use Rattle.codec_payload_core.proofs.SendLemmas.{Keeps, kept_all, kept_numbered}
 
 pub length-packets_for : (pack : Pack) (sample : Sample) (rtp_time number : ℕ) (payloads : List (List ℕ)) → length (packets_for pack sample rtp_time number payloads) ≡ length payloads

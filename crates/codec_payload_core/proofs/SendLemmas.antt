@@ -7,7 +7,7 @@ use Rattle.std.proofs.Math.Nat.{mod-eq_of_lt}
 use Rattle.codec_payload_core.specs.Packets.{Packet, SentPackets, AreNumbered}
 use Rattle.codec_payload_core.specs.Sending.{Sends, Sample, packet_for, packets_for, is_last}
 use Rattle.codec_payload_base.specs.declared.error.PacketError.{PacketError}
-use Rattle.codec_payload_core.specs.Pack.{Pack}
+use Rattle.codec_payload_buffer.specs.Pack.{Pack}
 
 module _ {S : Type 0} (accepts : S → Packet → Packet → S → Type 0) (sent : S → List Packet) where
   -- of all packets the rest is still to be sent: those before it were, and the sink gained their images

@@ -1,6 +1,6 @@
 -- What a codec owes for each sample.
 use Rattle.std.proofs.Common.{◌≡◌, sym, ap, refl, ℕ, List, [], map, true}
-use Rattle.codec_payload_core.specs.Pack.{Pack}
+use Rattle.codec_payload_buffer.specs.Pack.{Pack}
 use Rattle.codec_payload_core.specs.Sending.{Sample, packets_for}
 use Rattle.codec_payload_core.specs.SentStream.{SentUnit, packets_of, AllLawful}
 use Rattle.codec_payload_core.specs.Units.{canonical_units, is_readable, pack_after, payloads_by, may_split}

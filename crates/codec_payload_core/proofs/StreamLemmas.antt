@@ -3,10 +3,10 @@ use Rattle.std.proofs.Common.{◌≡◌, ◌≢◌, ◌∙◌, sym, ap, refl, su
 use Rattle.std.specs.Prelude.{MatchResult, MatchOption, slice_get}
 use Rattle.std.proofs.Math.Dec.{eqb-suc-zero}
 use Rattle.std.proofs.lemmas.List.{append-nil, map-append}
-use Rattle.codec_payload_base.specs.Payloads.{Appends}
+use Rattle.codec_payload_audio.specs.Payloads.{Appends}
 use Rattle.codec_payload_base.specs.Pieces.{AnswersPieces, ArePieces, joined, pieces_of}
-use Rattle.codec_payload_video.specs.Vp8.{AnswersDescribed, described}
-use Rattle.codec_payload_core.proofs.CaseLemmas.{by_test}
+use Rattle.codec_payload_vp8.specs.Vp8.{AnswersDescribed, described}
+use Rattle.codec_payload_buffer.proofs.CaseLemmas.{by_test}
 use Rattle.codec_payload_core.proofs.Av1Units.{av1_sends}
 use Rattle.codec_payload_core.proofs.OnePacketUnits.{OneOrNone, one_packet, only_whole, one_held, lawful_one, noise_units, tele_units, amr_wb_units}
 use Rattle.codec_payload_core.proofs.SendsUnits.{SendsUnits, no_units}
@@ -17,17 +17,17 @@ use Rattle.codec_payload_base.specs.declared.error.PacketError.TheVariants as fa
 use Rattle.codec_payload_base.specs.declared.interface.CodecExtra.{CodecExtra}
 use Rattle.codec_payload_base.proofs.PieceLemmas.{one_list, no_pieces}
 use Rattle.codec_payload_core.proofs.UnitTimes.{AllOneTime, times_of_sample, times_append}
-use Rattle.codec_payload_core.specs.Depack.{Depack, G711Depack, OpusDepack, ComfortNoiseDepack, TeleDepack, NullDepack, Vp8Depack, Av1Depack, AmrWbDepack, DepackKind, G711Payloads, OpusPayloads, NullPayloads, kind_of_depack, DepackStep, head_in, tail_in}
-use Rattle.codec_payload_core.specs.Held.{Held}
-use Rattle.codec_payload_core.specs.Pack.{Pack, G711Pack, G722Pack, OpusPack, ComfortNoisePack, TelePack, NullPack, Vp8Pack, Av1Pack, AmrWbPack, PackStep}
+use Rattle.codec_payload_buffer.specs.Depack.{Depack, G711Depack, OpusDepack, ComfortNoiseDepack, TeleDepack, NullDepack, Vp8Depack, Av1Depack, AmrWbDepack, DepackKind, G711Payloads, OpusPayloads, NullPayloads, kind_of_depack, DepackStep, head_in, tail_in}
+use Rattle.codec_payload_buffer.specs.Held.{Held}
+use Rattle.codec_payload_buffer.specs.Pack.{Pack, G711Pack, G722Pack, OpusPack, ComfortNoisePack, TelePack, NullPack, Vp8Pack, Av1Pack, AmrWbPack, PackStep}
 use Rattle.codec_payload_core.specs.Packets.{Packet, SentPackets, AreNumbered}
 use Rattle.codec_payload_core.specs.Sending.{Sample, packets_for, rtp_time_at}
 use Rattle.codec_payload_core.specs.Schedule.{payloads_of, RunState, Runs, SendsIt, Answer, packets_sent}
-use Rattle.codec_payload_core.specs.SentStream.{SentUnit, packets_of, StartsWithHead, IsReleaseOf, payloads_held, payloads_sent, IsLawful, AllLawful, AreReadable, units_of_run, units_of_sample, pack_after_sample}
+use Rattle.codec_payload_core.specs.SentStream.{SentUnit, packets_of, IsReleaseOf, payloads_sent, IsLawful, AllLawful, AreReadable, units_of_run, units_of_sample, pack_after_sample}
 use Rattle.codec_payload_core.specs.declared.schedule.Sent.{Sent}
 use Rattle.codec_payload_core.specs.declared.schedule.Step.{Step}
 use Rattle.codec_payload_core.specs.declared.schedule.Step.TheVariants as steps
-use Rattle.codec_payload_core.specs.Steps.{Unpacked, Unpacks, nothing_unpacked}
+use Rattle.codec_payload_buffer.specs.Steps.{Unpacked, Unpacks, nothing_unpacked}
 use Rattle.codec_payload_core.specs.Units.{canonical_units, is_readable, pack_after, payloads_by, may_split, each_whole, is_empty}
 
 -- payloads of this kind are units, whole, and carry themselves

@@ -5,14 +5,14 @@ use Rattle.std.proofs.lemmas.Bool.{cases_lt}
 use Rattle.std.proofs.lemmas.List.{drop-append-le, take-append-drop, length-append, length-take-le}
 use Rattle.std.proofs.Math.Seq.{drop-append-add}
 use Rattle.codec_payload_base.specs.Time.{Time}
-use Rattle.codec_payload_core.proofs.FrameParts.{IsRun, BeginsWithHead}
-use Rattle.codec_payload_core.specs.Depack.{DepackKind, head_in, tail_in}
+use Rattle.codec_payload_buffer.proofs.FrameParts.{IsRun, BeginsWithHead}
+use Rattle.codec_payload_buffer.specs.Depack.{DepackKind, head_in, tail_in}
 use Rattle.codec_payload_core.specs.Headline.{IsPushOf, ArePushesOf}
-use Rattle.codec_payload_core.specs.Held.{Held}
+use Rattle.codec_payload_buffer.specs.Held.{Held}
 use Rattle.codec_payload_core.specs.Packets.{Packet}
 use Rattle.codec_payload_core.specs.SentStream.{SentUnit, packets_of, EndsWithTail, StartsWithHead, payloads_held, payloads_sent, AllLawful}
-use Rattle.codec_payload_core.specs.Steps.{metas_of}
-use Rattle.codec_payload_core.specs.declared.buffer.unit.RtpMeta.{RtpMeta}
+use Rattle.codec_payload_buffer.specs.Steps.{metas_of}
+use Rattle.codec_payload_buffer.specs.declared.buffer.unit.RtpMeta.{RtpMeta}
 use Rattle.codec_payload_core.specs.declared.schedule.Step.{Step}
 
 -- a packet as a buffer over a depacketizer of that kind holds it

@@ -1,6 +1,6 @@
 -- All packets of a unit have one time.
 use Rattle.std.proofs.Common.{◌≡◌, ℕ, ◌+◌, ◌%◌, ◌^◌, List, [], ◌∷◌, ◌++◌, refl, sym, subst}
-use Rattle.codec_payload_core.specs.Pack.{Pack}
+use Rattle.codec_payload_buffer.specs.Pack.{Pack}
 use Rattle.codec_payload_core.specs.Packets.{Packet}
 use Rattle.codec_payload_core.specs.Sending.{Sample, packets_for}
 use Rattle.codec_payload_core.specs.SentStream.{SentUnit, packets_of}

@@ -6,15 +6,15 @@ use Rattle.codec_payload_base.specs.Pieces.{joined, AreOfSize}
 use Rattle.codec_payload_base.specs.declared.error.PacketError.{PacketError}
 use Rattle.codec_payload_base.specs.declared.error.PacketError.TheVariants as faults
 use Rattle.codec_payload_base.specs.declared.interface.CodecExtra.{CodecExtra}
-use Rattle.codec_payload_video.specs.Vp8.{descriptor, described, Vp8Step, Vp8Rest}
-use Rattle.codec_payload_video.specs.declared.vp8.Vp8Depacketizer.{Vp8Depacketizer}
-use Rattle.codec_payload_core.specs.Depack.{Depack, G711Depack, OpusDepack, ComfortNoiseDepack, TeleDepack, NullDepack, Vp8Depack, Av1Depack, AmrWbDepack, Vp8Payloads, kind_of_depack, DepackStep}
-use Rattle.codec_payload_core.specs.Held.{Held}
-use Rattle.codec_payload_core.specs.Pack.{Vp8Pack}
+use Rattle.codec_payload_vp8.specs.Vp8.{descriptor, described, Vp8Step, Vp8Rest}
+use Rattle.codec_payload_vp8.specs.declared.vp8.Vp8Depacketizer.{Vp8Depacketizer}
+use Rattle.codec_payload_buffer.specs.Depack.{Depack, G711Depack, OpusDepack, ComfortNoiseDepack, TeleDepack, NullDepack, Vp8Depack, Av1Depack, AmrWbDepack, Vp8Payloads, kind_of_depack, DepackStep}
+use Rattle.codec_payload_buffer.specs.Held.{Held}
+use Rattle.codec_payload_buffer.specs.Pack.{Vp8Pack}
 use Rattle.codec_payload_core.specs.Packets.{Packet}
 use Rattle.codec_payload_core.specs.Sending.{Sample, packets_for}
 use Rattle.codec_payload_core.specs.SentStream.{SentUnit, EndsWithTail, StartsWithHead, IsReleaseOf, payloads_held, payloads_sent, IsLawful}
-use Rattle.codec_payload_core.specs.Steps.{Unpacked, Unpacks, nothing_unpacked}
+use Rattle.codec_payload_buffer.specs.Steps.{Unpacked, Unpacks, nothing_unpacked}
 
 -- no piece is empty
 abbrev pub NoneEmpty : List (List ℕ) → Type 0

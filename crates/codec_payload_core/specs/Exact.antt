@@ -2,7 +2,7 @@
 use Rattle.std.specs.Prelude.{◌≡◌, ◌≢◌, ℕ, ◌+◌, ◌<◌, ◌≤◌, List, [], ◌∷◌, Some, None, Ok, Contains, length, slice_get}
 use Rattle.codec_payload_base.specs.Pieces.{joined}
 use Rattle.codec_payload_core.specs.Headline.{ArePushesOf, ReleasesInOrder}
-use Rattle.codec_payload_core.specs.Release.{Release}
+use Rattle.codec_payload_buffer.specs.Release.{Release}
 use Rattle.codec_payload_core.specs.Schedule.{Answer, RunState}
 use Rattle.codec_payload_core.specs.Sending.{Sample}
 use Rattle.codec_payload_core.specs.SentStream.{SentUnit}

@@ -1,13 +1,13 @@
 -- What a buffer releases of a run, whatever is lost, repeated and reordered.
 use Rattle.std.specs.Prelude.{◌≡◌, ℕ, ◌+◌, ◌≤◌, Bool, List, [], ◌∷◌, ◌++◌, Some, None, Ok, Err, length, map, take, slice_get}
-use Rattle.codec_payload_core.specs.Depack.{kind_of_depack}
+use Rattle.codec_payload_buffer.specs.Depack.{kind_of_depack}
 use Rattle.codec_payload_core.specs.Packets.{Packet}
-use Rattle.codec_payload_core.specs.Release.{Release}
+use Rattle.codec_payload_buffer.specs.Release.{Release}
 use Rattle.codec_payload_core.specs.Schedule.{Answer, RunState, meta_of_push}
 use Rattle.codec_payload_core.specs.Sending.{Sample}
 use Rattle.codec_payload_core.specs.SentStream.{SentUnit, packets_of, IsReleaseOf, AllLawful, units_of_run}
 use Rattle.codec_payload_core.specs.Units.{payloads_by, may_split}
-use Rattle.codec_payload_core.specs.declared.buffer.unit.RtpMeta.{RtpMeta}
+use Rattle.codec_payload_buffer.specs.declared.buffer.unit.RtpMeta.{RtpMeta}
 use Rattle.codec_payload_core.specs.declared.schedule.Step.{Step}
 use Rattle.codec_payload_core.specs.declared.schedule.Step.TheVariants as steps
 

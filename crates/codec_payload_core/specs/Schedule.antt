@@ -2,12 +2,12 @@
 use Rattle.std.specs.Prelude.{false, ◌≡◌, ◌≢◌, ℕ, ◌+◌, ◌%◌, ◌^◌, ◌⊎◌, List, [], ◌∷◌, ◌++◌, Option, Some, None, Result, Ok, Err, MatchOption, length, slice_get, refl}
 use Rattle.codec_payload_base.specs.declared.error.PacketError.{PacketError}
 use Rattle.codec_payload_base.specs.declared.error.PacketError.TheVariants as faults
-use Rattle.codec_payload_core.specs.Pack.{Pack, PackStep}
+use Rattle.codec_payload_buffer.specs.Pack.{Pack, PackStep}
 use Rattle.codec_payload_core.specs.Packets.{Packet, SentPackets, AreNumbered}
 use Rattle.codec_payload_core.specs.Sending.{Sample, Payloading, packets_for, rtp_time_at}
-use Rattle.codec_payload_core.specs.Release.{Release}
-use Rattle.codec_payload_core.specs.Steps.{State, arrived, pushed, Pops}
-use Rattle.codec_payload_core.specs.declared.buffer.unit.RtpMeta.{RtpMeta}
+use Rattle.codec_payload_buffer.specs.Release.{Release}
+use Rattle.codec_payload_buffer.specs.Steps.{State, arrived, pushed, Pops}
+use Rattle.codec_payload_buffer.specs.declared.buffer.unit.RtpMeta.{RtpMeta}
 use Rattle.codec_payload_core.specs.declared.schedule.Sent.{Sent}
 use Rattle.codec_payload_core.specs.declared.schedule.Step.{Step}
 use Rattle.codec_payload_core.specs.declared.schedule.Step.TheVariants as steps

@@ -4,7 +4,7 @@ use Rattle.codec_payload_base.specs.Time.{Time, rebased}
 use Rattle.codec_payload_base.specs.declared.error.PacketError.{PacketError}
 use Rattle.codec_payload_base.specs.declared.wire.ExtensionValues.{ExtensionValues}
 use Rattle.codec_payload_base.specs.declared.wire.ToPayload.{ToPayload}
-use Rattle.codec_payload_core.specs.Pack.{Pack, PackStep, marker_of, talkspurt_of, nackable_of}
+use Rattle.codec_payload_buffer.specs.Pack.{Pack, PackStep, marker_of, talkspurt_of, nackable_of}
 use Rattle.codec_payload_core.specs.Packets.{Packet}
 
 -- a sample, without where its bytes lie

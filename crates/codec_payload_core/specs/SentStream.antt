@@ -4,12 +4,12 @@ use Rattle.std.specs.List.{flat_map}
 use Rattle.codec_payload_base.specs.Pieces.{joined}
 use Rattle.codec_payload_base.specs.declared.error.PacketError.{PacketError}
 use Rattle.codec_payload_base.specs.declared.error.PacketError.TheVariants as faults
-use Rattle.codec_payload_core.specs.Depack.{Depack, DepackKind, kind_of_depack, head_in, tail_in}
-use Rattle.codec_payload_core.specs.Held.{Held}
-use Rattle.codec_payload_core.specs.Pack.{Pack}
+use Rattle.codec_payload_buffer.specs.Depack.{Depack, DepackKind, kind_of_depack, head_in, tail_in}
+use Rattle.codec_payload_buffer.specs.Held.{Held}
+use Rattle.codec_payload_buffer.specs.Pack.{Pack}
 use Rattle.codec_payload_core.specs.Packets.{Packet}
 use Rattle.codec_payload_core.specs.Sending.{Sample}
-use Rattle.codec_payload_core.specs.Steps.{Unpacked, Unpacks, nothing_unpacked}
+use Rattle.codec_payload_buffer.specs.Steps.{Unpacked, Unpacks, nothing_unpacked}
 use Rattle.codec_payload_core.specs.Units.{canonical_units, is_readable, pack_after}
 use Rattle.codec_payload_core.specs.declared.schedule.Step.{Step}
 use Rattle.codec_payload_core.specs.declared.schedule.Step.TheVariants as steps

@@ -1,13 +1,13 @@
 -- The units of a frame: what a receiver is to be given of it.
 use Rattle.std.specs.Prelude.{◌≡◌, ℕ, ◌||◌, Bool, true, false, List, [], ◌∷◌, Option, Some, None, option_map, is_some, ◌==◌, nat_le, nat_lt, if◌then◌else◌, length, map, take, refl}
-use Rattle.codec_payload_base.specs.AmrWb.{Frame, amr_wb_is_skipped, amr_wb_refusal, canonical as canonical_frame, stored}
+use Rattle.codec_payload_audio.specs.AmrWb.{Frame, amr_wb_is_skipped, amr_wb_refusal, canonical as canonical_frame, stored}
 use Rattle.codec_payload_base.specs.Bits.{bytes_of}
 use Rattle.codec_payload_base.specs.Faults.{fault_number}
 use Rattle.codec_payload_base.specs.Pieces.{pieces_of}
 use Rattle.codec_payload_base.specs.TelephoneReport.{are_reports}
-use Rattle.codec_payload_video.specs.Av1Obu.{Obu, canonical, frame_kept}
-use Rattle.codec_payload_core.specs.Depack.{DepackKind, G711Payloads, OpusPayloads, NullPayloads, Vp8Payloads, ComfortNoisePayloads, TelePayloads, Av1Payloads, AmrWbPayloads}
-use Rattle.codec_payload_core.specs.Pack.{Pack, G711Pack, G722Pack, OpusPack, NullPack, Vp8Pack, ComfortNoisePack, TelePack, Av1Pack, AmrWbPack}
+use Rattle.codec_payload_av1.specs.Av1Obu.{Obu, canonical, frame_kept}
+use Rattle.codec_payload_buffer.specs.Depack.{DepackKind, G711Payloads, OpusPayloads, NullPayloads, Vp8Payloads, ComfortNoisePayloads, TelePayloads, Av1Payloads, AmrWbPayloads}
+use Rattle.codec_payload_buffer.specs.Pack.{Pack, G711Pack, G722Pack, OpusPack, NullPack, Vp8Pack, ComfortNoisePack, TelePack, Av1Pack, AmrWbPack}
 
 abbrev pub is_empty : List ℕ → Bool
 is_empty [] = true

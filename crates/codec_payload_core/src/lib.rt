@@ -1,12 +1,13 @@
 //! RTP payloads of media frames: cut, sent, held and put together again. A user names this crate alone.
 #![tactic(auto)]
 
-pub use codec_payload_base::{amr_wb, bits, error, interface, plain, tele, wire};
+pub use codec_payload_audio::{amr_wb, plain, tele};
+pub use codec_payload_av1::av1;
+pub use codec_payload_base::{bits, error, interface, wire};
+pub use codec_payload_buffer::{buffer, codec};
 pub use codec_payload_red::red;
-pub use codec_payload_video::{av1, vp8};
+pub use codec_payload_vp8::vp8;
 
-pub mod buffer;
-pub mod codec;
 pub mod payload;
 pub mod schedule;
 #[cfg(test)]

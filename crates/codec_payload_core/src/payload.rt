@@ -3,7 +3,7 @@
 ghost use Rattle.std.specs.Prelude.{◌≡◌, ◌∷◌, ◌++◌, ◌+◌, ◌%◌, ◌^◌, ◌≤◌, ◌⊎◌, ℕ, List, [], Bool, Option, map, option_map, vec_len, IsOk, OnOk, OnErr, IfErr, Ok, Err};
 ghost use Rattle.std.specs.Option.{option_copied};
 ghost use Rattle.codec_payload_base.specs.declared.error.PacketError.{PacketError as Fault};
-ghost use Rattle.codec_payload_core.specs.Pack.{pack_of, pack_for, configured};
+ghost use Rattle.codec_payload_buffer.specs.Pack.{pack_of, pack_for, configured};
 ghost use Rattle.codec_payload_core.specs.Packets.{Packet, packet_of, packets_in, last_payload};
 ghost use Rattle.codec_payload_core.specs.Sending.{sample_of, packet_for, SendsSample, SendsBeginning, SendsNothing};
 
@@ -160,7 +160,7 @@ impl Model for Payloader {
 
     ghost Value = { Payloading };
 
-    ghost use Rattle.codec_payload_core.specs.Pack.{pack_of};
+    ghost use Rattle.codec_payload_buffer.specs.Pack.{pack_of};
 
     ghost view = { λ p. record { pack = pack_of p.pack; clock_rate = p.clock_rate } };
 }

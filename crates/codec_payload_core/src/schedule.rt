@@ -5,11 +5,11 @@ ghost use Rattle.codec_payload_base.specs.declared.error.PacketError.TheVariants
 ghost use Rattle.codec_payload_core.specs.Exact.{ReleasesUnits};
 ghost use Rattle.codec_payload_core.specs.Headline.{IsUnused, ReleasesInOrder};
 ghost use Rattle.codec_payload_core.specs.Packets.{packet_of};
-ghost use Rattle.codec_payload_core.specs.Release.{Release};
+ghost use Rattle.codec_payload_buffer.specs.Release.{Release};
 ghost use Rattle.codec_payload_core.specs.Schedule.{run_state, SendsIt, StopsSending, DoesStep, StopsAt, Runs, Stops, Answer, after_push};
 ghost use Rattle.codec_payload_core.specs.Sending.{Sample, sample_of};
 ghost use Rattle.codec_payload_core.specs.SentStream.{AreReadable};
-ghost use Rattle.codec_payload_core.specs.Steps.{State, Pops};
+ghost use Rattle.codec_payload_buffer.specs.Steps.{State, Pops};
 ghost use Rattle.codec_payload_core.specs.declared.schedule.Sent.{Sent as Entry};
 
 use crate::buffer::{Depacketized, DepacketizingBuffer, RtpMeta};

@@ -5,7 +5,7 @@ use Rattle.std.proofs.lemmas.Option.{slice_get-map, slice_get_past, slice_get_re
 use Rattle.codec_payload_core.specs.Packets.{packet_of}
 use Rattle.codec_payload_core.specs.Schedule.{after_push, run_state}
 use Rattle.codec_payload_core.specs.Sending.{sample_of}
-use Rattle.codec_payload_core.specs.Steps.{State}
+use Rattle.codec_payload_buffer.specs.Steps.{State}
 use Rattle.codec_payload_core.proofs.ScheduleLemmas.{on_err, on_ok}
 use Rattle.codec_payload_core.proofs.schedule.do_step.Goals as goal
 

@@ -1,7 +1,7 @@
 use Rattle.std.proofs.Common.{inr, rules, ◌≡◌, ◌∷◌, ◌-◌, [], length, map, ap, ◌∙◌, ◌%◌, ◌^◌}
 use Rattle.std.proofs.lemmas.List.{nil_from_length}
 use Rattle.std.proofs.lemmas.Result.{err_from_is_err_and}
-use Rattle.codec_payload_core.specs.Pack.{pack_of}
+use Rattle.codec_payload_buffer.specs.Pack.{pack_of}
 use Rattle.codec_payload_core.specs.Sending.{sample_of, rtp_time_at}
 use Rattle.std.specs.Vec.Iter.{into_iter_items}
 use Rattle.codec_payload_core.proofs.SendLemmas.{next_so_far, all_so_far, refused_so_far, SentSoFar}

@@ -1,0 +1,131 @@
+-- Lemmas on bits copied from a reader.
+use Rattle.std.proofs.Common.{◌≡◌, ℕ, ◌+◌, ◌-◌, ◌*◌, ◌%◌, ◌^◌, ◌<◌, ◌≤◌, List, [], ◌∷◌, ◌++◌, length, take, drop, replicate, refl, sym, ◌∙◌, ap, arith, append_assoc, append-nil, length-append, length-drop, Some}
+use Rattle.std.proofs.Math.Nat.{add-zero}
+use Rattle.std.proofs.Math.Seq.{take-append-add, take-add}
+use Rattle.std.proofs.lemmas.Nat.{pow_pos, shl_whole}
+use Rattle.std.proofs.lemmas.List.{take_at, drop-drop, length-take-le}
+use Rattle.codec_payload_base.specs.Bits.{Reader, bits, bits_of, left, moved, ReadsBits}
+use Rattle.codec_payload_base.proofs.BitLemmas.{bits-cat, bits-zero, length-bits}
+use Rattle.codec_payload_audio.specs.AmrWb.{gap, padded}
+use Rattle.codec_payload_audio.specs.AmrWbReceived.{Extends, IsCopyFault}
+use Rattle.codec_payload_base.specs.declared.error.PacketError.{PacketError}
+use Rattle.codec_payload_audio.proofs.AmrWbCopyLemmas.{bits_of-push}
+
+-- nothing appended, one byte appended, and one after another
+pub extends_same : (xs : List ℕ) → Extends xs xs
+extends_same xs = ([], sym (append-nil xs))
+
+pub extends_push : (old xs : List ℕ) (b : ℕ) → Extends old xs → Extends old (xs ++ b ∷ [])
+extends_push old xs b e = (e.0 ++ b ∷ [], ap (λ t. t ++ b ∷ []) e.1 ∙ append_assoc old e.0 (b ∷ []))
+
+pub extends_on : (old mid new : List ℕ) → Extends old mid → Extends mid new → Extends old new
+extends_on old mid new first second = (first.0 ++ second.0, second.1 ∙ ap (λ t. t ++ second.0) first.1 ∙ append_assoc old first.0 second.0)
+
+-- what i bytes leave: the bits written and the bits left are those from before
+pub record Copied (old now : Reader) (out0 out : List ℕ) (i : ℕ) : Type 0 where
+  pub place : now ≡ moved old (8 * i)
+  pub within : 8 * i ≤ length (left old)
+  pub kept : bits_of out ++ left now ≡ bits_of out0 ++ left old
+  pub extends : Extends out0 out
+
+length_moved : (r : Reader) (n : ℕ) → length (left (moved r n)) ≡ length (left r) - n
+length_moved r n = ap length (sym (drop-drop n r.place (bits_of r.bytes))) ∙ length-drop n (left r)
+
+-- bits read were there
+read_within : (old now next : Reader) (m n v : ℕ) → now ≡ moved old m → m ≤ length (left old) → ReadsBits n now next (Some v) → m + n ≤ length (left old)
+read_within old now next m n v place within r =
+    let there : length (left (moved old m)) ≡ n + length (left next) = sym (ap (λ t. length (left t)) place) ∙ ap length r.1 ∙ length-append (bits n v) (left next) ∙ ap (λ t. t + length (left next)) (length-bits n v) in
+    omega (arith, length_moved old m, there)
+
+pub copied_none : (r : Reader) (out : List ℕ) → Copied r r out out 0
+copied_none r out = record { place = ap (λ p. record r { place = p }) (sym (add-zero r.place)); within = omega arith; kept = refl; extends = extends_same out }
+
+pub copied_more : (old now next : Reader) (out0 out : List ℕ) (i b : ℕ) → Copied old now out0 out i → ReadsBits 8 now next (Some b) → Copied old next out0 (out ++ b ∷ []) (i + 1)
+copied_more old now next out0 out i b c r = record {
+  place = r.2 ∙ ap (λ t. moved t 8) c.place ∙ ap (λ p. record old { place = p }) (omega arith);
+  within = omega (arith, read_within old now next (8 * i) 8 b c.place c.within r);
+  kept = ap (λ t. t ++ left next) (bits_of-push out b) ∙ append_assoc (bits_of out) (bits 8 b) (left next) ∙ ap (λ t. bits_of out ++ t) (sym r.1) ∙ c.kept;
+  extends = extends_push out0 out b c.extends;
+}
+
+-- equal lists have equal fronts
+front : (a b r l : List ℕ) (n : ℕ) → a ++ r ≡ b ++ l → length a ≡ length b + n → a ≡ b ++ take n l
+front a b r l n e size = sym (take_at a r (length b + n) size) ∙ ap (take (length b + n)) e ∙ take-append-add b l n
+
+padded_is : (xs : List ℕ) (n k : ℕ) → length xs ≡ n → gap n ≡ k → padded xs ≡ xs ++ replicate k 0
+padded_is xs n k size e = ap (λ t. xs ++ replicate t 0) (ap gap size ∙ e)
+
+-- the bytes copied are the bits that were next
+pub copied_all : (old now : Reader) (out0 out : List ℕ) (i : ℕ) → Copied old now out0 out i → bits_of out ≡ bits_of out0 ++ take (8 * i) (left old)
+copied_all old now out0 out i c =
+    let rest : length (left now) ≡ length (left old) - 8 * i = ap (λ t. length (left t)) c.place ∙ length_moved old (8 * i) in
+    let total = ap length c.kept in
+    let size : length (bits_of out) ≡ length (bits_of out0) + 8 * i = omega (arith, c.within, total, length-append (bits_of out) (left now), length-append (bits_of out0) (left old)) in
+    front (bits_of out) (bits_of out0) (left now) (left old) (8 * i) c.kept size
+
+pub copied_short : (old now : Reader) (out0 out : List ℕ) (i n : ℕ) → Copied old now out0 out i → i < n → length (left now) < 8 → length (left old) < 8 * n
+copied_short old now out0 out i n c more short =
+    let rest : length (left now) ≡ length (left old) - 8 * i = ap (λ t. length (left t)) c.place ∙ length_moved old (8 * i) in
+    omega (arith, c.within, rest)
+
+gap_whole : (m n : ℕ) → m % 8 ≡ 0 → gap (m + n) ≡ gap n
+gap_whole m n h = omega arith
+
+-- whole bytes before the bits that are padded
+pub padded-bytes : (xs ys : List ℕ) → length xs % 8 ≡ 0 → padded (xs ++ ys) ≡ xs ++ padded ys
+padded-bytes xs ys whole =
+    let same : gap (length (xs ++ ys)) ≡ gap (length ys) = ap gap (length-append xs ys) ∙ gap_whole (length xs) (length ys) whole in
+    ap (λ t. (xs ++ ys) ++ replicate t 0) same ∙ append_assoc xs ys (replicate (gap (length ys)) 0)
+
+-- whole bytes, and then fewer bits than a byte
+pub copied_both : (old now : Reader) (out0 mid out : List ℕ) (k r n : ℕ) → n ≡ 8 * k + r → now ≡ moved old (8 * k) → 8 * k ≤ length (left old) → bits_of mid ≡ bits_of out0 ++ take (8 * k) (left old) → bits_of out ≡ bits_of mid ++ padded (take r (left now)) → bits_of out ≡ bits_of out0 ++ padded (take n (left old))
+copied_both old now out0 mid out k r n e place within first second =
+    let rest : left now ≡ drop (8 * k) (left old) = ap left place ∙ sym (drop-drop (8 * k) old.place (bits_of old.bytes)) in
+    let whole : length (take (8 * k) (left old)) % 8 ≡ 0 = omega (arith, length-take-le (8 * k) (left old) within) in
+    second
+    ∙ ap (λ t. t ++ padded (take r (left now))) first
+    ∙ append_assoc (bits_of out0) (take (8 * k) (left old)) (padded (take r (left now)))
+    ∙ ap (λ t. bits_of out0 ++ t)
+    (ap (λ t. take (8 * k) (left old) ++ padded (take r t)) rest
+    ∙ sym (padded-bytes (take (8 * k) (left old)) (take r (drop (8 * k) (left old))) whole)
+    ∙ ap padded (sym (take-add (8 * k) r (left old)) ∙ ap (λ t. take t (left old)) (sym e)))
+
+pub place_both : (old now new : Reader) (k r n : ℕ) → n ≡ 8 * k + r → now ≡ moved old (8 * k) → 8 * k ≤ length (left old) → r ≤ length (left now) → new ≡ moved now r → (n ≤ length (left old)) × (new ≡ moved old n)
+place_both old now new k r n e first within there second =
+    let rest : length (left now) ≡ length (left old) - 8 * k = ap (λ t. length (left t)) first ∙ length_moved old (8 * k) in
+    (omega (arith, rest), second ∙ ap (λ t. moved t r) first ∙ ap (λ p. record old { place = p }) (omega arith))
+
+pub short_both : (old now : Reader) (k r n : ℕ) (fault : PacketError) → n ≡ 8 * k + r → now ≡ moved old (8 * k) → 8 * k ≤ length (left old) → IsCopyFault (left now) r fault → IsCopyFault (left old) n fault
+short_both old now k r n fault e first within short = λ other.
+    let rest : length (left now) ≡ length (left old) - 8 * k = ap (λ t. length (left t)) first ∙ length_moved old (8 * k) in
+    let both = short other in
+    (both.0, omega (arith, rest, both.1))
+
+pub short_front : (bs : List ℕ) (m n : ℕ) (fault : PacketError) → m ≤ n → IsCopyFault bs m fault → IsCopyFault bs n fault
+short_front bs m n fault less short = λ other. let both = short other in (both.0, omega (arith, both.1))
+
+tail_byte : (r t : ℕ) → r < 8 → t < 2 ^ r → bits 8 (t * 2 ^ (8 - r) % 256) ≡ bits r t ++ replicate (8 - r) 0
+tail_byte r t few small =
+    let width : 8 - r + r ≡ 8 = omega arith in
+    ap (bits 8) (shl_whole t r (8 - r) 8 small (omega arith) ∙ sym (add-zero (t * 2 ^ (8 - r))))
+    ∙ ap (λ w. bits w (t * 2 ^ (8 - r) + 0)) (sym width)
+    ∙ bits-cat (8 - r) r t 0 (pow_pos (8 - r))
+    ∙ ap (λ z. bits r t ++ z) (bits-zero (8 - r))
+
+-- fewer bits than a byte, and zeros behind them
+pub copied_rest : (old new : Reader) (out : List ℕ) (r t : ℕ) → 0 < r → r < 8 → ReadsBits r old new (Some t) → bits_of (out ++ (t * 2 ^ (8 - r) % 256) ∷ []) ≡ bits_of out ++ padded (take r (left old))
+copied_rest old new out r t some few reads =
+    let taken : take r (left old) ≡ bits r t = ap (take r) reads.1 ∙ take_at (bits r t) (left new) r (length-bits r t) in
+    bits_of-push out (t * 2 ^ (8 - r) % 256)
+    ∙ ap (λ z. bits_of out ++ z) (tail_byte r t few reads.0)
+    ∙ ap (λ z. bits_of out ++ z) (sym (padded_is (bits r t) r (8 - r) (length-bits r t) (omega arith)) ∙ ap padded (sym taken))
+
+pub rest_place : (old new : Reader) (r t : ℕ) → ReadsBits r old new (Some t) → (r ≤ length (left old)) × (new ≡ moved old r)
+rest_place old new r t reads = (omega (arith, ap length reads.1, length-append (bits r t) (left new), length-bits r t), reads.2)
+
+-- no bits are nothing
+pub copied_nothing : (out bs : List ℕ) (n : ℕ) → n ≡ 0 → bits_of out ≡ bits_of out ++ padded (take n bs)
+copied_nothing out bs n none = sym (ap (λ t. bits_of out ++ padded (take t bs)) none ∙ append-nil (bits_of out))
+
+pub place_same : (old : Reader) (n : ℕ) → n ≡ 0 → old ≡ moved old n
+place_same old n none = ap (λ p. record old { place = p }) (sym (add-zero old.place) ∙ ap (λ t. old.place + t) (sym none))

@@ -1,0 +1,113 @@
+-- Received AMR-WB payloads, read in order.
+use Rattle.std.specs.Prelude.{◌≡◌, ◌≢◌, ℕ, ◌+◌, ◌*◌, ◌/◌, ◌%◌, ◌<◌, ◌==◌, nat_lt, ⊤, Bool, true, false, if◌then◌else◌, List, [], ◌∷◌, ◌++◌, length, take, drop, map, Option, Some, None, Result, Ok, Err, refl}
+use Rattle.codec_payload_base.specs.Bits.{bits, bits_of, bytes_of}
+use Rattle.codec_payload_base.specs.declared.error.PacketError.{PacketError}
+use Rattle.codec_payload_base.specs.declared.error.PacketError.TheVariants as faults
+use Rattle.codec_payload_base.specs.declared.interface.CodecExtra.{CodecExtra}
+use Rattle.codec_payload_audio.specs.AmrWb.{Frame, speech_size, canonical, payload, gap}
+
+-- an entry of the table of contents: the type and the quality
+pub record Entry : Type 0 where
+  pub kind : ℕ
+  pub quality : ℕ
+
+-- the entries before those that were read, or the fault that came
+abbrev pub with_front : List Entry → Result (List Entry × List ℕ) PacketError → Result (List Entry × List ℕ) PacketError
+with_front es (Ok x) = Ok (es ++ x.0, x.1)
+with_front es (Err e) = Err e
+
+abbrev pub entry_from : ℕ → ℕ → ℕ → ℕ → ℕ → Entry
+entry_from a b c d q = record { kind = 8 * a + 4 * b + 2 * c + d; quality = q }
+
+-- the entry alone where its first bit is 0, else it and those behind it
+abbrev pub entry_then : ℕ → Entry → List ℕ → Result (List Entry × List ℕ) PacketError → Result (List Entry × List ℕ) PacketError
+entry_then f e rest more = if f == 0 then Ok (e ∷ [], rest) else with_front (e ∷ []) more
+
+-- the entries up to the first whose first bit is 0, and the bits behind them; octet-aligned, two bits behind each are
+-- skipped
+unfoldable pub entries_at : Bool → List ℕ → Result (List Entry × List ℕ) PacketError
+entries_at false (f ∷ a ∷ b ∷ c ∷ d ∷ q ∷ rest) = entry_then f (entry_from a b c d q) rest (entries_at false rest)
+entries_at true (f ∷ a ∷ b ∷ c ∷ d ∷ q ∷ r ∷ s ∷ rest) = entry_then f (entry_from a b c d q) rest (entries_at true rest)
+entries_at octet bs = Err faults.ErrShortPacket
+
+abbrev pub with_frame : List ℕ → Result (List ℕ × List ℕ) PacketError → Result (List ℕ × List ℕ) PacketError
+with_frame frame (Ok x) = Ok (frame ++ x.0, x.1)
+with_frame frame (Err e) = Err e
+
+-- what one frame adds, and the bits behind it; octet-aligned, its rest up to a byte is skipped
+abbrev pub frame_at : Bool → Entry → List ℕ → Option ℕ → Result (List ℕ × List ℕ) PacketError
+frame_at octet e bs None = Err faults.ErrAmrWbCorruptedPacket
+frame_at octet e bs (Some n) =
+    if nat_lt (length bs) n then Err faults.ErrShortPacket else Ok (canonical (record { kind = e.kind; quality = e.quality; speech = take n bs }), drop (if octet then n + gap n else n) bs)
+
+abbrev pub then_frames : Result (List ℕ × List ℕ) PacketError → (List ℕ → Result (List ℕ × List ℕ) PacketError) → Result (List ℕ × List ℕ) PacketError
+then_frames (Err e) more = Err e
+then_frames (Ok x) more = with_frame x.0 (more x.1)
+
+-- the canonical form of each frame, one after another, and the bits behind them
+unfoldable pub frames_at : Bool → List Entry → List ℕ → Result (List ℕ × List ℕ) PacketError
+frames_at octet [] bs = Ok ([], bs)
+frames_at octet (e ∷ es) bs = then_frames (frame_at octet e bs (speech_size e.kind)) (λ rest. frames_at octet es rest)
+
+-- fewer than 8 bits may remain
+abbrev pub whole : Result (List ℕ × List ℕ) PacketError → Result (List ℕ) PacketError
+whole (Err e) = Err e
+whole (Ok x) = if nat_lt (length x.1) 8 then Ok x.0 else Err faults.ErrAmrWbCorruptedPacket
+
+abbrev pub behind_entries : Bool → Result (List Entry × List ℕ) PacketError → Result (List ℕ) PacketError
+behind_entries octet (Err e) = Err e
+behind_entries octet (Ok x) = whole (frames_at octet x.0 x.1)
+
+-- what the bits of a payload carry, or their fault; no bits carry nothing
+unfoldable pub received : Bool → List ℕ → Result (List ℕ) PacketError
+received octet [] = Ok []
+received octet (b ∷ bs) = behind_entries octet (entries_at octet (drop (if octet then 8 else 4) (b ∷ bs)))
+
+-- the entry of a number of six bits
+abbrev pub entry_of : ℕ → Entry
+entry_of n = record { kind = n / 2 % 16; quality = n % 2 }
+
+-- any fault but want of memory is the one that is read
+abbrev pub FailsAs : {X : Type 0} → PacketError → Result X PacketError → Type 0
+FailsAs fault r = fault ≢ faults.OutOfMemory → r ≡ Err fault
+
+-- what the read of an entry says of the entries
+abbrev pub ReadsEntry : Bool → List ℕ → List ℕ → Option ℕ → Type 0
+ReadsEntry octet old new None = entries_at octet old ≡ Err faults.ErrShortPacket
+ReadsEntry octet old new (Some e) = (e < 64) × (entries_at octet old ≡ entry_then (e / 32) (entry_of e) new (entries_at octet new)) × (length new < length old)
+
+-- what the read of all entries says
+abbrev pub ReadsEntries : Bool → List ℕ → List ℕ → Result (List ℕ) PacketError → Type 0
+ReadsEntries octet old new (Ok es) = entries_at octet old ≡ Ok (map entry_of es, new)
+ReadsEntries octet old new (Err e) = FailsAs e (entries_at octet old)
+
+-- something may have been appended
+abbrev pub Extends : List ℕ → List ℕ → Type 0
+Extends old new = (more : List ℕ) × (new ≡ old ++ more)
+
+-- out has gained what was read
+abbrev pub Gains : List ℕ → List ℕ → List ℕ → Result (List ℕ × List ℕ) PacketError → Type 0
+Gains old new rest (Ok x) = (bits_of new ≡ bits_of old ++ x.0) × (rest ≡ x.1)
+Gains old new rest (Err e) = ⊥
+
+-- missing bits, or no memory
+abbrev pub IsCopyFault : List ℕ → ℕ → PacketError → Type 0
+IsCopyFault bs count fault = fault ≢ faults.OutOfMemory → (fault ≡ faults.ErrShortPacket) × (length bs < count)
+
+-- one payload: the bytes and the extra before, the answer, and both afterwards. The frames that the payload's bits carry
+-- are appended as bytes; a fault changes nothing, and is the one that is read, or want of memory
+abbrev pub AmrWbStep : Bool → List ℕ → List ℕ → CodecExtra → Result ⊤ PacketError → List ℕ → CodecExtra → Type 0
+AmrWbStep octet payload out extra (Ok _) out' extra' =
+    (frames : List ℕ) × (received octet (bits_of payload) ≡ Ok frames) × (out' ≡ out ++ bytes_of frames) × (extra' ≡ extra)
+AmrWbStep octet payload out extra (Err fault) out' extra' = FailsAs fault (received octet (bits_of payload)) × (out' ≡ out) × (extra' ≡ extra)
+
+-- the payload of a frame that is sent carries its canonical form
+abbrev pub CarriesCanonical : Bool → Option Frame → List (List ℕ) → Type 0
+CarriesCanonical octet f [] = ⊤
+CarriesCanonical octet None (packet ∷ packets) = ⊤
+CarriesCanonical octet (Some f) (packet ∷ packets) = received octet (bits_of packet) ≡ Ok (canonical f)
+
+-- a frame without speech is its first byte
+pub canonical-lost : bytes_of (canonical (record { kind = 14; quality = 1; speech = [] })) ≡ 0x74 ∷ []
+unfolding bits bytes_of
+canonical-lost = refl

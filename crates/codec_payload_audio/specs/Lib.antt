@@ -1,0 +1,3 @@
+pub mod AmrWb
+pub mod AmrWbReceived
+pub mod Payloads

@@ -1,0 +1,42 @@
+//! AMR-WB (RFC 4867), one channel, in both layouts, without CRC, interleaving and robust sorting.
+//!
+//! A frame is handed in and given in its storage form (RFC 4867, section 5.3): a byte with the frame type and the quality
+//! bit, then the speech bits, with zeros up to a byte.
+
+ghost use Rattle.std.specs.Prelude.{◌≡◌, ◌<◌};
+ghost use Rattle.codec_payload_audio.specs.AmrWb.{speech_size};
+
+mod receive;
+mod send;
+
+pub use receive::AmrWbDepacketizer;
+pub use send::AmrWbPacketizer;
+
+/// How many speech bits each frame type has; `None` for a reserved one. Types 14 and 15 stand for a lost frame and for a
+/// frame without data (3GPP TS 26.201, table 1a).
+const SPEECH_BITS: [Option<usize>; 16] = [
+    Some(132),
+    Some(177),
+    Some(253),
+    Some(285),
+    Some(317),
+    Some(365),
+    Some(397),
+    Some(461),
+    Some(477),
+    Some(40),
+    None,
+    None,
+    None,
+    None,
+    Some(0),
+    Some(0),
+];
+
+/// How many speech bits a frame type has.
+fn speech_bits(frame_type: u8) -> Option<usize>
+    requires { frame_type < 16 }
+    ensures { result ≡ speech_size frame_type }
+{
+    SPEECH_BITS[usize::from(frame_type)]
+}

@@ -1,0 +1,9 @@
+//! The audio codecs, comfort noise, telephone events, and payloads that carry whatever they are given.
+#![tactic(auto)]
+
+pub mod amr_wb;
+pub mod plain;
+pub mod tele;
+#[cfg(test)]
+mod tests;
+mod whole;

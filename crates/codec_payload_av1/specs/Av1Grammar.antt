@@ -1,0 +1,47 @@
+-- The grammar of AV1 payloads, by cases on their elements.
+use Rattle.std.specs.Prelude.{◌≡◌, ℕ, zero, suc, ◌<◌, ◌/◌, ◌||◌, ◌&&◌, ◌==◌, List, [], ◌∷◌, ◌++◌, Some, length, bit_and}
+use Rattle.codec_payload_av1.specs.Av1Leb.{leb_at}
+use Rattle.codec_payload_av1.specs.Av1Obu.{Obu, IsSequence, has_bit, obus_of}
+use Rattle.codec_payload_av1.specs.Av1Payload.{Payload, payload_at}
+
+-- an element, which is not empty, behind its length in any spelling, and then the rest
+pub record StandsFirst (element bytes rest : List ℕ) : Type 0 where
+  pub nonempty : 0 < length element
+  pub size : List ℕ
+  pub spelled : leb_at size ≡ Some (length element, [])
+  pub parts : bytes ≡ size ++ (element ++ rest)
+
+-- each element behind its length
+abbrev pub AreEach : List (List ℕ) → List ℕ → Type 0
+AreEach [] bytes = bytes ≡ []
+AreEach (e ∷ es) bytes = (rest : List ℕ) × StandsFirst e bytes rest × AreEach es rest
+
+-- up to so many elements behind their lengths, and one that takes the rest
+abbrev pub AreCounted : ℕ → List (List ℕ) → List ℕ → Type 0
+AreCounted k [] bytes = bytes ≡ []
+AreCounted zero (e ∷ es) bytes = (0 < length e) × (es ≡ []) × (bytes ≡ e)
+AreCounted (suc k) (e ∷ es) bytes = (rest : List ℕ) × StandsFirst e bytes rest × AreCounted k es rest
+
+-- W = 0, and W = k + 1
+abbrev pub AreElements : ℕ → List (List ℕ) → List ℕ → Type 0
+AreElements zero es bytes = AreEach es bytes
+AreElements (suc k) es bytes = AreCounted k es bytes
+
+-- an aggregation header and what stands behind it; Y counts only where all elements that W names came
+pub record IsBehind (header : ℕ) (bytes : List ℕ) (p : Payload) : Type 0 where
+  pub elements : AreElements (bit_and header 0x30 / 16) p.elements bytes
+  pub continues : p.continues ≡ has_bit 128 header
+  pub goes_on : p.goes_on ≡ (has_bit 64 header && (bit_and header 0x30 / 16 == 0 || length p.elements == bit_and header 0x30 / 16))
+  pub starts : p.starts ≡ has_bit 8 header
+
+abbrev pub IsPayload : List ℕ → Payload → Type 0
+IsPayload [] p = ⊥
+IsPayload (header ∷ bytes) p = IsBehind header bytes p
+
+-- reading finds the payload that the grammar gives, and no other
+abbrev pub ReadsPayload : Type 0
+ReadsPayload = (bytes : List ℕ) (p : Payload) → (IsPayload bytes p → payload_at bytes ≡ Some p) × (payload_at bytes ≡ Some p → IsPayload bytes p)
+
+-- reading finds the OBUs that the grammar gives, and no others
+abbrev pub ReadsSequence : Type 0
+ReadsSequence = (frame : List ℕ) (obus : List Obu) → (IsSequence obus frame → obus_of frame ≡ Some obus) × (obus_of frame ≡ Some obus → IsSequence obus frame)

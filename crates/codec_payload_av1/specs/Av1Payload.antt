@@ -1,0 +1,82 @@
+-- The payload of a packet: an aggregation header, and elements.
+use Rattle.std.specs.Prelude.{ℕ, zero, suc, ◌+◌, ◌*◌, ◌/◌, List, [], ◌∷◌, ◌++◌, length, map, take, drop, Option, Some, None, Bool, false, not, ◌||◌, ◌&&◌, nat_lt, ◌==◌, if◌then◌else◌, bit_and}
+use Rattle.std.specs.List.{flat_map}
+use Rattle.std.specs.Borrow.{Bor}
+use Rattle.codec_payload_av1.specs.declared.av1.payload.PayloadSlices.{PayloadSlices}
+use Rattle.codec_payload_base.specs.Leb.{leb}
+use Rattle.codec_payload_av1.specs.Av1Leb.{◌>>=◌, leb_at}
+use Rattle.codec_payload_av1.specs.Av1Obu.{has_bit}
+
+-- continues is Z: the first element goes on from the packet before. goes_on is Y: the last one goes on in the next.
+-- starts is N: a coded video sequence starts.
+pub record Payload : Type 0 where
+  pub continues : Bool
+  pub goes_on : Bool
+  pub starts : Bool
+  pub elements : List (List ℕ)
+
+abbrev pub now_of : List (Bor (List ℕ)) → List (List ℕ)
+now_of es = map (λ e. e.now) es
+
+-- a payload without where it lies in memory
+abbrev pub view : PayloadSlices → Payload
+view p = record { continues = p.continues; goes_on = p.goes_on; starts = p.starts; elements = now_of p.elements.items }
+
+-- ---- the shortest bytes of a payload
+
+-- each element behind its length
+abbrev pub each_with_length : List (List ℕ) → List ℕ
+each_with_length es = flat_map (λ e. leb (length e) ++ e) es
+
+-- each element but the last behind its length
+abbrev pub all_but_last_with_length : List (List ℕ) → List ℕ
+all_but_last_with_length [] = []
+all_but_last_with_length (e ∷ []) = e
+all_but_last_with_length (e ∷ f ∷ es) = leb (length e) ++ e ++ all_but_last_with_length (f ∷ es)
+
+abbrev pub body : List (List ℕ) → List ℕ
+body es = if nat_lt 3 (length es) then each_with_length es else all_but_last_with_length es
+
+-- W: the number of elements up to three, and 0 above
+abbrev pub element_count : List (List ℕ) → ℕ
+element_count es = if nat_lt 3 (length es) then 0 else length es
+
+abbrev pub aggregation_header : Payload → ℕ
+aggregation_header p = (if p.continues then 128 else 0) + (if p.goes_on then 64 else 0) + 16 * element_count p.elements + (if p.starts then 8 else 0)
+
+unfoldable pub written : Payload → List ℕ
+written p = aggregation_header p ∷ body p.elements
+
+-- ---- reading
+
+-- an element behind its length, which isn't 0
+unfoldable pub element_at : List ℕ → Option (List ℕ × List ℕ)
+element_at bytes = leb_at bytes >>= λ n.
+    if n.0 == 0 || nat_lt (length n.1) n.0 then None else Some (take n.0 n.1, drop n.0 n.1)
+
+-- W = 0: each element behind its length
+unfoldable pub each_at : ℕ → List ℕ → Option (List (List ℕ))
+each_at k [] = Some []
+each_at zero (b ∷ bytes) = None
+each_at (suc k) (b ∷ bytes) = element_at (b ∷ bytes) >>= λ e. each_at k e.1 >>= λ es. Some (e.0 ∷ es)
+
+-- W = k + 1: up to k elements behind their lengths, and one that takes the rest
+unfoldable pub counted_at : ℕ → List ℕ → Option (List (List ℕ))
+counted_at k [] = Some []
+counted_at zero (b ∷ bytes) = Some ((b ∷ bytes) ∷ [])
+counted_at (suc k) (b ∷ bytes) = element_at (b ∷ bytes) >>= λ e. counted_at k e.1 >>= λ es. Some (e.0 ∷ es)
+
+abbrev pub elements_at : ℕ → List ℕ → Option (List (List ℕ))
+elements_at zero bytes = each_at (length bytes) bytes
+elements_at (suc k) bytes = counted_at k bytes
+
+-- Y counts only where all elements that W names came.
+unfoldable pub payload_at : List ℕ → Option Payload
+payload_at [] = None
+payload_at (h ∷ bytes) = let w = bit_and h 0x30 / 16 in elements_at w bytes >>= λ es.
+    Some (record { continues = has_bit 128 h; goes_on = has_bit 64 h && (w == 0 || length es == w); starts = has_bit 8 h; elements = es })
+
+-- Z is clear: the packet may begin a frame
+abbrev pub is_head : List ℕ → Bool
+is_head [] = false
+is_head (h ∷ bytes) = not (has_bit 128 h)

@@ -1,0 +1,42 @@
+//! AV1 (RTP Payload Format for AV1, version 1.0).
+
+ghost use Rattle.std.specs.Prelude.{◌≡◌, length};
+ghost use Rattle.codec_payload_base.specs.Leb.{leb};
+ghost use Rattle.codec_payload_av1.specs.Av1Steps.{is_keyframe};
+
+mod depacketizer;
+mod laws;
+mod leb;
+mod obu;
+mod packer;
+mod packetizer;
+mod payload;
+mod piece;
+mod plan;
+#[cfg(test)]
+mod tests;
+
+pub use codec_payload_base::interface::Av1CodecExtra;
+pub use depacketizer::Av1Depacketizer;
+pub use laws::{
+    canonical_unit_is_its_own, last_packets_give_last_obus, reading_follows_the_grammars,
+};
+pub use packetizer::Av1Packetizer;
+
+/// How many bytes a number takes as the shortest LEB128 (AV1 bitstream specification, section 4.10.5): 1 to 10.
+pub fn leb_128_size(value: usize) -> usize
+    ensures { result ≡ length (leb value) }
+{
+    leb::number_len(value as u64)
+}
+
+/// Whether the N bit of the payload is set, with which a new coded video sequence starts (RTP Payload Format for AV1,
+/// section 4.4). An empty payload has none.
+pub fn detect_av1_keyframe(payload: &[u8]) -> bool
+    ensures { result ≡ is_keyframe payload.now }
+{
+    match payload.first() {
+        Some(header) => *header & 0x08 != 0,
+        None => false,
+    }
+}

@@ -1,0 +1,192 @@
+//! AV1 payloads as frames.
+
+ghost use Rattle.std.specs.Prelude.{◌≡◌, ◌++◌, ◌∷◌, List, [], Some, None, length, take, map, OnErr, ◌&&◌, ◌==◌, ℕ};
+ghost use Rattle.codec_payload_av1.specs.Av1Payload.{is_head, now_of};
+ghost use Rattle.codec_payload_av1.specs.Av1Receiving.{unit_of, taken, received, without_orphan};
+ghost use Rattle.codec_payload_av1.specs.Av1Outcome.{Appends, Takes, Fails};
+ghost use Rattle.codec_payload_av1.specs.Av1Steps.{Av1Step, extra_of};
+
+use crate::av1::detect_av1_keyframe;
+use crate::av1::obu::{has_size_bit, is_kept, obu_of, put_canonical};
+use crate::av1::payload::payload_of;
+use codec_payload_base::error::PacketError;
+use codec_payload_base::interface::{Av1CodecExtra, CodecExtra, Depacketizer};
+use std::alloc::Global;
+use std::marker::Model;
+
+/// Puts AV1 temporal units together, each OBU with its size (RTP Payload Format for AV1, sections 4.4 and 5). It holds
+/// the beginning of an OBU whose end is still to come.
+#[derive(Debug, Drop)]
+pub struct Av1Depacketizer {
+    alloc: Global,
+    pending: Vec<u8>,
+}
+
+impl Model for Av1Depacketizer {
+    ghost Value = { List ℕ };
+
+    ghost view = { λ d. d.pending.items };
+}
+
+impl Av1Depacketizer {
+    /// A depacketizer that holds nothing. It takes no memory until it is used.
+    pub fn new(alloc: Global) -> Self
+        ensures { result ≡ [] }
+    {
+        Av1Depacketizer {
+            alloc,
+            pending: Vec::new(alloc),
+        }
+    }
+
+    /// Takes the payload of an aggregation header and the bytes behind it.
+    #[tactic(auto, unfolding(crate::specs::Av1Receiving::received))]
+    fn take_payload(
+        &mut self,
+        header: u8,
+        bytes: &[u8],
+        out: &mut Vec<u8>,
+    ) -> Result<(), PacketError>
+        ensures taken { Takes result out.old.items out.new.items self.new (received self.old (header ∷ bytes.now)) }
+        ensures kept { take (length out.old.items) out.new.items ≡ out.old.items }
+    {
+        let payload = payload_of(self.alloc, header, bytes)?;
+        if !payload.continues || payload.starts {
+            self.pending.clear();
+        }
+        let orphan = payload.continues && self.pending.is_empty();
+        let elements = without_orphan(orphan, &payload.elements);
+        take_elements(&mut self.pending, out, payload.goes_on, elements)
+    }
+}
+
+/// What the payload tells, after what `before` told of the frame.
+fn extra(packet: &[u8], before: &CodecExtra) -> CodecExtra
+    ensures { result ≡ extra_of packet.now before.now }
+{
+    let was_keyframe = match before {
+        CodecExtra::Av1(extra) => extra.is_keyframe,
+        CodecExtra::None | CodecExtra::Vp8(_) | CodecExtra::Tele(_) => false,
+    };
+    CodecExtra::Av1(Av1CodecExtra {
+        is_keyframe: detect_av1_keyframe(packet) || was_keyframe,
+    })
+}
+
+impl Depacketizer for Av1Depacketizer {
+    ghost state = { λ pending. pending };
+
+    ghost depacketize_step = { λ pending payload out extra answer after out' extra'. Av1Step pending payload out extra answer after out' extra' };
+
+    ghost size_hint = { λ _ size. Some size };
+
+    ghost is_head = { λ _ payload. is_head payload };
+
+    ghost is_tail = { λ _ marker _. marker };
+
+    fn out_size_hint(&self, packets_size: usize) -> Option<usize> {
+        Some(packets_size)
+    }
+
+    /// Appends the kept OBUs that end in the payload, each with its size, and tells of the frame in the extra. A frame
+    /// that was told to be a keyframe stays one. The beginning of an OBU that goes on in the next payload stays pending.
+    ///
+    /// `ErrShortPacket` for the empty payload; `ErrAv1CorruptedPacket` where the length of an element is unreadable, 0 or
+    /// past the end, or where an element is not exactly one OBU. `out` and the extra are then as before, and nothing is
+    /// pending.
+    fn depacketize(
+        &mut self,
+        packet: &[u8],
+        out: &mut Vec<u8>,
+        codec_extra: &mut CodecExtra,
+    ) -> Result<(), PacketError> {
+        let start = out.len();
+        let taken = match packet {
+            [] => Err(PacketError::ErrShortPacket),
+            [header, bytes @ ..] => self.take_payload(*header, bytes, out),
+        };
+        match taken {
+            Ok(()) => {
+                *codec_extra = extra(packet, codec_extra);
+                Ok(())
+            }
+            Err(error) => {
+                out.truncate(start);
+                self.pending.clear();
+                Err(error)
+            }
+        }
+    }
+
+    /// Whether the Z bit is clear, so that the payload does not begin inside an OBU. An empty payload is no head.
+    fn is_partition_head(&self, packet: &[u8]) -> bool {
+        match packet.first() {
+            Some(header) => *header & 0x80 == 0,
+            None => false,
+        }
+    }
+
+    fn is_partition_tail(&self, marker: bool, _packet: &[u8]) -> bool {
+        marker
+    }
+}
+
+/// Adds what an element gives, which has to be exactly one OBU: nothing where that is not kept.
+#[tactic(auto, using(crate::proofs::Av1Kept::kept_more, crate::proofs::Av1Kept::kept_same), unfolding(crate::specs::Av1Receiving::unit_of))]
+fn append_unit(out: &mut Vec<u8>, element: &[u8]) -> Result<(), PacketError>
+    ensures added { Appends result out.old.items out.new.items (unit_of element.now) }
+    ensures kept { take (length out.old.items) out.new.items ≡ out.old.items }
+{
+    let Some((obu, rest)) = obu_of(element) else {
+        return Err(PacketError::ErrAv1CorruptedPacket);
+    };
+    if !rest.is_empty() {
+        return Err(PacketError::ErrAv1CorruptedPacket);
+    }
+    if is_kept(obu.header) {
+        if has_size_bit(obu.header) {
+            out.extend_from_slice(element)?;
+        } else {
+            put_canonical(out, &obu)?;
+        }
+    }
+    Ok(())
+}
+
+/// Whether an element is left open that so many others follow.
+fn stays_open(goes_on: bool, others: usize) -> bool
+    ensures { result ≡ (goes_on && others == 0) }
+{
+    goes_on && others == 0
+}
+
+/// Joins each element to what is pending, and adds it; the last one of a packet that goes on stays pending.
+fn take_elements(
+    pending: &mut Vec<u8>,
+    out: &mut Vec<u8>,
+    goes_on: bool,
+    elements: &[&[u8]],
+) -> Result<(), PacketError>
+    ensures taken { Takes result out.old.items out.new.items pending.new.items (taken goes_on pending.old.items (now_of elements.now)) }
+    ensures kept { take (length out.old.items) out.new.items ≡ out.old.items }
+{
+    for (i, element) in elements.iter().enumerate() {
+        pending.extend_from_slice(element)?;
+        if stays_open(goes_on, elements.len() - i - 1) {
+            return Ok(());
+        }
+        append_unit(out, pending)?;
+        pending.clear();
+    }
+    Ok(())
+}
+
+/// The elements without the first, where that one goes on from bytes that never came.
+fn without_orphan<'a, 'b>(orphan: bool, elements: &'b [&'a [u8]]) -> &'b [&'a [u8]]
+    ensures { now_of result.now ≡ without_orphan orphan (now_of elements.now) }
+{
+    match elements {
+        [_, rest @ ..] if orphan => rest,
+        _ => elements,
+    }
+}

@@ -1,0 +1,102 @@
+//! OBUs (AV1 bitstream specification, section 5.3).
+
+ghost use Rattle.std.specs.Prelude.{◌≡◌, ◌++◌, OnOk, Some, length, take};
+ghost use Rattle.codec_payload_av1.specs.Av1Obu.{Obu, obu_at, extension_at, sized_at, canonical, string, has_size, has_extension, is_kept_type, view};
+ghost use Rattle.codec_payload_av1.specs.Av1Outcome.{Finds};
+
+use crate::av1::leb::{number_at, put_number};
+use std::alloc::AllocError;
+
+/// An OBU that lies in memory: the first byte of its header, the extension byte where there is one, and its payload.
+#[derive(Clone, Copy)]
+pub struct ObuSlices<'a> {
+    pub header: u8,
+    pub extension: &'a [u8],
+    pub payload: &'a [u8],
+}
+
+/// Whether the size of the payload stands before it.
+pub fn has_size_bit(header: u8) -> bool
+    ensures { result ≡ has_size header }
+{
+    header & 2 != 0
+}
+
+/// Whether the type is one that payloads carry: a sequence header, a frame header, a tile group, metadata, a frame or a
+/// redundant frame header.
+pub fn is_kept(header: u8) -> bool
+    ensures { result ≡ is_kept_type header }
+{
+    matches!(header & 0x78, 0x08 | 0x18 | 0x20 | 0x28 | 0x30 | 0x38)
+}
+
+/// The extension byte where the header says that there is one, and what follows it.
+fn extension_of(bytes: &[u8], has_one: bool) -> Option<(&[u8], &[u8])>
+    ensures { Finds (λ x. (x.0.now, x.1.now)) result (extension_at has_one bytes.now) }
+{
+    if !has_one {
+        return Some((&[], bytes));
+    }
+    if bytes.is_empty() {
+        return None;
+    }
+    Some(bytes.split_at(1))
+}
+
+/// The OBU whose size and payload stand at the front, and what follows it.
+fn sized_of<'a>(
+    header: u8,
+    extension: &'a [u8],
+    bytes: &'a [u8],
+) -> Option<(ObuSlices<'a>, &'a [u8])>
+    ensures { Finds (λ x. (view x.0, x.1.now)) result (sized_at header extension.now bytes.now) }
+{
+    let (size, bytes) = number_at(bytes)?;
+    if (bytes.len() as u64) < size {
+        return None;
+    }
+    let (payload, rest) = bytes.split_at(size as usize);
+    Some((
+        ObuSlices {
+            header,
+            extension,
+            payload,
+        },
+        rest,
+    ))
+}
+
+/// The OBU at the front, and what follows it. `None` where a byte of it is missing.
+#[tactic(auto, unfolding(crate::specs::Av1Obu::obu_at))]
+pub fn obu_of(bytes: &[u8]) -> Option<(ObuSlices<'_>, &[u8])>
+    ensures { Finds (λ x. (view x.0, x.1.now)) result (obu_at bytes.now) }
+{
+    let (first, rest) = bytes.split_first()?;
+    let header = *first;
+    let (extension, rest) = extension_of(rest, header & 4 != 0)?;
+    if has_size_bit(header) {
+        sized_of(header, extension, rest)
+    } else {
+        Some((
+            ObuSlices {
+                header,
+                extension,
+                payload: rest,
+            },
+            &[],
+        ))
+    }
+}
+
+/// Writes the canonical form at the end: the size bit set, and the size in as few bytes as it takes.
+#[tactic(auto, using(crate::proofs::Av1Kept::kept_more, crate::proofs::Av1Kept::kept_same, crate::proofs::Av1Kept::kept_trans), unfolding(crate::specs::Av1Obu::canonical))]
+pub fn put_canonical(out: &mut Vec<u8>, obu: &ObuSlices<'_>) -> Result<(), AllocError>
+    ensures written { OnOk result (out.new.items ≡ out.old.items ++ canonical (view obu.now)) }
+    ensures kept { take (length out.old.items) out.new.items ≡ out.old.items }
+{
+    out.push(obu.header | 2)?;
+    out.extend_from_slice(obu.extension)?;
+    put_number(out, obu.payload.len() as u64)?;
+    out.extend_from_slice(obu.payload)?;
+    Ok(())
+}

@@ -1,0 +1,4 @@
+//! AV1 in RTP payloads.
+#![tactic(auto)]
+
+pub mod av1;

@@ -1,0 +1,15 @@
+pub mod CaseLemmas
+pub mod FrameLemmas
+pub mod FrameParts
+pub mod FrontLemmas
+pub mod Gathered
+pub mod LongestRowLemmas
+pub mod MemberLemmas
+pub mod PlaceLemmas
+pub mod PopLemmas
+pub mod PushLemmas
+pub mod RangeLemmas
+pub mod RowLemmas
+pub mod SearchLemmas
+pub mod StretchLemmas
+pub mod TakeLemmas

@@ -1,0 +1,81 @@
+use Rattle.std.proofs.Common.{inl, ◌≡◌, refl, sym, ◌∙◌, ap, map, arith, Some, Ok, Err}
+use Rattle.std.specs.Prelude.{slice_range}
+use Rattle.std.proofs.lemmas.Result.{err_from_is_err_and}
+use Rattle.codec_payload_buffer.specs.Buffer.{state_of}
+use Rattle.codec_payload_buffer.specs.Depack.{depack_of}
+use Rattle.codec_payload_buffer.specs.Held.{held_of}
+use Rattle.codec_payload_buffer.specs.Steps.{Unpacked, due_of, packets_of_frame, metas_of, follows}
+use Rattle.codec_payload_buffer.proofs.CaseLemmas.{not_both}
+use Rattle.codec_payload_buffer.proofs.PopLemmas.{order_due, due_metas, due_time, sound_left}
+use Rattle.codec_payload_buffer.proofs.TakeLemmas.{gives_of, released, refused, stalled}
+use Rattle.codec_payload_buffer.proofs.buffer.DepacketizingBuffer.take_frame.Goals.{then-not-is_out_of_memory, else-not-is_out_of_memory, then-starts_next, else-starts_next}
+use Rattle.codec_payload_buffer.proofs.buffer.DepacketizingBuffer.take_frame.Goals as goal
+
+pub frame_range-from-requires-clause-order : goal.frame_range-from-requires-clause-order
+frame_range-from-requires-clause-order c = order_due c.args.self.now c.args.frame c.requires
+
+pub invariant_of-self : goal.invariant_of-self
+invariant_of-self c = sound_left (state_of c.self.inside) _ c.args.frame.last c.self.invariant c.remove_up_to.ensures refl refl
+
+pub returns-in-Err-clause-takes : goal.returns-in-Err-clause-takes
+returns-in-Err-clause-takes c =
+    let s = state_of c.self.inside in
+    let due : due_of s ≡ Some c.args.frame = ap due_of c.self.view_is ∙ c.requires in
+    let packets = map held_of (slice_range c.self.inside.packets.items c.frame_range-from.result.0 c.frame_range-from.result.1) in
+    let e = depack_of c.unpack.new.depack in
+    elim c.if-not-is_out_of_memory.branch [
+      | then-not-is_out_of_memory w ↦
+          refused s c.args.self.now c.self.view_is c.args.frame due e _ c.in-Err.fault (map held_of w.remove_up_to.new.packets.items) w.self-is
+          (λ is. not_both c.is_out_of_memory.result (c.is_out_of_memory.ensures.1 is) w.if-not-is_out_of_memory.true)
+          (gives_of s c.args.frame packets c.in_ok-bytes.bytes.items (Err c.in-Err.fault) e c.frame_range-from.ensures.part c.in_ok-bytes.ensures.empty c.in-Err.ensures.unpacks)
+          w.remove_up_to.ensures
+      | else-not-is_out_of_memory w ↦
+          stalled s c.args.self.now c.self.view_is c.args.frame due e _ c.in-Err.fault w.self-is
+          (c.is_out_of_memory.ensures.0 w.if-not-is_out_of_memory.false) c.in-Err.ensures.kind
+    ]
+
+pub index-requires : goal.index-requires
+index-requires c =
+    let s = state_of c.self.inside in
+    let due : due_of s ≡ Some c.args.frame = ap due_of c.self.view_is ∙ c.requires in
+    let metas : c.in_ok-metas.metas.items ≡ metas_of (packets_of_frame s c.args.frame) = c.in_ok-metas.ensures ∙ ap metas_of c.frame_range-from.ensures.part in
+    omega (arith, due_metas s c.args.frame c.in_ok-metas.metas.items c.self.invariant.rises due metas, c.in_ok-metas.metas.ok.0)
+
+pub new-requires : goal.new-requires
+new-requires c =
+    let s = state_of c.self.inside in
+    let due : due_of s ≡ Some c.args.frame = ap due_of c.self.view_is ∙ c.requires in
+    let metas : c.in_ok-metas.metas.items ≡ metas_of (packets_of_frame s c.args.frame) = c.in_ok-metas.ensures ∙ ap metas_of c.frame_range-from.ensures.part in
+    due_metas s c.args.frame c.in_ok-metas.metas.items c.self.invariant.rises due metas
+
+pub invariant_of-self-2 : goal.invariant_of-self-2
+invariant_of-self-2 c = sound_left (state_of c.self.inside) _ c.args.frame.last c.self.invariant c.remove_up_to-2.ensures refl refl
+
+pub returns-clause-takes : goal.returns-clause-takes
+returns-clause-takes c =
+    let s = state_of c.self.inside in
+    let frame = c.args.frame in
+    let due : due_of s ≡ Some frame = ap due_of c.self.view_is ∙ c.requires in
+    let packets = map held_of (slice_range c.self.inside.packets.items c.frame_range-from.result.0 c.frame_range-from.result.1) in
+    let metas : c.in_ok-metas.metas.items ≡ metas_of (packets_of_frame s frame) = c.in_ok-metas.ensures ∙ ap metas_of c.frame_range-from.ensures.part in
+    let unpacked : Unpacked = record { bytes = c.unpack.new.bytes.items; extra = c.unpack.new.codec_extra } in
+    let e = depack_of c.unpack.new.depack in
+    let test : c.if-starts_next.contiguous ≡ follows s frame = elim c.if-starts_next.branch [
+      | then-starts_next w ↦ w.contiguous-is ∙ rw (sym c.starts_next.ensures ∙ w.if-starts_next.true) refl
+      | else-starts_next w ↦ w.contiguous-is ∙ w.if-starts_next.false ∙ rw (sym c.starts_next.ensures ∙ w.if-starts_next.false) refl
+    ] in
+    released s c.args.self.now c.self.view_is frame due e c.new.result c.index.result.now.time c.if-starts_next.contiguous unpacked c.in_ok-metas.metas.items (map held_of c.remove_up_to-2.new.packets.items)
+    c.new.ensures refl
+    (gives_of s frame packets c.in_ok-bytes.bytes.items (Ok unpacked) e c.frame_range-from.ensures.part c.in_ok-bytes.ensures.empty c.in-Ok.ensures.unpacks)
+    (due_time s frame c.in_ok-metas.metas.items c.index.result.now c.self.invariant.rises due metas c.index.ensures)
+    metas test c.remove_up_to-2.ensures
+
+pub returns-in_err-metas-clause-takes : goal.returns-in_err-metas-clause-takes
+returns-in_err-metas-clause-takes c =
+    let exit = err_from_is_err_and c.from_residual.result c.from_residual.ensures.1 in
+    rw (exit.1, exit.2) (inl (refl, record { frame = c.args.frame; is_due = c.requires; depack = c.args.self.now.depack; kind = refl; left = refl }))
+
+pub returns-in_err-bytes-clause-takes : goal.returns-in_err-bytes-clause-takes
+returns-in_err-bytes-clause-takes c =
+    let exit = err_from_is_err_and c.from_residual-in_err-bytes.result c.from_residual-in_err-bytes.ensures.1 in
+    rw (exit.1, exit.2) (inl (refl, record { frame = c.args.frame; is_due = c.requires; depack = c.args.self.now.depack; kind = refl; left = refl }))

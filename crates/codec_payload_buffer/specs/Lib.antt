@@ -1,0 +1,10 @@
+pub mod Buffer
+pub mod BufferExamples
+pub mod Depack
+pub mod Frames
+pub mod Held
+pub mod Pack
+pub mod Release
+pub mod Scan
+pub mod Steps
+pub mod Stretches

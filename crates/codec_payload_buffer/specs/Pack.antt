@@ -1,0 +1,115 @@
+-- Packetizers as contracts see them, and what each call of theirs does.
+use Rattle.std.specs.Prelude.{◌≡◌, ℕ, List, Bool, true, false, Option, Some, None, Result}
+use Rattle.codec_payload_base.specs.Pieces.{AnswersPieces}
+use Rattle.codec_payload_audio.specs.AmrWb.{AnswersAmrWb}
+use Rattle.codec_payload_audio.specs.Payloads.{AnswersItself, AnswersWhole}
+use Rattle.codec_payload_av1.specs.Av1Steps.{AnswersAv1}
+use Rattle.codec_payload_vp8.specs.Vp8.{AnswersDescribed}
+use Rattle.codec_payload_base.specs.declared.error.PacketError.{PacketError}
+use Rattle.codec_payload_base.specs.declared.wire.Codec.{Codec}
+use Rattle.codec_payload_base.specs.declared.wire.Codec.TheVariants as codecs
+use Rattle.codec_payload_buffer.specs.declared.codec.CodecPacketizer.{CodecPacketizer}
+use Rattle.codec_payload_buffer.specs.declared.codec.CodecPacketizer.TheVariants as variants
+
+-- a packetizer of each codec, with what it holds
+pub data Pack : Type 0 where
+  G711Pack : Pack
+  G722Pack : Pack
+  OpusPack : Pack
+  ComfortNoisePack : Pack
+  TelePack : Pack
+  Vp8Pack : Pack
+  Av1Pack : Pack
+  AmrWbPack : Bool → Pack
+  NullPack : Pack
+
+abbrev pub pack_of : CodecPacketizer → Pack
+pack_of (variants.G711 _) = G711Pack
+pack_of (variants.G722 _) = G722Pack
+pack_of (variants.Opus _) = OpusPack
+pack_of (variants.Null _) = NullPack
+pack_of (variants.Vp8 _) = Vp8Pack
+pack_of (variants.ComfortNoise _) = ComfortNoisePack
+pack_of (variants.Tele _) = TelePack
+pack_of (variants.Av1 _) = Av1Pack
+pack_of (variants.AmrWb p) = AmrWbPack p.octet_align
+
+-- the packetizer that a codec is given, if it has one
+abbrev pub pack_for : Codec → Option Pack
+pack_for codecs.Opus = Some OpusPack
+pack_for codecs.PCMU = Some G711Pack
+pack_for codecs.PCMA = Some G711Pack
+pack_for codecs.G722 = Some G722Pack
+pack_for codecs.Null = Some NullPack
+pack_for codecs.CN = Some ComfortNoisePack
+pack_for codecs.AmrWb = Some (AmrWbPack false)
+pack_for codecs.H264 = None
+pack_for codecs.H265 = None
+pack_for codecs.H266 = None
+pack_for codecs.Vp8 = Some Vp8Pack
+pack_for codecs.Vp9 = None
+pack_for codecs.Av1 = Some Av1Pack
+pack_for codecs.Tele = Some TelePack
+pack_for codecs.Rtx = None
+pack_for codecs.Red = None
+pack_for codecs.Unknown = None
+
+-- a packetizer after a specification was taken over
+abbrev pub configured : Bool → Pack → Pack
+configured octet G711Pack = G711Pack
+configured octet G722Pack = G722Pack
+configured octet OpusPack = OpusPack
+configured octet ComfortNoisePack = ComfortNoisePack
+configured octet TelePack = TelePack
+configured octet Vp8Pack = Vp8Pack
+configured octet Av1Pack = Av1Pack
+configured octet (AmrWbPack before) = AmrWbPack octet
+configured octet NullPack = NullPack
+
+-- the packetizer, the MTU and the frame; the answer and the packetizer afterwards
+abbrev pub PackStep : Pack → ℕ → List ℕ → Result (List (List ℕ)) PacketError → Pack → Type 0
+PackStep G711Pack mtu frame answer after = AnswersPieces mtu frame answer × (after ≡ G711Pack)
+PackStep G722Pack mtu frame answer after = AnswersPieces mtu frame answer × (after ≡ G722Pack)
+PackStep OpusPack mtu frame answer after = AnswersPieces mtu frame answer × (after ≡ OpusPack)
+PackStep NullPack mtu frame answer after = AnswersItself frame answer × (after ≡ NullPack)
+PackStep Vp8Pack mtu frame answer after = AnswersDescribed mtu frame answer × (after ≡ Vp8Pack)
+PackStep ComfortNoisePack mtu frame answer after = AnswersWhole mtu frame answer × (after ≡ ComfortNoisePack)
+PackStep TelePack mtu frame answer after = AnswersWhole mtu frame answer × (after ≡ TelePack)
+PackStep Av1Pack mtu frame answer after = AnswersAv1 mtu frame answer × (after ≡ Av1Pack)
+PackStep (AmrWbPack octet) mtu frame answer after = AnswersAmrWb octet mtu frame answer × (after ≡ AmrWbPack octet)
+
+-- whether a packet is marked; the last argument says that it is the last of its frame
+abbrev pub marker_of : Pack → Bool → Bool
+marker_of G711Pack last = false
+marker_of G722Pack last = false
+marker_of OpusPack last = false
+marker_of NullPack last = false
+marker_of Vp8Pack last = last
+marker_of ComfortNoisePack last = false
+marker_of TelePack last = false
+marker_of Av1Pack last = last
+marker_of (AmrWbPack octet) last = false
+
+-- whether the marker tells where a talk spurt starts
+abbrev pub talkspurt_of : Pack → Bool
+talkspurt_of G711Pack = true
+talkspurt_of G722Pack = true
+talkspurt_of OpusPack = true
+talkspurt_of NullPack = false
+talkspurt_of Vp8Pack = false
+talkspurt_of ComfortNoisePack = false
+talkspurt_of TelePack = true
+talkspurt_of Av1Pack = false
+talkspurt_of (AmrWbPack octet) = true
+
+-- whether a lost packet may be asked for again
+abbrev pub nackable_of : Pack → Bool
+nackable_of G711Pack = false
+nackable_of G722Pack = false
+nackable_of OpusPack = false
+nackable_of NullPack = true
+nackable_of Vp8Pack = true
+nackable_of ComfortNoisePack = false
+nackable_of TelePack = false
+nackable_of Av1Pack = true
+nackable_of (AmrWbPack octet) = false

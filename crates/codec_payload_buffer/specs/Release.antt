@@ -1,0 +1,29 @@
+-- A unit that was released, and what its packets tell of it.
+use Rattle.std.specs.Prelude.{◌≡◌, ℕ, ◌-◌, ◌<◌, ◌≤◌, List, Bool, Some, All, length, take, slice_get}
+use Rattle.codec_payload_base.specs.Time.{Time}
+use Rattle.codec_payload_base.specs.declared.interface.CodecExtra.{CodecExtra}
+use Rattle.codec_payload_buffer.specs.declared.buffer.unit.RtpMeta.{RtpMeta}
+
+-- the time of its packets, whether it follows the unit released before it, its bytes, what its payloads told besides,
+-- and what is known of each of its packets, in order
+pub record Release : Type 0 where
+  pub time : Time
+  pub contiguous : Bool
+  pub bytes : List ℕ
+  pub codec_extra : CodecExtra
+  pub metas : List RtpMeta
+
+-- m is the first of them
+abbrev pub IsFirst : List RtpMeta → RtpMeta → Type 0
+IsFirst metas m = slice_get metas 0 ≡ Some m
+
+-- m is the last of them
+abbrev pub IsLast : List RtpMeta → RtpMeta → Type 0
+IsLast metas m = slice_get metas (length metas - 1) ≡ Some m
+
+-- m, at place `at`, is the first of those that were received at the least time
+pub record IsReceivedFirst (metas : List RtpMeta) (m : RtpMeta) : Type 0 where
+  pub at : ℕ
+  pub there : slice_get metas at ≡ Some m
+  pub least : All (λ (x : RtpMeta). m.received.0 ≤ x.received.0) metas
+  pub first : All (λ (x : RtpMeta). m.received.0 < x.received.0) (take at metas)

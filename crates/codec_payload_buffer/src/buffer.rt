@@ -1,0 +1,219 @@
+//! Puts received packets in order and their payloads together, in a buffer of bounded size.
+
+ghost use Rattle.std.specs.Prelude.{◌≡◌, ◌≤◌, ◌<◌, IsTrue, IsOk, false, OnOk, OnErr, IfErr, length, Option, [], ◌↔◌};
+ghost use Rattle.codec_payload_base.specs.declared.error.PacketError.TheVariants.{OutOfMemory};
+ghost use Rattle.codec_payload_buffer.specs.Depack.{depack_of};
+ghost use Rattle.codec_payload_buffer.specs.Held.{Rises};
+ghost use Rattle.codec_payload_buffer.specs.Frames.{AreFramesOfSet, AreInOrder, AreApart, AreOnlyList, BothSaySame};
+ghost use Rattle.codec_payload_buffer.specs.Steps.{IsSound, NoContiguity, arrived, pushed, is_dropped, due_of, TakesFrame, Pops};
+ghost use Rattle.codec_payload_buffer.specs.Stretches.{LeavesNumbers, OrderIsFree};
+
+pub mod frames;
+mod packets;
+#[cfg(test)]
+mod tests;
+mod unit;
+
+use crate::codec::{CodecDepacketizer, Depacketizer};
+use codec_payload_base::error::PacketError;
+use codec_payload_base::interface::CodecExtra;
+use frames::{Segment, search_frames};
+use packets::{
+    HeldPacket, copy_metas, find_place, frame_range, is_at, is_too_late, make_room, place_at,
+    remove_up_to, starts_next, take_lowest, unpack,
+};
+use std::alloc::Global;
+use std::collections::VecDeque;
+use std::marker::Model;
+pub use unit::{Depacketized, RtpMeta};
+
+/// How many packets a buffer from [`DepacketizingBuffer::new`] holds.
+const HELD_LIMIT: usize = 4_096;
+
+/// Holds packets until the frame that they carry is complete and its turn has come.
+///
+/// It holds at most one packet of each sequence number. Packets at or below a cutoff, the end of the latest frame that
+/// was taken or the latest packet that was evicted, come too late and are dropped.
+#[derive(Debug, Drop)]
+pub struct DepacketizingBuffer {
+    packets: VecDeque<HeldPacket>,
+    /// The number up to which packets come too late.
+    cutoff: Option<u64>,
+    /// Whether a packet was evicted since the latest release.
+    mark: bool,
+    depack: CodecDepacketizer,
+    hold_back: usize,
+    limit: usize,
+}
+
+impl Model for DepacketizingBuffer {
+    ghost use Rattle.std.specs.Prelude.{map};
+    ghost use Rattle.codec_payload_buffer.specs.Held.{held_of};
+    ghost use Rattle.codec_payload_buffer.specs.Steps.{State, IsSound, NoContiguity};
+    ghost use Rattle.codec_payload_buffer.specs.Depack.{depack_of};
+    ghost use Rattle.codec_payload_buffer.specs.Buffer.{state_of};
+
+    ghost Value = { State };
+
+    ghost view = { state_of };
+
+    ghost invariant = { λ b. IsSound (state_of b) };
+}
+
+impl DepacketizingBuffer {
+    /// An empty buffer over that depacketizer, with room for 4,096 packets. A frame that does not start right after the
+    /// cutoff is held back until more than `hold_back` complete frames are there. Takes no memory.
+    pub fn new(alloc: Global, depack: CodecDepacketizer, hold_back: usize) -> Self
+        ensures { result ≡ record {
+          held = [];
+          cutoff = Option.None;
+          mark = false;
+          contiguity = NoContiguity;
+          depack = depack_of depack;
+          hold_back = hold_back;
+          limit = 4096;
+        } }
+    {
+        DepacketizingBuffer {
+            packets: VecDeque::new(alloc),
+            cutoff: None,
+            mark: false,
+            depack,
+            hold_back,
+            limit: HELD_LIMIT,
+        }
+    }
+
+    /// Takes a packet in. One whose number is at or below the cutoff, or is held already, is dropped, which takes no
+    /// memory. Where more packets than the limit are held then, the lowest is evicted. The only fault is want of memory.
+    ///
+    /// Out of order it costs a binary search and a move of entries, not of payloads.
+    pub fn push(&mut self, meta: RtpMeta, data: Vec<u8>) -> Result<(), PacketError>
+        ensures ok { OnOk result (self.new ≡ pushed self.old (arrived self.old.depack meta «data».items)) }
+        ensures err { OnErr result (self.new ≡ self.old) }
+        ensures fault { IfErr result (λ f. f ≡ OutOfMemory) }
+        ensures dropped { IsTrue (is_dropped self.old meta.seq_no.0) → IsOk result }
+        ensures limit { self.new.limit ≡ self.old.limit }
+    {
+        let number = meta.seq_no.0;
+        if is_too_late(self.cutoff, number) {
+            return Ok(());
+        }
+        let place = find_place(&self.packets, number);
+        if is_at(&self.packets, place, number) {
+            return Ok(());
+        }
+        let head = self.depack.is_partition_head(&data);
+        let tail = self.depack.is_partition_tail(meta.header.marker, &data);
+        let packet = HeldPacket {
+            meta,
+            bytes: data,
+            head,
+            tail,
+        };
+        place_at(&mut self.packets, place, packet)?;
+        if self.packets.len() > self.limit {
+            self.cutoff = Some(take_lowest(&mut self.packets));
+            self.mark = true;
+        }
+        Ok(())
+    }
+
+    /// The next unit, where its turn has come: there is no cutoff, or it starts right after the cutoff, or more complete
+    /// frames are held than `hold_back`. Else `None`, which takes no memory.
+    ///
+    /// A fault other than want of memory is the depacketizer's, and its frame has left; the next unit can be contiguous all
+    /// the same, since its numbers follow. On want of memory nothing has changed but what the depacketizer holds.
+    ///
+    /// Looks at the held packets once.
+    pub fn pop(&mut self) -> Option<Result<Depacketized, PacketError>>
+        ensures pops { Pops self.old result self.new }
+        ensures waits { due_of self.old ≡ Option.None → result ≡ Option.None }
+        ensures limit { self.new.limit ≡ self.old.limit }
+    {
+        match self.due() {
+            Some(frame) => Some(self.take_frame(frame)),
+            None => None,
+        }
+    }
+
+    /// How many packets are held.
+    pub fn held(&self) -> usize
+        ensures count { result ≡ length self.now.held }
+        ensures few { result ≤ self.now.limit }
+        ensures sound { IsSound self.now }
+    {
+        self.packets.len()
+    }
+
+    /// The frame that a pop takes next, if one may be taken.
+    fn due(&self) -> Option<Segment>
+        ensures due { result ≡ due_of self.now }
+        ensures rises { Rises self.now.held }
+    {
+        let found = search_frames(&self.packets);
+        let frame = found.first?;
+        if starts_next(self.cutoff, frame.first) || found.count > self.hold_back {
+            Some(frame)
+        } else {
+            None
+        }
+    }
+
+    /// Takes the frame that is due. All memory is found before anything but the depacketizer changes.
+    fn take_frame(&mut self, frame: Segment) -> Result<Depacketized, PacketError>
+        requires { due_of self.old ≡ Option.Some frame }
+        ensures takes { TakesFrame self.old result self.new }
+        ensures limit { self.new.limit ≡ self.old.limit }
+    {
+        let alloc = *self.packets.allocator();
+        let (from, to) = frame_range(&self.packets, frame);
+        let metas = copy_metas(alloc, &self.packets, from, to)?;
+        let mut bytes = make_room(alloc, &self.depack, &self.packets, from, to)?;
+        let mut codec_extra = CodecExtra::None;
+        match unpack(
+            &mut self.depack,
+            &self.packets,
+            from,
+            to,
+            &mut bytes,
+            &mut codec_extra,
+        ) {
+            Ok(()) => {}
+            Err(fault) => {
+                if !is_out_of_memory(&fault) {
+                    remove_up_to(&mut self.packets, frame.last);
+                    self.cutoff = Some(frame.last);
+                }
+                return Err(fault);
+            }
+        }
+        let contiguous = starts_next(self.cutoff, frame.first) && !self.mark;
+        remove_up_to(&mut self.packets, frame.last);
+        self.cutoff = Some(frame.last);
+        self.mark = false;
+        Ok(Depacketized::new(metas[0].time, contiguous, bytes, codec_extra, metas))
+    }
+}
+
+/// Whether memory was wanting.
+fn is_out_of_memory(fault: &PacketError) -> bool
+    ensures { IsTrue result ↔ (fault.now ≡ OutOfMemory) }
+{
+    matches!(fault, PacketError::OutOfMemory)
+}
+
+/// The frames of a buffer are the complete frames of the set of packets that it holds, in the order of their starts.
+pub fn frames_of_set()
+    ensures same { AreFramesOfSet }
+    ensures in_order { AreInOrder }
+    ensures apart { AreApart }
+    ensures only { AreOnlyList }
+    ensures longest { BothSaySame }
+{}
+
+/// What the pushes between two pops leave is told by the set of their numbers: neither their order nor repeats matter.
+pub fn order_of_pushes()
+    ensures leaves { LeavesNumbers }
+    ensures free { OrderIsFree }
+{}

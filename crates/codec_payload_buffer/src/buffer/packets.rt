@@ -1,0 +1,198 @@
+//! The packets that a buffer holds, in rising order of sequence number.
+
+ghost use Rattle.std.specs.Prelude.{◌≡◌, ◌≤◌, ◌<◌, IfOk, OnOk, OnErr, map, drop, slice_range, [], min, vec_capacity};
+ghost use Rattle.std.specs.VecDeque.{deque_len};
+ghost use Rattle.codec_payload_buffer.specs.Depack.{depack_of, kind_of_depack, hint_of};
+ghost use Rattle.codec_payload_buffer.specs.Held.{held_of, Rises, has_number, placed, between, above, TakesLowest};
+ghost use Rattle.codec_payload_buffer.specs.Scan.{place_of, end_of, total_size, room_for};
+ghost use Rattle.codec_payload_buffer.specs.Steps.{is_at_most, starts_right_after, metas_of, Unpacks, answer_of};
+
+use super::frames::Segment;
+use super::unit::RtpMeta;
+use crate::codec::{CodecDepacketizer, Depacketizer};
+use codec_payload_base::error::PacketError;
+use codec_payload_base::interface::CodecExtra;
+use std::alloc::{AllocError, Global};
+use std::collections::VecDeque;
+
+/// A packet that is held. Whether it begins and ends a unit was asked of the depacketizer when it came.
+#[derive(Debug, Drop)]
+pub(super) struct HeldPacket {
+    pub(super) meta: RtpMeta,
+    pub(super) bytes: Vec<u8>,
+    pub(super) head: bool,
+    pub(super) tail: bool,
+}
+
+/// Whether the number is at or below the cutoff.
+pub(super) fn is_too_late(cutoff: Option<u64>, number: u64) -> bool
+    ensures { result ≡ is_at_most cutoff number }
+{
+    cutoff.is_some_and(|c| number <= c)
+}
+
+/// Whether the number is the one after the cutoff, or there is no cutoff.
+pub(super) fn starts_next(cutoff: Option<u64>, first: u64) -> bool
+    ensures { result ≡ starts_right_after cutoff first }
+{
+    match cutoff {
+        Some(c) => c < first && first - c == 1,
+        None => true,
+    }
+}
+
+/// Where the first packet of at least that number stands or would stand. A binary search.
+pub(super) fn find_place(packets: &VecDeque<HeldPacket>, number: u64) -> usize
+    requires { Rises (map held_of packets.now.items) }
+    ensures { result ≡ place_of number (map held_of packets.now.items) }
+{
+    packets.partition_point(|p| p.meta.seq_no.0 < number)
+}
+
+/// How many packets stand up to that number. A binary search.
+fn count_up_to(packets: &VecDeque<HeldPacket>, last: u64) -> usize
+    requires { Rises (map held_of packets.now.items) }
+    ensures { result ≡ end_of last (map held_of packets.now.items) }
+{
+    packets.partition_point(|p| p.meta.seq_no.0 <= last)
+}
+
+/// Whether a packet of that number stands at its place.
+pub(super) fn is_at(packets: &VecDeque<HeldPacket>, place: usize, number: u64) -> bool
+    requires rises { Rises (map held_of packets.now.items) }
+    requires place { place ≡ place_of number (map held_of packets.now.items) }
+    ensures { result ≡ has_number number (map held_of packets.now.items) }
+{
+    place < packets.len() && packets[place].meta.seq_no.0 == number
+}
+
+/// Puts a packet at its place. Nothing moves where it is the last.
+pub(super) fn place_at(
+    packets: &mut VecDeque<HeldPacket>,
+    place: usize,
+    packet: HeldPacket,
+) -> Result<(), AllocError>
+    requires { place ≡ place_of packet.meta.seq_no.0 (map held_of packets.old.items) }
+    ensures ok { OnOk result (map held_of packets.new.items ≡ placed (held_of packet) (map held_of packets.old.items)) }
+    ensures err { OnErr result (packets.new.items ≡ packets.old.items) }
+{
+    match packets.insert(place, packet) {
+        Ok(()) => Ok(()),
+        Err(_) => Err(AllocError),
+    }
+}
+
+/// Takes the lowest packet out, and says its number.
+pub(super) fn take_lowest(packets: &mut VecDeque<HeldPacket>) -> u64
+    requires { 0 < deque_len packets.old }
+    ensures { TakesLowest (map held_of packets.old.items) result (map held_of packets.new.items) }
+{
+    let lowest = packets.pop_front().unwrap();
+    lowest.meta.seq_no.0
+}
+
+/// Where the packets of a frame begin and end.
+pub(super) fn frame_range(packets: &VecDeque<HeldPacket>, frame: Segment) -> (usize, usize)
+    requires rises { Rises (map held_of packets.now.items) }
+    requires order { frame.first ≤ frame.last }
+    ensures order { result.0 ≤ result.1 }
+    ensures within { result.1 ≤ deque_len packets.now }
+    ensures part { map held_of (slice_range packets.now.items result.0 result.1) ≡ between frame.first frame.last (map held_of packets.now.items) }
+{
+    (
+        find_place(packets, frame.first),
+        count_up_to(packets, frame.last),
+    )
+}
+
+/// What is known of the packets from one place to another.
+pub(super) fn copy_metas(
+    alloc: Global,
+    packets: &VecDeque<HeldPacket>,
+    from: usize,
+    to: usize,
+) -> Result<Vec<RtpMeta>, AllocError>
+    requires order { from ≤ to }
+    requires within { to ≤ deque_len packets.now }
+    ensures { IfOk result (λ metas. metas.items ≡ metas_of (map held_of (slice_range packets.now.items from to))) }
+{
+    let mut metas = Vec::with_capacity(alloc, to - from)?;
+    for packet in packets.range(from..to) {
+        metas.push(packet.meta.clone()?)?;
+    }
+    Ok(metas)
+}
+
+/// How many bytes these packets carry, at most the greatest `usize`.
+fn payload_size(packets: &VecDeque<HeldPacket>, from: usize, to: usize) -> usize
+    requires order { from ≤ to }
+    requires within { to ≤ deque_len packets.now }
+    ensures { result ≡ min (total_size (map held_of (slice_range packets.now.items from to))) usize.MAX }
+{
+    let mut size = 0usize;
+    for packet in packets.range(from..to) {
+        size = size.saturating_add(packet.bytes.len());
+    }
+    size
+}
+
+/// Room for what these packets carry, as the depacketizer expects it.
+pub(super) fn make_room(
+    alloc: Global,
+    depack: &CodecDepacketizer,
+    packets: &VecDeque<HeldPacket>,
+    from: usize,
+    to: usize,
+) -> Result<Vec<u8>, AllocError>
+    requires order { from ≤ to }
+    requires within { to ≤ deque_len packets.now }
+    ensures empty { IfOk result (λ bytes. bytes.items ≡ []) }
+    ensures room { IfOk result (λ bytes. vec_capacity bytes ≡ room_for (hint_of (depack_of depack.now) (min (total_size (map held_of (slice_range packets.now.items from to))) usize.MAX))) }
+{
+    match depack.out_size_hint(payload_size(packets, from, to)) {
+        Some(size) => Vec::with_capacity(alloc, size),
+        None => Ok(Vec::new(alloc)),
+    }
+}
+
+/// The payloads of these packets to the depacketizer, in order, up to the first that it refuses.
+pub(super) fn unpack(
+    depack: &mut CodecDepacketizer,
+    packets: &VecDeque<HeldPacket>,
+    from: usize,
+    to: usize,
+    bytes: &mut Vec<u8>,
+    codec_extra: &mut CodecExtra,
+) -> Result<(), PacketError>
+    requires order { from ≤ to }
+    requires within { to ≤ deque_len packets.now }
+    ensures unpacks { Unpacks (depack_of depack.old) (map held_of (slice_range packets.now.items from to))
+        (record { bytes = bytes.old.items; extra = codec_extra.old })
+        (answer_of result (record { bytes = bytes.new.items; extra = codec_extra.new })) (depack_of depack.new) }
+    ensures kind { kind_of_depack (depack_of depack.new) ≡ kind_of_depack (depack_of depack.old) }
+{
+    for packet in packets.range(from..to) {
+        match depack.depacketize(&packet.bytes, bytes, codec_extra) {
+            Ok(()) => {}
+            Err(fault) => return Err(fault),
+        }
+    }
+    Ok(())
+}
+
+/// The packets up to that number leave.
+pub(super) fn remove_up_to(packets: &mut VecDeque<HeldPacket>, last: u64)
+    requires { Rises (map held_of packets.old.items) }
+    ensures { map held_of packets.new.items ≡ above last (map held_of packets.old.items) }
+{
+    let count = count_up_to(packets, last);
+    drop_front(packets, count);
+}
+
+/// The first `count` packets leave.
+fn drop_front(packets: &mut VecDeque<HeldPacket>, count: usize)
+    requires { count ≤ deque_len packets.old }
+    ensures { packets.new.items ≡ drop count packets.old.items }
+{
+    packets.drain(..count);
+}

@@ -1,0 +1,182 @@
+use super::*;
+use codec_payload_audio::plain::OpusDepacketizer;
+use codec_payload_base::wire::{
+    ExtensionValues, Frequency, MediaTime, Pt, RtpHeader, SenderInfo, SeqNo, Ticks,
+};
+use std::process::Abort;
+use std::test::Fail;
+
+fn meta(number: u64, time: u64) -> RtpMeta {
+    RtpMeta {
+        received: Ticks(0),
+        time: MediaTime::new(time, Frequency::FORTY_EIGHT_KHZ),
+        seq_no: SeqNo(number),
+        header: RtpHeader {
+            payload_type: Pt::new_with_value(96),
+            sequence_number: (number % 65_536) as u16,
+            timestamp: (time % 4_294_967_296) as u32,
+            ssrc: 0,
+            marker: false,
+            ext_vals: ExtensionValues {},
+        },
+        last_sender_info: None,
+    }
+}
+
+fn opus_buffer(alloc: Global, hold_back: usize) -> DepacketizingBuffer {
+    DepacketizingBuffer::new(
+        alloc,
+        CodecDepacketizer::Opus(OpusDepacketizer {}),
+        hold_back,
+    )
+}
+
+/// What is done to a buffer, and what it must answer.
+#[derive(Clone, Copy, Debug)]
+enum Step {
+    /// A packet of that number, each with a time of its own.
+    Push(u64),
+    /// The number of the unit that comes out, and whether it is contiguous.
+    Pop(Option<(u64, bool)>),
+    /// How many packets are held.
+    Held(usize),
+}
+
+/// The number of the next unit, and whether it is contiguous.
+fn pop(buffer: &mut DepacketizingBuffer) -> Result<Option<(u64, bool)>, PacketError> {
+    match buffer.pop() {
+        Some(Ok(unit)) => Ok(Some((unit.seq_range().start().0, unit.contiguous))),
+        Some(Err(fault)) => Err(fault),
+        None => Ok(None),
+    }
+}
+
+fn do_steps(rt: &impl Abort, alloc: Global, hold_back: usize, steps: &[Step]) -> Result<(), Fail> {
+    let mut buffer = opus_buffer(alloc, hold_back);
+    for (place, step) in steps.iter().enumerate() {
+        match *step {
+            Step::Push(number) => {
+                let payload = Vec::from_slice(alloc, &[7])?;
+                buffer.push(meta(number, number), payload)?;
+            }
+            Step::Pop(answer) => assert_eq!(rt; pop(&mut buffer)?, answer, "at step {place}"),
+            Step::Held(count) => assert_eq!(rt; buffer.held(), count, "at step {place}"),
+        }
+    }
+    Ok(())
+}
+
+#[test]
+fn opus_hold_back_1(rt: HostRuntime) -> Result<(), Fail> {
+    let steps = [
+        Step::Push(10),
+        Step::Pop(Some((10, true))),
+        Step::Push(12),
+        Step::Pop(None),
+        Step::Push(13),
+        Step::Pop(Some((12, false))),
+        Step::Push(11),
+        Step::Held(1),
+        Step::Pop(Some((13, true))),
+        Step::Pop(None),
+    ];
+    do_steps(&rt, rt.alloc(), 1, &steps)
+}
+
+#[test]
+fn opus_hold_back_max(rt: HostRuntime) -> Result<(), Fail> {
+    let steps = [
+        Step::Push(1),
+        Step::Pop(Some((1, true))),
+        Step::Push(3),
+        Step::Pop(None),
+        Step::Push(2),
+        Step::Pop(Some((2, true))),
+        Step::Pop(Some((3, true))),
+    ];
+    do_steps(&rt, rt.alloc(), usize::MAX, &steps)
+}
+
+#[test]
+fn opus_hold_back_0_goes_on_over_a_gap(rt: HostRuntime) -> Result<(), Fail> {
+    let steps = [
+        Step::Push(3),
+        Step::Push(0),
+        Step::Pop(Some((0, true))),
+        Step::Pop(Some((3, false))),
+        Step::Pop(None),
+    ];
+    do_steps(&rt, rt.alloc(), 0, &steps)
+}
+
+#[test]
+fn opus_last_number(rt: HostRuntime) -> Result<(), Fail> {
+    let steps = [
+        Step::Push(u64::MAX),
+        Step::Pop(Some((u64::MAX, true))),
+        Step::Push(0),
+        Step::Push(u64::MAX),
+        Step::Held(0),
+        Step::Pop(None),
+    ];
+    do_steps(&rt, rt.alloc(), 0, &steps)
+}
+
+/// A packet below all that a full buffer holds leaves at once, and yet the unit after it does not follow.
+#[test]
+fn full_buffer_evicts_the_packet_that_came(rt: HostRuntime) -> Result<(), Fail> {
+    let mut buffer = opus_buffer(rt.alloc(), usize::MAX);
+    for number in 1..=4_096 {
+        buffer.push(meta(number, number), Vec::new(rt.alloc()))?;
+    }
+    buffer.push(meta(0, 0), Vec::new(rt.alloc()))?;
+    assert_eq!(rt; buffer.held(), 4_096);
+    assert_eq!(rt; pop(&mut buffer)?, Some((1, false)));
+    assert_eq!(rt; pop(&mut buffer)?, Some((2, true)));
+    Ok(())
+}
+
+/// Of two packets of one number the first stays. Two packets of one time are two units.
+#[test]
+fn units_are_what_came_first(rt: HostRuntime) -> Result<(), Fail> {
+    let mut buffer = opus_buffer(rt.alloc(), 0);
+    for (number, byte) in [(1, 5), (1, 6), (2, 7)] {
+        buffer.push(meta(number, 960), Vec::from_slice(rt.alloc(), &[byte])?)?;
+    }
+    for byte in [5, 7] {
+        let unit = buffer.pop().ok_or("no unit")??;
+        assert_eq!(rt; unit.bytes.as_slice(), [byte].as_slice());
+        assert_eq!(rt; unit.time.numer(), 960);
+        assert_eq!(rt; unit.codec_extra, CodecExtra::None);
+    }
+    Ok(())
+}
+
+/// Three packets, of which the second and the third were received first.
+#[test]
+fn unit_tells_of_its_packets(rt: HostRuntime) -> Result<(), Fail> {
+    let mut metas = Vec::new(rt.alloc());
+    for (number, received) in [(4, 9), (5, 8), (6, 8)] {
+        let mut meta = meta(number, 960);
+        meta.received = Ticks(received);
+        meta.header.marker = number == 4;
+        meta.last_sender_info = Some(SenderInfo {
+            ssrc: 1,
+            ntp_time: number,
+            rtp_time: 2,
+            packet_count: 3,
+            octet_count: 4,
+        });
+        metas.push(meta)?;
+    }
+    assert_eq!(rt; metas.len(), 3);
+    let time = MediaTime::from_90khz(960);
+    let bytes = Vec::new(rt.alloc());
+    let unit = Depacketized::new(time, true, bytes, CodecExtra::None, metas);
+    assert_eq!(rt; unit.meta().len(), 3);
+    assert_eq!(rt; unit.first_network_time(), Ticks(8));
+    assert_eq!(rt; unit.first_sender_info().map(|info| info.ntp_time), Some(5));
+    assert_eq!(rt; unit.seq_range(), SeqNo(4)..=SeqNo(6));
+    assert_eq!(rt; unit.start_of_talkspurt(), true);
+    Ok(())
+}

@@ -1,0 +1,136 @@
+//! What is known of a received packet, and units with what is known of their packets.
+
+ghost use Rattle.std.specs.Prelude.{◌≡◌, ◌<◌, length, false};
+ghost use Rattle.std.specs.Range.{range_inclusive_start, range_inclusive_end, range_inclusive_exhausted};
+ghost use Rattle.codec_payload_buffer.specs.Release.{IsFirst, IsLast, IsReceivedFirst};
+ghost use Rattle.codec_payload_buffer.specs.declared.buffer.unit.RtpMeta.{RtpMeta as Meta};
+
+use codec_payload_base::interface::CodecExtra;
+use codec_payload_base::wire::{MediaTime, RtpHeader, SenderInfo, SeqNo, Ticks};
+use std::marker::Model;
+use std::ops::RangeInclusive;
+
+/// What is known of a received packet besides its payload.
+#[derive(Clone, Debug, PartialEq, Eq, Drop)]
+pub struct RtpMeta {
+    /// When it was received, by the caller's clock.
+    pub received: Ticks,
+    pub time: MediaTime,
+    pub seq_no: SeqNo,
+    pub header: RtpHeader,
+    /// What the latest sender report before it said.
+    pub last_sender_info: Option<SenderInfo>,
+}
+
+/// A unit that was put together from the payloads of one packet or more.
+#[derive(Debug, Drop)]
+pub struct Depacketized {
+    /// The one time of its packets.
+    pub time: MediaTime,
+    /// Whether it follows the unit that was released before it, with nothing lost in between.
+    pub contiguous: bool,
+    /// The unit itself.
+    pub bytes: Vec<u8>,
+    /// What its payloads told besides.
+    pub codec_extra: CodecExtra,
+    metas: Vec<RtpMeta>,
+}
+
+impl Model for Depacketized {
+    ghost use Rattle.std.specs.Prelude.{◌<◌, length};
+    ghost use Rattle.codec_payload_buffer.specs.Release.{Release};
+
+    ghost Value = { Release };
+
+    ghost view = { λ u. record {
+      time = u.time;
+      contiguous = u.contiguous;
+      bytes = u.bytes.items;
+      codec_extra = u.codec_extra;
+      metas = u.metas.items;
+    } };
+
+    ghost invariant = { λ u. 0 < length u.metas.items };
+}
+
+impl Depacketized {
+    pub(super) fn new(
+        time: MediaTime,
+        contiguous: bool,
+        bytes: Vec<u8>,
+        codec_extra: CodecExtra,
+        metas: Vec<RtpMeta>,
+    ) -> Self
+        requires { 0 < length metas.items }
+        ensures { result ≡ record {
+          time = time;
+          contiguous = contiguous;
+          bytes = bytes.items;
+          codec_extra = codec_extra;
+          metas = metas.items;
+        } }
+    {
+        Depacketized {
+            time,
+            contiguous,
+            bytes,
+            codec_extra,
+            metas,
+        }
+    }
+
+    /// What is known of its packets, in order of their sequence numbers. There is at least one.
+    pub fn meta(&self) -> &[RtpMeta]
+        ensures value { result.now ≡ self.now.metas }
+        ensures some { 0 < length result.now }
+    {
+        self.metas.as_slice()
+    }
+
+    /// When the first of its packets was received. The cost grows with the packets.
+    pub fn first_network_time(&self) -> Ticks
+        ensures { (m : Meta) × IsReceivedFirst self.now.metas m × (result ≡ m.received) }
+    {
+        received_first(self.meta()).received
+    }
+
+    /// What the latest sender report said when the first of its packets was received; of several received at that time,
+    /// the one with the least sequence number. The cost grows with the packets.
+    pub fn first_sender_info(&self) -> Option<SenderInfo>
+        ensures { (m : Meta) × IsReceivedFirst self.now.metas m × (result ≡ m.last_sender_info) }
+    {
+        received_first(self.meta()).last_sender_info
+    }
+
+    /// The sequence numbers of its first packet and its last.
+    pub fn seq_range(&self) -> RangeInclusive<SeqNo>
+        ensures start { (m : Meta) × IsFirst self.now.metas m × (range_inclusive_start result ≡ m.seq_no) }
+        ensures end { (m : Meta) × IsLast self.now.metas m × (range_inclusive_end result ≡ m.seq_no) }
+        ensures whole { range_inclusive_exhausted result ≡ false }
+    {
+        let metas = self.meta();
+        metas[0].seq_no..=metas[metas.len() - 1].seq_no
+    }
+
+    /// Whether its first packet has the marker of the RTP header, which audio sets where a talk spurt starts
+    /// (RFC 3551, section 4.1).
+    pub fn start_of_talkspurt(&self) -> bool
+        ensures { (m : Meta) × IsFirst self.now.metas m × (result ≡ m.header.marker) }
+    {
+        self.meta()[0].header.marker
+    }
+}
+
+/// The first of those that were received at the least time.
+fn received_first(metas: &[RtpMeta]) -> &RtpMeta
+    requires { 0 < length metas.now }
+    ensures { IsReceivedFirst metas.now result.now }
+{
+    let mut first = 0;
+    for (i, meta) in metas.iter().enumerate() {
+        if meta.received.0 < metas[first].received.0 {
+            first = i;
+        }
+    }
+    &metas[first]
+}

@@ -1,0 +1,295 @@
+//! A packetizer and a depacketizer of any codec that is there.
+
+ghost use Rattle.std.specs.Prelude.{◌≡◌, ◌≤◌, option_map, IsTrue, false};
+ghost use Rattle.std.specs.Option.{option_copied};
+ghost use Rattle.codec_payload_base.specs.Answers.{packets_of};
+ghost use Rattle.codec_payload_buffer.specs.Pack.{pack_of, pack_for, configured, PackStep, marker_of, talkspurt_of, nackable_of};
+ghost use Rattle.codec_payload_buffer.specs.Depack.{depack_of, depack_for, configured_depack, kind_of_depack, DepackStep, head_of, tail_of, hint_of};
+
+use codec_payload_audio::amr_wb::{AmrWbDepacketizer, AmrWbPacketizer};
+use codec_payload_audio::plain::{
+    ComfortNoiseDepacketizer, ComfortNoisePacketizer, G711Depacketizer, G711Packetizer,
+    G722Packetizer, NullDepacketizer, NullPacketizer, OpusDepacketizer, OpusPacketizer,
+};
+use codec_payload_audio::tele::{TelephoneEventDepacketizer, TelephoneEventPacketizer};
+use codec_payload_av1::av1::{Av1Depacketizer, Av1Packetizer};
+use codec_payload_base::error::PacketError;
+pub use codec_payload_base::interface::{
+    Av1CodecExtra, CodecExtra, Depacketizer, Packetizer, TelephoneEvent, Vp8CodecExtra,
+    Vp9PacketizerMode,
+};
+use codec_payload_base::wire::{Codec, CodecSpec};
+use codec_payload_vp8::vp8::{Vp8Depacketizer, Vp8Packetizer};
+use std::alloc::Global;
+
+/// A packetizer of a built-in codec.
+#[derive(Debug, Drop)]
+pub enum CodecPacketizer {
+    G711(G711Packetizer),
+    G722(G722Packetizer),
+    Opus(OpusPacketizer),
+    ComfortNoise(ComfortNoisePacketizer),
+    Tele(TelephoneEventPacketizer),
+    Vp8(Vp8Packetizer),
+    Av1(Av1Packetizer),
+    AmrWb(AmrWbPacketizer),
+    Null(NullPacketizer),
+}
+
+impl CodecPacketizer {
+    /// The packetizer of a codec, or `None` where the codec has none. `mode` and `first_id` are those of VP9: its mode,
+    /// and the picture id of the first frame.
+    pub fn new(codec: Codec, _mode: Vp9PacketizerMode, first_id: u16) -> Option<Self>
+        requires { first_id ≤ 32767 }
+        ensures { option_map pack_of result ≡ pack_for codec }
+    {
+        match codec {
+            Codec::PCMU | Codec::PCMA => Some(CodecPacketizer::G711(G711Packetizer {})),
+            Codec::G722 => Some(CodecPacketizer::G722(G722Packetizer {})),
+            Codec::Opus => Some(CodecPacketizer::Opus(OpusPacketizer {})),
+            Codec::CN => Some(CodecPacketizer::ComfortNoise(ComfortNoisePacketizer {})),
+            Codec::Tele => Some(CodecPacketizer::Tele(TelephoneEventPacketizer {})),
+            Codec::Vp8 => Some(CodecPacketizer::Vp8(Vp8Packetizer::default())),
+            Codec::Av1 => Some(CodecPacketizer::Av1(Av1Packetizer::default())),
+            Codec::AmrWb => Some(CodecPacketizer::AmrWb(AmrWbPacketizer::default())),
+            Codec::Null => Some(CodecPacketizer::Null(NullPacketizer {})),
+            _ => None,
+        }
+    }
+
+    /// The same with the non-flexible mode and the picture id 0.
+    pub fn from_codec(codec: Codec) -> Option<Self>
+        ensures { option_map pack_of result ≡ pack_for codec }
+    {
+        CodecPacketizer::new(codec, Vp9PacketizerMode::NonFlexible, 0)
+    }
+
+    /// Takes over what a specification says of payloads: the layout of AMR-WB. Other codecs stay as they are.
+    pub fn configure_for(&mut self, spec: &CodecSpec)
+        ensures { pack_of self.new ≡ configured spec.now.octet_align (pack_of self.old) }
+    {
+        if let CodecPacketizer::AmrWb(p) = self {
+            p.octet_align = spec.octet_align;
+        }
+    }
+}
+
+/// Each call is that of the chosen packetizer.
+impl Packetizer for CodecPacketizer {
+    ghost use Rattle.codec_payload_buffer.specs.declared.codec.CodecPacketizer.TheVariants.{G711, G722, Opus, ComfortNoise, Tele, Vp8, Av1, AmrWb, Null};
+
+    ghost state = { elim [ G711 p ↦ ⟦<G711Packetizer as Packetizer>⟧.state p | G722 p ↦ ⟦<G722Packetizer as Packetizer>⟧.state p | Opus p ↦ ⟦<OpusPacketizer as Packetizer>⟧.state p | ComfortNoise p ↦ ⟦<ComfortNoisePacketizer as Packetizer>⟧.state p | Tele p ↦ ⟦<TelephoneEventPacketizer as Packetizer>⟧.state p | Vp8 p ↦ ⟦<Vp8Packetizer as Packetizer>⟧.state p | Av1 p ↦ ⟦<Av1Packetizer as Packetizer>⟧.state p | AmrWb p ↦ ⟦<AmrWbPacketizer as Packetizer>⟧.state p | Null p ↦ ⟦<NullPacketizer as Packetizer>⟧.state p ] };
+
+    ghost packetize_step = { elim [ G711 p ↦ ⟦<G711Packetizer as Packetizer>⟧.packetize_step p | G722 p ↦ ⟦<G722Packetizer as Packetizer>⟧.packetize_step p | Opus p ↦ ⟦<OpusPacketizer as Packetizer>⟧.packetize_step p | ComfortNoise p ↦ ⟦<ComfortNoisePacketizer as Packetizer>⟧.packetize_step p | Tele p ↦ ⟦<TelephoneEventPacketizer as Packetizer>⟧.packetize_step p | Vp8 p ↦ ⟦<Vp8Packetizer as Packetizer>⟧.packetize_step p | Av1 p ↦ ⟦<Av1Packetizer as Packetizer>⟧.packetize_step p | AmrWb p ↦ ⟦<AmrWbPacketizer as Packetizer>⟧.packetize_step p | Null p ↦ ⟦<NullPacketizer as Packetizer>⟧.packetize_step p ] };
+
+    ghost marker_step = { elim [ G711 p ↦ ⟦<G711Packetizer as Packetizer>⟧.marker_step p | G722 p ↦ ⟦<G722Packetizer as Packetizer>⟧.marker_step p | Opus p ↦ ⟦<OpusPacketizer as Packetizer>⟧.marker_step p | ComfortNoise p ↦ ⟦<ComfortNoisePacketizer as Packetizer>⟧.marker_step p | Tele p ↦ ⟦<TelephoneEventPacketizer as Packetizer>⟧.marker_step p | Vp8 p ↦ ⟦<Vp8Packetizer as Packetizer>⟧.marker_step p | Av1 p ↦ ⟦<Av1Packetizer as Packetizer>⟧.marker_step p | AmrWb p ↦ ⟦<AmrWbPacketizer as Packetizer>⟧.marker_step p | Null p ↦ ⟦<NullPacketizer as Packetizer>⟧.marker_step p ] };
+
+    ghost may_mark = { elim [ G711 p ↦ ⟦<G711Packetizer as Packetizer>⟧.may_mark p | G722 p ↦ ⟦<G722Packetizer as Packetizer>⟧.may_mark p | Opus p ↦ ⟦<OpusPacketizer as Packetizer>⟧.may_mark p | ComfortNoise p ↦ ⟦<ComfortNoisePacketizer as Packetizer>⟧.may_mark p | Tele p ↦ ⟦<TelephoneEventPacketizer as Packetizer>⟧.may_mark p | Vp8 p ↦ ⟦<Vp8Packetizer as Packetizer>⟧.may_mark p | Av1 p ↦ ⟦<Av1Packetizer as Packetizer>⟧.may_mark p | AmrWb p ↦ ⟦<AmrWbPacketizer as Packetizer>⟧.may_mark p | Null p ↦ ⟦<NullPacketizer as Packetizer>⟧.may_mark p ] };
+
+    ghost may_do_without = { elim [ G711 p ↦ ⟦<G711Packetizer as Packetizer>⟧.may_do_without p | G722 p ↦ ⟦<G722Packetizer as Packetizer>⟧.may_do_without p | Opus p ↦ ⟦<OpusPacketizer as Packetizer>⟧.may_do_without p | ComfortNoise p ↦ ⟦<ComfortNoisePacketizer as Packetizer>⟧.may_do_without p | Tele p ↦ ⟦<TelephoneEventPacketizer as Packetizer>⟧.may_do_without p | Vp8 p ↦ ⟦<Vp8Packetizer as Packetizer>⟧.may_do_without p | Av1 p ↦ ⟦<Av1Packetizer as Packetizer>⟧.may_do_without p | AmrWb p ↦ ⟦<AmrWbPacketizer as Packetizer>⟧.may_do_without p | Null p ↦ ⟦<NullPacketizer as Packetizer>⟧.may_do_without p ] };
+
+    fn packetize(
+        &mut self,
+        alloc: Global,
+        mtu: usize,
+        b: &[u8],
+    ) -> Result<Vec<Vec<u8>>, PacketError>
+        ensures step { ⟦<CodecPacketizer as Packetizer>⟧.packetize_step self.old mtu b.now (packets_of result) (⟦<CodecPacketizer as Packetizer>⟧.state self.new) }
+        ensures built_in { PackStep (pack_of self.old) mtu b.now (packets_of result) (pack_of self.new) }
+    {
+        match self {
+            CodecPacketizer::G711(p) => p.packetize(alloc, mtu, b),
+            CodecPacketizer::G722(p) => p.packetize(alloc, mtu, b),
+            CodecPacketizer::Opus(p) => p.packetize(alloc, mtu, b),
+            CodecPacketizer::ComfortNoise(p) => p.packetize(alloc, mtu, b),
+            CodecPacketizer::Tele(p) => p.packetize(alloc, mtu, b),
+            CodecPacketizer::Vp8(p) => p.packetize(alloc, mtu, b),
+            CodecPacketizer::Av1(p) => p.packetize(alloc, mtu, b),
+            CodecPacketizer::AmrWb(p) => p.packetize(alloc, mtu, b),
+            CodecPacketizer::Null(p) => p.packetize(alloc, mtu, b),
+        }
+    }
+
+    fn is_marker(&mut self, data: &[u8], previous: Option<&[u8]>, last: bool) -> bool
+        ensures step { ⟦<CodecPacketizer as Packetizer>⟧.marker_step self.old «data».now (option_copied previous.entry) last result (⟦<CodecPacketizer as Packetizer>⟧.state self.new) }
+        ensures built_in { result ≡ marker_of (pack_of self.old) last }
+        ensures same { pack_of self.new ≡ pack_of self.old }
+    {
+        match self {
+            CodecPacketizer::G711(p) => p.is_marker(data, previous, last),
+            CodecPacketizer::G722(p) => p.is_marker(data, previous, last),
+            CodecPacketizer::Opus(p) => p.is_marker(data, previous, last),
+            CodecPacketizer::ComfortNoise(p) => p.is_marker(data, previous, last),
+            CodecPacketizer::Tele(p) => p.is_marker(data, previous, last),
+            CodecPacketizer::Vp8(p) => p.is_marker(data, previous, last),
+            CodecPacketizer::Av1(p) => p.is_marker(data, previous, last),
+            CodecPacketizer::AmrWb(p) => p.is_marker(data, previous, last),
+            CodecPacketizer::Null(p) => p.is_marker(data, previous, last),
+        }
+    }
+
+    fn marks_talkspurt(&self) -> bool
+        ensures step { IsTrue result → ⟦<CodecPacketizer as Packetizer>⟧.may_mark self.now }
+        ensures built_in { result ≡ talkspurt_of (pack_of self.now) }
+    {
+        match self {
+            CodecPacketizer::G711(p) => p.marks_talkspurt(),
+            CodecPacketizer::G722(p) => p.marks_talkspurt(),
+            CodecPacketizer::Opus(p) => p.marks_talkspurt(),
+            CodecPacketizer::ComfortNoise(p) => p.marks_talkspurt(),
+            CodecPacketizer::Tele(p) => p.marks_talkspurt(),
+            CodecPacketizer::Vp8(p) => p.marks_talkspurt(),
+            CodecPacketizer::Av1(p) => p.marks_talkspurt(),
+            CodecPacketizer::AmrWb(p) => p.marks_talkspurt(),
+            CodecPacketizer::Null(p) => p.marks_talkspurt(),
+        }
+    }
+
+    fn nackable(&self) -> bool
+        ensures step { result ≡ false → ⟦<CodecPacketizer as Packetizer>⟧.may_do_without self.now }
+        ensures built_in { result ≡ nackable_of (pack_of self.now) }
+    {
+        match self {
+            CodecPacketizer::G711(p) => p.nackable(),
+            CodecPacketizer::G722(p) => p.nackable(),
+            CodecPacketizer::Opus(p) => p.nackable(),
+            CodecPacketizer::ComfortNoise(p) => p.nackable(),
+            CodecPacketizer::Tele(p) => p.nackable(),
+            CodecPacketizer::Vp8(p) => p.nackable(),
+            CodecPacketizer::Av1(p) => p.nackable(),
+            CodecPacketizer::AmrWb(p) => p.nackable(),
+            CodecPacketizer::Null(p) => p.nackable(),
+        }
+    }
+}
+
+/// A depacketizer of a built-in codec.
+#[derive(Debug, Drop)]
+pub enum CodecDepacketizer {
+    G711(G711Depacketizer),
+    Opus(OpusDepacketizer),
+    ComfortNoise(ComfortNoiseDepacketizer),
+    Tele(TelephoneEventDepacketizer),
+    Vp8(Vp8Depacketizer),
+    Av1(Av1Depacketizer),
+    AmrWb(AmrWbDepacketizer),
+    Null(NullDepacketizer),
+}
+
+impl CodecDepacketizer {
+    /// The depacketizer of a codec, or `None` where the codec has none. G.722 is put together as G.711 is.
+    pub fn from_codec(alloc: Global, codec: Codec) -> Option<Self>
+        ensures { option_map depack_of result ≡ depack_for codec }
+    {
+        match codec {
+            Codec::PCMU | Codec::PCMA | Codec::G722 => {
+                Some(CodecDepacketizer::G711(G711Depacketizer {}))
+            }
+            Codec::Opus => Some(CodecDepacketizer::Opus(OpusDepacketizer {})),
+            Codec::CN => Some(CodecDepacketizer::ComfortNoise(ComfortNoiseDepacketizer {})),
+            Codec::Tele => Some(CodecDepacketizer::Tele(TelephoneEventDepacketizer::default())),
+            Codec::Vp8 => Some(CodecDepacketizer::Vp8(Vp8Depacketizer::default())),
+            Codec::Av1 => Some(CodecDepacketizer::Av1(Av1Depacketizer::new(alloc))),
+            Codec::AmrWb => Some(CodecDepacketizer::AmrWb(AmrWbDepacketizer::default())),
+            Codec::Null => Some(CodecDepacketizer::Null(NullDepacketizer {})),
+            _ => None,
+        }
+    }
+
+    /// Takes over what a specification says of payloads: the layout of AMR-WB, and the clock of telephone events. Other
+    /// codecs stay as they are.
+    pub fn configure_for(&mut self, spec: &CodecSpec)
+        ensures { depack_of self.new ≡ configured_depack spec.now.octet_align spec.now.clock_rate (depack_of self.old) }
+    {
+        match self {
+            CodecDepacketizer::AmrWb(d) => d.octet_align = spec.octet_align,
+            CodecDepacketizer::Tele(d) => *d = TelephoneEventDepacketizer::new(spec.clock_rate),
+            _ => {}
+        }
+    }
+}
+
+/// Each call is that of the chosen depacketizer.
+impl Depacketizer for CodecDepacketizer {
+    ghost use Rattle.codec_payload_buffer.specs.declared.codec.CodecDepacketizer.TheVariants.{G711 as G711In, Opus as OpusIn, ComfortNoise as ComfortNoiseIn, Tele as TeleIn, Vp8 as Vp8In, Av1 as Av1In, AmrWb as AmrWbIn, Null as NullIn};
+
+    ghost state = { elim [ G711In p ↦ ⟦<G711Depacketizer as Depacketizer>⟧.state p | OpusIn p ↦ ⟦<OpusDepacketizer as Depacketizer>⟧.state p | ComfortNoiseIn p ↦ ⟦<ComfortNoiseDepacketizer as Depacketizer>⟧.state p | TeleIn p ↦ ⟦<TelephoneEventDepacketizer as Depacketizer>⟧.state p | Vp8In p ↦ ⟦<Vp8Depacketizer as Depacketizer>⟧.state p | Av1In p ↦ ⟦<Av1Depacketizer as Depacketizer>⟧.state p | AmrWbIn p ↦ ⟦<AmrWbDepacketizer as Depacketizer>⟧.state p | NullIn p ↦ ⟦<NullDepacketizer as Depacketizer>⟧.state p ] };
+
+    ghost depacketize_step = { elim [ G711In p ↦ ⟦<G711Depacketizer as Depacketizer>⟧.depacketize_step p | OpusIn p ↦ ⟦<OpusDepacketizer as Depacketizer>⟧.depacketize_step p | ComfortNoiseIn p ↦ ⟦<ComfortNoiseDepacketizer as Depacketizer>⟧.depacketize_step p | TeleIn p ↦ ⟦<TelephoneEventDepacketizer as Depacketizer>⟧.depacketize_step p | Vp8In p ↦ ⟦<Vp8Depacketizer as Depacketizer>⟧.depacketize_step p | Av1In p ↦ ⟦<Av1Depacketizer as Depacketizer>⟧.depacketize_step p | AmrWbIn p ↦ ⟦<AmrWbDepacketizer as Depacketizer>⟧.depacketize_step p | NullIn p ↦ ⟦<NullDepacketizer as Depacketizer>⟧.depacketize_step p ] };
+
+    ghost size_hint = { elim [ G711In p ↦ ⟦<G711Depacketizer as Depacketizer>⟧.size_hint p | OpusIn p ↦ ⟦<OpusDepacketizer as Depacketizer>⟧.size_hint p | ComfortNoiseIn p ↦ ⟦<ComfortNoiseDepacketizer as Depacketizer>⟧.size_hint p | TeleIn p ↦ ⟦<TelephoneEventDepacketizer as Depacketizer>⟧.size_hint p | Vp8In p ↦ ⟦<Vp8Depacketizer as Depacketizer>⟧.size_hint p | Av1In p ↦ ⟦<Av1Depacketizer as Depacketizer>⟧.size_hint p | AmrWbIn p ↦ ⟦<AmrWbDepacketizer as Depacketizer>⟧.size_hint p | NullIn p ↦ ⟦<NullDepacketizer as Depacketizer>⟧.size_hint p ] };
+
+    ghost is_head = { elim [ G711In p ↦ ⟦<G711Depacketizer as Depacketizer>⟧.is_head p | OpusIn p ↦ ⟦<OpusDepacketizer as Depacketizer>⟧.is_head p | ComfortNoiseIn p ↦ ⟦<ComfortNoiseDepacketizer as Depacketizer>⟧.is_head p | TeleIn p ↦ ⟦<TelephoneEventDepacketizer as Depacketizer>⟧.is_head p | Vp8In p ↦ ⟦<Vp8Depacketizer as Depacketizer>⟧.is_head p | Av1In p ↦ ⟦<Av1Depacketizer as Depacketizer>⟧.is_head p | AmrWbIn p ↦ ⟦<AmrWbDepacketizer as Depacketizer>⟧.is_head p | NullIn p ↦ ⟦<NullDepacketizer as Depacketizer>⟧.is_head p ] };
+
+    ghost is_tail = { elim [ G711In p ↦ ⟦<G711Depacketizer as Depacketizer>⟧.is_tail p | OpusIn p ↦ ⟦<OpusDepacketizer as Depacketizer>⟧.is_tail p | ComfortNoiseIn p ↦ ⟦<ComfortNoiseDepacketizer as Depacketizer>⟧.is_tail p | TeleIn p ↦ ⟦<TelephoneEventDepacketizer as Depacketizer>⟧.is_tail p | Vp8In p ↦ ⟦<Vp8Depacketizer as Depacketizer>⟧.is_tail p | Av1In p ↦ ⟦<Av1Depacketizer as Depacketizer>⟧.is_tail p | AmrWbIn p ↦ ⟦<AmrWbDepacketizer as Depacketizer>⟧.is_tail p | NullIn p ↦ ⟦<NullDepacketizer as Depacketizer>⟧.is_tail p ] };
+
+    fn out_size_hint(&self, packets_size: usize) -> Option<usize>
+        ensures step { result ≡ ⟦<CodecDepacketizer as Depacketizer>⟧.size_hint self.now packets_size }
+        ensures built_in { result ≡ hint_of (depack_of self.now) packets_size }
+    {
+        match self {
+            CodecDepacketizer::G711(d) => d.out_size_hint(packets_size),
+            CodecDepacketizer::Opus(d) => d.out_size_hint(packets_size),
+            CodecDepacketizer::ComfortNoise(d) => d.out_size_hint(packets_size),
+            CodecDepacketizer::Tele(d) => d.out_size_hint(packets_size),
+            CodecDepacketizer::Vp8(d) => d.out_size_hint(packets_size),
+            CodecDepacketizer::Av1(d) => d.out_size_hint(packets_size),
+            CodecDepacketizer::AmrWb(d) => d.out_size_hint(packets_size),
+            CodecDepacketizer::Null(d) => d.out_size_hint(packets_size),
+        }
+    }
+
+    fn depacketize(
+        &mut self,
+        packet: &[u8],
+        out: &mut Vec<u8>,
+        codec_extra: &mut CodecExtra,
+    ) -> Result<(), PacketError>
+        ensures step { ⟦<CodecDepacketizer as Depacketizer>⟧.depacketize_step self.old packet.now out.old.items codec_extra.old result (⟦<CodecDepacketizer as Depacketizer>⟧.state self.new) out.new.items codec_extra.new }
+        ensures built_in { DepackStep (depack_of self.old) packet.now out.old.items codec_extra.old result (depack_of self.new) out.new.items codec_extra.new }
+        ensures kind { kind_of_depack (depack_of self.new) ≡ kind_of_depack (depack_of self.old) }
+    {
+        match self {
+            CodecDepacketizer::G711(d) => d.depacketize(packet, out, codec_extra),
+            CodecDepacketizer::Opus(d) => d.depacketize(packet, out, codec_extra),
+            CodecDepacketizer::ComfortNoise(d) => d.depacketize(packet, out, codec_extra),
+            CodecDepacketizer::Tele(d) => d.depacketize(packet, out, codec_extra),
+            CodecDepacketizer::Vp8(d) => d.depacketize(packet, out, codec_extra),
+            CodecDepacketizer::Av1(d) => d.depacketize(packet, out, codec_extra),
+            CodecDepacketizer::AmrWb(d) => d.depacketize(packet, out, codec_extra),
+            CodecDepacketizer::Null(d) => d.depacketize(packet, out, codec_extra),
+        }
+    }
+
+    fn is_partition_head(&self, packet: &[u8]) -> bool
+        ensures step { result ≡ ⟦<CodecDepacketizer as Depacketizer>⟧.is_head self.now packet.now }
+        ensures built_in { result ≡ head_of (depack_of self.now) packet.now }
+    {
+        match self {
+            CodecDepacketizer::G711(d) => d.is_partition_head(packet),
+            CodecDepacketizer::Opus(d) => d.is_partition_head(packet),
+            CodecDepacketizer::ComfortNoise(d) => d.is_partition_head(packet),
+            CodecDepacketizer::Tele(d) => d.is_partition_head(packet),
+            CodecDepacketizer::Vp8(d) => d.is_partition_head(packet),
+            CodecDepacketizer::Av1(d) => d.is_partition_head(packet),
+            CodecDepacketizer::AmrWb(d) => d.is_partition_head(packet),
+            CodecDepacketizer::Null(d) => d.is_partition_head(packet),
+        }
+    }
+
+    fn is_partition_tail(&self, marker: bool, packet: &[u8]) -> bool
+        ensures step { result ≡ ⟦<CodecDepacketizer as Depacketizer>⟧.is_tail self.now marker packet.now }
+        ensures built_in { result ≡ tail_of (depack_of self.now) marker packet.now }
+    {
+        match self {
+            CodecDepacketizer::G711(d) => d.is_partition_tail(marker, packet),
+            CodecDepacketizer::Opus(d) => d.is_partition_tail(marker, packet),
+            CodecDepacketizer::ComfortNoise(d) => d.is_partition_tail(marker, packet),
+            CodecDepacketizer::Tele(d) => d.is_partition_tail(marker, packet),
+            CodecDepacketizer::Vp8(d) => d.is_partition_tail(marker, packet),
+            CodecDepacketizer::Av1(d) => d.is_partition_tail(marker, packet),
+            CodecDepacketizer::AmrWb(d) => d.is_partition_tail(marker, packet),
+            CodecDepacketizer::Null(d) => d.is_partition_tail(marker, packet),
+        }
+    }
+}

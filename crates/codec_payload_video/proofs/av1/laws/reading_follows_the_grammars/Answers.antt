@@ -1,9 +1,0 @@
-use Rattle.codec_payload_video.proofs.Av1GrammarLemmas.{payload_sound, payload_complete}
-use Rattle.codec_payload_video.proofs.Av1Sequence.{sequence_sound, sequence_complete}
-use Rattle.codec_payload_video.proofs.av1.laws.reading_follows_the_grammars.Goals as goal
-
-pub returns-clause-obus : goal.returns-clause-obus
-returns-clause-obus c = λ frame obus. (sequence_complete obus frame, sequence_sound frame obus)
-
-pub returns-clause-payloads : goal.returns-clause-payloads
-returns-clause-payloads c = λ bytes p. (payload_complete bytes p, payload_sound bytes p)

@@ -1,4 +1,0 @@
-use Rattle.codec_payload_video.proofs.av1.leb.+number_front.Given as goal
-
-abbrev pub decreases-number_front : goal.decreases-number_front
-decreases-number_front l = l.more
