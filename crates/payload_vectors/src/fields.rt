@@ -3,8 +3,8 @@
 ghost use Rattle.std.specs.Prelude.{◌≡◌, ◌⊎◌, ◌↔◌, ◌^◌, codes, IsSome, IfSome, Some, false, true};
 ghost use Rattle.std.specs.Option.{SomeIff};
 ghost use Rattle.std.specs.Str.Parse.{digits_value};
-ghost use Rattle.codec_payload_buffer.specs.Depack.{depack_for};
-ghost use Rattle.codec_payload_buffer.specs.Pack.{pack_for};
+ghost use Rattle.codec_payload_core.specs.Depack.{depack_for};
+ghost use Rattle.codec_payload_core.specs.Pack.{pack_for};
 ghost use Rattle.payload_vectors.specs.Fields.{IsNumber, codec_of, names_octet_aligned};
 
 use codec_payload_core::wire::Codec;

@@ -4,8 +4,8 @@ ghost use Rattle.std.specs.Prelude.{ℕ, List, ◌≡◌, ◌∷◌, [], ◌⊎�
 ghost use Rattle.std.specs.List.{slice_split};
 ghost use Rattle.std.specs.Option.{SomeIff};
 ghost use Rattle.std.specs.Str.Parse.{digits_value};
-ghost use Rattle.codec_payload_buffer.specs.Depack.{depack_for};
-ghost use Rattle.codec_payload_buffer.specs.Pack.{pack_for};
+ghost use Rattle.codec_payload_core.specs.Depack.{depack_for};
+ghost use Rattle.codec_payload_core.specs.Pack.{pack_for};
 ghost use Rattle.payload_vectors.specs.Fields.{AreSample, AreSetup, IsNumber};
 
 use crate::digits::hex_field;
