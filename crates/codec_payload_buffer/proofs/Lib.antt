@@ -1,4 +1,5 @@
 pub mod CaseLemmas
+pub mod DepackLemmas
 pub mod FrameLemmas
 pub mod FrameParts
 pub mod FrontLemmas

@@ -37,7 +37,7 @@ not_below n [] a = refl
 not_below n (p ∷ ps) a = grind (arith, nat_tests, not_below n ps a.1, a.0)
 
 -- a number below the first isn't there
-absent_below : (n : ℕ) (q : Held) (qs : List Held) → n < q.meta.seq_no.0 → AllAbove q.meta.seq_no.0 qs → has_number n (q ∷ qs) ≡ false
+pub absent_below : (n : ℕ) (q : Held) (qs : List Held) → n < q.meta.seq_no.0 → AllAbove q.meta.seq_no.0 qs → has_number n (q ∷ qs) ≡ false
 absent_below n q qs l a = grind (arith, nat_tests, not_below n qs (above_lower n q.meta.seq_no.0 qs (omega arith) a))
 
 -- the number stands at its place, if it is there

@@ -9,13 +9,13 @@ use Rattle.codec_payload_buffer.specs.Frames.{frames}
 use Rattle.codec_payload_buffer.proofs.FrameParts.{IsPart, IsRun}
 use Rattle.codec_payload_base.specs.Time.{Time}
 use Rattle.codec_payload_buffer.specs.Scan.{first_of}
-use Rattle.codec_payload_buffer.specs.Steps.{State, IsSound, due_of, due_among, starts_right_after, packets_of_frame, AllOfTime, metas_of, PassesOver}
+use Rattle.codec_payload_buffer.specs.Steps.{State, IsSound, due_of, due_among, starts_right_after, packets_of_frame, AllOfTime, metas_of, Passes, none, one_more, PassesOver}
 use Rattle.codec_payload_buffer.specs.declared.buffer.unit.RtpMeta.{RtpMeta}
 use Rattle.std.proofs.Common.{zero, suc, get_or, subst}
 use Rattle.codec_payload_buffer.proofs.CaseLemmas.{by_test}
 use Rattle.codec_payload_buffer.proofs.RowLemmas.{first_split, first_le_last, part_between}
 
-due_first : (s : State) (fs : List Segment) (f : Segment) → due_among s fs ≡ Some f → first_of fs ≡ Some f
+pub due_first : (s : State) (fs : List Segment) (f : Segment) → due_among s fs ≡ Some f → first_of fs ≡ Some f
 due_first s [] f h = absurd (cc)
 due_first s (g ∷ gs) f h =
     by_test (starts_right_after s.cutoff g.first || ltb s.hold_back (length (g ∷ gs))) (λ b. cond b (Some g) None ≡ Some f → Some g ≡ Some f)
@@ -67,6 +67,11 @@ when_left items new last limit r few is = record {
 pub passes_shorter : (s t : State) → Rises s.held → PassesOver s t → length t.held < length s.held
 passes_shorter s t r p = rw p.left (due_shorter s p.frame r p.is_due)
 
+-- where no frame is due, none is passed over, and so none is due afterwards
+pub nothing_passed : (s t : State) (over : List Segment) (f : Segment) → due_of s ≡ None → Passes s over t → due_of t ≡ Some f → ⊥
+nothing_passed s t over f waits none due = cc
+nothing_passed s u over f waits (one_more passes passed) due = nothing_passed s _ _ passed.frame waits passes passed.is_due
+
 run_times : (packets : List Held) (first last : ℕ) (time : Time) → IsRun first last time packets → AllOfTime time packets
 run_times [] first last time run k d l = absurd run
 run_times (p ∷ []) first last time run zero d l = run.2
@@ -75,7 +80,7 @@ run_times (p ∷ q ∷ ps) first last time run zero d l = run.1
 run_times (p ∷ q ∷ ps) first last time run (suc k) d l = run_times (q ∷ ps) (first + 1) last time run.3 k d (omega arith)
 
 -- the packets of the frame that is due are there, and have one time
-due_packets : (s : State) (f : Segment) → Rises s.held → due_of s ≡ Some f → (time : Time) × AllOfTime time (packets_of_frame s f) × (0 < length (packets_of_frame s f))
+pub due_packets : (s : State) (f : Segment) → Rises s.held → due_of s ≡ Some f → (time : Time) × AllOfTime time (packets_of_frame s f) × (0 < length (packets_of_frame s f))
 due_packets s f r h =
     let part = part_due s f h in
     let split = part_between part.2.before part.0 part.1 f.first f.last part.2.time part.2.run (rw (← part.2.whole) r) in

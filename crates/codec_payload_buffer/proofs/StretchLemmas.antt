@@ -77,11 +77,11 @@ gathered_rises c hs [] r = r
 gathered_rises c hs (p ∷ ps) r = gathered_rises c (with_one c hs p) ps (with_one_rises c hs p r)
 
 -- Lists of numbers that rise
-number_in : (n : ℕ) (hs : List Held) → has_number n hs ≡ true → IsIn n (map number_of hs)
+pub number_in : (n : ℕ) (hs : List Held) → has_number n hs ≡ true → IsIn n (map number_of hs)
 number_in n [] h = absurd (cc)
 number_in n (p ∷ ps) h = by_test (eqb p.meta.seq_no.0 n) (λ b. (b || has_number n ps) ≡ true → (n ≡ p.meta.seq_no.0) ⊎ IsIn n (map number_of ps)) (λ e h. inl (grind (arith, nat_tests, e))) (λ e h. inr (number_in n ps h)) h
 
-in_number : (n : ℕ) (hs : List Held) → IsIn n (map number_of hs) → has_number n hs ≡ true
+pub in_number : (n : ℕ) (hs : List Held) → IsIn n (map number_of hs) → has_number n hs ≡ true
 in_number n [] h = absurd h
 in_number n (p ∷ ps) (inl e) = grind (arith, nat_tests, e)
 in_number n (p ∷ ps) (inr h) = grind (arith, nat_tests, in_number n ps h)
@@ -101,19 +101,19 @@ range_above test n low (suc count) l = by_test (test low) (λ b. KeysAbove (λ (
     (λ e. (l, range_above test n (low + 1) count (omega arith)))
     (λ e. range_above test n (low + 1) count (omega arith))
 
-range_rises : (test : ℕ → Bool) (low count : ℕ) → KeysRise (λ (m : ℕ). m) (filter test (numbers_from low count))
+pub range_rises : (test : ℕ → Bool) (low count : ℕ) → KeysRise (λ (m : ℕ). m) (filter test (numbers_from low count))
 range_rises test low zero = tt
 range_rises test low (suc count) = by_test (test low) (λ b. KeysRise (λ (m : ℕ). m) (cond b (low ∷ filter test (numbers_from (low + 1) count)) (filter test (numbers_from (low + 1) count))))
     (λ e. (range_above test low (low + 1) count (omega arith), range_rises test (low + 1) count))
     (λ e. range_rises test (low + 1) count)
 
-in_range : (test : ℕ → Bool) (n low count : ℕ) → IsIn n (filter test (numbers_from low count)) → test n ≡ true
+pub in_range : (test : ℕ → Bool) (n low count : ℕ) → IsIn n (filter test (numbers_from low count)) → test n ≡ true
 in_range test n low zero h = absurd h
 in_range test n low (suc count) h = by_test (test low) (λ b. test low ≡ b → IsIn n (cond b (low ∷ filter test (numbers_from (low + 1) count)) (filter test (numbers_from (low + 1) count))) → test n ≡ true)
     (λ e is h. elim h [ inl same ↦ ap test same ∙ is | inr k ↦ in_range test n (low + 1) count k ])
     (λ e is h. in_range test n (low + 1) count h) refl h
 
-range_in : (test : ℕ → Bool) (n low count : ℕ) → low ≤ n → n < low + count → test n ≡ true → IsIn n (filter test (numbers_from low count))
+pub range_in : (test : ℕ → Bool) (n low count : ℕ) → low ≤ n → n < low + count → test n ≡ true → IsIn n (filter test (numbers_from low count))
 range_in test n low zero le l t = absurd (omega arith)
 range_in test n low (suc count) le l t = by_test (test low) (λ b. test low ≡ b → IsIn n (cond b (low ∷ filter test (numbers_from (low + 1) count)) (filter test (numbers_from (low + 1) count))))
     (λ e is. elim (cases_lt low n) [ inl over ↦ inr (range_in test n (low + 1) count (omega arith) (omega arith) t) | inr at ↦ inl (omega arith) ])

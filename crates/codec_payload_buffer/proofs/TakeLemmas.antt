@@ -1,15 +1,17 @@
 -- What comes of the frame that is due, from what the code has done.
-use Rattle.std.proofs.Common.{◌≡◌, ◌≢◌, ℕ, refl, sym, subst, List, [], Some, Ok, Err, Bool, false, Result, inl, inr}
+use Rattle.std.proofs.Common.{◌≡◌, ◌≢◌, ℕ, refl, sym, subst, List, [], Some, Ok, Err, Bool, true, false, Result, inl, inr}
 use Rattle.codec_payload_base.specs.Time.{Time}
 use Rattle.codec_payload_base.specs.declared.error.PacketError.{PacketError}
 use Rattle.codec_payload_base.specs.declared.error.PacketError.TheVariants as faults
 use Rattle.codec_payload_base.specs.declared.interface.CodecExtra.TheVariants as extras
+use Rattle.codec_payload_buffer.specs.ContiguityTable.{checked}
 use Rattle.codec_payload_buffer.specs.Depack.{Depack, kind_of_depack}
 use Rattle.codec_payload_buffer.specs.Held.{Held, above}
 use Rattle.codec_payload_buffer.specs.Release.{Release}
-use Rattle.codec_payload_buffer.specs.Steps.{State, Unpacked, Unpacks, Gives, NoContiguity, due_of, packets_of_frame, metas_of, AllOfTime, follows, TakesFrame, Releases}
+use Rattle.codec_payload_buffer.specs.Steps.{State, Unpacked, Unpacks, Gives, due_of, packets_of_frame, metas_of, AllOfTime, follows, TakesFrame, Releases, PassesOver}
 use Rattle.codec_payload_buffer.specs.declared.buffer.frames.Segment.{Segment}
 use Rattle.codec_payload_buffer.specs.declared.buffer.unit.RtpMeta.{RtpMeta}
+use Rattle.codec_payload_buffer.specs.declared.contiguity.Contiguity.{Contiguity}
 
 -- what the depacketizer gave for the packets of a frame
 pub gives_of : (s : State) (f : Segment) (packets : List Held) (bytes : List ℕ) (answer : Result Unpacked PacketError) (e : Depack) → packets ≡ packets_of_frame s f → bytes ≡ [] → Unpacks s.depack packets (record { bytes = bytes; extra = extras.None }) answer e → Gives s f answer e
@@ -17,24 +19,42 @@ gives_of s f packets bytes answer e is empty gives = rw (is, empty) at gives
 
 module _ (s t : State) (same : s ≡ t) (f : Segment) (due : due_of s ≡ Some f) (e : Depack) where
   -- it goes out
-  pub released : (r : Release) (time : Time) (contiguous : Bool) (u : Unpacked) (metas : List RtpMeta) (new : List Held)
+  pub released : (r : Release) (time : Time) (contiguous seq : Bool) (c : Contiguity) (u : Unpacked) (metas : List RtpMeta) (new : List Held)
       → r ≡ record { time = time; contiguous = contiguous; bytes = u.bytes; codec_extra = u.extra; metas = metas }
-      → s.contiguity ≡ NoContiguity → Gives s f (Ok u) e → AllOfTime time (packets_of_frame s f) → metas ≡ metas_of (packets_of_frame s f) → contiguous ≡ follows s f → new ≡ above f.last s.held
-      → Releases t r (record s { held = new; cutoff = Some f.last; depack = e; mark = false })
-  released r time contiguous u metas new is none gives of_time of_packets follow left =
-      subst (λ (x : State). Releases x r (record s { held = new; cutoff = Some f.last; depack = e; mark = false })) same
-      (subst (λ (x : Release). Releases s x (record s { held = new; cutoff = Some f.last; depack = e; mark = false })) (sym is)
-      (record {
+      → Gives s f (Ok u) e → AllOfTime time (packets_of_frame s f) → metas ≡ metas_of (packets_of_frame s f) → seq ≡ follows s f → checked s.contiguity u.extra seq ≡ (true, contiguous, c) → new ≡ above f.last s.held
+      → Releases t r (record s { held = new; cutoff = Some f.last; depack = e; contiguity = c; mark = false })
+  released r time contiguous seq c u metas new is gives of_time of_packets follow answer left =
+      subst (λ (x : State). Releases x r (record s { held = new; cutoff = Some f.last; depack = e; contiguity = c; mark = false })) same
+      (subst (λ (x : Release). Releases s x (record s { held = new; cutoff = Some f.last; depack = e; contiguity = c; mark = false })) (sym is)
+      (let given : checked s.contiguity u.extra (follows s f) ≡ (true, contiguous, c) = subst (λ (b : Bool). checked s.contiguity u.extra b ≡ (true, contiguous, c)) follow answer in
+      record {
         frame = f;
         is_due = due;
         depack = e;
         gives = gives;
-        may = rw none refl;
+        may = rw given refl;
         time = of_time;
         metas = of_packets;
-        contiguous = rw none follow;
-        left = rw (none, left) refl;
+        contiguous = rw given refl;
+        left = rw (given, left) refl;
       }))
+
+  -- it may not go out
+  pub passed_over : (contiguous seq : Bool) (c : Contiguity) (u : Unpacked) (new : List Held)
+      → Gives s f (Ok u) e → seq ≡ follows s f → checked s.contiguity u.extra seq ≡ (false, contiguous, c) → new ≡ above f.last s.held
+      → PassesOver t (record s { held = new; cutoff = Some f.last; depack = e; contiguity = c })
+  passed_over contiguous seq c u new gives follow answer left =
+      subst (λ (x : State). PassesOver x (record s { held = new; cutoff = Some f.last; depack = e; contiguity = c })) same
+      (let given : checked s.contiguity u.extra (follows s f) ≡ (false, contiguous, c) = subst (λ (b : Bool). checked s.contiguity u.extra b ≡ (false, contiguous, c)) follow answer in
+      record {
+        frame = f;
+        is_due = due;
+        unpacked = u;
+        depack = e;
+        gives = gives;
+        may_not = rw given refl;
+        left = rw (given, left) refl;
+      })
 
   -- the depacketizer refuses it
   pub refused : (u : State) (fault : PacketError) (new : List Held) → u ≡ record s { held = new; cutoff = Some f.last; depack = e } → fault ≢ faults.OutOfMemory → Gives s f (Err fault) e → new ≡ above f.last s.held → TakesFrame t (Err fault) u

@@ -2,7 +2,7 @@
 use Rattle.std.specs.Prelude.{map}
 use Rattle.codec_payload_buffer.specs.Depack.{depack_of}
 use Rattle.codec_payload_buffer.specs.Held.{held_of}
-use Rattle.codec_payload_buffer.specs.Steps.{State, NoContiguity}
+use Rattle.codec_payload_buffer.specs.Steps.{State}
 use Rattle.codec_payload_buffer.specs.declared.buffer.DepacketizingBuffer.TheInside.{Inside}
 
 -- what the fields say of the buffer
@@ -11,7 +11,7 @@ state_of b = record {
   held = map held_of b.packets.items;
   cutoff = b.cutoff;
   mark = b.mark;
-  contiguity = NoContiguity;
+  contiguity = b.contiguity;
   depack = depack_of b.depack;
   hold_back = b.hold_back;
   limit = b.limit;

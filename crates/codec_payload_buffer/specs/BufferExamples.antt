@@ -3,10 +3,11 @@ use Rattle.std.specs.Prelude.{◌≡◌, ℕ, Bool, true, false, List, [], ◌�
 use Rattle.codec_payload_buffer.specs.Depack.{OpusDepack}
 use Rattle.codec_payload_buffer.specs.Held.{Held}
 use Rattle.codec_payload_buffer.specs.Frames.{frames}
-use Rattle.codec_payload_buffer.specs.Steps.{State, NoContiguity, arrived, pushed, due_of, follows, without}
+use Rattle.codec_payload_buffer.specs.Steps.{State, arrived, pushed, due_of, follows, without}
 use Rattle.codec_payload_buffer.specs.Stretches.{after_pushes}
 use Rattle.codec_payload_buffer.specs.declared.buffer.frames.Segment.{Segment}
 use Rattle.codec_payload_buffer.specs.declared.buffer.unit.RtpMeta.{RtpMeta}
+use Rattle.codec_payload_buffer.specs.declared.contiguity.Contiguity.TheVariants as kept
 
 -- the metadata of a packet of that number and time
 abbrev meta_at : ℕ → ℕ → RtpMeta
@@ -47,11 +48,11 @@ opus_packet number = arrived OpusDepack (meta_at number number) []
 
 -- nothing was pushed
 abbrev opus_start : State
-opus_start = record { held = []; cutoff = None; mark = false; contiguity = NoContiguity; depack = OpusDepack; hold_back = 1; limit = 4096 }
+opus_start = record { held = []; cutoff = None; mark = false; contiguity = kept.None; depack = OpusDepack; hold_back = 1; limit = 4096 }
 
 -- the frame of that one packet has left
 abbrev after_unit : State → ℕ → State
-after_unit s number = without s (frame_of number number) OpusDepack NoContiguity false
+after_unit s number = without s (frame_of number number) OpusDepack kept.None false
 
 -- 10 comes, and goes at once, as the first does
 pub hold_back_1-first : due_of (pushed opus_start (opus_packet 10)) ≡ Some (frame_of 10 10)

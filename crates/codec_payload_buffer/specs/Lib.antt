@@ -1,5 +1,6 @@
 pub mod Buffer
 pub mod BufferExamples
+pub mod ContiguityTable
 pub mod Depack
 pub mod Frames
 pub mod Held

@@ -5,20 +5,14 @@ use Rattle.codec_payload_base.specs.declared.error.PacketError.{PacketError}
 use Rattle.codec_payload_base.specs.declared.error.PacketError.TheVariants as faults
 use Rattle.codec_payload_base.specs.declared.interface.CodecExtra.{CodecExtra}
 use Rattle.codec_payload_base.specs.declared.interface.CodecExtra.TheVariants as extras
+use Rattle.codec_payload_buffer.specs.ContiguityTable.{checked}
 use Rattle.codec_payload_buffer.specs.Depack.{Depack, DepackStep, kind_of_depack, head_of, tail_of}
 use Rattle.codec_payload_buffer.specs.Held.{Held, number_of, has_number, placed, between, above, Rises, IsAboveCutoff}
 use Rattle.codec_payload_buffer.specs.Frames.{frames}
 use Rattle.codec_payload_buffer.specs.Release.{Release}
 use Rattle.codec_payload_buffer.specs.declared.buffer.frames.Segment.{Segment}
 use Rattle.codec_payload_buffer.specs.declared.buffer.unit.RtpMeta.{RtpMeta}
-
--- what a buffer remembers of the units that it released, to tell whether the next may go out
-pub data Contiguity : Type 0 where
-  NoContiguity : Contiguity
-
--- may a unit with this extra go out, does it follow, and what is remembered then; `seq` says whether the numbers follow
-abbrev pub checked : Contiguity → CodecExtra → Bool → Bool × Bool × Contiguity
-checked NoContiguity extra seq = (true, seq, NoContiguity)
+use Rattle.codec_payload_buffer.specs.declared.contiguity.Contiguity.{Contiguity}
 
 -- a buffer, as contracts see it: the held packets, in rising order; the number up to which packets come too late, if
 -- there is one; whether a packet was evicted since the latest release; what is remembered of released units; the
@@ -172,6 +166,12 @@ pub data Passes : State → List Segment → State → Type 0 where
 abbrev pub TakesFrame : State → Result Release PacketError → State → Type 0
 TakesFrame s (Ok r) t = Releases s r t
 TakesFrame s (Err fault) t = ((fault ≡ faults.OutOfMemory) × Stalls s t) ⊎ Refuses s fault t
+
+-- what a pop makes of the frame that is due: it passes it over, or answers a unit or a fault
+abbrev pub TriesFrame : State → Result (Option Release) PacketError → State → Type 0
+TriesFrame s (Ok None) t = PassesOver s t
+TriesFrame s (Ok (Some r)) t = TakesFrame s (Ok r) t
+TriesFrame s (Err fault) t = TakesFrame s (Err fault) t
 
 -- a pop that passes these frames over, from the state before, its answer and the state after
 abbrev pub PopsOver : State → List Segment → Option (Result Release PacketError) → State → Type 0

@@ -2,10 +2,11 @@
 
 ghost use Rattle.std.specs.Prelude.{◌≡◌, ◌≤◌, ◌<◌, IsTrue, IsOk, false, OnOk, OnErr, IfErr, length, Option, [], ◌↔◌};
 ghost use Rattle.codec_payload_base.specs.declared.error.PacketError.TheVariants.{OutOfMemory};
-ghost use Rattle.codec_payload_buffer.specs.Depack.{depack_of};
+ghost use Rattle.codec_payload_buffer.specs.ContiguityTable.{contiguity_for};
+ghost use Rattle.codec_payload_buffer.specs.Depack.{depack_of, kind_of_depack};
 ghost use Rattle.codec_payload_buffer.specs.Held.{Rises};
 ghost use Rattle.codec_payload_buffer.specs.Frames.{AreFramesOfSet, AreInOrder, AreApart, AreOnlyList, BothSaySame};
-ghost use Rattle.codec_payload_buffer.specs.Steps.{IsSound, NoContiguity, arrived, pushed, is_dropped, due_of, TakesFrame, Pops};
+ghost use Rattle.codec_payload_buffer.specs.Steps.{IsSound, arrived, pushed, is_dropped, due_of, TriesFrame, Pops};
 ghost use Rattle.codec_payload_buffer.specs.Stretches.{LeavesNumbers, OrderIsFree};
 
 pub mod frames;
@@ -15,6 +16,7 @@ mod tests;
 mod unit;
 
 use crate::codec::{CodecDepacketizer, Depacketizer};
+use crate::contiguity::Contiguity;
 use codec_payload_base::error::PacketError;
 use codec_payload_base::interface::CodecExtra;
 use frames::{Segment, search_frames};
@@ -41,6 +43,8 @@ pub struct DepacketizingBuffer {
     cutoff: Option<u64>,
     /// Whether a packet was evicted since the latest release.
     mark: bool,
+    /// The picture ids of the latest release, by which the next is judged.
+    contiguity: Contiguity,
     depack: CodecDepacketizer,
     hold_back: usize,
     limit: usize,
@@ -49,7 +53,7 @@ pub struct DepacketizingBuffer {
 impl Model for DepacketizingBuffer {
     ghost use Rattle.std.specs.Prelude.{map};
     ghost use Rattle.codec_payload_buffer.specs.Held.{held_of};
-    ghost use Rattle.codec_payload_buffer.specs.Steps.{State, IsSound, NoContiguity};
+    ghost use Rattle.codec_payload_buffer.specs.Steps.{State, IsSound};
     ghost use Rattle.codec_payload_buffer.specs.Depack.{depack_of};
     ghost use Rattle.codec_payload_buffer.specs.Buffer.{state_of};
 
@@ -68,7 +72,7 @@ impl DepacketizingBuffer {
           held = [];
           cutoff = Option.None;
           mark = false;
-          contiguity = NoContiguity;
+          contiguity = contiguity_for (kind_of_depack (depack_of depack));
           depack = depack_of depack;
           hold_back = hold_back;
           limit = 4096;
@@ -78,6 +82,7 @@ impl DepacketizingBuffer {
             packets: VecDeque::new(alloc),
             cutoff: None,
             mark: false,
+            contiguity: Contiguity::of(&depack),
             depack,
             hold_back,
             limit: HELD_LIMIT,
@@ -122,19 +127,26 @@ impl DepacketizingBuffer {
     /// The next unit, where its turn has come: there is no cutoff, or it starts right after the cutoff, or more complete
     /// frames are held than `hold_back`. Else `None`, which takes no memory.
     ///
+    /// A frame of VP8 or VP9 that may not go out by its picture ids, as one older than the latest release, is passed over:
+    /// it leaves, and the turn of the next frame is looked at.
+    ///
     /// A fault other than want of memory is the depacketizer's, and its frame has left; the next unit can be contiguous all
     /// the same, since its numbers follow. On want of memory nothing has changed but what the depacketizer holds.
     ///
-    /// Looks at the held packets once.
+    /// Looks at the held packets once for each frame that it takes.
     pub fn pop(&mut self) -> Option<Result<Depacketized, PacketError>>
         ensures pops { Pops self.old result self.new }
         ensures waits { due_of self.old ≡ Option.None → result ≡ Option.None }
         ensures limit { self.new.limit ≡ self.old.limit }
     {
-        match self.due() {
-            Some(frame) => Some(self.take_frame(frame)),
-            None => None,
+        while let Some(frame) = self.due() {
+            match self.take_frame(frame) {
+                Ok(None) => {}
+                Ok(Some(unit)) => return Some(Ok(unit)),
+                Err(fault) => return Some(Err(fault)),
+            }
         }
+        None
     }
 
     /// How many packets are held.
@@ -160,10 +172,11 @@ impl DepacketizingBuffer {
         }
     }
 
-    /// Takes the frame that is due. All memory is found before anything but the depacketizer changes.
-    fn take_frame(&mut self, frame: Segment) -> Result<Depacketized, PacketError>
+    /// Takes the frame that is due, which may be passed over. All memory is found before anything but the depacketizer
+    /// changes.
+    fn take_frame(&mut self, frame: Segment) -> Result<Option<Depacketized>, PacketError>
         requires { due_of self.old ≡ Option.Some frame }
-        ensures takes { TakesFrame self.old result self.new }
+        ensures takes { TriesFrame self.old result self.new }
         ensures limit { self.new.limit ≡ self.old.limit }
     {
         let alloc = *self.packets.allocator();
@@ -188,11 +201,16 @@ impl DepacketizingBuffer {
                 return Err(fault);
             }
         }
-        let contiguous = starts_next(self.cutoff, frame.first) && !self.mark;
+        let follows = starts_next(self.cutoff, frame.first) && !self.mark;
+        let (may_go, contiguous) = self.contiguity.check(&codec_extra, follows);
         remove_up_to(&mut self.packets, frame.last);
         self.cutoff = Some(frame.last);
+        if !may_go {
+            return Ok(None);
+        }
         self.mark = false;
-        Ok(Depacketized::new(metas[0].time, contiguous, bytes, codec_extra, metas))
+        let time = metas[0].time;
+        Ok(Some(Depacketized::new(time, contiguous, bytes, codec_extra, metas)))
     }
 }
 

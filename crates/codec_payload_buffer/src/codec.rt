@@ -16,7 +16,7 @@ use codec_payload_av1::av1::{Av1Depacketizer, Av1Packetizer};
 use codec_payload_base::error::PacketError;
 pub use codec_payload_base::interface::{
     Av1CodecExtra, CodecExtra, Depacketizer, Packetizer, TelephoneEvent, Vp8CodecExtra,
-    Vp9PacketizerMode,
+    Vp9CodecExtra, Vp9PacketizerMode,
 };
 use codec_payload_base::wire::{Codec, CodecSpec};
 use codec_payload_vp8::vp8::{Vp8Depacketizer, Vp8Packetizer};

@@ -3,3 +3,4 @@
 
 pub mod buffer;
 pub mod codec;
+pub mod contiguity;

@@ -3,7 +3,7 @@ use Rattle.std.proofs.Common.{◌≡◌, ◌≢◌, ◌∙◌, refl, sym, ap, �
 use Rattle.std.specs.Prelude.{slice_get, MatchOption}
 use Rattle.std.proofs.lemmas.Bool.{cases_lt}
 use Rattle.std.proofs.lemmas.List.{length-append}
-use Rattle.codec_payload_core.proofs.ExactLemmas.{MayGo, may_go_all, IsExactly, answers_from}
+use Rattle.codec_payload_core.proofs.ExactLemmas.{MayGo, begins, may_go_all, no_more_units, IsExactly, answers_from}
 use Rattle.codec_payload_core.proofs.FillLemmas.{IsFilling, filled, full_row}
 use Rattle.codec_payload_buffer.proofs.MemberLemmas.{IsIn, in_append, in_contains}
 use Rattle.codec_payload_core.proofs.SafetyLemmas.{fresh, number_at, safe_stream, send_keeps, sends_all}
@@ -11,11 +11,13 @@ use Rattle.codec_payload_core.proofs.ScheduleLemmas.{length-packets_for}
 use Rattle.codec_payload_core.proofs.StreamLemmas.{streams}
 use Rattle.codec_payload_core.proofs.UnitRows.{held_as, slice_append, drop_next}
 use Rattle.codec_payload_core.proofs.UnitTimes.{AllOneTime}
+use Rattle.codec_payload_buffer.specs.ContiguityTable.{contiguity_for}
 use Rattle.codec_payload_buffer.specs.Depack.{Depack, DepackKind}
 use Rattle.codec_payload_core.specs.Exact.{IsPushedFirst, AnswersAll, ReleasesUnits}
 use Rattle.codec_payload_core.specs.Headline.{IsUnused}
 use Rattle.codec_payload_buffer.specs.Held.{has_number}
 use Rattle.codec_payload_core.specs.Packets.{Packet, AreNumbered}
+use Rattle.codec_payload_core.specs.ToldIds.{next_id, read_by}
 use Rattle.codec_payload_core.specs.Schedule.{Answer, RunState, Runs, DoesStep, SendsIt, after_push, meta_of_push, packets_sent, payloads_of}
 use Rattle.codec_payload_core.specs.Sending.{Sample, rtp_time_at}
 use Rattle.codec_payload_core.specs.SentStream.{AreReadable, SentUnit, packets_of, AllLawful}
@@ -26,11 +28,11 @@ use Rattle.codec_payload_core.specs.declared.schedule.Step.{Step}
 use Rattle.codec_payload_core.specs.declared.schedule.Step.TheVariants as steps
 
 -- an entry tells of the step that made it, and up to which index the sink holds packets after it
-record IsEntryOf (place : ℕ) (s mid : RunState) (entry : Sent) : Type 0 where
-  at : entry.step ≡ place
-  reach : entry.first + entry.count ≡ length mid.sink.packets
+pub record IsEntryOf (place : ℕ) (s mid : RunState) (entry : Sent) : Type 0 where
+  pub at : entry.step ≡ place
+  pub reach : entry.first + entry.count ≡ length mid.sink.packets
 
-entry_of : (place mtu : ℕ) (sample : Sample) (s mid : RunState) (entry : Sent) → SendsIt place mtu sample s entry mid → IsEntryOf place s mid entry
+pub entry_of : (place mtu : ℕ) (sample : Sample) (s mid : RunState) (entry : Sent) → SendsIt place mtu sample s entry mid → IsEntryOf place s mid entry
 entry_of place mtu sample s mid entry sent =
     let payloads = payloads_of sent.answer in
     let packets = packets_sent s sent.pack sample payloads in
@@ -67,7 +69,7 @@ made_at samples place (steps.Push k) s mid sends pops entry step is = absurd (su
 made_at samples place steps.Pop s mid sends pops entry step is = absurd (subst (IsIn entry) step.0 is)
 
 -- the entries of the steps that are left come from these
-made_from : (samples : List Sample) (place : ℕ) (later : List Step) (s t : RunState) (sends : List Sent) (pops : List Answer) (entry : Sent) → Runs samples place later s sends pops t → IsIn entry sends → place ≤ entry.step
+pub made_from : (samples : List Sample) (place : ℕ) (later : List Step) (s t : RunState) (sends : List Sent) (pops : List Answer) (entry : Sent) → Runs samples place later s sends pops t → IsIn entry sends → place ≤ entry.step
 made_from samples place [] s t sends pops entry run is = absurd (subst (IsIn entry) run.0 is)
 made_from samples place (step ∷ later) s t sends pops entry run is = elim (in_append entry run.0 run.1 (subst (IsIn entry) run.5 is)) [
   | inl here ↦ omega (arith, made_at samples place step s run.4 run.0 run.2 entry run.7 here)
@@ -260,11 +262,16 @@ exact samples all_steps s t sends pops run unused readable =
     let splits = may_split s.payloading.pack in
     let beyond = fresh all_steps s stream.units lawful sent.numbered unused in
     let many : length t.sink.packets ≡ length (packets_of stream.units) = ap length sent.whole in
+    let none : length s.sink.packets ≡ 0 = ap length unused.nothing_sent in
+    let few = stream.few (omega (arith, none)) in
+    let kept = unused.nothing_kept ∙ ap contiguity_for unused.alike in
+    let may = may_go_all kind splits (next_id s.payloading.pack) 0 stream.units s.buffer.depack s.buffer.contiguity lawful stream.ids (omega (arith, many, few, no_more_units kind splits stream.units lawful)) unused.alike
+    (begins s.payloading.pack (read_by s.buffer.depack) s.buffer.contiguity unused.nothing_read kept) in
     record {
       in_order = released.0;
       exactly = λ pushed. subst (λ (us : List SentUnit). AnswersAll all_steps s.payloading.clock_rate 0 us pops) (sym released.1)
           (fill_from all_steps s.payloading.clock_rate s.sink.first kind splits stream.units lawful sent.numbered
-          s.buffer stream.one_time (may_go_all stream.units s.buffer.depack s.buffer.contiguity) samples all_steps 0 s t sends pops refl run sent.whole refl
+          s.buffer stream.one_time may samples all_steps 0 s t sends pops refl run sent.whole refl
           (record { beyond = beyond; no_cutoff = unused.no_cutoff; room = omega (arith, pushed.few, many); depack = refl; contiguity = refl })
           (λ k l. inr (pushed_first all_steps sends (length s.sink.packets) k (pushed.pushed k (omega (arith, l, many))))));
     }

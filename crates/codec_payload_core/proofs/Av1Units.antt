@@ -19,8 +19,9 @@ use Rattle.codec_payload_av1.specs.Av1Payload.{Payload, aggregation_header, body
 use Rattle.codec_payload_av1.specs.Av1Receiving.{all_received, received}
 use Rattle.codec_payload_av1.specs.Av1Steps.{AnswersAv1, Av1Step, IsRefusedFrame, IsRefusedPayload, IsSentFrame}
 use Rattle.codec_payload_buffer.proofs.CaseLemmas.{by_test}
+use Rattle.codec_payload_core.proofs.TellLemmas.{quiet_tells}
 use Rattle.codec_payload_core.proofs.SendsUnits.{SendsUnits, no_units}
-use Rattle.codec_payload_buffer.specs.Depack.{Depack, G711Depack, OpusDepack, ComfortNoiseDepack, TeleDepack, Vp8Depack, Av1Depack, AmrWbDepack, NullDepack, Av1Payloads, kind_of_depack}
+use Rattle.codec_payload_buffer.specs.Depack.{Depack, Av1Depack, Av1Payloads, kind_of_depack}
 use Rattle.codec_payload_buffer.specs.Held.{Held}
 use Rattle.codec_payload_buffer.specs.Pack.{Av1Pack}
 use Rattle.codec_payload_core.specs.Packets.{Packet}
@@ -81,14 +82,8 @@ all_given (p ∷ ps) pending x end u answer e reads gives =
 
 -- a depacketizer of these payloads holds what is pending
 is_av1 : (d : Depack) → kind_of_depack d ≡ Av1Payloads → (pending : List ℕ) × (d ≡ Av1Depack pending)
-is_av1 G711Depack is = absurd (cc)
-is_av1 OpusDepack is = absurd (cc)
-is_av1 ComfortNoiseDepack is = absurd (cc)
-is_av1 (TeleDepack rate) is = absurd (cc)
-is_av1 (Vp8Depack d) is = absurd (cc)
 is_av1 (Av1Depack pending) is = (pending, refl)
-is_av1 (AmrWbDepack octet) is = absurd (cc)
-is_av1 NullDepack is = absurd (cc)
+is_av1 d is = absurd (cc)
 
 flat_joined : (os : List Obu) → flat_map canonical os ≡ joined (map canonical os)
 flat_joined [] = refl
@@ -160,7 +155,7 @@ module _ (sample : Sample) (rtp_time : ℕ) where
 
   -- the frame as a unit
   abbrev obus_unit : ℕ → List Obu → List (List ℕ) → SentUnit
-  obus_unit number obus packets = record { parts = map canonical (kept obus); packets = laid number packets }
+  obus_unit number obus packets = record { parts = map canonical (kept obus); packets = laid number packets; id = None }
 
   module _ (mtu number : ℕ) (packet : List ℕ) (others : List (List ℕ)) (s : IsSentFrame mtu sample.bytes (packet ∷ others)) where
     abbrev unit_is : SentUnit
@@ -203,6 +198,7 @@ module _ (sample : Sample) (rtp_time : ℕ) where
       ends = ends number packet others;
       starts = first_head s.sent.0 s.sent.1 s.sent.2.stands;
       gives = gives_unit;
+      tells = λ missing rest whole head ps same d unpacked e is gives. quiet_tells Av1Payloads refl ps d unpacked e is gives;
     }
 
 -- the units of a frame whose kept OBUs are known
@@ -256,7 +252,7 @@ module _ (mtu : ℕ) (sample : Sample) (rtp_time number : ℕ) (large : leb mtu 
   sends_none s =
       let none : s.sent.0 ≡ [] = no_payloads s.sent.0 s.sent.1 in
       let stands : StandsFor [] (strings_of s.obus) = subst (λ (ps : List Payload). StandsFor ps (strings_of s.obus)) none s.sent.2.stands in
-      no_units Av1Pack mtu sample rtp_time number [] refl (units_are s.obus [] s.sequence (no_strings (kept s.obus) stands.1) ∙ nothing_kept mtu sample.bytes large)
+      no_units Av1Pack mtu sample rtp_time number [] refl (units_are s.obus [] s.sequence (no_strings (kept s.obus) stands.1) ∙ nothing_kept mtu sample.bytes large) refl
     where
       no_payloads : (ps : List Payload) → [] ≡ map written ps → ps ≡ []
       no_payloads [] e = refl
@@ -277,6 +273,8 @@ module _ (mtu : ℕ) (sample : Sample) (rtp_time number : ℕ) (large : leb mtu 
           canonical = ap (λ (xs : List Obu). map canonical xs ∷ []) is ∙ (sym units ∙ sym (units_are s.obus (o ∷ os) s.sequence is));
           packets = append-nil _;
           lawful = λ _. (lawful_obus sample rtp_time mtu number packet others s, tt);
+          ids = (refl, tt);
+          ids_go_on = λ m. refl;
           goes_on = refl;
         }
 
@@ -287,7 +285,7 @@ module _ (mtu : ℕ) (sample : Sample) (rtp_time number : ℕ) (large : leb mtu 
   sends_refused : (fault : PacketError) → IsRefusedFrame fault mtu sample.bytes → fault ≢ faults.OutOfMemory → Sends []
   sends_refused faults.OutOfMemory is found = absurd (found refl)
   sends_refused faults.ErrAv1CorruptedPacket is found =
-      no_units Av1Pack mtu sample rtp_time number [] refl (ap (units_if mtu sample.bytes) (no_sequence sample.bytes is.2) ∙ refused mtu sample.bytes large)
+      no_units Av1Pack mtu sample rtp_time number [] refl (ap (units_if mtu sample.bytes) (no_sequence sample.bytes is.2) ∙ refused mtu sample.bytes large) refl
   sends_refused fault is found = absurd is
 
 -- what is sent of an AV1 frame
@@ -295,7 +293,7 @@ pub av1_sends : (mtu : ℕ) (sample : Sample) (rtp_time number : ℕ) (answer : 
     → SendsUnits Av1Pack mtu sample rtp_time number (payloads_of answer) Av1Pack
 av1_sends mtu sample rtp_time number answer step found =
     by_test (leb mtu 1) (λ b. leb mtu 1 ≡ b → SendsUnits Av1Pack mtu sample rtp_time number (payloads_of answer) Av1Pack)
-    (λ small _. no_units Av1Pack mtu sample rtp_time number (payloads_of answer) (nothing_sent answer step found (grind (arith, nat_tests, small))) (small_skips mtu sample.bytes (frame_kept sample.bytes) small))
+    (λ small _. no_units Av1Pack mtu sample rtp_time number (payloads_of answer) (nothing_sent answer step found (grind (arith, nat_tests, small))) (small_skips mtu sample.bytes (frame_kept sample.bytes) small) refl)
     (λ large _. sends large answer step found)
     refl
   where

@@ -1,5 +1,5 @@
 -- Where everything was pushed before the first pop, the pops answer each unit in turn, whole, and then None for ever.
-use Rattle.std.proofs.Common.{◌≡◌, ◌≢◌, ◌∙◌, refl, sym, ap, ℕ, subst, List, [], Option, Some, None, Result, Ok, Err, Bool, true, false, ◌++◌, ◌+◌, ◌∷◌, ◌<◌, ◌≤◌, inl, inr, arith, length, ◌||◌}
+use Rattle.std.proofs.Common.{◌≡◌, ◌≢◌, ◌∙◌, refl, sym, ap, ℕ, suc, ◌^◌, subst, List, [], Option, Some, None, Result, Ok, Err, Bool, true, false, ◌++◌, ◌+◌, ◌∷◌, ◌<◌, ◌≤◌, inl, inr, arith, length, ◌||◌}
 use Rattle.std.specs.Prelude.{slice_get, MatchResult}
 use Rattle.std.proofs.lemmas.Bool.{cases_lt}
 use Rattle.std.proofs.lemmas.Bool.Decides.{nat_tests}
@@ -8,31 +8,37 @@ use Rattle.std.proofs.lemmas.Option.{slice_get_within}
 use Rattle.codec_payload_base.specs.Pieces.{joined}
 use Rattle.codec_payload_base.specs.declared.error.PacketError.{PacketError}
 use Rattle.codec_payload_base.specs.declared.error.PacketError.TheVariants as faults
-use Rattle.codec_payload_base.specs.declared.interface.CodecExtra.{CodecExtra}
 use Rattle.codec_payload_buffer.proofs.FrameParts.{IsRun}
+use Rattle.codec_payload_core.proofs.FollowsLemmas.{Follows, goes_on}
 use Rattle.codec_payload_core.proofs.FullLemmas.{none_passed, numbered_front, numbered_back, exact_split, held_time, run_of_exact, next_due, pop_releases}
 use Rattle.codec_payload_buffer.proofs.PopLemmas.{above_rises}
 use Rattle.codec_payload_buffer.proofs.RowLemmas.{part_between}
 use Rattle.codec_payload_core.proofs.SafetyLemmas.{next_after, number_at, send_keeps}
+use Rattle.codec_payload_core.proofs.SendsUnits.{CarryIds}
 use Rattle.codec_payload_core.proofs.StreamLemmas.{streams}
 use Rattle.codec_payload_core.proofs.UnitRows.{slice_append, Exact, exact_payloads, exact_metas}
 use Rattle.codec_payload_core.proofs.UnitTimes.{AllOneTime}
+use Rattle.codec_payload_buffer.specs.ContiguityTable.{checked, contiguity_for}
 use Rattle.codec_payload_buffer.specs.Depack.{Depack, DepackKind, kind_of_depack}
 use Rattle.codec_payload_core.specs.Exact.{IsWhole, AnswersAll}
 use Rattle.codec_payload_buffer.specs.Frames.{frames}
 use Rattle.codec_payload_core.specs.Headline.{ArePushesOf}
 use Rattle.codec_payload_buffer.specs.Held.{Held, Rises, has_number, between, above}
+use Rattle.codec_payload_buffer.specs.Pack.{Pack, OpusPack}
 use Rattle.codec_payload_core.specs.Packets.{Packet, AreNumbered}
+use Rattle.codec_payload_core.specs.ToldIds.{ReadId, Tells, id_later, next_id, read_by}
 use Rattle.codec_payload_buffer.specs.Release.{Release}
 use Rattle.codec_payload_core.specs.Schedule.{Answer, RunState, Runs, after_push}
 use Rattle.codec_payload_core.specs.Sending.{Sample}
-use Rattle.codec_payload_core.specs.SentStream.{SentUnit, packets_of, payloads_held, payloads_sent, AllLawful, IsReleaseOf}
-use Rattle.codec_payload_buffer.specs.Steps.{State, Contiguity, NoContiguity, is_dropped, is_at_most, due_of, due_among, checked, follows, metas_of, packets_of_frame, Unpacked, Unpacks, nothing_unpacked, Gives, Pops, PassesOver, Refuses}
+use Rattle.codec_payload_core.specs.SentStream.{SentUnit, packets_of, payloads_held, payloads_sent, AllLawful, EndsWithTail, IsReleaseOf}
+use Rattle.codec_payload_buffer.specs.Steps.{State, is_dropped, is_at_most, due_of, due_among, follows, metas_of, packets_of_frame, Unpacked, Unpacks, nothing_unpacked, Gives, Pops, PassesOver, Refuses}
 use Rattle.codec_payload_buffer.specs.declared.buffer.frames.Segment.{Segment}
 use Rattle.codec_payload_buffer.specs.declared.buffer.unit.RtpMeta.{RtpMeta}
+use Rattle.codec_payload_buffer.specs.declared.contiguity.Contiguity.{Contiguity}
 use Rattle.codec_payload_core.specs.declared.schedule.Sent.{Sent}
 use Rattle.codec_payload_core.specs.declared.schedule.Step.{Step}
 use Rattle.codec_payload_core.specs.declared.schedule.Step.TheVariants as steps
+use Rattle.codec_payload_core.specs.Units.{payloads_by}
 
 -- taken whole and in order from there, each unit may go out
 abbrev pub MayGo : List SentUnit → Depack → Contiguity → Type 0
@@ -41,12 +47,31 @@ MayGo (u ∷ us) d c =
     (ps : List Held) → payloads_held ps ≡ payloads_sent u.packets → (unpacked : Unpacked) (e : Depack) → Unpacks d ps nothing_unpacked (Ok unpacked) e
     → (seq : Bool) → ((checked c unpacked.extra seq).0 ≡ true) × MayGo us e (checked c unpacked.extra seq).2
 
-may_go_one : (c : Contiguity) (extra : CodecExtra) (seq : Bool) → (checked c extra seq).0 ≡ true
-may_go_one NoContiguity extra seq = refl
+-- by the law of contiguity: all units from place n on, after the one before them
+pub may_go_all : (kind : DepackKind) (splits : Bool) (first : Option ℕ) (n : ℕ) (units : List SentUnit) (d : Depack) (c : Contiguity) → AllLawful kind splits units → CarryIds first n units → n + length units < 2 ^ 63
+    → kind_of_depack d ≡ kind → Follows first n (read_by d) c → MayGo units d c
+may_go_all kind splits first n [] d c lawful carry few reads here = tt
+may_go_all kind splits first n (u ∷ us) d c lawful carry few reads here = λ ps same unpacked e gives seq.
+    let law = lawful.0 in
+    let told : Tells (id_later first n) (read_by d) unpacked.extra (read_by e) =
+    subst (λ (id : Option ℕ). Tells id (read_by d) unpacked.extra (read_by e)) carry.0 (law.tells [] u.packets refl law.starts ps same d unpacked e reads gives) in
+    let on = goes_on first n n (read_by d) (read_by e) c unpacked.extra seq here (omega arith) (inr (omega arith)) (omega (arith, few)) told in
+    let reads_on = (law.gives [] u.packets refl law.starts ps same d (Ok unpacked) e reads gives).0 in
+    (on.may, may_go_all kind splits first (suc n) us e (checked c unpacked.extra seq).2 lawful.1 carry.1 (omega (arith, few)) reads_on on.follows)
 
-pub may_go_all : (units : List SentUnit) (d : Depack) (c : Contiguity) → MayGo units d c
-may_go_all [] d c = tt
-may_go_all (u ∷ us) d c = λ ps same unpacked e gives seq. (may_go_one c unpacked.extra seq, may_go_all us e (checked c unpacked.extra seq).2)
+-- an unused buffer stands before the first unit
+pub begins : (pack : Pack) (read : Option ReadId) (c : Contiguity) → read ≡ None → c ≡ contiguity_for (payloads_by pack) → Follows (next_id pack) 0 read c
+begins OpusPack read c none kept = tt
+begins pack read c none kept = tt
+
+-- each unit has a packet
+pub no_more_units : (kind : DepackKind) (splits : Bool) (units : List SentUnit) → AllLawful kind splits units → length units ≤ length (packets_of units)
+no_more_units kind splits [] lawful = omega arith
+no_more_units kind splits (u ∷ us) lawful = omega (arith, no_more_units kind splits us lawful.1, length-append u.packets (packets_of us), has_packet u.packets lawful.0.ends)
+  where
+    has_packet : (ps : List Packet) → EndsWithTail kind ps → 0 < length ps
+    has_packet [] ends = absurd ends
+    has_packet (p ∷ ps) ends = omega arith
 
 -- with no packet missing, a release of a unit is the unit
 whole_of : (splits : Bool) (u : SentUnit) (bytes : List ℕ) → IsReleaseOf splits u [] bytes → bytes ≡ joined u.parts

@@ -88,7 +88,7 @@ module _ (all_steps : List Step) (clock_rate : ℕ) (kind : DepackKind) where
         run_of_exact (k + 1) (n + 1) time (y ∷ xs) (q ∷ ps) ends.1 times.1 numbers.1 e.2 last (omega (arith, l)),
       )
 
-  begins_of_exact : (k : ℕ) (xs : List Packet) (ps : List Held) → StartsWithHead kind xs → Exact all_steps clock_rate kind k xs ps → BeginsWithHead ps
+  pub begins_of_exact : (k : ℕ) (xs : List Packet) (ps : List Held) → StartsWithHead kind xs → Exact all_steps clock_rate kind k xs ps → BeginsWithHead ps
   begins_of_exact k [] ps s e = absurd s
   begins_of_exact k (x ∷ xs) [] s e = absurd e
   begins_of_exact k (x ∷ xs) (p ∷ ps) s e = ap (λ (h : Held). h.head) e.1 ∙ s

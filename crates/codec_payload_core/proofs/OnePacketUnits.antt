@@ -16,7 +16,8 @@ use Rattle.codec_payload_base.specs.declared.error.PacketError.{PacketError}
 use Rattle.codec_payload_base.specs.declared.error.PacketError.TheVariants as faults
 use Rattle.codec_payload_base.specs.declared.interface.CodecExtra.{CodecExtra}
 use Rattle.codec_payload_buffer.proofs.CaseLemmas.{by_test}
-use Rattle.codec_payload_buffer.specs.Depack.{Depack, DepackKind, G711Depack, OpusDepack, ComfortNoiseDepack, TeleDepack, Vp8Depack, Av1Depack, AmrWbDepack, NullDepack, ComfortNoisePayloads, TelePayloads, AmrWbPayloads, kind_of_depack, DepackStep, head_in, tail_in}
+use Rattle.codec_payload_core.proofs.TellLemmas.{is_quiet, quiet_tells}
+use Rattle.codec_payload_buffer.specs.Depack.{Depack, DepackKind, ComfortNoiseDepack, TeleDepack, AmrWbDepack, ComfortNoisePayloads, TelePayloads, AmrWbPayloads, kind_of_depack, DepackStep, head_in, tail_in}
 use Rattle.codec_payload_buffer.specs.Held.{Held}
 use Rattle.codec_payload_buffer.specs.Pack.{Pack, ComfortNoisePack, TelePack, AmrWbPack}
 use Rattle.codec_payload_core.specs.Packets.{Packet}
@@ -29,12 +30,13 @@ use Rattle.codec_payload_core.specs.Units.{canonical_units, is_readable, payload
 pub record IsCarried (kind : DepackKind) (payload bytes : List ℕ) : Type 0 where
   pub head : head_in kind payload ≡ true
   pub tail : (marker : Bool) → tail_in kind marker payload ≡ true
+  pub quiet : is_quiet kind ≡ true
   pub gives : (d : Depack) (extra : CodecExtra) (one : Result (Unit {0}) PacketError) (e : Depack) (out' : List ℕ) (extra' : CodecExtra) → kind_of_depack d ≡ kind → DepackStep d payload [] extra one e out' extra'
       → (kind_of_depack e ≡ kind) × MatchResult one (λ _. out' ≡ bytes) (λ fault. fault ≡ faults.OutOfMemory)
 
 -- a unit of one packet
 abbrev pub one_packet : List ℕ → Packet → SentUnit
-one_packet bytes q = record { parts = bytes ∷ []; packets = q ∷ [] }
+one_packet bytes q = record { parts = bytes ∷ []; packets = q ∷ []; id = None }
 
 -- no packet is missing before a nonempty end of one packet
 pub only_whole : (q : Packet) (missing rest : List Packet) (kind : DepackKind) → missing ++ rest ≡ q ∷ [] → StartsWithHead kind rest → (missing ≡ []) × (rest ≡ q ∷ [])
@@ -72,6 +74,7 @@ lawful_one kind bytes q carried = record {
       let one = subst (λ (hs : List Held). Unpacks d hs nothing_unpacked answer e) found.1 gives in
       let step = subst (λ (payload : List ℕ). DepackStep d payload [] (nothing_unpacked).extra one.0 one.1 one.2.bytes one.2.extra) found.2 one.3 in
       given_one bytes q missing kind answer e only.0 one.0 one.1 one.2 (carried.gives d (nothing_unpacked).extra one.0 one.1 one.2.bytes one.2.extra is step) one.4;
+  tells = λ missing rest whole head ps same d unpacked e is gives. quiet_tells kind carried.quiet ps d unpacked e is gives;
 }
 
 -- what a codec of such units owes for a frame: no packets and no units, or one of each
@@ -83,18 +86,12 @@ OneOrNone pack mtu frame payloads =
 -- comfort noise
 noise_given : (d : Depack) (b : ℕ) (bs : List ℕ) (extra : CodecExtra) (one : Result (Unit {0}) PacketError) (e : Depack) (out' : List ℕ) (extra' : CodecExtra) → kind_of_depack d ≡ ComfortNoisePayloads
     → DepackStep d (b ∷ bs) [] extra one e out' extra' → (kind_of_depack e ≡ ComfortNoisePayloads) × MatchResult one (λ _. out' ≡ b ∷ bs) (λ fault. fault ≡ faults.OutOfMemory)
-noise_given G711Depack b bs extra one e out' extra' is step = absurd (cc)
-noise_given OpusDepack b bs extra one e out' extra' is step = absurd (cc)
-noise_given (TeleDepack rate) b bs extra one e out' extra' is step = absurd (cc)
-noise_given (Vp8Depack d) b bs extra one e out' extra' is step = absurd (cc)
-noise_given (Av1Depack pending) b bs extra one e out' extra' is step = absurd (cc)
-noise_given (AmrWbDepack octet) b bs extra one e out' extra' is step = absurd (cc)
-noise_given NullDepack b bs extra one e out' extra' is step = absurd (cc)
 noise_given ComfortNoiseDepack b bs extra (Ok _) e out' extra' is step = (ap kind_of_depack step.1, step.0.0)
 noise_given ComfortNoiseDepack b bs extra (Err fault) e out' extra' is step = (ap kind_of_depack step.1, step.0.0)
+noise_given d b bs extra one e out' extra' is step = absurd (cc)
 
 noise_carried : (b : ℕ) (bs : List ℕ) → IsCarried ComfortNoisePayloads (b ∷ bs) (b ∷ bs)
-noise_carried b bs = record { head = refl; tail = λ marker. refl; gives = λ d extra one e out' extra' is step. noise_given d b bs extra one e out' extra' is step }
+noise_carried b bs = record { head = refl; tail = λ marker. refl; quiet = refl; gives = λ d extra one e out' extra' is step. noise_given d b bs extra one e out' extra' is step }
 
 pub noise_units : (mtu : ℕ) (frame : List ℕ) (answer : Result (List (List ℕ)) PacketError) → AnswersWhole mtu frame answer → answer ≢ Err faults.OutOfMemory → OneOrNone ComfortNoisePack mtu frame (payloads_of answer)
 noise_units mtu [] answer is found = inl (ap payloads_of is, refl)
@@ -115,18 +112,12 @@ first_given rate (a ∷ b ∷ c ∷ []) out' extra' takes = absurd takes
 
 tele_given : (d : Depack) (payload : List ℕ) (extra : CodecExtra) (one : Result (Unit {0}) PacketError) (e : Depack) (out' : List ℕ) (extra' : CodecExtra) → are_reports payload ≡ true → kind_of_depack d ≡ TelePayloads
     → DepackStep d payload [] extra one e out' extra' → (kind_of_depack e ≡ TelePayloads) × MatchResult one (λ _. out' ≡ take 4 payload) (λ fault. fault ≡ faults.OutOfMemory)
-tele_given G711Depack payload extra one e out' extra' whole is step = absurd (cc)
-tele_given OpusDepack payload extra one e out' extra' whole is step = absurd (cc)
-tele_given ComfortNoiseDepack payload extra one e out' extra' whole is step = absurd (cc)
-tele_given (Vp8Depack d) payload extra one e out' extra' whole is step = absurd (cc)
-tele_given (Av1Depack pending) payload extra one e out' extra' whole is step = absurd (cc)
-tele_given (AmrWbDepack octet) payload extra one e out' extra' whole is step = absurd (cc)
-tele_given NullDepack payload extra one e out' extra' whole is step = absurd (cc)
 tele_given (TeleDepack rate) payload extra (Ok _) e out' extra' whole is step = (ap kind_of_depack step.1, first_given rate payload out' extra' step.0.1)
 tele_given (TeleDepack rate) payload extra (Err fault) e out' extra' whole is step = (ap kind_of_depack step.1, step.0.2 whole)
+tele_given d payload extra one e out' extra' whole is step = absurd (cc)
 
 tele_carried : (payload : List ℕ) → are_reports payload ≡ true → IsCarried TelePayloads payload (take 4 payload)
-tele_carried payload whole = record { head = refl; tail = λ marker. refl; gives = λ d extra one e out' extra' is step. tele_given d payload extra one e out' extra' whole is step }
+tele_carried payload whole = record { head = refl; tail = λ marker. refl; quiet = refl; gives = λ d extra one e out' extra' is step. tele_given d payload extra one e out' extra' whole is step }
 
 pub tele_units : (mtu : ℕ) (frame : List ℕ) (answer : Result (List (List ℕ)) PacketError) → AnswersWhole mtu frame answer → answer ≢ Err faults.OutOfMemory → OneOrNone TelePack mtu frame (payloads_of answer)
 tele_units mtu [] answer is found = inl (ap payloads_of is, refl)
@@ -145,19 +136,13 @@ amr_wb_step octet packet frames extra (Err fault) out' extra' reads step = only_
 
 amr_wb_given : (d : Depack) (octet : Bool) (packet frames : List ℕ) (extra : CodecExtra) (one : Result (Unit {0}) PacketError) (e : Depack) (out' : List ℕ) (extra' : CodecExtra) → received octet (bits_of packet) ≡ Ok frames → kind_of_depack d ≡ AmrWbPayloads octet
     → DepackStep d packet [] extra one e out' extra' → (kind_of_depack e ≡ AmrWbPayloads octet) × MatchResult one (λ _. out' ≡ bytes_of frames) (λ fault. fault ≡ faults.OutOfMemory)
-amr_wb_given G711Depack octet packet frames extra one e out' extra' reads is step = absurd (cc)
-amr_wb_given OpusDepack octet packet frames extra one e out' extra' reads is step = absurd (cc)
-amr_wb_given ComfortNoiseDepack octet packet frames extra one e out' extra' reads is step = absurd (cc)
-amr_wb_given (TeleDepack rate) octet packet frames extra one e out' extra' reads is step = absurd (cc)
-amr_wb_given (Vp8Depack d) octet packet frames extra one e out' extra' reads is step = absurd (cc)
-amr_wb_given (Av1Depack pending) octet packet frames extra one e out' extra' reads is step = absurd (cc)
-amr_wb_given NullDepack octet packet frames extra one e out' extra' reads is step = absurd (cc)
 amr_wb_given (AmrWbDepack own) octet packet frames extra one e out' extra' reads is step =
     let same : own ≡ octet = cc in
     (ap kind_of_depack step.1 ∙ is, amr_wb_step own packet frames extra one out' extra' (ap (λ (o : Bool). received o (bits_of packet)) same ∙ reads) step.0)
+amr_wb_given d octet packet frames extra one e out' extra' reads is step = absurd (cc)
 
 amr_wb_carried : (octet : Bool) (packet frames : List ℕ) → received octet (bits_of packet) ≡ Ok frames → IsCarried (AmrWbPayloads octet) packet (bytes_of frames)
-amr_wb_carried octet packet frames reads = record { head = refl; tail = λ marker. refl; gives = λ d extra one e out' extra' is step. amr_wb_given d octet packet frames extra one e out' extra' reads is step }
+amr_wb_carried octet packet frames reads = record { head = refl; tail = λ marker. refl; quiet = refl; gives = λ d extra one e out' extra' is step. amr_wb_given d octet packet frames extra one e out' extra' reads is step }
 
 -- the units of bytes that store that frame, or none
 abbrev units_if : Bool → ℕ → Option Frame → List (List (List ℕ))

@@ -21,10 +21,11 @@ use Rattle.codec_payload_buffer.specs.Release.{Release}
 use Rattle.codec_payload_core.specs.Schedule.{Answer, RunState, Runs, DoesStep, SendsIt, after_push, meta_of_push}
 use Rattle.codec_payload_core.specs.Sending.{Sample}
 use Rattle.codec_payload_core.specs.SentStream.{AreReadable, SentUnit, packets_of, StartsWithHead, IsLawful, AllLawful, IsReleaseOf}
-use Rattle.codec_payload_buffer.specs.Steps.{State, Contiguity, arrived, pushed, kept_to_limit, without_lowest, is_dropped, is_at_most, without, metas_of, due_of, packets_of_frame, Unpacked, Unpacks, nothing_unpacked, Gives, Passes, none, one_more, PassesOver, Releases, Refuses, Pops}
+use Rattle.codec_payload_buffer.specs.Steps.{State, arrived, pushed, kept_to_limit, without_lowest, is_dropped, is_at_most, without, metas_of, due_of, packets_of_frame, Unpacked, Unpacks, nothing_unpacked, Gives, Passes, none, one_more, PassesOver, Releases, Refuses, Pops}
 use Rattle.codec_payload_core.specs.Units.{payloads_by, may_split}
 use Rattle.codec_payload_buffer.specs.declared.buffer.frames.Segment.{Segment}
 use Rattle.codec_payload_buffer.specs.declared.buffer.unit.RtpMeta.{RtpMeta}
+use Rattle.codec_payload_buffer.specs.declared.contiguity.Contiguity.{Contiguity}
 use Rattle.codec_payload_core.specs.declared.schedule.Sent.{Sent}
 use Rattle.codec_payload_core.specs.declared.schedule.Step.{Step}
 use Rattle.codec_payload_core.specs.declared.schedule.Step.TheVariants as steps
@@ -34,18 +35,18 @@ abbrev pub next_after : ℕ → Option ℕ → ℕ
 next_after first None = first
 next_after first (Some c) = c + 1
 
-before_next : (units : List SentUnit) (place : ℕ) (u : SentUnit) → slice_get units place ≡ Some u → packets_before (place + 1) units ≡ packets_before place units + length u.packets
+pub before_next : (units : List SentUnit) (place : ℕ) (u : SentUnit) → slice_get units place ≡ Some u → packets_before (place + 1) units ≡ packets_before place units + length u.packets
 before_next [] place u h = absurd (cc)
 before_next (v ∷ us) zero u h = let e : v ≡ u = cc in rw (← e) (omega (arith, length-append v.packets []))
 before_next (v ∷ us) (suc place) u h = rw add-one (omega (arith, rw add-one at (before_next us place u h), length-append v.packets (packets_of (take (suc place) us)), length-append v.packets (packets_of (take place us))))
 
-before_later : (units : List SentUnit) (place n : ℕ) (u : SentUnit) → slice_get units place ≡ Some u → place < n → packets_before place units + length u.packets ≤ packets_before n units
+pub before_later : (units : List SentUnit) (place n : ℕ) (u : SentUnit) → slice_get units place ≡ Some u → place < n → packets_before place units + length u.packets ≤ packets_before n units
 before_later [] place n u h l = absurd (cc)
 before_later (v ∷ us) place zero u h l = absurd (omega arith)
 before_later (v ∷ us) zero (suc n) u h l = let e : v ≡ u = cc in rw (← e) (omega (arith, length-append v.packets (packets_of (take n us))))
 before_later (v ∷ us) (suc place) (suc n) u h l = omega (arith, before_later us place n u h (omega arith), length-append v.packets (packets_of (take place us)), length-append v.packets (packets_of (take n us)))
 
-lawful_at : (kind : DepackKind) (splits : Bool) (units : List SentUnit) (place : ℕ) (u : SentUnit) → AllLawful kind splits units → slice_get units place ≡ Some u → IsLawful kind splits u
+pub lawful_at : (kind : DepackKind) (splits : Bool) (units : List SentUnit) (place : ℕ) (u : SentUnit) → AllLawful kind splits units → slice_get units place ≡ Some u → IsLawful kind splits u
 lawful_at kind splits [] place u l h = absurd (cc)
 lawful_at kind splits (v ∷ us) zero u l h = let e : v ≡ u = cc in rw (← e) l.0
 lawful_at kind splits (v ∷ us) (suc place) u l h = lawful_at kind splits us place u l.1 h
@@ -128,7 +129,8 @@ module _ (all_steps : List Step) (clock_rate first : ℕ) (kind : DepackKind) (s
     pub whole : missing ++ rest ≡ sent.packets
     pub exact : Exact all_steps clock_rate kind (packets_before place all + length missing) rest packets
     pub starts : StartsWithHead kind rest
-    pub floor : first + packets_before (place + 1) all ≤ f.last + 1
+    pub start : f.first ≡ first + (packets_before place all + length missing)
+    pub stop : f.last + 1 ≡ first + packets_before (place + 1) all
     pub higher : next_after first s.cutoff ≤ f.last + 1
 
   first_sent : (f last : ℕ) (time : Time) (ps : List Held) → IsRun f last time ps → AllSent ps → (k : ℕ) × (f ≡ first + k)
@@ -139,7 +141,7 @@ module _ (all_steps : List Step) (clock_rate first : ℕ) (kind : DepackKind) (s
   above_next None before packets after k f last time is run a = omega arith
   above_next (Some c) before packets after k f last time is run a = omega (arith, first_above c packets after f last time run (above_all c before (packets ++ after) a))
 
-  frame_of : (from : ℕ) (s : State) (f : Segment) → IsBeyond from s → due_of s ≡ Some f → IsFrameOf from s f
+  pub frame_of : (from : ℕ) (s : State) (f : Segment) → IsBeyond from s → due_of s ≡ Some f → IsFrameOf from s f
   frame_of from s f sound due =
       let found = part_due s f due in
       let packets = found.0 in
@@ -178,7 +180,8 @@ module _ (all_steps : List Step) (clock_rate first : ℕ) (kind : DepackKind) (s
         whole = end.whole;
         exact = exact;
         starts = exact_starts all_steps clock_rate kind (packets_before end.place all + length end.missing) end.rest packets exact part.begins;
-        floor = omega (arith, before_next all end.place end.sent end.at_place, begin.1, end.index, sizes, long, full);
+        start = omega (arith, begin.1, end.index);
+        stop = omega (arith, before_next all end.place end.sent end.at_place, begin.1, end.index, sizes, long, full);
         higher = omega (arith, low, some);
       }
 
@@ -208,20 +211,20 @@ module _ (all_steps : List Step) (clock_rate first : ℕ) (kind : DepackKind) (s
     reads = sound.reads;
   }
 
-  beyond_pushed : (from : ℕ) (s : State) (p : Held) → IsSent p → IsBeyond from s → IsBeyond from (pushed s p)
+  pub beyond_pushed : (from : ℕ) (s : State) (p : Held) → IsSent p → IsBeyond from s → IsBeyond from (pushed s p)
   beyond_pushed from s p i sound =
       by_test (is_dropped s p.meta.seq_no.0) (λ b. IsBeyond from (cond b s (kept_to_limit (record s { held = placed p s.held }))))
       (λ e. sound)
       (λ e. beyond_kept from (record s { held = placed p s.held }) (beyond_placed from s p i (grind (arith, e)) (grind (arith, e)) sound))
 
   -- the frame that is due has left: what is held lies beyond its unit
-  beyond_without : (from : ℕ) (s : State) (f : Segment) (sound : IsBeyond from s) (due : due_of s ≡ Some f) (n : ℕ) → first + packets_before n all ≤ f.last + 1 → (d : Depack) → kind_of_depack d ≡ kind → (c : Contiguity) (mark : Bool) → IsBeyond n (without s f d c mark)
+  pub beyond_without : (from : ℕ) (s : State) (f : Segment) (sound : IsBeyond from s) (due : due_of s ≡ Some f) (n : ℕ) → first + packets_before n all ≤ f.last + 1 → (d : Depack) → kind_of_depack d ≡ kind → (c : Contiguity) (mark : Bool) → IsBeyond n (without s f d c mark)
   beyond_without from s f sound due n floor d reads c mark =
       let frame = frame_of from s f sound due in
       record { rises = above_rises f.last s.held sound.rises; beyond = above_is_above f.last s.held; sent = subst AllSent (sym frame.left) frame.sent_after; floor = floor; reads = reads }
 
   -- what the depacketizer answers for the frame that is due
-  given : (from : ℕ) (s : State) (f : Segment) (sound : IsBeyond from s) (due : due_of s ≡ Some f) (answer : Result Unpacked PacketError) (e : Depack) → Gives s f answer e
+  pub given : (from : ℕ) (s : State) (f : Segment) (sound : IsBeyond from s) (due : due_of s ≡ Some f) (answer : Result Unpacked PacketError) (e : Depack) → Gives s f answer e
       → let frame = frame_of from s f sound due in (kind_of_depack e ≡ kind) × MatchResult answer (λ unpacked. IsReleaseOf splits frame.sent frame.missing unpacked.bytes) (λ fault. fault ≡ faults.OutOfMemory)
   given from s f sound due answer e gives =
       let frame = frame_of from s f sound due in
@@ -236,18 +239,17 @@ module _ (all_steps : List Step) (clock_rate first : ℕ) (kind : DepackKind) (s
       let reads = (given from s over.frame sound over.is_due (Ok over.unpacked) over.depack over.gives).0 in
       subst (IsBeyond from) (sym over.left) (beyond_without from s over.frame sound over.is_due from (omega (arith, sound.floor, frame.higher)) over.depack reads _ s.mark)
 
-  beyond_passes : (from : ℕ) (s t : State) (over : List Segment) → IsBeyond from s → Passes s over t → IsBeyond from t
+  pub beyond_passes : (from : ℕ) (s t : State) (over : List Segment) → IsBeyond from s → Passes s over t → IsBeyond from t
   beyond_passes from s t over sound none = sound
   beyond_passes from s u over sound (one_more passes passed) = beyond_over from _ u (beyond_passes from s _ _ sound passes) passed
 
-  -- a release is that of a unit further on
-  released : (from : ℕ) (s t : State) (r : Release) → IsBeyond from s → Releases s r t → (place : ℕ) × (from ≤ place) × IsUnitAt all_steps clock_rate splits all place r × IsBeyond (place + 1) t
-  released from s t r sound out =
+  -- a release is that of the unit whose frame is due
+  pub released_at : (from : ℕ) (s t : State) (r : Release) (sound : IsBeyond from s) (out : Releases s r t) → let frame = frame_of from s out.frame sound out.is_due in
+      (is : IsUnitAt all_steps clock_rate splits all frame.place r) × (is.missing ≡ frame.missing) × IsBeyond (frame.place + 1) t
+  released_at from s t r sound out =
       let frame = frame_of from s out.frame sound out.is_due in
       let answer = given from s out.frame sound out.is_due (Ok (record { bytes = r.bytes; extra = r.codec_extra })) out.depack out.gives in
       let metas : r.metas ≡ metas_of frame.packets = out.metas ∙ ap metas_of frame.are in (
-        frame.place,
-        frame.not_before,
         record {
           sent = frame.sent;
           at_place = frame.at_place;
@@ -257,11 +259,19 @@ module _ (all_steps : List Step) (clock_rate first : ℕ) (kind : DepackKind) (s
           bytes = answer.1;
           metas = subst (ArePushesOf all_steps clock_rate (packets_before frame.place all + length frame.missing) frame.rest) (sym metas) (exact_metas all_steps clock_rate kind (packets_before frame.place all + length frame.missing) frame.rest frame.packets frame.exact);
         },
-        subst (IsBeyond (frame.place + 1)) (sym out.left) (beyond_without from s out.frame sound out.is_due (frame.place + 1) frame.floor out.depack answer.0 _ false),
+        refl,
+        subst (IsBeyond (frame.place + 1)) (sym out.left) (beyond_without from s out.frame sound out.is_due (frame.place + 1) (omega (arith, frame.stop)) out.depack answer.0 _ false),
       )
 
+  -- which lies further on
+  released : (from : ℕ) (s t : State) (r : Release) → IsBeyond from s → Releases s r t → (place : ℕ) × (from ≤ place) × IsUnitAt all_steps clock_rate splits all place r × IsBeyond (place + 1) t
+  released from s t r sound out =
+      let frame = frame_of from s out.frame sound out.is_due in
+      let is = released_at from s t r sound out in
+      (frame.place, frame.not_before, is.0, is.2)
+
   -- and no fault but for memory is answered
-  not_refused : (from : ℕ) (s t : State) (fault : PacketError) → IsBeyond from s → Refuses s fault t → ⊥
+  pub not_refused : (from : ℕ) (s t : State) (fault : PacketError) → IsBeyond from s → Refuses s fault t → ⊥
   not_refused from s t fault sound refusal =
       refusal.not_memory (given from s refusal.frame sound refusal.is_due (Err fault) refusal.depack refusal.gives).1
 

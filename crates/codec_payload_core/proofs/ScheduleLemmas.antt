@@ -1,5 +1,5 @@
 -- What a sent sample leaves, as a step of a run.
-use Rattle.std.proofs.Common.{◌≡◌, ◌≢◌, ◌∙◌, sym, ap, refl, subst, ℕ, suc, ◌+◌, ◌-◌, ◌%◌, ◌^◌, ◌⊎◌, inl, inr, List, [], ◌∷◌, ◌++◌, length, arith, length-append, Some, None, Result, Ok, Err, OnOk, OnErr}
+use Rattle.std.proofs.Common.{◌≡◌, ◌≢◌, ◌∙◌, sym, ap, refl, subst, ℕ, suc, ◌+◌, ◌-◌, ◌<◌, ◌%◌, ◌^◌, ◌⊎◌, inl, inr, List, [], ◌∷◌, ◌++◌, length, arith, length-append, Some, None, Result, Ok, Err, OnOk, OnErr}
 use Rattle.std.proofs.lemmas.List.{append-nil}
 use Rattle.codec_payload_base.specs.declared.error.PacketError.{PacketError}
 use Rattle.codec_payload_base.specs.declared.error.PacketError.TheVariants as faults
@@ -33,9 +33,9 @@ left_by p p' b sink sink' packets clock gained =
     ∙ ap (λ (s : SentPackets). run_state (record p { pack = p'.pack }) b s) gained
 
 pub sent_it : (place mtu : ℕ) (sample : Sample) (p p' : Payloading) (b : State) (sink sink' : SentPackets) → p'.clock_rate ≡ p.clock_rate
-    → SendsSample Keeps kept_packets next_number mtu sample p sink p' sink'
+    → SendsSample Keeps kept_packets next_number mtu sample p sink p' sink' → length sink'.packets < 2 ^ 63
     → SendsIt place mtu sample (run_state p b sink) (record { step = place; first = length sink.packets; count = length sink'.packets - length sink.packets; fault = None }) (run_state p' b sink')
-sent_it place mtu sample p p' b sink sink' clock sent =
+sent_it place mtu sample p p' b sink sink' clock sent few =
     let packets = packets_for p'.pack sample (rtp_time_at p.clock_rate sample.rtp_time) (next_number sink) sent.payloads in
     let kept = kept_all sink packets sent.images sink' sent.sends in
     let grown = ap (λ (s : SentPackets). length s.packets) kept.1 in
@@ -49,13 +49,14 @@ sent_it place mtu sample p p' b sink sink' clock sent =
       not_memory = λ e. cc;
       entry_is = ap (λ (n : ℕ). record { step = place; first = length sink.packets; count = n; fault = None }) count;
       numbered = kept_numbered p'.pack sample (rtp_time_at p.clock_rate sample.rtp_time) (next_number sink) sent.payloads sink sent.images sink' refl sent.sends;
+      few = few;
       left = left_by p p' b sink sink' packets clock kept.1;
     }
 
-pub refused_it : (place mtu : ℕ) (sample : Sample) (fault : PacketError) (p p' : Payloading) (b : State) (sink sink' : SentPackets) → p'.clock_rate ≡ p.clock_rate → fault ≢ faults.OutOfMemory
+pub refused_it : (place mtu : ℕ) (sample : Sample) (fault : PacketError) (p p' : Payloading) (b : State) (sink sink' : SentPackets) → p'.clock_rate ≡ p.clock_rate → fault ≢ faults.OutOfMemory → length sink.packets < 2 ^ 63
     → (SendsNothing mtu sample fault p sink p' sink' ⊎ SendsBeginning Keeps Stays kept_packets next_number mtu sample fault p sink p' sink')
     → SendsIt place mtu sample (run_state p b sink) (record { step = place; first = length sink.packets; count = 0; fault = Some fault }) (run_state p' b sink')
-refused_it place mtu sample fault p p' b sink sink' clock other (inl nothing) =
+refused_it place mtu sample fault p p' b sink sink' clock other few (inl nothing) =
     record {
       answer = Err fault;
       pack = p'.pack;
@@ -63,9 +64,10 @@ refused_it place mtu sample fault p p' b sink sink' clock other (inl nothing) =
       not_memory = λ e. other (cc);
       entry_is = refl;
       numbered = tt;
+      few = omega (arith, few, ap (λ (s : SentPackets). length s.packets) nothing.same);
       left = left_by p p' b sink sink' [] clock (nothing.same ∙ ap (λ (ps : List Packet). record sink { packets = ps }) (sym (append-nil sink.packets)));
     }
-refused_it place mtu sample fault p p' b sink sink' clock other (inr beginning) = absurd (other beginning.refusal.0)
+refused_it place mtu sample fault p p' b sink sink' clock other few (inr beginning) = absurd (other beginning.refusal.0)
 
 pub stopped_it : (mtu : ℕ) (sample : Sample) (fault : PacketError) (p p' : Payloading) (b : State) (sink sink' : SentPackets) → p'.clock_rate ≡ p.clock_rate → fault ≡ faults.OutOfMemory
     → (SendsNothing mtu sample fault p sink p' sink' ⊎ SendsBeginning Keeps Stays kept_packets next_number mtu sample fault p sink p' sink')

@@ -9,7 +9,8 @@ use Rattle.codec_payload_vp8.specs.Vp8.{AnswersDescribed, described}
 use Rattle.codec_payload_buffer.proofs.CaseLemmas.{by_test}
 use Rattle.codec_payload_core.proofs.Av1Units.{av1_sends}
 use Rattle.codec_payload_core.proofs.OnePacketUnits.{OneOrNone, one_packet, only_whole, one_held, lawful_one, noise_units, tele_units, amr_wb_units}
-use Rattle.codec_payload_core.proofs.SendsUnits.{SendsUnits, no_units}
+use Rattle.codec_payload_core.proofs.TellLemmas.{is_quiet, quiet_tells}
+use Rattle.codec_payload_core.proofs.SendsUnits.{CarryIds, SendsUnits, carry_on, no_units}
 use Rattle.codec_payload_core.proofs.Vp8Units.{none_empty, whole_frame, lawful_frame}
 use Rattle.std.proofs.lemmas.Bool.Decides.{nat_tests}
 use Rattle.codec_payload_base.specs.declared.error.PacketError.{PacketError}
@@ -17,10 +18,11 @@ use Rattle.codec_payload_base.specs.declared.error.PacketError.TheVariants as fa
 use Rattle.codec_payload_base.specs.declared.interface.CodecExtra.{CodecExtra}
 use Rattle.codec_payload_base.proofs.PieceLemmas.{one_list, no_pieces}
 use Rattle.codec_payload_core.proofs.UnitTimes.{AllOneTime, times_of_sample, times_append}
-use Rattle.codec_payload_buffer.specs.Depack.{Depack, G711Depack, OpusDepack, ComfortNoiseDepack, TeleDepack, NullDepack, Vp8Depack, Av1Depack, AmrWbDepack, DepackKind, G711Payloads, OpusPayloads, NullPayloads, kind_of_depack, DepackStep, head_in, tail_in}
+use Rattle.codec_payload_buffer.specs.Depack.{Depack, G711Depack, OpusDepack, NullDepack, DepackKind, G711Payloads, OpusPayloads, NullPayloads, kind_of_depack, DepackStep, head_in, tail_in}
 use Rattle.codec_payload_buffer.specs.Held.{Held}
 use Rattle.codec_payload_buffer.specs.Pack.{Pack, G711Pack, G722Pack, OpusPack, ComfortNoisePack, TelePack, NullPack, Vp8Pack, Av1Pack, AmrWbPack, PackStep}
 use Rattle.codec_payload_core.specs.Packets.{Packet, SentPackets, AreNumbered}
+use Rattle.codec_payload_core.specs.ToldIds.{next_id}
 use Rattle.codec_payload_core.specs.Sending.{Sample, packets_for, rtp_time_at}
 use Rattle.codec_payload_core.specs.Schedule.{payloads_of, RunState, Runs, SendsIt, Answer, packets_sent}
 use Rattle.codec_payload_core.specs.SentStream.{SentUnit, packets_of, IsReleaseOf, payloads_sent, IsLawful, AllLawful, AreReadable, units_of_run, units_of_sample, pack_after_sample}
@@ -41,6 +43,11 @@ plain_head kind g711 payload = refl
 plain_head kind opus payload = refl
 plain_head kind null payload = refl
 
+plain_quiet : (kind : DepackKind) → IsPlain kind → is_quiet kind ≡ true
+plain_quiet kind g711 = refl
+plain_quiet kind opus = refl
+plain_quiet kind null = refl
+
 plain_tail : (kind : DepackKind) → IsPlain kind → (marker : Bool) (payload : List ℕ) → tail_in kind marker payload ≡ true
 plain_tail kind g711 marker payload = refl
 plain_tail kind opus marker payload = refl
@@ -52,15 +59,11 @@ appends : (d : Depack) → IsPlain (kind_of_depack d) → (payload out : List �
 appends G711Depack plain payload out extra answer e out' extra' step = step
 appends OpusDepack plain payload out extra answer e out' extra' step = step
 appends NullDepack plain payload out extra answer e out' extra' step = step
-appends ComfortNoiseDepack plain payload out extra answer e out' extra' step = elim plain [ ]
-appends (TeleDepack rate) plain payload out extra answer e out' extra' step = elim plain [ ]
-appends (Vp8Depack d) plain payload out extra answer e out' extra' step = elim plain [ ]
-appends (Av1Depack pending) plain payload out extra answer e out' extra' step = elim plain [ ]
-appends (AmrWbDepack octet) plain payload out extra answer e out' extra' step = elim plain [ ]
+appends d plain payload out extra answer e out' extra' step = elim plain [ ]
 
 -- a unit of one packet
 abbrev pub alone : Packet → SentUnit
-alone q = record { parts = q.payload ∷ []; packets = q ∷ [] }
+alone q = record { parts = q.payload ∷ []; packets = q ∷ []; id = None }
 
 given_alone : (q : Packet) (missing : List Packet) (kind : DepackKind) (d : Depack) (p : Held) (answer : Result Unpacked PacketError) (e : Depack) → missing ≡ [] → p.bytes ≡ q.payload → kind_of_depack d ≡ kind
     → (one : Result (Unit {0}) PacketError) (mid : Depack) (v : Unpacked) → Appends p.bytes [] (nothing_unpacked).extra one v.bytes v.extra × (mid ≡ d)
@@ -85,11 +88,17 @@ lawful_alone kind plain q = record {
       let found = one_held ps q.payload (same ∙ ap payloads_sent only.1) in
       let one = subst (λ (hs : List Held). Unpacks d hs nothing_unpacked answer e) found.1 gives in
       given_alone q missing kind d found.0 answer e only.0 found.2 is one.0 one.1 one.2 (appends d (subst IsPlain (sym is) plain) found.0.bytes [] (nothing_unpacked).extra one.0 one.1 one.2.bytes one.2.extra one.3) one.4;
+  tells = λ missing rest whole head ps same d unpacked e is gives. quiet_tells kind (plain_quiet kind plain) ps d unpacked e is gives;
 }
 
 pub all_alone : (kind : DepackKind) → IsPlain kind → (ps : List Packet) → AllLawful kind false (map alone ps)
 all_alone kind plain [] = tt
 all_alone kind plain (p ∷ ps) = (lawful_alone kind plain p, all_alone kind plain ps)
+
+-- these carry no ids
+ids_alone : (n : ℕ) (ps : List Packet) → CarryIds None n (map alone ps)
+ids_alone n [] = tt
+ids_alone n (p ∷ ps) = (refl, ids_alone (suc n) ps)
 
 pub packets_alone : (ps : List Packet) → packets_of (map alone ps) ≡ ps
 packets_alone [] = refl
@@ -111,14 +120,16 @@ pieces_skipped (suc n) (b ∷ bs) payloads answer =
     let some : 0 < suc n = omega arith in
     rw (eqb-suc-zero n) (ap each_whole (one_list (suc n) (b ∷ bs) payloads some (answer.1 some)))
 
-plain_sends : (pack after : Pack) (mtu : ℕ) (sample : Sample) (rtp_time number : ℕ) (payloads : List (List ℕ)) → IsPlain (payloads_by pack) → may_split pack ≡ false
+plain_sends : (pack after : Pack) (mtu : ℕ) (sample : Sample) (rtp_time number : ℕ) (payloads : List (List ℕ)) → IsPlain (payloads_by pack) → may_split pack ≡ false → next_id pack ≡ None → next_id after ≡ None
     → after ≡ pack_after pack mtu sample.bytes → each_whole payloads ≡ canonical_units pack mtu sample.bytes
     → SendsUnits pack mtu sample rtp_time number payloads after
-plain_sends pack after mtu sample rtp_time number payloads plain whole goes_on canonical = record {
+plain_sends pack after mtu sample rtp_time number payloads plain whole no_id none_after goes_on canonical = record {
   units = map alone (packets_for after sample rtp_time number payloads);
   canonical = parts_alone after sample rtp_time number payloads ∙ canonical;
   packets = packets_alone (packets_for after sample rtp_time number payloads);
   lawful = λ _. rw whole (all_alone (payloads_by pack) plain (packets_for after sample rtp_time number payloads));
+  ids = rw no_id (ids_alone 0 (packets_for after sample rtp_time number payloads));
+  ids_go_on = λ m. rw (no_id, none_after) refl;
   goes_on = goes_on;
 }
 
@@ -130,7 +141,7 @@ not_empty (b ∷ bs) some = refl
 vp8_pieces : (mtu : ℕ) (sample : Sample) (rtp_time number : ℕ) (payloads : List (List ℕ)) → leb mtu 1 ≡ false → 1 < mtu → (pieces : List (List ℕ)) → ArePieces (mtu - 1) sample.bytes pieces → payloads ≡ described true pieces
     → SendsUnits Vp8Pack mtu sample rtp_time number payloads Vp8Pack
 vp8_pieces mtu sample rtp_time number payloads large some [] are is =
-    no_units Vp8Pack mtu sample rtp_time number payloads is (rw (sym are.join) refl)
+    no_units Vp8Pack mtu sample rtp_time number payloads is (rw (sym are.join) refl) refl
 vp8_pieces mtu sample rtp_time number payloads large some (piece ∷ pieces) are is =
     let full = none_empty (mtu - 1) (piece ∷ pieces) (omega arith) are.sizes in
     let sizes = ap length are.join in
@@ -140,13 +151,15 @@ vp8_pieces mtu sample rtp_time number payloads large some (piece ∷ pieces) are
       canonical = rw (frame, large) (ap (λ (bytes : List ℕ). (bytes ∷ []) ∷ []) are.join);
       packets = append-nil _ ∙ ap (packets_for Vp8Pack sample rtp_time number) (sym is);
       lawful = λ _. (lawful_frame sample rtp_time number piece pieces full, tt);
+      ids = (refl, tt);
+      ids_go_on = λ m. refl;
       goes_on = refl;
     }
 
 vp8_sends : (mtu : ℕ) (sample : Sample) (rtp_time number : ℕ) (payloads : List (List ℕ)) → AnswersDescribed mtu sample.bytes (Ok payloads) → SendsUnits Vp8Pack mtu sample rtp_time number payloads Vp8Pack
 vp8_sends mtu sample rtp_time number payloads answer =
     by_test (leb mtu 1) (λ b. leb mtu 1 ≡ b → SendsUnits Vp8Pack mtu sample rtp_time number payloads Vp8Pack)
-    (λ small _. no_units Vp8Pack mtu sample rtp_time number payloads (answer.0 (grind (arith, nat_tests, small))) (rw small (skipped sample.bytes)))
+    (λ small _. no_units Vp8Pack mtu sample rtp_time number payloads (answer.0 (grind (arith, nat_tests, small))) (rw small (skipped sample.bytes)) refl)
     (λ large _. let some : 1 < mtu = grind (arith, nat_tests, large) in let described = answer.1 some in vp8_pieces mtu sample rtp_time number payloads large some described.0 described.1 described.2)
     refl
   where
@@ -155,15 +168,17 @@ vp8_sends mtu sample rtp_time number payloads answer =
     skipped (b ∷ bs) = refl
 
 -- a codec whose frames are each one packet and one unit
-one_sends : (pack after : Pack) (mtu : ℕ) (sample : Sample) (rtp_time number : ℕ) (payloads : List (List ℕ)) → may_split pack ≡ false → after ≡ pack_after pack mtu sample.bytes → OneOrNone pack mtu sample.bytes payloads
+one_sends : (pack after : Pack) (mtu : ℕ) (sample : Sample) (rtp_time number : ℕ) (payloads : List (List ℕ)) → may_split pack ≡ false → next_id pack ≡ None → next_id after ≡ None → after ≡ pack_after pack mtu sample.bytes → OneOrNone pack mtu sample.bytes payloads
     → SendsUnits pack mtu sample rtp_time number payloads after
-one_sends pack after mtu sample rtp_time number payloads whole goes_on (inl none) =
-    subst (SendsUnits pack mtu sample rtp_time number payloads) (sym goes_on) (no_units pack mtu sample rtp_time number payloads none.0 none.1)
-one_sends pack after mtu sample rtp_time number payloads whole goes_on (inr (payload, bytes, is, canonical, carried)) = record {
+one_sends pack after mtu sample rtp_time number payloads whole no_id none_after goes_on (inl none) =
+    subst (SendsUnits pack mtu sample rtp_time number payloads) (sym goes_on) (no_units pack mtu sample rtp_time number payloads none.0 none.1 (ap next_id (sym goes_on) ∙ (none_after ∙ sym no_id)))
+one_sends pack after mtu sample rtp_time number payloads whole no_id none_after goes_on (inr (payload, bytes, is, canonical, carried)) = record {
   units = map (one_packet bytes) (packets_for after sample rtp_time number (payload ∷ []));
   canonical = sym canonical;
   packets = ap (packets_for after sample rtp_time number) (sym is);
   lawful = λ readable. rw whole (lawful_one (payloads_by pack) bytes _ (carried readable), tt);
+  ids = rw no_id (refl, tt);
+  ids_go_on = λ m. rw (no_id, none_after) refl;
   goes_on = goes_on;
 }
 
@@ -171,13 +186,13 @@ one_sends pack after mtu sample rtp_time number payloads whole goes_on (inr (pay
 pub sends_units : (pack after : Pack) (mtu : ℕ) (sample : Sample) (rtp_time number : ℕ) (answer : Result (List (List ℕ)) PacketError)
     → PackStep pack mtu sample.bytes answer after → answer ≢ Err faults.OutOfMemory
     → SendsUnits pack mtu sample rtp_time number (payloads_of answer) after
-sends_units G711Pack after mtu sample rtp_time number (Ok payloads) step found = plain_sends G711Pack after mtu sample rtp_time number payloads g711 refl step.1 (pieces_skipped mtu sample.bytes payloads step.0)
-sends_units G722Pack after mtu sample rtp_time number (Ok payloads) step found = plain_sends G722Pack after mtu sample rtp_time number payloads g711 refl step.1 (pieces_skipped mtu sample.bytes payloads step.0)
-sends_units OpusPack after mtu sample rtp_time number (Ok payloads) step found = plain_sends OpusPack after mtu sample rtp_time number payloads opus refl step.1 (pieces_skipped mtu sample.bytes payloads step.0)
-sends_units NullPack after mtu sample rtp_time number (Ok payloads) step found = plain_sends NullPack after mtu sample rtp_time number payloads null refl step.1 (ap each_whole step.0)
-sends_units ComfortNoisePack after mtu sample rtp_time number answer step found = one_sends ComfortNoisePack after mtu sample rtp_time number (payloads_of answer) refl step.1 (noise_units mtu sample.bytes answer step.0 found)
-sends_units TelePack after mtu sample rtp_time number answer step found = one_sends TelePack after mtu sample rtp_time number (payloads_of answer) refl step.1 (tele_units mtu sample.bytes answer step.0 found)
-sends_units (AmrWbPack octet) after mtu sample rtp_time number answer step found = one_sends (AmrWbPack octet) after mtu sample rtp_time number (payloads_of answer) refl step.1 (amr_wb_units octet mtu sample.bytes answer step.0 found)
+sends_units G711Pack after mtu sample rtp_time number (Ok payloads) step found = plain_sends G711Pack after mtu sample rtp_time number payloads g711 refl refl (ap next_id step.1) step.1 (pieces_skipped mtu sample.bytes payloads step.0)
+sends_units G722Pack after mtu sample rtp_time number (Ok payloads) step found = plain_sends G722Pack after mtu sample rtp_time number payloads g711 refl refl (ap next_id step.1) step.1 (pieces_skipped mtu sample.bytes payloads step.0)
+sends_units OpusPack after mtu sample rtp_time number (Ok payloads) step found = plain_sends OpusPack after mtu sample rtp_time number payloads opus refl refl (ap next_id step.1) step.1 (pieces_skipped mtu sample.bytes payloads step.0)
+sends_units NullPack after mtu sample rtp_time number (Ok payloads) step found = plain_sends NullPack after mtu sample rtp_time number payloads null refl refl (ap next_id step.1) step.1 (ap each_whole step.0)
+sends_units ComfortNoisePack after mtu sample rtp_time number answer step found = one_sends ComfortNoisePack after mtu sample rtp_time number (payloads_of answer) refl refl (ap next_id step.1) step.1 (noise_units mtu sample.bytes answer step.0 found)
+sends_units TelePack after mtu sample rtp_time number answer step found = one_sends TelePack after mtu sample rtp_time number (payloads_of answer) refl refl (ap next_id step.1) step.1 (tele_units mtu sample.bytes answer step.0 found)
+sends_units (AmrWbPack octet) after mtu sample rtp_time number answer step found = one_sends (AmrWbPack octet) after mtu sample rtp_time number (payloads_of answer) refl refl (ap next_id step.1) step.1 (amr_wb_units octet mtu sample.bytes answer step.0 found)
 sends_units Av1Pack after mtu sample rtp_time number answer step found =
     subst (SendsUnits Av1Pack mtu sample rtp_time number (payloads_of answer)) (sym step.1) (av1_sends mtu sample rtp_time number answer step.0 found)
 sends_units G711Pack after mtu sample rtp_time number (Err fault) step found = absurd (found (ap Err step.0.0))
@@ -202,37 +217,16 @@ numbered_append n (p ∷ ps) qs a b = let e : n + length (p ∷ ps) ≡ (n + 1) 
 
 -- a packetizer keeps its payloads' kind
 same_payloads : (pack : Pack) (mtu : ℕ) (frame : List ℕ) → payloads_by (pack_after pack mtu frame) ≡ payloads_by pack
-same_payloads G711Pack mtu frame = refl
-same_payloads G722Pack mtu frame = refl
 same_payloads OpusPack mtu frame = refl
-same_payloads NullPack mtu frame = refl
-same_payloads Vp8Pack mtu frame = refl
-same_payloads ComfortNoisePack mtu frame = refl
-same_payloads TelePack mtu frame = refl
-same_payloads Av1Pack mtu frame = refl
-same_payloads (AmrWbPack octet) mtu frame = refl
+same_payloads pack mtu frame = refl
 
 same_splits : (pack : Pack) (mtu : ℕ) (frame : List ℕ) → may_split (pack_after pack mtu frame) ≡ may_split pack
-same_splits G711Pack mtu frame = refl
-same_splits G722Pack mtu frame = refl
 same_splits OpusPack mtu frame = refl
-same_splits NullPack mtu frame = refl
-same_splits Vp8Pack mtu frame = refl
-same_splits ComfortNoisePack mtu frame = refl
-same_splits TelePack mtu frame = refl
-same_splits Av1Pack mtu frame = refl
-same_splits (AmrWbPack octet) mtu frame = refl
+same_splits pack mtu frame = refl
 
 same_readable : (pack : Pack) (mtu : ℕ) (frame other : List ℕ) → is_readable (pack_after pack mtu frame) other ≡ is_readable pack other
-same_readable G711Pack mtu frame other = refl
-same_readable G722Pack mtu frame other = refl
 same_readable OpusPack mtu frame other = refl
-same_readable ComfortNoisePack mtu frame other = refl
-same_readable TelePack mtu frame other = refl
-same_readable Vp8Pack mtu frame other = refl
-same_readable Av1Pack mtu frame other = refl
-same_readable (AmrWbPack octet) mtu frame other = refl
-same_readable NullPack mtu frame other = refl
+same_readable pack mtu frame other = refl
 
 readable_after : (pack : Pack) (mtu : ℕ) (frame : List ℕ) (samples : List Sample) → AreReadable pack samples → AreReadable (pack_after pack mtu frame) samples
 readable_after pack mtu frame [] readable = tt
@@ -251,6 +245,8 @@ pub record Streams (samples : List Sample) (later : List Step) (s t : RunState) 
   pub lawful : AreReadable s.payloading.pack samples → AllLawful (payloads_by s.payloading.pack) (may_split s.payloading.pack) units
   pub one_time : AllOneTime units
   pub numbered : AreNumbered (s.sink.first + length s.sink.packets) (packets_of units)
+  pub ids : CarryIds (next_id s.payloading.pack) 0 units
+  pub few : length s.sink.packets < 2 ^ 63 → length t.sink.packets < 2 ^ 63
   pub first : t.sink.first ≡ s.sink.first
 
 -- nothing is sent by these steps
@@ -262,6 +258,8 @@ no_stream samples later s t none same = record {
   lawful = λ _. tt;
   one_time = tt;
   numbered = tt;
+  ids = tt;
+  few = λ few. subst (λ (x : RunState). length x.sink.packets < 2 ^ 63) (sym same) few;
   first = ap (λ (x : RunState). x.sink.first) same;
 }
 
@@ -275,6 +273,8 @@ keeps_stream samples later all s mid t pack sink units rest = record {
   lawful = λ readable. subst (λ (p : Pack). AllLawful (payloads_by p) (may_split p) rest.units) pack (rest.lawful (subst (λ (p : Pack). AreReadable p samples) (sym pack) readable));
   one_time = rest.one_time;
   numbered = subst (λ (x : SentPackets). AreNumbered (x.first + length x.packets) (packets_of rest.units)) sink rest.numbered;
+  ids = subst (λ (p : Pack). CarryIds (next_id p) 0 rest.units) pack rest.ids;
+  few = λ few. rest.few (subst (λ (x : SentPackets). length x.packets < 2 ^ 63) (sym sink) few);
   first = rest.first ∙ ap (λ (x : SentPackets). x.first) sink;
 }
 
@@ -307,6 +307,8 @@ sends_stream samples later i mtu place sample entry s mid t there sent rest =
       one_time = times_append here.units rest.units (times_of_sample sent.pack sample time (s.sink.first + length s.sink.packets) (payloads_of sent.answer) here.units here.packets) rest.one_time;
       numbered = rw (packets_append here.units rest.units, here.packets)
           (numbered_append (s.sink.first + length s.sink.packets) packets (packets_of rest.units) sent.numbered (subst (λ (n : ℕ). AreNumbered n (packets_of rest.units)) next rest.numbered));
+      ids = carry_on (next_id s.payloading.pack) (next_id sent.pack) here.units rest.units here.ids here.ids_go_on (subst (λ (p : Pack). CarryIds (next_id p) 0 rest.units) (ap (λ (x : RunState). x.payloading.pack) sent.left) rest.ids);
+      few = λ _. rest.few sent.few;
       first = rest.first ∙ first;
     }
 

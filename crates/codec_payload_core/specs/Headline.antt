@@ -1,7 +1,9 @@
 -- What a buffer releases of a run, whatever is lost, repeated and reordered.
-use Rattle.std.specs.Prelude.{◌≡◌, ℕ, ◌+◌, ◌≤◌, Bool, List, [], ◌∷◌, ◌++◌, Some, None, Ok, Err, length, map, take, slice_get}
+use Rattle.std.specs.Prelude.{◌≡◌, ℕ, ◌+◌, ◌≤◌, Bool, false, List, [], ◌∷◌, ◌++◌, Some, None, Ok, Err, length, map, take, slice_get}
+use Rattle.codec_payload_buffer.specs.ContiguityTable.{contiguity_for}
 use Rattle.codec_payload_buffer.specs.Depack.{kind_of_depack}
 use Rattle.codec_payload_core.specs.Packets.{Packet}
+use Rattle.codec_payload_core.specs.ToldIds.{read_by}
 use Rattle.codec_payload_buffer.specs.Release.{Release}
 use Rattle.codec_payload_core.specs.Schedule.{Answer, RunState, meta_of_push}
 use Rattle.codec_payload_core.specs.Sending.{Sample}
@@ -45,12 +47,16 @@ InOrder all_steps clock_rate splits units from (Some (Err fault) ∷ answers) = 
 InOrder all_steps clock_rate splits units from (Some (Ok r) ∷ answers) =
     (place : ℕ) × (from ≤ place) × IsUnitAt all_steps clock_rate splits units place r × InOrder all_steps clock_rate splits units (place + 1) answers
 
--- the sink and the buffer are unused, and the buffer's depacketizer reads what the payloader's packetizer makes
+-- the sink and the buffer are unused, and the buffer's depacketizer reads what the payloader's packetizer makes, and has
+-- extended no picture ids
 pub record IsUnused (s : RunState) : Type 0 where
   pub nothing_sent : s.sink.packets ≡ []
   pub nothing_held : s.buffer.held ≡ []
   pub no_cutoff : s.buffer.cutoff ≡ None
+  pub no_mark : s.buffer.mark ≡ false
   pub alike : kind_of_depack s.buffer.depack ≡ payloads_by s.payloading.pack
+  pub nothing_read : read_by s.buffer.depack ≡ None
+  pub nothing_kept : s.buffer.contiguity ≡ contiguity_for (kind_of_depack s.buffer.depack)
 
 -- the units of the samples, as the steps send them, with their packets, which the sink holds; and what the pops answered
 -- are these units, in order, each at most once

@@ -28,6 +28,7 @@ pub use Rattle.codec_payload_red.specs.RedPayload
 pub use Rattle.codec_payload_red.specs.RedReading
 pub use Rattle.codec_payload_buffer.specs.Buffer
 pub use Rattle.codec_payload_buffer.specs.BufferExamples
+pub use Rattle.codec_payload_buffer.specs.ContiguityTable
 pub use Rattle.codec_payload_buffer.specs.Depack
 pub use Rattle.codec_payload_buffer.specs.Frames
 pub use Rattle.codec_payload_buffer.specs.Held
@@ -38,9 +39,13 @@ pub use Rattle.codec_payload_buffer.specs.Steps
 pub use Rattle.codec_payload_buffer.specs.Stretches
 pub mod Exact
 pub mod Headline
+pub mod Log
 pub mod Packets
 pub mod RedPackets
+pub mod RunOrder
+pub mod RunUnits
 pub mod Schedule
 pub mod Sending
 pub mod SentStream
+pub mod ToldIds
 pub mod Units

@@ -1,5 +1,5 @@
 -- What the steps of a run do, one after another.
-use Rattle.std.specs.Prelude.{false, ◌≡◌, ◌≢◌, ℕ, ◌+◌, ◌%◌, ◌^◌, ◌⊎◌, List, [], ◌∷◌, ◌++◌, Option, Some, None, Result, Ok, Err, MatchOption, length, slice_get, refl}
+use Rattle.std.specs.Prelude.{false, ◌≡◌, ◌≢◌, ℕ, ◌<◌, ◌+◌, ◌%◌, ◌^◌, ◌⊎◌, List, [], ◌∷◌, ◌++◌, Option, Some, None, Result, Ok, Err, MatchOption, length, slice_get, refl}
 use Rattle.codec_payload_base.specs.declared.error.PacketError.{PacketError}
 use Rattle.codec_payload_base.specs.declared.error.PacketError.TheVariants as faults
 use Rattle.codec_payload_buffer.specs.Pack.{Pack, PackStep}
@@ -48,6 +48,7 @@ pub record SendsIt (place mtu : ℕ) (sample : Sample) (s : RunState) (entry : S
   pub not_memory : answer ≢ Err faults.OutOfMemory
   pub entry_is : entry ≡ record { step = place; first = length s.sink.packets; count = length (payloads_of answer); fault = fault_of answer }
   pub numbered : AreNumbered (s.sink.first + length s.sink.packets) (packets_sent s pack sample (payloads_of answer))
+  pub few : length t.sink.packets < 2 ^ 63
   pub left : t ≡ after_send s pack (packets_sent s pack sample (payloads_of answer))
 
 -- what is known of a packet that step `place` pushes

@@ -1,5 +1,5 @@
 -- What a run sends: its units, with their packets, and what each codec owes for them.
-use Rattle.std.specs.Prelude.{◌≡◌, ℕ, ◌<◌, ◌⊎◌, Bool, true, false, List, [], ◌∷◌, ◌++◌, Option, Some, None, Result, MatchResult, length, map, slice_get}
+use Rattle.std.specs.Prelude.{◌≡◌, ℕ, ◌<◌, ◌⊎◌, Bool, true, false, List, [], ◌∷◌, ◌++◌, Option, Some, None, Result, Ok, MatchResult, length, map, slice_get}
 use Rattle.std.specs.List.{flat_map}
 use Rattle.codec_payload_base.specs.Pieces.{joined}
 use Rattle.codec_payload_base.specs.declared.error.PacketError.{PacketError}
@@ -8,6 +8,7 @@ use Rattle.codec_payload_buffer.specs.Depack.{Depack, DepackKind, kind_of_depack
 use Rattle.codec_payload_buffer.specs.Held.{Held}
 use Rattle.codec_payload_buffer.specs.Pack.{Pack}
 use Rattle.codec_payload_core.specs.Packets.{Packet}
+use Rattle.codec_payload_core.specs.ToldIds.{Tells, read_by}
 use Rattle.codec_payload_core.specs.Sending.{Sample}
 use Rattle.codec_payload_buffer.specs.Steps.{Unpacked, Unpacks, nothing_unpacked}
 use Rattle.codec_payload_core.specs.Units.{canonical_units, is_readable, pack_after}
@@ -36,10 +37,12 @@ abbrev pub AreReadable : Pack → List Sample → Type 0
 AreReadable pack [] = Unit {0}
 AreReadable pack (sample ∷ samples) = (is_readable pack sample.bytes ≡ true) × AreReadable pack samples
 
--- a unit that was sent, in its parts, with its packets
+-- a unit that was sent, in its parts, with its packets, and the picture id that these carry, if they carry that of the
+-- base layer besides
 pub record SentUnit : Type 0 where
   pub parts : List (List ℕ)
   pub packets : List Packet
+  pub id : Option ℕ
 
 -- the packets of these units
 abbrev pub packets_of : List SentUnit → List Packet
@@ -70,7 +73,7 @@ payloads_sent ps = map (λ (p : Packet). p.payload) ps
 
 -- what a codec owes for each unit that it sends: it ends with its only tail and begins with a head; and from its first
 -- packet, or from a later one that is a head, to its last, a depacketizer of the kind, whatever it holds, gives the unit
--- or its last parts, and refuses nothing but for want of memory
+-- or its last parts, and refuses nothing but for want of memory; and it tells the picture id that the packets carry
 pub record IsLawful (kind : DepackKind) (splits : Bool) (u : SentUnit) : Type 0 where
   pub ends : EndsWithTail kind u.packets
   pub starts : StartsWithHead kind u.packets
@@ -79,6 +82,11 @@ pub record IsLawful (kind : DepackKind) (splits : Bool) (u : SentUnit) : Type 0 
       → (ps : List Held) → payloads_held ps ≡ payloads_sent rest
       → (d : Depack) (answer : Result Unpacked PacketError) (e : Depack) → kind_of_depack d ≡ kind → Unpacks d ps nothing_unpacked answer e
       → (kind_of_depack e ≡ kind) × MatchResult answer (λ unpacked. IsReleaseOf splits u missing unpacked.bytes) (λ fault. fault ≡ faults.OutOfMemory)
+  pub tells :
+      (missing rest : List Packet) → missing ++ rest ≡ u.packets → StartsWithHead kind rest
+      → (ps : List Held) → payloads_held ps ≡ payloads_sent rest
+      → (d : Depack) (unpacked : Unpacked) (e : Depack) → kind_of_depack d ≡ kind → Unpacks d ps nothing_unpacked (Ok unpacked) e
+      → Tells u.id (read_by d) unpacked.extra (read_by e)
 
 abbrev pub AllLawful : DepackKind → Bool → List SentUnit → Type 0
 AllLawful kind splits [] = Unit {0}

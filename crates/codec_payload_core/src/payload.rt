@@ -1,6 +1,6 @@
 //! Samples cut into packets and sent to a sink.
 
-ghost use Rattle.std.specs.Prelude.{◌≡◌, ◌∷◌, ◌++◌, ◌+◌, ◌%◌, ◌^◌, ◌≤◌, ◌⊎◌, ℕ, List, [], Bool, Option, map, option_map, vec_len, IsOk, OnOk, OnErr, IfErr, Ok, Err};
+ghost use Rattle.std.specs.Prelude.{◌≡◌, ◌∷◌, ◌++◌, ◌+◌, ◌%◌, ◌^◌, ◌<◌, ◌≤◌, ◌⊎◌, ℕ, List, [], Bool, Option, length, map, option_map, vec_len, IsOk, OnOk, OnErr, IfErr, Ok, Err};
 ghost use Rattle.std.specs.Option.{option_copied};
 ghost use Rattle.codec_payload_base.specs.declared.error.PacketError.{PacketError as Fault};
 ghost use Rattle.codec_payload_buffer.specs.Pack.{pack_of, pack_for, configured};
@@ -107,7 +107,8 @@ impl MemorySink {
 
     /// The packets that were sent, in order.
     pub fn packets(&self) -> &[OutgoingPacket]
-        ensures { packets_in result.now ≡ self.now.packets }
+        ensures value { packets_in result.now ≡ self.now.packets }
+        ensures few { length self.now.packets < 2 ^ 63 }
     {
         &self.kept
     }

@@ -4,8 +4,11 @@ ghost use Rattle.std.specs.Prelude.{◌≡◌, ◌≢◌, ◌++◌, List, map, I
 ghost use Rattle.codec_payload_base.specs.declared.error.PacketError.TheVariants.{OutOfMemory};
 ghost use Rattle.codec_payload_core.specs.Exact.{ReleasesUnits};
 ghost use Rattle.codec_payload_core.specs.Headline.{IsUnused, ReleasesInOrder};
+ghost use Rattle.codec_payload_core.specs.Log.{RunLog, OfLogs};
 ghost use Rattle.codec_payload_core.specs.Packets.{packet_of};
 ghost use Rattle.codec_payload_buffer.specs.Release.{Release};
+ghost use Rattle.codec_payload_core.specs.RunOrder.{IsOrderFree, IsContiguousAsSaid, OnlySetsCount};
+ghost use Rattle.codec_payload_core.specs.RunUnits.{LosesNoneSilently, PassesNoneOver, PassesOnlyPastGap, BeginsAsSent};
 ghost use Rattle.codec_payload_core.specs.Schedule.{run_state, SendsIt, StopsSending, DoesStep, StopsAt, Runs, Stops, Answer, after_push};
 ghost use Rattle.codec_payload_core.specs.Sending.{Sample, sample_of};
 ghost use Rattle.codec_payload_core.specs.SentStream.{AreReadable};
@@ -74,6 +77,31 @@ pub fn run_schedule(
     // The same units; and where the buffer has room for all packets and each was pushed before the first pop, all of them.
     ensures exact { IfOk result (λ run. IsUnused (run_state payloader.old buffer.old sink.old) → AreReadable payloader.old.pack (map sample_of samples.now)
         → ReleasesUnits (map sample_of samples.now) steps.now (run_state payloader.old buffer.old sink.old) run.sends.items run.pops.items (run_state payloader.new buffer.new sink.new)) }
+    // A run can be told pop by pop: what was pushed since the pop before, the answer, and the buffer.
+    ensures logged { IfOk result (λ run. IsUnused (run_state payloader.old buffer.old sink.old) → AreReadable payloader.old.pack (map sample_of samples.now)
+        → RunLog (map sample_of samples.now) steps.now (run_state payloader.old buffer.old sink.old) run.sends.items run.pops.items (run_state payloader.new buffer.new sink.new)) }
+    // What follows holds of each such log. Of the pushes between two pops only their set counts, evictions included.
+    ensures order_free { IfOk result (λ run. OfLogs (map sample_of samples.now) steps.now (run_state payloader.old buffer.old sink.old) run.sends.items run.pops.items
+        (run_state payloader.new buffer.new sink.new) IsOrderFree) }
+    // Where the packetizer sends no picture ids, a unit is `contiguous` exactly where it follows the one before, or is the
+    // first and nothing was evicted before it.
+    ensures contiguous { IfOk result (λ run. OfLogs (map sample_of samples.now) steps.now (run_state payloader.old buffer.old sink.old) run.sends.items run.pops.items
+        (run_state payloader.new buffer.new sink.new) IsContiguousAsSaid) }
+    // A unit that is held whole before a pop is released by then or later, or held whole in the end, unless a packet of it
+    // was evicted, or a pop passed it over.
+    ensures no_silent_loss { IfOk result (λ run. OfLogs (map sample_of samples.now) steps.now (run_state payloader.old buffer.old sink.old) run.sends.items run.pops.items
+        (run_state payloader.new buffer.new sink.new) LosesNoneSilently) }
+    // Where the packetizer sends no picture ids, no pop passes a frame over.
+    ensures none_passed_over { IfOk result (λ run. OfLogs (map sample_of samples.now) steps.now (run_state payloader.old buffer.old sink.old) run.sends.items run.pops.items
+        (run_state payloader.new buffer.new sink.new) PassesNoneOver) }
+    // Where one does, 16,384 units in a row were not taken before.
+    ensures passed_over { IfOk result (λ run. OfLogs (map sample_of samples.now) steps.now (run_state payloader.old buffer.old sink.old) run.sends.items run.pops.items
+        (run_state payloader.new buffer.new sink.new) PassesOnlyPastGap) }
+    // Where the first unit comes first and whole, nothing is evicted and no pop is made too early, the units released are
+    // the first of those that were sent, each whole.
+    ensures beginning { IfOk result (λ run. OfLogs (map sample_of samples.now) steps.now (run_state payloader.old buffer.old sink.old) run.sends.items run.pops.items
+        (run_state payloader.new buffer.new sink.new) BeginsAsSent) }
+    ensures limit { buffer.new.limit ≡ buffer.old.limit }
     ensures fault { IfErr result (λ fault. fault ≡ OutOfMemory) }
     ensures stops { OnErr result (Stops (map sample_of samples.now) 0 steps.now (run_state payloader.old buffer.old sink.old)
         (run_state payloader.new buffer.new sink.new)) }
@@ -100,6 +128,7 @@ fn do_step(
 ) -> Result<(), PacketError>
     ensures ok { OnOk result ((sends : List Entry) × (pops : List Answer) × (run.new.sends.items ≡ run.old.sends.items ++ sends) × (run.new.pops.items ≡ run.old.pops.items ++ pops)
         × DoesStep (map sample_of samples.now) place step (run_state payloader.old buffer.old sink.old) sends pops (run_state payloader.new buffer.new sink.new)) }
+    ensures limit { buffer.new.limit ≡ buffer.old.limit }
     ensures fault { IfErr result (λ fault. fault ≡ OutOfMemory) }
     ensures err { OnErr result (StopsAt (map sample_of samples.now) step (run_state payloader.old buffer.old sink.old) (run_state payloader.new buffer.new sink.new)) }
 {
@@ -169,6 +198,7 @@ fn push_step(
     place: usize,
 ) -> Result<(), PacketError>
     ensures ok { OnOk result (buffer.new ≡ after_push place clock_rate (Option.Some (packet_of packet.now)) buffer.old) }
+    ensures limit { buffer.new.limit ≡ buffer.old.limit }
     ensures fault { IfErr result (λ fault. fault ≡ OutOfMemory) }
     ensures err { OnErr result (buffer.new ≡ buffer.old) }
 {
@@ -195,6 +225,7 @@ fn pop_step(
     buffer: &mut DepacketizingBuffer,
 ) -> Result<Option<Result<Depacketized, PacketError>>, PacketError>
     ensures ok { IfOk result (λ answer. Pops buffer.old answer buffer.new × (answer ≢ Option.Some (Result.Err OutOfMemory))) }
+    ensures limit { buffer.new.limit ≡ buffer.old.limit }
     ensures fault { IfErr result (λ fault. fault ≡ OutOfMemory) }
     ensures err { OnErr result (Pops buffer.old (Option.Some (Result.Err OutOfMemory)) buffer.new) }
 {
@@ -203,3 +234,9 @@ fn pop_step(
         answer => Ok(answer),
     }
 }
+
+/// Only which packets are pushed before each pop counts: two runs over the same packets that push the same ones before
+/// each pop are answered the same, all but when each packet was received.
+pub fn order_of_runs()
+    ensures { OnlySetsCount }
+{}

@@ -66,6 +66,7 @@ inverse_key_bit d first = if (d.s == 1) && (d.pid == 0) then first % 2 else 1
 abbrev pub was_keyframe : CodecExtra → Bool
 was_keyframe extras.None = false
 was_keyframe (extras.Vp8 extra) = extra.is_keyframe
+was_keyframe (extras.Vp9 _) = false
 was_keyframe (extras.Av1 _) = false
 was_keyframe (extras.Tele _) = false
 

@@ -161,7 +161,8 @@ impl Vp8Depacketizer {
     {
         let was_keyframe = match before {
             CodecExtra::Vp8(extra) => extra.is_keyframe,
-            CodecExtra::None | CodecExtra::Av1(_) | CodecExtra::Tele(_) => false,
+            CodecExtra::None | CodecExtra::Vp9(_) | CodecExtra::Av1(_) | CodecExtra::Tele(_) =>
+                false,
         };
         CodecExtra::Vp8(Vp8CodecExtra {
             discardable: self.n == 1,

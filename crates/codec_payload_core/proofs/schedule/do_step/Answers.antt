@@ -30,7 +30,7 @@ returns-in_err-entry-in-Send-clause-err c =
 pub returns-in_default-get-clause-ok : goal.returns-in_default-get-clause-ok
 returns-in_default-get-clause-ok c =
     let none = slice_get_past c.packets.result.now c.in-Push.k c.in_default-get.ensures.lookup.3 in
-    let here = ap (λ ps. slice_get ps c.in-Push.k) (sym c.packets.ensures) ∙ (slice_get-map packet_of c.packets.result.now c.in-Push.k ∙ ap (λ o. option_map packet_of o) none) in
+    let here = ap (λ ps. slice_get ps c.in-Push.k) (sym c.packets.ensures.value) ∙ (slice_get-map packet_of c.packets.result.now c.in-Push.k ∙ ap (λ o. option_map packet_of o) none) in
     ([], [], sym (append-nil _), sym (append-nil _), rw c.in-Push.is (refl, refl, rw here refl))
 
 pub returns-in_ok-entry-in-Send-clause-ok : goal.returns-in_ok-entry-in-Send-clause-ok
@@ -42,7 +42,7 @@ returns-in_ok-entry-in-Send-clause-ok c =
 pub returns-in-Some-get-clause-ok : goal.returns-in-Some-get-clause-ok
 returns-in-Some-get-clause-ok c =
     let there = slice_get_read c.packets.result.now (length c.packets.result.now) c.in-Push.k c.in-Some-get.packet.now refl c.in-Some-get.ensures.lookup.3.0 c.in-Some-get.ensures.lookup.1 in
-    let here = ap (λ ps. slice_get ps c.in-Push.k) (sym c.packets.ensures) ∙ (slice_get-map packet_of c.packets.result.now c.in-Push.k ∙ ap (λ o. option_map packet_of o) there) in
+    let here = ap (λ ps. slice_get ps c.in-Push.k) (sym c.packets.ensures.value) ∙ (slice_get-map packet_of c.packets.result.now c.in-Push.k ∙ ap (λ o. option_map packet_of o) there) in
     on_ok c.push_step.result (λ pushed. (
       [],
       [],

@@ -1,10 +1,25 @@
-use Rattle.std.proofs.Common.{[], sym, ◌∙◌}
-use Rattle.codec_payload_buffer.specs.Steps.{none}
+use Rattle.std.proofs.Common.{[], ◌∷◌, ◌∙◌, refl, sym}
+use Rattle.codec_payload_buffer.specs.Steps.{PassesOver, none, one_more}
+use Rattle.codec_payload_buffer.proofs.PopLemmas.{passes_shorter, nothing_passed}
 use Rattle.codec_payload_buffer.proofs.buffer.DepacketizingBuffer.pop.Goals as goal
 
--- no frame is passed over
-pub returns-in-Some-clause-pops : goal.returns-in-Some-clause-pops
-returns-in-Some-clause-pops c = ([], (c.args.self.now, none, c.take_frame.ensures.takes))
+pub loop-frame-init : goal.loop-frame-init
+loop-frame-init c = record { over = []; passes = none; limit = refl }
 
-pub returns-in-None-clause-pops : goal.returns-in-None-clause-pops
-returns-in-None-clause-pops c = ([], (none, sym c.due.ensures.due ∙ c.in-None.is))
+pub loop-frame-smaller : goal.loop-frame-smaller
+loop-frame-smaller c = passes_shorter c.loop-frame.self c.take_frame.new.self c.due.ensures.rises (rw c.in-Ok-None.field-0-is at c.in-Ok-None.ensures.takes)
+
+pub loop-frame-preserved : goal.loop-frame-preserved
+loop-frame-preserved c =
+    let passed : PassesOver c.loop-frame.self c.take_frame.new.self = rw c.in-Ok-None.field-0-is at c.in-Ok-None.ensures.takes in
+    record {
+      over = passed.frame ∷ c.loop-frame.invariant.over;
+      passes = one_more c.loop-frame.invariant.passes passed;
+      limit = c.take_frame.ensures.limit ∙ c.loop-frame.invariant.limit;
+    }
+
+pub returns-in-Ok-Some-clause-waits : goal.returns-in-Ok-Some-clause-waits
+returns-in-Ok-Some-clause-waits c = λ waits. absurd (nothing_passed c.args.self.now c.loop-frame.self c.loop-frame.invariant.over c.in-Some.frame waits c.loop-frame.invariant.passes (sym c.due.ensures.due ∙ c.in-Some.is))
+
+pub returns-in-Err-clause-waits : goal.returns-in-Err-clause-waits
+returns-in-Err-clause-waits c = λ waits. absurd (nothing_passed c.args.self.now c.loop-frame.self c.loop-frame.invariant.over c.in-Some.frame waits c.loop-frame.invariant.passes (sym c.due.ensures.due ∙ c.in-Some.is))

@@ -1,13 +1,14 @@
-use Rattle.std.proofs.Common.{inl, ◌≡◌, refl, sym, ◌∙◌, ap, map, arith, Some, Ok, Err}
+use Rattle.std.proofs.Common.{inl, ◌≡◌, refl, sym, ◌∙◌, ap, map, arith, Bool, true, false, Some, Ok, Err}
 use Rattle.std.specs.Prelude.{slice_range}
 use Rattle.std.proofs.lemmas.Result.{err_from_is_err_and}
 use Rattle.codec_payload_buffer.specs.Buffer.{state_of}
+use Rattle.codec_payload_buffer.specs.ContiguityTable.{checked}
 use Rattle.codec_payload_buffer.specs.Depack.{depack_of}
 use Rattle.codec_payload_buffer.specs.Held.{held_of}
 use Rattle.codec_payload_buffer.specs.Steps.{Unpacked, due_of, packets_of_frame, metas_of, follows}
 use Rattle.codec_payload_buffer.proofs.CaseLemmas.{not_both}
 use Rattle.codec_payload_buffer.proofs.PopLemmas.{order_due, due_metas, due_time, sound_left}
-use Rattle.codec_payload_buffer.proofs.TakeLemmas.{gives_of, released, refused, stalled}
+use Rattle.codec_payload_buffer.proofs.TakeLemmas.{gives_of, released, passed_over, refused, stalled}
 use Rattle.codec_payload_buffer.proofs.buffer.DepacketizingBuffer.take_frame.Goals.{then-not-is_out_of_memory, else-not-is_out_of_memory, then-starts_next, else-starts_next}
 use Rattle.codec_payload_buffer.proofs.buffer.DepacketizingBuffer.take_frame.Goals as goal
 
@@ -51,6 +52,27 @@ new-requires c =
 pub invariant_of-self-2 : goal.invariant_of-self-2
 invariant_of-self-2 c = sound_left (state_of c.self.inside) _ c.args.frame.last c.self.invariant c.remove_up_to-2.ensures refl refl
 
+pub invariant_of-self-then-not-may_go : goal.invariant_of-self-then-not-may_go
+invariant_of-self-then-not-may_go c = sound_left (state_of c.self.inside) _ c.args.frame.last c.self.invariant c.remove_up_to-2.ensures refl refl
+
+pub returns-then-not-may_go-clause-takes : goal.returns-then-not-may_go-clause-takes
+returns-then-not-may_go-clause-takes c =
+    let s = state_of c.self.inside in
+    let frame = c.args.frame in
+    let due : due_of s ≡ Some frame = ap due_of c.self.view_is ∙ c.requires in
+    let packets = map held_of (slice_range c.self.inside.packets.items c.frame_range-from.result.0 c.frame_range-from.result.1) in
+    let unpacked : Unpacked = record { bytes = c.unpack.new.bytes.items; extra = c.unpack.new.codec_extra } in
+    let e = depack_of c.unpack.new.depack in
+    let test : c.if-starts_next.follows ≡ follows s frame = elim c.if-starts_next.branch [
+      | then-starts_next w ↦ w.follows-is ∙ rw (sym c.starts_next.ensures ∙ w.if-starts_next.true) refl
+      | else-starts_next w ↦ w.follows-is ∙ w.if-starts_next.false ∙ rw (sym c.starts_next.ensures ∙ w.if-starts_next.false) refl
+    ] in
+    let answer : checked s.contiguity unpacked.extra c.if-starts_next.follows ≡ (false, c.check-may_go.result.1, c.check-may_go.new.self) =
+    c.check-may_go.ensures ∙ ap (λ (b : Bool). (b, c.check-may_go.result.1, c.check-may_go.new.self)) c.if-not-may_go.true in
+    passed_over s c.args.self.now c.self.view_is frame due e c.check-may_go.result.1 c.if-starts_next.follows c.check-may_go.new.self unpacked (map held_of c.remove_up_to-2.new.packets.items)
+    (gives_of s frame packets c.in_ok-bytes.bytes.items (Ok unpacked) e c.frame_range-from.ensures.part c.in_ok-bytes.ensures.empty c.in-Ok.ensures.unpacks)
+    test answer c.remove_up_to-2.ensures
+
 pub returns-clause-takes : goal.returns-clause-takes
 returns-clause-takes c =
     let s = state_of c.self.inside in
@@ -60,15 +82,17 @@ returns-clause-takes c =
     let metas : c.in_ok-metas.metas.items ≡ metas_of (packets_of_frame s frame) = c.in_ok-metas.ensures ∙ ap metas_of c.frame_range-from.ensures.part in
     let unpacked : Unpacked = record { bytes = c.unpack.new.bytes.items; extra = c.unpack.new.codec_extra } in
     let e = depack_of c.unpack.new.depack in
-    let test : c.if-starts_next.contiguous ≡ follows s frame = elim c.if-starts_next.branch [
-      | then-starts_next w ↦ w.contiguous-is ∙ rw (sym c.starts_next.ensures ∙ w.if-starts_next.true) refl
-      | else-starts_next w ↦ w.contiguous-is ∙ w.if-starts_next.false ∙ rw (sym c.starts_next.ensures ∙ w.if-starts_next.false) refl
+    let test : c.if-starts_next.follows ≡ follows s frame = elim c.if-starts_next.branch [
+      | then-starts_next w ↦ w.follows-is ∙ rw (sym c.starts_next.ensures ∙ w.if-starts_next.true) refl
+      | else-starts_next w ↦ w.follows-is ∙ w.if-starts_next.false ∙ rw (sym c.starts_next.ensures ∙ w.if-starts_next.false) refl
     ] in
-    released s c.args.self.now c.self.view_is frame due e c.new.result c.index.result.now.time c.if-starts_next.contiguous unpacked c.in_ok-metas.metas.items (map held_of c.remove_up_to-2.new.packets.items)
-    c.new.ensures refl
+    let answer : checked s.contiguity unpacked.extra c.if-starts_next.follows ≡ (true, c.check-may_go.result.1, c.check-may_go.new.self) =
+    c.check-may_go.ensures ∙ ap (λ (b : Bool). (b, c.check-may_go.result.1, c.check-may_go.new.self)) c.if-not-may_go.false in
+    released s c.args.self.now c.self.view_is frame due e c.new.result c.index.result.now.time c.check-may_go.result.1 c.if-starts_next.follows c.check-may_go.new.self unpacked c.in_ok-metas.metas.items (map held_of c.remove_up_to-2.new.packets.items)
+    c.new.ensures
     (gives_of s frame packets c.in_ok-bytes.bytes.items (Ok unpacked) e c.frame_range-from.ensures.part c.in_ok-bytes.ensures.empty c.in-Ok.ensures.unpacks)
     (due_time s frame c.in_ok-metas.metas.items c.index.result.now c.self.invariant.rises due metas c.index.ensures)
-    metas test c.remove_up_to-2.ensures
+    metas test answer c.remove_up_to-2.ensures
 
 pub returns-in_err-metas-clause-takes : goal.returns-in_err-metas-clause-takes
 returns-in_err-metas-clause-takes c =

@@ -1,0 +1,94 @@
+-- What a depacketizer accepts, it accepts in one way.
+use Rattle.std.proofs.Common.{◌≡◌, ◌≢◌, ◌∙◌, sym, ap, ℕ, subst, List, [], ◌∷◌, ◌++◌, Result, Ok, Err, Bool, Some, eqb, arith}
+use Rattle.std.specs.Prelude.{MatchResult}
+use Rattle.std.proofs.lemmas.Bool.Decides.{nat_tests}
+use Rattle.codec_payload_audio.specs.AmrWbReceived.{AmrWbStep}
+use Rattle.codec_payload_base.specs.Bits.{bytes_of}
+use Rattle.codec_payload_audio.specs.Payloads.{Appends, AppendsSome}
+use Rattle.codec_payload_base.specs.TelephoneReport.{TakesFirst}
+use Rattle.codec_payload_base.specs.declared.error.PacketError.{PacketError}
+use Rattle.codec_payload_base.specs.declared.interface.CodecExtra.{CodecExtra}
+use Rattle.codec_payload_buffer.proofs.CaseLemmas.{by_test}
+use Rattle.codec_payload_buffer.specs.Depack.{Depack, G711Depack, OpusDepack, ComfortNoiseDepack, TeleDepack, NullDepack, Vp8Depack, Av1Depack, AmrWbDepack, DepackStep}
+use Rattle.codec_payload_buffer.specs.Held.{Held}
+use Rattle.codec_payload_buffer.specs.Steps.{Unpacked, Unpacks}
+use Rattle.codec_payload_av1.specs.Av1Steps.{Av1Step}
+use Rattle.codec_payload_vp8.specs.Vp8.{Vp8Step, Vp8Rest, extra_of, extended_bit, with_first_byte, without_extension}
+use Rattle.codec_payload_vp8.specs.declared.vp8.Vp8Depacketizer.{Vp8Depacketizer}
+
+appends_same : (payload out : List ℕ) (extra : CodecExtra) (o p : List ℕ) (x y : CodecExtra) → Appends payload out extra (Ok tt) o x → Appends payload out extra (Ok tt) p y → (o ≡ p) × (x ≡ y)
+appends_same payload out extra o p x y a b = (a.0 ∙ sym b.0, a.1 ∙ sym b.1)
+
+some_same : (payload out : List ℕ) (extra : CodecExtra) (o p : List ℕ) (x y : CodecExtra) → AppendsSome payload out extra (Ok tt) o x → AppendsSome payload out extra (Ok tt) p y → (o ≡ p) × (x ≡ y)
+some_same [] out extra o p x y a b = let no = a.0 in absurd (cc)
+some_same (c ∷ cs) out extra o p x y a b = appends_same (c ∷ cs) out extra o p x y a b
+
+first_same : (rate : ℕ) (payload out o p : List ℕ) (x y : CodecExtra) → TakesFirst rate payload out o x → TakesFirst rate payload out p y → (o ≡ p) × (x ≡ y)
+first_same rate (event ∷ flags ∷ high ∷ low ∷ rest) out o p x y a b = (a.0 ∙ sym b.0, a.1 ∙ sym b.1)
+first_same rate (event ∷ flags ∷ high ∷ []) out o p x y a b = absurd a
+first_same rate (event ∷ flags ∷ []) out o p x y a b = absurd a
+first_same rate (event ∷ []) out o p x y a b = absurd a
+first_same rate [] out o p x y a b = absurd a
+
+rest_same : (d : Vp8Depacketizer) (payload out : List ℕ) (extra : CodecExtra) (e f : Vp8Depacketizer) (o p : List ℕ) (x y : CodecExtra) → Vp8Rest d payload out extra (Ok tt) e o x → Vp8Rest d payload out extra (Ok tt) f p y → (e ≡ f) × (o ≡ p) × (x ≡ y)
+rest_same d [] out extra e f o p x y a b = let no = a.0 in absurd (cc)
+rest_same d (c ∷ cs) out extra e f o p x y a b =
+    let same : e ≡ f = a.0 ∙ sym b.0 in
+    (same, a.1 ∙ sym b.1, a.2 ∙ ap (λ (g : Vp8Depacketizer). extra_of g extra) same ∙ sym b.2)
+
+vp8_same : (d : Vp8Depacketizer) (payload out : List ℕ) (extra : CodecExtra) (e f : Vp8Depacketizer) (o p : List ℕ) (x y : CodecExtra) → Vp8Step d payload out extra (Ok tt) e o x → Vp8Step d payload out extra (Ok tt) f p y → (e ≡ f) × (o ≡ p) × (x ≡ y)
+vp8_same d [] out extra e f o p x y a b = let no = a.0 in absurd (cc)
+vp8_same d (byte ∷ rest) out extra e f o p x y a b =
+    by_test (eqb (extended_bit byte) 1) (λ _. (e ≡ f) × (o ≡ p) × (x ≡ y))
+    (λ yes. let is : extended_bit byte ≡ 1 = grind (arith, nat_tests, yes) in let no = (a.0 is).0 in absurd (cc))
+    (λ no. let isnt : extended_bit byte ≢ 1 = grind (arith, nat_tests, no) in rest_same (without_extension (with_first_byte d byte)) rest out extra e f o p x y (a.1 isnt) (b.1 isnt))
+
+some_is : (x y : List ℕ × List ℕ) → Some x ≡ Some y → x ≡ y
+some_is x y e = cc
+
+av1_same : (pending payload out : List ℕ) (extra : CodecExtra) (e f o p : List ℕ) (x y : CodecExtra) → Av1Step pending payload out extra (Ok tt) e o x → Av1Step pending payload out extra (Ok tt) f p y → (e ≡ f) × (o ≡ p) × (x ≡ y)
+av1_same pending payload out extra e f o p x y a b =
+    let both = some_is (a.0, e) (b.0, f) (sym a.1 ∙ b.1) in
+    let added : a.0 ≡ b.0 = ap (λ z. z.0) both in
+    let left : e ≡ f = ap (λ z. z.1) both in
+    (left, a.2 ∙ ap (λ (zs : List ℕ). out ++ zs) added ∙ sym b.2, a.3 ∙ sym b.3)
+
+amr_wb_same : (octet : Bool) (payload out : List ℕ) (extra : CodecExtra) (o p : List ℕ) (x y : CodecExtra) → AmrWbStep octet payload out extra (Ok tt) o x → AmrWbStep octet payload out extra (Ok tt) p y → (o ≡ p) × (x ≡ y)
+amr_wb_same octet payload out extra o p x y a b =
+    let both : ◌≡◌ {A = Result (List ℕ) PacketError} (Ok a.0) (Ok b.0) = sym a.1 ∙ b.1 in
+    let frames : a.0 ≡ b.0 = cc in
+    (a.2 ∙ ap (λ (zs : List ℕ). out ++ bytes_of zs) frames ∙ sym b.2, a.3 ∙ sym b.3)
+
+step_same : (d : Depack) (payload out : List ℕ) (extra : CodecExtra) (e f : Depack) (o p : List ℕ) (x y : CodecExtra) → DepackStep d payload out extra (Ok tt) e o x → DepackStep d payload out extra (Ok tt) f p y → (e ≡ f) × (o ≡ p) × (x ≡ y)
+step_same G711Depack payload out extra e f o p x y a b = let same = appends_same payload out extra o p x y a.0 b.0 in (a.1 ∙ sym b.1, same.0, same.1)
+step_same OpusDepack payload out extra e f o p x y a b = let same = appends_same payload out extra o p x y a.0 b.0 in (a.1 ∙ sym b.1, same.0, same.1)
+step_same NullDepack payload out extra e f o p x y a b = let same = appends_same payload out extra o p x y a.0 b.0 in (a.1 ∙ sym b.1, same.0, same.1)
+step_same ComfortNoiseDepack payload out extra e f o p x y a b = let same = some_same payload out extra o p x y a.0 b.0 in (a.1 ∙ sym b.1, same.0, same.1)
+step_same (TeleDepack rate) payload out extra e f o p x y a b = let same = first_same rate payload out o p x y a.0.1 b.0.1 in (a.1 ∙ sym b.1, same.0, same.1)
+step_same (AmrWbDepack octet) payload out extra e f o p x y a b = let same = amr_wb_same octet payload out extra o p x y a.0 b.0 in (a.1 ∙ sym b.1, same.0, same.1)
+step_same (Vp8Depack d) payload out extra e f o p x y a b =
+    let same = vp8_same d payload out extra a.0 b.0 o p x y a.1 b.1 in
+    (a.2 ∙ ap Vp8Depack same.0 ∙ sym b.2, same.1, same.2)
+step_same (Av1Depack pending) payload out extra e f o p x y a b =
+    let same = av1_same pending payload out extra a.0 b.0 o p x y a.1 b.1 in
+    (a.2 ∙ ap Av1Depack same.0 ∙ sym b.2, same.1, same.2)
+
+unpacked_same : (u v : Unpacked) → u.bytes ≡ v.bytes → u.extra ≡ v.extra → u ≡ v
+unpacked_same u v a b = ap (λ (n : List ℕ). unpacked n u.extra) a ∙ ap (λ (x : CodecExtra). unpacked v.bytes x) b
+  where
+    unpacked : List ℕ → CodecExtra → Unpacked
+    unpacked n x = record { bytes = n; extra = x }
+
+-- what is put together from payloads is fixed
+pub unpacks_same : (d : Depack) (ps : List Held) (u n m : Unpacked) (e f : Depack) → Unpacks d ps u (Ok n) e → Unpacks d ps u (Ok m) f → (n ≡ m) × (e ≡ f)
+unpacks_same d [] u n m e f x y = let i : n ≡ u = cc in let j : m ≡ u = cc in (i ∙ sym j, x.1 ∙ sym y.1)
+unpacks_same d (p ∷ ps) u n m e f x y = cases (λ c v x y. unpacks_same c ps v n m e f x y) x.0 y.0 x.1 y.1 x.2 y.2 x.3 y.3 x.4 y.4
+  where
+    cases : ((c : Depack) (v : Unpacked) → Unpacks c ps v (Ok n) e → Unpacks c ps v (Ok m) f → (n ≡ m) × (e ≡ f)) → (a b : Result (Unit {0}) PacketError) (c k : Depack) (v w : Unpacked)
+        → DepackStep d p.bytes u.bytes u.extra a c v.bytes v.extra → DepackStep d p.bytes u.bytes u.extra b k w.bytes w.extra
+        → MatchResult a (λ _. Unpacks c ps v (Ok n) e) (λ fault. (Ok n ≡ Err fault) × (e ≡ c)) → MatchResult b (λ _. Unpacks k ps w (Ok m) f) (λ fault. (Ok m ≡ Err fault) × (f ≡ k)) → (n ≡ m) × (e ≡ f)
+    cases again (Ok _) (Ok _) c k v w i j x y =
+        let same = step_same d p.bytes u.bytes u.extra c k v.bytes w.bytes v.extra w.extra i j in
+        again c v x (subst (λ (z : Depack). Unpacks z ps v (Ok m) f) (sym same.0) (subst (λ (z : Unpacked). Unpacks k ps z (Ok m) f) (sym (unpacked_same v w same.1 same.2)) y))
+    cases again (Err a) b c k v w i j x y = let no = x.0 in absurd (cc)
+    cases again (Ok a) (Err b) c k v w i j x y = let no = y.0 in absurd (cc)

@@ -1,0 +1,16 @@
+use Rattle.std.proofs.Common.{◌≡◌, List, length}
+use Rattle.codec_payload_buffer.specs.Steps.{Passes}
+use Rattle.codec_payload_buffer.specs.declared.buffer.frames.Segment.{Segment}
+use Rattle.codec_payload_buffer.proofs.buffer.DepacketizingBuffer.pop.Given as goal
+
+abbrev pub invariant-loop-frame : goal.invariant-loop-frame
+invariant-loop-frame l = record {
+  over : List Segment;
+  -- these frames were passed over so far
+  passes : Passes l.initial.self over l.self;
+  limit : l.self.limit ≡ l.initial.self.limit;
+}
+
+-- each takes a packet with it
+abbrev pub decreases-loop-frame : goal.decreases-loop-frame
+decreases-loop-frame l = length l.self.held

@@ -1,0 +1,84 @@
+-- A run told pop by pop: what was pushed before each, what it answered, and what the buffer was.
+use Rattle.std.specs.Prelude.{◌≡◌, ◌≢◌, ℕ, ◌+◌, List, [], ◌∷◌, ◌++◌, Option, Some, None, Err, map, take, slice_get, nat_lt, if◌then◌else◌, refl}
+use Rattle.codec_payload_base.specs.declared.error.PacketError.TheVariants as faults
+use Rattle.codec_payload_core.specs.Headline.{IsUnused, ReleasesInOrder}
+use Rattle.codec_payload_buffer.specs.Held.{Held}
+use Rattle.codec_payload_core.specs.Packets.{Packet}
+use Rattle.codec_payload_core.specs.Schedule.{Answer, RunState, meta_of_push}
+use Rattle.codec_payload_core.specs.Sending.{Sample}
+use Rattle.codec_payload_core.specs.SentStream.{AreReadable}
+use Rattle.codec_payload_buffer.specs.Steps.{State, arrived, pushed, PopsOver}
+use Rattle.codec_payload_buffer.specs.declared.buffer.frames.Segment.{Segment}
+use Rattle.codec_payload_core.specs.declared.schedule.Sent.{Sent}
+use Rattle.codec_payload_core.specs.declared.schedule.Step.{Step}
+use Rattle.codec_payload_core.specs.declared.schedule.Step.TheVariants as steps
+
+-- what lies between two pops: the buffer as the pop before left it, the packets pushed since, in order, and the buffer
+-- then
+pub record Stretch : Type 0 where
+  pub left : State
+  pub pushes : List Held
+  pub now : State
+
+-- a pop: the stretch that ends with it, the frames that it passed over, latest first, its answer, and the buffer
+-- afterwards
+pub record Turn : Type 0 where
+  pub stretch : Stretch
+  pub passed : List Segment
+  pub answer : Answer
+  pub after : State
+
+-- a stretch in which nothing was pushed yet
+abbrev pub begun : State → Stretch
+begun s = record { left = s; pushes = []; now = s }
+
+-- a stretch with one more push
+abbrev pub with_push : Stretch → Held → Stretch
+with_push w p = record w { pushes = w.pushes ++ p ∷ []; now = pushed w.now p }
+
+-- how many packets were sent before step `place`, as the entries tell
+abbrev pub sent_before : ℕ → List Sent → ℕ
+sent_before place [] = 0
+sent_before place (entry ∷ sends) = (if nat_lt entry.step place then entry.count else 0) + sent_before place sends
+
+-- the packet that step `place` names by its index, if it was sent by then
+abbrev pub packet_named : List Packet → List Sent → ℕ → ℕ → Option Packet
+packet_named packets sends place k = slice_get (take (sent_before place sends) packets) k
+
+-- the stretch after step `place` pushed that packet, if there is one
+abbrev pub after_naming : ℕ → ℕ → Option Packet → Stretch → Stretch
+after_naming place clock_rate None w = w
+after_naming place clock_rate (Some p) w = with_push w (arrived w.now.depack (meta_of_push place clock_rate p) p.payload)
+
+-- the steps from place `place` on, with the stretch so far: each pop has its turn, and what comes after the last of them
+-- is the stretch at the end
+abbrev pub IsLog : List Packet → ℕ → List Sent → ℕ → List Step → Stretch → List Turn → Stretch → Type 0
+IsLog packets clock_rate sends place [] w [] end = end ≡ w
+IsLog packets clock_rate sends place [] w (turn ∷ turns) end = ⊥
+IsLog packets clock_rate sends place (steps.Send i mtu ∷ later) w turns end = IsLog packets clock_rate sends (place + 1) later w turns end
+IsLog packets clock_rate sends place (steps.Push k ∷ later) w turns end =
+    IsLog packets clock_rate sends (place + 1) later (after_naming place clock_rate (packet_named packets sends place k) w) turns end
+IsLog packets clock_rate sends place (steps.Pop ∷ later) w [] end = ⊥
+IsLog packets clock_rate sends place (steps.Pop ∷ later) w (turn ∷ turns) end =
+    (turn.stretch ≡ w) × PopsOver w.now turn.passed turn.answer turn.after × (turn.answer ≢ Some (Err faults.OutOfMemory))
+    × IsLog packets clock_rate sends (place + 1) later (begun turn.after) turns end
+
+-- a run told pop by pop, with the units that it sends; `end` is what comes after the last pop
+pub record RunLog (samples : List Sample) (all_steps : List Step) (s : RunState) (sends : List Sent) (pops : List Answer) (t : RunState) : Type 0 where
+  pub released : ReleasesInOrder samples all_steps s pops t
+  pub turns : List Turn
+  pub end : Stretch
+  pub is_log : IsLog t.sink.packets s.payloading.clock_rate sends 0 all_steps (begun s.buffer) turns end
+  pub answers : map (λ (turn : Turn). turn.answer) turns ≡ pops
+  pub left : end.now ≡ t.buffer
+
+-- this holds of each log of a run over an unused sink and an unused buffer, where what is sent can be read again
+abbrev pub OfLogs : (samples : List Sample) (all_steps : List Step) (s : RunState) (sends : List Sent) (pops : List Answer) (t : RunState) → (RunLog samples all_steps s sends pops t → Type 0) → Type 0
+OfLogs samples all_steps s sends pops t P = IsUnused s → AreReadable s.payloading.pack samples → (log : RunLog samples all_steps s sends pops t) → P log
+
+-- an entry of the first step counts at each later one
+pub sent_before-first : sent_before 1 (record { step = 0; first = 0; count = 3; fault = None } ∷ record { step = 4; first = 3; count = 2; fault = None } ∷ []) ≡ 3
+sent_before-first = refl
+
+pub sent_before-both : sent_before 5 (record { step = 0; first = 0; count = 3; fault = None } ∷ record { step = 4; first = 3; count = 2; fault = None } ∷ []) ≡ 5
+sent_before-both = refl
