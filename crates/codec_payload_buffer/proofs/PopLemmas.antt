@@ -1,5 +1,5 @@
 -- The frame that is due, and what is left once it has gone.
-use Rattle.std.proofs.Common.{◌≡◌, ℕ, ◌<◌, ◌≤◌, ◌+◌, [], ◌∷◌, ◌++◌, List, length, map, ap, sym, ◌∙◌, arith, cond, Some, None, ltb, ◌||◌}
+use Rattle.std.proofs.Common.{◌≡◌, ◌≢◌, inl, inr, Err, ℕ, ◌<◌, ◌≤◌, ◌+◌, [], ◌∷◌, ◌++◌, List, length, map, ap, sym, ◌∙◌, arith, cond, Some, None, ltb, ◌||◌}
 use Rattle.std.proofs.lemmas.List.{length-append, length-map}
 use Rattle.std.proofs.lemmas.Bool.Decides.{nat_tests}
 use Rattle.codec_payload_buffer.specs.declared.buffer.frames.Segment.{Segment}
@@ -8,8 +8,11 @@ use Rattle.codec_payload_buffer.specs.Held.{Held, held_of, Rises, AllAbove, betw
 use Rattle.codec_payload_buffer.specs.Frames.{frames}
 use Rattle.codec_payload_buffer.proofs.FrameParts.{IsPart, IsRun}
 use Rattle.codec_payload_base.specs.Time.{Time}
+use Rattle.codec_payload_base.specs.declared.error.PacketError.{PacketError}
+use Rattle.codec_payload_base.specs.declared.error.PacketError.TheVariants as faults
+use Rattle.codec_payload_buffer.specs.Release.{Release}
 use Rattle.codec_payload_buffer.specs.Scan.{first_of}
-use Rattle.codec_payload_buffer.specs.Steps.{State, IsSound, due_of, due_among, starts_right_after, packets_of_frame, AllOfTime, metas_of, Passes, none, one_more, PassesOver}
+use Rattle.codec_payload_buffer.specs.Steps.{State, IsSound, due_of, due_among, starts_right_after, packets_of_frame, AllOfTime, metas_of, Passes, none, one_more, PassesOver, Releases, TakesFrame}
 use Rattle.codec_payload_buffer.specs.declared.buffer.unit.RtpMeta.{RtpMeta}
 use Rattle.std.proofs.Common.{zero, suc, get_or, subst}
 use Rattle.codec_payload_buffer.proofs.CaseLemmas.{by_test}
@@ -66,6 +69,14 @@ when_left items new last limit r few is = record {
 
 pub passes_shorter : (s t : State) → Rises s.held → PassesOver s t → length t.held < length s.held
 passes_shorter s t r p = rw p.left (due_shorter s p.frame r p.is_due)
+
+-- a frame that goes out, or is refused, takes packets with it too
+pub release_shorter : (s t : State) (r : Release) → Rises s.held → Releases s r t → length t.held < length s.held
+release_shorter s t r rises out = rw out.left (due_shorter s out.frame rises out.is_due)
+
+pub refusal_shorter : (s t : State) (fault : PacketError) → Rises s.held → TakesFrame s (Err fault) t → fault ≢ faults.OutOfMemory → length t.held < length s.held
+refusal_shorter s t fault rises (inl stall) other = absurd (other stall.0)
+refusal_shorter s t fault rises (inr out) other = rw out.left (due_shorter s out.frame rises out.is_due)
 
 -- where no frame is due, none is passed over, and so none is due afterwards
 pub nothing_passed : (s t : State) (over : List Segment) (f : Segment) → due_of s ≡ None → Passes s over t → due_of t ≡ Some f → ⊥

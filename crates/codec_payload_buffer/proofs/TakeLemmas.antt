@@ -5,7 +5,7 @@ use Rattle.codec_payload_base.specs.declared.error.PacketError.{PacketError}
 use Rattle.codec_payload_base.specs.declared.error.PacketError.TheVariants as faults
 use Rattle.codec_payload_base.specs.declared.interface.CodecExtra.TheVariants as extras
 use Rattle.codec_payload_buffer.specs.ContiguityTable.{checked}
-use Rattle.codec_payload_buffer.specs.Depack.{Depack, kind_of_depack}
+use Rattle.codec_payload_buffer.specs.Depack.{Depack}
 use Rattle.codec_payload_buffer.specs.Held.{Held, above}
 use Rattle.codec_payload_buffer.specs.Release.{Release}
 use Rattle.codec_payload_buffer.specs.Steps.{State, Unpacked, Unpacks, Gives, due_of, packets_of_frame, metas_of, AllOfTime, follows, TakesFrame, Releases, PassesOver}
@@ -62,6 +62,6 @@ module _ (s t : State) (same : s ≡ t) (f : Segment) (due : due_of s ≡ Some f
       subst (λ (x : State). TakesFrame x (Err fault) u) same (inr (record { frame = f; is_due = due; depack = e; not_memory = other; gives = gives; left = rw left at is }))
 
   -- memory is wanting
-  pub stalled : (u : State) (fault : PacketError) → u ≡ record s { depack = e } → fault ≡ faults.OutOfMemory → kind_of_depack e ≡ kind_of_depack s.depack → TakesFrame t (Err fault) u
-  stalled u fault is memory kind =
-      subst (λ (x : State). TakesFrame x (Err fault) u) same (inl (memory, record { frame = f; is_due = due; depack = e; kind = kind; left = is }))
+  pub stalled : (u : State) → u ≡ record s { depack = e } → Gives s f (Err faults.OutOfMemory) e → TakesFrame t (Err faults.OutOfMemory) u
+  stalled u is gives =
+      subst (λ (x : State). TakesFrame x (Err faults.OutOfMemory) u) same (inl (refl, record { frame = f; is_due = due; depack = e; reached = inr gives; left = is }))

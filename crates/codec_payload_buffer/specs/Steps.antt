@@ -1,5 +1,5 @@
 -- What a push and a pop do to a buffer.
-use Rattle.std.specs.Prelude.{◌≡◌, ◌≢◌, ℕ, ◌+◌, ◌≤◌, ◌&&◌, ◌||◌, not, Bool, true, false, List, [], ◌∷◌, nat_lt, nat_le, ◌==◌, if◌then◌else◌, Option, Some, None, Result, Ok, Err, length, map, All, MatchResult, ⊤, ◌⊎◌}
+use Rattle.std.specs.Prelude.{◌≡◌, ◌≢◌, ℕ, ◌+◌, ◌<◌, ◌≤◌, ◌&&◌, ◌||◌, not, Bool, true, false, List, [], ◌∷◌, nat_lt, nat_le, ◌==◌, if◌then◌else◌, Option, Some, None, Result, Ok, Err, length, map, All, MatchResult, ⊤, ◌⊎◌}
 use Rattle.codec_payload_base.specs.Time.{Time}
 use Rattle.codec_payload_base.specs.declared.error.PacketError.{PacketError}
 use Rattle.codec_payload_base.specs.declared.error.PacketError.TheVariants as faults
@@ -149,12 +149,13 @@ pub record Refuses (s : State) (fault : PacketError) (t : State) : Type 0 where
   pub gives : Gives s frame (Err fault) depack
   pub left : t ≡ without s frame depack s.contiguity s.mark
 
--- there is no memory for the frame that is due, which stays: only what the depacketizer holds may have changed
+-- there is no memory for the frame that is due, which stays. The depacketizer is as it was, or as the payloads of that
+-- frame left it, up to the one for which memory was wanting; nothing else has changed
 pub record Stalls (s t : State) : Type 0 where
   pub frame : Segment
   pub is_due : due_of s ≡ Some frame
   pub depack : Depack
-  pub kind : kind_of_depack depack ≡ kind_of_depack s.depack
+  pub reached : (depack ≡ s.depack) ⊎ Gives s frame (Err faults.OutOfMemory) depack
   pub left : t ≡ record s { depack = depack }
 
 -- zero or more frames are passed over, one after another: `over` has them, latest first
@@ -181,3 +182,9 @@ PopsOver s over (Some answer) t = (mid : State) × Passes s over mid × TakesFra
 -- a pop
 abbrev pub Pops : State → Option (Result Release PacketError) → State → Type 0
 Pops s answer t = (over : List Segment) × PopsOver s over answer t
+
+-- unless the answer is None, or want of memory, fewer packets are held
+abbrev pub HasTaken : Option (Result Release PacketError) → State → State → Type 0
+HasTaken None s t = Unit {0}
+HasTaken (Some (Ok r)) s t = length t.held < length s.held
+HasTaken (Some (Err fault)) s t = fault ≢ faults.OutOfMemory → length t.held < length s.held

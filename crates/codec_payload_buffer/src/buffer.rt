@@ -1,12 +1,12 @@
 //! Puts received packets in order and their payloads together, in a buffer of bounded size.
 
-ghost use Rattle.std.specs.Prelude.{◌≡◌, ◌≤◌, ◌<◌, IsTrue, IsOk, false, OnOk, OnErr, IfErr, length, Option, [], ◌↔◌};
+ghost use Rattle.std.specs.Prelude.{◌≡◌, ◌≤◌, ◌<◌, IsTrue, IsOk, false, OnOk, OnErr, IfErr, length, Option, Result, [], ◌↔◌};
 ghost use Rattle.codec_payload_base.specs.declared.error.PacketError.TheVariants.{OutOfMemory};
 ghost use Rattle.codec_payload_buffer.specs.ContiguityTable.{contiguity_for};
 ghost use Rattle.codec_payload_buffer.specs.Depack.{depack_of, kind_of_depack};
 ghost use Rattle.codec_payload_buffer.specs.Held.{Rises};
 ghost use Rattle.codec_payload_buffer.specs.Frames.{AreFramesOfSet, AreInOrder, AreApart, AreOnlyList, BothSaySame};
-ghost use Rattle.codec_payload_buffer.specs.Steps.{IsSound, arrived, pushed, is_dropped, due_of, TriesFrame, Pops};
+ghost use Rattle.codec_payload_buffer.specs.Steps.{IsSound, arrived, pushed, is_dropped, due_of, TriesFrame, Pops, HasTaken};
 ghost use Rattle.codec_payload_buffer.specs.Stretches.{LeavesNumbers, OrderIsFree};
 
 pub mod frames;
@@ -21,8 +21,8 @@ use codec_payload_base::error::PacketError;
 use codec_payload_base::interface::CodecExtra;
 use frames::{Segment, search_frames};
 use packets::{
-    HeldPacket, copy_metas, find_place, frame_range, is_at, is_too_late, make_room, place_at,
-    remove_up_to, starts_next, take_lowest, unpack,
+    HeldPacket, copy_metas, drop_front, find_place, frame_range, is_at, is_too_late, make_room,
+    place_at, starts_next, take_lowest, unpack,
 };
 use std::alloc::Global;
 use std::collections::VecDeque;
@@ -137,6 +137,7 @@ impl DepacketizingBuffer {
     pub fn pop(&mut self) -> Option<Result<Depacketized, PacketError>>
         ensures pops { Pops self.old result self.new }
         ensures waits { due_of self.old ≡ Option.None → result ≡ Option.None }
+        ensures fewer { HasTaken result self.old self.new }
         ensures limit { self.new.limit ≡ self.old.limit }
     {
         while let Some(frame) = self.due() {
@@ -184,27 +185,22 @@ impl DepacketizingBuffer {
         let metas = copy_metas(alloc, &self.packets, from, to)?;
         let mut bytes = make_room(alloc, &self.depack, &self.packets, from, to)?;
         let mut codec_extra = CodecExtra::None;
-        match unpack(
+        let unpacked = unpack(
             &mut self.depack,
             &self.packets,
             from,
             to,
             &mut bytes,
             &mut codec_extra,
-        ) {
-            Ok(()) => {}
-            Err(fault) => {
-                if !is_out_of_memory(&fault) {
-                    remove_up_to(&mut self.packets, frame.last);
-                    self.cutoff = Some(frame.last);
-                }
-                return Err(fault);
-            }
+        );
+        if is_out_of_memory(&unpacked) {
+            return Err(PacketError::OutOfMemory);
         }
         let follows = starts_next(self.cutoff, frame.first) && !self.mark;
-        let (may_go, contiguous) = self.contiguity.check(&codec_extra, follows);
-        remove_up_to(&mut self.packets, frame.last);
+        drop_front(&mut self.packets, to);
         self.cutoff = Some(frame.last);
+        unpacked?;
+        let (may_go, contiguous) = self.contiguity.check(&codec_extra, follows);
         if !may_go {
             return Ok(None);
         }
@@ -215,10 +211,10 @@ impl DepacketizingBuffer {
 }
 
 /// Whether memory was wanting.
-fn is_out_of_memory(fault: &PacketError) -> bool
-    ensures { IsTrue result ↔ (fault.now ≡ OutOfMemory) }
+fn is_out_of_memory(answer: &Result<(), PacketError>) -> bool
+    ensures { IsTrue result ↔ (answer.now ≡ Result.Err OutOfMemory) }
 {
-    matches!(fault, PacketError::OutOfMemory)
+    matches!(answer, Err(PacketError::OutOfMemory))
 }
 
 /// The frames of a buffer are the complete frames of the set of packets that it holds, in the order of their starts.

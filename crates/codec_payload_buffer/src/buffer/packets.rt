@@ -98,6 +98,7 @@ pub(super) fn frame_range(packets: &VecDeque<HeldPacket>, frame: Segment) -> (us
     ensures order { result.0 ≤ result.1 }
     ensures within { result.1 ≤ deque_len packets.now }
     ensures part { map held_of (slice_range packets.now.items result.0 result.1) ≡ between frame.first frame.last (map held_of packets.now.items) }
+    ensures rest { map held_of (drop result.1 packets.now.items) ≡ above frame.last (map held_of packets.now.items) }
 {
     (
         find_place(packets, frame.first),
@@ -180,17 +181,8 @@ pub(super) fn unpack(
     Ok(())
 }
 
-/// The packets up to that number leave.
-pub(super) fn remove_up_to(packets: &mut VecDeque<HeldPacket>, last: u64)
-    requires { Rises (map held_of packets.old.items) }
-    ensures { map held_of packets.new.items ≡ above last (map held_of packets.old.items) }
-{
-    let count = count_up_to(packets, last);
-    drop_front(packets, count);
-}
-
 /// The first `count` packets leave.
-fn drop_front(packets: &mut VecDeque<HeldPacket>, count: usize)
+pub(super) fn drop_front(packets: &mut VecDeque<HeldPacket>, count: usize)
     requires { count ≤ deque_len packets.old }
     ensures { packets.new.items ≡ drop count packets.old.items }
 {

@@ -1,10 +1,10 @@
-use Rattle.std.proofs.Common.{[], ◌∷◌, ◌∙◌, refl, sym}
+use Rattle.std.proofs.Common.{arith, [], ◌∷◌, ◌∙◌, refl, sym}
 use Rattle.codec_payload_buffer.specs.Steps.{PassesOver, none, one_more}
-use Rattle.codec_payload_buffer.proofs.PopLemmas.{passes_shorter, nothing_passed}
+use Rattle.codec_payload_buffer.proofs.PopLemmas.{passes_shorter, release_shorter, refusal_shorter, nothing_passed}
 use Rattle.codec_payload_buffer.proofs.buffer.DepacketizingBuffer.pop.Goals as goal
 
 pub loop-frame-init : goal.loop-frame-init
-loop-frame-init c = record { over = []; passes = none; limit = refl }
+loop-frame-init c = record { over = []; passes = none; fewer = omega arith; limit = refl }
 
 pub loop-frame-smaller : goal.loop-frame-smaller
 loop-frame-smaller c = passes_shorter c.loop-frame.self c.take_frame.new.self c.due.ensures.rises (rw c.in-Ok-None.field-0-is at c.in-Ok-None.ensures.takes)
@@ -15,6 +15,7 @@ loop-frame-preserved c =
     record {
       over = passed.frame ∷ c.loop-frame.invariant.over;
       passes = one_more c.loop-frame.invariant.passes passed;
+      fewer = omega (arith, c.loop-frame.invariant.fewer, passes_shorter c.loop-frame.self c.take_frame.new.self c.due.ensures.rises passed);
       limit = c.take_frame.ensures.limit ∙ c.loop-frame.invariant.limit;
     }
 
@@ -23,3 +24,9 @@ returns-in-Ok-Some-clause-waits c = λ waits. absurd (nothing_passed c.args.self
 
 pub returns-in-Err-clause-waits : goal.returns-in-Err-clause-waits
 returns-in-Err-clause-waits c = λ waits. absurd (nothing_passed c.args.self.now c.loop-frame.self c.loop-frame.invariant.over c.in-Some.frame waits c.loop-frame.invariant.passes (sym c.due.ensures.due ∙ c.in-Some.is))
+
+pub returns-in-Ok-Some-clause-fewer : goal.returns-in-Ok-Some-clause-fewer
+returns-in-Ok-Some-clause-fewer c = omega (arith, c.loop-frame.invariant.fewer, release_shorter c.loop-frame.self c.take_frame.new.self c.in-Ok-Some.unit c.due.ensures.rises (rw c.in-Ok-Some.field-0-is at c.in-Ok-Some.ensures.takes))
+
+pub returns-in-Err-clause-fewer : goal.returns-in-Err-clause-fewer
+returns-in-Err-clause-fewer c = λ other. omega (arith, c.loop-frame.invariant.fewer, refusal_shorter c.loop-frame.self c.take_frame.new.self c.in-Err.fault c.due.ensures.rises c.in-Err.ensures.takes other)

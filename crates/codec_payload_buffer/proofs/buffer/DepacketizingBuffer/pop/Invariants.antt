@@ -1,4 +1,4 @@
-use Rattle.std.proofs.Common.{◌≡◌, List, length}
+use Rattle.std.proofs.Common.{◌≡◌, ◌≤◌, List, length}
 use Rattle.codec_payload_buffer.specs.Steps.{Passes}
 use Rattle.codec_payload_buffer.specs.declared.buffer.frames.Segment.{Segment}
 use Rattle.codec_payload_buffer.proofs.buffer.DepacketizingBuffer.pop.Given as goal
@@ -8,6 +8,8 @@ invariant-loop-frame l = record {
   over : List Segment;
   -- these frames were passed over so far
   passes : Passes l.initial.self over l.self;
+  -- none came
+  fewer : length l.self.held ≤ length l.initial.self.held;
   limit : l.self.limit ≡ l.initial.self.limit;
 }
 

@@ -1,39 +1,60 @@
 use Rattle.std.proofs.Common.{inl, ◌≡◌, refl, sym, ◌∙◌, ap, map, arith, Bool, true, false, Some, Ok, Err}
 use Rattle.std.specs.Prelude.{slice_range}
 use Rattle.std.proofs.lemmas.Result.{err_from_is_err_and}
+use Rattle.codec_payload_base.specs.declared.error.PacketError.TheVariants.{OutOfMemory}
 use Rattle.codec_payload_buffer.specs.Buffer.{state_of}
 use Rattle.codec_payload_buffer.specs.ContiguityTable.{checked}
 use Rattle.codec_payload_buffer.specs.Depack.{depack_of}
-use Rattle.codec_payload_buffer.specs.Held.{held_of}
+use Rattle.codec_payload_buffer.specs.Held.{held_of, above}
 use Rattle.codec_payload_buffer.specs.Steps.{Unpacked, due_of, packets_of_frame, metas_of, follows}
 use Rattle.codec_payload_buffer.proofs.CaseLemmas.{not_both}
 use Rattle.codec_payload_buffer.proofs.PopLemmas.{order_due, due_metas, due_time, sound_left}
 use Rattle.codec_payload_buffer.proofs.TakeLemmas.{gives_of, released, passed_over, refused, stalled}
-use Rattle.codec_payload_buffer.proofs.buffer.DepacketizingBuffer.take_frame.Goals.{then-not-is_out_of_memory, else-not-is_out_of_memory, then-starts_next, else-starts_next}
+use Rattle.codec_payload_buffer.proofs.buffer.DepacketizingBuffer.take_frame.Goals.{then-starts_next, else-starts_next}
 use Rattle.codec_payload_buffer.proofs.buffer.DepacketizingBuffer.take_frame.Goals as goal
 
 pub frame_range-from-requires-clause-order : goal.frame_range-from-requires-clause-order
 frame_range-from-requires-clause-order c = order_due c.args.self.now c.args.frame c.requires
 
-pub invariant_of-self : goal.invariant_of-self
-invariant_of-self c = sound_left (state_of c.self.inside) _ c.args.frame.last c.self.invariant c.remove_up_to.ensures refl refl
+pub returns-in_err-metas-clause-takes : goal.returns-in_err-metas-clause-takes
+returns-in_err-metas-clause-takes c =
+    let exit = err_from_is_err_and c.from_residual.result c.from_residual.ensures.1 in
+    rw (exit.1, exit.2) (inl (refl, record { frame = c.args.frame; is_due = c.requires; depack = c.args.self.now.depack; reached = inl refl; left = refl }))
 
-pub returns-in-Err-clause-takes : goal.returns-in-Err-clause-takes
-returns-in-Err-clause-takes c =
+pub returns-in_err-bytes-clause-takes : goal.returns-in_err-bytes-clause-takes
+returns-in_err-bytes-clause-takes c =
+    let exit = err_from_is_err_and c.from_residual-in_err-bytes.result c.from_residual-in_err-bytes.ensures.1 in
+    rw (exit.1, exit.2) (inl (refl, record { frame = c.args.frame; is_due = c.requires; depack = c.args.self.now.depack; reached = inl refl; left = refl }))
+
+pub returns-then-is_out_of_memory-clause-takes : goal.returns-then-is_out_of_memory-clause-takes
+returns-then-is_out_of_memory-clause-takes c =
     let s = state_of c.self.inside in
     let due : due_of s ≡ Some c.args.frame = ap due_of c.self.view_is ∙ c.requires in
     let packets = map held_of (slice_range c.self.inside.packets.items c.frame_range-from.result.0 c.frame_range-from.result.1) in
-    let e = depack_of c.unpack.new.depack in
-    elim c.if-not-is_out_of_memory.branch [
-      | then-not-is_out_of_memory w ↦
-          refused s c.args.self.now c.self.view_is c.args.frame due e _ c.in-Err.fault (map held_of w.remove_up_to.new.packets.items) w.self-is
-          (λ is. not_both c.is_out_of_memory.result (c.is_out_of_memory.ensures.1 is) w.if-not-is_out_of_memory.true)
-          (gives_of s c.args.frame packets c.in_ok-bytes.bytes.items (Err c.in-Err.fault) e c.frame_range-from.ensures.part c.in_ok-bytes.ensures.empty c.in-Err.ensures.unpacks)
-          w.remove_up_to.ensures
-      | else-not-is_out_of_memory w ↦
-          stalled s c.args.self.now c.self.view_is c.args.frame due e _ c.in-Err.fault w.self-is
-          (c.is_out_of_memory.ensures.0 w.if-not-is_out_of_memory.false) c.in-Err.ensures.kind
-    ]
+    let e = depack_of c.unpack-unpacked.new.depack in
+    let wanting : c.unpack-unpacked.result ≡ Err OutOfMemory = c.is_out_of_memory.ensures.0 c.if-is_out_of_memory.true in
+    stalled s c.args.self.now c.self.view_is c.args.frame due e _ refl
+    (gives_of s c.args.frame packets c.in_ok-bytes.bytes.items (Err OutOfMemory) e c.frame_range-from.ensures.part c.in_ok-bytes.ensures.empty (rw wanting at c.unpack-unpacked.ensures.unpacks))
+
+pub invariant_of-self-in_err-unpacked : goal.invariant_of-self-in_err-unpacked
+invariant_of-self-in_err-unpacked c =
+    let rest : map held_of c.drop_front.new.packets.items ≡ above c.args.frame.last (map held_of c.self.inside.packets.items) = ap (map held_of) c.drop_front.ensures ∙ c.frame_range-from.ensures.rest in
+    sound_left (state_of c.self.inside) _ c.args.frame.last c.self.invariant rest refl refl
+
+pub returns-in_err-unpacked-clause-takes : goal.returns-in_err-unpacked-clause-takes
+returns-in_err-unpacked-clause-takes c =
+    let s = state_of c.self.inside in
+    let due : due_of s ≡ Some c.args.frame = ap due_of c.self.view_is ∙ c.requires in
+    let packets = map held_of (slice_range c.self.inside.packets.items c.frame_range-from.result.0 c.frame_range-from.result.1) in
+    let e = depack_of c.unpack-unpacked.new.depack in
+    let fault = c.in_err-unpacked.field-0.0 in
+    let exit = err_from_is_err_and c.from_residual-in_err-unpacked.result c.from_residual-in_err-unpacked.ensures.1 in
+    let rest : map held_of c.drop_front.new.packets.items ≡ above c.args.frame.last s.held = ap (map held_of) c.drop_front.ensures ∙ c.frame_range-from.ensures.rest in
+    rw (exit.1, exit.2)
+    (refused s c.args.self.now c.self.view_is c.args.frame due e _ fault (map held_of c.drop_front.new.packets.items) refl
+    (λ is. not_both c.is_out_of_memory.result (c.is_out_of_memory.ensures.1 (c.in_err-unpacked.was ∙ ap Err is)) c.if-is_out_of_memory.false)
+    (gives_of s c.args.frame packets c.in_ok-bytes.bytes.items (Err fault) e c.frame_range-from.ensures.part c.in_ok-bytes.ensures.empty (rw c.in_err-unpacked.was at c.unpack-unpacked.ensures.unpacks))
+    rest)
 
 pub index-requires : goal.index-requires
 index-requires c =
@@ -50,10 +71,14 @@ new-requires c =
     due_metas s c.args.frame c.in_ok-metas.metas.items c.self.invariant.rises due metas
 
 pub invariant_of-self-2 : goal.invariant_of-self-2
-invariant_of-self-2 c = sound_left (state_of c.self.inside) _ c.args.frame.last c.self.invariant c.remove_up_to-2.ensures refl refl
+invariant_of-self-2 c =
+    let rest : map held_of c.drop_front.new.packets.items ≡ above c.args.frame.last (map held_of c.self.inside.packets.items) = ap (map held_of) c.drop_front.ensures ∙ c.frame_range-from.ensures.rest in
+    sound_left (state_of c.self.inside) _ c.args.frame.last c.self.invariant rest refl refl
 
 pub invariant_of-self-then-not-may_go : goal.invariant_of-self-then-not-may_go
-invariant_of-self-then-not-may_go c = sound_left (state_of c.self.inside) _ c.args.frame.last c.self.invariant c.remove_up_to-2.ensures refl refl
+invariant_of-self-then-not-may_go c =
+    let rest : map held_of c.drop_front.new.packets.items ≡ above c.args.frame.last (map held_of c.self.inside.packets.items) = ap (map held_of) c.drop_front.ensures ∙ c.frame_range-from.ensures.rest in
+    sound_left (state_of c.self.inside) _ c.args.frame.last c.self.invariant rest refl refl
 
 pub returns-then-not-may_go-clause-takes : goal.returns-then-not-may_go-clause-takes
 returns-then-not-may_go-clause-takes c =
@@ -61,17 +86,17 @@ returns-then-not-may_go-clause-takes c =
     let frame = c.args.frame in
     let due : due_of s ≡ Some frame = ap due_of c.self.view_is ∙ c.requires in
     let packets = map held_of (slice_range c.self.inside.packets.items c.frame_range-from.result.0 c.frame_range-from.result.1) in
-    let unpacked : Unpacked = record { bytes = c.unpack.new.bytes.items; extra = c.unpack.new.codec_extra } in
-    let e = depack_of c.unpack.new.depack in
+    let unpacked : Unpacked = record { bytes = c.unpack-unpacked.new.bytes.items; extra = c.unpack-unpacked.new.codec_extra } in
+    let e = depack_of c.unpack-unpacked.new.depack in
     let test : c.if-starts_next.follows ≡ follows s frame = elim c.if-starts_next.branch [
       | then-starts_next w ↦ w.follows-is ∙ rw (sym c.starts_next.ensures ∙ w.if-starts_next.true) refl
       | else-starts_next w ↦ w.follows-is ∙ w.if-starts_next.false ∙ rw (sym c.starts_next.ensures ∙ w.if-starts_next.false) refl
     ] in
     let answer : checked s.contiguity unpacked.extra c.if-starts_next.follows ≡ (false, c.check-may_go.result.1, c.check-may_go.new.self) =
     c.check-may_go.ensures ∙ ap (λ (b : Bool). (b, c.check-may_go.result.1, c.check-may_go.new.self)) c.if-not-may_go.true in
-    passed_over s c.args.self.now c.self.view_is frame due e c.check-may_go.result.1 c.if-starts_next.follows c.check-may_go.new.self unpacked (map held_of c.remove_up_to-2.new.packets.items)
-    (gives_of s frame packets c.in_ok-bytes.bytes.items (Ok unpacked) e c.frame_range-from.ensures.part c.in_ok-bytes.ensures.empty c.in-Ok.ensures.unpacks)
-    test answer c.remove_up_to-2.ensures
+    passed_over s c.args.self.now c.self.view_is frame due e c.check-may_go.result.1 c.if-starts_next.follows c.check-may_go.new.self unpacked (map held_of c.drop_front.new.packets.items)
+    (gives_of s frame packets c.in_ok-bytes.bytes.items (Ok unpacked) e c.frame_range-from.ensures.part c.in_ok-bytes.ensures.empty (rw c.in_ok-unpacked.was at c.unpack-unpacked.ensures.unpacks))
+    test answer (ap (map held_of) c.drop_front.ensures ∙ c.frame_range-from.ensures.rest)
 
 pub returns-clause-takes : goal.returns-clause-takes
 returns-clause-takes c =
@@ -80,26 +105,16 @@ returns-clause-takes c =
     let due : due_of s ≡ Some frame = ap due_of c.self.view_is ∙ c.requires in
     let packets = map held_of (slice_range c.self.inside.packets.items c.frame_range-from.result.0 c.frame_range-from.result.1) in
     let metas : c.in_ok-metas.metas.items ≡ metas_of (packets_of_frame s frame) = c.in_ok-metas.ensures ∙ ap metas_of c.frame_range-from.ensures.part in
-    let unpacked : Unpacked = record { bytes = c.unpack.new.bytes.items; extra = c.unpack.new.codec_extra } in
-    let e = depack_of c.unpack.new.depack in
+    let unpacked : Unpacked = record { bytes = c.unpack-unpacked.new.bytes.items; extra = c.unpack-unpacked.new.codec_extra } in
+    let e = depack_of c.unpack-unpacked.new.depack in
     let test : c.if-starts_next.follows ≡ follows s frame = elim c.if-starts_next.branch [
       | then-starts_next w ↦ w.follows-is ∙ rw (sym c.starts_next.ensures ∙ w.if-starts_next.true) refl
       | else-starts_next w ↦ w.follows-is ∙ w.if-starts_next.false ∙ rw (sym c.starts_next.ensures ∙ w.if-starts_next.false) refl
     ] in
     let answer : checked s.contiguity unpacked.extra c.if-starts_next.follows ≡ (true, c.check-may_go.result.1, c.check-may_go.new.self) =
     c.check-may_go.ensures ∙ ap (λ (b : Bool). (b, c.check-may_go.result.1, c.check-may_go.new.self)) c.if-not-may_go.false in
-    released s c.args.self.now c.self.view_is frame due e c.new.result c.index.result.now.time c.check-may_go.result.1 c.if-starts_next.follows c.check-may_go.new.self unpacked c.in_ok-metas.metas.items (map held_of c.remove_up_to-2.new.packets.items)
+    released s c.args.self.now c.self.view_is frame due e c.new.result c.index.result.now.time c.check-may_go.result.1 c.if-starts_next.follows c.check-may_go.new.self unpacked c.in_ok-metas.metas.items (map held_of c.drop_front.new.packets.items)
     c.new.ensures
-    (gives_of s frame packets c.in_ok-bytes.bytes.items (Ok unpacked) e c.frame_range-from.ensures.part c.in_ok-bytes.ensures.empty c.in-Ok.ensures.unpacks)
+    (gives_of s frame packets c.in_ok-bytes.bytes.items (Ok unpacked) e c.frame_range-from.ensures.part c.in_ok-bytes.ensures.empty (rw c.in_ok-unpacked.was at c.unpack-unpacked.ensures.unpacks))
     (due_time s frame c.in_ok-metas.metas.items c.index.result.now c.self.invariant.rises due metas c.index.ensures)
-    metas test answer c.remove_up_to-2.ensures
-
-pub returns-in_err-metas-clause-takes : goal.returns-in_err-metas-clause-takes
-returns-in_err-metas-clause-takes c =
-    let exit = err_from_is_err_and c.from_residual.result c.from_residual.ensures.1 in
-    rw (exit.1, exit.2) (inl (refl, record { frame = c.args.frame; is_due = c.requires; depack = c.args.self.now.depack; kind = refl; left = refl }))
-
-pub returns-in_err-bytes-clause-takes : goal.returns-in_err-bytes-clause-takes
-returns-in_err-bytes-clause-takes c =
-    let exit = err_from_is_err_and c.from_residual-in_err-bytes.result c.from_residual-in_err-bytes.ensures.1 in
-    rw (exit.1, exit.2) (inl (refl, record { frame = c.args.frame; is_due = c.requires; depack = c.args.self.now.depack; kind = refl; left = refl }))
+    metas test answer (ap (map held_of) c.drop_front.ensures ∙ c.frame_range-from.ensures.rest)
