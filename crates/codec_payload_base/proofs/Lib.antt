@@ -1,8 +1,10 @@
 pub mod BitLemmas
 pub mod ByteTables
 pub mod BytesLemmas
+pub mod DescribedLemmas
 pub mod FaultLemmas
 pub mod Leb128Lemmas
 pub mod LebLemmas
+pub mod PictureIdLemmas
 pub mod PieceLemmas
 pub mod TelephoneLemmas

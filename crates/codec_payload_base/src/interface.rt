@@ -20,6 +20,8 @@ pub enum CodecExtra {
     None,
     /// What VP8 told.
     Vp8(Vp8CodecExtra),
+    /// What VP9 told.
+    Vp9(Vp9CodecExtra),
     /// What AV1 told.
     Av1(Av1CodecExtra),
     /// The telephone event that was reported.
@@ -39,6 +41,25 @@ pub struct Vp8CodecExtra {
     pub picture_id: Option<u64>,
     /// The picture id of the base layer, extended likewise, if one was sent.
     pub tl0_picture_id: Option<u64>,
+    /// Whether the frame can be decoded without any other.
+    pub is_keyframe: bool,
+}
+
+/// What the payloads of a VP9 frame told besides its bytes (RFC 9628, section 4.2).
+#[derive(Clone, Copy, Debug, Default, PartialEq, Eq)]
+pub struct Vp9CodecExtra {
+    /// For each spatial layer that was seen, where its bytes end in the frame's.
+    pub layers_scheme: [Option<usize>; 3],
+    /// The temporal layer, if it was told.
+    pub tid: Option<u8>,
+    /// The widths of the spatial layers, as far as they were told.
+    pub layers_widths: [Option<u16>; 3],
+    /// The heights of the spatial layers, as far as they were told.
+    pub layers_heights: [Option<u16>; 3],
+    /// The picture id of the base layer, extended beyond the bits that were sent, if one was sent.
+    pub tl0_picture_id: Option<u64>,
+    /// The picture id, extended likewise, if one was sent.
+    pub picture_id: Option<u64>,
     /// Whether the frame can be decoded without any other.
     pub is_keyframe: bool,
 }
