@@ -2,6 +2,7 @@ pub mod BitLemmas
 pub mod ByteTables
 pub mod BytesLemmas
 pub mod DescribedLemmas
+pub mod ExtendedLemmas
 pub mod FaultLemmas
 pub mod Leb128Lemmas
 pub mod LebLemmas
