@@ -1,8 +1,11 @@
 pub mod BitLemmas
 pub mod ByteTables
 pub mod BytesLemmas
+pub mod DescribedLemmas
+pub mod ExtendedLemmas
 pub mod FaultLemmas
 pub mod Leb128Lemmas
 pub mod LebLemmas
+pub mod PictureIdLemmas
 pub mod PieceLemmas
 pub mod TelephoneLemmas

@@ -1,7 +1,11 @@
 pub mod Answers
 pub mod Bits
+pub mod Described
+pub mod Extended
 pub mod Faults
+pub mod Flags
 pub mod Leb
+pub mod PictureIds
 pub mod Pieces
 pub mod TelephoneReport
 pub mod Time

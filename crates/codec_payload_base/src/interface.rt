@@ -48,13 +48,13 @@ pub struct Vp8CodecExtra {
 /// What the payloads of a VP9 frame told besides its bytes (RFC 9628, section 4.2).
 #[derive(Clone, Copy, Debug, Default, PartialEq, Eq)]
 pub struct Vp9CodecExtra {
-    /// Where each spatial layer that came ends in the bytes of the frame.
+    /// For each spatial layer that was seen, where its bytes end in the frame's.
     pub layers_scheme: [Option<usize>; 3],
     /// The temporal layer, if it was told.
     pub tid: Option<u8>,
-    /// The widths of the spatial layers, as they were told last.
+    /// The widths of the spatial layers, as far as they were told.
     pub layers_widths: [Option<u16>; 3],
-    /// The heights of the spatial layers, as they were told last.
+    /// The heights of the spatial layers, as far as they were told.
     pub layers_heights: [Option<u16>; 3],
     /// The picture id of the base layer, extended beyond the bits that were sent, if one was sent.
     pub tl0_picture_id: Option<u64>,

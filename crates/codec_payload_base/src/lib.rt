@@ -2,8 +2,10 @@
 #![tactic(auto)]
 
 pub mod bits;
+pub mod described;
 pub mod error;
 pub mod interface;
+pub mod picture_id;
 #[cfg(test)]
 mod tests;
 pub mod wire;
