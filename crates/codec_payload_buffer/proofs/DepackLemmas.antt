@@ -13,8 +13,10 @@ use Rattle.codec_payload_buffer.specs.Depack.{Depack, G711Depack, OpusDepack, Co
 use Rattle.codec_payload_buffer.specs.Held.{Held}
 use Rattle.codec_payload_buffer.specs.Steps.{Unpacked, Unpacks}
 use Rattle.codec_payload_av1.specs.Av1Steps.{Av1Step}
-use Rattle.codec_payload_vp8.specs.Vp8.{Vp8Step, Vp8Rest, extra_of, extended_bit, with_first_byte, without_extension}
-use Rattle.codec_payload_vp8.specs.declared.vp8.Vp8Depacketizer.{Vp8Depacketizer}
+use Rattle.codec_payload_vp8.specs.Descriptor.{read_behind}
+use Rattle.codec_payload_vp8.specs.Received.{Vp8Step, Vp8Rest, extra_of, with_fields}
+use Rattle.codec_payload_vp8.specs.declared.vp8.depacketizer.Vp8Depacketizer.{Vp8Depacketizer}
+use Rattle.codec_payload_vp8.specs.declared.vp8.descriptor.Vp8DescriptorError.{Vp8DescriptorError}
 
 appends_same : (payload out : List ℕ) (extra : CodecExtra) (o p : List ℕ) (x y : CodecExtra) → Appends payload out extra (Ok tt) o x → Appends payload out extra (Ok tt) p y → (o ≡ p) × (x ≡ y)
 appends_same payload out extra o p x y a b = (a.0 ∙ sym b.0, a.1 ∙ sym b.1)
@@ -30,18 +32,18 @@ first_same rate (event ∷ flags ∷ []) out o p x y a b = absurd a
 first_same rate (event ∷ []) out o p x y a b = absurd a
 first_same rate [] out o p x y a b = absurd a
 
-rest_same : (d : Vp8Depacketizer) (payload out : List ℕ) (extra : CodecExtra) (e f : Vp8Depacketizer) (o p : List ℕ) (x y : CodecExtra) → Vp8Rest d payload out extra (Ok tt) e o x → Vp8Rest d payload out extra (Ok tt) f p y → (e ≡ f) × (o ≡ p) × (x ≡ y)
-rest_same d [] out extra e f o p x y a b = let no = a.0 in absurd (cc)
-rest_same d (c ∷ cs) out extra e f o p x y a b =
+rest_same : (d : Vp8Depacketizer) (rest : Result (List ℕ) Vp8DescriptorError) (out : List ℕ) (extra : CodecExtra) (e f : Vp8Depacketizer) (o p : List ℕ) (x y : CodecExtra) → Vp8Rest d rest out extra (Ok tt) e o x → Vp8Rest d rest out extra (Ok tt) f p y → (e ≡ f) × (o ≡ p) × (x ≡ y)
+rest_same d (Err error) out extra e f o p x y a b = let no = a.0 in absurd (cc)
+rest_same d (Ok []) out extra e f o p x y a b = let no = a.0 in absurd (cc)
+rest_same d (Ok (c ∷ cs)) out extra e f o p x y a b =
     let same : e ≡ f = a.0 ∙ sym b.0 in
     (same, a.1 ∙ sym b.1, a.2 ∙ ap (λ (g : Vp8Depacketizer). extra_of g extra) same ∙ sym b.2)
 
 vp8_same : (d : Vp8Depacketizer) (payload out : List ℕ) (extra : CodecExtra) (e f : Vp8Depacketizer) (o p : List ℕ) (x y : CodecExtra) → Vp8Step d payload out extra (Ok tt) e o x → Vp8Step d payload out extra (Ok tt) f p y → (e ≡ f) × (o ≡ p) × (x ≡ y)
 vp8_same d [] out extra e f o p x y a b = let no = a.0 in absurd (cc)
-vp8_same d (byte ∷ rest) out extra e f o p x y a b =
-    by_test (eqb (extended_bit byte) 1) (λ _. (e ≡ f) × (o ≡ p) × (x ≡ y))
-    (λ yes. let is : extended_bit byte ≡ 1 = grind (arith, nat_tests, yes) in let no = (a.0 is).0 in absurd (cc))
-    (λ no. let isnt : extended_bit byte ≢ 1 = grind (arith, nat_tests, no) in rest_same (without_extension (with_first_byte d byte)) rest out extra e f o p x y (a.1 isnt) (b.1 isnt))
+vp8_same d (byte ∷ bytes) out extra e f o p x y a b =
+    let r = read_behind byte bytes in
+    rest_same (with_fields d r.fields) r.rest out extra e f o p x y a b
 
 some_is : (x y : List ℕ × List ℕ) → Some x ≡ Some y → x ≡ y
 some_is x y e = cc

@@ -1,12 +1,13 @@
 -- Depacketizers as contracts see them, and what each call of theirs does.
-use Rattle.std.specs.Prelude.{◌≡◌, ℕ, List, [], Bool, true, false, min, Option, Some, None, Result, ⊤}
+use Rattle.std.specs.Prelude.{◌≡◌, ℕ, List, [], ◌∷◌, Bool, true, false, min, Option, Some, None, Result, ⊤}
+use Rattle.codec_payload_audio.specs.AmrWb.{layout}
 use Rattle.codec_payload_audio.specs.AmrWbReceived.{AmrWbStep}
 use Rattle.codec_payload_audio.specs.Payloads.{Appends, AppendsSome}
 use Rattle.codec_payload_base.specs.TelephoneReport.{TeleStep}
 use Rattle.codec_payload_av1.specs.Av1Payload.{is_head}
 use Rattle.codec_payload_av1.specs.Av1Steps.{Av1Step}
-use Rattle.codec_payload_vp8.specs.Vp8.{Vp8Step, is_start}
-use Rattle.codec_payload_vp8.specs.declared.vp8.Vp8Depacketizer.{Vp8Depacketizer}
+use Rattle.codec_payload_vp8.specs.Received.{Vp8Step, is_start, numbers_of}
+use Rattle.codec_payload_vp8.specs.declared.vp8.depacketizer.Vp8Depacketizer.{Vp8Depacketizer}
 use Rattle.codec_payload_base.specs.declared.error.PacketError.{PacketError}
 use Rattle.codec_payload_base.specs.declared.interface.CodecExtra.{CodecExtra}
 use Rattle.codec_payload_base.specs.declared.wire.Codec.{Codec}
@@ -118,6 +119,21 @@ DepackStep ComfortNoiseDepack payload out extra answer after out' extra' = Appen
 DepackStep (TeleDepack rate) payload out extra answer after out' extra' = TeleStep rate payload out extra answer out' extra' × (after ≡ TeleDepack rate)
 DepackStep (Av1Depack pending) payload out extra answer after out' extra' = (left : List ℕ) × Av1Step pending payload out extra answer left out' extra' × (after ≡ Av1Depack left)
 DepackStep (AmrWbDepack octet) payload out extra answer after out' extra' = AmrWbStep octet payload out extra answer out' extra' × (after ≡ AmrWbDepack octet)
+
+-- what a depacketizer holds, as numbers
+abbrev pub numbers_of_depack : Depack → List ℕ
+numbers_of_depack G711Depack = []
+numbers_of_depack OpusDepack = []
+numbers_of_depack NullDepack = []
+numbers_of_depack (Vp8Depack d) = numbers_of d
+numbers_of_depack ComfortNoiseDepack = []
+numbers_of_depack (TeleDepack rate) = rate ∷ []
+numbers_of_depack (Av1Depack pending) = pending
+numbers_of_depack (AmrWbDepack octet) = layout octet
+
+-- the same step, with the depacketizer afterwards as its numbers
+abbrev pub DepackStepTo : Depack → List ℕ → List ℕ → CodecExtra → Result ⊤ PacketError → List ℕ → List ℕ → CodecExtra → Type 0
+DepackStepTo d payload out extra answer after out' extra' = (next : Depack) × DepackStep d payload out extra answer next out' extra' × (after ≡ numbers_of_depack next)
 
 -- whether a payload begins a unit
 abbrev pub head_in : DepackKind → List ℕ → Bool

@@ -1,10 +1,10 @@
 -- Packetizers as contracts see them, and what each call of theirs does.
-use Rattle.std.specs.Prelude.{◌≡◌, ℕ, List, Bool, true, false, Option, Some, None, Result}
+use Rattle.std.specs.Prelude.{◌≡◌, ℕ, ◌<◌, ◌^◌, List, [], ◌∷◌, Bool, true, false, Option, Some, None, IfSome, Result}
 use Rattle.codec_payload_base.specs.Pieces.{AnswersPieces}
-use Rattle.codec_payload_audio.specs.AmrWb.{AnswersAmrWb}
+use Rattle.codec_payload_audio.specs.AmrWb.{AnswersAmrWb, layout}
 use Rattle.codec_payload_audio.specs.Payloads.{AnswersItself, AnswersWhole}
 use Rattle.codec_payload_av1.specs.Av1Steps.{AnswersAv1}
-use Rattle.codec_payload_vp8.specs.Vp8.{AnswersDescribed}
+use Rattle.codec_payload_vp8.specs.Sent.{Vp8Sends, numbers_of_id}
 use Rattle.codec_payload_base.specs.declared.error.PacketError.{PacketError}
 use Rattle.codec_payload_base.specs.declared.wire.Codec.{Codec}
 use Rattle.codec_payload_base.specs.declared.wire.Codec.TheVariants as codecs
@@ -18,7 +18,7 @@ pub data Pack : Type 0 where
   OpusPack : Pack
   ComfortNoisePack : Pack
   TelePack : Pack
-  Vp8Pack : Pack
+  Vp8Pack : Option ℕ → Pack
   Av1Pack : Pack
   AmrWbPack : Bool → Pack
   NullPack : Pack
@@ -28,7 +28,7 @@ pack_of (variants.G711 _) = G711Pack
 pack_of (variants.G722 _) = G722Pack
 pack_of (variants.Opus _) = OpusPack
 pack_of (variants.Null _) = NullPack
-pack_of (variants.Vp8 _) = Vp8Pack
+pack_of (variants.Vp8 id) = Vp8Pack id
 pack_of (variants.ComfortNoise _) = ComfortNoisePack
 pack_of (variants.Tele _) = TelePack
 pack_of (variants.Av1 _) = Av1Pack
@@ -46,7 +46,7 @@ pack_for codecs.AmrWb = Some (AmrWbPack false)
 pack_for codecs.H264 = None
 pack_for codecs.H265 = None
 pack_for codecs.H266 = None
-pack_for codecs.Vp8 = Some Vp8Pack
+pack_for codecs.Vp8 = Some (Vp8Pack None)
 pack_for codecs.Vp9 = None
 pack_for codecs.Av1 = Some Av1Pack
 pack_for codecs.Tele = Some TelePack
@@ -61,7 +61,7 @@ configured octet G722Pack = G722Pack
 configured octet OpusPack = OpusPack
 configured octet ComfortNoisePack = ComfortNoisePack
 configured octet TelePack = TelePack
-configured octet Vp8Pack = Vp8Pack
+configured octet (Vp8Pack id) = Vp8Pack id
 configured octet Av1Pack = Av1Pack
 configured octet (AmrWbPack before) = AmrWbPack octet
 configured octet NullPack = NullPack
@@ -72,11 +72,27 @@ PackStep G711Pack mtu frame answer after = AnswersPieces mtu frame answer × (af
 PackStep G722Pack mtu frame answer after = AnswersPieces mtu frame answer × (after ≡ G722Pack)
 PackStep OpusPack mtu frame answer after = AnswersPieces mtu frame answer × (after ≡ OpusPack)
 PackStep NullPack mtu frame answer after = AnswersItself frame answer × (after ≡ NullPack)
-PackStep Vp8Pack mtu frame answer after = AnswersDescribed mtu frame answer × (after ≡ Vp8Pack)
+PackStep (Vp8Pack id) mtu frame answer after = IfSome id (λ n. n < 2 ^ 15) × (next : Option ℕ) × Vp8Sends id mtu frame answer next × (after ≡ Vp8Pack next)
 PackStep ComfortNoisePack mtu frame answer after = AnswersWhole mtu frame answer × (after ≡ ComfortNoisePack)
 PackStep TelePack mtu frame answer after = AnswersWhole mtu frame answer × (after ≡ TelePack)
 PackStep Av1Pack mtu frame answer after = AnswersAv1 mtu frame answer × (after ≡ Av1Pack)
 PackStep (AmrWbPack octet) mtu frame answer after = AnswersAmrWb octet mtu frame answer × (after ≡ AmrWbPack octet)
+
+-- what a packetizer holds, as numbers
+abbrev pub numbers_of_pack : Pack → List ℕ
+numbers_of_pack G711Pack = []
+numbers_of_pack G722Pack = []
+numbers_of_pack OpusPack = []
+numbers_of_pack NullPack = []
+numbers_of_pack (Vp8Pack id) = numbers_of_id id
+numbers_of_pack ComfortNoisePack = []
+numbers_of_pack TelePack = []
+numbers_of_pack Av1Pack = []
+numbers_of_pack (AmrWbPack octet) = layout octet
+
+-- the same step, with the packetizer afterwards as its numbers
+abbrev pub PackStepTo : Pack → ℕ → List ℕ → Result (List (List ℕ)) PacketError → List ℕ → Type 0
+PackStepTo pack mtu frame answer after = (next : Pack) × PackStep pack mtu frame answer next × (after ≡ numbers_of_pack next)
 
 -- whether a packet is marked; the last argument says that it is the last of its frame
 abbrev pub marker_of : Pack → Bool → Bool
@@ -84,7 +100,7 @@ marker_of G711Pack last = false
 marker_of G722Pack last = false
 marker_of OpusPack last = false
 marker_of NullPack last = false
-marker_of Vp8Pack last = last
+marker_of (Vp8Pack id) last = last
 marker_of ComfortNoisePack last = false
 marker_of TelePack last = false
 marker_of Av1Pack last = last
@@ -96,7 +112,7 @@ talkspurt_of G711Pack = true
 talkspurt_of G722Pack = true
 talkspurt_of OpusPack = true
 talkspurt_of NullPack = false
-talkspurt_of Vp8Pack = false
+talkspurt_of (Vp8Pack id) = false
 talkspurt_of ComfortNoisePack = false
 talkspurt_of TelePack = true
 talkspurt_of Av1Pack = false
@@ -108,7 +124,7 @@ nackable_of G711Pack = false
 nackable_of G722Pack = false
 nackable_of OpusPack = false
 nackable_of NullPack = true
-nackable_of Vp8Pack = true
+nackable_of (Vp8Pack id) = true
 nackable_of ComfortNoisePack = false
 nackable_of TelePack = false
 nackable_of Av1Pack = true

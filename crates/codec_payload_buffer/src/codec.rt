@@ -1,10 +1,9 @@
 //! A packetizer and a depacketizer of any codec that is there.
 
 ghost use Rattle.std.specs.Prelude.{◌≡◌, ◌≤◌, option_map, IsTrue, false};
-ghost use Rattle.std.specs.Option.{option_copied};
 ghost use Rattle.codec_payload_base.specs.Answers.{packets_of};
-ghost use Rattle.codec_payload_buffer.specs.Pack.{pack_of, pack_for, configured, PackStep, marker_of, talkspurt_of, nackable_of};
-ghost use Rattle.codec_payload_buffer.specs.Depack.{depack_of, depack_for, configured_depack, kind_of_depack, DepackStep, head_of, tail_of, hint_of};
+ghost use Rattle.codec_payload_buffer.specs.Pack.{pack_of, pack_for, configured, PackStep, PackStepTo, numbers_of_pack, marker_of, talkspurt_of, nackable_of};
+ghost use Rattle.codec_payload_buffer.specs.Depack.{depack_of, depack_for, configured_depack, kind_of_depack, DepackStep, DepackStepTo, numbers_of_depack, head_of, tail_of, hint_of};
 
 use codec_payload_audio::amr_wb::{AmrWbDepacketizer, AmrWbPacketizer};
 use codec_payload_audio::plain::{
@@ -72,30 +71,10 @@ impl CodecPacketizer {
             p.octet_align = spec.octet_align;
         }
     }
-}
 
-/// Each call is that of the chosen packetizer.
-impl Packetizer for CodecPacketizer {
-    ghost use Rattle.codec_payload_buffer.specs.declared.codec.CodecPacketizer.TheVariants.{G711, G722, Opus, ComfortNoise, Tele, Vp8, Av1, AmrWb, Null};
-
-    ghost state = { elim [ G711 p ↦ ⟦<G711Packetizer as Packetizer>⟧.state p | G722 p ↦ ⟦<G722Packetizer as Packetizer>⟧.state p | Opus p ↦ ⟦<OpusPacketizer as Packetizer>⟧.state p | ComfortNoise p ↦ ⟦<ComfortNoisePacketizer as Packetizer>⟧.state p | Tele p ↦ ⟦<TelephoneEventPacketizer as Packetizer>⟧.state p | Vp8 p ↦ ⟦<Vp8Packetizer as Packetizer>⟧.state p | Av1 p ↦ ⟦<Av1Packetizer as Packetizer>⟧.state p | AmrWb p ↦ ⟦<AmrWbPacketizer as Packetizer>⟧.state p | Null p ↦ ⟦<NullPacketizer as Packetizer>⟧.state p ] };
-
-    ghost packetize_step = { elim [ G711 p ↦ ⟦<G711Packetizer as Packetizer>⟧.packetize_step p | G722 p ↦ ⟦<G722Packetizer as Packetizer>⟧.packetize_step p | Opus p ↦ ⟦<OpusPacketizer as Packetizer>⟧.packetize_step p | ComfortNoise p ↦ ⟦<ComfortNoisePacketizer as Packetizer>⟧.packetize_step p | Tele p ↦ ⟦<TelephoneEventPacketizer as Packetizer>⟧.packetize_step p | Vp8 p ↦ ⟦<Vp8Packetizer as Packetizer>⟧.packetize_step p | Av1 p ↦ ⟦<Av1Packetizer as Packetizer>⟧.packetize_step p | AmrWb p ↦ ⟦<AmrWbPacketizer as Packetizer>⟧.packetize_step p | Null p ↦ ⟦<NullPacketizer as Packetizer>⟧.packetize_step p ] };
-
-    ghost marker_step = { elim [ G711 p ↦ ⟦<G711Packetizer as Packetizer>⟧.marker_step p | G722 p ↦ ⟦<G722Packetizer as Packetizer>⟧.marker_step p | Opus p ↦ ⟦<OpusPacketizer as Packetizer>⟧.marker_step p | ComfortNoise p ↦ ⟦<ComfortNoisePacketizer as Packetizer>⟧.marker_step p | Tele p ↦ ⟦<TelephoneEventPacketizer as Packetizer>⟧.marker_step p | Vp8 p ↦ ⟦<Vp8Packetizer as Packetizer>⟧.marker_step p | Av1 p ↦ ⟦<Av1Packetizer as Packetizer>⟧.marker_step p | AmrWb p ↦ ⟦<AmrWbPacketizer as Packetizer>⟧.marker_step p | Null p ↦ ⟦<NullPacketizer as Packetizer>⟧.marker_step p ] };
-
-    ghost may_mark = { elim [ G711 p ↦ ⟦<G711Packetizer as Packetizer>⟧.may_mark p | G722 p ↦ ⟦<G722Packetizer as Packetizer>⟧.may_mark p | Opus p ↦ ⟦<OpusPacketizer as Packetizer>⟧.may_mark p | ComfortNoise p ↦ ⟦<ComfortNoisePacketizer as Packetizer>⟧.may_mark p | Tele p ↦ ⟦<TelephoneEventPacketizer as Packetizer>⟧.may_mark p | Vp8 p ↦ ⟦<Vp8Packetizer as Packetizer>⟧.may_mark p | Av1 p ↦ ⟦<Av1Packetizer as Packetizer>⟧.may_mark p | AmrWb p ↦ ⟦<AmrWbPacketizer as Packetizer>⟧.may_mark p | Null p ↦ ⟦<NullPacketizer as Packetizer>⟧.may_mark p ] };
-
-    ghost may_do_without = { elim [ G711 p ↦ ⟦<G711Packetizer as Packetizer>⟧.may_do_without p | G722 p ↦ ⟦<G722Packetizer as Packetizer>⟧.may_do_without p | Opus p ↦ ⟦<OpusPacketizer as Packetizer>⟧.may_do_without p | ComfortNoise p ↦ ⟦<ComfortNoisePacketizer as Packetizer>⟧.may_do_without p | Tele p ↦ ⟦<TelephoneEventPacketizer as Packetizer>⟧.may_do_without p | Vp8 p ↦ ⟦<Vp8Packetizer as Packetizer>⟧.may_do_without p | Av1 p ↦ ⟦<Av1Packetizer as Packetizer>⟧.may_do_without p | AmrWb p ↦ ⟦<AmrWbPacketizer as Packetizer>⟧.may_do_without p | Null p ↦ ⟦<NullPacketizer as Packetizer>⟧.may_do_without p ] };
-
-    fn packetize(
-        &mut self,
-        alloc: Global,
-        mtu: usize,
-        b: &[u8],
-    ) -> Result<Vec<Vec<u8>>, PacketError>
-        ensures step { ⟦<CodecPacketizer as Packetizer>⟧.packetize_step self.old mtu b.now (packets_of result) (⟦<CodecPacketizer as Packetizer>⟧.state self.new) }
-        ensures built_in { PackStep (pack_of self.old) mtu b.now (packets_of result) (pack_of self.new) }
+    /// The packets of a frame, by the chosen packetizer.
+    fn send(&mut self, alloc: Global, mtu: usize, b: &[u8]) -> Result<Vec<Vec<u8>>, PacketError>
+        ensures { PackStep (pack_of self.old) mtu b.now (packets_of result) (pack_of self.new) }
     {
         match self {
             CodecPacketizer::G711(p) => p.packetize(alloc, mtu, b),
@@ -109,10 +88,34 @@ impl Packetizer for CodecPacketizer {
             CodecPacketizer::Null(p) => p.packetize(alloc, mtu, b),
         }
     }
+}
+
+/// Each call is that of the chosen packetizer.
+impl Packetizer for CodecPacketizer {
+    ghost state = { λ p. numbers_of_pack (pack_of p) };
+
+    ghost packetize_step = { λ p mtu frame answer after. PackStepTo (pack_of p) mtu frame answer after };
+
+    ghost marker_step = { λ p _ _ last answer after. (answer ≡ marker_of (pack_of p) last) × (after ≡ numbers_of_pack (pack_of p)) };
+
+    ghost may_mark = { λ p. IsTrue (talkspurt_of (pack_of p)) };
+
+    ghost may_do_without = { λ p. nackable_of (pack_of p) ≡ false };
+
+    fn packetize(
+        &mut self,
+        alloc: Global,
+        mtu: usize,
+        b: &[u8],
+    ) -> Result<Vec<Vec<u8>>, PacketError>
+        ensures step { PackStepTo (pack_of self.old) mtu b.now (packets_of result) (numbers_of_pack (pack_of self.new)) }
+        ensures built_in { PackStep (pack_of self.old) mtu b.now (packets_of result) (pack_of self.new) }
+    {
+        self.send(alloc, mtu, b)
+    }
 
     fn is_marker(&mut self, data: &[u8], previous: Option<&[u8]>, last: bool) -> bool
-        ensures step { ⟦<CodecPacketizer as Packetizer>⟧.marker_step self.old «data».now (option_copied previous.entry) last result (⟦<CodecPacketizer as Packetizer>⟧.state self.new) }
-        ensures built_in { result ≡ marker_of (pack_of self.old) last }
+        ensures step { (result ≡ marker_of (pack_of self.old) last) × (numbers_of_pack (pack_of self.new) ≡ numbers_of_pack (pack_of self.old)) }
         ensures same { pack_of self.new ≡ pack_of self.old }
     {
         match self {
@@ -129,8 +132,7 @@ impl Packetizer for CodecPacketizer {
     }
 
     fn marks_talkspurt(&self) -> bool
-        ensures step { IsTrue result → ⟦<CodecPacketizer as Packetizer>⟧.may_mark self.now }
-        ensures built_in { result ≡ talkspurt_of (pack_of self.now) }
+        ensures { result ≡ talkspurt_of (pack_of self.now) }
     {
         match self {
             CodecPacketizer::G711(p) => p.marks_talkspurt(),
@@ -146,8 +148,7 @@ impl Packetizer for CodecPacketizer {
     }
 
     fn nackable(&self) -> bool
-        ensures step { result ≡ false → ⟦<CodecPacketizer as Packetizer>⟧.may_do_without self.now }
-        ensures built_in { result ≡ nackable_of (pack_of self.now) }
+        ensures { result ≡ nackable_of (pack_of self.now) }
     {
         match self {
             CodecPacketizer::G711(p) => p.nackable(),
@@ -207,25 +208,43 @@ impl CodecDepacketizer {
             _ => {}
         }
     }
+
+    /// Takes a payload in, by the chosen depacketizer.
+    fn receive(
+        &mut self,
+        packet: &[u8],
+        out: &mut Vec<u8>,
+        codec_extra: &mut CodecExtra,
+    ) -> Result<(), PacketError>
+        ensures step { DepackStep (depack_of self.old) packet.now out.old.items codec_extra.old result (depack_of self.new) out.new.items codec_extra.new }
+        ensures kind { kind_of_depack (depack_of self.new) ≡ kind_of_depack (depack_of self.old) }
+    {
+        match self {
+            CodecDepacketizer::G711(d) => d.depacketize(packet, out, codec_extra),
+            CodecDepacketizer::Opus(d) => d.depacketize(packet, out, codec_extra),
+            CodecDepacketizer::ComfortNoise(d) => d.depacketize(packet, out, codec_extra),
+            CodecDepacketizer::Tele(d) => d.depacketize(packet, out, codec_extra),
+            CodecDepacketizer::Vp8(d) => d.depacketize(packet, out, codec_extra),
+            CodecDepacketizer::Av1(d) => d.depacketize(packet, out, codec_extra),
+            CodecDepacketizer::AmrWb(d) => d.depacketize(packet, out, codec_extra),
+            CodecDepacketizer::Null(d) => d.depacketize(packet, out, codec_extra),
+        }
+    }
 }
 
 /// Each call is that of the chosen depacketizer.
 impl Depacketizer for CodecDepacketizer {
-    ghost use Rattle.codec_payload_buffer.specs.declared.codec.CodecDepacketizer.TheVariants.{G711 as G711In, Opus as OpusIn, ComfortNoise as ComfortNoiseIn, Tele as TeleIn, Vp8 as Vp8In, Av1 as Av1In, AmrWb as AmrWbIn, Null as NullIn};
+    ghost state = { λ d. numbers_of_depack (depack_of d) };
 
-    ghost state = { elim [ G711In p ↦ ⟦<G711Depacketizer as Depacketizer>⟧.state p | OpusIn p ↦ ⟦<OpusDepacketizer as Depacketizer>⟧.state p | ComfortNoiseIn p ↦ ⟦<ComfortNoiseDepacketizer as Depacketizer>⟧.state p | TeleIn p ↦ ⟦<TelephoneEventDepacketizer as Depacketizer>⟧.state p | Vp8In p ↦ ⟦<Vp8Depacketizer as Depacketizer>⟧.state p | Av1In p ↦ ⟦<Av1Depacketizer as Depacketizer>⟧.state p | AmrWbIn p ↦ ⟦<AmrWbDepacketizer as Depacketizer>⟧.state p | NullIn p ↦ ⟦<NullDepacketizer as Depacketizer>⟧.state p ] };
+    ghost depacketize_step = { λ d payload out extra answer after out' extra'. DepackStepTo (depack_of d) payload out extra answer after out' extra' };
 
-    ghost depacketize_step = { elim [ G711In p ↦ ⟦<G711Depacketizer as Depacketizer>⟧.depacketize_step p | OpusIn p ↦ ⟦<OpusDepacketizer as Depacketizer>⟧.depacketize_step p | ComfortNoiseIn p ↦ ⟦<ComfortNoiseDepacketizer as Depacketizer>⟧.depacketize_step p | TeleIn p ↦ ⟦<TelephoneEventDepacketizer as Depacketizer>⟧.depacketize_step p | Vp8In p ↦ ⟦<Vp8Depacketizer as Depacketizer>⟧.depacketize_step p | Av1In p ↦ ⟦<Av1Depacketizer as Depacketizer>⟧.depacketize_step p | AmrWbIn p ↦ ⟦<AmrWbDepacketizer as Depacketizer>⟧.depacketize_step p | NullIn p ↦ ⟦<NullDepacketizer as Depacketizer>⟧.depacketize_step p ] };
+    ghost size_hint = { λ d size. hint_of (depack_of d) size };
 
-    ghost size_hint = { elim [ G711In p ↦ ⟦<G711Depacketizer as Depacketizer>⟧.size_hint p | OpusIn p ↦ ⟦<OpusDepacketizer as Depacketizer>⟧.size_hint p | ComfortNoiseIn p ↦ ⟦<ComfortNoiseDepacketizer as Depacketizer>⟧.size_hint p | TeleIn p ↦ ⟦<TelephoneEventDepacketizer as Depacketizer>⟧.size_hint p | Vp8In p ↦ ⟦<Vp8Depacketizer as Depacketizer>⟧.size_hint p | Av1In p ↦ ⟦<Av1Depacketizer as Depacketizer>⟧.size_hint p | AmrWbIn p ↦ ⟦<AmrWbDepacketizer as Depacketizer>⟧.size_hint p | NullIn p ↦ ⟦<NullDepacketizer as Depacketizer>⟧.size_hint p ] };
+    ghost is_head = { λ d payload. head_of (depack_of d) payload };
 
-    ghost is_head = { elim [ G711In p ↦ ⟦<G711Depacketizer as Depacketizer>⟧.is_head p | OpusIn p ↦ ⟦<OpusDepacketizer as Depacketizer>⟧.is_head p | ComfortNoiseIn p ↦ ⟦<ComfortNoiseDepacketizer as Depacketizer>⟧.is_head p | TeleIn p ↦ ⟦<TelephoneEventDepacketizer as Depacketizer>⟧.is_head p | Vp8In p ↦ ⟦<Vp8Depacketizer as Depacketizer>⟧.is_head p | Av1In p ↦ ⟦<Av1Depacketizer as Depacketizer>⟧.is_head p | AmrWbIn p ↦ ⟦<AmrWbDepacketizer as Depacketizer>⟧.is_head p | NullIn p ↦ ⟦<NullDepacketizer as Depacketizer>⟧.is_head p ] };
-
-    ghost is_tail = { elim [ G711In p ↦ ⟦<G711Depacketizer as Depacketizer>⟧.is_tail p | OpusIn p ↦ ⟦<OpusDepacketizer as Depacketizer>⟧.is_tail p | ComfortNoiseIn p ↦ ⟦<ComfortNoiseDepacketizer as Depacketizer>⟧.is_tail p | TeleIn p ↦ ⟦<TelephoneEventDepacketizer as Depacketizer>⟧.is_tail p | Vp8In p ↦ ⟦<Vp8Depacketizer as Depacketizer>⟧.is_tail p | Av1In p ↦ ⟦<Av1Depacketizer as Depacketizer>⟧.is_tail p | AmrWbIn p ↦ ⟦<AmrWbDepacketizer as Depacketizer>⟧.is_tail p | NullIn p ↦ ⟦<NullDepacketizer as Depacketizer>⟧.is_tail p ] };
+    ghost is_tail = { λ d marker payload. tail_of (depack_of d) marker payload };
 
     fn out_size_hint(&self, packets_size: usize) -> Option<usize>
-        ensures step { result ≡ ⟦<CodecDepacketizer as Depacketizer>⟧.size_hint self.now packets_size }
-        ensures built_in { result ≡ hint_of (depack_of self.now) packets_size }
     {
         match self {
             CodecDepacketizer::G711(d) => d.out_size_hint(packets_size),
@@ -245,25 +264,14 @@ impl Depacketizer for CodecDepacketizer {
         out: &mut Vec<u8>,
         codec_extra: &mut CodecExtra,
     ) -> Result<(), PacketError>
-        ensures step { ⟦<CodecDepacketizer as Depacketizer>⟧.depacketize_step self.old packet.now out.old.items codec_extra.old result (⟦<CodecDepacketizer as Depacketizer>⟧.state self.new) out.new.items codec_extra.new }
+        ensures step { DepackStepTo (depack_of self.old) packet.now out.old.items codec_extra.old result (numbers_of_depack (depack_of self.new)) out.new.items codec_extra.new }
         ensures built_in { DepackStep (depack_of self.old) packet.now out.old.items codec_extra.old result (depack_of self.new) out.new.items codec_extra.new }
         ensures kind { kind_of_depack (depack_of self.new) ≡ kind_of_depack (depack_of self.old) }
     {
-        match self {
-            CodecDepacketizer::G711(d) => d.depacketize(packet, out, codec_extra),
-            CodecDepacketizer::Opus(d) => d.depacketize(packet, out, codec_extra),
-            CodecDepacketizer::ComfortNoise(d) => d.depacketize(packet, out, codec_extra),
-            CodecDepacketizer::Tele(d) => d.depacketize(packet, out, codec_extra),
-            CodecDepacketizer::Vp8(d) => d.depacketize(packet, out, codec_extra),
-            CodecDepacketizer::Av1(d) => d.depacketize(packet, out, codec_extra),
-            CodecDepacketizer::AmrWb(d) => d.depacketize(packet, out, codec_extra),
-            CodecDepacketizer::Null(d) => d.depacketize(packet, out, codec_extra),
-        }
+        self.receive(packet, out, codec_extra)
     }
 
     fn is_partition_head(&self, packet: &[u8]) -> bool
-        ensures step { result ≡ ⟦<CodecDepacketizer as Depacketizer>⟧.is_head self.now packet.now }
-        ensures built_in { result ≡ head_of (depack_of self.now) packet.now }
     {
         match self {
             CodecDepacketizer::G711(d) => d.is_partition_head(packet),
@@ -278,8 +286,6 @@ impl Depacketizer for CodecDepacketizer {
     }
 
     fn is_partition_tail(&self, marker: bool, packet: &[u8]) -> bool
-        ensures step { result ≡ ⟦<CodecDepacketizer as Depacketizer>⟧.is_tail self.now marker packet.now }
-        ensures built_in { result ≡ tail_of (depack_of self.now) marker packet.now }
     {
         match self {
             CodecDepacketizer::G711(d) => d.is_partition_tail(marker, packet),
