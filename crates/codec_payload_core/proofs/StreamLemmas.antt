@@ -1,18 +1,15 @@
 -- What a run sends is the stream of its canonical units, each lawful.
-use Rattle.std.proofs.Common.{◌≡◌, ◌≢◌, ◌∙◌, sym, ap, refl, subst, ℕ, zero, suc, ◌+◌, ◌<◌, ◌%◌, ◌^◌, ◌||◌, ◌==◌, inl, inr, List, [], ◌∷◌, ◌++◌, length, map, arith, length-append, append_assoc, Bool, true, false, Option, Some, None, Result, Ok, Err, cond, leb, ◌-◌}
+use Rattle.std.proofs.Common.{◌≡◌, ◌≢◌, ◌∙◌, sym, ap, refl, subst, ℕ, zero, suc, ◌+◌, ◌<◌, ◌%◌, ◌^◌, ◌||◌, ◌==◌, inl, inr, List, [], ◌∷◌, ◌++◌, length, map, arith, length-append, append_assoc, Bool, true, false, Option, Some, None, Result, Ok, Err, cond}
 use Rattle.std.specs.Prelude.{MatchResult, MatchOption, slice_get}
 use Rattle.std.proofs.Math.Dec.{eqb-suc-zero}
 use Rattle.std.proofs.lemmas.List.{append-nil, map-append}
 use Rattle.codec_payload_audio.specs.Payloads.{Appends}
-use Rattle.codec_payload_base.specs.Pieces.{AnswersPieces, ArePieces, joined, pieces_of}
-use Rattle.codec_payload_vp8.specs.Vp8.{AnswersDescribed, described}
-use Rattle.codec_payload_buffer.proofs.CaseLemmas.{by_test}
+use Rattle.codec_payload_base.specs.Pieces.{AnswersPieces, pieces_of}
 use Rattle.codec_payload_core.proofs.Av1Units.{av1_sends}
 use Rattle.codec_payload_core.proofs.OnePacketUnits.{OneOrNone, one_packet, only_whole, one_held, lawful_one, noise_units, tele_units, amr_wb_units}
 use Rattle.codec_payload_core.proofs.TellLemmas.{is_quiet, quiet_tells}
 use Rattle.codec_payload_core.proofs.SendsUnits.{CarryIds, SendsUnits, carry_on, no_units}
-use Rattle.codec_payload_core.proofs.Vp8Units.{none_empty, whole_frame, lawful_frame}
-use Rattle.std.proofs.lemmas.Bool.Decides.{nat_tests}
+use Rattle.codec_payload_core.proofs.Vp8Units.{vp8_sends}
 use Rattle.codec_payload_base.specs.declared.error.PacketError.{PacketError}
 use Rattle.codec_payload_base.specs.declared.error.PacketError.TheVariants as faults
 use Rattle.codec_payload_base.specs.declared.interface.CodecExtra.{CodecExtra}
@@ -133,40 +130,6 @@ plain_sends pack after mtu sample rtp_time number payloads plain whole no_id non
   goes_on = goes_on;
 }
 
-not_empty : (frame : List ℕ) → 0 < length frame → is_empty frame ≡ false
-not_empty [] some = absurd (omega arith)
-not_empty (b ∷ bs) some = refl
-
--- a VP8 frame at an MTU above 1: no pieces, or one unit
-vp8_pieces : (mtu : ℕ) (sample : Sample) (rtp_time number : ℕ) (payloads : List (List ℕ)) → leb mtu 1 ≡ false → 1 < mtu → (pieces : List (List ℕ)) → ArePieces (mtu - 1) sample.bytes pieces → payloads ≡ described true pieces
-    → SendsUnits Vp8Pack mtu sample rtp_time number payloads Vp8Pack
-vp8_pieces mtu sample rtp_time number payloads large some [] are is =
-    no_units Vp8Pack mtu sample rtp_time number payloads is (rw (sym are.join) refl) refl
-vp8_pieces mtu sample rtp_time number payloads large some (piece ∷ pieces) are is =
-    let full = none_empty (mtu - 1) (piece ∷ pieces) (omega arith) are.sizes in
-    let sizes = ap length are.join in
-    let frame : is_empty sample.bytes ≡ false = not_empty sample.bytes (omega (arith, full.0, sizes, length-append piece (joined pieces))) in
-    record {
-      units = whole_frame sample rtp_time number piece pieces ∷ [];
-      canonical = rw (frame, large) (ap (λ (bytes : List ℕ). (bytes ∷ []) ∷ []) are.join);
-      packets = append-nil _ ∙ ap (packets_for Vp8Pack sample rtp_time number) (sym is);
-      lawful = λ _. (lawful_frame sample rtp_time number piece pieces full, tt);
-      ids = (refl, tt);
-      ids_go_on = λ m. refl;
-      goes_on = refl;
-    }
-
-vp8_sends : (mtu : ℕ) (sample : Sample) (rtp_time number : ℕ) (payloads : List (List ℕ)) → AnswersDescribed mtu sample.bytes (Ok payloads) → SendsUnits Vp8Pack mtu sample rtp_time number payloads Vp8Pack
-vp8_sends mtu sample rtp_time number payloads answer =
-    by_test (leb mtu 1) (λ b. leb mtu 1 ≡ b → SendsUnits Vp8Pack mtu sample rtp_time number payloads Vp8Pack)
-    (λ small _. no_units Vp8Pack mtu sample rtp_time number payloads (answer.0 (grind (arith, nat_tests, small))) (rw small (skipped sample.bytes)) refl)
-    (λ large _. let some : 1 < mtu = grind (arith, nat_tests, large) in let described = answer.1 some in vp8_pieces mtu sample rtp_time number payloads large some described.0 described.1 described.2)
-    refl
-  where
-    skipped : (frame : List ℕ) → cond (is_empty frame || true || false) [] ((frame ∷ []) ∷ []) ≡ []
-    skipped [] = refl
-    skipped (b ∷ bs) = refl
-
 -- a codec whose frames are each one packet and one unit
 one_sends : (pack after : Pack) (mtu : ℕ) (sample : Sample) (rtp_time number : ℕ) (payloads : List (List ℕ)) → may_split pack ≡ false → next_id pack ≡ None → next_id after ≡ None → after ≡ pack_after pack mtu sample.bytes → OneOrNone pack mtu sample.bytes payloads
     → SendsUnits pack mtu sample rtp_time number payloads after
@@ -199,9 +162,9 @@ sends_units G711Pack after mtu sample rtp_time number (Err fault) step found = a
 sends_units G722Pack after mtu sample rtp_time number (Err fault) step found = absurd (found (ap Err step.0.0))
 sends_units OpusPack after mtu sample rtp_time number (Err fault) step found = absurd (found (ap Err step.0.0))
 sends_units NullPack after mtu sample rtp_time number (Err fault) step found = absurd (found (ap Err step.0))
-sends_units Vp8Pack after mtu sample rtp_time number (Ok payloads) step found =
-    subst (λ (p : Pack). SendsUnits Vp8Pack mtu sample rtp_time number payloads p) (sym step.1) (vp8_sends mtu sample rtp_time number payloads step.0)
-sends_units Vp8Pack after mtu sample rtp_time number (Err fault) step found = absurd (found (ap Err step.0.0))
+sends_units (Vp8Pack id) after mtu sample rtp_time number (Ok payloads) step found =
+    subst (SendsUnits (Vp8Pack id) mtu sample rtp_time number payloads) (sym step.3) (vp8_sends id step.1 mtu sample rtp_time number payloads step.0 step.2.0 step.2.1)
+sends_units (Vp8Pack id) after mtu sample rtp_time number (Err fault) step found = absurd (found (ap Err step.2.0.0))
 
 packets_append : (us vs : List SentUnit) → packets_of (us ++ vs) ≡ packets_of us ++ packets_of vs
 packets_append [] vs = refl

@@ -8,7 +8,6 @@ pub use Rattle.codec_payload_base.specs.Time
 pub use Rattle.codec_payload_audio.specs.AmrWb
 pub use Rattle.codec_payload_audio.specs.AmrWbReceived
 pub use Rattle.codec_payload_audio.specs.Payloads
-pub use Rattle.codec_payload_vp8.specs.Vp8
 pub use Rattle.codec_payload_av1.specs.Av1Examples
 pub use Rattle.codec_payload_av1.specs.Av1Grammar
 pub use Rattle.codec_payload_av1.specs.Av1Laying

@@ -1,11 +1,12 @@
 -- The units of a frame: what a receiver is to be given of it.
-use Rattle.std.specs.Prelude.{◌≡◌, ℕ, ◌||◌, Bool, true, false, List, [], ◌∷◌, Option, Some, None, option_map, is_some, ◌==◌, nat_le, nat_lt, if◌then◌else◌, length, map, take, refl}
+use Rattle.std.specs.Prelude.{◌≡◌, ℕ, ◌||◌, not, Bool, true, false, List, [], ◌∷◌, Option, Some, None, option_map, is_some, ◌==◌, nat_le, nat_lt, if◌then◌else◌, length, map, take, refl}
 use Rattle.codec_payload_audio.specs.AmrWb.{Frame, amr_wb_is_skipped, amr_wb_refusal, canonical as canonical_frame, stored}
 use Rattle.codec_payload_base.specs.Bits.{bytes_of}
 use Rattle.codec_payload_base.specs.Faults.{fault_number}
 use Rattle.codec_payload_base.specs.Pieces.{pieces_of}
 use Rattle.codec_payload_base.specs.TelephoneReport.{are_reports}
 use Rattle.codec_payload_av1.specs.Av1Obu.{Obu, canonical, frame_kept}
+use Rattle.codec_payload_vp8.specs.Sent.{advanced, header_size}
 use Rattle.codec_payload_buffer.specs.Depack.{DepackKind, G711Payloads, OpusPayloads, NullPayloads, Vp8Payloads, ComfortNoisePayloads, TelePayloads, Av1Payloads, AmrWbPayloads}
 use Rattle.codec_payload_buffer.specs.Pack.{Pack, G711Pack, G722Pack, OpusPack, NullPack, Vp8Pack, ComfortNoisePack, TelePack, Av1Pack, AmrWbPack}
 
@@ -25,7 +26,7 @@ is_skipped G711Pack mtu frame = is_empty frame || (mtu == 0)
 is_skipped G722Pack mtu frame = is_empty frame || (mtu == 0)
 is_skipped OpusPack mtu frame = is_empty frame || (mtu == 0)
 is_skipped NullPack mtu frame = false
-is_skipped Vp8Pack mtu frame = is_empty frame || nat_le mtu 1
+is_skipped (Vp8Pack id) mtu frame = is_empty frame || nat_le mtu (header_size id)
 is_skipped ComfortNoisePack mtu frame = is_empty frame
 is_skipped TelePack mtu frame = is_empty frame
 is_skipped Av1Pack mtu frame = is_empty frame || nat_le mtu 1 || keeps_nothing (frame_kept frame)
@@ -42,7 +43,7 @@ refusal_of G711Pack mtu frame = None
 refusal_of G722Pack mtu frame = None
 refusal_of OpusPack mtu frame = None
 refusal_of NullPack mtu frame = None
-refusal_of Vp8Pack mtu frame = None
+refusal_of (Vp8Pack id) mtu frame = None
 refusal_of ComfortNoisePack mtu frame = if nat_lt mtu (length frame) then Some 2 else None
 refusal_of TelePack mtu frame = if nat_lt mtu (length frame) then Some 2 else None
 refusal_of Av1Pack mtu frame = refusal_of_obus (frame_kept frame)
@@ -69,7 +70,7 @@ units_sent G711Pack mtu frame = each_whole (pieces_of mtu frame)
 units_sent G722Pack mtu frame = each_whole (pieces_of mtu frame)
 units_sent OpusPack mtu frame = each_whole (pieces_of mtu frame)
 units_sent NullPack mtu frame = each_whole (frame ∷ [])
-units_sent Vp8Pack mtu frame = each_whole (frame ∷ [])
+units_sent (Vp8Pack id) mtu frame = each_whole (frame ∷ [])
 units_sent ComfortNoisePack mtu frame = each_whole (frame ∷ [])
 units_sent TelePack mtu frame = each_whole (take 4 frame ∷ [])
 units_sent Av1Pack mtu frame = canonical_obus (frame_kept frame) ∷ []
@@ -85,7 +86,7 @@ pack_after G711Pack mtu frame = G711Pack
 pack_after G722Pack mtu frame = G722Pack
 pack_after OpusPack mtu frame = OpusPack
 pack_after NullPack mtu frame = NullPack
-pack_after Vp8Pack mtu frame = Vp8Pack
+pack_after (Vp8Pack id) mtu frame = Vp8Pack (advanced (not (is_skipped (Vp8Pack id) mtu frame)) id)
 pack_after ComfortNoisePack mtu frame = ComfortNoisePack
 pack_after TelePack mtu frame = TelePack
 pack_after Av1Pack mtu frame = Av1Pack
@@ -97,7 +98,7 @@ payloads_by G711Pack = G711Payloads
 payloads_by G722Pack = G711Payloads
 payloads_by OpusPack = OpusPayloads
 payloads_by NullPack = NullPayloads
-payloads_by Vp8Pack = Vp8Payloads
+payloads_by (Vp8Pack id) = Vp8Payloads
 payloads_by ComfortNoisePack = ComfortNoisePayloads
 payloads_by TelePack = TelePayloads
 payloads_by Av1Pack = Av1Payloads
@@ -109,7 +110,7 @@ may_split G711Pack = false
 may_split G722Pack = false
 may_split OpusPack = false
 may_split NullPack = false
-may_split Vp8Pack = false
+may_split (Vp8Pack id) = false
 may_split ComfortNoisePack = false
 may_split TelePack = false
 may_split Av1Pack = true
