@@ -1,13 +1,14 @@
 -- What is promised of whole runs, from their logs.
 use Rattle.std.proofs.Common.{◌≡◌, ◌∙◌, refl, sym, ap, subst, List, [], Option, None, Bool, false, ℕ, suc, ◌++◌, ◌∷◌, ◌≤◌, ◌<◌, ◌^◌, arith, length, map}
 use Rattle.codec_payload_core.proofs.AlikeLemmas.{chains_same}
+use Rattle.codec_payload_core.proofs.AllPushedLemmas.{exact}
 use Rattle.codec_payload_core.proofs.BeginLemmas.{begins_from}
 use Rattle.codec_payload_core.proofs.ContiguousLemmas.{all_follow, IsTracked}
 use Rattle.codec_payload_core.proofs.ExactLemmas.{begins, no_more_units}
 use Rattle.codec_payload_core.proofs.GapLemmas.{only_past_gap}
 use Rattle.codec_payload_core.proofs.LogLemmas.{log_from}
 use Rattle.codec_payload_core.proofs.LossLemmas.{none_is_lost}
-use Rattle.codec_payload_core.proofs.SafetyLemmas.{fresh, safe_stream, sends_all}
+use Rattle.codec_payload_core.proofs.SafetyLemmas.{fresh, safe, safe_stream, sends_all}
 use Rattle.codec_payload_core.proofs.StreamLemmas.{streams}
 use Rattle.codec_payload_core.proofs.TakenLemmas.{Follows, nothing_taken, none_is_passed}
 use Rattle.codec_payload_core.proofs.TurnLemmas.{Setting, Chain, IsReady, chain_of, are_stretches}
@@ -20,6 +21,7 @@ use Rattle.codec_payload_buffer.specs.Held.{Held}
 use Rattle.codec_payload_core.specs.Log.{begun, IsLog, RunLog}
 use Rattle.codec_payload_core.specs.Packets.{Packet, AreNumbered}
 use Rattle.codec_payload_core.specs.RunOrder.{AreStretches, IsOrderFree, AllFollowAsSaid, IsContiguousAsSaid, bare_answer, OnlySetsCount}
+use Rattle.codec_payload_core.specs.RunPromises.{Ran, KeepsPromises, RunsAsSteps}
 use Rattle.codec_payload_core.specs.RunUnits.{LosesNoneSilently, PassesNoneOver, PassesOnlyPastGap, FirstIsWhole, NoneEvicted, AreNext, BeginsAsSent}
 use Rattle.codec_payload_core.specs.Schedule.{Answer, RunState, Runs}
 use Rattle.codec_payload_core.specs.Sending.{Sample}
@@ -171,3 +173,18 @@ only_sets_count samples all_steps other_steps s t u sends other_sends pops other
     ap (map bare_answer) (sym log.answers)
     ∙ chains_same setting_of_log other_steps 0 0 s.buffer s.buffer log.turns other.turns log.end other.end ready_of_log ready_of_other refl (chain samples all_steps s t sends pops run unused readable log) other_chain same
     ∙ ap (map bare_answer) other.answers
+
+-- what is promised of a run follows from its steps alone
+pub promises : (r : Ran) → RunsAsSteps r → KeepsPromises r
+promises r run = record {
+  run_as_steps = run;
+  safety_half = λ is. safe r.samples r.steps r.before r.after r.sends r.pops run is.0 is.1;
+  exact_half = λ is. exact r.samples r.steps r.before r.after r.sends r.pops run is.0 is.1;
+  logged = λ is. logged r.samples r.steps r.before r.after r.sends r.pops run is.0 is.1;
+  order = λ is log. order_free r.samples r.steps r.before r.after r.sends r.pops run is.0 is.1 log;
+  contiguous = λ is log. contiguous_as_said r.samples r.steps r.before r.after r.sends r.pops run is.0 is.1 log;
+  no_silent_loss = λ is log. loses_none_silently r.samples r.steps r.before r.after r.sends r.pops run is.0 is.1 log;
+  none_passed_over = λ is log. passes_none_over r.samples r.steps r.before r.after r.sends r.pops run is.0 is.1 log;
+  passed_over = λ is log. passes_only_past_gap r.samples r.steps r.before r.after r.sends r.pops run is.0 is.1 log;
+  beginning = λ is log. begins_as_sent r.samples r.steps r.before r.after r.sends r.pops run is.0 is.1 log;
+}

@@ -85,7 +85,8 @@ stopped_it mtu sample fault p p' b sink sink' clock memory (inr beginning) =
       inr (
         beginning.payloads,
         beginning.begun,
-        beginning.refused ∷ beginning.left,
+        beginning.refused,
+        beginning.left,
         beginning.packetized,
         beginning.whole,
         left_by p p' b sink sink' beginning.begun clock (beginning.refusal.1 ∙ kept.1),
@@ -101,3 +102,8 @@ on_err (Err e) p = p
 pub on_ok : {T E P Q : Type 0} (r : Result T E) → (P → Q) → OnOk r P → OnOk r Q
 on_ok (Ok x) f p = f p
 on_ok (Err e) f p = p
+
+-- what follows from a fact of an Err
+pub from_err : {T E P Q : Type 0} (r : Result T E) → (P → Q) → OnErr r P → OnErr r Q
+from_err (Ok x) f p = p
+from_err (Err e) f p = f p

@@ -42,6 +42,7 @@ pub mod Log
 pub mod Packets
 pub mod RedPackets
 pub mod RunOrder
+pub mod RunPromises
 pub mod RunUnits
 pub mod Schedule
 pub mod Sending

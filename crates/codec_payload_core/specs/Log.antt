@@ -1,12 +1,11 @@
 -- A run told pop by pop: what was pushed before each, what it answered, and what the buffer was.
 use Rattle.std.specs.Prelude.{◌≡◌, ◌≢◌, ℕ, ◌+◌, List, [], ◌∷◌, ◌++◌, Option, Some, None, Err, map, take, slice_get, nat_lt, if◌then◌else◌, refl}
 use Rattle.codec_payload_base.specs.declared.error.PacketError.TheVariants as faults
-use Rattle.codec_payload_core.specs.Headline.{IsUnused, ReleasesInOrder}
+use Rattle.codec_payload_core.specs.Headline.{ReleasesInOrder}
 use Rattle.codec_payload_buffer.specs.Held.{Held}
 use Rattle.codec_payload_core.specs.Packets.{Packet}
 use Rattle.codec_payload_core.specs.Schedule.{Answer, RunState, meta_of_push}
 use Rattle.codec_payload_core.specs.Sending.{Sample}
-use Rattle.codec_payload_core.specs.SentStream.{AreReadable}
 use Rattle.codec_payload_buffer.specs.Steps.{State, arrived, pushed, PopsOver}
 use Rattle.codec_payload_buffer.specs.declared.buffer.frames.Segment.{Segment}
 use Rattle.codec_payload_core.specs.declared.schedule.Sent.{Sent}
@@ -71,10 +70,6 @@ pub record RunLog (samples : List Sample) (all_steps : List Step) (s : RunState)
   pub is_log : IsLog t.sink.packets s.payloading.clock_rate sends 0 all_steps (begun s.buffer) turns end
   pub answers : map (λ (turn : Turn). turn.answer) turns ≡ pops
   pub left : end.now ≡ t.buffer
-
--- this holds of each log of a run over an unused sink and an unused buffer, where what is sent can be read again
-abbrev pub OfLogs : (samples : List Sample) (all_steps : List Step) (s : RunState) (sends : List Sent) (pops : List Answer) (t : RunState) → (RunLog samples all_steps s sends pops t → Type 0) → Type 0
-OfLogs samples all_steps s sends pops t P = IsUnused s → AreReadable s.payloading.pack samples → (log : RunLog samples all_steps s sends pops t) → P log
 
 -- an entry of the first step counts at each later one
 pub sent_before-first : sent_before 1 (record { step = 0; first = 0; count = 3; fault = None } ∷ record { step = 4; first = 3; count = 2; fault = None } ∷ []) ≡ 3

@@ -89,17 +89,18 @@ Runs samples place (step ∷ later) s sends pops t =
     (send : List Sent) × (sends_later : List Sent) × (pop : List Answer) × (pops_later : List Answer) × (mid : RunState)
     × (sends ≡ send ++ sends_later) × (pops ≡ pop ++ pops_later) × DoesStep samples place step s send pop mid × Runs samples (place + 1) later mid sends_later pops_later t
 
--- memory was refused while a sample was sent: by the packetizer, or by the sink once it had a beginning of the packets
+-- memory was refused while a sample was sent: by the packetizer, or by the sink to one of the packets, once it had those
+-- before
 abbrev pub StopsSending : ℕ → Sample → RunState → RunState → Type 0
 StopsSending mtu sample s t = (pack : Pack) × (
     (PackStep s.payloading.pack mtu sample.bytes (Err faults.OutOfMemory) pack × (t ≡ after_send s pack []))
-    ⊎ ((payloads : List (List ℕ)) × (begun : List Packet) × (left : List Packet) × PackStep s.payloading.pack mtu sample.bytes (Ok payloads) pack
-    × (packets_sent s pack sample payloads ≡ begun ++ left) × (t ≡ after_send s pack begun)))
+    ⊎ ((payloads : List (List ℕ)) × (begun : List Packet) × (refused : Packet) × (left : List Packet) × PackStep s.payloading.pack mtu sample.bytes (Ok payloads) pack
+    × (packets_sent s pack sample payloads ≡ begun ++ refused ∷ left) × (t ≡ after_send s pack begun)))
 
 -- memory was refused to a step: before it began, or as the refused call leaves things
 abbrev pub StopsAt : List Sample → Step → RunState → RunState → Type 0
 StopsAt samples (steps.Send i mtu) s t = (sample : Sample) × (slice_get samples i ≡ Some sample) × ((t ≡ s) ⊎ StopsSending mtu sample s t)
-StopsAt samples (steps.Push k) s t = t ≡ s
+StopsAt samples (steps.Push k) s t = (packet : Packet) × (slice_get s.sink.packets k ≡ Some packet) × (t ≡ s)
 StopsAt samples steps.Pop s t = (t ≡ s) ⊎ ((buffer : State) × Pops s.buffer (Some (Err faults.OutOfMemory)) buffer × (t ≡ record s { buffer = buffer }))
 
 -- the steps from place `place` on, in order, up to one to which memory was refused

@@ -2,16 +2,12 @@
 
 ghost use Rattle.std.specs.Prelude.{◌≡◌, ◌≢◌, ◌++◌, List, map, IfOk, IfErr, OnOk, OnErr, Option, Result};
 ghost use Rattle.codec_payload_base.specs.declared.error.PacketError.TheVariants.{OutOfMemory};
-ghost use Rattle.codec_payload_core.specs.Exact.{ReleasesUnits};
-ghost use Rattle.codec_payload_core.specs.Headline.{IsUnused, ReleasesInOrder};
-ghost use Rattle.codec_payload_core.specs.Log.{RunLog, OfLogs};
 ghost use Rattle.codec_payload_core.specs.Packets.{packet_of};
 ghost use Rattle.codec_payload_buffer.specs.Release.{Release};
-ghost use Rattle.codec_payload_core.specs.RunOrder.{IsOrderFree, IsContiguousAsSaid, OnlySetsCount};
-ghost use Rattle.codec_payload_core.specs.RunUnits.{LosesNoneSilently, PassesNoneOver, PassesOnlyPastGap, BeginsAsSent};
+ghost use Rattle.codec_payload_core.specs.RunOrder.{OnlySetsCount};
+ghost use Rattle.codec_payload_core.specs.RunPromises.{KeepsPromises, ran};
 ghost use Rattle.codec_payload_core.specs.Schedule.{run_state, SendsIt, StopsSending, DoesStep, StopsAt, Runs, Stops, Answer, after_push};
 ghost use Rattle.codec_payload_core.specs.Sending.{Sample, sample_of};
-ghost use Rattle.codec_payload_core.specs.SentStream.{AreReadable};
 ghost use Rattle.codec_payload_buffer.specs.Steps.{State, Pops};
 ghost use Rattle.codec_payload_core.specs.declared.schedule.Sent.{Sent as Entry};
 
@@ -69,38 +65,8 @@ pub fn run_schedule(
     samples: &[ToPayload],
     steps: &[Step],
 ) -> Result<Run, PacketError>
-    ensures runs { IfOk result (λ run. Runs (map sample_of samples.now) 0 steps.now (run_state payloader.old buffer.old sink.old)
-        run.sends.items run.pops.items (run_state payloader.new buffer.new sink.new)) }
-    // Whatever is lost, repeated and reordered: the canonical units of the samples, in order, each at most once and whole.
-    ensures safe { IfOk result (λ run. IsUnused (run_state payloader.old buffer.old sink.old) → AreReadable payloader.old.pack (map sample_of samples.now)
-        → ReleasesInOrder (map sample_of samples.now) steps.now (run_state payloader.old buffer.old sink.old) run.pops.items (run_state payloader.new buffer.new sink.new)) }
-    // The same units; and where the buffer has room for all packets and each was pushed before the first pop, all of them.
-    ensures exact { IfOk result (λ run. IsUnused (run_state payloader.old buffer.old sink.old) → AreReadable payloader.old.pack (map sample_of samples.now)
-        → ReleasesUnits (map sample_of samples.now) steps.now (run_state payloader.old buffer.old sink.old) run.sends.items run.pops.items (run_state payloader.new buffer.new sink.new)) }
-    // A run can be told pop by pop: what was pushed since the pop before, the answer, and the buffer.
-    ensures logged { IfOk result (λ run. IsUnused (run_state payloader.old buffer.old sink.old) → AreReadable payloader.old.pack (map sample_of samples.now)
-        → RunLog (map sample_of samples.now) steps.now (run_state payloader.old buffer.old sink.old) run.sends.items run.pops.items (run_state payloader.new buffer.new sink.new)) }
-    // What follows holds of each such log. Of the pushes between two pops only their set counts, evictions included.
-    ensures order_free { IfOk result (λ run. OfLogs (map sample_of samples.now) steps.now (run_state payloader.old buffer.old sink.old) run.sends.items run.pops.items
-        (run_state payloader.new buffer.new sink.new) IsOrderFree) }
-    // Where the packetizer sends no picture ids, a unit is `contiguous` exactly where it follows the one before, or is the
-    // first and nothing was evicted before it.
-    ensures contiguous { IfOk result (λ run. OfLogs (map sample_of samples.now) steps.now (run_state payloader.old buffer.old sink.old) run.sends.items run.pops.items
-        (run_state payloader.new buffer.new sink.new) IsContiguousAsSaid) }
-    // A unit that is held whole before a pop is released by then or later, or held whole in the end, unless a packet of it
-    // was evicted, or a pop passed it over.
-    ensures no_silent_loss { IfOk result (λ run. OfLogs (map sample_of samples.now) steps.now (run_state payloader.old buffer.old sink.old) run.sends.items run.pops.items
-        (run_state payloader.new buffer.new sink.new) LosesNoneSilently) }
-    // Where the packetizer sends no picture ids, no pop passes a frame over.
-    ensures none_passed_over { IfOk result (λ run. OfLogs (map sample_of samples.now) steps.now (run_state payloader.old buffer.old sink.old) run.sends.items run.pops.items
-        (run_state payloader.new buffer.new sink.new) PassesNoneOver) }
-    // Where one does, 16,384 units in a row were not taken before.
-    ensures passed_over { IfOk result (λ run. OfLogs (map sample_of samples.now) steps.now (run_state payloader.old buffer.old sink.old) run.sends.items run.pops.items
-        (run_state payloader.new buffer.new sink.new) PassesOnlyPastGap) }
-    // Where the first unit comes first and whole, nothing is evicted and no pop is made too early, the units released are
-    // the first of those that were sent, each whole.
-    ensures beginning { IfOk result (λ run. OfLogs (map sample_of samples.now) steps.now (run_state payloader.old buffer.old sink.old) run.sends.items run.pops.items
-        (run_state payloader.new buffer.new sink.new) BeginsAsSent) }
+    // Run as steps, both halves of the theorem, order, contiguous, no silent loss, beginning: see `specs/RunPromises.antt`.
+    ensures promises { IfOk result (λ run. KeepsPromises (ran samples.now steps.now (run_state payloader.old buffer.old sink.old) run (run_state payloader.new buffer.new sink.new))) }
     ensures limit { buffer.new.limit ≡ buffer.old.limit }
     ensures fault { IfErr result (λ fault. fault ≡ OutOfMemory) }
     ensures stops { OnErr result (Stops (map sample_of samples.now) 0 steps.now (run_state payloader.old buffer.old sink.old)

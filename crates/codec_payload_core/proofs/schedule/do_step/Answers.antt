@@ -6,7 +6,7 @@ use Rattle.codec_payload_core.specs.Packets.{packet_of}
 use Rattle.codec_payload_core.specs.Schedule.{after_push, run_state}
 use Rattle.codec_payload_core.specs.Sending.{sample_of}
 use Rattle.codec_payload_buffer.specs.Steps.{State}
-use Rattle.codec_payload_core.proofs.ScheduleLemmas.{on_err, on_ok}
+use Rattle.codec_payload_core.proofs.ScheduleLemmas.{from_err, on_err, on_ok}
 use Rattle.codec_payload_core.proofs.schedule.do_step.Goals as goal
 
 pub returns-in_default-clause-ok : goal.returns-in_default-clause-ok
@@ -55,6 +55,12 @@ returns-in-Some-get-clause-ok c =
             (pushed ∙ ap (λ (rate : ℕ). after_push c.args.place rate (Some (packet_of c.in-Some-get.packet.now)) c.args.buffer.now) c.clock_rate.ensures)),
       ),
     )) c.push_step.ensures.ok
+
+pub returns-in-Some-get-clause-err : goal.returns-in-Some-get-clause-err
+returns-in-Some-get-clause-err c =
+    let there = slice_get_read c.packets.result.now (length c.packets.result.now) c.in-Push.k c.in-Some-get.packet.now refl c.in-Some-get.ensures.lookup.3.0 c.in-Some-get.ensures.lookup.1 in
+    let here = ap (λ ps. slice_get ps c.in-Push.k) (sym c.packets.ensures.value) ∙ (slice_get-map packet_of c.packets.result.now c.in-Push.k ∙ ap (λ o. option_map packet_of o) there) in
+    from_err c.push_step.result (λ same. rw c.in-Push.is (packet_of c.in-Some-get.packet.now, here, ap (λ (b : State). run_state c.args.payloader.now b c.args.sink.now) same)) c.push_step.ensures.err
 
 pub returns-in_ok-answer-in-Pop-clause-ok : goal.returns-in_ok-answer-in-Pop-clause-ok
 returns-in_ok-answer-in-Pop-clause-ok c = (

@@ -1,0 +1,97 @@
+-- What is promised of a whole run.
+use Rattle.std.specs.Prelude.{List, map}
+use Rattle.codec_payload_base.specs.declared.wire.ToPayload.{ToPayload}
+use Rattle.codec_payload_core.specs.Exact.{ReleasesUnits}
+use Rattle.codec_payload_core.specs.Headline.{IsUnused, ReleasesInOrder}
+use Rattle.codec_payload_core.specs.Log.{RunLog}
+use Rattle.codec_payload_core.specs.RunOrder.{IsOrderFree, IsContiguousAsSaid}
+use Rattle.codec_payload_core.specs.RunUnits.{LosesNoneSilently, PassesNoneOver, PassesOnlyPastGap, BeginsAsSent}
+use Rattle.codec_payload_core.specs.Schedule.{Answer, RunState, Runs}
+use Rattle.codec_payload_core.specs.Sending.{Sample, sample_of}
+use Rattle.codec_payload_core.specs.SentStream.{AreReadable}
+use Rattle.codec_payload_core.specs.declared.schedule.Run.{Run}
+use Rattle.codec_payload_core.specs.declared.schedule.Sent.{Sent}
+use Rattle.codec_payload_core.specs.declared.schedule.Step.{Step}
+
+-- a run: the samples, the steps, the payloader, the buffer and the sink before; the entries of the sends, the answers of
+-- the pops, and the three afterwards
+pub record Ran : Type 0 where
+  pub samples : List Sample
+  pub steps : List Step
+  pub before : RunState
+  pub sends : List Sent
+  pub pops : List Answer
+  pub after : RunState
+
+abbrev pub ran : List ToPayload → List Step → RunState → Run → RunState → Ran
+ran samples steps before run after = record { samples = map sample_of samples; steps = steps; before = before; sends = run.sends.items; pops = run.pops.items; after = after }
+
+-- the premises: the sink and the buffer are unused, the buffer reads what the payloader makes, and what is sent of the
+-- samples can be read again
+abbrev pub IsFresh : Ran → Type 0
+IsFresh r = IsUnused r.before × AreReadable r.before.payloading.pack r.samples
+
+-- a log tells the run pop by pop
+abbrev pub LogOf : Ran → Type 0
+LogOf r = RunLog r.samples r.steps r.before r.sends r.pops r.after
+
+-- this holds of each log of a fresh run
+abbrev pub OfEachLog : (r : Ran) → (LogOf r → Type 0) → Type 0
+OfEachLog r P = IsFresh r → (log : LogOf r) → P log
+
+-- Run as steps: the steps are done one after another, each as the call that it makes says.
+abbrev pub RunsAsSteps : Ran → Type 0
+RunsAsSteps r = Runs r.samples 0 r.steps r.before r.sends r.pops r.after
+
+-- The safety half: whatever is lost, repeated and reordered, the canonical units of the samples are released, in order,
+-- each at most once and whole.
+abbrev pub IsSafe : Ran → Type 0
+IsSafe r = IsFresh r → ReleasesInOrder r.samples r.steps r.before r.pops r.after
+
+-- The exact half: where the buffer has room for all packets and each is pushed before the first pop, all of these units.
+abbrev pub IsExact : Ran → Type 0
+IsExact r = IsFresh r → ReleasesUnits r.samples r.steps r.before r.sends r.pops r.after
+
+-- Every run can be told pop by pop: what was pushed since the pop before, the answer, and the buffer.
+abbrev pub IsLogged : Ran → Type 0
+IsLogged r = IsFresh r → LogOf r
+
+-- Order: of the packets pushed between two pops only the set counts, evictions included, neither order nor repeats.
+abbrev pub IsFreeOfOrder : Ran → Type 0
+IsFreeOfOrder r = OfEachLog r IsOrderFree
+
+-- Contiguous: where no picture ids are sent, a unit is told contiguous exactly where its first number follows the last of
+-- the release before, or it is the first and no packet was evicted before it.
+abbrev pub TellsContiguous : Ran → Type 0
+TellsContiguous r = OfEachLog r IsContiguousAsSaid
+
+-- No silent loss: a unit that is held whole before a pop is released by that or a later one, or held whole in the end,
+-- unless a packet of it was evicted, or a pop passed it over.
+abbrev pub LosesNothingSilently : Ran → Type 0
+LosesNothingSilently r = OfEachLog r LosesNoneSilently
+
+-- Where no picture ids are sent, no pop passes a unit over.
+abbrev pub PassesNothingOver : Ran → Type 0
+PassesNothingOver r = OfEachLog r PassesNoneOver
+
+-- Where they are, a unit is passed over only behind 16,384 units in a row of which no pop took one.
+abbrev pub PassesOverPastGaps : Ran → Type 0
+PassesOverPastGaps r = OfEachLog r PassesOnlyPastGap
+
+-- Beginning: where the first release is the first unit, whole, nothing is evicted and no pop is made too early, the units
+-- released are the first of those that were sent, each whole.
+abbrev pub BeginsWithFirst : Ran → Type 0
+BeginsWithFirst r = OfEachLog r BeginsAsSent
+
+-- all of it
+pub record KeepsPromises (r : Ran) : Type 0 where
+  pub run_as_steps : RunsAsSteps r
+  pub safety_half : IsSafe r
+  pub exact_half : IsExact r
+  pub logged : IsLogged r
+  pub order : IsFreeOfOrder r
+  pub contiguous : TellsContiguous r
+  pub no_silent_loss : LosesNothingSilently r
+  pub none_passed_over : PassesNothingOver r
+  pub passed_over : PassesOverPastGaps r
+  pub beginning : BeginsWithFirst r
