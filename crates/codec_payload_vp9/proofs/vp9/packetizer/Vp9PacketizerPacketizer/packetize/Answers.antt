@@ -1,0 +1,21 @@
+use Rattle.std.proofs.Common.{refl}
+use Rattle.codec_payload_base.specs.Answers.{packets_of}
+use Rattle.codec_payload_vp9.proofs.Told.{all_come_back, all_fit, all_heads, keyframes_are_told}
+use Rattle.codec_payload_vp9.proofs.vp9.packetizer.Vp9PacketizerPacketizer.packetize.Goals as goal
+
+pub returns-clause-step : goal.returns-clause-step
+returns-clause-step c = (c.send.new.self, c.send.ensures.sends, refl)
+
+pub returns-clause-fit : goal.returns-clause-fit
+returns-clause-fit c = all_fit c.args.self.now c.args.mtu c.args.b.now (packets_of c.send.result) c.send.ensures.sends.0
+
+pub returns-clause-heads : goal.returns-clause-heads
+returns-clause-heads c = all_heads c.args.self.now c.args.mtu c.args.b.now (packets_of c.send.result) c.send.ensures.sends.0
+
+pub returns-clause-comes_back : goal.returns-clause-comes_back
+returns-clause-comes_back c = all_come_back c.args.self.now c.args.mtu c.args.b.now (packets_of c.send.result) c.send.ensures.small c.send.ensures.sends.0
+
+pub returns-clause-keyframe : goal.returns-clause-keyframe
+returns-clause-keyframe c =
+    keyframes_are_told c.args.self.now.mode c.args.mtu c.args.b.now (packets_of c.send.result)
+    (all_come_back c.args.self.now c.args.mtu c.args.b.now (packets_of c.send.result) c.send.ensures.small c.send.ensures.sends.0)
