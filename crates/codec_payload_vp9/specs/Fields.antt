@@ -1,5 +1,5 @@
 -- What a VP9 depacketizer holds, without where it lies in memory.
-use Rattle.std.specs.Prelude.{ℕ, Bool, List, Option, map}
+use Rattle.std.specs.Prelude.{ℕ, Bool, false, List, [], ◌∷◌, Option, None, map}
 use Rattle.codec_payload_vp9.specs.declared.vp9.depacketizer.Vp9Depacketizer.{Vp9Depacketizer}
 
 -- the groups of pictures: TID(3) U R(2) and two reserved bits, and R differences each
@@ -61,4 +61,33 @@ fields_of x = record {
   width = x.width;
   height = x.height;
   groups = record { tids = x.pgtid.items; us = x.pgu.items; differences = map (λ v. v.items) x.pgpdiff.items };
+}
+
+-- those of a depacketizer that has read nothing
+abbrev pub unused : Fields
+unused = record {
+  i = false;
+  p = false;
+  l = false;
+  f = false;
+  b = false;
+  e = false;
+  v = false;
+  z = false;
+  picture_id = 0;
+  extended_pid = None;
+  tid = 0;
+  u = false;
+  sid = 0;
+  d = false;
+  pdiff = 0 ∷ 0 ∷ 0 ∷ [];
+  tl0picidx = 0;
+  extended_tl0picidx = None;
+  ns = 0;
+  y = false;
+  g = false;
+  ng = 0;
+  width = None ∷ None ∷ None ∷ [];
+  height = None ∷ None ∷ None ∷ [];
+  groups = record { tids = []; us = []; differences = [] };
 }
