@@ -1,5 +1,5 @@
 -- What a depacketizer accepts, it accepts in one way.
-use Rattle.std.proofs.Common.{◌≡◌, ◌≢◌, ◌∙◌, sym, ap, ℕ, subst, List, [], ◌∷◌, ◌++◌, Result, Ok, Err, Bool, Some, eqb, arith}
+use Rattle.std.proofs.Common.{◌≡◌, ◌≢◌, ◌∙◌, sym, ap, ℕ, subst, List, [], ◌∷◌, ◌++◌, Result, Ok, Err, Bool, true, false, refl, length, Some, eqb, arith}
 use Rattle.std.specs.Prelude.{MatchResult}
 use Rattle.std.proofs.lemmas.Bool.Decides.{nat_tests}
 use Rattle.codec_payload_audio.specs.AmrWbReceived.{AmrWbStep}
@@ -9,10 +9,13 @@ use Rattle.codec_payload_base.specs.TelephoneReport.{TakesFirst}
 use Rattle.codec_payload_base.specs.declared.error.PacketError.{PacketError}
 use Rattle.codec_payload_base.specs.declared.interface.CodecExtra.{CodecExtra}
 use Rattle.codec_payload_buffer.proofs.CaseLemmas.{by_test}
-use Rattle.codec_payload_buffer.specs.Depack.{Depack, G711Depack, OpusDepack, ComfortNoiseDepack, TeleDepack, NullDepack, Vp8Depack, Av1Depack, AmrWbDepack, DepackStep}
+use Rattle.codec_payload_buffer.specs.Depack.{Depack, G711Depack, OpusDepack, ComfortNoiseDepack, TeleDepack, NullDepack, Vp8Depack, Vp9Depack, Av1Depack, AmrWbDepack, DepackStep}
 use Rattle.codec_payload_buffer.specs.Held.{Held}
 use Rattle.codec_payload_buffer.specs.Steps.{Unpacked, Unpacks}
 use Rattle.codec_payload_av1.specs.Av1Steps.{Av1Step}
+use Rattle.codec_payload_vp9.specs.Fields.{Fields, Groups}
+use Rattle.codec_payload_vp9.specs.Reading.{all_groups, read_all, with_flags}
+use Rattle.codec_payload_vp9.specs.Received.{AppendedIf, Vp9Rest, Vp9Step, is_misplaced, told_before}
 use Rattle.codec_payload_vp8.specs.Descriptor.{read_behind}
 use Rattle.codec_payload_vp8.specs.Received.{Vp8Step, Vp8Rest, extra_of, with_fields}
 use Rattle.codec_payload_vp8.specs.declared.vp8.depacketizer.Vp8Depacketizer.{Vp8Depacketizer}
@@ -45,6 +48,24 @@ vp8_same d (byte ∷ bytes) out extra e f o p x y a b =
     let r = read_behind byte bytes in
     rest_same (with_fields d r.fields) r.rest out extra e f o p x y a b
 
+-- a VP9 payload that is accepted
+vp9_rest_same : (d f : Fields) (rest : Result (List ℕ) PacketError) (out : List ℕ) (extra : CodecExtra) (o p : List ℕ) (x y : CodecExtra) → d ≡ f → Vp9Rest d rest out extra (Ok tt) o x → Vp9Rest f rest out extra (Ok tt) p y → (o ≡ p) × (x ≡ y)
+vp9_rest_same d f (Err fault) out extra o p x y same a b = let no = a.0 in absurd (cc)
+vp9_rest_same d f (Ok rest) out extra o p x y same a b = placed (is_misplaced d (length out) (told_before extra)) a (subst (λ (g : Fields). Vp9Rest g (Ok rest) out extra (Ok tt) p y) (sym same) b)
+  where
+    placed : (m : Bool) → AppendedIf m d rest out extra (Ok tt) o x → AppendedIf m d rest out extra (Ok tt) p y → (o ≡ p) × (x ≡ y)
+    placed true a b = let no = a.0 in absurd (cc)
+    placed false a b = (a.1 ∙ sym b.1, a.2 ∙ sym b.2)
+
+vp9_same : (d : Fields) (payload out : List ℕ) (extra : CodecExtra) (e f : Fields) (o p : List ℕ) (x y : CodecExtra) → Vp9Step d payload out extra (Ok tt) e o x → Vp9Step d payload out extra (Ok tt) f p y → (e ≡ f) × (o ≡ p) × (x ≡ y)
+vp9_same d [] out extra e f o p x y a b = let no = a.0 in absurd (cc)
+vp9_same d (flags ∷ bytes) out extra e f o p x y a b =
+    let all = (read_all (with_flags d flags) bytes).fields in
+    let groups : e.groups ≡ f.groups = a.1 refl ∙ sym (b.1 refl) in
+    let same : e ≡ f = a.0 ∙ ap (λ (g : Groups). record all { groups = g }) groups ∙ sym b.0 in
+    let rest = vp9_rest_same e f (all_groups (with_flags d flags) bytes).rest out extra o p x y same (a.2 refl) (b.2 refl) in
+    (same, rest.0, rest.1)
+
 some_is : (x y : List ℕ × List ℕ) → Some x ≡ Some y → x ≡ y
 some_is x y e = cc
 
@@ -71,6 +92,9 @@ step_same (AmrWbDepack octet) payload out extra e f o p x y a b = let same = amr
 step_same (Vp8Depack d) payload out extra e f o p x y a b =
     let same = vp8_same d payload out extra a.0 b.0 o p x y a.1 b.1 in
     (a.2 ∙ ap Vp8Depack same.0 ∙ sym b.2, same.1, same.2)
+step_same (Vp9Depack d) payload out extra e f o p x y a b =
+    let same = vp9_same d payload out extra a.0 b.0 o p x y a.1 b.1 in
+    (a.2 ∙ ap Vp9Depack same.0 ∙ sym b.2, same.1, same.2)
 step_same (Av1Depack pending) payload out extra e f o p x y a b =
     let same = av1_same pending payload out extra a.0 b.0 o p x y a.1 b.1 in
     (a.2 ∙ ap Av1Depack same.0 ∙ sym b.2, same.1, same.2)

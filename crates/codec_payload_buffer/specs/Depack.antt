@@ -8,6 +8,8 @@ use Rattle.codec_payload_av1.specs.Av1Payload.{is_head}
 use Rattle.codec_payload_av1.specs.Av1Steps.{Av1Step}
 use Rattle.codec_payload_vp8.specs.Received.{Vp8Step, is_start, numbers_of}
 use Rattle.codec_payload_vp8.specs.declared.vp8.depacketizer.Vp8Depacketizer.{Vp8Depacketizer}
+use Rattle.codec_payload_vp9.specs.Fields.{Fields, fields_of, unused}
+use Rattle.codec_payload_vp9.specs.Received.{Vp9Step, is_start as is_vp9_start, numbers_of as numbers_of_fields}
 use Rattle.codec_payload_base.specs.declared.error.PacketError.{PacketError}
 use Rattle.codec_payload_base.specs.declared.interface.CodecExtra.{CodecExtra}
 use Rattle.codec_payload_base.specs.declared.wire.Codec.{Codec}
@@ -22,6 +24,7 @@ pub data Depack : Type 0 where
   ComfortNoiseDepack : Depack
   TeleDepack : ℕ → Depack
   Vp8Depack : Vp8Depacketizer → Depack
+  Vp9Depack : Fields → Depack
   Av1Depack : List ℕ → Depack
   AmrWbDepack : Bool → Depack
   NullDepack : Depack
@@ -31,6 +34,7 @@ depack_of (variants.G711 _) = G711Depack
 depack_of (variants.Opus _) = OpusDepack
 depack_of (variants.Null _) = NullDepack
 depack_of (variants.Vp8 d) = Vp8Depack d
+depack_of (variants.Vp9 d) = Vp9Depack (fields_of d)
 depack_of (variants.ComfortNoise _) = ComfortNoiseDepack
 depack_of (variants.Tele rate) = TeleDepack rate
 depack_of (variants.Av1 pending) = Av1Depack pending
@@ -43,6 +47,7 @@ pub data DepackKind : Type 0 where
   ComfortNoisePayloads : DepackKind
   TelePayloads : DepackKind
   Vp8Payloads : DepackKind
+  Vp9Payloads : DepackKind
   Av1Payloads : DepackKind
   AmrWbPayloads : Bool → DepackKind
   NullPayloads : DepackKind
@@ -52,6 +57,7 @@ kind_of_depack G711Depack = G711Payloads
 kind_of_depack OpusDepack = OpusPayloads
 kind_of_depack NullDepack = NullPayloads
 kind_of_depack (Vp8Depack d) = Vp8Payloads
+kind_of_depack (Vp9Depack d) = Vp9Payloads
 kind_of_depack ComfortNoiseDepack = ComfortNoisePayloads
 kind_of_depack (TeleDepack rate) = TelePayloads
 kind_of_depack (Av1Depack pending) = Av1Payloads
@@ -91,7 +97,7 @@ depack_for codecs.H264 = None
 depack_for codecs.H265 = None
 depack_for codecs.H266 = None
 depack_for codecs.Vp8 = Some (Vp8Depack unused_vp8)
-depack_for codecs.Vp9 = None
+depack_for codecs.Vp9 = Some (Vp9Depack unused)
 depack_for codecs.Av1 = Some (Av1Depack [])
 depack_for codecs.Tele = Some (TeleDepack 8000)
 depack_for codecs.Rtx = None
@@ -105,6 +111,7 @@ configured_depack octet rate OpusDepack = OpusDepack
 configured_depack octet rate ComfortNoiseDepack = ComfortNoiseDepack
 configured_depack octet rate (TeleDepack before) = TeleDepack rate
 configured_depack octet rate (Vp8Depack d) = Vp8Depack d
+configured_depack octet rate (Vp9Depack d) = Vp9Depack d
 configured_depack octet rate (Av1Depack pending) = Av1Depack pending
 configured_depack octet rate (AmrWbDepack before) = AmrWbDepack octet
 configured_depack octet rate NullDepack = NullDepack
@@ -115,6 +122,7 @@ DepackStep G711Depack payload out extra answer after out' extra' = Appends paylo
 DepackStep OpusDepack payload out extra answer after out' extra' = Appends payload out extra answer out' extra' × (after ≡ OpusDepack)
 DepackStep NullDepack payload out extra answer after out' extra' = Appends payload out extra answer out' extra' × (after ≡ NullDepack)
 DepackStep (Vp8Depack d) payload out extra answer after out' extra' = (next : Vp8Depacketizer) × Vp8Step d payload out extra answer next out' extra' × (after ≡ Vp8Depack next)
+DepackStep (Vp9Depack d) payload out extra answer after out' extra' = (next : Fields) × Vp9Step d payload out extra answer next out' extra' × (after ≡ Vp9Depack next)
 DepackStep ComfortNoiseDepack payload out extra answer after out' extra' = AppendsSome payload out extra answer out' extra' × (after ≡ ComfortNoiseDepack)
 DepackStep (TeleDepack rate) payload out extra answer after out' extra' = TeleStep rate payload out extra answer out' extra' × (after ≡ TeleDepack rate)
 DepackStep (Av1Depack pending) payload out extra answer after out' extra' = (left : List ℕ) × Av1Step pending payload out extra answer left out' extra' × (after ≡ Av1Depack left)
@@ -126,6 +134,7 @@ numbers_of_depack G711Depack = []
 numbers_of_depack OpusDepack = []
 numbers_of_depack NullDepack = []
 numbers_of_depack (Vp8Depack d) = numbers_of d
+numbers_of_depack (Vp9Depack d) = numbers_of_fields d
 numbers_of_depack ComfortNoiseDepack = []
 numbers_of_depack (TeleDepack rate) = rate ∷ []
 numbers_of_depack (Av1Depack pending) = pending
@@ -141,6 +150,7 @@ head_in G711Payloads payload = true
 head_in OpusPayloads payload = true
 head_in NullPayloads payload = true
 head_in Vp8Payloads payload = is_start payload
+head_in Vp9Payloads payload = is_vp9_start payload
 head_in ComfortNoisePayloads payload = true
 head_in TelePayloads payload = true
 head_in Av1Payloads payload = is_head payload
@@ -155,6 +165,7 @@ tail_in G711Payloads marker payload = true
 tail_in OpusPayloads marker payload = true
 tail_in NullPayloads marker payload = true
 tail_in Vp8Payloads marker payload = marker
+tail_in Vp9Payloads marker payload = marker
 tail_in ComfortNoisePayloads marker payload = true
 tail_in TelePayloads marker payload = true
 tail_in Av1Payloads marker payload = marker
@@ -169,6 +180,7 @@ hint_of G711Depack size = Some size
 hint_of OpusDepack size = Some size
 hint_of NullDepack size = Some size
 hint_of (Vp8Depack d) size = Some size
+hint_of (Vp9Depack d) size = Some size
 hint_of ComfortNoiseDepack size = Some size
 hint_of (TeleDepack rate) size = Some (min size 4)
 hint_of (Av1Depack pending) size = Some size

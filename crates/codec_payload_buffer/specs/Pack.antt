@@ -5,6 +5,8 @@ use Rattle.codec_payload_audio.specs.AmrWb.{AnswersAmrWb, layout}
 use Rattle.codec_payload_audio.specs.Payloads.{AnswersItself, AnswersWhole}
 use Rattle.codec_payload_av1.specs.Av1Steps.{AnswersAv1}
 use Rattle.codec_payload_vp8.specs.Sent.{Vp8Sends, numbers_of_id}
+use Rattle.codec_payload_vp9.specs.Sent.{Sender, Vp9Sends, numbers_of_sender}
+use Rattle.codec_payload_base.specs.declared.interface.Vp9PacketizerMode.{Vp9PacketizerMode}
 use Rattle.codec_payload_base.specs.declared.error.PacketError.{PacketError}
 use Rattle.codec_payload_base.specs.declared.wire.Codec.{Codec}
 use Rattle.codec_payload_base.specs.declared.wire.Codec.TheVariants as codecs
@@ -19,6 +21,7 @@ pub data Pack : Type 0 where
   ComfortNoisePack : Pack
   TelePack : Pack
   Vp8Pack : Option ℕ → Pack
+  Vp9Pack : Sender → Pack
   Av1Pack : Pack
   AmrWbPack : Bool → Pack
   NullPack : Pack
@@ -29,30 +32,31 @@ pack_of (variants.G722 _) = G722Pack
 pack_of (variants.Opus _) = OpusPack
 pack_of (variants.Null _) = NullPack
 pack_of (variants.Vp8 id) = Vp8Pack id
+pack_of (variants.Vp9 sender) = Vp9Pack sender
 pack_of (variants.ComfortNoise _) = ComfortNoisePack
 pack_of (variants.Tele _) = TelePack
 pack_of (variants.Av1 _) = Av1Pack
 pack_of (variants.AmrWb p) = AmrWbPack p.octet_align
 
--- the packetizer that a codec is given, if it has one
-abbrev pub pack_for : Codec → Option Pack
-pack_for codecs.Opus = Some OpusPack
-pack_for codecs.PCMU = Some G711Pack
-pack_for codecs.PCMA = Some G711Pack
-pack_for codecs.G722 = Some G722Pack
-pack_for codecs.Null = Some NullPack
-pack_for codecs.CN = Some ComfortNoisePack
-pack_for codecs.AmrWb = Some (AmrWbPack false)
-pack_for codecs.H264 = None
-pack_for codecs.H265 = None
-pack_for codecs.H266 = None
-pack_for codecs.Vp8 = Some (Vp8Pack None)
-pack_for codecs.Vp9 = None
-pack_for codecs.Av1 = Some Av1Pack
-pack_for codecs.Tele = Some TelePack
-pack_for codecs.Rtx = None
-pack_for codecs.Red = None
-pack_for codecs.Unknown = None
+-- the packetizer that a codec is given, if it has one; VP9's has a mode and the picture id of its first frame
+abbrev pub pack_for : Vp9PacketizerMode → ℕ → Codec → Option Pack
+pack_for mode id codecs.Opus = Some OpusPack
+pack_for mode id codecs.PCMU = Some G711Pack
+pack_for mode id codecs.PCMA = Some G711Pack
+pack_for mode id codecs.G722 = Some G722Pack
+pack_for mode id codecs.Null = Some NullPack
+pack_for mode id codecs.CN = Some ComfortNoisePack
+pack_for mode id codecs.AmrWb = Some (AmrWbPack false)
+pack_for mode id codecs.H264 = None
+pack_for mode id codecs.H265 = None
+pack_for mode id codecs.H266 = None
+pack_for mode id codecs.Vp8 = Some (Vp8Pack None)
+pack_for mode id codecs.Vp9 = Some (Vp9Pack (record { mode = mode; picture_id = id; tl0picidx = 0 }))
+pack_for mode id codecs.Av1 = Some Av1Pack
+pack_for mode id codecs.Tele = Some TelePack
+pack_for mode id codecs.Rtx = None
+pack_for mode id codecs.Red = None
+pack_for mode id codecs.Unknown = None
 
 -- a packetizer after a specification was taken over
 abbrev pub configured : Bool → Pack → Pack
@@ -62,6 +66,7 @@ configured octet OpusPack = OpusPack
 configured octet ComfortNoisePack = ComfortNoisePack
 configured octet TelePack = TelePack
 configured octet (Vp8Pack id) = Vp8Pack id
+configured octet (Vp9Pack sender) = Vp9Pack sender
 configured octet Av1Pack = Av1Pack
 configured octet (AmrWbPack before) = AmrWbPack octet
 configured octet NullPack = NullPack
@@ -73,6 +78,7 @@ PackStep G722Pack mtu frame answer after = AnswersPieces mtu frame answer × (af
 PackStep OpusPack mtu frame answer after = AnswersPieces mtu frame answer × (after ≡ OpusPack)
 PackStep NullPack mtu frame answer after = AnswersItself frame answer × (after ≡ NullPack)
 PackStep (Vp8Pack id) mtu frame answer after = IfSome id (λ n. n < 2 ^ 15) × (next : Option ℕ) × Vp8Sends id mtu frame answer next × (after ≡ Vp8Pack next)
+PackStep (Vp9Pack sender) mtu frame answer after = (sender.picture_id < 2 ^ 15) × (next : Sender) × Vp9Sends sender mtu frame answer next × (after ≡ Vp9Pack next)
 PackStep ComfortNoisePack mtu frame answer after = AnswersWhole mtu frame answer × (after ≡ ComfortNoisePack)
 PackStep TelePack mtu frame answer after = AnswersWhole mtu frame answer × (after ≡ TelePack)
 PackStep Av1Pack mtu frame answer after = AnswersAv1 mtu frame answer × (after ≡ Av1Pack)
@@ -85,6 +91,7 @@ numbers_of_pack G722Pack = []
 numbers_of_pack OpusPack = []
 numbers_of_pack NullPack = []
 numbers_of_pack (Vp8Pack id) = numbers_of_id id
+numbers_of_pack (Vp9Pack sender) = numbers_of_sender sender
 numbers_of_pack ComfortNoisePack = []
 numbers_of_pack TelePack = []
 numbers_of_pack Av1Pack = []
@@ -101,6 +108,7 @@ marker_of G722Pack last = false
 marker_of OpusPack last = false
 marker_of NullPack last = false
 marker_of (Vp8Pack id) last = last
+marker_of (Vp9Pack sender) last = last
 marker_of ComfortNoisePack last = false
 marker_of TelePack last = false
 marker_of Av1Pack last = last
@@ -113,6 +121,7 @@ talkspurt_of G722Pack = true
 talkspurt_of OpusPack = true
 talkspurt_of NullPack = false
 talkspurt_of (Vp8Pack id) = false
+talkspurt_of (Vp9Pack sender) = false
 talkspurt_of ComfortNoisePack = false
 talkspurt_of TelePack = true
 talkspurt_of Av1Pack = false
@@ -125,6 +134,7 @@ nackable_of G722Pack = false
 nackable_of OpusPack = false
 nackable_of NullPack = true
 nackable_of (Vp8Pack id) = true
+nackable_of (Vp9Pack sender) = true
 nackable_of ComfortNoisePack = false
 nackable_of TelePack = false
 nackable_of Av1Pack = true

@@ -2,6 +2,7 @@
 
 ghost use Rattle.std.specs.Prelude.{◌≡◌, ◌≤◌, option_map, IsTrue, false};
 ghost use Rattle.codec_payload_base.specs.Answers.{packets_of};
+ghost use Rattle.codec_payload_base.specs.declared.interface.Vp9PacketizerMode.TheVariants.{NonFlexible};
 ghost use Rattle.codec_payload_buffer.specs.Pack.{pack_of, pack_for, configured, PackStep, PackStepTo, numbers_of_pack, marker_of, talkspurt_of, nackable_of};
 ghost use Rattle.codec_payload_buffer.specs.Depack.{depack_of, depack_for, configured_depack, kind_of_depack, DepackStep, DepackStepTo, numbers_of_depack, head_of, tail_of, hint_of};
 
@@ -19,6 +20,7 @@ pub use codec_payload_base::interface::{
 };
 use codec_payload_base::wire::{Codec, CodecSpec};
 use codec_payload_vp8::vp8::{Vp8Depacketizer, Vp8Packetizer};
+use codec_payload_vp9::vp9::{Vp9Depacketizer, Vp9Packetizer};
 use std::alloc::Global;
 
 /// A packetizer of a built-in codec.
@@ -30,6 +32,7 @@ pub enum CodecPacketizer {
     ComfortNoise(ComfortNoisePacketizer),
     Tele(TelephoneEventPacketizer),
     Vp8(Vp8Packetizer),
+    Vp9(Vp9Packetizer),
     Av1(Av1Packetizer),
     AmrWb(AmrWbPacketizer),
     Null(NullPacketizer),
@@ -38,9 +41,9 @@ pub enum CodecPacketizer {
 impl CodecPacketizer {
     /// The packetizer of a codec, or `None` where the codec has none. `mode` and `first_id` are those of VP9: its mode,
     /// and the picture id of the first frame.
-    pub fn new(codec: Codec, _mode: Vp9PacketizerMode, first_id: u16) -> Option<Self>
+    pub fn new(codec: Codec, mode: Vp9PacketizerMode, first_id: u16) -> Option<Self>
         requires { first_id ≤ 32767 }
-        ensures { option_map pack_of result ≡ pack_for codec }
+        ensures { option_map pack_of result ≡ pack_for mode first_id codec }
     {
         match codec {
             Codec::PCMU | Codec::PCMA => Some(CodecPacketizer::G711(G711Packetizer {})),
@@ -49,6 +52,7 @@ impl CodecPacketizer {
             Codec::CN => Some(CodecPacketizer::ComfortNoise(ComfortNoisePacketizer {})),
             Codec::Tele => Some(CodecPacketizer::Tele(TelephoneEventPacketizer {})),
             Codec::Vp8 => Some(CodecPacketizer::Vp8(Vp8Packetizer::default())),
+            Codec::Vp9 => Some(CodecPacketizer::Vp9(Vp9Packetizer::with_mode(mode, first_id))),
             Codec::Av1 => Some(CodecPacketizer::Av1(Av1Packetizer::default())),
             Codec::AmrWb => Some(CodecPacketizer::AmrWb(AmrWbPacketizer::default())),
             Codec::Null => Some(CodecPacketizer::Null(NullPacketizer {})),
@@ -58,7 +62,7 @@ impl CodecPacketizer {
 
     /// The same with the non-flexible mode and the picture id 0.
     pub fn from_codec(codec: Codec) -> Option<Self>
-        ensures { option_map pack_of result ≡ pack_for codec }
+        ensures { option_map pack_of result ≡ pack_for NonFlexible 0 codec }
     {
         CodecPacketizer::new(codec, Vp9PacketizerMode::NonFlexible, 0)
     }
@@ -83,6 +87,7 @@ impl CodecPacketizer {
             CodecPacketizer::ComfortNoise(p) => p.packetize(alloc, mtu, b),
             CodecPacketizer::Tele(p) => p.packetize(alloc, mtu, b),
             CodecPacketizer::Vp8(p) => p.packetize(alloc, mtu, b),
+            CodecPacketizer::Vp9(p) => p.packetize(alloc, mtu, b),
             CodecPacketizer::Av1(p) => p.packetize(alloc, mtu, b),
             CodecPacketizer::AmrWb(p) => p.packetize(alloc, mtu, b),
             CodecPacketizer::Null(p) => p.packetize(alloc, mtu, b),
@@ -125,6 +130,7 @@ impl Packetizer for CodecPacketizer {
             CodecPacketizer::ComfortNoise(p) => p.is_marker(data, previous, last),
             CodecPacketizer::Tele(p) => p.is_marker(data, previous, last),
             CodecPacketizer::Vp8(p) => p.is_marker(data, previous, last),
+            CodecPacketizer::Vp9(p) => p.is_marker(data, previous, last),
             CodecPacketizer::Av1(p) => p.is_marker(data, previous, last),
             CodecPacketizer::AmrWb(p) => p.is_marker(data, previous, last),
             CodecPacketizer::Null(p) => p.is_marker(data, previous, last),
@@ -141,6 +147,7 @@ impl Packetizer for CodecPacketizer {
             CodecPacketizer::ComfortNoise(p) => p.marks_talkspurt(),
             CodecPacketizer::Tele(p) => p.marks_talkspurt(),
             CodecPacketizer::Vp8(p) => p.marks_talkspurt(),
+            CodecPacketizer::Vp9(p) => p.marks_talkspurt(),
             CodecPacketizer::Av1(p) => p.marks_talkspurt(),
             CodecPacketizer::AmrWb(p) => p.marks_talkspurt(),
             CodecPacketizer::Null(p) => p.marks_talkspurt(),
@@ -157,6 +164,7 @@ impl Packetizer for CodecPacketizer {
             CodecPacketizer::ComfortNoise(p) => p.nackable(),
             CodecPacketizer::Tele(p) => p.nackable(),
             CodecPacketizer::Vp8(p) => p.nackable(),
+            CodecPacketizer::Vp9(p) => p.nackable(),
             CodecPacketizer::Av1(p) => p.nackable(),
             CodecPacketizer::AmrWb(p) => p.nackable(),
             CodecPacketizer::Null(p) => p.nackable(),
@@ -172,6 +180,7 @@ pub enum CodecDepacketizer {
     ComfortNoise(ComfortNoiseDepacketizer),
     Tele(TelephoneEventDepacketizer),
     Vp8(Vp8Depacketizer),
+    Vp9(Vp9Depacketizer),
     Av1(Av1Depacketizer),
     AmrWb(AmrWbDepacketizer),
     Null(NullDepacketizer),
@@ -190,6 +199,7 @@ impl CodecDepacketizer {
             Codec::CN => Some(CodecDepacketizer::ComfortNoise(ComfortNoiseDepacketizer {})),
             Codec::Tele => Some(CodecDepacketizer::Tele(TelephoneEventDepacketizer::default())),
             Codec::Vp8 => Some(CodecDepacketizer::Vp8(Vp8Depacketizer::default())),
+            Codec::Vp9 => Some(CodecDepacketizer::Vp9(Vp9Depacketizer::new(alloc))),
             Codec::Av1 => Some(CodecDepacketizer::Av1(Av1Depacketizer::new(alloc))),
             Codec::AmrWb => Some(CodecDepacketizer::AmrWb(AmrWbDepacketizer::default())),
             Codec::Null => Some(CodecDepacketizer::Null(NullDepacketizer {})),
@@ -225,6 +235,7 @@ impl CodecDepacketizer {
             CodecDepacketizer::ComfortNoise(d) => d.depacketize(packet, out, codec_extra),
             CodecDepacketizer::Tele(d) => d.depacketize(packet, out, codec_extra),
             CodecDepacketizer::Vp8(d) => d.depacketize(packet, out, codec_extra),
+            CodecDepacketizer::Vp9(d) => d.depacketize(packet, out, codec_extra),
             CodecDepacketizer::Av1(d) => d.depacketize(packet, out, codec_extra),
             CodecDepacketizer::AmrWb(d) => d.depacketize(packet, out, codec_extra),
             CodecDepacketizer::Null(d) => d.depacketize(packet, out, codec_extra),
@@ -252,6 +263,7 @@ impl Depacketizer for CodecDepacketizer {
             CodecDepacketizer::ComfortNoise(d) => d.out_size_hint(packets_size),
             CodecDepacketizer::Tele(d) => d.out_size_hint(packets_size),
             CodecDepacketizer::Vp8(d) => d.out_size_hint(packets_size),
+            CodecDepacketizer::Vp9(d) => d.out_size_hint(packets_size),
             CodecDepacketizer::Av1(d) => d.out_size_hint(packets_size),
             CodecDepacketizer::AmrWb(d) => d.out_size_hint(packets_size),
             CodecDepacketizer::Null(d) => d.out_size_hint(packets_size),
@@ -279,6 +291,7 @@ impl Depacketizer for CodecDepacketizer {
             CodecDepacketizer::ComfortNoise(d) => d.is_partition_head(packet),
             CodecDepacketizer::Tele(d) => d.is_partition_head(packet),
             CodecDepacketizer::Vp8(d) => d.is_partition_head(packet),
+            CodecDepacketizer::Vp9(d) => d.is_partition_head(packet),
             CodecDepacketizer::Av1(d) => d.is_partition_head(packet),
             CodecDepacketizer::AmrWb(d) => d.is_partition_head(packet),
             CodecDepacketizer::Null(d) => d.is_partition_head(packet),
@@ -293,6 +306,7 @@ impl Depacketizer for CodecDepacketizer {
             CodecDepacketizer::ComfortNoise(d) => d.is_partition_tail(marker, packet),
             CodecDepacketizer::Tele(d) => d.is_partition_tail(marker, packet),
             CodecDepacketizer::Vp8(d) => d.is_partition_tail(marker, packet),
+            CodecDepacketizer::Vp9(d) => d.is_partition_tail(marker, packet),
             CodecDepacketizer::Av1(d) => d.is_partition_tail(marker, packet),
             CodecDepacketizer::AmrWb(d) => d.is_partition_tail(marker, packet),
             CodecDepacketizer::Null(d) => d.is_partition_tail(marker, packet),

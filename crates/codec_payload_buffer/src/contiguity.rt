@@ -26,6 +26,7 @@ impl Contiguity {
     {
         match depack {
             CodecDepacketizer::Vp8(_) => Contiguity::Vp8(Vp8Contiguity::new()),
+            CodecDepacketizer::Vp9(_) => Contiguity::Vp9(Vp9Contiguity::new()),
             _ => Contiguity::None,
         }
     }
