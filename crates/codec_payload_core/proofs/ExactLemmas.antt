@@ -19,14 +19,16 @@ use Rattle.codec_payload_core.proofs.StreamLemmas.{streams}
 use Rattle.codec_payload_core.proofs.UnitRows.{slice_append, Exact, exact_payloads, exact_metas}
 use Rattle.codec_payload_core.proofs.UnitTimes.{AllOneTime}
 use Rattle.codec_payload_buffer.specs.ContiguityTable.{checked, contiguity_for}
-use Rattle.codec_payload_buffer.specs.Depack.{Depack, DepackKind, kind_of_depack}
+use Rattle.codec_payload_buffer.specs.Depack.{Depack, DepackKind, Vp9Payloads, kind_of_depack}
 use Rattle.codec_payload_core.specs.Exact.{IsWhole, AnswersAll}
 use Rattle.codec_payload_buffer.specs.Frames.{frames}
 use Rattle.codec_payload_core.specs.Headline.{ArePushesOf}
 use Rattle.codec_payload_buffer.specs.Held.{Held, Rises, has_number, between, above}
-use Rattle.codec_payload_buffer.specs.Pack.{Pack, OpusPack}
+use Rattle.codec_payload_buffer.specs.Pack.{Pack, Vp9Pack}
 use Rattle.codec_payload_core.specs.Packets.{Packet, AreNumbered}
-use Rattle.codec_payload_core.specs.ToldIds.{ReadId, Tells, id_later, next_id, read_by}
+use Rattle.codec_payload_base.specs.declared.interface.Vp9PacketizerMode.{Vp9PacketizerMode}
+use Rattle.codec_payload_base.specs.declared.interface.Vp9PacketizerMode.TheVariants.{Flexible, NonFlexible}
+use Rattle.codec_payload_core.specs.ToldIds.{ReadId, Tells, id_in, id_later, next_id, read_by}
 use Rattle.codec_payload_buffer.specs.Release.{Release}
 use Rattle.codec_payload_core.specs.Schedule.{Answer, RunState, Runs, after_push}
 use Rattle.codec_payload_core.specs.Sending.{Sample}
@@ -59,9 +61,13 @@ may_go_all kind splits first n (u ∷ us) d c lawful carry few reads here = λ p
     let reads_on = (law.gives [] u.packets refl law.starts ps same d (Ok unpacked) e reads gives).0 in
     (on.may, may_go_all kind splits first (suc n) us e (checked c unpacked.extra seq).2 lawful.1 carry.1 (omega (arith, few)) reads_on on.follows)
 
+begins_in : (mode : Vp9PacketizerMode) (id : ℕ) (read : Option ReadId) (c : Contiguity) → read ≡ None → c ≡ contiguity_for Vp9Payloads → Follows (id_in mode id) 0 read c
+begins_in NonFlexible id read c none kept = (none, kept)
+begins_in Flexible id read c none kept = tt
+
 -- an unused buffer stands before the first unit
 pub begins : (pack : Pack) (read : Option ReadId) (c : Contiguity) → read ≡ None → c ≡ contiguity_for (payloads_by pack) → Follows (next_id pack) 0 read c
-begins OpusPack read c none kept = tt
+begins (Vp9Pack sender) read c none kept = begins_in sender.mode sender.picture_id read c none kept
 begins pack read c none kept = tt
 
 -- each unit has a packet

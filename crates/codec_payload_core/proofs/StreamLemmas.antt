@@ -10,6 +10,7 @@ use Rattle.codec_payload_core.proofs.OnePacketUnits.{OneOrNone, one_packet, only
 use Rattle.codec_payload_core.proofs.TellLemmas.{is_quiet, quiet_tells}
 use Rattle.codec_payload_core.proofs.SendsUnits.{CarryIds, SendsUnits, carry_on, no_units}
 use Rattle.codec_payload_core.proofs.Vp8Units.{vp8_sends}
+use Rattle.codec_payload_core.proofs.Vp9Units.{vp9_sends}
 use Rattle.codec_payload_base.specs.declared.error.PacketError.{PacketError}
 use Rattle.codec_payload_base.specs.declared.error.PacketError.TheVariants as faults
 use Rattle.codec_payload_base.specs.declared.interface.CodecExtra.{CodecExtra}
@@ -17,7 +18,7 @@ use Rattle.codec_payload_base.proofs.PieceLemmas.{one_list, no_pieces}
 use Rattle.codec_payload_core.proofs.UnitTimes.{AllOneTime, times_of_sample, times_append}
 use Rattle.codec_payload_buffer.specs.Depack.{Depack, G711Depack, OpusDepack, NullDepack, DepackKind, G711Payloads, OpusPayloads, NullPayloads, kind_of_depack, DepackStep, head_in, tail_in}
 use Rattle.codec_payload_buffer.specs.Held.{Held}
-use Rattle.codec_payload_buffer.specs.Pack.{Pack, G711Pack, G722Pack, OpusPack, ComfortNoisePack, TelePack, NullPack, Vp8Pack, Av1Pack, AmrWbPack, PackStep}
+use Rattle.codec_payload_buffer.specs.Pack.{Pack, G711Pack, G722Pack, OpusPack, ComfortNoisePack, TelePack, NullPack, Vp8Pack, Vp9Pack, Av1Pack, AmrWbPack, PackStep}
 use Rattle.codec_payload_core.specs.Packets.{Packet, SentPackets, AreNumbered}
 use Rattle.codec_payload_core.specs.ToldIds.{next_id}
 use Rattle.codec_payload_core.specs.Sending.{Sample, packets_for, rtp_time_at}
@@ -165,6 +166,9 @@ sends_units NullPack after mtu sample rtp_time number (Err fault) step found = a
 sends_units (Vp8Pack id) after mtu sample rtp_time number (Ok payloads) step found =
     subst (SendsUnits (Vp8Pack id) mtu sample rtp_time number payloads) (sym step.3) (vp8_sends id step.1 mtu sample rtp_time number payloads step.0 step.2.0 step.2.1)
 sends_units (Vp8Pack id) after mtu sample rtp_time number (Err fault) step found = absurd (found (ap Err step.2.0.0))
+sends_units (Vp9Pack sender) after mtu sample rtp_time number (Ok payloads) step found =
+    subst (SendsUnits (Vp9Pack sender) mtu sample rtp_time number payloads) (sym step.3) (vp9_sends sender step.1 mtu sample rtp_time number payloads step.0 step.2.0 step.2.1)
+sends_units (Vp9Pack sender) after mtu sample rtp_time number (Err fault) step found = absurd (found (ap Err step.2.0.0))
 
 packets_append : (us vs : List SentUnit) → packets_of (us ++ vs) ≡ packets_of us ++ packets_of vs
 packets_append [] vs = refl

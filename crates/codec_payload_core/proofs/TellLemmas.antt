@@ -2,10 +2,12 @@
 use Rattle.std.proofs.Common.{◌≡◌, ◌∙◌, ap, refl, sym, subst, ℕ, ◌+◌, ◌-◌, ◌<◌, ◌%◌, ◌^◌, List, [], ◌∷◌, ◌++◌, length, arith, Bool, true, false, cond, leb, Option, Some, None, Result, Ok, Err}
 use Rattle.std.specs.Prelude.{MatchResult}
 use Rattle.std.proofs.lemmas.Bool.Decides.{nat_tests}
+use Rattle.codec_payload_base.specs.PictureIds.{extended_by}
 use Rattle.codec_payload_base.specs.TelephoneReport.{TakesFirst}
+use Rattle.codec_payload_base.specs.declared.picture_id.PictureId.TheVariants.{Long}
 use Rattle.codec_payload_base.specs.declared.error.PacketError.{PacketError}
 use Rattle.codec_payload_base.specs.declared.interface.CodecExtra.{CodecExtra}
-use Rattle.codec_payload_buffer.specs.Depack.{Depack, ComfortNoiseDepack, TeleDepack, Vp8Depack, Av1Depack, AmrWbDepack, DepackKind, Vp8Payloads, kind_of_depack, DepackStep, head_in}
+use Rattle.codec_payload_buffer.specs.Depack.{Depack, ComfortNoiseDepack, TeleDepack, Vp8Depack, Vp9Depack, Av1Depack, AmrWbDepack, DepackKind, Vp8Payloads, Vp9Payloads, kind_of_depack, DepackStep, head_in}
 use Rattle.codec_payload_buffer.specs.Held.{Held}
 use Rattle.codec_payload_core.specs.Packets.{Packet}
 use Rattle.codec_payload_core.specs.SentStream.{payloads_held, payloads_sent, StartsWithHead}
@@ -41,6 +43,7 @@ silent_unpacks kind (p ∷ ps) d u unpacked e silent is lacks gives =
 -- payloads of these kinds never tell ids, whatever they are
 abbrev pub is_quiet : DepackKind → Bool
 is_quiet Vp8Payloads = false
+is_quiet Vp9Payloads = false
 is_quiet kind = true
 
 first_silent : (rate : ℕ) (payload out out' : List ℕ) (extra' : CodecExtra) → TakesFirst rate payload out out' extra' → lacks_base extra' ≡ true
@@ -50,6 +53,7 @@ first_silent rate payload out out' extra' takes = absurd takes
 quiet_step : (d : Depack) (payload out : List ℕ) (extra : CodecExtra) (x : Unit {0}) (e : Depack) (out' : List ℕ) (extra' : CodecExtra) → is_quiet (kind_of_depack d) ≡ true → lacks_base extra ≡ true
     → DepackStep d payload out extra (Ok x) e out' extra' → (kind_of_depack e ≡ kind_of_depack d) × (lacks_base extra' ≡ true)
 quiet_step (Vp8Depack d) payload out extra x e out' extra' quiet lacks step = absurd (cc)
+quiet_step (Vp9Depack d) payload out extra x e out' extra' quiet lacks step = absurd (cc)
 quiet_step ComfortNoiseDepack [] out extra x e out' extra' quiet lacks step = let none = step.0.0 in absurd (cc)
 quiet_step ComfortNoiseDepack (b ∷ bs) out extra x e out' extra' quiet lacks step = (ap kind_of_depack step.1, ap lacks_base step.0.1 ∙ lacks)
 quiet_step (TeleDepack rate) payload out extra x e out' extra' quiet lacks step = (ap kind_of_depack step.1, first_silent rate payload out out' extra' step.0.1)
@@ -127,17 +131,8 @@ unit_told kind id (p ∷ ps) d u unpacked e small some told is gives =
     after_told kind id (read_by d) ps p d u unpacked gives.2 gives.0 gives.1 e told.0 is gives.3 gives.4
     (λ is_on here rest. told_behind kind id (read_by d) ps gives.1 gives.2 unpacked e small told.1 is_on here rest)
 
--- The extension as a depacketizer computes it: it grows by as much as the nearest number with the bits of the id differs from
--- the last bits, modulo 2^64
-abbrev pub nearest_id : ℕ → ℕ → ℕ
-nearest_id last id = cond (leb (ahead last id) 16384) ((last + ahead last id) % 2 ^ 64) ((last + 2 ^ 64 - (32768 - ahead last id)) % 2 ^ 64)
-
-abbrev pub extension_of : Option ℕ → ℕ → ℕ → ℕ
-extension_of None last id = id
-extension_of (Some before) last id = (before + (nearest_id last id + 2 ^ 64 - last) % 2 ^ 64) % 2 ^ 64
-
--- is as is asked
-pub extension_is_next : (before : Option ℕ) (last id : ℕ) → IsNextId (read_last before last) id (extension_of before last id)
+-- the extension as a depacketizer computes it is as is asked
+pub extension_is_next : (before : Option ℕ) (last id : ℕ) → IsNextId (read_last before last) id (extended_by before last (Long id))
 extension_is_next None last id = refl
 extension_is_next (Some before) last id = λ low near.
     let is : leb (ahead last id) 16384 ≡ true = grind (arith, nat_tests, near) in

@@ -3,8 +3,10 @@ use Rattle.std.specs.Prelude.{◌≡◌, ℕ, ◌+◌, ◌-◌, ◌<◌, ◌≤�
 use Rattle.codec_payload_base.specs.declared.interface.CodecExtra.{CodecExtra}
 use Rattle.codec_payload_base.specs.declared.interface.CodecExtra.TheVariants as extras
 use Rattle.codec_payload_base.specs.declared.interface.Vp9CodecExtra.{Vp9CodecExtra}
-use Rattle.codec_payload_buffer.specs.Depack.{Depack, G711Depack, OpusDepack, NullDepack, Vp8Depack, ComfortNoiseDepack, TeleDepack, Av1Depack, AmrWbDepack}
-use Rattle.codec_payload_buffer.specs.Pack.{Pack, G711Pack, G722Pack, OpusPack, NullPack, Vp8Pack, ComfortNoisePack, TelePack, Av1Pack, AmrWbPack}
+use Rattle.codec_payload_base.specs.declared.interface.Vp9PacketizerMode.{Vp9PacketizerMode}
+use Rattle.codec_payload_base.specs.declared.interface.Vp9PacketizerMode.TheVariants.{Flexible, NonFlexible}
+use Rattle.codec_payload_buffer.specs.Depack.{Depack, G711Depack, OpusDepack, NullDepack, Vp8Depack, Vp9Depack, ComfortNoiseDepack, TeleDepack, Av1Depack, AmrWbDepack}
+use Rattle.codec_payload_buffer.specs.Pack.{Pack, G711Pack, G722Pack, OpusPack, NullPack, Vp8Pack, Vp9Pack, ComfortNoisePack, TelePack, Av1Pack, AmrWbPack}
 
 -- the picture id that was read last, as it was carried, and extended
 pub record ReadId : Type 0 where
@@ -60,10 +62,16 @@ read_by G711Depack = None
 read_by OpusDepack = None
 read_by NullDepack = None
 read_by (Vp8Depack d) = None
+read_by (Vp9Depack d) = read_last d.extended_pid d.picture_id
 read_by ComfortNoiseDepack = None
 read_by (TeleDepack rate) = None
 read_by (Av1Depack pending) = None
 read_by (AmrWbDepack octet) = None
+
+-- frames of the non-flexible mode of VP9 carry both ids
+abbrev pub id_in : Vp9PacketizerMode → ℕ → Option ℕ
+id_in NonFlexible id = Some id
+id_in Flexible id = None
 
 -- the id of the next unit, where units carry both ids
 abbrev pub next_id : Pack → Option ℕ
@@ -72,6 +80,7 @@ next_id G722Pack = None
 next_id OpusPack = None
 next_id NullPack = None
 next_id (Vp8Pack id) = None
+next_id (Vp9Pack sender) = id_in sender.mode sender.picture_id
 next_id ComfortNoisePack = None
 next_id TelePack = None
 next_id Av1Pack = None

@@ -7,8 +7,9 @@ use Rattle.codec_payload_base.specs.Pieces.{pieces_of}
 use Rattle.codec_payload_base.specs.TelephoneReport.{are_reports}
 use Rattle.codec_payload_av1.specs.Av1Obu.{Obu, canonical, frame_kept}
 use Rattle.codec_payload_vp8.specs.Sent.{advanced, header_size}
-use Rattle.codec_payload_buffer.specs.Depack.{DepackKind, G711Payloads, OpusPayloads, NullPayloads, Vp8Payloads, ComfortNoisePayloads, TelePayloads, Av1Payloads, AmrWbPayloads}
-use Rattle.codec_payload_buffer.specs.Pack.{Pack, G711Pack, G722Pack, OpusPack, NullPack, Vp8Pack, ComfortNoisePack, TelePack, Av1Pack, AmrWbPack}
+use Rattle.codec_payload_vp9.specs.Sent.{advanced as sender_advanced, begun, reserve_in}
+use Rattle.codec_payload_buffer.specs.Depack.{DepackKind, G711Payloads, OpusPayloads, NullPayloads, Vp8Payloads, Vp9Payloads, ComfortNoisePayloads, TelePayloads, Av1Payloads, AmrWbPayloads}
+use Rattle.codec_payload_buffer.specs.Pack.{Pack, G711Pack, G722Pack, OpusPack, NullPack, Vp8Pack, Vp9Pack, ComfortNoisePack, TelePack, Av1Pack, AmrWbPack}
 
 abbrev pub is_empty : List ℕ → Bool
 is_empty [] = true
@@ -27,6 +28,7 @@ is_skipped G722Pack mtu frame = is_empty frame || (mtu == 0)
 is_skipped OpusPack mtu frame = is_empty frame || (mtu == 0)
 is_skipped NullPack mtu frame = false
 is_skipped (Vp8Pack id) mtu frame = is_empty frame || nat_le mtu (header_size id)
+is_skipped (Vp9Pack sender) mtu frame = is_empty frame || nat_le mtu (reserve_in sender.mode)
 is_skipped ComfortNoisePack mtu frame = is_empty frame
 is_skipped TelePack mtu frame = is_empty frame
 is_skipped Av1Pack mtu frame = is_empty frame || nat_le mtu 1 || keeps_nothing (frame_kept frame)
@@ -44,6 +46,7 @@ refusal_of G722Pack mtu frame = None
 refusal_of OpusPack mtu frame = None
 refusal_of NullPack mtu frame = None
 refusal_of (Vp8Pack id) mtu frame = None
+refusal_of (Vp9Pack sender) mtu frame = None
 refusal_of ComfortNoisePack mtu frame = if nat_lt mtu (length frame) then Some 2 else None
 refusal_of TelePack mtu frame = if nat_lt mtu (length frame) then Some 2 else None
 refusal_of Av1Pack mtu frame = refusal_of_obus (frame_kept frame)
@@ -71,6 +74,7 @@ units_sent G722Pack mtu frame = each_whole (pieces_of mtu frame)
 units_sent OpusPack mtu frame = each_whole (pieces_of mtu frame)
 units_sent NullPack mtu frame = each_whole (frame ∷ [])
 units_sent (Vp8Pack id) mtu frame = each_whole (frame ∷ [])
+units_sent (Vp9Pack sender) mtu frame = each_whole (frame ∷ [])
 units_sent ComfortNoisePack mtu frame = each_whole (frame ∷ [])
 units_sent TelePack mtu frame = each_whole (take 4 frame ∷ [])
 units_sent Av1Pack mtu frame = canonical_obus (frame_kept frame) ∷ []
@@ -87,6 +91,7 @@ pack_after G722Pack mtu frame = G722Pack
 pack_after OpusPack mtu frame = OpusPack
 pack_after NullPack mtu frame = NullPack
 pack_after (Vp8Pack id) mtu frame = Vp8Pack (advanced (not (is_skipped (Vp8Pack id) mtu frame)) id)
+pack_after (Vp9Pack sender) mtu frame = Vp9Pack (sender_advanced (not (is_skipped (Vp9Pack sender) mtu frame)) (begun sender mtu frame))
 pack_after ComfortNoisePack mtu frame = ComfortNoisePack
 pack_after TelePack mtu frame = TelePack
 pack_after Av1Pack mtu frame = Av1Pack
@@ -99,6 +104,7 @@ payloads_by G722Pack = G711Payloads
 payloads_by OpusPack = OpusPayloads
 payloads_by NullPack = NullPayloads
 payloads_by (Vp8Pack id) = Vp8Payloads
+payloads_by (Vp9Pack sender) = Vp9Payloads
 payloads_by ComfortNoisePack = ComfortNoisePayloads
 payloads_by TelePack = TelePayloads
 payloads_by Av1Pack = Av1Payloads
@@ -111,6 +117,7 @@ may_split G722Pack = false
 may_split OpusPack = false
 may_split NullPack = false
 may_split (Vp8Pack id) = false
+may_split (Vp9Pack sender) = false
 may_split ComfortNoisePack = false
 may_split TelePack = false
 may_split Av1Pack = true

@@ -171,7 +171,7 @@ impl Payloader {
     /// specification gives, and payloads have the layout that it gives. `mode` and `first_id` are those of VP9: its mode, and the picture id of the first frame.
     pub fn new(spec: CodecSpec, mode: Vp9PacketizerMode, first_id: u16) -> Option<Self>
         requires { first_id ≤ 32767 }
-        ensures { result ≡ option_map (λ pack. record { pack = configured spec.octet_align pack; clock_rate = spec.clock_rate }) (pack_for spec.codec) }
+        ensures { result ≡ option_map (λ pack. record { pack = configured spec.octet_align pack; clock_rate = spec.clock_rate }) (pack_for mode first_id spec.codec) }
     {
         let mut pack = CodecPacketizer::new(spec.codec, mode, first_id)?;
         pack.configure_for(&spec);
