@@ -1,15 +1,16 @@
 //! RED payloads, written and read (RFC 2198, section 3).
 
-ghost use Rattle.std.specs.Prelude.{◌≡◌, ◌≤◌, ◌<◌, ◌*◌, ◌++◌, ◌%◌, false, nat_le, ◌&&◌, Some, IfErr, IfOk, IfSome, OnOk, IsErrOf, map, length, take, filter, MatchResult};
+ghost use Rattle.std.specs.Prelude.{◌≡◌, ◌≤◌, ◌<◌, ◌*◌, ◌++◌, ◌%◌, false, nat_le, ◌&&◌, Some, IfErr, IfOk, IfSome, OnOk, IsErrOf, IsTrue, is_some, map, length, take, filter, MatchResult};
 ghost use Rattle.std.specs.Iterator.{YieldsFirstRef, item_count};
 ghost use Rattle.std.specs.List.{flat_map};
 ghost use Rattle.codec_payload_base.specs.declared.error.PacketError.TheVariants.{ErrRedCorruptedPacket, OutOfMemory};
 ghost use Rattle.codec_payload_red.specs.RedPayload.{Red, IsRed, header_of, header, masked, fits, encoded, kept_of};
 ghost use Rattle.codec_payload_red.specs.RedReading.{count_at, block_at, blocks_at, red_at};
-ghost use Rattle.codec_payload_red.specs.RedBlocks.{blocks_of, blocks_in, older_of, redundant_of, Finds, Fails, Decodes, same_pt, same_pt_left};
+ghost use Rattle.codec_payload_red.specs.RedBlocks.{blocks_of, blocks_in, older_of, redundant_of, Finds, Fails, Decodes, same_pt};
 
 use codec_payload_base::error::PacketError;
 use std::alloc::{AllocError, Global};
+use std::marker::Model;
 
 /// The greatest timestamp offset that 14 bits hold, in ticks of the RTP clock.
 const MAX_OFFSET: u32 = 16_383;
@@ -109,22 +110,42 @@ fn block_of_header<'a>(headers: &[u8], bodies: &'a [u8]) -> Option<(RedBlock<'a>
     Some((block, behind))
 }
 
+/// Whether `bodies` has all bytes of the `count` blocks whose headers stand first.
+fn blocks_are_whole(count: usize, headers: &[u8], bodies: &[u8]) -> bool
+    requires { 4 * count < length headers.now }
+    ensures { result ≡ is_some (blocks_at count headers.now bodies.now) }
+{
+    let mut heads = headers;
+    let mut rest = bodies;
+    for _ in 0..count {
+        let Some((_, behind)) = block_of_header(heads, rest) else {
+            return false;
+        };
+        let (_, others) = heads.split_at(REDUNDANT_HEADER_LEN);
+        heads = others;
+        rest = behind;
+    }
+    true
+}
+
 /// The `count` blocks whose headers stand first, and the primary one.
 fn blocks_from<'a>(
     alloc: Global,
     count: usize,
     headers: &[u8],
     bodies: &'a [u8],
-) -> Result<Vec<RedBlock<'a>>, PacketError>
-    requires { 4 * count < length headers.now }
-    ensures { MatchResult result (λ v. Decodes (blocks_at count headers.now bodies.now) (blocks_of v.items)) (λ e. Fails e (blocks_at count headers.now bodies.now)) }
+) -> Result<Vec<RedBlock<'a>>, AllocError>
+    requires there { 4 * count < length headers.now }
+    requires few { count ≤ 32 }
+    requires whole { IsTrue (is_some (blocks_at count headers.now bodies.now)) }
+    ensures { IfOk result (λ v. Decodes (blocks_at count headers.now bodies.now) (blocks_of v.items)) }
 {
-    let mut found = Vec::new(alloc);
+    let mut found = Vec::with_capacity(alloc, count + 1)?;
     let mut heads = headers;
     let mut rest = bodies;
     for _ in 0..count {
         let Some((block, behind)) = block_of_header(heads, rest) else {
-            return Err(PacketError::ErrRedCorruptedPacket);
+            unreachable!()
         };
         found.push(block)?;
         let (_, others) = heads.split_at(REDUNDANT_HEADER_LEN);
@@ -239,7 +260,10 @@ fn decoded<'a>(alloc: Global, payload: &'a [u8]) -> Result<Vec<RedBlock<'a>>, Pa
         return Err(PacketError::ErrRedCorruptedPacket);
     };
     let (_, bodies) = payload.split_at(REDUNDANT_HEADER_LEN * count + 1);
-    blocks_from(alloc, count, payload, bodies)
+    if !blocks_are_whole(count, payload, bodies) {
+        return Err(PacketError::ErrRedCorruptedPacket);
+    }
+    Ok(blocks_from(alloc, count, payload, bodies)?)
 }
 
 /// Reads RED payloads.
@@ -250,9 +274,9 @@ impl RedDecoder {
     /// the payload; nothing is copied (RFC 2198, section 3).
     ///
     /// Fault 14, `ErrRedCorruptedPacket`, comes for all that is no RED payload: where the bytes end inside the headers,
-    /// where more than 32 redundant blocks are announced, and where a redundant block goes past the end. Any other
-    /// bytes are a RED payload, whatever was meant by them. Fault 17, `OutOfMemory`, comes where the list of blocks
-    /// finds no memory.
+    /// where more than 32 redundant blocks are announced, and where a redundant block goes past the end; no memory is
+    /// asked for then. Any other bytes are a RED payload, whatever was meant by them. Fault 17, `OutOfMemory`, comes
+    /// where the list of blocks of such a payload finds no memory.
     pub fn decode<'a>(alloc: Global, payload: &'a [u8]) -> Result<Vec<RedBlock<'a>>, PacketError>
         // The blocks are those of the payload, and encoding them gives its bytes.
         ensures payload { IfOk result (λ v. (r : Red) × IsRed payload.now r × (blocks_of v.items ≡ blocks_in r) × (encoded r.pt r.primary r.redundant ≡ payload.now)) }
@@ -271,9 +295,19 @@ pub struct SamePtBlocks<'a> {
     at: usize,
 }
 
+impl<'a> Model for SamePtBlocks<'a> {
+    ghost use Rattle.std.specs.Prelude.{List, drop};
+    ghost use Rattle.codec_payload_red.specs.declared.red.blocks.RedBlock.{RedBlock as Block};
+    ghost use Rattle.codec_payload_red.specs.RedBlocks.{same_pt};
+
+    ghost Value = { List Block };
+
+    ghost view = { λ s. same_pt s.pt (drop s.at s.blocks.now) };
+}
+
 /// Those of the blocks that have the payload type and a timestamp offset above 0, in order. It takes no memory.
 pub fn red_same_pt_blocks<'a>(blocks: &'a [RedBlock<'a>], pt: u8) -> SamePtBlocks<'a>
-    ensures { same_pt_left result ≡ same_pt pt blocks.now }
+    ensures { result ≡ same_pt pt blocks.now }
 {
     SamePtBlocks { blocks, pt, at: 0 }
 }
@@ -281,9 +315,9 @@ pub fn red_same_pt_blocks<'a>(blocks: &'a [RedBlock<'a>], pt: u8) -> SamePtBlock
 impl<'a> Iterator for SamePtBlocks<'a> {
     type Item = &'a RedBlock<'a>;
 
-    ghost next_gives = { YieldsFirstRef same_pt_left };
+    ghost next_gives = { YieldsFirstRef (λ blocks. blocks) };
 
-    ghost remaining = { item_count same_pt_left };
+    ghost remaining = { item_count (λ blocks. blocks) };
 
     fn next(&mut self) -> Option<&'a RedBlock<'a>> {
         while self.at < self.blocks.len() {
