@@ -178,7 +178,7 @@ impl Model for Distances {
 }
 
 impl Distances {
-    #[tactic(auto, using(crate::proofs::Sending::accepted_few))]
+    #[tactic(auto, using(crate::proofs::SenderHistoryLemmas::accepted_few))]
     fn from_list(distances: &[u32]) -> Self
         requires { IsTrue (is_accepted distances.now) }
         ensures { result ≡ distances.now }
@@ -266,7 +266,7 @@ impl RedSender {
 
     /// Takes over new payload types and distances. Of the history the newest payloads stay, as many as the new greatest
     /// distance. It takes no memory.
-    #[tactic(auto, using(crate::proofs::Sending::synced_is))]
+    #[tactic(auto, using(crate::proofs::SenderHistoryLemmas::synced_is))]
     pub fn sync(&mut self, red_pt: Pt, primary_pt: Pt, distances: &[u32])
         requires { IsTrue (is_accepted distances.now) }
         ensures { self.new ≡ synced self.old red_pt primary_pt distances.now }
@@ -285,7 +285,7 @@ impl RedSender {
     }
 
     /// What goes out for a payload.
-    #[tactic(auto, using(crate::proofs::Sending::output_is_red))]
+    #[tactic(auto, using(crate::proofs::SenderOutputLemmas::output_is_red))]
     fn output(&self, payload: &[u8], time: u32, budget: usize) -> Result<Vec<u8>, AllocError>
         ensures written { IfOk result (λ v. v.items ≡ output self.now payload.now time budget) }
         ensures payload { IfOk result (λ v. length payload.now < budget → IsRed v.items (wrapped self.now payload.now time budget)) }
@@ -332,7 +332,7 @@ impl RedSender {
     ///
     /// The only fault is 17, `OutOfMemory`, which leaves the sender as it was; the payload is then gone. The payload
     /// moves into the history and is copied once, into the answer, and so is each payload that is repeated.
-    #[tactic(auto, using(crate::proofs::Sending::output_bounded))]
+    #[tactic(auto, using(crate::proofs::SenderOutputLemmas::output_bounded))]
     pub fn wrap(
         &mut self,
         payload: Vec<u8>,

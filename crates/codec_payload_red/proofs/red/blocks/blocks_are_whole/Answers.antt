@@ -1,6 +1,5 @@
-use Rattle.std.proofs.Common.{◌≡◌, suc, ◌+◌, ◌-◌, ◌*◌, ◌<◌, length, is_some, sym, ap, ◌∙◌, arith}
-use Rattle.codec_payload_red.specs.RedReading.{blocks_at}
-use Rattle.codec_payload_red.proofs.Stepping.{some_none, some_one, some_last}
+use Rattle.std.proofs.Common.{◌≡◌, suc, ◌+◌, ◌-◌, ◌*◌, ◌<◌, length, sym, ◌∙◌, arith}
+use Rattle.codec_payload_red.proofs.DecoderLoopLemmas.{some_none, some_one, some_last}
 use Rattle.codec_payload_red.proofs.red.blocks.blocks_are_whole.Goals as goal
 
 pub returns-in_default : goal.returns-in_default

@@ -3,7 +3,7 @@ use Rattle.std.proofs.lemmas.List.{map_push}
 use Rattle.codec_payload_red.specs.RedPayload.{Red}
 use Rattle.codec_payload_red.specs.RedReading.{blocks_at}
 use Rattle.codec_payload_red.specs.RedBlocks.{block_of, blocks_of, older, older_of}
-use Rattle.codec_payload_red.proofs.Stepping.{none_there, one_there, all_there, blocks_and_primary}
+use Rattle.codec_payload_red.proofs.DecoderLoopLemmas.{none_there, one_there, all_there, blocks_and_primary}
 use Rattle.codec_payload_red.proofs.red.blocks.blocks_from.Goals as goal
 
 pub unreachable-requires : goal.unreachable-requires

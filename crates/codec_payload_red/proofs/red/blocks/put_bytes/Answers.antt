@@ -1,7 +1,7 @@
 use Rattle.std.proofs.Common.{◌≡◌, true, false, arith, rules}
 use Rattle.codec_payload_red.specs.RedPayload.{Redundant, fits}
 use Rattle.codec_payload_red.specs.RedBlocks.{redundant_of}
-use Rattle.codec_payload_red.proofs.Keeping.{kept_one, kept_none}
+use Rattle.codec_payload_red.proofs.EncoderLoopLemmas.{kept_one, kept_none}
 use Rattle.codec_payload_red.proofs.red.blocks.put_bytes.Goals as goal
 use Rattle.codec_payload_red.proofs.red.blocks.put_bytes.Goals.{then-left-gt0+then-fits+in_ok-extend_from_slice, else-left-gt0, else-left-gt0-via-then-left-gt0+else-fits, else-left-gt0-via-else-left-gt0}
 

@@ -1,7 +1,7 @@
 use Rattle.std.proofs.Common.{◌≡◌, length, true, false, arith, rules}
 use Rattle.codec_payload_red.specs.RedPayload.{fits, header}
 use Rattle.codec_payload_red.specs.RedBlocks.{redundant_of}
-use Rattle.codec_payload_red.proofs.Keeping.{kept_one, kept_none}
+use Rattle.codec_payload_red.proofs.EncoderLoopLemmas.{kept_one, kept_none}
 use Rattle.codec_payload_red.proofs.red.blocks.put_headers.Goals as goal
 use Rattle.codec_payload_red.proofs.red.blocks.put_headers.Goals.{then-left-gt0+then-fits+in_ok-put_header, else-left-gt0, else-left-gt0-via-then-left-gt0+else-fits, else-left-gt0-via-else-left-gt0}
 
