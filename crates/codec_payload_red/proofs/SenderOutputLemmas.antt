@@ -1,5 +1,5 @@
 -- What a sender sends keeps the budget, and is a RED payload.
-use Rattle.std.proofs.Common.{◌≡◌, ℕ, suc, ◌+◌, ◌%◌, ◌-◌, ◌<◌, ◌≤◌, List, [], ◌∷◌, ◌++◌, length, reverse, Option, Some, None, true, leb, refl, ap, arith, inl, inr, length-append}
+use Rattle.std.proofs.Common.{◌≡◌, ℕ, suc, ◌+◌, ◌%◌, ◌-◌, ◌<◌, ◌≤◌, List, [], ◌∷◌, ◌++◌, length, reverse, Option, Some, None, true, leb, refl, ap, arith, inl, inr, length-append, append_assoc}
 use Rattle.std.proofs.lemmas.Bool.{and_parts, cases_Bool, leb-true, lt-ltb}
 use Rattle.std.specs.Prelude.{sum_by}
 use Rattle.std.specs.List.{flat_map, cons_option, AllByRecursion}
@@ -101,3 +101,7 @@ pub output_is_red : (s : Sender) (payload : List ℕ) (time budget : ℕ) (items
 output_is_red s payload time budget items ok e some =
     let is : items ≡ spelling (wrapped s payload time budget) = rw (lt-ltb (length payload) budget some) at e in
     rw is (wrapped_is_red s payload time budget ok)
+
+pub written_in_order : (kept : List Redundant) (pt : ℕ) (primary none heads mid bytes all : List ℕ) → none ≡ [] → heads ≡ none ++ flat_map header kept → mid ≡ heads ++ pt ∷ [] → bytes ≡ mid ++ flat_map (λ b. b.bytes) kept → all ≡ bytes ++ primary
+    → all ≡ spelling (record { redundant = kept; pt = pt; primary = primary })
+written_in_order kept pt primary none heads mid bytes all a b c d e = rw (e, d, c, b, a) (simp append_assoc)

@@ -2,9 +2,11 @@
 use Rattle.std.specs.Prelude.{◌≡◌, ◌++◌, ℕ, Bool, true, false, ◌&&◌, ◌==◌, nat_lt, List, [], ◌∷◌, map, filter, Option, Some, None, is_some}
 use Rattle.codec_payload_base.specs.declared.error.PacketError.{PacketError}
 use Rattle.codec_payload_base.specs.declared.error.PacketError.TheVariants as faults
+use Rattle.codec_payload_red.specs.declared.red.blocks.BlockPart.{BlockPart}
+use Rattle.codec_payload_red.specs.declared.red.blocks.BlockPart.TheVariants as parts
 use Rattle.codec_payload_red.specs.declared.red.blocks.RedBlock.{RedBlock}
 use Rattle.codec_payload_red.specs.declared.red.blocks.RedundantBlock.{RedundantBlock}
-use Rattle.codec_payload_red.specs.RedPayload.{Redundant, Red}
+use Rattle.codec_payload_red.specs.RedPayload.{Redundant, Red, header}
 
 -- a block without where it lies
 pub record Block : Type 0 where
@@ -32,6 +34,11 @@ older_of b = record { pt = b.pt; offset = b.timestamp_offset; bytes = b.payload.
 
 abbrev pub redundant_of : RedundantBlock → Redundant
 redundant_of b = record { pt = b.pt; offset = b.timestamp_offset; bytes = b.payload.items }
+
+-- the header of a block, or its bytes
+abbrev pub part_of : BlockPart → Redundant → List ℕ
+part_of parts.Header b = header b
+part_of parts.Bytes b = b.bytes
 
 -- Seen by view, it is what reading finds.
 abbrev pub Finds : {X Y : Type 0} → (X → Y) → Option X → Option Y → Type 0

@@ -4,9 +4,9 @@ ghost use Rattle.std.specs.Prelude.{◌≡◌, ◌≤◌, ◌<◌, ◌*◌, ◌+
 ghost use Rattle.std.specs.Iterator.{YieldsFirstRef, item_count};
 ghost use Rattle.std.specs.List.{flat_map};
 ghost use Rattle.codec_payload_base.specs.declared.error.PacketError.TheVariants.{ErrRedCorruptedPacket, OutOfMemory};
-ghost use Rattle.codec_payload_red.specs.RedPayload.{Red, IsRed, header_of, header, masked, fits, encoded, kept_of};
+ghost use Rattle.codec_payload_red.specs.RedPayload.{Red, IsRed, header_of, masked, fits, encoded, kept_of};
 ghost use Rattle.codec_payload_red.specs.RedReading.{count_at, block_at, blocks_at, red_at};
-ghost use Rattle.codec_payload_red.specs.RedBlocks.{blocks_of, blocks_in, older_of, redundant_of, Finds, Fails, Decodes, same_pt};
+ghost use Rattle.codec_payload_red.specs.RedBlocks.{blocks_of, blocks_in, older_of, redundant_of, Finds, Fails, Decodes, part_of, same_pt};
 
 use codec_payload_base::error::PacketError;
 use std::alloc::{AllocError, Global};
@@ -161,8 +161,15 @@ fn blocks_from<'a>(
     Ok(found)
 }
 
+/// What is written of a block: a payload has the headers of all blocks before the bytes of all.
+#[derive(Clone, Copy, Debug)]
+pub(crate) enum BlockPart {
+    Header,
+    Bytes,
+}
+
 /// Writes the header of a redundant block: a set bit, 7 bits of type, 14 of offset and 10 of length.
-pub(crate) fn put_header(
+fn put_header(
     out: &mut Vec<u8>,
     pt: u8,
     offset: u32,
@@ -180,28 +187,36 @@ pub(crate) fn put_header(
     ])
 }
 
-/// Writes the headers of the first 32 blocks that fit.
-fn put_headers(out: &mut Vec<u8>, redundant: &[RedundantBlock]) -> Result<(), AllocError>
-    ensures { OnOk result (out.new.items ≡ out.old.items ++ flat_map header (map masked (take 32 (filter fits (map redundant_of redundant.now))))) }
+/// Writes one part of a redundant block.
+pub(crate) fn put_part(
+    out: &mut Vec<u8>,
+    part: BlockPart,
+    pt: u8,
+    offset: u32,
+    bytes: &[u8],
+) -> Result<(), AllocError>
+    requires low { offset ≤ 16383 }
+    requires short { length bytes.now ≤ 1023 }
+    ensures { OnOk result (out.new.items ≡ out.old.items ++ part_of part (record { pt = pt % 128; offset = offset; bytes = bytes.now })) }
 {
-    let mut left = MAX_REDUNDANT;
-    for block in redundant {
-        if left > 0 && block.fits() {
-            put_header(out, block.pt, block.timestamp_offset, block.payload.len())?;
-            left -= 1;
-        }
+    match part {
+        BlockPart::Header => put_header(out, pt, offset, bytes.len()),
+        BlockPart::Bytes => out.extend_from_slice(bytes),
     }
-    Ok(())
 }
 
-/// Writes the bytes of the first 32 blocks that fit.
-fn put_bytes(out: &mut Vec<u8>, redundant: &[RedundantBlock]) -> Result<(), AllocError>
-    ensures { OnOk result (out.new.items ≡ out.old.items ++ flat_map (λ b. b.bytes) (map masked (take 32 (filter fits (map redundant_of redundant.now))))) }
+/// Writes one part of each of the first 32 blocks that fit.
+fn put_parts(
+    out: &mut Vec<u8>,
+    part: BlockPart,
+    redundant: &[RedundantBlock],
+) -> Result<(), AllocError>
+    ensures { OnOk result (out.new.items ≡ out.old.items ++ flat_map (part_of part) (map masked (take 32 (filter fits (map redundant_of redundant.now))))) }
 {
     let mut left = MAX_REDUNDANT;
     for block in redundant {
         if left > 0 && block.fits() {
-            out.extend_from_slice(&block.payload)?;
+            put_part(out, part, block.pt, block.timestamp_offset, &block.payload)?;
             left -= 1;
         }
     }
@@ -218,9 +233,9 @@ fn encoded_bytes(
     ensures { IfOk result (λ v. v.items ≡ encoded primary_pt primary.now (map redundant_of redundant.now)) }
 {
     let mut out = Vec::new(alloc);
-    put_headers(&mut out, redundant)?;
+    put_parts(&mut out, BlockPart::Header, redundant)?;
     out.push(primary_pt % 128)?;
-    put_bytes(&mut out, redundant)?;
+    put_parts(&mut out, BlockPart::Bytes, redundant)?;
     out.extend_from_slice(primary)?;
     Ok(out)
 }
