@@ -5,6 +5,10 @@ use Rattle.codec_payload_base.specs.declared.error.PacketError.{PacketError}
 use Rattle.codec_payload_base.specs.declared.error.PacketError.TheVariants as faults
 use Rattle.codec_payload_base.specs.Bits.{bits, bits_of}
 
+abbrev pub bit_of : Bool → ℕ
+bit_of false = 0
+bit_of true = 1
+
 -- how many speech bits each frame type has; None for a reserved one
 abbrev pub speech_sizes : List (Option ℕ)
 speech_sizes =

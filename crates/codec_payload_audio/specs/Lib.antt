@@ -1,3 +1,4 @@
 pub mod AmrWb
+pub mod AmrWbEntries
 pub mod AmrWbReceived
 pub mod Payloads

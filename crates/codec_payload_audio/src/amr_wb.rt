@@ -8,6 +8,7 @@ ghost use Rattle.codec_payload_audio.specs.AmrWb.{speech_size};
 
 mod receive;
 mod send;
+mod toc;
 
 pub use receive::AmrWbDepacketizer;
 pub use send::AmrWbPacketizer;
