@@ -1,7 +1,8 @@
 -- Lemmas on a whole payload.
-use Rattle.std.proofs.Common.{◌≡◌, ℕ, ◌-◌, ◌*◌, ◌%◌, ◌<◌, ◌≤◌, min, List, [], ◌∷◌, ◌++◌, length, drop, refl, sym, ◌∙◌, ap, arith, Ok, Err, Result, Bool, true, false, cond, inl, inr, ◌≢◌}
+use Rattle.std.proofs.Common.{◌≡◌, ℕ, ◌-◌, ◌*◌, ◌%◌, ◌<◌, ◌≤◌, min, List, [], ◌∷◌, ◌++◌, length, drop, refl, sym, ◌∙◌, ap, arith, Ok, Err, Result, Bool, true, false, cond, inl, inr}
 use Rattle.std.specs.Prelude.{OnOk, IfErr}
 use Rattle.std.proofs.lemmas.Bool.{lt-ltb, le-ltb, cases_lt}
+use Rattle.codec_payload_base.proofs.FaultLemmas.{only_memory}
 use Rattle.codec_payload_base.specs.Bits.{Reader, bits, bits_of, left}
 use Rattle.codec_payload_base.proofs.BitLemmas.{length_left}
 use Rattle.codec_payload_base.specs.declared.error.PacketError.{PacketError}
@@ -70,10 +71,6 @@ module _ (octet : Bool) (packet : List ℕ) (reader : Reader) (some : 0 < length
 
     ok_or_err : (frames : List ℕ) (e : PacketError) → ◌≡◌ {A = Result (List ℕ) PacketError} (Ok frames) (Err e) → ⊥
     ok_or_err frames e h = cc
-
-    only_memory : (e : PacketError) → (e ≢ faults.OutOfMemory → ⊥) → e ≡ faults.OutOfMemory
-    only_memory faults.OutOfMemory h = refl
-    only_memory e h = absurd (h (λ same. cc))
 
     pub fails_for_memory : (frames : List ℕ) (e : PacketError) → received octet (bits_of packet) ≡ Ok frames → FailsAs e (frames_of octet (entries_at octet (left reader)) now) → e ≡ faults.OutOfMemory
     fails_for_memory frames e is fails = only_memory e (λ other. ok_or_err frames e (sym is ∙ frames_fail_so e (fails other)))

@@ -9,16 +9,11 @@ use Rattle.std.proofs.lemmas.List.{take_at, drop_at, drop_all, length-replicate,
 use Rattle.codec_payload_base.specs.Bits.{bits, bits_of}
 use Rattle.codec_payload_base.proofs.BitLemmas.{length-bits_of}
 use Rattle.codec_payload_base.specs.declared.error.PacketError.{PacketError}
-use Rattle.codec_payload_audio.specs.AmrWb.{Frame, AnswersAmrWb, AnswersFrame, frame_from, sized, stored, speech_size, gap, entry, canonical, payload}
+use Rattle.codec_payload_audio.specs.AmrWb.{Frame, IsFrame, AnswersAmrWb, AnswersFrame, frame_from, sized, stored, speech_size, gap, entry, canonical, payload}
 use Rattle.codec_payload_audio.specs.AmrWbReceived.{entries_at, entry_from, frames_at, whole, received, CarriesCanonical}
 
 gap_sixteen : (n : ℕ) → gap (16 + n) ≡ gap n
 gap_sixteen n = omega arith
-
-pub record IsFrame (f : Frame) : Type 0 where
-  pub kind : f.kind < 16
-  pub quality : f.quality < 2
-  pub size : speech_size f.kind ≡ Some (length f.speech)
 
 gap_below : (n : ℕ) → gap n < 8
 gap_below n = omega arith

@@ -30,6 +30,12 @@ pub record Frame : Type 0 where
   pub quality : ℕ
   pub speech : List ℕ
 
+-- a frame as there are: its type is not reserved, and it has as many speech bits as that has
+pub record IsFrame (f : Frame) : Type 0 where
+  pub kind : f.kind < 16
+  pub quality : f.quality < 2
+  pub size : speech_size f.kind ≡ Some (length f.speech)
+
 -- an entry of the table of contents: no further frame, the type, the quality
 abbrev pub entry : Frame → List ℕ
 entry f = bits 1 0 ++ bits 4 f.kind ++ bits 1 f.quality

@@ -5,6 +5,7 @@
 
 ghost use Rattle.std.specs.Prelude.{◌≡◌, ◌<◌, false};
 ghost use Rattle.codec_payload_audio.specs.AmrWb.{speech_size};
+ghost use Rattle.codec_payload_audio.specs.AmrWbPayload.{ReceivedIsSpelled, SpelledIsReceived};
 
 mod receive;
 mod send;
@@ -20,6 +21,14 @@ pub fn defaults_of_amr_wb() -> (AmrWbPacketizer, AmrWbDepacketizer)
 {
     (AmrWbPacketizer::default(), AmrWbDepacketizer::default())
 }
+
+/// A payload that is spelled from a mode request, a table of contents and the speech of its entries, with any bits where
+/// their value means nothing, is received as those frames, each in canonical form; and whatever is received was spelled
+/// so (RFC 4867, sections 4.3 and 4.4).
+pub fn payloads_follow_the_grammar()
+    ensures received { SpelledIsReceived }
+    ensures spelled { ReceivedIsSpelled }
+{}
 
 /// How many speech bits each frame type has; `None` for a reserved one. Types 14 and 15 stand for a lost frame and for a
 /// frame without data (3GPP TS 26.201, table 1a).

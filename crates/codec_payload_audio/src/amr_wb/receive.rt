@@ -1,6 +1,6 @@
 //! AMR-WB payloads as frames.
 
-ghost use Rattle.std.specs.Prelude.{◌≡◌, ℕ, ◌+◌, ◌*◌, ◌/◌, ◌%◌, ◌<◌, ◌≤◌, ◌++◌, length, take, drop, IfErr, OnOk, MatchResult, IsTrue, if◌then◌else◌, List, Some, true, Ok, Err};
+ghost use Rattle.std.specs.Prelude.{◌≡◌, ◌↔◌, ℕ, ◌+◌, ◌*◌, ◌/◌, ◌%◌, ◌<◌, ◌≤◌, ◌++◌, length, take, drop, IfErr, OnOk, MatchResult, IsTrue, if◌then◌else◌, List, Some, true, Ok, Err};
 ghost use Rattle.codec_payload_base.specs.Bits.{bits_of, left, moved};
 ghost use Rattle.codec_payload_base.specs.declared.error.PacketError.TheVariants.{OutOfMemory};
 ghost use Rattle.codec_payload_audio.specs.AmrWb.{gap, layout, speech_size, padded};
@@ -81,10 +81,17 @@ fn check_payload(octet_align: bool, packet: &[u8]) -> Result<usize, PacketError>
     let mut speech = behind_request(octet_align, packet);
     skip_entries(&mut speech, octet_align)?;
     let storage_size = skip_frames(&mut toc, &mut speech, octet_align)?;
-    if speech.remaining_bits() >= 8 {
+    if !less_than_a_byte_is_left(&speech) {
         return Err(PacketError::ErrAmrWbCorruptedPacket);
     }
     Ok(storage_size)
+}
+
+/// Whether fewer than eight bits are left.
+fn less_than_a_byte_is_left<'a>(reader: &BitReader<'a>) -> bool
+    ensures { IsTrue result ↔ (length (left reader.now) < 8) }
+{
+    reader.remaining_bits() < 8
 }
 
 /// Appends the frames of a payload that was checked; after a refusal some of them may be there.
