@@ -324,8 +324,7 @@ bytes_received octet payload frames some h =
     let (rest, speaks, few) = split_whole frames (frames_at octet es now) rest_of in
     let found = entries_found octet (drop k all) es now (all_drop k all (bits_of_are payload)) read in
     let sum : length all - k ≡ length found.entries + length now = sym (length-drop k all) ∙ ap length found.is ∙ length-append found.entries now in
-    let given = speech_found octet es now frames rest found.small (whole_now octet (length all) (length payload) (length found.entries) (length now) size some sum found.whole) speaks in
-    (
+    let given = speech_found octet es now frames rest found.small (whole_now octet (length all) (length payload) (length found.entries) (length now) size some sum found.whole) speaks in (
       given.fs,
       record {
         request = take k all;

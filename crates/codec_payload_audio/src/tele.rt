@@ -1,6 +1,6 @@
 //! Telephone events (RFC 4733).
 
-ghost use Rattle.std.specs.Prelude.{◌≡◌, ◌%◌, length, min, [], ◌∷◌, Some, true, false, ⊤};
+ghost use Rattle.std.specs.Prelude.{◌≡◌, min, [], ◌∷◌, Some, true, false, ⊤};
 ghost use Rattle.codec_payload_audio.specs.Payloads.{AnswersWhole};
 ghost use Rattle.codec_payload_base.specs.TelephoneReport.{first_report as first_report_of, TeleStep};
 

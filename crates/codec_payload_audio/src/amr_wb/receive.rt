@@ -1,6 +1,6 @@
 //! AMR-WB payloads as frames.
 
-ghost use Rattle.std.specs.Prelude.{◌≡◌, ◌↔◌, ℕ, ◌+◌, ◌*◌, ◌/◌, ◌%◌, ◌<◌, ◌≤◌, ◌++◌, length, take, drop, IfErr, OnOk, MatchResult, IsTrue, if◌then◌else◌, List, Some, true, Ok, Err};
+ghost use Rattle.std.specs.Prelude.{◌≡◌, ◌↔◌, ℕ, ◌+◌, ◌*◌, ◌%◌, ◌<◌, ◌≤◌, ◌++◌, length, take, drop, IfErr, OnOk, MatchResult, IsTrue, if◌then◌else◌, List, Some, true, Ok, Err};
 ghost use Rattle.codec_payload_base.specs.Bits.{bits_of, left, moved};
 ghost use Rattle.codec_payload_base.specs.declared.error.PacketError.TheVariants.{OutOfMemory};
 ghost use Rattle.codec_payload_audio.specs.AmrWb.{gap, layout, speech_size, padded};

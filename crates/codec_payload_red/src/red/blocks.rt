@@ -169,12 +169,7 @@ pub(crate) enum BlockPart {
 }
 
 /// Writes the header of a redundant block: a set bit, 7 bits of type, 14 of offset and 10 of length.
-fn put_header(
-    out: &mut Vec<u8>,
-    pt: u8,
-    offset: u32,
-    len: usize,
-) -> Result<(), AllocError>
+fn put_header(out: &mut Vec<u8>, pt: u8, offset: u32, len: usize) -> Result<(), AllocError>
     requires low { offset ≤ 16383 }
     requires short { len ≤ 1023 }
     ensures written { OnOk result (out.new.items ≡ out.old.items ++ header_of (pt % 128) offset len) }
