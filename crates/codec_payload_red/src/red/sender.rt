@@ -128,6 +128,7 @@ fn put_levels(
 }
 
 /// The levels that the budget has room for, deepest first, and the payload behind them.
+#[tactic(auto, using(crate::proofs::SenderOutputLemmas::written_in_order))]
 fn wrapped_bytes(
     alloc: Global,
     history: &VecDeque<SentPayload>,
