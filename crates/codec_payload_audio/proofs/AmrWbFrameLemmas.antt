@@ -1,14 +1,15 @@
 -- Lemmas on the read of one frame.
-use Rattle.std.proofs.Common.{◌≡◌, ℕ, ◌+◌, ◌*◌, ◌/◌, ◌%◌, ◌^◌, ◌<◌, ◌≤◌, List, [], ◌∷◌, ◌++◌, length, take, drop, replicate, refl, sym, ◌∙◌, ap, arith, append_assoc, length-append, length-drop, Option, Some, None, Bool, true, false, cond}
-use Rattle.std.specs.Int.Bits.{bit_and}
-use Rattle.std.proofs.lemmas.Nat.{and_mask}
-use Rattle.std.proofs.lemmas.Bool.{le-ltb}
+use Rattle.std.proofs.Common.{◌≡◌, ℕ, ◌+◌, ◌*◌, ◌/◌, ◌%◌, ◌^◌, ◌<◌, ◌≤◌, List, [], ◌∷◌, ◌++◌, length, take, drop, replicate, refl, sym, ◌∙◌, ap, arith, append_assoc, length-append, length-drop, Option, Some, None, Ok, Err, Bool, true, false, cond}
+use Rattle.std.proofs.lemmas.Bool.{le-ltb, lt-ltb}
 use Rattle.std.proofs.Math.Nat.{add-zero}
 use Rattle.std.proofs.lemmas.List.{drop-drop}
 use Rattle.codec_payload_base.specs.Bits.{Reader, bits, bits_of, left, moved, ReadsBits}
 use Rattle.codec_payload_base.proofs.BitLemmas.{bits-same, bits-split, length-bits}
-use Rattle.codec_payload_audio.specs.AmrWb.{Frame, gap, padded, entry}
-use Rattle.codec_payload_audio.specs.AmrWbReceived.{entry_of, frame_at, Gains}
+use Rattle.codec_payload_audio.specs.AmrWb.{Frame, bit_of, gap, padded, entry, canonical, speech_size}
+use Rattle.codec_payload_audio.specs.declared.amr_wb.toc.TocEntry.{TocEntry}
+use Rattle.codec_payload_audio.specs.AmrWbReceived.{frame_at, Gains}
+use Rattle.codec_payload_audio.specs.AmrWbEntries.{entry_of}
+use Rattle.codec_payload_base.specs.declared.error.PacketError.TheVariants as faults
 use Rattle.codec_payload_audio.proofs.AmrWbCopyLemmas.{bits_of-push}
 use Rattle.codec_payload_audio.proofs.AmrWbPayloadLemmas.{entry_is}
 
@@ -21,29 +22,33 @@ padded-byte xs ys size =
     let same : gap (length (xs ++ ys)) ≡ gap (length ys) = ap gap (length-append xs ys) ∙ eight (length xs) (length ys) size in
     ap (λ t. (xs ++ ys) ++ replicate t 0) same ∙ append_assoc xs ys (replicate (gap (length ys)) 0)
 
-pub header_bits : (e : ℕ) (speech : List ℕ) → e < 64 → bits 8 (bit_and e 31 * 4 % 256) ≡ entry (record { kind = e / 2 % 16; quality = e % 2; speech = speech }) ++ bits 2 0
-header_bits e speech small =
-    let toc : ℕ = e % 32 * 4 in
-    let value : bit_and e 31 * 4 % 256 ≡ toc = ap (λ t. t * 4 % 256) (and_mask e 5) ∙ omega arith in
+header_bits : (k q : ℕ) (speech : List ℕ) → k < 16 → q < 2 → bits 8 (8 * k + 4 * q) ≡ entry (record { kind = k; quality = q; speech = speech }) ++ bits 2 0
+header_bits k q speech four one =
+    let toc : ℕ = 8 * k + 4 * q in
     let clear : toc % 2 ^ 2 ≡ 0 % 2 ^ 2 = omega arith in
-    let kind : toc / 8 % 16 ≡ e / 2 % 16 = omega arith in
-    let quality : toc / 4 % 2 ≡ e % 2 = omega arith in
-    ap (bits 8) value
-    ∙ bits-split 2 6 toc
+    let kind : toc / 8 % 16 ≡ k = omega arith in
+    let quality : toc / 4 % 2 ≡ q = omega arith in
+    bits-split 2 6 toc
     ∙ ap (λ t. t ++ bits 2 toc) (entry_is toc 0 [] (omega arith))
     ∙ ap (λ t. (bits 1 0 ++ bits 4 (toc / 8 % 16) ++ bits 1 (toc / 4 % 2)) ++ t) (bits-same 2 toc 0 clear)
     ∙ ap (λ k. (bits 1 0 ++ bits 4 k ++ bits 1 (toc / 4 % 2)) ++ bits 2 0) kind
-    ∙ ap (λ q. (bits 1 0 ++ bits 4 (e / 2 % 16) ++ bits 1 q) ++ bits 2 0) quality
+    ∙ ap (λ q. (bits 1 0 ++ bits 4 k ++ bits 1 q) ++ bits 2 0) quality
 
-pub frame_gains : (octet : Bool) (e n : ℕ) (bs rest out mid new : List ℕ) → e < 64 → mid ≡ out ++ (bit_and e 31 * 4 % 256) ∷ [] → bits_of new ≡ bits_of mid ++ padded (take n bs) → n ≤ length bs
+bit_small : (b : Bool) → bit_of b < 2
+bit_small true = omega arith
+bit_small false = omega arith
+
+pub frame_gains : (octet : Bool) (e : TocEntry) (n : ℕ) (bs rest out mid new : List ℕ) → e.frame_type < 16 → mid ≡ out ++ (8 * e.frame_type + 4 * bit_of e.quality) ∷ [] → bits_of new ≡ bits_of mid ++ padded (take n bs) → n ≤ length bs
     → rest ≡ drop (cond octet (n + gap n) n) bs → Gains out new rest (frame_at octet (entry_of e) bs (Some n))
 frame_gains octet e n bs rest out mid new small pushed copied within skipped =
     let speech : List ℕ = take n bs in
-    let f : Frame = record { kind = e / 2 % 16; quality = e % 2; speech = speech } in
-    let size : length (entry f ++ bits 2 0) ≡ 8 = sym (ap length (header_bits e speech small)) ∙ length-bits 8 (bit_and e 31 * 4 % 256) in
+    let q : ℕ = bit_of e.quality in
+    let f : Frame = record { kind = e.frame_type; quality = q; speech = speech } in
+    let header = header_bits e.frame_type q speech small (bit_small e.quality) in
+    let size : length (entry f ++ bits 2 0) ≡ 8 = sym (ap length header) ∙ length-bits 8 (8 * e.frame_type + 4 * q) in
     rw (le-ltb (length bs) n within) (
       copied
-          ∙ ap (λ t. t ++ padded speech) (ap bits_of pushed ∙ bits_of-push out (bit_and e 31 * 4 % 256) ∙ ap (λ t. bits_of out ++ t) (header_bits e speech small))
+          ∙ ap (λ t. t ++ padded speech) (ap bits_of pushed ∙ bits_of-push out (8 * e.frame_type + 4 * q) ∙ ap (λ t. bits_of out ++ t) header)
           ∙ append_assoc (bits_of out) (entry f ++ bits 2 0) (padded speech)
           ∙ ap (λ t. bits_of out ++ t) (sym (padded-byte (entry f ++ bits 2 0) speech size)),
       skipped,
@@ -86,3 +91,14 @@ whole_now old now n e within whole = omega (arith, ap length (plain_rest old now
 
 pub whole_after : (n : ℕ) (now new : List ℕ) → (length now + n) % 8 ≡ 0 → new ≡ drop (gap n) now → length new % 8 ≡ 0
 whole_after n now new whole e = omega (arith, ap length e, length-drop (gap n) now)
+
+-- speech that is there, and speech that is not
+pub frame_there : (octet : Bool) (e : TocEntry) (n : ℕ) (bs rest : List ℕ) → speech_size e.frame_type ≡ Some n → n ≤ length bs → rest ≡ drop (cond octet (n + gap n) n) bs → (frame : List ℕ) × (frame_at octet (entry_of e) bs (speech_size e.frame_type) ≡ Ok (frame, rest))
+frame_there octet e n bs rest size within skipped =
+    (canonical (record { kind = e.frame_type; quality = bit_of e.quality; speech = take n bs }), rw (size, le-ltb (length bs) n within, skipped) refl)
+
+pub frame_short : (octet : Bool) (e : TocEntry) (n : ℕ) (bs : List ℕ) → speech_size e.frame_type ≡ Some n → length bs < n → frame_at octet (entry_of e) bs (speech_size e.frame_type) ≡ Err faults.ErrShortPacket
+frame_short octet e n bs size short = rw (size, lt-ltb (length bs) n short) refl
+
+pub frame_reserved : (octet : Bool) (e : TocEntry) (bs : List ℕ) → speech_size e.frame_type ≡ None → frame_at octet (entry_of e) bs (speech_size e.frame_type) ≡ Err faults.ErrAmrWbCorruptedPacket
+frame_reserved octet e bs none = rw none refl

@@ -4,6 +4,7 @@ use Rattle.std.specs.Int.{div_ceil}
 use Rattle.std.specs.Int.Bits.{bit_and}
 use Rattle.codec_payload_base.proofs.ByteTables.{and_124}
 use Rattle.codec_payload_base.specs.declared.error.PacketError.TheVariants as faults
+use Rattle.std.proofs.lemmas.Bool.{lt-ltb, le-ltb}
 use Rattle.std.proofs.lemmas.Nat.{and_mask}
 use Rattle.std.proofs.lemmas.List.{take-append-le, length-replicate, length-take-le}
 use Rattle.std.proofs.Math.Seq.{take-append-add}
@@ -96,10 +97,13 @@ module _ (octet : Bool) (mtu first n size : ℕ) (rest : List ℕ) (within : n �
   total = omega (arith, payload-length octet first n rest within)
 
   pub frame_too_large : mtu < size → AnswersFrame octet mtu (frame_from first n rest) (Err faults.ErrPayloadTooLarge)
-  frame_too_large long = (λ _. refl, λ fits. absurd (omega (arith, fits, total)))
+  frame_too_large long = let over : 8 * mtu < length (payload octet (frame_from first n rest)) = omega (arith, total) in rw (lt-ltb (8 * mtu) (length (payload octet (frame_from first n rest))) over) refl
+
+  fits : size ≤ mtu → length (payload octet (frame_from first n rest)) ≤ 8 * mtu
+  fits short = omega (arith, total)
 
   pub frame_for_memory : size ≤ mtu → AnswersFrame octet mtu (frame_from first n rest) (Err faults.OutOfMemory)
-  frame_for_memory short = (λ long. absurd (omega (arith, long, total)), λ _. refl)
+  frame_for_memory short = rw (le-ltb (8 * mtu) (length (payload octet (frame_from first n rest))) (fits short)) refl
 
   pub frame_sent : size ≤ mtu → (p : List ℕ) → bits_of p ≡ payload octet (frame_from first n rest) → AnswersFrame octet mtu (frame_from first n rest) (Ok (p ∷ []))
-  frame_sent short p same = (p, refl, same, omega (arith, length-bits_of p, ap length same, total))
+  frame_sent short p same = rw (le-ltb (8 * mtu) (length (payload octet (frame_from first n rest))) (fits short)) (p, refl, same, omega (arith, length-bits_of p, ap length same, total))

@@ -1,24 +1,20 @@
 -- The payload of a frame gives its canonical form back.
-use Rattle.std.proofs.Common.{◌≡◌, ℕ, ◌+◌, ◌*◌, ◌/◌, ◌%◌, ◌<◌, ◌≤◌, List, [], ◌∷◌, ◌++◌, length, drop, replicate, refl, sym, ◌∙◌, ap, arith, append-nil, length-append, subst, cond, eqb, Option, Some, None, Ok, Err, Result, Bool, true, false, ltb, IfOk, ◌≢◌}
+use Rattle.std.proofs.Common.{◌≡◌, ℕ, ◌+◌, ◌*◌, ◌/◌, ◌%◌, ◌<◌, ◌≤◌, List, [], ◌∷◌, ◌++◌, length, drop, replicate, refl, sym, ◌∙◌, ap, arith, append-nil, length-append, subst, cond, eqb, Option, Some, None, Ok, Err, Result, Bool, true, false, ltb, IfOk, ◌≢◌, inl, inr}
 use Rattle.std.specs.Int.{div_ceil}
 use Rattle.std.specs.Int.Bits.{bit_and}
 use Rattle.std.proofs.lemmas.Nat.{and_mask}
 use Rattle.codec_payload_audio.proofs.AmrWbPayloadLemmas.{toc_frame, stored_is}
-use Rattle.std.proofs.lemmas.Bool.{lt-ltb, le-ltb, eqb-true}
+use Rattle.std.proofs.lemmas.Bool.{lt-ltb, le-ltb, eqb-true, ne_eqb, cases_Bool}
 use Rattle.std.proofs.lemmas.List.{take_at, drop_at, drop_all, length-replicate, length-take-le}
 use Rattle.codec_payload_base.specs.Bits.{bits, bits_of}
 use Rattle.codec_payload_base.proofs.BitLemmas.{length-bits_of}
 use Rattle.codec_payload_base.specs.declared.error.PacketError.{PacketError}
-use Rattle.codec_payload_audio.specs.AmrWb.{Frame, AnswersAmrWb, AnswersFrame, frame_from, sized, stored, speech_size, gap, entry, canonical, payload}
+use Rattle.codec_payload_base.specs.declared.error.PacketError.TheVariants as faults
+use Rattle.codec_payload_audio.specs.AmrWb.{Frame, IsFrame, IsPacketOf, AnswersAmrWb, AnswersFrame, frame_from, sized, stored, speech_size, gap, entry, canonical, payload}
 use Rattle.codec_payload_audio.specs.AmrWbReceived.{entries_at, entry_from, frames_at, whole, received, CarriesCanonical}
 
 gap_sixteen : (n : ℕ) → gap (16 + n) ≡ gap n
 gap_sixteen n = omega arith
-
-pub record IsFrame (f : Frame) : Type 0 where
-  pub kind : f.kind < 16
-  pub quality : f.quality < 2
-  pub size : speech_size f.kind ≡ Some (length f.speech)
 
 gap_below : (n : ℕ) → gap n < 8
 gap_below n = omega arith
@@ -75,11 +71,17 @@ is_frame first n rest size within = record {
 }
 
 -- the packet of a frame carries its canonical form
-carries : (octet : Bool) (mtu : ℕ) (f : Frame) (packets : List (List ℕ)) → IsFrame f → AnswersFrame octet mtu f (Ok packets) → CarriesCanonical octet (Some f) packets
+carries : (octet : Bool) (mtu : ℕ) (f : Frame) (packets : List (List ℕ)) → IsFrame f → IsPacketOf octet mtu (Some f) packets → CarriesCanonical octet (Some f) packets
 carries octet mtu f [] is answer = tt
 carries octet mtu f (p ∷ packets) is (packet, same, spelled, short) =
     let first : p ≡ packet = cc in
     ap (λ t. received octet (bits_of t)) first ∙ ap (received octet) spelled ∙ received_again octet f is
+
+if_sent : (octet : Bool) (mtu : ℕ) (f : Frame) (packets : List (List ℕ)) → AnswersFrame octet mtu f (Ok packets) → IsPacketOf octet mtu (Some f) packets
+if_sent octet mtu f packets answer = elim (cases_Bool (ltb (8 * mtu) (length (payload octet f)))) [
+  | inl over ↦ let bad : ◌≡◌ {A = Result (List (List ℕ)) PacketError} (Ok packets) (Err faults.ErrPayloadTooLarge) = rw over at answer in cc
+  | inr fits ↦ rw fits at answer
+]
 
 -- the answer for the frame that was stored
 module _ (octet : Bool) (mtu first n : ℕ) (bytes rest : List ℕ) (e : bytes ≡ first ∷ rest) (size : speech_size (bit_and (first / 8) 15) ≡ Some n) (whole : length rest ≡ div_ceil n 8) (small : first < 256) (within : n ≤ 8 * length rest) where
@@ -93,10 +95,10 @@ module _ (octet : Bool) (mtu first n : ℕ) (bytes rest : List ℕ) (e : bytes �
   frame_answer r answer = rw (toc_frame first n rest small) at answer
 
   pub stored_answer : bit_and (first / 8) 15 ≢ 15 → (r : Result (List (List ℕ)) PacketError) → AnswersFrame octet mtu (frame_from (bit_and first 124) n rest) r → AnswersAmrWb octet mtu bytes r
-  stored_answer other r answer = rw (e, rw e at is_stored) (λ none. absurd (other (kind_is ∙ none)), λ _. frame_answer r answer)
+  stored_answer other r answer = rw (e, rw e at is_stored, ne_eqb (first / 8 % 16) 15 (λ none. other (kind_is ∙ none))) (frame_answer r answer)
 
   carries_if : (r : Result (List (List ℕ)) PacketError) → AnswersFrame octet mtu (frame_from first n rest) r → IfOk r (λ packets. CarriesCanonical octet (Some (frame_from first n rest)) packets)
-  carries_if (Ok packets) answer = carries octet mtu (frame_from first n rest) packets (is_frame first n rest (ap speech_size (sym kind_is) ∙ size) within) answer
+  carries_if (Ok packets) answer = carries octet mtu (frame_from first n rest) packets (is_frame first n rest (ap speech_size (sym kind_is) ∙ size) within) (if_sent octet mtu (frame_from first n rest) packets answer)
   carries_if (Err fault) answer = tt
 
   pub stored_carries : (r : Result (List (List ℕ)) PacketError) → AnswersFrame octet mtu (frame_from (bit_and first 124) n rest) r → IfOk r (λ packets. CarriesCanonical octet (stored bytes) packets)

@@ -2,6 +2,7 @@ pub mod AmrWbCopyLemmas
 pub mod AmrWbEntryLemmas
 pub mod AmrWbFrameLemmas
 pub mod AmrWbFramesLemmas
+pub mod AmrWbGrammarLemmas
 pub mod AmrWbPayloadLemmas
 pub mod AmrWbReadLemmas
 pub mod AmrWbReceivedLemmas

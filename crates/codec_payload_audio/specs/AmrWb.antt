@@ -1,9 +1,14 @@
 -- AMR-WB frames and payloads as bits (RFC 4867).
-use Rattle.std.specs.Prelude.{◌≡◌, ◌≢◌, ℕ, ◌-◌, ◌*◌, ◌/◌, ◌%◌, ◌<◌, ◌≤◌, ◌==◌, nat_lt, Bool, true, false, if◌then◌else◌, List, [], ◌∷◌, ◌++◌, length, take, replicate, slice_index_or, Option, Some, None, Result, Ok, Err}
+use Rattle.std.specs.Prelude.{◌≡◌, ℕ, ◌-◌, ◌*◌, ◌/◌, ◌%◌, ◌<◌, ◌≤◌, ◌==◌, nat_lt, Bool, true, false, if◌then◌else◌, List, [], ◌∷◌, ◌++◌, length, take, replicate, slice_index_or, Option, Some, None, Result}
 use Rattle.std.specs.Int.{div_ceil}
 use Rattle.codec_payload_base.specs.declared.error.PacketError.{PacketError}
 use Rattle.codec_payload_base.specs.declared.error.PacketError.TheVariants as faults
+use Rattle.codec_payload_base.specs.Answers.{AnswersBy}
 use Rattle.codec_payload_base.specs.Bits.{bits, bits_of}
+
+abbrev pub bit_of : Bool → ℕ
+bit_of false = 0
+bit_of true = 1
 
 -- how many speech bits each frame type has; None for a reserved one
 abbrev pub speech_sizes : List (Option ℕ)
@@ -25,6 +30,12 @@ pub record Frame : Type 0 where
   pub kind : ℕ
   pub quality : ℕ
   pub speech : List ℕ
+
+-- a frame as there are: its type is not reserved, and it has as many speech bits as that has
+pub record IsFrame (f : Frame) : Type 0 where
+  pub kind : f.kind < 16
+  pub quality : f.quality < 2
+  pub size : speech_size f.kind ≡ Some (length f.speech)
 
 -- an entry of the table of contents: no further frame, the type, the quality
 abbrev pub entry : Frame → List ℕ
@@ -62,22 +73,7 @@ layout true = 1 ∷ []
 abbrev pub no_data : ℕ
 no_data = 15
 
--- the one packet of a frame with data; a payload longer than the MTU is too large
-abbrev pub AnswersFrame : Bool → ℕ → Frame → Result (List (List ℕ)) PacketError → Type 0
-AnswersFrame octet mtu f (Ok packets) = (packet : List ℕ) × (packets ≡ packet ∷ []) × (bits_of packet ≡ payload octet f) × (length packet ≤ mtu)
-AnswersFrame octet mtu f (Err fault) = (8 * mtu < length (payload octet f) → fault ≡ faults.ErrPayloadTooLarge) × (length (payload octet f) ≤ 8 * mtu → fault ≡ faults.OutOfMemory)
-
-abbrev pub AnswersStored : Bool → ℕ → Option Frame → Result (List (List ℕ)) PacketError → Type 0
-AnswersStored octet mtu None answer = answer ≡ Err faults.ErrAmrWbCorruptedPacket
-AnswersStored octet mtu (Some f) answer = (f.kind ≡ no_data → answer ≡ Ok []) × (f.kind ≢ no_data → AnswersFrame octet mtu f answer)
-
--- what the packetizer answers: no packets for no bytes and for a frame without data, and then no memory is taken;
--- corrupted where the bytes store no frame; and else the one packet
-abbrev pub AnswersAmrWb : Bool → ℕ → List ℕ → Result (List (List ℕ)) PacketError → Type 0
-AnswersAmrWb octet mtu [] answer = answer ≡ Ok []
-AnswersAmrWb octet mtu (b ∷ bs) answer = AnswersStored octet mtu (stored (b ∷ bs)) answer
-
--- whether bytes give no packets and no fault
+-- whether bytes give no packets and no fault: no bytes, and a frame without data
 abbrev pub is_without_data : Option Frame → Bool
 is_without_data None = false
 is_without_data (Some f) = f.kind == no_data
@@ -86,11 +82,21 @@ abbrev pub amr_wb_is_skipped : List ℕ → Bool
 amr_wb_is_skipped [] = true
 amr_wb_is_skipped (b ∷ bs) = is_without_data (stored (b ∷ bs))
 
--- the fault with which bytes are refused, if they are; want of memory is no such fault
-abbrev pub refusal_of_frame : Bool → ℕ → Option Frame → Option PacketError
-refusal_of_frame octet mtu None = Some faults.ErrAmrWbCorruptedPacket
-refusal_of_frame octet mtu (Some f) = if f.kind == no_data then None else if nat_lt (8 * mtu) (length (payload octet f)) then Some faults.ErrPayloadTooLarge else None
+-- the fault with which bytes are refused that are not skipped, if they are: where they store no frame, and where its
+-- payload is longer than the MTU
+abbrev pub amr_wb_refusal : Bool → ℕ → Option Frame → Option PacketError
+amr_wb_refusal octet mtu None = Some faults.ErrAmrWbCorruptedPacket
+amr_wb_refusal octet mtu (Some f) = if nat_lt (8 * mtu) (length (payload octet f)) then Some faults.ErrPayloadTooLarge else None
 
-abbrev pub amr_wb_refusal : Bool → ℕ → List ℕ → Option PacketError
-amr_wb_refusal octet mtu [] = None
-amr_wb_refusal octet mtu (b ∷ bs) = refusal_of_frame octet mtu (stored (b ∷ bs))
+-- the one packet of a frame
+abbrev pub IsPacketOf : Bool → ℕ → Option Frame → List (List ℕ) → Type 0
+IsPacketOf octet mtu None packets = ⊥
+IsPacketOf octet mtu (Some f) packets = (packet : List ℕ) × (packets ≡ packet ∷ []) × (bits_of packet ≡ payload octet f) × (length packet ≤ mtu)
+
+-- what is answered for a frame with data
+abbrev pub AnswersFrame : Bool → ℕ → Frame → Result (List (List ℕ)) PacketError → Type 0
+AnswersFrame octet mtu f answer = AnswersBy false (amr_wb_refusal octet mtu (Some f)) (λ packets. IsPacketOf octet mtu (Some f) packets) answer
+
+-- what the packetizer answers
+abbrev pub AnswersAmrWb : Bool → ℕ → List ℕ → Result (List (List ℕ)) PacketError → Type 0
+AnswersAmrWb octet mtu bytes answer = AnswersBy (amr_wb_is_skipped bytes) (amr_wb_refusal octet mtu (stored bytes)) (λ packets. IsPacketOf octet mtu (stored bytes) packets) answer

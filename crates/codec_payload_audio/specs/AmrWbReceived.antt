@@ -1,5 +1,5 @@
 -- Received AMR-WB payloads, read in order.
-use Rattle.std.specs.Prelude.{◌≡◌, ◌≢◌, ℕ, ◌+◌, ◌*◌, ◌/◌, ◌%◌, ◌<◌, ◌==◌, nat_lt, ⊤, Bool, true, false, if◌then◌else◌, List, [], ◌∷◌, ◌++◌, length, take, drop, map, Option, Some, None, Result, Ok, Err, refl}
+use Rattle.std.specs.Prelude.{◌≡◌, ◌≢◌, ℕ, ◌+◌, ◌*◌, ◌<◌, ◌==◌, nat_lt, ⊤, Bool, true, false, if◌then◌else◌, List, [], ◌∷◌, ◌++◌, length, take, drop, Option, Some, None, Result, Ok, Err, refl}
 use Rattle.codec_payload_base.specs.Bits.{bits, bits_of, bytes_of}
 use Rattle.codec_payload_base.specs.declared.error.PacketError.{PacketError}
 use Rattle.codec_payload_base.specs.declared.error.PacketError.TheVariants as faults
@@ -63,23 +63,18 @@ unfoldable pub received : Bool → List ℕ → Result (List ℕ) PacketError
 received octet [] = Ok []
 received octet (b ∷ bs) = behind_entries octet (entries_at octet (drop (if octet then 8 else 4) (b ∷ bs)))
 
--- the entry of a number of six bits
-abbrev pub entry_of : ℕ → Entry
-entry_of n = record { kind = n / 2 % 16; quality = n % 2 }
+-- the bits begin with a whole table of contents
+abbrev pub HasEntries : Bool → List ℕ → Type 0
+HasEntries octet bs = (x : List Entry × List ℕ) × (entries_at octet bs ≡ Ok x)
+
+-- the frames of the entries that were read, from the bits behind them
+abbrev pub frames_of : Bool → Result (List Entry × List ℕ) PacketError → List ℕ → Result (List ℕ × List ℕ) PacketError
+frames_of octet (Err e) bs = Err e
+frames_of octet (Ok x) bs = frames_at octet x.0 bs
 
 -- any fault but want of memory is the one that is read
 abbrev pub FailsAs : {X : Type 0} → PacketError → Result X PacketError → Type 0
 FailsAs fault r = fault ≢ faults.OutOfMemory → r ≡ Err fault
-
--- what the read of an entry says of the entries
-abbrev pub ReadsEntry : Bool → List ℕ → List ℕ → Option ℕ → Type 0
-ReadsEntry octet old new None = entries_at octet old ≡ Err faults.ErrShortPacket
-ReadsEntry octet old new (Some e) = (e < 64) × (entries_at octet old ≡ entry_then (e / 32) (entry_of e) new (entries_at octet new)) × (length new < length old)
-
--- what the read of all entries says
-abbrev pub ReadsEntries : Bool → List ℕ → List ℕ → Result (List ℕ) PacketError → Type 0
-ReadsEntries octet old new (Ok es) = entries_at octet old ≡ Ok (map entry_of es, new)
-ReadsEntries octet old new (Err e) = FailsAs e (entries_at octet old)
 
 -- something may have been appended
 abbrev pub Extends : List ℕ → List ℕ → Type 0
@@ -94,12 +89,17 @@ Gains old new rest (Err e) = ⊥
 abbrev pub IsCopyFault : List ℕ → ℕ → PacketError → Type 0
 IsCopyFault bs count fault = fault ≢ faults.OutOfMemory → (fault ≡ faults.ErrShortPacket) × (length bs < count)
 
+-- the fault with which a payload is refused: the one that is read; want of memory only where there is none, and bytes
+abbrev pub IsRefusal : PacketError → List ℕ → Result (List ℕ) PacketError → Type 0
+IsRefusal fault payload (Ok frames) = (fault ≡ faults.OutOfMemory) × (0 < length payload)
+IsRefusal fault payload (Err e) = fault ≡ e
+
 -- one payload: the bytes and the extra before, the answer, and both afterwards. The frames that the payload's bits carry
--- are appended as bytes; a fault changes nothing, and is the one that is read, or want of memory
+-- are appended as bytes; a fault changes nothing, and is the one that is read, or want of memory where there are frames
 abbrev pub AmrWbStep : Bool → List ℕ → List ℕ → CodecExtra → Result ⊤ PacketError → List ℕ → CodecExtra → Type 0
 AmrWbStep octet payload out extra (Ok _) out' extra' =
     (frames : List ℕ) × (received octet (bits_of payload) ≡ Ok frames) × (out' ≡ out ++ bytes_of frames) × (extra' ≡ extra)
-AmrWbStep octet payload out extra (Err fault) out' extra' = FailsAs fault (received octet (bits_of payload)) × (out' ≡ out) × (extra' ≡ extra)
+AmrWbStep octet payload out extra (Err fault) out' extra' = IsRefusal fault payload (received octet (bits_of payload)) × (out' ≡ out) × (extra' ≡ extra)
 
 -- the payload of a frame that is sent carries its canonical form
 abbrev pub CarriesCanonical : Bool → Option Frame → List (List ℕ) → Type 0

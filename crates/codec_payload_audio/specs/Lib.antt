@@ -1,3 +1,5 @@
 pub mod AmrWb
+pub mod AmrWbEntries
+pub mod AmrWbPayload
 pub mod AmrWbReceived
 pub mod Payloads

@@ -1,5 +1,6 @@
 -- Payloads that carry themselves.
-use Rattle.std.specs.Prelude.{◌≡◌, ◌<◌, ◌≤◌, ℕ, List, [], ◌∷◌, ◌++◌, length, Result, Ok, Err, ⊤}
+use Rattle.std.specs.Prelude.{◌≡◌, ℕ, nat_lt, if◌then◌else◌, false, Option, Some, None, List, [], ◌∷◌, ◌++◌, length, Result, Ok, Err, ⊤}
+use Rattle.codec_payload_base.specs.Answers.{AnswersBy, is_empty}
 use Rattle.codec_payload_base.specs.declared.interface.CodecExtra.{CodecExtra}
 use Rattle.codec_payload_base.specs.declared.error.PacketError.{PacketError}
 use Rattle.codec_payload_base.specs.declared.error.PacketError.TheVariants as faults
@@ -9,17 +10,17 @@ abbrev pub Appends : List ℕ → List ℕ → CodecExtra → Result ⊤ PacketE
 Appends payload out extra (Ok _) out' extra' = (out' ≡ out ++ payload) × (extra' ≡ extra)
 Appends payload out extra (Err fault) out' extra' = (fault ≡ faults.OutOfMemory) × (out' ≡ out) × (extra' ≡ extra)
 
--- the frame is the one packet, whatever it is; the only fault is want of memory
+-- the frame is the one packet, whatever it is
 abbrev pub AnswersItself : List ℕ → Result (List (List ℕ)) PacketError → Type 0
-AnswersItself frame (Ok packets) = packets ≡ frame ∷ []
-AnswersItself frame (Err fault) = fault ≡ faults.OutOfMemory
+AnswersItself frame answer = AnswersBy false None (λ packets. packets ≡ frame ∷ []) answer
 
--- a frame of at most MTU bytes is the one packet; an empty one gives no packets, and takes no memory; a longer one is too
--- large
+-- a frame that goes into one packet is refused where it is longer than the MTU
+abbrev pub whole_refusal : ℕ → List ℕ → Option PacketError
+whole_refusal mtu frame = if nat_lt mtu (length frame) then Some faults.ErrPayloadTooLarge else None
+
+-- the frame is the one packet; an empty one is skipped
 abbrev pub AnswersWhole : ℕ → List ℕ → Result (List (List ℕ)) PacketError → Type 0
-AnswersWhole mtu [] answer = answer ≡ Ok []
-AnswersWhole mtu (b ∷ bs) (Ok packets) = (length (b ∷ bs) ≤ mtu) × (packets ≡ (b ∷ bs) ∷ [])
-AnswersWhole mtu (b ∷ bs) (Err fault) = (mtu < length (b ∷ bs) → fault ≡ faults.ErrPayloadTooLarge) × (length (b ∷ bs) ≤ mtu → fault ≡ faults.OutOfMemory)
+AnswersWhole mtu frame answer = AnswersBy (is_empty frame) (whole_refusal mtu frame) (λ packets. packets ≡ frame ∷ []) answer
 
 -- the same as for payloads that carry themselves, but an empty one is too short
 abbrev pub AppendsSome : List ℕ → List ℕ → CodecExtra → Result ⊤ PacketError → List ℕ → CodecExtra → Type 0

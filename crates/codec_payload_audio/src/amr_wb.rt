@@ -3,14 +3,32 @@
 //! A frame is handed in and given in its storage form (RFC 4867, section 5.3): a byte with the frame type and the quality
 //! bit, then the speech bits, with zeros up to a byte.
 
-ghost use Rattle.std.specs.Prelude.{◌≡◌, ◌<◌};
+ghost use Rattle.std.specs.Prelude.{◌≡◌, ◌<◌, false};
 ghost use Rattle.codec_payload_audio.specs.AmrWb.{speech_size};
+ghost use Rattle.codec_payload_audio.specs.AmrWbPayload.{ReceivedIsSpelled, SpelledIsReceived};
 
 mod receive;
 mod send;
+mod toc;
 
 pub use receive::AmrWbDepacketizer;
 pub use send::AmrWbPacketizer;
+
+/// The defaults of both ways have the bandwidth-efficient layout.
+pub fn defaults_of_amr_wb() -> (AmrWbPacketizer, AmrWbDepacketizer)
+    ensures sent { result.0.octet_align ≡ false }
+    ensures received { result.1.octet_align ≡ false }
+{
+    (AmrWbPacketizer::default(), AmrWbDepacketizer::default())
+}
+
+/// A payload that is spelled from a mode request, a table of contents and the speech of its entries, with any bits where
+/// their value means nothing, is received as those frames, each in canonical form; and whatever is received was spelled
+/// so (RFC 4867, sections 4.3 and 4.4).
+pub fn payloads_follow_the_grammar()
+    ensures received { SpelledIsReceived }
+    ensures spelled { ReceivedIsSpelled }
+{}
 
 /// How many speech bits each frame type has; `None` for a reserved one. Types 14 and 15 stand for a lost frame and for a
 /// frame without data (3GPP TS 26.201, table 1a).

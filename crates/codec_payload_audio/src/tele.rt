@@ -1,6 +1,6 @@
 //! Telephone events (RFC 4733).
 
-ghost use Rattle.std.specs.Prelude.{◌≡◌, ◌%◌, length, min, [], ◌∷◌, Some, true, false, ⊤};
+ghost use Rattle.std.specs.Prelude.{◌≡◌, min, [], ◌∷◌, Some, true, false, ⊤};
 ghost use Rattle.codec_payload_audio.specs.Payloads.{AnswersWhole};
 ghost use Rattle.codec_payload_base.specs.TelephoneReport.{first_report as first_report_of, TeleStep};
 
@@ -52,7 +52,7 @@ impl Packetizer for TelephoneEventPacketizer {
         false
     }
 
-    /// The first packet of an event is marked (RFC 4733, section 2.5.1.3): its sample starts a talk spurt.
+    /// The first packet of an event is marked (RFC 4733, section 2.2.2): its sample starts a talk spurt.
     fn marks_talkspurt(&self) -> bool
         ensures { result ≡ true }
     {
@@ -89,6 +89,13 @@ impl TelephoneEventDepacketizer {
     {
         TelephoneEventDepacketizer { rate }
     }
+}
+
+/// The default of the receiving side counts durations in units of a clock of 8 kHz.
+pub fn defaults_of_tele() -> TelephoneEventDepacketizer
+    ensures { result ≡ 8000 }
+{
+    TelephoneEventDepacketizer::default()
 }
 
 impl Default for TelephoneEventDepacketizer {

@@ -1,10 +1,12 @@
 -- Pieces of a frame: how they grow, and how many there are.
-use Rattle.std.proofs.Common.{◌≡◌, ◌∙◌, sym, ap, refl, ℕ, ◌+◌, ◌*◌, ◌<◌, ◌≤◌, List, [], ◌∷◌, ◌++◌, length, take, drop, arith, length-append}
+use Rattle.std.proofs.Common.{◌≡◌, ◌∙◌, sym, ap, refl, ℕ, ◌+◌, ◌*◌, ◌<◌, ◌≤◌, List, [], ◌∷◌, ◌++◌, length, take, drop, arith, length-append, Ok, Err, eq-eqb}
 use Rattle.std.proofs.lemmas.List.{length-take, length-drop, take_all, take-append-drop, append-nil}
 use Rattle.std.proofs.Math.Seq.{take-append_seam, drop-append_seam}
 use Rattle.std.proofs.lemmas.Grind.{div_ceil_times}
 use Rattle.std.specs.Int.{div_ceil}
-use Rattle.codec_payload_base.specs.Pieces.{joined, AreOfSize, ArePieces, pieces_from, IsOneList}
+use Rattle.std.proofs.lemmas.Bool.{ne_eqb}
+use Rattle.codec_payload_base.specs.declared.error.PacketError.TheVariants as faults
+use Rattle.codec_payload_base.specs.Pieces.{joined, AreOfSize, ArePieces, AnswersPieces, pieces_from, IsOneList}
 
 -- a count whose multiple of size is less than size above n is at most one whose multiple reaches n
 at_most : (n size a b : ℕ) → a * size < n + size → n ≤ b * size → a ≤ b
@@ -69,3 +71,20 @@ told_by_count size (piece ∷ next ∷ pieces) sizes =
 pub one_list : IsOneList
 one_list size frame pieces some are =
     told_by_count size pieces are.sizes ∙ (ap (λ x. pieces_from (length pieces) size x) are.join ∙ ap (λ n. pieces_from n size frame) (count_of_pieces size frame pieces some are))
+
+-- what is answered for a frame
+pub answers_empty : (mtu : ℕ) (frame : List ℕ) → length frame ≡ 0 → AnswersPieces mtu frame (Ok [])
+answers_empty mtu [] none = refl
+answers_empty mtu (b ∷ bs) none = absurd (omega arith)
+
+pub answers_no_room : (mtu : ℕ) (frame : List ℕ) → mtu ≡ 0 → AnswersPieces mtu frame (Ok [])
+answers_no_room mtu [] none = refl
+answers_no_room mtu (b ∷ bs) none = rw (eq-eqb mtu 0 none) refl
+
+pub answers_pieces : (mtu : ℕ) (frame : List ℕ) (packets : List (List ℕ)) → 0 < mtu → 0 < length frame → ArePieces mtu frame packets → AnswersPieces mtu frame (Ok packets)
+answers_pieces mtu [] packets room some are = absurd (omega arith)
+answers_pieces mtu (b ∷ bs) packets room some are = rw (ne_eqb mtu 0 (λ none. omega arith)) (are, count_of_pieces mtu (b ∷ bs) packets room are)
+
+pub answers_for_memory : (mtu : ℕ) (frame : List ℕ) → 0 < mtu → 0 < length frame → AnswersPieces mtu frame (Err faults.OutOfMemory)
+answers_for_memory mtu [] room some = absurd (omega arith)
+answers_for_memory mtu (b ∷ bs) room some = rw (ne_eqb mtu 0 (λ none. omega arith)) refl

@@ -1,10 +1,10 @@
 -- How a frame is cut into pieces of one size, the last with the rest.
-use Rattle.std.specs.Prelude.{◌≡◌, ℕ, zero, suc, ◌<◌, ◌≤◌, List, [], ◌∷◌, length, take, drop, Result, Ok, Err, refl}
+use Rattle.std.specs.Prelude.{◌≡◌, ℕ, zero, suc, ◌<◌, ◌≤◌, ◌==◌, ◌||◌, Bool, List, [], ◌∷◌, length, take, drop, None, Result, refl}
 use Rattle.std.specs.List.{flat_map}
 use Rattle.std.specs.Int.{div_ceil}
 use Rattle.std.proofs.Common.{lit<, lit≤}
 use Rattle.codec_payload_base.specs.declared.error.PacketError.{PacketError}
-use Rattle.codec_payload_base.specs.declared.error.PacketError.TheVariants as faults
+use Rattle.codec_payload_base.specs.Answers.{AnswersBy, is_empty}
 
 -- byte strings, one behind the other
 abbrev pub joined : List (List ℕ) → List ℕ
@@ -34,11 +34,14 @@ pieces_of size frame = pieces_from (div_ceil (length frame) size) size frame
 abbrev pub IsOneList : Type 0
 IsOneList = (size : ℕ) (frame : List ℕ) (pieces : List (List ℕ)) → 0 < size → ArePieces size frame pieces → pieces ≡ pieces_of size frame
 
--- what a packetizer of pieces answers: no packets exactly where the frame is empty or the MTU is 0, and else the pieces
--- of MTU bytes, as many as the length over the MTU, rounded up; the only fault is want of memory
+-- whether a frame gives no pieces at an MTU
+abbrev pub pieces_are_skipped : ℕ → List ℕ → Bool
+pieces_are_skipped mtu frame = is_empty frame || (mtu == 0)
+
+-- what a packetizer of pieces answers: the pieces of MTU bytes, as many as the length over the MTU, rounded up; no frame
+-- is refused
 abbrev pub AnswersPieces : ℕ → List ℕ → Result (List (List ℕ)) PacketError → Type 0
-AnswersPieces mtu frame (Ok packets) = (mtu ≡ 0 → packets ≡ []) × (0 < mtu → ArePieces mtu frame packets) × (0 < mtu → length packets ≡ div_ceil (length frame) mtu)
-AnswersPieces mtu frame (Err fault) = (fault ≡ faults.OutOfMemory) × (0 < mtu) × (0 < length frame)
+AnswersPieces mtu frame answer = AnswersBy (pieces_are_skipped mtu frame) None (λ packets. ArePieces mtu frame packets × (length packets ≡ div_ceil (length frame) mtu)) answer
 
 pub pieces_of-two : pieces_of 2 (0x90 ∷ 0x90 ∷ 0x90 ∷ []) ≡ (0x90 ∷ 0x90 ∷ []) ∷ (0x90 ∷ []) ∷ []
 pieces_of-two = refl

@@ -5,6 +5,7 @@ ghost use Rattle.std.specs.Option.{option_copied};
 ghost use Rattle.codec_payload_base.specs.Answers.{packets_of};
 ghost use Rattle.codec_payload_base.specs.declared.error.PacketError.{PacketError as Fault};
 ghost use Rattle.codec_payload_base.specs.declared.interface.CodecExtra.{CodecExtra as Extra};
+ghost use Rattle.codec_payload_base.specs.declared.interface.Vp9PacketizerMode.TheVariants.{NonFlexible};
 
 mod report;
 
@@ -92,6 +93,15 @@ pub enum Vp9PacketizerMode {
     /// The references follow a pattern that was told before.
     #[default]
     NonFlexible,
+}
+
+/// The defaults of this module, and the length of a report on a telephone event.
+pub fn defaults_of_interface() -> (Vp9PacketizerMode, Av1CodecExtra)
+    ensures mode { result.0 ≡ NonFlexible }
+    ensures extra { result.1.is_keyframe ≡ false }
+    ensures report { REPORT_SIZE ≡ 4 }
+{
+    (Vp9PacketizerMode::default(), Av1CodecExtra::default())
 }
 
 /// Cuts media frames into RTP payloads.

@@ -1,5 +1,7 @@
-pub mod Grammar
-pub mod Keeping
-pub mod Laws
-pub mod Sending
-pub mod Stepping
+pub mod DecoderLoopLemmas
+pub mod EncodeDecodeLemmas
+pub mod EncoderLoopLemmas
+pub mod LongestLevelsLemmas
+pub mod RedGrammarLemmas
+pub mod SenderHistoryLemmas
+pub mod SenderOutputLemmas

@@ -1,11 +1,12 @@
 -- Blocks as they lie in memory, and what calls answer.
-use Rattle.std.specs.Prelude.{◌≡◌, ◌++◌, ℕ, Bool, true, false, ◌&&◌, ◌==◌, nat_lt, List, [], ◌∷◌, map, drop, filter, Option, Some, None}
+use Rattle.std.specs.Prelude.{◌≡◌, ◌++◌, ℕ, Bool, true, false, ◌&&◌, ◌==◌, nat_lt, List, [], ◌∷◌, map, filter, Option, Some, None, is_some}
 use Rattle.codec_payload_base.specs.declared.error.PacketError.{PacketError}
 use Rattle.codec_payload_base.specs.declared.error.PacketError.TheVariants as faults
+use Rattle.codec_payload_red.specs.declared.red.blocks.BlockPart.{BlockPart}
+use Rattle.codec_payload_red.specs.declared.red.blocks.BlockPart.TheVariants as parts
 use Rattle.codec_payload_red.specs.declared.red.blocks.RedBlock.{RedBlock}
 use Rattle.codec_payload_red.specs.declared.red.blocks.RedundantBlock.{RedundantBlock}
-use Rattle.codec_payload_red.specs.declared.red.blocks.SamePtBlocks.{SamePtBlocks}
-use Rattle.codec_payload_red.specs.RedPayload.{Redundant, Red}
+use Rattle.codec_payload_red.specs.RedPayload.{Redundant, Red, header}
 
 -- a block without where it lies
 pub record Block : Type 0 where
@@ -34,14 +35,19 @@ older_of b = record { pt = b.pt; offset = b.timestamp_offset; bytes = b.payload.
 abbrev pub redundant_of : RedundantBlock → Redundant
 redundant_of b = record { pt = b.pt; offset = b.timestamp_offset; bytes = b.payload.items }
 
+-- the header of a block, or its bytes
+abbrev pub part_of : BlockPart → Redundant → List ℕ
+part_of parts.Header b = header b
+part_of parts.Bytes b = b.bytes
+
 -- Seen by view, it is what reading finds.
 abbrev pub Finds : {X Y : Type 0} → (X → Y) → Option X → Option Y → Type 0
 Finds view (Some x) read = read ≡ Some (view x)
 Finds view None read = read ≡ None
 
--- The fault of the bytes comes only where reading finds nothing; memory can run out anywhere.
+-- The fault of the bytes comes where reading finds nothing, and want of memory only where it finds something.
 abbrev pub Fails : PacketError → Option Red → Type 0
-Fails faults.OutOfMemory read = Unit {0}
+Fails faults.OutOfMemory read = is_some read ≡ true
 Fails faults.ErrRedCorruptedPacket read = read ≡ None
 Fails _ read = ⊥
 
@@ -51,7 +57,3 @@ Decodes read blocks = (r : Red) × (read ≡ Some r) × (blocks ≡ blocks_in r)
 
 abbrev pub same_pt : ℕ → List RedBlock → List RedBlock
 same_pt pt = filter (λ b. (b.pt == pt) && nat_lt 0 b.timestamp_offset)
-
--- those that are still to come
-abbrev pub same_pt_left : SamePtBlocks → List RedBlock
-same_pt_left s = same_pt s.pt (drop s.at s.blocks.now)

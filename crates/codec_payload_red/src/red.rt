@@ -11,4 +11,4 @@ mod sender;
 pub use blocks::{
     RedBlock, RedDecoder, RedEncoder, RedundantBlock, SamePtBlocks, red_same_pt_blocks,
 };
-pub use sender::{MAX_RED_RECOVERY_DEPTH, RedSender};
+pub use sender::{MAX_RED_RECOVERY_DEPTH, RedSender, constants_of_red};

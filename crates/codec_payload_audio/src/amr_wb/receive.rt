@@ -1,15 +1,17 @@
 //! AMR-WB payloads as frames.
 
-ghost use Rattle.std.specs.Prelude.{◌≡◌, ◌≢◌, ℕ, ◌+◌, ◌*◌, ◌/◌, ◌%◌, ◌<◌, ◌≤◌, ◌++◌, ◌∷◌, [], length, take, drop, map, IfOk, IfErr, IsErr, OnOk, OnErr, MatchResult, IsTrue, All, if◌then◌else◌, List, Some, true, Ok, Err};
+ghost use Rattle.std.specs.Prelude.{◌≡◌, ◌↔◌, ℕ, ◌+◌, ◌*◌, ◌%◌, ◌<◌, ◌≤◌, ◌++◌, length, take, drop, IfErr, OnOk, MatchResult, IsTrue, if◌then◌else◌, List, Some, true, Ok, Err};
 ghost use Rattle.codec_payload_base.specs.Bits.{bits_of, left, moved};
+ghost use Rattle.codec_payload_base.specs.declared.error.PacketError.TheVariants.{OutOfMemory};
 ghost use Rattle.codec_payload_audio.specs.AmrWb.{gap, layout, speech_size, padded};
-ghost use Rattle.codec_payload_audio.specs.AmrWbReceived.{AmrWbStep, Extends, FailsAs, Gains, IsCopyFault, ReadsEntries, ReadsEntry, entry_of, frame_at, frames_at, received};
+ghost use Rattle.codec_payload_audio.specs.AmrWbReceived.{AmrWbStep, Entry, Extends, FailsAs, Gains, HasEntries, IsCopyFault, entries_at, frame_at, frames_of, received};
+ghost use Rattle.codec_payload_audio.specs.AmrWbEntries.{ReadsEntry, entry_of};
 
 use crate::amr_wb::speech_bits;
+use crate::amr_wb::toc::TocEntry;
 use codec_payload_base::bits::{BitRead, BitReader};
 use codec_payload_base::error::PacketError;
 use codec_payload_base::interface::{CodecExtra, Depacketizer};
-use std::alloc::Global;
 
 /// Gives the frames of each payload; each payload is a unit.
 #[derive(Debug, Default, Drop)]
@@ -39,7 +41,8 @@ impl Depacketizer for AmrWbDepacketizer {
     ///
     /// In reading order: an entry of the table of contents, or speech, that is not all there is refused with
     /// `ErrShortPacket`; a reserved frame type, and eight or more bits behind the frames, with
-    /// `ErrAmrWbCorruptedPacket`. `out` is then as before.
+    /// `ErrAmrWbCorruptedPacket`. The whole payload is looked at before memory is asked for, so `OutOfMemory` comes only
+    /// where it has frames and they find no room. After a refusal `out` is as before.
     fn depacketize(
         &mut self,
         packet: &[u8],
@@ -49,8 +52,9 @@ impl Depacketizer for AmrWbDepacketizer {
         ensures step { AmrWbStep self.old.octet_align packet.now out.old.items codec_extra.old result out.new.items codec_extra.new × (layout self.new.octet_align ≡ layout self.old.octet_align) }
         ensures same { self.new ≡ self.old }
     {
+        let storage_size = check_payload(self.octet_align, packet)?;
         let size_before = out.len();
-        if let Err(fault) = append_frames(self.octet_align, packet, out) {
+        if let Err(fault) = append_payload(self.octet_align, packet, storage_size, out) {
             out.truncate(size_before);
             return Err(fault);
         }
@@ -66,104 +70,180 @@ impl Depacketizer for AmrWbDepacketizer {
     }
 }
 
-/// Appends the frames of a payload; after a refusal some of them may be there.
-fn append_frames(octet_align: bool, packet: &[u8], out: &mut Vec<u8>) -> Result<(), PacketError>
+/// How many bytes the frames of a payload take in storage form, or `usize::MAX` where they are more. It takes no memory.
+fn check_payload(octet_align: bool, packet: &[u8]) -> Result<usize, PacketError>
+    ensures { MatchResult result (λ _. (frames : List ℕ) × (received octet_align (bits_of packet.now) ≡ Ok frames)) (λ e. received octet_align (bits_of packet.now) ≡ Err e) }
+{
+    if packet.is_empty() {
+        return Ok(0);
+    }
+    let mut toc = behind_request(octet_align, packet);
+    let mut speech = behind_request(octet_align, packet);
+    skip_entries(&mut speech, octet_align)?;
+    let storage_size = skip_frames(&mut toc, &mut speech, octet_align)?;
+    if !less_than_a_byte_is_left(&speech) {
+        return Err(PacketError::ErrAmrWbCorruptedPacket);
+    }
+    Ok(storage_size)
+}
+
+/// Whether fewer than eight bits are left.
+fn less_than_a_byte_is_left<'a>(reader: &BitReader<'a>) -> bool
+    ensures { IsTrue result ↔ (length (left reader.now) < 8) }
+{
+    reader.remaining_bits() < 8
+}
+
+/// Appends the frames of a payload that was checked; after a refusal some of them may be there.
+fn append_payload(
+    octet_align: bool,
+    packet: &[u8],
+    storage_size: usize,
+    out: &mut Vec<u8>,
+) -> Result<(), PacketError>
+    requires { (frames : List ℕ) × (received octet_align (bits_of packet.now) ≡ Ok frames) }
     ensures ok { OnOk result ((frames : List ℕ) × (received octet_align (bits_of packet.now) ≡ Ok frames) × (bits_of out.new.items ≡ bits_of out.old.items ++ frames)) }
-    ensures err { IfErr result (λ e. FailsAs e (received octet_align (bits_of packet.now))) }
+    ensures err { IfErr result (λ e. (e ≡ OutOfMemory) × (0 < length packet.now)) }
     ensures kept { Extends out.old.items out.new.items }
 {
     if packet.is_empty() {
         return Ok(());
     }
-    let mut reader = BitReader::at(packet, bits_before_entries(octet_align));
-    let entries = read_entries(*out.allocator(), &mut reader, octet_align)?;
-    // Each frame gives its first byte, and its speech at most one byte more than it takes here.
-    out.reserve(packet.len().saturating_add(2 * entries.len()))?;
-    read_frames(&mut reader, &entries, octet_align, out)?;
-    if reader.remaining_bits() >= 8 {
-        return Err(PacketError::ErrAmrWbCorruptedPacket);
-    }
-    Ok(())
+    let mut toc = behind_request(octet_align, packet);
+    let mut speech = behind_request(octet_align, packet);
+    skip_entries(&mut speech, octet_align)?;
+    out.reserve(storage_size)?;
+    append_frames(&mut toc, &mut speech, octet_align, out)
 }
 
-/// How many bits stand before the table of contents.
-fn bits_before_entries(octet_align: bool) -> usize
-    ensures { result ≡ (if octet_align then 8 else 4) }
+/// A reader of what stands behind the mode request, where the table of contents begins.
+fn behind_request<'a>(octet_align: bool, packet: &'a [u8]) -> BitReader<'a>
+    requires { 0 < length packet.now }
+    ensures place { result ≡ record { bytes = packet.now; place = (if octet_align then 8 else 4) } }
+    ensures whole { IsTrue octet_align → length (left result) % 8 ≡ 0 }
 {
-    if octet_align { 8 } else { 4 }
+    BitReader::at(packet, if octet_align { 8 } else { 4 })
 }
 
-/// Reads the table of contents.
-fn read_entries<'a>(
-    alloc: Global,
-    reader: &mut BitReader<'a>,
-    octet_align: bool,
-) -> Result<Vec<u8>, PacketError>
-    requires { IsTrue octet_align → length (left reader.old) % 8 ≡ 0 }
-    ensures small { IfOk result (λ v. All (λ e. e < 64) v.items) }
-    ensures whole { OnOk result (IsTrue octet_align → length (left reader.new) % 8 ≡ 0) }
-    ensures read { MatchResult result (λ v. ReadsEntries octet_align (left reader.old) (left reader.new) (Ok v.items)) (λ e. ReadsEntries octet_align (left reader.old) (left reader.new) (Err e)) }
-{
-    let mut entries = Vec::new(alloc);
-    loop {
-        let entry = read_entry(reader, octet_align).ok_or(PacketError::ErrShortPacket)?;
-        entries.push(entry)?;
-        if entry & 0x20 == 0 {
-            return Ok(entries);
-        }
-    }
-}
-
-/// Reads an entry of the table of contents: whether another follows, the frame type, and the quality bit.
-fn read_entry<'a>(reader: &mut BitReader<'a>, octet_align: bool) -> Option<u8>
+/// Reads an entry of the table of contents.
+fn read_entry<'a>(reader: &mut BitReader<'a>, octet_align: bool) -> Option<TocEntry>
     requires { IsTrue octet_align → length (left reader.old) % 8 ≡ 0 }
     ensures read { ReadsEntry octet_align (left reader.old) (left reader.new) result }
     ensures whole { IsTrue octet_align → length (left reader.new) % 8 ≡ 0 }
 {
     if octet_align {
-        Some(reader.get_bits(8)? >> 2)
+        let bits = reader.get_bits(8)?;
+        Some(TocEntry::from_bits(bits / 4))
     } else {
-        reader.get_bits(6)
+        let bits = reader.get_bits(6)?;
+        Some(TocEntry::from_bits(bits))
     }
 }
 
-/// Reads the frames of the entries, and appends them.
-fn read_frames<'a>(
+/// Goes over the table of contents.
+fn skip_entries<'a>(reader: &mut BitReader<'a>, octet_align: bool) -> Result<(), PacketError>
+    requires { IsTrue octet_align → length (left reader.old) % 8 ≡ 0 }
+    ensures whole { OnOk result (IsTrue octet_align → length (left reader.new) % 8 ≡ 0) }
+    ensures read { MatchResult result (λ _. (es : List Entry) × (entries_at octet_align (left reader.old) ≡ Ok (es, left reader.new))) (λ e. entries_at octet_align (left reader.old) ≡ Err e) }
+{
+    loop {
+        let entry = read_entry(reader, octet_align).ok_or(PacketError::ErrShortPacket)?;
+        if !entry.follows {
+            return Ok(());
+        }
+    }
+}
+
+/// Goes over the frames of a table of contents, and counts their bytes in storage form.
+fn skip_frames<'a>(
+    toc: &mut BitReader<'a>,
+    speech: &mut BitReader<'a>,
+    octet_align: bool,
+) -> Result<usize, PacketError>
+    requires table { HasEntries octet_align (left toc.old) }
+    requires whole { IsTrue octet_align → (length (left toc.old) % 8 ≡ 0) × (length (left speech.old) % 8 ≡ 0) }
+    ensures { MatchResult result (λ _. (frames : List ℕ) × (frames_of octet_align (entries_at octet_align (left toc.old)) (left speech.old) ≡ Ok (frames, left speech.new))) (λ e. frames_of octet_align (entries_at octet_align (left toc.old)) (left speech.old) ≡ Err e) }
+{
+    let mut storage_size = 0usize;
+    loop {
+        let entry = read_entry(toc, octet_align).ok_or(PacketError::ErrShortPacket)?;
+        let count = skip_frame(speech, entry, octet_align)?;
+        storage_size = storage_size.saturating_add(1 + count.div_ceil(8));
+        if !entry.follows {
+            return Ok(storage_size);
+        }
+    }
+}
+
+/// Goes over the speech of an entry, and tells how many bits it has.
+fn skip_frame<'a>(
     reader: &mut BitReader<'a>,
-    entries: &[u8],
+    entry: TocEntry,
+    octet_align: bool,
+) -> Result<usize, PacketError>
+    requires { IsTrue octet_align → length (left reader.old) % 8 ≡ 0 }
+    ensures whole { OnOk result (IsTrue octet_align → length (left reader.new) % 8 ≡ 0) }
+    ensures read { MatchResult result (λ _. (frame : List ℕ) × (frame_at octet_align (entry_of entry) (left reader.old) (speech_size entry.frame_type) ≡ Ok (frame, left reader.new))) (λ e. frame_at octet_align (entry_of entry) (left reader.old) (speech_size entry.frame_type) ≡ Err e) }
+{
+    let Some(count) = speech_bits(entry.frame_type) else {
+        return Err(PacketError::ErrAmrWbCorruptedPacket);
+    };
+    if reader.remaining_bits() < count {
+        return Err(PacketError::ErrShortPacket);
+    }
+    skip_bits(reader, count);
+    skip_padding(reader, count, octet_align);
+    Ok(count)
+}
+
+/// Goes over `count` bits.
+fn skip_bits<'a>(reader: &mut BitReader<'a>, count: usize)
+    requires { count ≤ length (left reader.old) }
+    ensures { reader.new ≡ moved reader.old count }
+{
+    reader.skip_bytes(count / 8);
+    let _ = reader.get_bits(count % 8);
+}
+
+/// Appends the frames of a table of contents.
+fn append_frames<'a>(
+    toc: &mut BitReader<'a>,
+    speech: &mut BitReader<'a>,
     octet_align: bool,
     out: &mut Vec<u8>,
 ) -> Result<(), PacketError>
-    requires small { All (λ e. e < 64) entries.now }
-    requires whole { IsTrue octet_align → length (left reader.old) % 8 ≡ 0 }
-    ensures ok { OnOk result (Gains out.old.items out.new.items (left reader.new) (frames_at octet_align (map entry_of entries.now) (left reader.old))) }
-    ensures err { IfErr result (λ e. FailsAs e (frames_at octet_align (map entry_of entries.now) (left reader.old))) }
+    requires table { HasEntries octet_align (left toc.old) }
+    requires whole { IsTrue octet_align → (length (left toc.old) % 8 ≡ 0) × (length (left speech.old) % 8 ≡ 0) }
+    ensures ok { OnOk result (Gains out.old.items out.new.items (left speech.new) (frames_of octet_align (entries_at octet_align (left toc.old)) (left speech.old))) }
+    ensures err { IfErr result (λ e. FailsAs e (frames_of octet_align (entries_at octet_align (left toc.old)) (left speech.old))) }
     ensures kept { Extends out.old.items out.new.items }
 {
-    for &entry in entries {
-        read_frame(reader, entry, octet_align, out)?;
+    loop {
+        let entry = read_entry(toc, octet_align).ok_or(PacketError::ErrShortPacket)?;
+        read_frame(speech, entry, octet_align, out)?;
+        if !entry.follows {
+            return Ok(());
+        }
     }
-    Ok(())
 }
 
 /// Reads the speech of an entry, and appends the frame.
 fn read_frame<'a>(
     reader: &mut BitReader<'a>,
-    entry: u8,
+    entry: TocEntry,
     octet_align: bool,
     out: &mut Vec<u8>,
 ) -> Result<(), PacketError>
-    requires small { entry < 64 }
-    requires whole { IsTrue octet_align → length (left reader.old) % 8 ≡ 0 }
+    requires { IsTrue octet_align → length (left reader.old) % 8 ≡ 0 }
     ensures whole { OnOk result (IsTrue octet_align → length (left reader.new) % 8 ≡ 0) }
-    ensures ok { OnOk result (Gains out.old.items out.new.items (left reader.new) (frame_at octet_align (entry_of entry) (left reader.old) (speech_size (entry / 2 % 16)))) }
-    ensures err { IfErr result (λ e. FailsAs e (frame_at octet_align (entry_of entry) (left reader.old) (speech_size (entry / 2 % 16)))) }
+    ensures ok { OnOk result (Gains out.old.items out.new.items (left reader.new) (frame_at octet_align (entry_of entry) (left reader.old) (speech_size entry.frame_type))) }
+    ensures err { IfErr result (λ e. FailsAs e (frame_at octet_align (entry_of entry) (left reader.old) (speech_size entry.frame_type))) }
     ensures kept { Extends out.old.items out.new.items }
 {
-    let Some(count) = speech_bits((entry >> 1) & 0x0f) else {
+    let Some(count) = speech_bits(entry.frame_type) else {
         return Err(PacketError::ErrAmrWbCorruptedPacket);
     };
-    out.push((entry & 0x1f) << 2)?;
+    out.push(entry.storage_header())?;
     copy_bits(reader, count, out)?;
     skip_padding(reader, count, octet_align);
     Ok(())

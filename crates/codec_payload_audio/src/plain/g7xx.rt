@@ -32,6 +32,9 @@ impl Packetizer for G7xxPacketizer {
 
     /// The frame in pieces of `mtu` bytes, the last with the rest. An empty frame, or an MTU of 0, gives no packets.
     /// Each byte is copied once.
+    ///
+    /// All pieces of a frame go out under the RTP time of the frame, though a receiver takes the time of a packet for
+    /// that of its first sample (RFC 3551, section 4.1). So choose the MTU above the longest frame.
     fn packetize(
         &mut self,
         alloc: Global,

@@ -1,6 +1,6 @@
 //! Reports on telephone events as bytes (RFC 4733, section 2.3).
 
-ghost use Rattle.std.specs.Prelude.{◌≡◌, ◌+◌, ◌*◌, ◌/◌, ◌%◌, ◌<◌, ◌≤◌, SomeIff, IfSome, IsNone, ◌↔◌, length, Some, false};
+ghost use Rattle.std.specs.Prelude.{◌≡◌, ◌<◌, SomeIff, IfSome, IsNone, ◌↔◌, Some, false};
 ghost use Rattle.codec_payload_base.specs.TelephoneReport.{nanoseconds_of, units_of, report_of, bytes_of_report, reports_of, are_reports, without_reserved};
 
 use crate::interface::TelephoneEvent;

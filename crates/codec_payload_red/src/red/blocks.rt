@@ -1,15 +1,16 @@
 //! RED payloads, written and read (RFC 2198, section 3).
 
-ghost use Rattle.std.specs.Prelude.{◌≡◌, ◌≤◌, ◌<◌, ◌*◌, ◌++◌, ◌%◌, false, nat_le, ◌&&◌, Some, IfErr, IfOk, IfSome, OnOk, IsErrOf, map, length, take, filter, MatchResult};
+ghost use Rattle.std.specs.Prelude.{◌≡◌, ◌≤◌, ◌<◌, ◌*◌, ◌++◌, ◌%◌, false, nat_le, ◌&&◌, Some, IfErr, IfOk, IfSome, OnOk, IsErrOf, IsTrue, is_some, map, length, take, filter, MatchResult};
 ghost use Rattle.std.specs.Iterator.{YieldsFirstRef, item_count};
 ghost use Rattle.std.specs.List.{flat_map};
 ghost use Rattle.codec_payload_base.specs.declared.error.PacketError.TheVariants.{ErrRedCorruptedPacket, OutOfMemory};
-ghost use Rattle.codec_payload_red.specs.RedPayload.{Red, IsRed, header_of, header, masked, fits, encoded, kept_of};
+ghost use Rattle.codec_payload_red.specs.RedPayload.{Red, IsRed, header_of, masked, fits, encoded, kept_of};
 ghost use Rattle.codec_payload_red.specs.RedReading.{count_at, block_at, blocks_at, red_at};
-ghost use Rattle.codec_payload_red.specs.RedBlocks.{blocks_of, blocks_in, older_of, redundant_of, Finds, Fails, Decodes, same_pt, same_pt_left};
+ghost use Rattle.codec_payload_red.specs.RedBlocks.{blocks_of, blocks_in, older_of, redundant_of, Finds, Fails, Decodes, part_of, same_pt};
 
 use codec_payload_base::error::PacketError;
 use std::alloc::{AllocError, Global};
+use std::marker::Model;
 
 /// The greatest timestamp offset that 14 bits hold, in ticks of the RTP clock.
 const MAX_OFFSET: u32 = 16_383;
@@ -109,22 +110,42 @@ fn block_of_header<'a>(headers: &[u8], bodies: &'a [u8]) -> Option<(RedBlock<'a>
     Some((block, behind))
 }
 
+/// Whether `bodies` has all bytes of the `count` blocks whose headers stand first.
+fn blocks_are_whole(count: usize, headers: &[u8], bodies: &[u8]) -> bool
+    requires { 4 * count < length headers.now }
+    ensures { result ≡ is_some (blocks_at count headers.now bodies.now) }
+{
+    let mut heads = headers;
+    let mut rest = bodies;
+    for _ in 0..count {
+        let Some((_, behind)) = block_of_header(heads, rest) else {
+            return false;
+        };
+        let (_, others) = heads.split_at(REDUNDANT_HEADER_LEN);
+        heads = others;
+        rest = behind;
+    }
+    true
+}
+
 /// The `count` blocks whose headers stand first, and the primary one.
 fn blocks_from<'a>(
     alloc: Global,
     count: usize,
     headers: &[u8],
     bodies: &'a [u8],
-) -> Result<Vec<RedBlock<'a>>, PacketError>
-    requires { 4 * count < length headers.now }
-    ensures { MatchResult result (λ v. Decodes (blocks_at count headers.now bodies.now) (blocks_of v.items)) (λ e. Fails e (blocks_at count headers.now bodies.now)) }
+) -> Result<Vec<RedBlock<'a>>, AllocError>
+    requires there { 4 * count < length headers.now }
+    requires few { count ≤ 32 }
+    requires whole { IsTrue (is_some (blocks_at count headers.now bodies.now)) }
+    ensures { IfOk result (λ v. Decodes (blocks_at count headers.now bodies.now) (blocks_of v.items)) }
 {
-    let mut found = Vec::new(alloc);
+    let mut found = Vec::with_capacity(alloc, count + 1)?;
     let mut heads = headers;
     let mut rest = bodies;
     for _ in 0..count {
         let Some((block, behind)) = block_of_header(heads, rest) else {
-            return Err(PacketError::ErrRedCorruptedPacket);
+            unreachable!()
         };
         found.push(block)?;
         let (_, others) = heads.split_at(REDUNDANT_HEADER_LEN);
@@ -140,13 +161,15 @@ fn blocks_from<'a>(
     Ok(found)
 }
 
+/// What is written of a block: a payload has the headers of all blocks before the bytes of all.
+#[derive(Clone, Copy, Debug)]
+pub(crate) enum BlockPart {
+    Header,
+    Bytes,
+}
+
 /// Writes the header of a redundant block: a set bit, 7 bits of type, 14 of offset and 10 of length.
-pub(crate) fn put_header(
-    out: &mut Vec<u8>,
-    pt: u8,
-    offset: u32,
-    len: usize,
-) -> Result<(), AllocError>
+fn put_header(out: &mut Vec<u8>, pt: u8, offset: u32, len: usize) -> Result<(), AllocError>
     requires low { offset ≤ 16383 }
     requires short { len ≤ 1023 }
     ensures written { OnOk result (out.new.items ≡ out.old.items ++ header_of (pt % 128) offset len) }
@@ -159,28 +182,36 @@ pub(crate) fn put_header(
     ])
 }
 
-/// Writes the headers of the first 32 blocks that fit.
-fn put_headers(out: &mut Vec<u8>, redundant: &[RedundantBlock]) -> Result<(), AllocError>
-    ensures { OnOk result (out.new.items ≡ out.old.items ++ flat_map header (map masked (take 32 (filter fits (map redundant_of redundant.now))))) }
+/// Writes one part of a redundant block.
+pub(crate) fn put_part(
+    out: &mut Vec<u8>,
+    part: BlockPart,
+    pt: u8,
+    offset: u32,
+    bytes: &[u8],
+) -> Result<(), AllocError>
+    requires low { offset ≤ 16383 }
+    requires short { length bytes.now ≤ 1023 }
+    ensures { OnOk result (out.new.items ≡ out.old.items ++ part_of part (record { pt = pt % 128; offset = offset; bytes = bytes.now })) }
 {
-    let mut left = MAX_REDUNDANT;
-    for block in redundant {
-        if left > 0 && block.fits() {
-            put_header(out, block.pt, block.timestamp_offset, block.payload.len())?;
-            left -= 1;
-        }
+    match part {
+        BlockPart::Header => put_header(out, pt, offset, bytes.len()),
+        BlockPart::Bytes => out.extend_from_slice(bytes),
     }
-    Ok(())
 }
 
-/// Writes the bytes of the first 32 blocks that fit.
-fn put_bytes(out: &mut Vec<u8>, redundant: &[RedundantBlock]) -> Result<(), AllocError>
-    ensures { OnOk result (out.new.items ≡ out.old.items ++ flat_map (λ b. b.bytes) (map masked (take 32 (filter fits (map redundant_of redundant.now))))) }
+/// Writes one part of each of the first 32 blocks that fit.
+fn put_parts(
+    out: &mut Vec<u8>,
+    part: BlockPart,
+    redundant: &[RedundantBlock],
+) -> Result<(), AllocError>
+    ensures { OnOk result (out.new.items ≡ out.old.items ++ flat_map (part_of part) (map masked (take 32 (filter fits (map redundant_of redundant.now))))) }
 {
     let mut left = MAX_REDUNDANT;
     for block in redundant {
         if left > 0 && block.fits() {
-            out.extend_from_slice(&block.payload)?;
+            put_part(out, part, block.pt, block.timestamp_offset, &block.payload)?;
             left -= 1;
         }
     }
@@ -197,9 +228,9 @@ fn encoded_bytes(
     ensures { IfOk result (λ v. v.items ≡ encoded primary_pt primary.now (map redundant_of redundant.now)) }
 {
     let mut out = Vec::new(alloc);
-    put_headers(&mut out, redundant)?;
+    put_parts(&mut out, BlockPart::Header, redundant)?;
     out.push(primary_pt % 128)?;
-    put_bytes(&mut out, redundant)?;
+    put_parts(&mut out, BlockPart::Bytes, redundant)?;
     out.extend_from_slice(primary)?;
     Ok(out)
 }
@@ -239,7 +270,10 @@ fn decoded<'a>(alloc: Global, payload: &'a [u8]) -> Result<Vec<RedBlock<'a>>, Pa
         return Err(PacketError::ErrRedCorruptedPacket);
     };
     let (_, bodies) = payload.split_at(REDUNDANT_HEADER_LEN * count + 1);
-    blocks_from(alloc, count, payload, bodies)
+    if !blocks_are_whole(count, payload, bodies) {
+        return Err(PacketError::ErrRedCorruptedPacket);
+    }
+    Ok(blocks_from(alloc, count, payload, bodies)?)
 }
 
 /// Reads RED payloads.
@@ -250,9 +284,9 @@ impl RedDecoder {
     /// the payload; nothing is copied (RFC 2198, section 3).
     ///
     /// Fault 14, `ErrRedCorruptedPacket`, comes for all that is no RED payload: where the bytes end inside the headers,
-    /// where more than 32 redundant blocks are announced, and where a redundant block goes past the end. Any other
-    /// bytes are a RED payload, whatever was meant by them. Fault 17, `OutOfMemory`, comes where the list of blocks
-    /// finds no memory.
+    /// where more than 32 redundant blocks are announced, and where a redundant block goes past the end; no memory is
+    /// asked for then. Any other bytes are a RED payload, whatever was meant by them. Fault 17, `OutOfMemory`, comes
+    /// where the list of blocks of such a payload finds no memory.
     pub fn decode<'a>(alloc: Global, payload: &'a [u8]) -> Result<Vec<RedBlock<'a>>, PacketError>
         // The blocks are those of the payload, and encoding them gives its bytes.
         ensures payload { IfOk result (λ v. (r : Red) × IsRed payload.now r × (blocks_of v.items ≡ blocks_in r) × (encoded r.pt r.primary r.redundant ≡ payload.now)) }
@@ -271,9 +305,19 @@ pub struct SamePtBlocks<'a> {
     at: usize,
 }
 
+impl<'a> Model for SamePtBlocks<'a> {
+    ghost use Rattle.std.specs.Prelude.{List, drop};
+    ghost use Rattle.codec_payload_red.specs.declared.red.blocks.RedBlock.{RedBlock as Block};
+    ghost use Rattle.codec_payload_red.specs.RedBlocks.{same_pt};
+
+    ghost Value = { List Block };
+
+    ghost view = { λ s. same_pt s.pt (drop s.at s.blocks.now) };
+}
+
 /// Those of the blocks that have the payload type and a timestamp offset above 0, in order. It takes no memory.
 pub fn red_same_pt_blocks<'a>(blocks: &'a [RedBlock<'a>], pt: u8) -> SamePtBlocks<'a>
-    ensures { same_pt_left result ≡ same_pt pt blocks.now }
+    ensures { result ≡ same_pt pt blocks.now }
 {
     SamePtBlocks { blocks, pt, at: 0 }
 }
@@ -281,9 +325,9 @@ pub fn red_same_pt_blocks<'a>(blocks: &'a [RedBlock<'a>], pt: u8) -> SamePtBlock
 impl<'a> Iterator for SamePtBlocks<'a> {
     type Item = &'a RedBlock<'a>;
 
-    ghost next_gives = { YieldsFirstRef same_pt_left };
+    ghost next_gives = { YieldsFirstRef (λ blocks. blocks) };
 
-    ghost remaining = { item_count same_pt_left };
+    ghost remaining = { item_count (λ blocks. blocks) };
 
     fn next(&mut self) -> Option<&'a RedBlock<'a>> {
         while self.at < self.blocks.len() {

@@ -1,14 +1,14 @@
 //! The sender of RED payloads, which remembers what it sent (RFC 2198, section 3).
 
-ghost use Rattle.std.specs.Prelude.{◌≡◌, ◌-◌, ◌%◌, ◌<◌, ◌≤◌, ◌++◌, [], length, take, reverse, sum_by, IfOk, IfErr, IfSome, OnOk, IsTrue};
+ghost use Rattle.std.specs.Prelude.{◌≡◌, ◌-◌, ◌<◌, ◌≤◌, ◌++◌, [], length, take, reverse, sum_by, IfOk, IfErr, IfSome, OnOk, IsTrue};
 ghost use Rattle.std.specs.List.{flat_map};
 ghost use Rattle.codec_payload_base.specs.declared.error.PacketError.TheVariants.{OutOfMemory};
-ghost use Rattle.codec_payload_red.specs.RedPayload.{IsRed, header, spelling};
+ghost use Rattle.codec_payload_red.specs.RedPayload.{IsRed, spelling};
 ghost use Rattle.codec_payload_red.specs.RedLevels.{is_accepted, deepest, back, as_block, level, levels, levels_of, within, room_of, cost, kept, wrapped, output, recorded, synced, IsLongest};
-ghost use Rattle.codec_payload_red.specs.RedBlocks.{Finds};
+ghost use Rattle.codec_payload_red.specs.RedBlocks.{Finds, part_of};
 ghost use Rattle.codec_payload_red.specs.RedHistory.{entry_of, entries_of};
 
-use crate::red::blocks::{REDUNDANT_HEADER_LEN, fits_fields, put_header};
+use crate::red::blocks::{BlockPart, REDUNDANT_HEADER_LEN, fits_fields, put_part};
 use codec_payload_base::error::PacketError;
 use codec_payload_base::wire::Pt;
 use std::alloc::{AllocError, Global};
@@ -17,6 +17,11 @@ use std::marker::Model;
 
 /// How many packets back a receiver looks for what a redundant block carries, and so the greatest distance of a sender.
 pub const MAX_RED_RECOVERY_DEPTH: u64 = 8;
+
+/// The greatest distance of a sender is 8.
+pub fn constants_of_red()
+    ensures { MAX_RED_RECOVERY_DEPTH ≡ 8 }
+{}
 
 /// A payload that was sent.
 #[derive(Debug, Drop)]
@@ -60,7 +65,15 @@ fn level_of(
     as_block_of(sent, pt, time)
 }
 
-/// How many distances, from the shallowest on, have levels that fit the room together, and how many bytes these take.
+/// The distances whose levels are sent: the first so many, shallowest first.
+#[derive(Clone, Copy)]
+struct Chosen {
+    count: usize,
+    /// How many bytes their blocks take, headers and all.
+    size: usize,
+}
+
+/// Chooses as many distances, from the shallowest on, as have levels that fit the room together.
 #[tactic(auto, unfolding(crate::specs::RedLevels::levels, crate::specs::RedLevels::within))]
 fn choose(
     history: &VecDeque<SentPayload>,
@@ -68,75 +81,54 @@ fn choose(
     time: u32,
     distances: &[u32],
     room: usize,
-) -> (usize, usize)
-    ensures kept { within room (levels pt time (entries_of history.now.items) distances.now) ≡ levels pt time (entries_of history.now.items) (take result.0 distances.now) }
-    ensures count { result.0 ≤ length distances.now }
-    ensures cost { result.1 ≡ sum_by cost (levels pt time (entries_of history.now.items) (take result.0 distances.now)) }
-    ensures fits { result.1 ≤ room }
+) -> Chosen
+    ensures kept { within room (levels pt time (entries_of history.now.items) distances.now) ≡ levels pt time (entries_of history.now.items) (take result.count distances.now) }
+    ensures count { result.count ≤ length distances.now }
+    ensures cost { result.size ≡ sum_by cost (levels pt time (entries_of history.now.items) (take result.count distances.now)) }
+    ensures fits { result.size ≤ room }
 {
     let Some((first, deeper)) = distances.split_first() else {
-        return (0, 0);
+        return Chosen { count: 0, size: 0 };
     };
-    match level_of(history, pt, time, *first) {
-        None => {
-            let (count, size) = choose(history, pt, time, deeper, room);
-            (count + 1, size)
-        }
-        Some((_, bytes)) => {
-            let size = REDUNDANT_HEADER_LEN + bytes.len();
-            if room < size {
-                return (0, 0);
-            }
-            let (count, others) = choose(history, pt, time, deeper, room - size);
-            (count + 1, size + others)
-        }
+    let size = match level_of(history, pt, time, *first) {
+        None => 0,
+        Some((_, bytes)) => REDUNDANT_HEADER_LEN + bytes.len(),
+    };
+    if room < size {
+        return Chosen { count: 0, size: 0 };
+    }
+    let others = choose(history, pt, time, deeper, room - size);
+    Chosen {
+        count: others.count + 1,
+        size: others.size + size,
     }
 }
 
-/// Writes the headers of the levels, deepest first.
+/// Writes one part of each level, deepest first.
 #[tactic(auto, unfolding(crate::specs::RedLevels::levels))]
-fn put_level_headers(
+fn put_levels(
     out: &mut Vec<u8>,
+    part: BlockPart,
     history: &VecDeque<SentPayload>,
     pt: u8,
     time: u32,
     distances: &[u32],
 ) -> Result<(), AllocError>
     requires { pt < 128 }
-    ensures { OnOk result (out.new.items ≡ out.old.items ++ flat_map header (reverse (levels pt time (entries_of history.now.items) distances.now))) }
+    ensures { OnOk result (out.new.items ≡ out.old.items ++ flat_map (part_of part) (reverse (levels pt time (entries_of history.now.items) distances.now))) }
 {
     let Some((first, deeper)) = distances.split_first() else {
         return Ok(());
     };
-    put_level_headers(out, history, pt, time, deeper)?;
+    put_levels(out, part, history, pt, time, deeper)?;
     if let Some((offset, bytes)) = level_of(history, pt, time, *first) {
-        put_header(out, pt, offset, bytes.len())?;
-    }
-    Ok(())
-}
-
-/// Writes the bytes of the levels, deepest first.
-#[tactic(auto, unfolding(crate::specs::RedLevels::levels))]
-fn put_level_bytes(
-    out: &mut Vec<u8>,
-    history: &VecDeque<SentPayload>,
-    pt: u8,
-    time: u32,
-    distances: &[u32],
-) -> Result<(), AllocError>
-    ensures { OnOk result (out.new.items ≡ out.old.items ++ flat_map (λ b. b.bytes) (reverse (levels pt time (entries_of history.now.items) distances.now))) }
-{
-    let Some((first, deeper)) = distances.split_first() else {
-        return Ok(());
-    };
-    put_level_bytes(out, history, pt, time, deeper)?;
-    if let Some((_, bytes)) = level_of(history, pt, time, *first) {
-        out.extend_from_slice(bytes)?;
+        put_part(out, part, pt, offset, bytes)?;
     }
     Ok(())
 }
 
 /// The levels that the budget has room for, deepest first, and the payload behind them.
+#[tactic(auto, using(crate::proofs::SenderOutputLemmas::written_in_order))]
 fn wrapped_bytes(
     alloc: Global,
     history: &VecDeque<SentPayload>,
@@ -150,12 +142,12 @@ fn wrapped_bytes(
     requires small { pt < 128 }
     ensures { IfOk result (λ v. v.items ≡ spelling (record { redundant = reverse (within (budget - length payload.now - 1) (levels pt time (entries_of history.now.items) distances.now)); pt = pt; primary = payload.now })) }
 {
-    let (count, size) = choose(history, pt, time, distances, budget - payload.len() - 1);
-    let (kept, _) = distances.split_at(count);
-    let mut out = Vec::with_capacity(alloc, size + 1 + payload.len())?;
-    put_level_headers(&mut out, history, pt, time, kept)?;
+    let chosen = choose(history, pt, time, distances, budget - payload.len() - 1);
+    let (kept, _) = distances.split_at(chosen.count);
+    let mut out = Vec::with_capacity(alloc, chosen.size + 1 + payload.len())?;
+    put_levels(&mut out, BlockPart::Header, history, pt, time, kept)?;
     out.push(pt)?;
-    put_level_bytes(&mut out, history, pt, time, kept)?;
+    put_levels(&mut out, BlockPart::Bytes, history, pt, time, kept)?;
     out.extend_from_slice(payload)?;
     Ok(out)
 }
@@ -178,7 +170,7 @@ impl Model for Distances {
 }
 
 impl Distances {
-    #[tactic(auto, using(crate::proofs::Sending::accepted_few))]
+    #[tactic(auto, using(crate::proofs::SenderHistoryLemmas::accepted_few))]
     fn from_list(distances: &[u32]) -> Self
         requires { IsTrue (is_accepted distances.now) }
         ensures { result ≡ distances.now }
@@ -252,6 +244,9 @@ impl RedSender {
 
     /// A sender that has sent nothing. `red_pt` is the payload type of the packets, `primary_pt` that of the blocks, of
     /// which 7 bits are written. It takes no memory; `alloc` is where the history will grow.
+    ///
+    /// It asks for distances that [`RedSender::accepts`] takes: strictly rising, each from 1 to 8, or none at all.
+    /// Where they come from outside, ask that call first.
     pub fn new(alloc: Global, red_pt: Pt, primary_pt: Pt, distances: &[u32]) -> Self
         requires { IsTrue (is_accepted distances.now) }
         ensures { result ≡ record { red_pt = red_pt; primary_pt = primary_pt; distances = distances.now; history = [] } }
@@ -265,8 +260,10 @@ impl RedSender {
     }
 
     /// Takes over new payload types and distances. Of the history the newest payloads stay, as many as the new greatest
-    /// distance. It takes no memory.
-    #[tactic(auto, using(crate::proofs::Sending::synced_is))]
+    /// distance, and one where there is no distance. It takes no memory.
+    ///
+    /// It asks, as [`RedSender::new`] does, for distances that [`RedSender::accepts`] takes.
+    #[tactic(auto, using(crate::proofs::SenderHistoryLemmas::synced_is))]
     pub fn sync(&mut self, red_pt: Pt, primary_pt: Pt, distances: &[u32])
         requires { IsTrue (is_accepted distances.now) }
         ensures { self.new ≡ synced self.old red_pt primary_pt distances.now }
@@ -285,7 +282,7 @@ impl RedSender {
     }
 
     /// What goes out for a payload.
-    #[tactic(auto, using(crate::proofs::Sending::output_is_red))]
+    #[tactic(auto, using(crate::proofs::SenderOutputLemmas::output_is_red))]
     fn output(&self, payload: &[u8], time: u32, budget: usize) -> Result<Vec<u8>, AllocError>
         ensures written { IfOk result (λ v. v.items ≡ output self.now payload.now time budget) }
         ensures payload { IfOk result (λ v. length payload.now < budget → IsRed v.items (wrapped self.now payload.now time budget)) }
@@ -332,7 +329,7 @@ impl RedSender {
     ///
     /// The only fault is 17, `OutOfMemory`, which leaves the sender as it was; the payload is then gone. The payload
     /// moves into the history and is copied once, into the answer, and so is each payload that is repeated.
-    #[tactic(auto, using(crate::proofs::Sending::output_bounded))]
+    #[tactic(auto, using(crate::proofs::SenderOutputLemmas::output_bounded))]
     pub fn wrap(
         &mut self,
         payload: Vec<u8>,

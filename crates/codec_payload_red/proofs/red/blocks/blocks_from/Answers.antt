@@ -1,14 +1,17 @@
-use Rattle.std.proofs.Common.{◌≡◌, suc, ◌+◌, ◌-◌, ◌*◌, ◌<◌, [], ◌∷◌, ◌++◌, length, map, get_or, refl, sym, ap, ◌∙◌, arith}
+use Rattle.std.proofs.Common.{◌≡◌, suc, ◌+◌, ◌-◌, ◌*◌, ◌<◌, [], ◌∷◌, ◌++◌, length, map, get_or, is_some, false, refl, sym, ap, ◌∙◌, arith}
 use Rattle.std.proofs.lemmas.List.{map_push}
 use Rattle.codec_payload_red.specs.RedPayload.{Red}
+use Rattle.codec_payload_red.specs.RedReading.{blocks_at}
 use Rattle.codec_payload_red.specs.RedBlocks.{block_of, blocks_of, older, older_of}
-use Rattle.codec_payload_red.proofs.Stepping.{none_there, one_there, all_there, blocks_and_primary}
+use Rattle.codec_payload_red.proofs.DecoderLoopLemmas.{none_there, one_there, all_there, blocks_and_primary}
 use Rattle.codec_payload_red.proofs.red.blocks.blocks_from.Goals as goal
 
-pub returns-in_default : goal.returns-in_default
-returns-in_default c =
+pub unreachable-requires : goal.unreachable-requires
+unreachable-requires c =
     let k : c.args.count - c.loop.counter ≡ suc (c.args.count - (c.loop.counter + 1)) = omega arith in
-    none_there _ (c.args.count - (c.loop.counter + 1)) c.loop.heads.now c.loop.rest.now _ c.in_default.ensures.found (rw k at c.loop.invariant.whole)
+    let none = none_there _ (c.args.count - (c.loop.counter + 1)) c.loop.heads.now c.loop.rest.now _ c.in_default.ensures.found (rw k at c.loop.invariant.whole) in
+    let no : is_some (blocks_at c.args.count c.args.headers.now c.args.bodies.now) ≡ false = ap is_some none in
+    cc (no, c.requires.whole)
 
 pub loop-preserved : goal.loop-preserved
 loop-preserved c =

@@ -1,7 +1,7 @@
 use Rattle.std.proofs.Common.{◌≡◌, ◌-◌, ◌*◌, ◌<◌, length, map}
 use Rattle.codec_payload_red.specs.RedReading.{blocks_at}
 use Rattle.codec_payload_red.specs.RedBlocks.{blocks_of, older, older_of}
-use Rattle.codec_payload_red.proofs.Stepping.{with_front}
+use Rattle.codec_payload_red.proofs.DecoderLoopLemmas.{with_front}
 use Rattle.codec_payload_red.proofs.red.blocks.blocks_from.Given as goal
 
 abbrev pub invariant-loop : goal.invariant-loop

@@ -1,5 +1,5 @@
 use Rattle.std.proofs.Common.{arith}
-use Rattle.codec_payload_red.proofs.Sending.{back_found}
+use Rattle.codec_payload_red.proofs.SenderHistoryLemmas.{back_found}
 use Rattle.codec_payload_red.proofs.red.sender.back_of.Goals as goal
 
 pub returns : goal.returns

@@ -1,5 +1,5 @@
 use Rattle.std.proofs.Common.{sym, arith}
-use Rattle.codec_payload_red.proofs.Sending.{deepest_last}
+use Rattle.codec_payload_red.proofs.SenderHistoryLemmas.{deepest_last}
 use Rattle.codec_payload_red.proofs.red.sender.depth_of.Goals as goal
 
 pub returns-in-len1-up : goal.returns-in-len1-up

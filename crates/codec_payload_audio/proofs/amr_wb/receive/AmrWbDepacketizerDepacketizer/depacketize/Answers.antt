@@ -6,4 +6,4 @@ pub returns-clause-step : goal.returns-clause-step
 returns-clause-step c =
     let (frames, read, bits) = c.in_default.ensures.ok in
     let (more, same) = c.in_default.ensures.kept in
-    ((frames, read, appended_bytes c.args.out.now.items more c.append_frames.new.out.items frames same bits (λ i h. omega (arith, h, c.type_inv.out i)), refl), refl)
+    ((frames, read, appended_bytes c.args.out.now.items more c.append_payload.new.out.items frames same bits (λ i h. omega (arith, h, c.type_inv.out i 0 h)), refl), refl)

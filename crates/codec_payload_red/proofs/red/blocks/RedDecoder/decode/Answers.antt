@@ -1,6 +1,6 @@
 use Rattle.std.proofs.Common.{arith}
 use Rattle.codec_payload_red.specs.RedBlocks.{blocks_of}
-use Rattle.codec_payload_red.proofs.Laws.{decoded_is_red, refused_is_none}
+use Rattle.codec_payload_red.proofs.EncodeDecodeLemmas.{decoded_is_red, refused_is_none}
 use Rattle.codec_payload_red.proofs.red.blocks.RedDecoder.decode.Goals as goal
 
 pub returns-clause-payload : goal.returns-clause-payload

@@ -1,6 +1,6 @@
 use Rattle.std.proofs.Common.{map}
 use Rattle.codec_payload_red.specs.RedBlocks.{redundant_of}
-use Rattle.codec_payload_red.proofs.Laws.{encoded_is_red, encoded_is_read}
+use Rattle.codec_payload_red.proofs.EncodeDecodeLemmas.{encoded_is_red, encoded_is_read}
 use Rattle.codec_payload_red.proofs.red.blocks.RedEncoder.encode.Goals as goal
 
 pub returns-clause-payload : goal.returns-clause-payload

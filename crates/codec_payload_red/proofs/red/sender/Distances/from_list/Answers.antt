@@ -1,5 +1,5 @@
 use Rattle.std.proofs.Common.{◌<◌, ◌≤◌, ◌∙◌, length, arith, length-set, get_or}
-use Rattle.codec_payload_red.proofs.Sending.{accepted_few, copied_more}
+use Rattle.codec_payload_red.proofs.SenderHistoryLemmas.{accepted_few, copied_more}
 use Rattle.codec_payload_red.proofs.red.sender.Distances.from_list.Goals as goal
 
 pub loop-i-preserved : goal.loop-i-preserved

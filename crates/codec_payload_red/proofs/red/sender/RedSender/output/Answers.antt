@@ -1,4 +1,4 @@
-use Rattle.codec_payload_red.proofs.Sending.{kept_is_longest}
+use Rattle.codec_payload_red.proofs.LongestLevelsLemmas.{kept_is_longest}
 use Rattle.codec_payload_red.proofs.red.sender.RedSender.output.Goals as goal
 
 pub returns-then-payload-budget-clause-longest : goal.returns-then-payload-budget-clause-longest

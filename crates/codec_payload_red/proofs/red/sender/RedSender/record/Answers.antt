@@ -1,7 +1,7 @@
 use Rattle.std.proofs.Common.{rules, ◌≡◌, ◌∷◌, ◌∙◌, ap}
 use Rattle.codec_payload_red.specs.declared.red.sender.SentPayload.{SentPayload}
 use Rattle.codec_payload_red.specs.RedLevels.{deepest}
-use Rattle.codec_payload_red.proofs.Sending.{recorded_is}
+use Rattle.codec_payload_red.proofs.SenderHistoryLemmas.{recorded_is}
 use Rattle.codec_payload_red.proofs.red.sender.RedSender.record.Goals as goal
 
 pub returns-clause-ok : goal.returns-clause-ok

@@ -9,7 +9,7 @@ use Rattle.std.specs.Prelude.{MatchResult, IsErrOf}
 use Rattle.codec_payload_base.specs.declared.error.PacketError.{PacketError}
 use Rattle.codec_payload_base.specs.declared.error.PacketError.TheVariants.{ErrRedCorruptedPacket}
 use Rattle.codec_payload_red.specs.RedBlocks.{Block, Decodes, Fails, blocks_in}
-use Rattle.codec_payload_red.proofs.Grammar.{reads_spelled, spells_read}
+use Rattle.codec_payload_red.proofs.RedGrammarLemmas.{reads_spelled, spells_read}
 
 fits_has : (b : Redundant) → fits b ≡ true → HasHeader (masked b)
 fits_has b h =

@@ -1,5 +1,5 @@
 -- The loop of the decoder: what was found stands before what is left to read.
-use Rattle.std.proofs.Common.{◌≡◌, ℕ, suc, List, [], ◌∷◌, ◌++◌, map, get_or, drop, Option, Some, None, true, refl, sym, ap, ◌∙◌, append_assoc}
+use Rattle.std.proofs.Common.{◌≡◌, ℕ, suc, List, [], ◌∷◌, ◌++◌, map, get_or, drop, Option, Some, None, is_some, true, false, refl, sym, ap, ◌∙◌, append_assoc}
 use Rattle.std.proofs.lemmas.List.{append-nil, map_push}
 use Rattle.codec_payload_red.specs.RedPayload.{Redundant, Red}
 use Rattle.codec_payload_red.specs.declared.red.blocks.RedBlock.{RedBlock}
@@ -34,3 +34,19 @@ all_there found heads rest whole h = sym h ∙ ap (λ t. Some (record { redundan
 
 pub blocks_and_primary : (bs : List RedBlock) (x : RedBlock) (r : Red) → blocks_of bs ≡ map older r.redundant → block_of x ≡ record { pt = r.pt; timestamp_offset = 0; payload = r.primary; is_primary = true } → blocks_of (bs ++ x ∷ []) ≡ blocks_in r
 blocks_and_primary bs x r older_ones last = map_push block_of bs x ∙ ap (λ t. t ++ block_of x ∷ []) older_ones ∙ ap (λ t. map older r.redundant ++ t ∷ []) last
+
+pub some_none : (n : ℕ) (heads rest : List ℕ) → block_at heads rest ≡ None → is_some (blocks_at (suc n) heads rest) ≡ false
+unfolding blocks_at
+some_none n heads rest e = rw e refl
+
+some_more : (b : Redundant) (o : Option Red) → is_some (o >>= λ r. Some (one_more b r)) ≡ is_some o
+some_more b None = refl
+some_more b (Some r) = refl
+
+pub some_one : (n : ℕ) (heads rest : List ℕ) (b : Redundant) (behind : List ℕ) → block_at heads rest ≡ Some (b, behind) → is_some (blocks_at (suc n) heads rest) ≡ is_some (blocks_at n (drop 4 heads) behind)
+unfolding blocks_at
+some_one n heads rest b behind e = rw e (some_more b (blocks_at n (drop 4 heads) behind))
+
+pub some_last : (heads rest : List ℕ) → is_some (blocks_at 0 heads rest) ≡ true
+unfolding blocks_at
+some_last heads rest = refl
