@@ -3,6 +3,8 @@ pub mod ByteTables
 pub mod BytesLemmas
 pub mod FaultLemmas
 pub mod Leb128Lemmas
+pub mod LebLaws
 pub mod LebLemmas
+pub mod LebReads
 pub mod PieceLemmas
 pub mod TelephoneLemmas
