@@ -1,6 +1,6 @@
 -- The grammar of AV1 payloads, by cases on their elements.
 use Rattle.std.specs.Prelude.{◌≡◌, ℕ, zero, suc, ◌<◌, ◌/◌, ◌||◌, ◌&&◌, ◌==◌, List, [], ◌∷◌, ◌++◌, Some, length, bit_and}
-use Rattle.codec_payload_av1.specs.Av1Leb.{leb_at}
+use Rattle.codec_payload_base.specs.Leb.{IsLeb128}
 use Rattle.codec_payload_av1.specs.Av1Obu.{Obu, IsSequence, has_bit, obus_of}
 use Rattle.codec_payload_av1.specs.Av1Payload.{Payload, payload_at}
 
@@ -8,7 +8,7 @@ use Rattle.codec_payload_av1.specs.Av1Payload.{Payload, payload_at}
 pub record StandsFirst (element bytes rest : List ℕ) : Type 0 where
   pub nonempty : 0 < length element
   pub size : List ℕ
-  pub spelled : leb_at size ≡ Some (length element, [])
+  pub spelled : IsLeb128 size (length element)
   pub parts : bytes ≡ size ++ (element ++ rest)
 
 -- each element behind its length

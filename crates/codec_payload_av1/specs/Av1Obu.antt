@@ -2,8 +2,8 @@
 use Rattle.std.specs.Prelude.{◌≡◌, ℕ, zero, suc, List, [], ◌∷◌, ◌++◌, length, map, take, drop, Option, Some, None, Bool, true, false, not, ◌||◌, nat_lt, ◌==◌, if◌then◌else◌, bit_and, bit_or, ◌⊎◌}
 use Rattle.std.specs.List.{flat_map, filter}
 use Rattle.codec_payload_av1.specs.declared.av1.obu.ObuSlices.{ObuSlices}
-use Rattle.codec_payload_base.specs.Leb.{leb}
-use Rattle.codec_payload_av1.specs.Av1Leb.{◌>>=◌, leb_at}
+use Rattle.codec_payload_base.specs.Leb.{IsLeb128, leb, leb_at}
+use Rattle.codec_payload_av1.specs.Av1Reading.{◌>>=◌}
 
 -- The first byte of the header as it stands, the extension byte where there is one, and the payload.
 pub record Obu : Type 0 where
@@ -36,7 +36,7 @@ pub record IsObu (o : Obu) : Type 0 where
 abbrev pub IsSequence : List Obu → List ℕ → Type 0
 IsSequence [] bytes = bytes ≡ []
 IsSequence (o ∷ os) bytes = IsObu o ×
-    (((has_size o.header ≡ true) × ((size : List ℕ) × (rest : List ℕ) × (leb_at size ≡ Some (length o.payload, [])) × (bytes ≡ o.header ∷ (o.extension ++ (size ++ (o.payload ++ rest)))) × IsSequence os rest))
+    (((has_size o.header ≡ true) × ((size : List ℕ) × (rest : List ℕ) × IsLeb128 size (length o.payload) × (bytes ≡ o.header ∷ (o.extension ++ (size ++ (o.payload ++ rest)))) × IsSequence os rest))
     ⊎ ((has_size o.header ≡ false) × (os ≡ []) × (bytes ≡ o.header ∷ (o.extension ++ o.payload))))
 
 -- ---- what is sent of an OBU, and what a receiver makes of it

@@ -3,8 +3,8 @@ use Rattle.std.specs.Prelude.{ℕ, zero, suc, ◌+◌, ◌*◌, ◌/◌, List, [
 use Rattle.std.specs.List.{flat_map}
 use Rattle.std.specs.Borrow.{Bor}
 use Rattle.codec_payload_av1.specs.declared.av1.payload.PayloadSlices.{PayloadSlices}
-use Rattle.codec_payload_base.specs.Leb.{leb}
-use Rattle.codec_payload_av1.specs.Av1Leb.{◌>>=◌, leb_at}
+use Rattle.codec_payload_base.specs.Leb.{leb, leb_at}
+use Rattle.codec_payload_av1.specs.Av1Reading.{◌>>=◌}
 use Rattle.codec_payload_av1.specs.Av1Obu.{has_bit}
 
 -- continues is Z: the first element goes on from the packet before. goes_on is Y: the last one goes on in the next.

@@ -1,6 +1,6 @@
 -- What a receiver makes of payloads.
 use Rattle.std.specs.Prelude.{ℕ, List, [], ◌∷◌, ◌++◌, Option, Some, None, Bool, not, ◌&&◌, if◌then◌else◌}
-use Rattle.codec_payload_av1.specs.Av1Leb.{◌>>=◌}
+use Rattle.codec_payload_av1.specs.Av1Reading.{◌>>=◌}
 use Rattle.codec_payload_av1.specs.Av1Obu.{Obu, obu_at, has_size, is_kept_type, canonical}
 use Rattle.codec_payload_av1.specs.Av1Payload.{Payload, payload_at}
 use Rattle.codec_payload_av1.specs.Av1Packing.{ended, left_open, is_begun}

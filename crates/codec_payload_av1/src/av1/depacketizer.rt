@@ -132,7 +132,7 @@ impl Depacketizer for Av1Depacketizer {
 }
 
 /// Adds what an element gives, which has to be exactly one OBU: nothing where that is not kept.
-#[tactic(auto, using(crate::proofs::Av1Kept::kept_more, crate::proofs::Av1Kept::kept_same), unfolding(crate::specs::Av1Receiving::unit_of))]
+#[tactic(auto, using(crate::proofs::Av1FrontKept::kept_more, crate::proofs::Av1FrontKept::kept_same), unfolding(crate::specs::Av1Receiving::unit_of))]
 fn append_unit(out: &mut Vec<u8>, element: &[u8]) -> Result<(), PacketError>
     ensures added { Appends result out.old.items out.new.items (unit_of element.now) }
     ensures kept { take (length out.old.items) out.new.items ≡ out.old.items }

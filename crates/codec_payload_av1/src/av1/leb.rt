@@ -1,8 +1,7 @@
 //! Numbers in LEB128 (AV1 bitstream specification, section 4.10.5).
 
 ghost use Rattle.std.specs.Prelude.{◌≡◌, ◌++◌, ◌<◌, ◌≤◌, ◌^◌, ◌%◌, ◌-◌, ◌+◌, OnOk, Some, length, take};
-ghost use Rattle.codec_payload_base.specs.Leb.{leb};
-ghost use Rattle.codec_payload_av1.specs.Av1Leb.{leb_low, leb_at};
+ghost use Rattle.codec_payload_base.specs.Leb.{leb, leb_low, leb_at};
 ghost use Rattle.codec_payload_av1.specs.Av1Outcome.{Finds};
 
 use std::alloc::AllocError;
@@ -25,7 +24,7 @@ fn number_front(more: u32, bytes: &[u8]) -> Option<(u64, &[u8])>
 
 /// The number at the front, of at most ten bytes and modulo 2^64, and what follows it. `None` where no byte below 0x80
 /// ends it.
-#[tactic(auto, unfolding(crate::specs::Av1Leb::leb_at))]
+#[tactic(auto, unfolding(codec_payload_base::specs::Leb::leb_at))]
 pub fn number_at(bytes: &[u8]) -> Option<(u64, &[u8])>
     ensures { Finds (λ x. (x.0, x.1.now)) result (leb_at bytes.now) }
 {
@@ -33,7 +32,7 @@ pub fn number_at(bytes: &[u8]) -> Option<(u64, &[u8])>
 }
 
 /// Writes a number at the end, in as few bytes as it takes.
-#[tactic(auto, using(crate::proofs::Av1Kept::kept_more, crate::proofs::Av1Kept::kept_same))]
+#[tactic(auto, using(crate::proofs::Av1FrontKept::kept_more, crate::proofs::Av1FrontKept::kept_same))]
 pub fn put_number(out: &mut Vec<u8>, number: u64) -> Result<(), AllocError>
     ensures written { OnOk result (out.new.items ≡ out.old.items ++ leb number) }
     ensures kept { take (length out.old.items) out.new.items ≡ out.old.items }

@@ -89,7 +89,7 @@ pub fn obu_of(bytes: &[u8]) -> Option<(ObuSlices<'_>, &[u8])>
 }
 
 /// Writes the canonical form at the end: the size bit set, and the size in as few bytes as it takes.
-#[tactic(auto, using(crate::proofs::Av1Kept::kept_more, crate::proofs::Av1Kept::kept_same, crate::proofs::Av1Kept::kept_trans), unfolding(crate::specs::Av1Obu::canonical))]
+#[tactic(auto, using(crate::proofs::Av1FrontKept::kept_more, crate::proofs::Av1FrontKept::kept_same, crate::proofs::Av1FrontKept::kept_trans), unfolding(crate::specs::Av1Obu::canonical))]
 pub fn put_canonical(out: &mut Vec<u8>, obu: &ObuSlices<'_>) -> Result<(), AllocError>
     ensures written { OnOk result (out.new.items ≡ out.old.items ++ canonical (view obu.now)) }
     ensures kept { take (length out.old.items) out.new.items ≡ out.old.items }

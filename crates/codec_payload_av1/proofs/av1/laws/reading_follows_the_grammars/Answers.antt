@@ -1,5 +1,5 @@
-use Rattle.codec_payload_av1.proofs.Av1GrammarLemmas.{payload_sound, payload_complete}
-use Rattle.codec_payload_av1.proofs.Av1Sequence.{sequence_sound, sequence_complete}
+use Rattle.codec_payload_av1.proofs.Av1PayloadGrammar.{payload_sound, payload_complete}
+use Rattle.codec_payload_av1.proofs.Av1ObuGrammar.{sequence_sound, sequence_complete}
 use Rattle.codec_payload_av1.proofs.av1.laws.reading_follows_the_grammars.Goals as goal
 
 pub returns-clause-obus : goal.returns-clause-obus

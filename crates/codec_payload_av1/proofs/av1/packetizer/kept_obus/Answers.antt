@@ -2,7 +2,7 @@ use Rattle.std.proofs.Common.{arith}
 use Rattle.std.proofs.lemmas.Grind.{common_steps}
 use Rattle.codec_payload_av1.specs.Av1Obu.{frame_kept, view}
 use Rattle.codec_payload_av1.specs.Av1Piece.{views}
-use Rattle.codec_payload_av1.proofs.Av1Frames.{frame_goes_on, frame_fails, frame_ends, frame_starts, shorter}
+use Rattle.codec_payload_av1.proofs.Av1ReadingObus.{frame_goes_on, frame_fails, frame_ends, frame_starts, shorter}
 use Rattle.codec_payload_av1.proofs.av1.packetizer.kept_obus.Goals as goal
 
 pub loop-rest-init : goal.loop-rest-init

@@ -1,7 +1,7 @@
 use Rattle.std.proofs.Common.{◌≡◌, length}
 use Rattle.codec_payload_av1.specs.Av1Obu.{frame_kept}
 use Rattle.codec_payload_av1.specs.Av1Piece.{views}
-use Rattle.codec_payload_av1.proofs.Av1Frames.{with_kept}
+use Rattle.codec_payload_av1.proofs.Av1ReadingObus.{with_kept}
 use Rattle.codec_payload_av1.proofs.av1.packetizer.kept_obus.Given as goal
 
 abbrev pub invariant-loop-rest : goal.invariant-loop-rest

@@ -4,8 +4,8 @@ use Rattle.codec_payload_av1.specs.Av1Obu.{Obu, IsSequence, kept, strings_of, st
 use Rattle.codec_payload_av1.specs.Av1Packing.{AreSent}
 use Rattle.codec_payload_av1.specs.Av1Piece.{views}
 use Rattle.codec_payload_av1.specs.Av1Size.{items_of}
-use Rattle.codec_payload_av1.proofs.Av1Sequence.{IsBytes}
-use Rattle.codec_payload_av1.proofs.Av1Frame.{frame_read, skipped_frame, skipped_far, refused_frame, sent_frame, few, far}
+use Rattle.codec_payload_av1.proofs.Av1ObuGrammar.{IsBytes}
+use Rattle.codec_payload_av1.proofs.Av1FrameAnswers.{frame_read, skipped_frame, skipped_far, refused_frame, sent_frame, few, far}
 use Rattle.codec_payload_av1.proofs.av1.packetizer.Av1PacketizerPacketizer.packetize.Goals as goal
 use Rattle.codec_payload_av1.proofs.av1.packetizer.Av1PacketizerPacketizer.packetize.Goals.{After-drop-obus-2, then-is_empty-via-then-is_empty, then-is_empty-via-else-is_empty+then-mtu-lt2}
 

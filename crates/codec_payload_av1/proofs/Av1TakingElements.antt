@@ -3,10 +3,10 @@ use Rattle.std.proofs.Common.{◌≡◌, ℕ, ◌<◌, Bool, true, false, eqb, L
 use Rattle.std.specs.Prelude.{◌&&◌}
 use Rattle.std.proofs.lemmas.Bool.{eqb-false, eqb-true}
 use Rattle.std.proofs.lemmas.List.{append-nil, nil_from_length}
-use Rattle.codec_payload_av1.specs.Av1Leb.{◌>>=◌}
+use Rattle.codec_payload_av1.specs.Av1Reading.{◌>>=◌}
 use Rattle.codec_payload_av1.specs.Av1Packing.{ended, left_open}
 use Rattle.codec_payload_av1.specs.Av1Receiving.{unit_of, units_of, taken}
-use Rattle.codec_payload_av1.proofs.Av1Lengths.{some_is}
+use Rattle.codec_payload_av1.proofs.Av1PayloadLengths.{some_is}
 
 abbrev entry : List ℕ → List ℕ → Option (List ℕ × List ℕ)
 entry units left = Some (units, left)

@@ -1,7 +1,7 @@
 -- What holds of the packets of a frame.
 use Rattle.std.proofs.Common.{◌≡◌, ℕ, ◌≤◌, ◌<◌, ◌^◌, false, List, [], ◌∷◌, ◌++◌, length, take, Some, None, Ok, Err, refl, sym, ap, ◌∙◌, ◌⊎◌, inl, inr, arith}
 use Rattle.std.proofs.lemmas.List.{length-map}
-use Rattle.codec_payload_av1.specs.Av1Leb.{◌>>=◌}
+use Rattle.codec_payload_av1.specs.Av1Reading.{◌>>=◌}
 use Rattle.codec_payload_av1.specs.Av1Obu.{Obu, IsSequence, kept, strings_of, starts_sequence, obus_of, frame_kept}
 use Rattle.codec_payload_av1.specs.Av1Payload.{written}
 use Rattle.codec_payload_av1.specs.Av1Packing.{Packs, reach, AreSent}
@@ -10,10 +10,10 @@ use Rattle.codec_payload_av1.specs.Av1Outcome.{Fails}
 use Rattle.codec_payload_base.specs.declared.error.PacketError.{PacketError}
 use Rattle.codec_payload_base.specs.declared.error.PacketError.TheVariants as faults
 use Rattle.codec_payload_av1.specs.Av1Receiving.{all_received}
-use Rattle.codec_payload_av1.proofs.Av1Lengths.{bind_some, some_is}
-use Rattle.codec_payload_av1.proofs.Av1Sequence.{IsBytes, sequence_sound, sequence_complete, sequence_good}
-use Rattle.codec_payload_av1.proofs.Av1Comes.{frame_comes, last_packets_come, sent_are_read}
-use Rattle.codec_payload_av1.proofs.Av1Packed.{fewest, furthest}
+use Rattle.codec_payload_av1.proofs.Av1PayloadLengths.{bind_some, some_is}
+use Rattle.codec_payload_av1.proofs.Av1ObuGrammar.{IsBytes, sequence_sound, sequence_complete, sequence_good}
+use Rattle.codec_payload_av1.proofs.Av1RoundTrip.{frame_comes, last_packets_come, sent_are_read}
+use Rattle.codec_payload_av1.proofs.Av1FewestPackets.{fewest, furthest}
 
 pub frame_read : (bytes : List ℕ) (ks : List Obu) → frame_kept bytes ≡ Some ks → (os : List Obu) × IsSequence os bytes × (ks ≡ kept os)
 unfolding frame_kept

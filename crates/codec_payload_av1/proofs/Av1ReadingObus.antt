@@ -1,9 +1,9 @@
 -- Reading the strings of a frame one after the other, as a loop does.
 use Rattle.std.proofs.Common.{◌≡◌, ℕ, zero, suc, ◌≤◌, ◌<◌, Bool, true, false, List, [], ◌∷◌, ◌++◌, length, Option, Some, None, refl, sym, ap, ◌∙◌, append_assoc, inl, inr, arith}
 use Rattle.std.proofs.lemmas.List.{append-nil, length-append}
-use Rattle.codec_payload_av1.specs.Av1Leb.{◌>>=◌}
+use Rattle.codec_payload_av1.specs.Av1Reading.{◌>>=◌}
 use Rattle.codec_payload_av1.specs.Av1Obu.{Obu, is_kept_type, kept, obu_at, obus_within, obus_of, frame_kept}
-use Rattle.codec_payload_av1.proofs.Av1Sequence.{obu_split}
+use Rattle.codec_payload_av1.proofs.Av1ObuGrammar.{obu_split}
 
 pub shorter : (bytes rest : List ℕ) (o : Obu) → obu_at bytes ≡ Some (o, rest) → length rest < length bytes
 shorter bytes rest o is =

@@ -1,9 +1,9 @@
 -- Reading elements one after the other, as a loop does.
 use Rattle.std.proofs.Common.{◌≡◌, ℕ, zero, suc, ◌≤◌, ◌<◌, List, [], ◌∷◌, ◌++◌, length, Option, Some, None, refl, sym, ap, ◌∙◌, append_assoc, arith}
 use Rattle.std.proofs.lemmas.List.{append-nil}
-use Rattle.codec_payload_av1.specs.Av1Leb.{◌>>=◌}
+use Rattle.codec_payload_av1.specs.Av1Reading.{◌>>=◌}
 use Rattle.codec_payload_av1.specs.Av1Payload.{element_at, each_at, counted_at}
-use Rattle.codec_payload_av1.proofs.Av1Lengths.{element_at_len, leb_len_some}
+use Rattle.codec_payload_av1.proofs.Av1PayloadLengths.{element_at_len, leb_len_some}
 
 -- what was read before, and what is still read
 abbrev pub with_front : List (List ℕ) → Option (List (List ℕ)) → Option (List (List ℕ))
