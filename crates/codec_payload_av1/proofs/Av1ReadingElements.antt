@@ -29,7 +29,7 @@ fuel zero j (c ∷ bytes) a b = absurd (omega (arith, a))
 fuel (suc k) zero (c ∷ bytes) a b = absurd (omega (arith, b))
 fuel (suc k) (suc j) (c ∷ bytes) a b = same_step k j (c ∷ bytes) (element_at (c ∷ bytes)) refl (λ x is. fuel k j x.1 (omega (arith, a, shorter (c ∷ bytes) x.0 x.1 is)) (omega (arith, b, shorter (c ∷ bytes) x.0 x.1 is)))
 
-each_cons : (bytes e rest : List ℕ) → 0 < length bytes → element_at bytes ≡ Some (e, rest) → each_at (length bytes) bytes ≡ (each_at (length rest) rest >>= λ es. Some (e ∷ es))
+pub each_cons : (bytes e rest : List ℕ) → 0 < length bytes → element_at bytes ≡ Some (e, rest) → each_at (length bytes) bytes ≡ (each_at (length rest) rest >>= λ es. Some (e ∷ es))
 unfolding each_at
 each_cons [] e rest lt is = absurd (omega (arith, lt))
 each_cons (c ∷ bytes) e rest lt is = rw (is, fuel (length bytes) (length rest) rest (omega (arith, shorter (c ∷ bytes) e rest is)) (omega arith)) refl

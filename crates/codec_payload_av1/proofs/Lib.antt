@@ -9,6 +9,7 @@ pub mod Av1PacketGrowth
 pub mod Av1PayloadGrammar
 pub mod Av1PayloadLengths
 pub mod Av1ReadBack
+pub mod Av1Readable
 pub mod Av1ReadingElements
 pub mod Av1ReadingObus
 pub mod Av1RoundTrip

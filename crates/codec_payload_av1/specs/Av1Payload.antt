@@ -70,6 +70,15 @@ abbrev pub elements_at : ℕ → List ℕ → Option (List (List ℕ))
 elements_at zero bytes = each_at (length bytes) bytes
 elements_at (suc k) bytes = counted_at k bytes
 
+-- the next of the elements under W, and what follows it; and the W of what follows
+abbrev pub next_at : ℕ → List ℕ → Option (List ℕ × List ℕ)
+next_at w bytes = if w == 1 then Some (bytes, []) else element_at bytes
+
+abbrev pub w_after : ℕ → ℕ
+w_after zero = zero
+w_after (suc zero) = suc zero
+w_after (suc (suc k)) = suc k
+
 -- Y counts only where all elements that W names came.
 unfoldable pub payload_at : List ℕ → Option Payload
 payload_at [] = None

@@ -1,14 +1,14 @@
 //! AV1 payloads as frames.
 
-ghost use Rattle.std.specs.Prelude.{◌≡◌, ◌++◌, ◌∷◌, List, [], Some, None, length, take, map, OnErr, ◌&&◌, ◌==◌, ℕ};
+ghost use Rattle.std.specs.Prelude.{◌≡◌, ◌++◌, ◌∷◌, List, [], Some, None, length, take, map, OnErr, ◌&&◌, ◌==◌, ℕ, is_some};
 ghost use Rattle.codec_payload_av1.specs.Av1Payload.{is_head, now_of};
-ghost use Rattle.codec_payload_av1.specs.Av1Receiving.{unit_of, taken, received, without_orphan};
+ghost use Rattle.codec_payload_av1.specs.Av1Receiving.{unit_of, taken, received, without_orphan, can_take};
 ghost use Rattle.codec_payload_av1.specs.Av1Outcome.{Appends, Takes, Fails};
 ghost use Rattle.codec_payload_av1.specs.Av1Steps.{Av1Step, extra_of};
 
 use crate::av1::detect_av1_keyframe;
 use crate::av1::obu::{has_size_bit, is_kept, obu_of, put_canonical};
-use crate::av1::payload::payload_of;
+use crate::av1::payload::{next_element, payload_of, w_after_one};
 use codec_payload_base::error::PacketError;
 use codec_payload_base::interface::{Av1CodecExtra, CodecExtra, Depacketizer};
 use std::alloc::Global;
@@ -129,6 +129,48 @@ impl Depacketizer for Av1Depacketizer {
     fn is_partition_tail(&self, marker: bool, _packet: &[u8]) -> bool {
         marker
     }
+}
+
+/// Whether an element is exactly one OBU.
+#[tactic(auto, unfolding(crate::specs::Av1Receiving::unit_of))]
+fn is_unit(element: &[u8]) -> bool
+    ensures { result ≡ is_some (unit_of element.now) }
+{
+    match obu_of(element) {
+        Some((_, rest)) => rest.is_empty(),
+        None => false,
+    }
+}
+
+/// Whether an element under a W of `w` can be taken before these bytes: it is dropped, it goes on in the next packet, or it
+/// is exactly one OBU.
+fn can_be_taken(is_orphan: bool, may_go_on: bool, w: u8, element: &[u8], rest: &[u8]) -> bool
+    ensures { result ≡ can_take is_orphan may_go_on w element.now rest.now }
+{
+    is_orphan || (may_go_on && w < 2 && rest.is_empty()) || is_unit(element)
+}
+
+/// Whether a depacketizer that holds nothing can take the payload of an aggregation header and the bytes behind it. It
+/// takes no memory.
+fn is_readable(header: u8, bytes: &[u8]) -> bool
+    ensures { result ≡ is_some (received [] (header ∷ bytes.now)) }
+{
+    let may_go_on = header & 64 != 0;
+    let mut is_orphan = header & 128 != 0;
+    let mut w = (header & 0x30) / 16;
+    let mut rest = bytes;
+    while !rest.is_empty() {
+        let Some((element, after)) = next_element(w, rest) else {
+            return false;
+        };
+        if !can_be_taken(is_orphan, may_go_on, w, element, after) {
+            return false;
+        }
+        is_orphan = false;
+        w = w_after_one(w);
+        rest = after;
+    }
+    true
 }
 
 /// Adds what an element gives, which has to be exactly one OBU: nothing where that is not kept.
