@@ -1,15 +1,13 @@
 -- What holds of the packets of a frame.
-use Rattle.std.proofs.Common.{◌≡◌, ℕ, ◌≤◌, ◌<◌, ◌^◌, false, List, [], ◌∷◌, ◌++◌, length, take, Some, None, Ok, Err, refl, sym, ap, ◌∙◌, ◌⊎◌, inl, inr, arith}
+use Rattle.std.proofs.Common.{◌≡◌, ℕ, ◌≤◌, ◌<◌, ◌^◌, true, false, leb, map, Option, List, [], ◌∷◌, length, take, Some, None, Ok, Err, refl, sym, ap, ◌∙◌, arith}
+use Rattle.std.specs.Option.{option_map}
+use Rattle.std.proofs.lemmas.Bool.Decides.{nat_tests}
 use Rattle.std.proofs.lemmas.List.{length-map}
-use Rattle.codec_payload_av1.specs.Av1Reading.{◌>>=◌}
-use Rattle.codec_payload_av1.specs.Av1Obu.{Obu, IsSequence, kept, strings_of, starts_sequence, obus_of, frame_kept}
+use Rattle.codec_payload_av1.specs.Av1Obu.{Obu, IsSequence, kept, string, strings_of, starts_sequence, obus_of, frame_kept}
 use Rattle.codec_payload_av1.specs.Av1Payload.{written}
 use Rattle.codec_payload_av1.specs.Av1Packing.{Packs, reach, AreSent}
-use Rattle.codec_payload_av1.specs.Av1Steps.{ComesBack, LastComeBack, IsSentFrame, IsRefusedFrame, AnswersAv1, ReachesFurthest}
-use Rattle.codec_payload_av1.specs.Av1Outcome.{Fails}
-use Rattle.codec_payload_base.specs.declared.error.PacketError.{PacketError}
+use Rattle.codec_payload_av1.specs.Av1Steps.{ComesBack, LastComeBack, IsSentFrame, AnswersAv1}
 use Rattle.codec_payload_base.specs.declared.error.PacketError.TheVariants as faults
-use Rattle.codec_payload_av1.specs.Av1Receiving.{all_received}
 use Rattle.codec_payload_av1.proofs.Av1PayloadLengths.{bind_some, some_is}
 use Rattle.codec_payload_av1.proofs.Av1ObuGrammar.{IsBytes, sequence_sound, sequence_complete, sequence_good}
 use Rattle.codec_payload_av1.proofs.Av1RoundTrip.{frame_comes, last_packets_come, sent_are_read}
@@ -24,43 +22,50 @@ frame_read bytes ks e =
 pub same_sequence : (bytes : List ℕ) (os others : List Obu) → IsSequence os bytes → IsSequence others bytes → os ≡ others
 same_sequence bytes os others a b = some_is os others (sym (sequence_complete os bytes a) ∙ sequence_complete others bytes b)
 
-pub frame_refused : (bytes : List ℕ) → frame_kept bytes ≡ None → (os : List Obu) → IsSequence os bytes → ⊥
-unfolding frame_kept
-frame_refused bytes e os h = let read = sequence_complete os bytes h in let other : (obus_of bytes >>= λ ys. Some (kept ys)) ≡ Some (kept os) = rw read refl in cc
+-- ---- what is skipped, refused or wants memory
 
-refused_frame_of : (e : PacketError) (mtu : ℕ) (bytes : List ℕ) → 1 < mtu → 0 < length bytes → Fails e (frame_kept bytes) → IsRefusedFrame e mtu bytes
-refused_frame_of faults.OutOfMemory mtu bytes large full f = (large, full)
-refused_frame_of faults.ErrAv1CorruptedPacket mtu bytes large full f = (large, full, frame_refused bytes f)
-refused_frame_of _ mtu bytes large full f = absurd f
+is_small : (mtu : ℕ) → mtu < 2 → leb mtu 1 ≡ true
+is_small mtu lt = grind (arith, nat_tests)
 
-pub refused_frame : (e : PacketError) (mtu : ℕ) (bytes : List ℕ) → 2 ≤ mtu → 0 < length bytes → Fails e (frame_kept bytes) → AnswersAv1 mtu bytes (Err e)
-refused_frame e mtu bytes large full f = refused_frame_of e mtu bytes large full f
+is_large : (mtu : ℕ) → 2 ≤ mtu → leb mtu 1 ≡ false
+is_large mtu le = grind (arith, nat_tests)
 
-none_received : (pending : List ℕ) → all_received pending [] ≡ Some ([], pending)
-unfolding all_received
-none_received pending = refl
+pub small_skipped : (mtu : ℕ) (bytes : List ℕ) → mtu < 2 → AnswersAv1 mtu bytes (Ok [])
+small_skipped mtu bytes lt = rw (is_small mtu lt) (λ _. refl, λ no. absurd cc)
 
-not_there : (front : List (List ℕ)) (packet : List ℕ) (behind : List (List ℕ)) → [] ≡ front ++ packet ∷ behind → ⊥
-not_there [] packet behind e = cc
-not_there (f ∷ front) packet behind e = cc
+no_length : (r : Option (List Obu)) → None ≡ option_map (λ os. length os) r → r ≡ None
+no_length None is = refl
+no_length (Some os) is = absurd cc
 
--- the packets of an empty frame are none
+some_length : (n : ℕ) (r : Option (List Obu)) → Some n ≡ option_map (λ os. length os) r → (os : List Obu) × (r ≡ Some os) × (n ≡ length os)
+some_length n None is = absurd cc
+some_length n (Some os) is = (os, refl, cc)
+
+pub kept_frame : (n : ℕ) (bytes : List ℕ) → Some n ≡ option_map (λ os. length os) (frame_kept bytes) → (os : List Obu) × (frame_kept bytes ≡ Some os) × (n ≡ length os)
+kept_frame n bytes is = some_length n (frame_kept bytes) is
+
+pub refused_frame : (mtu : ℕ) (bytes : List ℕ) → 2 ≤ mtu → None ≡ option_map (λ os. length os) (frame_kept bytes) → AnswersAv1 mtu bytes (Err faults.ErrAv1CorruptedPacket)
+refused_frame mtu bytes large is = rw (is_large mtu large, no_length (frame_kept bytes) is) (refl, refl)
+
+pub nothing_kept : (mtu : ℕ) (bytes : List ℕ) (os : List Obu) → 2 ≤ mtu → frame_kept bytes ≡ Some os → length os ≡ 0 → AnswersAv1 mtu bytes (Ok [])
+nothing_kept mtu bytes [] large is none = rw (is_large mtu large, is) (λ _. refl, λ no. absurd cc)
+nothing_kept mtu bytes (o ∷ os) large is none = absurd (omega (arith, none))
+
+pub wants_memory : (mtu : ℕ) (bytes : List ℕ) (os : List Obu) → 2 ≤ mtu → frame_kept bytes ≡ Some os → (length os ≡ 0 → ⊥) → AnswersAv1 mtu bytes (Err faults.OutOfMemory)
+wants_memory mtu bytes [] large is some = absurd (some refl)
+wants_memory mtu bytes (o ∷ os) large is some = rw (is_large mtu large, is) (refl, refl)
+
+pub sent_is_answer : (mtu : ℕ) (bytes : List ℕ) (os : List Obu) (packets : List (List ℕ)) → 2 ≤ mtu → frame_kept bytes ≡ Some os → (length os ≡ 0 → ⊥) → IsSentFrame mtu bytes packets → AnswersAv1 mtu bytes (Ok packets)
+sent_is_answer mtu bytes [] packets large is some sent = absurd (some refl)
+sent_is_answer mtu bytes (o ∷ os) packets large is some sent = rw (is_large mtu large, is) (λ no. absurd cc, λ _. sent)
+
+-- no strings are sent in no packets
 none_sent : (mtu : ℕ) → AreSent mtu false [] []
 none_sent mtu = ([], refl, record { stands = (refl, refl); nonempty = tt; within = tt; full = tt; first = tt })
 
-nothing_sent : (mtu : ℕ) → IsSentFrame mtu [] []
-nothing_sent mtu = record {
-  obus = [];
-  sequence = refl;
-  sent = none_sent mtu;
-  comes_back = λ pending. (pending, none_received pending);
-  last_come_back = λ front packet behind are head pending. absurd (not_there front packet behind are);
-}
-
-pub skipped_frame : (mtu : ℕ) (bytes : List ℕ) → (length bytes ≡ 0) ⊎ (mtu < 2) → AnswersAv1 mtu bytes (Ok [])
-skipped_frame mtu [] either = (λ _. refl, λ _. nothing_sent mtu)
-skipped_frame mtu (b ∷ bytes) (inl e) = absurd (omega (arith, e))
-skipped_frame mtu (b ∷ bytes) (inr lt) = (λ _. refl, λ large. absurd (omega (arith, large, lt)))
+pub none_kept_sent : (mtu : ℕ) (ks : List Obu) → length ks ≡ 0 → AreSent mtu (starts_sequence ks) (map string ks) []
+none_kept_sent mtu [] none = none_sent mtu
+none_kept_sent mtu (o ∷ os) none = absurd (omega (arith, none))
 
 -- the laws of the packets that are sent
 module _ (bytes : List ℕ) (fits : IsBytes bytes) (short : length bytes < 2 ^ 64) (mtu : ℕ) (small : mtu < 2 ^ 64) (os : List Obu) (seq : IsSequence os bytes) (packets : List (List ℕ))
@@ -88,11 +93,3 @@ module _ (bytes : List ℕ) (fits : IsBytes bytes) (short : length bytes < 2 ^ 6
       let same = same_sequence bytes os others seq h in
       let packs' : Packs mtu payloads (strings_of os) = rw same packs in
       rw sent.1 (furthest mtu (starts_sequence (kept os)) (strings_of os) sent.0 payloads sent.2 (sent_are_read mtu (starts_sequence (kept os)) (strings_of os) sent.0 small sent.2) packs' count)
-
-no_bytes : IsBytes []
-no_bytes i = omega arith
-
-pub skipped_far : (mtu : ℕ) (bytes : List ℕ) → (length bytes ≡ 0) ⊎ (mtu < 2) → 1 < mtu → mtu < 2 ^ 64 → ReachesFurthest mtu bytes []
-skipped_far mtu [] either large small = far [] no_bytes (omega arith) mtu small [] refl [] (none_sent mtu)
-skipped_far mtu (b ∷ bytes) (inl e) large small = absurd (omega (arith, e))
-skipped_far mtu (b ∷ bytes) (inr lt) large small = absurd (omega (arith, large, lt))

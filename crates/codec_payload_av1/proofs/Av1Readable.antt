@@ -1,11 +1,11 @@
 -- Whether a receiver that holds nothing can take the elements of a payload, one after the other, as a loop looks at them.
-use Rattle.std.proofs.Common.{◌≡◌, ℕ, zero, suc, ◌<◌, ◌/◌, Bool, true, false, not, cond, eqb, ltb, List, [], ◌∷◌, ◌++◌, length, Option, Some, None, refl, sym, ap, subst, ◌∙◌, ◌⊎◌, inl, inr, arith}
+use Rattle.std.proofs.Common.{◌≡◌, ℕ, zero, suc, ◌<◌, ◌/◌, Bool, true, false, not, cond, eqb, ltb, List, [], ◌∷◌, ◌++◌, length, Option, Some, None, refl, sym, ap, ◌∙◌, ◌⊎◌, inl, inr, arith}
 use Rattle.std.specs.Prelude.{◌||◌, ◌&&◌, is_some, bit_and}
 use Rattle.std.proofs.lemmas.Bool.{ne_eqb}
 use Rattle.std.proofs.lemmas.Bool.Decides.{nat_tests}
 use Rattle.codec_payload_av1.specs.Av1Reading.{◌>>=◌}
 use Rattle.codec_payload_av1.specs.Av1Obu.{has_bit}
-use Rattle.codec_payload_av1.specs.Av1Packing.{is_begun, ended}
+use Rattle.codec_payload_av1.specs.Av1Packing.{is_begun}
 use Rattle.codec_payload_av1.specs.Av1Payload.{Payload, element_at, each_at, counted_at, elements_at, next_at, w_after, payload_at}
 use Rattle.codec_payload_av1.specs.Av1Receiving.{unit_of, units_of, taken, received, without_orphan, can_take, still_pending, usable}
 use Rattle.codec_payload_av1.proofs.Av1ReadingElements.{shorter, each_cons}
@@ -207,3 +207,49 @@ received_some h w (Some es) = rw (nothing_pending (has_bit 128 h && not (has_bit
 pub taken_first : (h : ℕ) (bytes : List ℕ) → are_taken (has_bit 64 h) (has_bit 128 h) (bit_and h 0x30 / 16) (elements_at (bit_and h 0x30 / 16) bytes) ≡ is_some (received [] (h ∷ bytes))
 unfolding received payload_at
 taken_first h bytes = received_some h (bit_and h 0x30 / 16) (elements_at (bit_and h 0x30 / 16) bytes)
+
+-- ---- a payload that one that holds nothing cannot take, no receiver can take
+
+none_later : (r : Option (List ℕ)) (f : List ℕ → Option (List ℕ × List ℕ)) → r ≡ None → (r >>= f) ≡ None
+none_later r f is = rw is refl
+
+units_behind : (goes_on : Bool) (e : List ℕ) (f : List ℕ) (fs : List (List ℕ)) (begun : List ℕ) → taken goes_on [] (f ∷ fs) ≡ None → taken goes_on begun (e ∷ f ∷ fs) ≡ None
+units_behind goes_on e f fs begun none = by_first (unit_of (begun ++ e)) refl
+  where
+    by_first : (u : Option (List ℕ)) → unit_of (begun ++ e) ≡ u → taken goes_on begun (e ∷ f ∷ fs) ≡ None
+    by_first None is = one_fails goes_on begun e (f ∷ fs) (inr (omega arith)) is
+    by_first (Some u) is = one_taken goes_on begun e (f ∷ fs) u (inr (omega arith)) is ∙ ap (after u) none
+
+behind_first : (goes_on : Bool) (begun : List ℕ) (es : List (List ℕ)) → taken goes_on [] (without_orphan true es) ≡ None → taken goes_on begun es ≡ None
+behind_first goes_on begun [] none = let some : Option (List ℕ × List ℕ) = None in absurd (let fact = none_taken goes_on in let other = ap is_some none in cc)
+behind_first goes_on begun (e ∷ []) none = absurd (let fact = none_taken goes_on in let other = ap is_some none in cc)
+behind_first goes_on begun (e ∷ f ∷ fs) none = units_behind goes_on e f fs begun none
+
+any_elements : (z n : Bool) (goes_on : Bool) (pending : List ℕ) (es : List (List ℕ)) → taken goes_on [] (without_orphan z es) ≡ None
+    → taken goes_on (cond (z && not n) pending []) (without_orphan (z && not (is_begun (cond (z && not n) pending []))) es) ≡ None
+any_elements false n goes_on pending es none = none
+any_elements true true goes_on pending es none = none
+any_elements true false goes_on [] es none = none
+any_elements true false goes_on (b ∷ bs) es none = behind_first goes_on (b ∷ bs) (without_orphan false es) (by_list es none)
+  where
+    by_list : (es : List (List ℕ)) → taken goes_on [] (without_orphan true es) ≡ None → taken goes_on [] (without_orphan true (without_orphan false es)) ≡ None
+    by_list [] none = none
+    by_list (e ∷ es) none = none
+
+not_some : {A : Type 0} (r : Option A) → false ≡ is_some r → r ≡ None
+not_some None is = refl
+not_some (Some x) is = absurd cc
+
+any_payload : (pending : List ℕ) (r : Option Payload) → (r >>= λ p. taken p.goes_on (still_pending p []) (usable p (still_pending p []))) ≡ None
+    → (r >>= λ p. taken p.goes_on (still_pending p pending) (usable p (still_pending p pending))) ≡ None
+any_payload pending None none = refl
+any_payload pending (Some p) none =
+    any_elements p.continues p.starts p.goes_on pending p.elements
+    (let held = nothing_pending (p.continues && not p.starts) in let same = sym (and_true p.continues) in rw (held, same) at none)
+
+pub none_received : (pending payload : List ℕ) → false ≡ is_some (received [] payload) → received pending payload ≡ None
+unfolding received
+none_received pending payload is = any_payload pending (payload_at payload) (not_some (received [] payload) is)
+
+pub some_received : (payload : List ℕ) → true ≡ is_some (received [] payload) → received [] payload ≡ None → ⊥
+some_received payload is none = let other = ap is_some none in cc

@@ -4,7 +4,7 @@ ghost use Rattle.std.specs.Prelude.{◌≡◌, ◌++◌, ◌∷◌, List, [], So
 ghost use Rattle.codec_payload_av1.specs.Av1Payload.{is_head, now_of};
 ghost use Rattle.codec_payload_av1.specs.Av1Receiving.{unit_of, taken, received, without_orphan, can_take};
 ghost use Rattle.codec_payload_av1.specs.Av1Outcome.{Appends, Takes, Fails};
-ghost use Rattle.codec_payload_av1.specs.Av1Steps.{Av1Step, extra_of};
+ghost use Rattle.codec_payload_av1.specs.Av1Steps.{Av1Step, TakesPayload, IsRefusedPayload, extra_of};
 
 use crate::av1::detect_av1_keyframe;
 use crate::av1::obu::{has_size_bit, is_kept, obu_of, put_canonical};
@@ -39,9 +39,25 @@ impl Av1Depacketizer {
         }
     }
 
-    /// Takes the payload of an aggregation header and the bytes behind it.
-    #[tactic(auto, unfolding(crate::specs::Av1Receiving::received))]
+    /// Takes the payload of an aggregation header and the bytes behind it. After a refusal anything may be pending.
     fn take_payload(
+        &mut self,
+        header: u8,
+        bytes: &[u8],
+        out: &mut Vec<u8>,
+    ) -> Result<(), PacketError>
+        ensures taken { TakesPayload result self.old (header ∷ bytes.now) out.old.items out.new.items self.new }
+        ensures kept { take (length out.old.items) out.new.items ≡ out.old.items }
+    {
+        match self.take_elements_of(header, bytes, out) {
+            Ok(()) => Ok(()),
+            Err(error) => Err(refusal(error, header, bytes)),
+        }
+    }
+
+    /// The same, where want of memory comes of any payload.
+    #[tactic(auto, unfolding(crate::specs::Av1Receiving::received))]
+    fn take_elements_of(
         &mut self,
         header: u8,
         bytes: &[u8],
@@ -57,6 +73,22 @@ impl Av1Depacketizer {
         let orphan = payload.continues && self.pending.is_empty();
         let elements = without_orphan(orphan, &payload.elements);
         take_elements(&mut self.pending, out, payload.goes_on, elements)
+    }
+}
+
+/// The fault of a payload at which a step failed: a corrupted one isn't worth another try when there is memory again.
+fn refusal(error: PacketError, header: u8, bytes: &[u8]) -> PacketError
+    ensures { (pending : List ℕ) → Fails error (received pending (header ∷ bytes.now)) → IsRefusedPayload result pending (header ∷ bytes.now) }
+{
+    match error {
+        PacketError::OutOfMemory => {
+            if is_readable(header, bytes) {
+                PacketError::OutOfMemory
+            } else {
+                PacketError::ErrAv1CorruptedPacket
+            }
+        }
+        other => other,
     }
 }
 
@@ -92,8 +124,8 @@ impl Depacketizer for Av1Depacketizer {
     /// that was told to be a keyframe stays one. The beginning of an OBU that goes on in the next payload stays pending.
     ///
     /// `ErrShortPacket` for the empty payload; `ErrAv1CorruptedPacket` where the length of an element is unreadable, 0 or
-    /// past the end, or where an element is not exactly one OBU. `out` and the extra are then as before, and nothing is
-    /// pending.
+    /// past the end, or where an element is not exactly one OBU, which is found even where memory is wanted, but for an
+    /// element that goes on from the packet before. `out` and the extra are then as before, and nothing is pending.
     fn depacketize(
         &mut self,
         packet: &[u8],

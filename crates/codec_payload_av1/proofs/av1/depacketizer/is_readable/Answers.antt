@@ -1,5 +1,5 @@
-use Rattle.std.proofs.Common.{◌≡◌, ◌<◌, ◌/◌, ◌∙◌, rules, ap, sym, refl, true, false, not, Bool, length, arith}
-use Rattle.std.specs.Prelude.{◌&&◌, bit_and}
+use Rattle.std.proofs.Common.{◌≡◌, ◌<◌, ◌∙◌, rules, sym, refl, true, false, Bool, length, arith}
+use Rattle.std.specs.Prelude.{◌&&◌}
 use Rattle.std.proofs.lemmas.Grind.{common_steps}
 use Rattle.codec_payload_av1.specs.Av1Obu.{has_bit}
 use Rattle.codec_payload_av1.specs.Av1Payload.{elements_at, w_after}
