@@ -1,5 +1,5 @@
 -- What holds of the packets of a frame.
-use Rattle.std.proofs.Common.{◌≡◌, ℕ, ◌≤◌, ◌<◌, ◌^◌, true, false, leb, map, Option, List, [], ◌∷◌, length, take, Some, None, Ok, Err, refl, sym, ap, ◌∙◌, arith}
+use Rattle.std.proofs.Common.{◌≡◌, ℕ, ◌≤◌, ◌<◌, ◌^◌, false, leb, map, Option, List, [], ◌∷◌, length, take, Some, None, Ok, Err, refl, sym, ap, ◌∙◌, arith}
 use Rattle.std.specs.Option.{option_map}
 use Rattle.std.proofs.lemmas.Bool.Decides.{nat_tests}
 use Rattle.std.proofs.lemmas.List.{length-map}
@@ -24,14 +24,8 @@ same_sequence bytes os others a b = some_is os others (sym (sequence_complete os
 
 -- ---- what is skipped, refused or wants memory
 
-is_small : (mtu : ℕ) → mtu < 2 → leb mtu 1 ≡ true
-is_small mtu lt = grind (arith, nat_tests)
-
 is_large : (mtu : ℕ) → 2 ≤ mtu → leb mtu 1 ≡ false
 is_large mtu le = grind (arith, nat_tests)
-
-pub small_skipped : (mtu : ℕ) (bytes : List ℕ) → mtu < 2 → AnswersAv1 mtu bytes (Ok [])
-small_skipped mtu bytes lt = rw (is_small mtu lt) (λ _. refl, λ no. absurd cc)
 
 no_length : (r : Option (List Obu)) → None ≡ option_map (λ os. length os) r → r ≡ None
 no_length None is = refl
@@ -46,14 +40,6 @@ kept_frame n bytes is = some_length n (frame_kept bytes) is
 
 pub refused_frame : (mtu : ℕ) (bytes : List ℕ) → 2 ≤ mtu → None ≡ option_map (λ os. length os) (frame_kept bytes) → AnswersAv1 mtu bytes (Err faults.ErrAv1CorruptedPacket)
 refused_frame mtu bytes large is = rw (is_large mtu large, no_length (frame_kept bytes) is) (refl, refl)
-
-pub nothing_kept : (mtu : ℕ) (bytes : List ℕ) (os : List Obu) → 2 ≤ mtu → frame_kept bytes ≡ Some os → length os ≡ 0 → AnswersAv1 mtu bytes (Ok [])
-nothing_kept mtu bytes [] large is none = rw (is_large mtu large, is) (λ _. refl, λ no. absurd cc)
-nothing_kept mtu bytes (o ∷ os) large is none = absurd (omega (arith, none))
-
-pub wants_memory : (mtu : ℕ) (bytes : List ℕ) (os : List Obu) → 2 ≤ mtu → frame_kept bytes ≡ Some os → (length os ≡ 0 → ⊥) → AnswersAv1 mtu bytes (Err faults.OutOfMemory)
-wants_memory mtu bytes [] large is some = absurd (some refl)
-wants_memory mtu bytes (o ∷ os) large is some = rw (is_large mtu large, is) (refl, refl)
 
 pub sent_is_answer : (mtu : ℕ) (bytes : List ℕ) (os : List Obu) (packets : List (List ℕ)) → 2 ≤ mtu → frame_kept bytes ≡ Some os → (length os ≡ 0 → ⊥) → IsSentFrame mtu bytes packets → AnswersAv1 mtu bytes (Ok packets)
 sent_is_answer mtu bytes [] packets large is some sent = absurd (some refl)

@@ -91,7 +91,7 @@ sized_again o size rest text =
     let n = leb_complete (size ++ (o.payload ++ rest)) (length o.payload) (o.payload ++ rest) size text refl in
     rw (n, le-ltb (length (o.payload ++ rest)) (length o.payload) (omega (arith, length-append o.payload rest)), take_at o.payload rest (length o.payload) refl, drop_at o.payload rest (length o.payload) refl) refl
 
-obu_again : (o : Obu) (bytes rest : List ℕ) → Parts o bytes rest → obu_at bytes ≡ Some (o, rest)
+pub obu_again : (o : Obu) (bytes rest : List ℕ) → Parts o bytes rest → obu_at bytes ≡ Some (o, rest)
 unfolding obu_at
 obu_again o bytes rest parts =
     elim parts.1 [

@@ -250,6 +250,3 @@ any_payload pending (Some p) none =
 pub none_received : (pending payload : List ℕ) → false ≡ is_some (received [] payload) → received pending payload ≡ None
 unfolding received
 none_received pending payload is = any_payload pending (payload_at payload) (not_some (received [] payload) is)
-
-pub some_received : (payload : List ℕ) → true ≡ is_some (received [] payload) → received [] payload ≡ None → ⊥
-some_received payload is none = let other = ap is_some none in cc

@@ -14,3 +14,4 @@ pub mod Av1ReadingElements
 pub mod Av1ReadingObus
 pub mod Av1RoundTrip
 pub mod Av1TakingElements
+pub mod Av1UnitGrammar
