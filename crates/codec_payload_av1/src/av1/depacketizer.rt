@@ -1,6 +1,6 @@
 //! AV1 payloads as frames.
 
-ghost use Rattle.std.specs.Prelude.{◌≡◌, ◌++◌, ◌∷◌, List, [], Some, None, length, take, map, OnErr, ◌&&◌, ◌==◌, ℕ, is_some};
+ghost use Rattle.std.specs.Prelude.{◌≡◌, ◌∷◌, List, [], Some, length, take, ◌&&◌, ◌==◌, ℕ, is_some};
 ghost use Rattle.codec_payload_av1.specs.Av1Payload.{is_head, now_of};
 ghost use Rattle.codec_payload_av1.specs.Av1Receiving.{unit_of, taken, received, without_orphan, can_take};
 ghost use Rattle.codec_payload_av1.specs.Av1Outcome.{Appends, Takes, Fails};

@@ -1,6 +1,6 @@
 //! Numbers in LEB128 (AV1 bitstream specification, section 4.10.5).
 
-ghost use Rattle.std.specs.Prelude.{◌≡◌, ◌++◌, ◌<◌, ◌≤◌, ◌^◌, ◌%◌, ◌-◌, ◌+◌, OnOk, Some, length, take};
+ghost use Rattle.std.specs.Prelude.{◌≡◌, ◌++◌, ◌<◌, ◌≤◌, ◌+◌, OnOk, length, take};
 ghost use Rattle.codec_payload_base.specs.Leb.{leb, leb_low, leb_at};
 ghost use Rattle.codec_payload_av1.specs.Av1Outcome.{Finds};
 

@@ -1,7 +1,7 @@
 //! OBUs (AV1 bitstream specification, section 5.3).
 
-ghost use Rattle.std.specs.Prelude.{◌≡◌, ◌++◌, OnOk, Some, length, take};
-ghost use Rattle.codec_payload_av1.specs.Av1Obu.{Obu, obu_at, extension_at, sized_at, canonical, string, has_size, has_extension, is_kept_type, view};
+ghost use Rattle.std.specs.Prelude.{◌≡◌, ◌++◌, OnOk, length, take};
+ghost use Rattle.codec_payload_av1.specs.Av1Obu.{obu_at, extension_at, sized_at, canonical, has_size, is_kept_type, view};
 ghost use Rattle.codec_payload_av1.specs.Av1Outcome.{Finds};
 
 use crate::av1::leb::{number_at, put_number};

@@ -1,6 +1,6 @@
 //! What is read of a payload (RTP Payload Format for AV1, section 4.4).
 
-ghost use Rattle.std.specs.Prelude.{◌≡◌, ◌+◌, ◌∷◌, length, map};
+ghost use Rattle.std.specs.Prelude.{◌≡◌, ◌∷◌, length};
 ghost use Rattle.codec_payload_av1.specs.Av1Payload.{now_of, view, element_at, each_at, counted_at, elements_at, next_at, w_after, payload_at};
 ghost use Rattle.codec_payload_av1.specs.Av1Outcome.{Finds, Gives};
 
