@@ -4,6 +4,7 @@ pub mod Av1FrameAnswers
 pub mod Av1FrontKept
 pub mod Av1LayingStrings
 pub mod Av1ObuGrammar
+pub mod Av1OneObu
 pub mod Av1PackerSteps
 pub mod Av1PacketGrowth
 pub mod Av1PayloadGrammar

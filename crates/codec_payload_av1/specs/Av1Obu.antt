@@ -87,6 +87,20 @@ obu_at (header ∷ bytes) = extension_at (has_extension header) bytes >>= λ x.
     if has_size header then sized_at header x.0 x.1
     else Some (record { header = header; extension = x.0; payload = x.1 }, [])
 
+-- whether a size at the front is that of all that follows it
+abbrev pub is_whole : Option (ℕ × List ℕ) → Bool
+is_whole None = false
+is_whole (Some n) = n.0 == length n.1
+
+abbrev pub is_one_behind : ℕ → Option (List ℕ × List ℕ) → Bool
+is_one_behind header None = false
+is_one_behind header (Some x) = if has_size header then is_whole (leb_at x.1) else true
+
+-- whether bytes are exactly one OBU
+abbrev pub is_one : List ℕ → Bool
+is_one [] = false
+is_one (header ∷ bytes) = is_one_behind header (extension_at (has_extension header) bytes)
+
 unfoldable pub obus_within : ℕ → List ℕ → Option (List Obu)
 obus_within k [] = Some []
 obus_within zero (b ∷ bytes) = None

@@ -84,11 +84,11 @@ was_keyframe _ = false
 abbrev pub extra_of : List ℕ → CodecExtra → CodecExtra
 extra_of payload before = extras.Av1 (record { is_keyframe = is_keyframe payload || was_keyframe before })
 
--- why a payload is refused: want of memory comes only of one that a receiver that holds nothing can take
+-- why a payload is refused: want of memory comes only of one that could be received
 abbrev pub IsRefusedPayload : PacketError → List ℕ → List ℕ → Type 0
 IsRefusedPayload faults.ErrShortPacket pending payload = payload ≡ []
 IsRefusedPayload faults.ErrAv1CorruptedPacket pending payload = (0 < length payload) × (received pending payload ≡ None)
-IsRefusedPayload faults.OutOfMemory pending payload = received [] payload ≢ None
+IsRefusedPayload faults.OutOfMemory pending payload = received pending payload ≢ None
 IsRefusedPayload _ pending payload = ⊥
 
 -- The bytes that a payload adds, and what is pending then; or why it is refused.

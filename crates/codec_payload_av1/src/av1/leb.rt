@@ -1,6 +1,7 @@
 //! Numbers in LEB128 (AV1 bitstream specification, section 4.10.5).
 
 ghost use Rattle.std.specs.Prelude.{◌≡◌, ◌++◌, ◌<◌, ◌≤◌, ◌+◌, OnOk, length, take};
+ghost use Rattle.std.specs.Option.{option_map};
 ghost use Rattle.codec_payload_base.specs.Leb.{leb, leb_low, leb_at};
 ghost use Rattle.codec_payload_av1.specs.Av1Outcome.{Finds};
 
@@ -29,6 +30,36 @@ pub fn number_at(bytes: &[u8]) -> Option<(u64, &[u8])>
     ensures { Finds (λ x. (x.0, x.1.now)) result (leb_at bytes.now) }
 {
     number_front(9, bytes)
+}
+
+/// The number at the front of two slices that follow each other, of at most `more` + 1 bytes and modulo 2^64, and how many
+/// bytes follow it.
+fn joined_front(more: u32, front: &[u8], back: &[u8]) -> Option<(u64, usize)>
+    ensures { result ≡ option_map (λ x. (x.0, length x.1)) (leb_low more (front.now ++ back.now)) }
+{
+    let Some((first, rest)) = front.split_first() else {
+        return match number_front(more, back) {
+            Some((number, rest)) => Some((number, rest.len())),
+            None => None,
+        };
+    };
+    if *first < 128 {
+        return Some((u64::from(*first), rest.len() + back.len()));
+    }
+    if more == 0 {
+        return None;
+    }
+    let (high, left) = joined_front(more - 1, rest, back)?;
+    let low = u64::from(*first % 128);
+    Some((low + high.wrapping_mul(128), left))
+}
+
+/// The number at the front of two slices that follow each other, as [`number_at`] reads it, and how many bytes follow it.
+#[tactic(auto, unfolding(codec_payload_base::specs::Leb::leb_at))]
+pub fn joined_number(front: &[u8], back: &[u8]) -> Option<(u64, usize)>
+    ensures { result ≡ option_map (λ x. (x.0, length x.1)) (leb_at (front.now ++ back.now)) }
+{
+    joined_front(9, front, back)
 }
 
 /// Writes a number at the end, in as few bytes as it takes.

@@ -1,10 +1,11 @@
 //! OBUs (AV1 bitstream specification, section 5.3).
 
 ghost use Rattle.std.specs.Prelude.{◌≡◌, ◌++◌, OnOk, length, take};
-ghost use Rattle.codec_payload_av1.specs.Av1Obu.{obu_at, extension_at, sized_at, canonical, has_size, is_kept_type, view};
+ghost use Rattle.std.specs.Option.{option_map};
+ghost use Rattle.codec_payload_av1.specs.Av1Obu.{obu_at, extension_at, sized_at, canonical, has_size, is_kept_type, is_one, view};
 ghost use Rattle.codec_payload_av1.specs.Av1Outcome.{Finds};
 
-use crate::av1::leb::{number_at, put_number};
+use crate::av1::leb::{joined_number, number_at, put_number};
 use std::alloc::AllocError;
 
 /// An OBU that lies in memory: the first byte of its header, the extension byte where there is one, and its payload.
@@ -85,6 +86,45 @@ pub fn obu_of(bytes: &[u8]) -> Option<(ObuSlices<'_>, &[u8])>
             },
             &[],
         ))
+    }
+}
+
+/// What follows the extension byte of a header, in two slices that follow each other.
+fn behind_extension<'a>(
+    has_one: bool,
+    front: &'a [u8],
+    back: &'a [u8],
+) -> Option<(&'a [u8], &'a [u8])>
+    ensures { option_map (λ x. x.0.now ++ x.1.now) result ≡ option_map (λ x. x.1) (extension_at has_one (front.now ++ back.now)) }
+{
+    if !has_one {
+        return Some((front, back));
+    }
+    match (front, back) {
+        ([_, rest @ ..], _) => Some((rest, back)),
+        ([], [_, rest @ ..]) => Some((front, rest)),
+        ([], []) => None,
+    }
+}
+
+/// Whether two slices that follow each other are exactly one OBU. It takes no memory.
+pub fn is_one_obu(front: &[u8], back: &[u8]) -> bool
+    ensures { result ≡ is_one (front.now ++ back.now) }
+{
+    let (header, front, back) = match (front, back) {
+        ([header, rest @ ..], _) => (*header, rest, back),
+        ([], [header, rest @ ..]) => (*header, front, rest),
+        ([], []) => return false,
+    };
+    let Some((front, back)) = behind_extension(header & 4 != 0, front, back) else {
+        return false;
+    };
+    if !has_size_bit(header) {
+        return true;
+    }
+    match joined_number(front, back) {
+        Some((size, left)) => size == left as u64,
+        None => false,
     }
 }
 
