@@ -1,7 +1,6 @@
 -- AV1 frames and payloads, worked.
 use Rattle.std.specs.Prelude.{◌≡◌, [], ◌∷◌, Some, None, true, false, refl}
-use Rattle.codec_payload_base.specs.Leb.{leb}
-use Rattle.codec_payload_av1.specs.Av1Leb.{leb_at}
+use Rattle.codec_payload_base.specs.Leb.{leb, leb_at}
 use Rattle.codec_payload_av1.specs.Av1Obu.{canonical, obu_at, obus_within, obus_of}
 use Rattle.codec_payload_av1.specs.Av1Payload.{written, payload_at, element_at, each_at, counted_at}
 use Rattle.codec_payload_av1.specs.Av1Receiving.{taken, received, all_received, unit_of, units_of}

@@ -1,14 +1,15 @@
 -- The grammar of AV1 payloads, by cases on their elements.
 use Rattle.std.specs.Prelude.{◌≡◌, ℕ, zero, suc, ◌<◌, ◌/◌, ◌||◌, ◌&&◌, ◌==◌, List, [], ◌∷◌, ◌++◌, Some, length, bit_and}
-use Rattle.codec_payload_av1.specs.Av1Leb.{leb_at}
+use Rattle.codec_payload_base.specs.Leb.{IsLeb128}
 use Rattle.codec_payload_av1.specs.Av1Obu.{Obu, IsSequence, has_bit, obus_of}
 use Rattle.codec_payload_av1.specs.Av1Payload.{Payload, payload_at}
+use Rattle.codec_payload_av1.specs.Av1Receiving.{added, unit_of}
 
 -- an element, which is not empty, behind its length in any spelling, and then the rest
 pub record StandsFirst (element bytes rest : List ℕ) : Type 0 where
   pub nonempty : 0 < length element
   pub size : List ℕ
-  pub spelled : leb_at size ≡ Some (length element, [])
+  pub spelled : IsLeb128 size (length element)
   pub parts : bytes ≡ size ++ (element ++ rest)
 
 -- each element behind its length
@@ -45,3 +46,8 @@ ReadsPayload = (bytes : List ℕ) (p : Payload) → (IsPayload bytes p → paylo
 -- reading finds the OBUs that the grammar gives, and no others
 abbrev pub ReadsSequence : Type 0
 ReadsSequence = (frame : List ℕ) (obus : List Obu) → (IsSequence obus frame → obus_of frame ≡ Some obus) × (obus_of frame ≡ Some obus → IsSequence obus frame)
+
+-- an element gives a unit exactly where it is one OBU, and then what that OBU adds
+abbrev pub ReadsUnit : Type 0
+ReadsUnit = (element : List ℕ) (o : Obu) (unit : List ℕ) → (IsSequence (o ∷ []) element → unit_of element ≡ Some (added element o))
+    × (unit_of element ≡ Some unit → (p : Obu) × IsSequence (p ∷ []) element × (unit ≡ added element p))

@@ -2,8 +2,8 @@
 use Rattle.std.specs.Prelude.{◌≡◌, ℕ, zero, suc, List, [], ◌∷◌, ◌++◌, length, map, take, drop, Option, Some, None, Bool, true, false, not, ◌||◌, nat_lt, ◌==◌, if◌then◌else◌, bit_and, bit_or, ◌⊎◌}
 use Rattle.std.specs.List.{flat_map, filter}
 use Rattle.codec_payload_av1.specs.declared.av1.obu.ObuSlices.{ObuSlices}
-use Rattle.codec_payload_base.specs.Leb.{leb}
-use Rattle.codec_payload_av1.specs.Av1Leb.{◌>>=◌, leb_at}
+use Rattle.codec_payload_base.specs.Leb.{IsLeb128, leb, leb_at}
+use Rattle.codec_payload_av1.specs.Av1Reading.{◌>>=◌}
 
 -- The first byte of the header as it stands, the extension byte where there is one, and the payload.
 pub record Obu : Type 0 where
@@ -36,7 +36,7 @@ pub record IsObu (o : Obu) : Type 0 where
 abbrev pub IsSequence : List Obu → List ℕ → Type 0
 IsSequence [] bytes = bytes ≡ []
 IsSequence (o ∷ os) bytes = IsObu o ×
-    (((has_size o.header ≡ true) × ((size : List ℕ) × (rest : List ℕ) × (leb_at size ≡ Some (length o.payload, [])) × (bytes ≡ o.header ∷ (o.extension ++ (size ++ (o.payload ++ rest)))) × IsSequence os rest))
+    (((has_size o.header ≡ true) × ((size : List ℕ) × (rest : List ℕ) × IsLeb128 size (length o.payload) × (bytes ≡ o.header ∷ (o.extension ++ (size ++ (o.payload ++ rest)))) × IsSequence os rest))
     ⊎ ((has_size o.header ≡ false) × (os ≡ []) × (bytes ≡ o.header ∷ (o.extension ++ o.payload))))
 
 -- ---- what is sent of an OBU, and what a receiver makes of it
@@ -86,6 +86,20 @@ obu_at [] = None
 obu_at (header ∷ bytes) = extension_at (has_extension header) bytes >>= λ x.
     if has_size header then sized_at header x.0 x.1
     else Some (record { header = header; extension = x.0; payload = x.1 }, [])
+
+-- whether a size at the front is that of all that follows it
+abbrev pub is_whole : Option (ℕ × List ℕ) → Bool
+is_whole None = false
+is_whole (Some n) = n.0 == length n.1
+
+abbrev pub is_one_behind : ℕ → Option (List ℕ × List ℕ) → Bool
+is_one_behind header None = false
+is_one_behind header (Some x) = if has_size header then is_whole (leb_at x.1) else true
+
+-- whether bytes are exactly one OBU
+abbrev pub is_one : List ℕ → Bool
+is_one [] = false
+is_one (header ∷ bytes) = is_one_behind header (extension_at (has_extension header) bytes)
 
 unfoldable pub obus_within : ℕ → List ℕ → Option (List Obu)
 obus_within k [] = Some []

@@ -3,8 +3,8 @@ use Rattle.std.specs.Prelude.{ℕ, zero, suc, ◌+◌, ◌*◌, ◌/◌, List, [
 use Rattle.std.specs.List.{flat_map}
 use Rattle.std.specs.Borrow.{Bor}
 use Rattle.codec_payload_av1.specs.declared.av1.payload.PayloadSlices.{PayloadSlices}
-use Rattle.codec_payload_base.specs.Leb.{leb}
-use Rattle.codec_payload_av1.specs.Av1Leb.{◌>>=◌, leb_at}
+use Rattle.codec_payload_base.specs.Leb.{leb, leb_at}
+use Rattle.codec_payload_av1.specs.Av1Reading.{◌>>=◌}
 use Rattle.codec_payload_av1.specs.Av1Obu.{has_bit}
 
 -- continues is Z: the first element goes on from the packet before. goes_on is Y: the last one goes on in the next.
@@ -69,6 +69,15 @@ counted_at (suc k) (b ∷ bytes) = element_at (b ∷ bytes) >>= λ e. counted_at
 abbrev pub elements_at : ℕ → List ℕ → Option (List (List ℕ))
 elements_at zero bytes = each_at (length bytes) bytes
 elements_at (suc k) bytes = counted_at k bytes
+
+-- the next of the elements under W, and what follows it; and the W of what follows
+abbrev pub next_at : ℕ → List ℕ → Option (List ℕ × List ℕ)
+next_at w bytes = if w == 1 then Some (bytes, []) else element_at bytes
+
+abbrev pub w_after : ℕ → ℕ
+w_after zero = zero
+w_after (suc zero) = suc zero
+w_after (suc (suc k)) = suc k
 
 -- Y counts only where all elements that W names came.
 unfoldable pub payload_at : List ℕ → Option Payload

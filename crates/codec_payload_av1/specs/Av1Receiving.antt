@@ -1,7 +1,7 @@
 -- What a receiver makes of payloads.
-use Rattle.std.specs.Prelude.{ℕ, List, [], ◌∷◌, ◌++◌, Option, Some, None, Bool, not, ◌&&◌, if◌then◌else◌}
-use Rattle.codec_payload_av1.specs.Av1Leb.{◌>>=◌}
-use Rattle.codec_payload_av1.specs.Av1Obu.{Obu, obu_at, has_size, is_kept_type, canonical}
+use Rattle.std.specs.Prelude.{ℕ, List, [], ◌∷◌, ◌++◌, Option, Some, None, Bool, not, ◌&&◌, ◌||◌, nat_lt, if◌then◌else◌}
+use Rattle.codec_payload_av1.specs.Av1Reading.{◌>>=◌}
+use Rattle.codec_payload_av1.specs.Av1Obu.{Obu, obu_at, is_one, has_bit, has_size, is_kept_type, canonical}
 use Rattle.codec_payload_av1.specs.Av1Payload.{Payload, payload_at}
 use Rattle.codec_payload_av1.specs.Av1Packing.{ended, left_open, is_begun}
 
@@ -36,6 +36,15 @@ taken goes_on begun es = units_of (ended goes_on begun es) >>= λ units. Some (u
 -- the same of a packet
 unfoldable pub received : List ℕ → List ℕ → Option (List ℕ × List ℕ)
 received pending packet = payload_at packet >>= λ p. taken p.goes_on (still_pending p pending) (usable p (still_pending p pending))
+
+-- what of the pending bytes goes on in the payload of this aggregation header
+abbrev pub begun_at : ℕ → List ℕ → List ℕ
+begun_at header pending = if has_bit 128 header && not (has_bit 8 header) then pending else []
+
+-- whether an element can be taken behind what was begun and before these bytes: it is dropped, it goes on in the next packet,
+-- or it ends one OBU
+abbrev pub can_take : Bool → Bool → ℕ → List ℕ → List ℕ → List ℕ → Bool
+can_take orphan may_go_on w begun element rest = orphan || (may_go_on && nat_lt w 2 && not (is_begun rest)) || is_one (begun ++ element)
 
 -- packet after packet
 unfoldable pub all_received : List ℕ → List (List ℕ) → Option (List ℕ × List ℕ)

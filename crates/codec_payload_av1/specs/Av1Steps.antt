@@ -1,11 +1,11 @@
 -- AV1 frames into packets and back, as calls answer them.
-use Rattle.std.specs.Prelude.{◌≡◌, ℕ, ◌<◌, ◌≤◌, ◌||◌, Bool, true, false, List, [], ◌∷◌, ◌++◌, Some, None, Result, Ok, Err, length, take, ⊤}
+use Rattle.std.specs.Prelude.{◌≡◌, ◌≢◌, ℕ, ◌<◌, ◌≤◌, ◌||◌, Bool, true, false, List, [], ◌∷◌, ◌++◌, Option, Some, None, Result, Ok, Err, length, take, nat_le, if◌then◌else◌, ⊤}
 use Rattle.std.specs.List.{flat_map}
 use Rattle.codec_payload_base.specs.declared.error.PacketError.{PacketError}
 use Rattle.codec_payload_base.specs.declared.error.PacketError.TheVariants as faults
 use Rattle.codec_payload_base.specs.declared.interface.CodecExtra.{CodecExtra}
 use Rattle.codec_payload_base.specs.declared.interface.CodecExtra.TheVariants as extras
-use Rattle.codec_payload_av1.specs.Av1Obu.{Obu, IsSequence, has_bit, kept, strings_of, starts_sequence, canonical, canonical_unit}
+use Rattle.codec_payload_av1.specs.Av1Obu.{Obu, IsSequence, has_bit, kept, strings_of, starts_sequence, canonical, canonical_unit, frame_kept}
 use Rattle.codec_payload_av1.specs.Av1Payload.{is_head}
 use Rattle.codec_payload_av1.specs.Av1Packing.{Packs, reach, AreSent}
 use Rattle.codec_payload_av1.specs.Av1Receiving.{received, all_received}
@@ -30,17 +30,35 @@ pub record IsSentFrame (mtu : ℕ) (frame : List ℕ) (packets : List (List ℕ)
   pub comes_back : ComesBack obus packets
   pub last_come_back : LastComeBack obus packets
 
--- why a frame is refused; the length of the frame and the MTU are looked at first
-abbrev pub IsRefusedFrame : PacketError → ℕ → List ℕ → Type 0
-IsRefusedFrame faults.OutOfMemory mtu frame = (1 < mtu) × (0 < length frame)
-IsRefusedFrame faults.ErrAv1CorruptedPacket mtu frame = (1 < mtu) × (0 < length frame) × ((obus : List Obu) → IsSequence obus frame → ⊥)
-IsRefusedFrame _ mtu frame = ⊥
+-- whether a frame is a sequence of OBUs of which none is kept
+abbrev pub keeps_nothing : Option (List Obu) → Bool
+keeps_nothing None = false
+keeps_nothing (Some []) = true
+keeps_nothing (Some (o ∷ os)) = false
 
--- What the packetizer answers: no packets where the MTU leaves no room for a byte behind the aggregation header; else those
--- of a frame that is a sequence of OBUs, which are none where none is kept
+-- whether a frame gives no packets, and no fault: where the MTU leaves no room for a byte behind the aggregation header, or
+-- none of its OBUs is kept, as of an empty frame
+abbrev pub av1_is_skipped : ℕ → List ℕ → Bool
+av1_is_skipped mtu frame = nat_le mtu 1 || keeps_nothing (frame_kept frame)
+
+abbrev pub refusal_of_kept : Option (List Obu) → Option PacketError
+refusal_of_kept None = Some faults.ErrAv1CorruptedPacket
+refusal_of_kept (Some os) = None
+
+-- the fault with which a frame is refused, if it is; want of memory is no such fault
+abbrev pub av1_refusal : ℕ → List ℕ → Option PacketError
+av1_refusal mtu frame = if nat_le mtu 1 then None else refusal_of_kept (frame_kept frame)
+
+-- the fault where there is one, else want of memory
+abbrev pub IsFault : Option PacketError → PacketError → Type 0
+IsFault None fault = fault ≡ faults.OutOfMemory
+IsFault (Some refusal) fault = fault ≡ refusal
+
+-- What the packetizer answers: no packets of a frame that is skipped, and no fault; else the fault of a frame that is
+-- refused; else the packets of the frame, or want of memory.
 abbrev pub AnswersAv1 : ℕ → List ℕ → Result (List (List ℕ)) PacketError → Type 0
-AnswersAv1 mtu frame (Ok packets) = (mtu ≤ 1 → packets ≡ []) × (1 < mtu → IsSentFrame mtu frame packets)
-AnswersAv1 mtu frame (Err fault) = IsRefusedFrame fault mtu frame
+AnswersAv1 mtu frame (Ok packets) = (av1_is_skipped mtu frame ≡ true → packets ≡ []) × (av1_is_skipped mtu frame ≡ false → IsSentFrame mtu frame packets)
+AnswersAv1 mtu frame (Err fault) = (av1_is_skipped mtu frame ≡ false) × IsFault (av1_refusal mtu frame) fault
 
 -- No list of payloads of at most the MTU that stands for the same strings is shorter.
 abbrev pub IsLeast : ℕ → List ℕ → List (List ℕ) → Type 0
@@ -66,12 +84,17 @@ was_keyframe _ = false
 abbrev pub extra_of : List ℕ → CodecExtra → CodecExtra
 extra_of payload before = extras.Av1 (record { is_keyframe = is_keyframe payload || was_keyframe before })
 
--- why a payload is refused: an empty one takes no memory
+-- why a payload is refused: want of memory comes only of one that could be received
 abbrev pub IsRefusedPayload : PacketError → List ℕ → List ℕ → Type 0
 IsRefusedPayload faults.ErrShortPacket pending payload = payload ≡ []
 IsRefusedPayload faults.ErrAv1CorruptedPacket pending payload = (0 < length payload) × (received pending payload ≡ None)
-IsRefusedPayload faults.OutOfMemory pending payload = 0 < length payload
+IsRefusedPayload faults.OutOfMemory pending payload = received pending payload ≢ None
 IsRefusedPayload _ pending payload = ⊥
+
+-- The bytes that a payload adds, and what is pending then; or why it is refused.
+abbrev pub TakesPayload : Result ⊤ PacketError → List ℕ → List ℕ → List ℕ → List ℕ → List ℕ → Type 0
+TakesPayload (Ok _) pending payload out out' after = (added : List ℕ) × (received pending payload ≡ Some (added, after)) × (out' ≡ out ++ added)
+TakesPayload (Err fault) pending payload out out' after = IsRefusedPayload fault pending payload
 
 -- One payload: what is pending, the payload, the bytes and the extra before; the answer; the pending bytes, the bytes and
 -- the extra afterwards. After a refusal nothing is pending, and the rest is as it was.

@@ -1,12 +1,12 @@
 pub mod Av1Examples
 pub mod Av1Grammar
 pub mod Av1Laying
-pub mod Av1Leb
 pub mod Av1Obu
 pub mod Av1Outcome
 pub mod Av1Packing
 pub mod Av1Payload
 pub mod Av1Piece
+pub mod Av1Reading
 pub mod Av1Receiving
 pub mod Av1Size
 pub mod Av1Steps

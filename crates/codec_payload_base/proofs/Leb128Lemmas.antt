@@ -4,7 +4,9 @@ use Rattle.std.specs.Int.Bits.{bit_or}
 use Rattle.std.proofs.Math.Nat.{mod-eq_of_lt, add-zero}
 use Rattle.std.proofs.lemmas.Nat.{pow_pos, pow-add, mod_low, shr_high, mod-pow-add, or_shifted, or_comm, pow_below}
 use Rattle.std.proofs.lemmas.List.{length_push}
-use Rattle.codec_payload_base.specs.Bits.{Reader, bits, bits_of, left, moved, ReadsBits, ReadsLeb128, AllGoOn, Passes, leb128_value}
+use Rattle.std.specs.List.{AllByRecursion}
+use Rattle.codec_payload_base.specs.Bits.{Reader, bits, bits_of, left, moved, ReadsBits, ReadsLeb128, Passes}
+use Rattle.codec_payload_base.specs.Leb.{AllGoOn, leb128_value}
 use Rattle.codec_payload_base.proofs.BitLemmas.{bits_of-append}
 
 -- the bytes read so far, all of which go on
@@ -27,9 +29,13 @@ leb128_value_below (x ∷ xs) =
     let more : 2 ^ (7 * suc (length xs)) ≡ 2 ^ 7 * 2 ^ (7 * length xs) = ap (λ t. 2 ^ t) (omega arith) ∙ pow-add 2 7 (7 * length xs) in
     omega (arith, leb128_value_below xs, more)
 
-pub AllGoOn-push : (text : List ℕ) (b : ℕ) → AllGoOn text → 128 ≤ b → b < 256 → AllGoOn (text ++ b ∷ [])
-AllGoOn-push [] b all h l = (h, l, tt)
-AllGoOn-push (x ∷ xs) b all h l = (all.0, all.1, AllGoOn-push xs b all.2 h l)
+pub AllGoOn-push : (text : List ℕ) (b : ℕ) → AllGoOn text → 128 ≤ b → AllGoOn (text ++ b ∷ [])
+AllGoOn-push [] b all h = (h, tt)
+AllGoOn-push (x ∷ xs) b all h = (all.0, AllGoOn-push xs b all.1 h)
+
+bytes_push : (text : List ℕ) (b : ℕ) → AllByRecursion (λ x. x < 256) text → b < 256 → AllByRecursion (λ x. x < 256) (text ++ b ∷ [])
+bytes_push [] b all l = (l, tt)
+bytes_push (x ∷ xs) b all l = (all.0, bytes_push xs b all.1 l)
 
 wrapped_sum : (low v k : ℕ) → k ≤ 64 → v < 2 ^ k → (low * 2 ^ k + v) % 2 ^ 64 ≡ (low % 2 ^ (64 - k)) * 2 ^ k + v
 wrapped_sum low v k h b =
@@ -57,6 +63,7 @@ sum_more text b v i size few sum =
 
 passes_more : (text : List ℕ) (old now next : Reader) (b : ℕ) → Passes text old now → ReadsBits 8 now next (Some b) → Passes (text ++ b ∷ []) old next
 passes_more text old now next b p r = record {
+  bytes = bytes_push text b p.bytes r.0;
   front =
       p.front ∙ ap (λ t. bits_of text ++ t) r.1
       ∙ sym (append_assoc (bits_of text) (bits 8 b) (left next))
@@ -70,7 +77,7 @@ so_far_none r = record {
   text = [];
   size = refl;
   go_on = tt;
-  passes = record { front = refl; place = ap (λ t. record r { place = t }) (sym (add-zero r.place)) };
+  passes = record { bytes = tt; front = refl; place = ap (λ t. record r { place = t }) (sym (add-zero r.place)) };
   sum = refl;
 }
 
@@ -78,7 +85,7 @@ pub so_far_more : (old now next : Reader) (i v b : ℕ) → i < 10 → SoFar old
 so_far_more old now next i v b few s r high = record {
   text = s.text ++ b ∷ [];
   size = omega (arith, length_push s.text b, s.size);
-  go_on = AllGoOn-push s.text b s.go_on high r.0;
+  go_on = AllGoOn-push s.text b s.go_on high;
   passes = passes_more s.text old now next b s.passes r;
   sum = sum_more s.text b v i s.size few s.sum;
 }

@@ -5,7 +5,9 @@ pub mod DescribedLemmas
 pub mod ExtendedLemmas
 pub mod FaultLemmas
 pub mod Leb128Lemmas
+pub mod LebLaws
 pub mod LebLemmas
+pub mod LebReads
 pub mod PictureIdLemmas
 pub mod PieceLemmas
 pub mod TelephoneLemmas

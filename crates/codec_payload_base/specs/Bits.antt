@@ -1,5 +1,7 @@
 -- Bytes as bits, the highest first, and readers of them.
-use Rattle.std.specs.Prelude.{◌≡◌, ℕ, zero, suc, ◌+◌, ◌*◌, ◌/◌, ◌%◌, ◌^◌, ◌<◌, ◌≤◌, ◌⊎◌, ⊤, List, [], ◌∷◌, ◌++◌, length, take, drop, Option, Some, None}
+use Rattle.std.specs.Prelude.{◌≡◌, ℕ, zero, suc, ◌+◌, ◌*◌, ◌/◌, ◌%◌, ◌^◌, ◌<◌, ◌≤◌, ◌⊎◌, List, [], ◌∷◌, ◌++◌, length, take, drop, Option, Some, None}
+use Rattle.std.specs.List.{AllByRecursion}
+use Rattle.codec_payload_base.specs.Leb.{AllGoOn, IsLeb128, leb_at}
 
 -- v in n bits, the highest first
 unfoldable pub bits : ℕ → ℕ → List ℕ
@@ -44,28 +46,9 @@ LendsBytes n old new (Some bs) = (8 * n ≤ length (left old)) × (bs ≡ take n
 abbrev pub Skips : ℕ → Reader → Reader → Type 0
 Skips n old new = (8 * n ≤ length (left old) → new ≡ moved old (8 * n)) × (length (left old) < 8 * n → new ≡ old)
 
--- bytes from 0x80 on, after each of which a LEB128 text goes on
-abbrev pub AllGoOn : List ℕ → Type 0
-AllGoOn [] = ⊤
-AllGoOn (b ∷ bs) = (128 ≤ b) × (b < 256) × AllGoOn bs
-
--- the sum of each byte's low 7 bits times 128 to the power of its place
-abbrev pub leb128_value : List ℕ → ℕ
-leb128_value [] = 0
-leb128_value (b ∷ bs) = b % 128 + 128 * leb128_value bs
-
--- at most ten bytes, all but the last from 0x80 on, the last below it
-pub record IsLeb128 (text : List ℕ) (value : ℕ) : Type 0 where
-  pub front : List ℕ
-  pub last : ℕ
-  pub is : text ≡ front ++ last ∷ []
-  pub go_on : AllGoOn front
-  pub ends : last < 128
-  pub short : length text ≤ 10
-  pub sum : value ≡ leb128_value text % 2 ^ 64
-
 -- The reader has gone over the bytes.
 pub record Passes (text : List ℕ) (old new : Reader) : Type 0 where
+  pub bytes : AllByRecursion (λ b. b < 256) text
   pub front : left old ≡ bits_of text ++ left new
   pub place : new ≡ moved old (8 * length text)
 
@@ -73,6 +56,16 @@ pub record Passes (text : List ℕ) (old new : Reader) : Type 0 where
 abbrev pub ReadsLeb128 : Reader → Reader → Option ℕ → Type 0
 ReadsLeb128 old new None = (text : List ℕ) × AllGoOn text × Passes text old new × ((length text ≡ 10) ⊎ ((length text < 10) × (length (left new) < 8)))
 ReadsLeb128 old new (Some v) = (text : List ℕ) × IsLeb128 text v × Passes text old new
+
+-- this number at the front, and then the rest; or none
+abbrev pub IsFront : Option ℕ → Option (ℕ × List ℕ) → List ℕ → Type 0
+IsFront None read rest = read ≡ None
+IsFront (Some n) read rest = read ≡ Some (n, rest)
+
+-- At a whole byte a read of a LEB128 text answers the number at the front of the bytes there, and leaves what follows it.
+abbrev pub ReadsLebAtFront : Type 0
+ReadsLebAtFront = (old new : Reader) (i : ℕ) (answer : Option ℕ) → old.place ≡ 8 * i → AllByRecursion (λ b. b < 256) old.bytes → ReadsLeb128 old new answer
+    → IsFront answer (leb_at (here old)) (here new)
 
 -- the number that bits spell, the highest first
 abbrev pub number_of : List ℕ → ℕ

@@ -2,7 +2,8 @@
 
 ghost use Rattle.std.specs.Prelude.{◌≡◌, ◌+◌, ◌*◌, ◌/◌, ◌<◌, ◌≤◌, length, min, None};
 ghost use Rattle.std.specs.Option.{option_map};
-ghost use Rattle.codec_payload_base.specs.Bits.{Reader, ReadsBits, ReadsLeb128, LendsBytes, Skips, left, here, at_end};
+ghost use Rattle.codec_payload_base.specs.Bits.{Reader, ReadsBits, ReadsLeb128, LendsBytes, ReadsLebAtFront, Skips, left, here, at_end};
+ghost use Rattle.codec_payload_base.specs.Leb.{WritesLeb, WritesShortest, TakesNine, FindsLeb};
 
 use std::marker::Model;
 
@@ -189,3 +190,14 @@ impl<'a> BitRead<'a> for BitReader<'a> {
         }
     }
 }
+
+/// The laws of LEB128 (AV1 bitstream specification, section 4.10.5): what is written of a number says it, in as few bytes
+/// as can be, which are at most nine below 2^63; reading finds the number that a text at the front says, and no other; and
+/// so does [`BitRead::get_leb128`] where it stands at a whole byte.
+pub fn leb128_says_numbers()
+    ensures says { WritesLeb }
+    ensures shortest { WritesShortest }
+    ensures nine { TakesNine }
+    ensures found { FindsLeb }
+    ensures read { ReadsLebAtFront }
+{}

@@ -5,19 +5,18 @@ use Rattle.std.specs.Prelude.{MatchResult, is_some}
 use Rattle.std.specs.Int.Bits.{bit_and}
 use Rattle.std.specs.List.{AllByRecursion, flat_map}
 use Rattle.std.proofs.lemmas.Bool.{eq-eqb, ltb-false}
-use Rattle.std.proofs.lemmas.Bool.Decides.{nat_tests}
 use Rattle.std.proofs.lemmas.List.{append-nil, map-append, length-map}
 use Rattle.std.proofs.lemmas.Nat.Bits.{and_pow}
 use Rattle.codec_payload_base.specs.Pieces.{joined}
 use Rattle.codec_payload_base.specs.declared.error.PacketError.{PacketError}
 use Rattle.codec_payload_base.specs.declared.error.PacketError.TheVariants as faults
-use Rattle.codec_payload_av1.proofs.Av1Sequence.{sequence_sound, sequence_complete}
-use Rattle.codec_payload_av1.specs.Av1Leb.{◌>>=◌}
+use Rattle.codec_payload_av1.proofs.Av1ObuGrammar.{sequence_sound, sequence_complete}
+use Rattle.codec_payload_av1.specs.Av1Reading.{◌>>=◌}
 use Rattle.codec_payload_av1.specs.Av1Obu.{Obu, IsSequence, canonical, canonical_unit, frame_kept, kept, obus_of, obus_within, string, strings_of}
 use Rattle.codec_payload_av1.specs.Av1Packing.{IsElement, HasElement, StandsAfter, StandsFor, ended, is_begun, left_open}
 use Rattle.codec_payload_av1.specs.Av1Payload.{Payload, aggregation_header, body, element_count, is_head, payload_at, written}
 use Rattle.codec_payload_av1.specs.Av1Receiving.{all_received, received}
-use Rattle.codec_payload_av1.specs.Av1Steps.{AnswersAv1, Av1Step, IsRefusedFrame, IsRefusedPayload, IsSentFrame}
+use Rattle.codec_payload_av1.specs.Av1Steps.{AnswersAv1, Av1Step, IsRefusedPayload, IsSentFrame}
 use Rattle.codec_payload_buffer.proofs.CaseLemmas.{by_test}
 use Rattle.codec_payload_core.proofs.TellLemmas.{quiet_tells}
 use Rattle.codec_payload_core.proofs.SendsUnits.{SendsUnits, no_units}
@@ -282,25 +281,30 @@ module _ (mtu : ℕ) (sample : Sample) (rtp_time number : ℕ) (large : leb mtu 
   sends_frame [] s = sends_none s
   sends_frame (packet ∷ others) s = sends_unit packet others s (kept s.obus) refl
 
-  sends_refused : (fault : PacketError) → IsRefusedFrame fault mtu sample.bytes → fault ≢ faults.OutOfMemory → Sends []
-  sends_refused faults.OutOfMemory is found = absurd (found refl)
-  sends_refused faults.ErrAv1CorruptedPacket is found =
-      no_units Av1Pack mtu sample rtp_time number [] refl (ap (units_if mtu sample.bytes) (no_sequence sample.bytes is.2) ∙ refused mtu sample.bytes large) refl
-  sends_refused fault is found = absurd is
+  sends_kept : (r : Option (List Obu)) → frame_kept sample.bytes ≡ r → (packets : List (List ℕ)) → AnswersAv1 mtu sample.bytes (Ok packets) → Sends packets
+  sends_kept None is packets step = sends_frame packets (step.1 (rw (large, is) refl))
+  sends_kept (Some []) is packets step =
+      no_units Av1Pack mtu sample rtp_time number packets (step.0 (rw (large, is) refl)) (ap (units_if mtu sample.bytes) is ∙ nothing_kept mtu sample.bytes large) refl
+  sends_kept (Some (o ∷ os)) is packets step = sends_frame packets (step.1 (rw (large, is) refl))
+
+  sends_refused : (r : Option (List Obu)) → frame_kept sample.bytes ≡ r → (fault : PacketError) → AnswersAv1 mtu sample.bytes (Err fault) → fault ≢ faults.OutOfMemory → Sends []
+  sends_refused None is fault step found = no_units Av1Pack mtu sample rtp_time number [] refl (ap (units_if mtu sample.bytes) is ∙ refused mtu sample.bytes large) refl
+  sends_refused (Some []) is fault step found = let no = rw (large, is) at step.0 in absurd cc
+  sends_refused (Some (o ∷ os)) is fault step found = absurd (found (rw (large, is) at step.1))
 
 -- what is sent of an AV1 frame
 pub av1_sends : (mtu : ℕ) (sample : Sample) (rtp_time number : ℕ) (answer : Result (List (List ℕ)) PacketError) → AnswersAv1 mtu sample.bytes answer → answer ≢ Err faults.OutOfMemory
     → SendsUnits Av1Pack mtu sample rtp_time number (payloads_of answer) Av1Pack
 av1_sends mtu sample rtp_time number answer step found =
     by_test (leb mtu 1) (λ b. leb mtu 1 ≡ b → SendsUnits Av1Pack mtu sample rtp_time number (payloads_of answer) Av1Pack)
-    (λ small _. no_units Av1Pack mtu sample rtp_time number (payloads_of answer) (nothing_sent answer step found (grind (arith, nat_tests, small))) (small_skips mtu sample.bytes (frame_kept sample.bytes) small) refl)
+    (λ small _. no_units Av1Pack mtu sample rtp_time number (payloads_of answer) (nothing_sent answer step found small) (small_skips mtu sample.bytes (frame_kept sample.bytes) small) refl)
     (λ large _. sends large answer step found)
     refl
   where
-    nothing_sent : (a : Result (List (List ℕ)) PacketError) → AnswersAv1 mtu sample.bytes a → a ≢ Err faults.OutOfMemory → mtu ≤ 1 → payloads_of a ≡ []
-    nothing_sent (Ok packets) is other small = is.0 small
+    nothing_sent : (a : Result (List (List ℕ)) PacketError) → AnswersAv1 mtu sample.bytes a → a ≢ Err faults.OutOfMemory → leb mtu 1 ≡ true → payloads_of a ≡ []
+    nothing_sent (Ok packets) is other small = is.0 (rw small refl)
     nothing_sent (Err fault) is other small = refl
 
     sends : leb mtu 1 ≡ false → (a : Result (List (List ℕ)) PacketError) → AnswersAv1 mtu sample.bytes a → a ≢ Err faults.OutOfMemory → SendsUnits Av1Pack mtu sample rtp_time number (payloads_of a) Av1Pack
-    sends large (Ok packets) is other = sends_frame mtu sample rtp_time number large packets (is.1 (grind (arith, nat_tests, large)))
-    sends large (Err fault) is other = sends_refused mtu sample rtp_time number large fault is (λ same. other (ap Err same))
+    sends large (Ok packets) is other = sends_kept mtu sample rtp_time number large (frame_kept sample.bytes) refl packets is
+    sends large (Err fault) is other = sends_refused mtu sample rtp_time number large (frame_kept sample.bytes) refl fault is (λ same. other (ap Err same))

@@ -11,12 +11,12 @@ pub use Rattle.codec_payload_audio.specs.Payloads
 pub use Rattle.codec_payload_av1.specs.Av1Examples
 pub use Rattle.codec_payload_av1.specs.Av1Grammar
 pub use Rattle.codec_payload_av1.specs.Av1Laying
-pub use Rattle.codec_payload_av1.specs.Av1Leb
 pub use Rattle.codec_payload_av1.specs.Av1Obu
 pub use Rattle.codec_payload_av1.specs.Av1Outcome
 pub use Rattle.codec_payload_av1.specs.Av1Packing
 pub use Rattle.codec_payload_av1.specs.Av1Payload
 pub use Rattle.codec_payload_av1.specs.Av1Piece
+pub use Rattle.codec_payload_av1.specs.Av1Reading
 pub use Rattle.codec_payload_av1.specs.Av1Receiving
 pub use Rattle.codec_payload_av1.specs.Av1Size
 pub use Rattle.codec_payload_av1.specs.Av1Steps

@@ -1,14 +1,16 @@
 //! AV1 payloads as frames.
 
-ghost use Rattle.std.specs.Prelude.{◌≡◌, ◌++◌, ◌∷◌, List, [], Some, None, length, take, map, OnErr, ◌&&◌, ◌==◌, ℕ};
+ghost use Rattle.std.specs.Prelude.{◌≡◌, ◌∷◌, List, [], Some, length, take, ◌&&◌, ◌==◌, ℕ, is_some, not};
+ghost use Rattle.codec_payload_av1.specs.Av1Obu.{has_bit};
+ghost use Rattle.codec_payload_av1.specs.Av1Packing.{is_begun};
 ghost use Rattle.codec_payload_av1.specs.Av1Payload.{is_head, now_of};
-ghost use Rattle.codec_payload_av1.specs.Av1Receiving.{unit_of, taken, received, without_orphan};
-ghost use Rattle.codec_payload_av1.specs.Av1Outcome.{Appends, Takes, Fails};
-ghost use Rattle.codec_payload_av1.specs.Av1Steps.{Av1Step, extra_of};
+ghost use Rattle.codec_payload_av1.specs.Av1Receiving.{unit_of, taken, received, without_orphan, begun_at, can_take};
+ghost use Rattle.codec_payload_av1.specs.Av1Outcome.{Appends, Takes};
+ghost use Rattle.codec_payload_av1.specs.Av1Steps.{Av1Step, TakesPayload, extra_of};
 
 use crate::av1::detect_av1_keyframe;
-use crate::av1::obu::{has_size_bit, is_kept, obu_of, put_canonical};
-use crate::av1::payload::payload_of;
+use crate::av1::obu::{has_size_bit, is_kept, is_one_obu, obu_of, put_canonical};
+use crate::av1::payload::{next_element, payload_of, w_after_one};
 use codec_payload_base::error::PacketError;
 use codec_payload_base::interface::{Av1CodecExtra, CodecExtra, Depacketizer};
 use std::alloc::Global;
@@ -39,9 +41,25 @@ impl Av1Depacketizer {
         }
     }
 
-    /// Takes the payload of an aggregation header and the bytes behind it.
-    #[tactic(auto, unfolding(crate::specs::Av1Receiving::received))]
+    /// Takes the payload of an aggregation header and the bytes behind it. After a refusal anything may be pending.
     fn take_payload(
+        &mut self,
+        header: u8,
+        bytes: &[u8],
+        out: &mut Vec<u8>,
+    ) -> Result<(), PacketError>
+        ensures taken { TakesPayload result self.old (header ∷ bytes.now) out.old.items out.new.items self.new }
+        ensures kept { take (length out.old.items) out.new.items ≡ out.old.items }
+    {
+        if !is_readable(&self.pending, header, bytes) {
+            return Err(PacketError::ErrAv1CorruptedPacket);
+        }
+        self.take_elements_of(header, bytes, out)
+    }
+
+    /// The same, where want of memory comes of any payload.
+    #[tactic(auto, unfolding(crate::specs::Av1Receiving::received))]
+    fn take_elements_of(
         &mut self,
         header: u8,
         bytes: &[u8],
@@ -92,8 +110,8 @@ impl Depacketizer for Av1Depacketizer {
     /// that was told to be a keyframe stays one. The beginning of an OBU that goes on in the next payload stays pending.
     ///
     /// `ErrShortPacket` for the empty payload; `ErrAv1CorruptedPacket` where the length of an element is unreadable, 0 or
-    /// past the end, or where an element is not exactly one OBU. `out` and the extra are then as before, and nothing is
-    /// pending.
+    /// past the end, or where an element is not exactly one OBU, which is found before any memory is asked for. After a
+    /// refusal `out` and the extra are as before, and nothing is pending.
     fn depacketize(
         &mut self,
         packet: &[u8],
@@ -131,8 +149,66 @@ impl Depacketizer for Av1Depacketizer {
     }
 }
 
+/// What of the pending bytes goes on in the payload of this aggregation header.
+fn begun_of(header: u8, pending: &[u8]) -> &[u8]
+    ensures { result.now ≡ begun_at header pending.now }
+{
+    if header & 128 != 0 && header & 8 == 0 {
+        pending
+    } else {
+        &[]
+    }
+}
+
+/// Whether the first element of a payload goes on from bytes that never came.
+fn has_orphan(header: u8, begun: &[u8]) -> bool
+    ensures { result ≡ (has_bit 128 header && not (is_begun begun.now)) }
+{
+    header & 128 != 0 && begun.is_empty()
+}
+
+/// Whether an element under a W of `w` can be taken behind what was begun and before these bytes: it is dropped, it goes on
+/// in the next packet, or it ends one OBU.
+fn can_be_taken(
+    is_orphan: bool,
+    may_go_on: bool,
+    w: u8,
+    begun: &[u8],
+    element: &[u8],
+    rest: &[u8],
+) -> bool
+    ensures { result ≡ can_take is_orphan may_go_on w begun.now element.now rest.now }
+{
+    is_orphan || (may_go_on && w < 2 && rest.is_empty()) || is_one_obu(begun, element)
+}
+
+/// Whether a depacketizer that holds these bytes can take the payload of an aggregation header and the bytes behind it. It
+/// takes no memory.
+fn is_readable(pending: &[u8], header: u8, bytes: &[u8]) -> bool
+    ensures { result ≡ is_some (received pending.now (header ∷ bytes.now)) }
+{
+    let may_go_on = header & 64 != 0;
+    let mut begun = begun_of(header, pending);
+    let mut is_orphan = has_orphan(header, begun);
+    let mut w = (header & 0x30) / 16;
+    let mut rest = bytes;
+    while !rest.is_empty() {
+        let Some((element, after)) = next_element(w, rest) else {
+            return false;
+        };
+        if !can_be_taken(is_orphan, may_go_on, w, begun, element, after) {
+            return false;
+        }
+        is_orphan = false;
+        begun = &[];
+        w = w_after_one(w);
+        rest = after;
+    }
+    true
+}
+
 /// Adds what an element gives, which has to be exactly one OBU: nothing where that is not kept.
-#[tactic(auto, using(crate::proofs::Av1Kept::kept_more, crate::proofs::Av1Kept::kept_same), unfolding(crate::specs::Av1Receiving::unit_of))]
+#[tactic(auto, using(crate::proofs::Av1FrontKept::kept_more, crate::proofs::Av1FrontKept::kept_same), unfolding(crate::specs::Av1Receiving::unit_of))]
 fn append_unit(out: &mut Vec<u8>, element: &[u8]) -> Result<(), PacketError>
     ensures added { Appends result out.old.items out.new.items (unit_of element.now) }
     ensures kept { take (length out.old.items) out.new.items ≡ out.old.items }

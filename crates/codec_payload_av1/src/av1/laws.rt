@@ -6,12 +6,14 @@ ghost use Rattle.codec_payload_av1.specs.Av1Obu.{Obu, IsSequence, kept, strings_
 ghost use Rattle.codec_payload_av1.specs.Av1Payload.{is_head};
 ghost use Rattle.codec_payload_av1.specs.Av1Packing.{AreSent};
 ghost use Rattle.codec_payload_av1.specs.Av1Receiving.{all_received};
-ghost use Rattle.codec_payload_av1.specs.Av1Grammar.{ReadsPayload, ReadsSequence};
+ghost use Rattle.codec_payload_av1.specs.Av1Grammar.{ReadsPayload, ReadsSequence, ReadsUnit};
 
-/// Reading finds the OBUs of a frame, and the elements of a payload, that their grammars give, and no others.
+/// Reading finds the OBUs of a frame, and the elements of a payload, that their grammars give, and no others. An element
+/// gives a unit exactly where it is one OBU.
 pub fn reading_follows_the_grammars()
     ensures obus { ReadsSequence }
     ensures payloads { ReadsPayload }
+    ensures units { ReadsUnit }
 {}
 
 /// The canonical unit of a canonical unit is itself.

@@ -1,8 +1,8 @@
 //! Numbers in LEB128 (AV1 bitstream specification, section 4.10.5).
 
-ghost use Rattle.std.specs.Prelude.{◌≡◌, ◌++◌, ◌<◌, ◌≤◌, ◌^◌, ◌%◌, ◌-◌, ◌+◌, OnOk, Some, length, take};
-ghost use Rattle.codec_payload_base.specs.Leb.{leb};
-ghost use Rattle.codec_payload_av1.specs.Av1Leb.{leb_low, leb_at};
+ghost use Rattle.std.specs.Prelude.{◌≡◌, ◌++◌, ◌<◌, ◌≤◌, ◌+◌, OnOk, length, take};
+ghost use Rattle.std.specs.Option.{option_map};
+ghost use Rattle.codec_payload_base.specs.Leb.{leb, leb_low, leb_at};
 ghost use Rattle.codec_payload_av1.specs.Av1Outcome.{Finds};
 
 use std::alloc::AllocError;
@@ -25,15 +25,45 @@ fn number_front(more: u32, bytes: &[u8]) -> Option<(u64, &[u8])>
 
 /// The number at the front, of at most ten bytes and modulo 2^64, and what follows it. `None` where no byte below 0x80
 /// ends it.
-#[tactic(auto, unfolding(crate::specs::Av1Leb::leb_at))]
+#[tactic(auto, unfolding(codec_payload_base::specs::Leb::leb_at))]
 pub fn number_at(bytes: &[u8]) -> Option<(u64, &[u8])>
     ensures { Finds (λ x. (x.0, x.1.now)) result (leb_at bytes.now) }
 {
     number_front(9, bytes)
 }
 
+/// The number at the front of two slices that follow each other, of at most `more` + 1 bytes and modulo 2^64, and how many
+/// bytes follow it.
+fn joined_front(more: u32, front: &[u8], back: &[u8]) -> Option<(u64, usize)>
+    ensures { result ≡ option_map (λ x. (x.0, length x.1)) (leb_low more (front.now ++ back.now)) }
+{
+    let Some((first, rest)) = front.split_first() else {
+        return match number_front(more, back) {
+            Some((number, rest)) => Some((number, rest.len())),
+            None => None,
+        };
+    };
+    if *first < 128 {
+        return Some((u64::from(*first), rest.len() + back.len()));
+    }
+    if more == 0 {
+        return None;
+    }
+    let (high, left) = joined_front(more - 1, rest, back)?;
+    let low = u64::from(*first % 128);
+    Some((low + high.wrapping_mul(128), left))
+}
+
+/// The number at the front of two slices that follow each other, as [`number_at`] reads it, and how many bytes follow it.
+#[tactic(auto, unfolding(codec_payload_base::specs::Leb::leb_at))]
+pub fn joined_number(front: &[u8], back: &[u8]) -> Option<(u64, usize)>
+    ensures { result ≡ option_map (λ x. (x.0, length x.1)) (leb_at (front.now ++ back.now)) }
+{
+    joined_front(9, front, back)
+}
+
 /// Writes a number at the end, in as few bytes as it takes.
-#[tactic(auto, using(crate::proofs::Av1Kept::kept_more, crate::proofs::Av1Kept::kept_same))]
+#[tactic(auto, using(crate::proofs::Av1FrontKept::kept_more, crate::proofs::Av1FrontKept::kept_same))]
 pub fn put_number(out: &mut Vec<u8>, number: u64) -> Result<(), AllocError>
     ensures written { OnOk result (out.new.items ≡ out.old.items ++ leb number) }
     ensures kept { take (length out.old.items) out.new.items ≡ out.old.items }

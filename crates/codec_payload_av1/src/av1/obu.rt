@@ -1,10 +1,11 @@
 //! OBUs (AV1 bitstream specification, section 5.3).
 
-ghost use Rattle.std.specs.Prelude.{◌≡◌, ◌++◌, OnOk, Some, length, take};
-ghost use Rattle.codec_payload_av1.specs.Av1Obu.{Obu, obu_at, extension_at, sized_at, canonical, string, has_size, has_extension, is_kept_type, view};
+ghost use Rattle.std.specs.Prelude.{◌≡◌, ◌++◌, OnOk, length, take};
+ghost use Rattle.std.specs.Option.{option_map};
+ghost use Rattle.codec_payload_av1.specs.Av1Obu.{obu_at, extension_at, sized_at, canonical, has_size, is_kept_type, is_one, view};
 ghost use Rattle.codec_payload_av1.specs.Av1Outcome.{Finds};
 
-use crate::av1::leb::{number_at, put_number};
+use crate::av1::leb::{joined_number, number_at, put_number};
 use std::alloc::AllocError;
 
 /// An OBU that lies in memory: the first byte of its header, the extension byte where there is one, and its payload.
@@ -88,8 +89,47 @@ pub fn obu_of(bytes: &[u8]) -> Option<(ObuSlices<'_>, &[u8])>
     }
 }
 
+/// What follows the extension byte of a header, in two slices that follow each other.
+fn behind_extension<'a>(
+    has_one: bool,
+    front: &'a [u8],
+    back: &'a [u8],
+) -> Option<(&'a [u8], &'a [u8])>
+    ensures { option_map (λ x. x.0.now ++ x.1.now) result ≡ option_map (λ x. x.1) (extension_at has_one (front.now ++ back.now)) }
+{
+    if !has_one {
+        return Some((front, back));
+    }
+    match (front, back) {
+        ([_, rest @ ..], _) => Some((rest, back)),
+        ([], [_, rest @ ..]) => Some((front, rest)),
+        ([], []) => None,
+    }
+}
+
+/// Whether two slices that follow each other are exactly one OBU. It takes no memory.
+pub fn is_one_obu(front: &[u8], back: &[u8]) -> bool
+    ensures { result ≡ is_one (front.now ++ back.now) }
+{
+    let (header, front, back) = match (front, back) {
+        ([header, rest @ ..], _) => (*header, rest, back),
+        ([], [header, rest @ ..]) => (*header, front, rest),
+        ([], []) => return false,
+    };
+    let Some((front, back)) = behind_extension(header & 4 != 0, front, back) else {
+        return false;
+    };
+    if !has_size_bit(header) {
+        return true;
+    }
+    match joined_number(front, back) {
+        Some((size, left)) => size == left as u64,
+        None => false,
+    }
+}
+
 /// Writes the canonical form at the end: the size bit set, and the size in as few bytes as it takes.
-#[tactic(auto, using(crate::proofs::Av1Kept::kept_more, crate::proofs::Av1Kept::kept_same, crate::proofs::Av1Kept::kept_trans), unfolding(crate::specs::Av1Obu::canonical))]
+#[tactic(auto, using(crate::proofs::Av1FrontKept::kept_more, crate::proofs::Av1FrontKept::kept_same, crate::proofs::Av1FrontKept::kept_trans), unfolding(crate::specs::Av1Obu::canonical))]
 pub fn put_canonical(out: &mut Vec<u8>, obu: &ObuSlices<'_>) -> Result<(), AllocError>
     ensures written { OnOk result (out.new.items ≡ out.old.items ++ canonical (view obu.now)) }
     ensures kept { take (length out.old.items) out.new.items ≡ out.old.items }

@@ -1,10 +1,10 @@
 //! How the kept OBUs of a frame are laid into payloads.
 
-ghost use Rattle.std.specs.Prelude.{◌≡◌, ◌+◌, ◌-◌, ◌<◌, ◌≤◌, ◌++◌, ◌∷◌, [], List, ℕ, Bool, length, map, OnOk, IfOk};
+ghost use Rattle.std.specs.Prelude.{◌≡◌, ◌+◌, ◌<◌, ◌≤◌, ◌++◌, ◌∷◌, [], List, ℕ, length, map, OnOk, IfOk};
 ghost use Rattle.codec_payload_av1.specs.Av1Obu.{string, starts_sequence, view};
-ghost use Rattle.codec_payload_av1.specs.Av1Payload.{Payload, written};
+ghost use Rattle.codec_payload_av1.specs.Av1Payload.{written};
 ghost use Rattle.codec_payload_av1.specs.Av1Packing.{Sent, AreSent};
-ghost use Rattle.codec_payload_av1.specs.Av1Size.{Opened, packet_size, deferred, own, leb_len, lengths, items_of};
+ghost use Rattle.codec_payload_av1.specs.Av1Size.{Opened, packet_size, deferred, leb_len, lengths, items_of};
 ghost use Rattle.codec_payload_av1.specs.Av1Laying.{Lays, starts_with};
 ghost use Rattle.codec_payload_av1.specs.Av1Piece.{piece_bytes, pieces_of, plan_view, plans_of, views};
 

@@ -1,11 +1,11 @@
 //! AV1 frames as payloads.
 
-ghost use Rattle.std.specs.Prelude.{◌≡◌, ◌+◌, ◌<◌, ◌≤◌, ◌++◌, ◌∷◌, [], List, ℕ, length, map, true, false, Some, None, OnOk, IfOk, IfErr};
+ghost use Rattle.std.specs.Prelude.{◌≡◌, ◌<◌, ◌++◌, ◌∷◌, [], List, length, true, false, Some, OnOk, IfOk, if◌then◌else◌};
+ghost use Rattle.std.specs.Option.{option_map};
 ghost use Rattle.codec_payload_base.specs.Answers.{packets_of};
-ghost use Rattle.codec_payload_av1.specs.Av1Obu.{kept, frame_kept, view};
+ghost use Rattle.codec_payload_av1.specs.Av1Obu.{Obu, is_kept_type, kept, frame_kept, view};
 ghost use Rattle.codec_payload_av1.specs.Av1Piece.{views};
 ghost use Rattle.codec_payload_av1.specs.Av1Size.{items_of};
-ghost use Rattle.codec_payload_av1.specs.Av1Outcome.{Gives};
 ghost use Rattle.codec_payload_av1.specs.Av1Steps.{AnswersAv1, IsLeast, ReachesFurthest};
 
 use crate::av1::obu::{ObuSlices, is_kept, obu_of};
@@ -35,7 +35,7 @@ impl Packetizer for Av1Packetizer {
     /// byte lets it be. An empty frame, an MTU of 0 or 1, or a frame of which no OBU is kept gives no packets.
     ///
     /// `ErrAv1CorruptedPacket` where the frame is no sequence of OBUs: where an extension byte, a size or the end of a
-    /// payload is missing (AV1 bitstream specification, section 5.3).
+    /// payload is missing (AV1 bitstream specification, section 5.3). That is found before any memory is asked for.
     fn packetize(
         &mut self,
         alloc: Global,
@@ -46,10 +46,16 @@ impl Packetizer for Av1Packetizer {
         ensures least { 1 < mtu → IfOk result (λ packets. IsLeast mtu b.now (items_of packets.items)) }
         ensures reaches { 1 < mtu → IfOk result (λ packets. ReachesFurthest mtu b.now (items_of packets.items)) }
     {
-        if b.is_empty() || mtu < 2 {
+        if mtu < 2 {
             return Ok(Vec::new(alloc));
         }
-        let obus = kept_obus(alloc, b)?;
+        let Some(count) = kept_count(b) else {
+            return Err(PacketError::ErrAv1CorruptedPacket);
+        };
+        if count == 0 {
+            return Ok(Vec::new(alloc));
+        }
+        let obus = kept_obus(alloc, count, b)?;
         Ok(pack(alloc, mtu, &obus)?)
     }
 
@@ -81,16 +87,36 @@ fn keep<'a>(obus: &mut Vec<ObuSlices<'a>>, obu: &ObuSlices<'a>) -> Result<(), Al
     Ok(())
 }
 
-/// The kept OBUs of a frame, in order.
-fn kept_obus(alloc: Global, frame: &[u8]) -> Result<Vec<ObuSlices<'_>>, PacketError>
-    ensures { Gives (λ v. views v.items) result (frame_kept frame.now) }
+/// 1 for an OBU that is kept, else 0.
+fn one_if_kept(header: u8) -> usize
+    ensures { result ≡ (if is_kept_type header then 1 else 0) }
 {
-    let mut obus = Vec::new(alloc);
+    if is_kept(header) { 1 } else { 0 }
+}
+
+/// How many OBUs of a frame are kept, or `None` where it is no sequence of OBUs. It takes no memory.
+fn kept_count(frame: &[u8]) -> Option<usize>
+    ensures { result ≡ option_map (λ os. length os) (frame_kept frame.now) }
+{
+    let mut count = 0usize;
     let mut rest = frame;
     while !rest.is_empty() {
         let Some((obu, after)) = obu_of(rest) else {
-            return Err(PacketError::ErrAv1CorruptedPacket);
+            return None;
         };
+        count += one_if_kept(obu.header);
+        rest = after;
+    }
+    Some(count)
+}
+
+/// The kept OBUs of a frame that is a sequence of OBUs, in order; so many are kept.
+fn kept_obus(alloc: Global, count: usize, frame: &[u8]) -> Result<Vec<ObuSlices<'_>>, AllocError>
+    ensures { IfOk result (λ v. (os : List Obu) → frame_kept frame.now ≡ Some os → views v.items ≡ os) }
+{
+    let mut obus = Vec::with_capacity(alloc, count)?;
+    let mut rest = frame;
+    while let Some((obu, after)) = obu_of(rest) {
         keep(&mut obus, &obu)?;
         rest = after;
     }

@@ -1,7 +1,7 @@
 //! What is read of a payload (RTP Payload Format for AV1, section 4.4).
 
-ghost use Rattle.std.specs.Prelude.{◌≡◌, ◌+◌, ◌∷◌, length, map};
-ghost use Rattle.codec_payload_av1.specs.Av1Payload.{now_of, view, element_at, each_at, counted_at, elements_at, payload_at};
+ghost use Rattle.std.specs.Prelude.{◌≡◌, ◌∷◌, length};
+ghost use Rattle.codec_payload_av1.specs.Av1Payload.{now_of, view, element_at, each_at, counted_at, elements_at, next_at, w_after, payload_at};
 ghost use Rattle.codec_payload_av1.specs.Av1Outcome.{Finds, Gives};
 
 use crate::av1::leb::number_at;
@@ -28,6 +28,24 @@ fn element_of(bytes: &[u8]) -> Option<(&[u8], &[u8])>
         return None;
     }
     Some(bytes.split_at(size as usize))
+}
+
+/// The next of the elements under a W of `w`, and what follows it.
+pub fn next_element(w: u8, bytes: &[u8]) -> Option<(&[u8], &[u8])>
+    ensures { Finds (λ x. (x.0.now, x.1.now)) result (next_at w bytes.now) }
+{
+    if w == 1 {
+        Some((bytes, &[]))
+    } else {
+        element_of(bytes)
+    }
+}
+
+/// The W of what follows an element.
+pub fn w_after_one(w: u8) -> u8
+    ensures { result ≡ w_after w }
+{
+    if w > 1 { w - 1 } else { w }
 }
 
 /// The elements, each behind its length.

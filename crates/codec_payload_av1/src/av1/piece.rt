@@ -1,8 +1,8 @@
 //! Parts of OBUs, which lie in the memory of a frame.
 
-ghost use Rattle.std.specs.Prelude.{◌≡◌, ◌+◌, ◌≤◌, ◌++◌, length, take, drop, OnOk};
+ghost use Rattle.std.specs.Prelude.{◌≡◌, ◌≤◌, ◌++◌, length, take, drop, OnOk};
 ghost use Rattle.codec_payload_av1.specs.Av1Obu.{string, view};
-ghost use Rattle.codec_payload_av1.specs.Av1Piece.{header_bytes, piece_bytes};
+ghost use Rattle.codec_payload_av1.specs.Av1Piece.{piece_bytes};
 
 use crate::av1::obu::ObuSlices;
 use std::alloc::AllocError;

@@ -8,8 +8,8 @@ use Rattle.codec_payload_base.specs.declared.error.PacketError.{PacketError}
 use Rattle.codec_payload_base.specs.declared.error.PacketError.TheVariants as faults
 use Rattle.codec_payload_av1.specs.Av1Outcome.{Fails}
 use Rattle.codec_payload_av1.specs.Av1Receiving.{taken, unit_of}
-use Rattle.codec_payload_av1.proofs.Av1Kept.{kept_trans}
-use Rattle.codec_payload_av1.proofs.Av1Taking.{after, goes_over, is_refused, stays_open, is_over, it_ends, it_stays}
+use Rattle.codec_payload_av1.proofs.Av1FrontKept.{kept_trans}
+use Rattle.codec_payload_av1.proofs.Av1TakingElements.{after, goes_over, is_refused, stays_open, is_over, it_ends, it_stays}
 use Rattle.codec_payload_av1.proofs.av1.depacketizer.take_elements.Goals as goal
 
 abbrev no_element : Bor (List ℕ)

@@ -1,7 +1,7 @@
 use Rattle.std.proofs.Common.{◌≡◌, length, take, drop}
 use Rattle.codec_payload_av1.specs.Av1Payload.{now_of}
 use Rattle.codec_payload_av1.specs.Av1Receiving.{taken}
-use Rattle.codec_payload_av1.proofs.Av1Taking.{after}
+use Rattle.codec_payload_av1.proofs.Av1TakingElements.{after}
 use Rattle.codec_payload_av1.proofs.av1.depacketizer.take_elements.Given as goal
 
 abbrev pub invariant-loop-i : goal.invariant-loop-i

@@ -1,7 +1,7 @@
 use Rattle.std.proofs.Common.{map}
 use Rattle.codec_payload_av1.specs.Av1Obu.{kept}
-use Rattle.codec_payload_av1.proofs.Av1Again.{sized}
-use Rattle.codec_payload_av1.proofs.Av1Sequence.{sequence_good, canonical_again}
+use Rattle.codec_payload_av1.proofs.Av1ReadBack.{sized}
+use Rattle.codec_payload_av1.proofs.Av1ObuGrammar.{sequence_good, canonical_again}
 use Rattle.codec_payload_av1.proofs.av1.laws.canonical_unit_is_its_own.Goals as goal
 
 pub returns : goal.returns

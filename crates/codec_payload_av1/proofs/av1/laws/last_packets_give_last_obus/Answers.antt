@@ -1,5 +1,5 @@
-use Rattle.codec_payload_av1.proofs.Av1Sequence.{sequence_good}
-use Rattle.codec_payload_av1.proofs.Av1Comes.{last_packets_come}
+use Rattle.codec_payload_av1.proofs.Av1ObuGrammar.{sequence_good}
+use Rattle.codec_payload_av1.proofs.Av1RoundTrip.{last_packets_come}
 use Rattle.codec_payload_av1.proofs.av1.laws.last_packets_give_last_obus.Goals as goal
 
 pub returns : goal.returns

@@ -1,7 +1,7 @@
 use Rattle.std.proofs.Common.{◌≡◌, ℕ, ◌+◌, ◌-◌, ◌<◌, ◌≤◌, length, inl, inr, arith}
 use Rattle.std.proofs.lemmas.Bool.{cases_lt}
 use Rattle.codec_payload_base.specs.Leb.{leb}
-use Rattle.codec_payload_av1.proofs.Av1Lengths.{leb_len_some, leb_len_most, leb_len_rises}
+use Rattle.codec_payload_av1.proofs.Av1PayloadLengths.{leb_len_some, leb_len_most, leb_len_rises}
 use Rattle.codec_payload_av1.proofs.av1.leb.longest.Goals as goal
 
 none_fits : (room len : ℕ) → room ≤ len → room < (room - (len - 1)) + length (leb (room - (len - 1))) → room < 1 + length (leb 1)

@@ -2,7 +2,7 @@ use Rattle.std.proofs.Common.{◌≡◌, ℕ, suc, ◌+◌, ◌-◌, ◌%◌, �
 use Rattle.std.proofs.lemmas.Bool.{le-ltb}
 use Rattle.codec_payload_base.specs.Leb.{leb, leb_within}
 use Rattle.codec_payload_base.proofs.LebLemmas.{limit}
-use Rattle.codec_payload_av1.proofs.Av1Kept.{kept_more, kept_same}
+use Rattle.codec_payload_av1.proofs.Av1FrontKept.{kept_more, kept_same}
 use Rattle.codec_payload_av1.proofs.av1.leb.put_number.Goals as goal
 
 one_byte : (out : List ℕ) (i n : ℕ) → i < 9 → 128 ≤ n → (out ++ (n % 128 + 128) ∷ []) ++ leb_within (9 - (i + 1)) (n / 128) ≡ out ++ leb_within (9 - i) n

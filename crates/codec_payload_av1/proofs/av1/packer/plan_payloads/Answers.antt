@@ -6,7 +6,7 @@ use Rattle.codec_payload_av1.specs.Av1Obu.{Obu, string, view}
 use Rattle.codec_payload_av1.specs.Av1Laying.{Lays}
 use Rattle.codec_payload_av1.specs.Av1Size.{Opened}
 use Rattle.codec_payload_av1.specs.Av1Piece.{plans_of, views}
-use Rattle.codec_payload_av1.proofs.Av1Lays.{lays_none, lays_last, sent_none}
+use Rattle.codec_payload_av1.proofs.Av1PackerSteps.{lays_none, lays_last, sent_none}
 use Rattle.codec_payload_av1.proofs.av1.packer.plan_payloads.Goals as goal
 
 abbrev no_obu : ObuSlices

@@ -1,11 +1,11 @@
 use Rattle.std.proofs.Common.{◌≡◌, length}
 use Rattle.codec_payload_av1.specs.Av1Obu.{frame_kept}
 use Rattle.codec_payload_av1.specs.Av1Piece.{views}
-use Rattle.codec_payload_av1.proofs.Av1Frames.{with_kept}
+use Rattle.codec_payload_av1.proofs.Av1ReadingObus.{with_kept}
 use Rattle.codec_payload_av1.proofs.av1.packetizer.kept_obus.Given as goal
 
-abbrev pub invariant-loop-rest : goal.invariant-loop-rest
-invariant-loop-rest l = with_kept (views l.obus.items) (frame_kept l.rest) ≡ frame_kept l.frame
+abbrev pub invariant-loop-obu : goal.invariant-loop-obu
+invariant-loop-obu l = with_kept (views l.obus.items) (frame_kept l.rest) ≡ frame_kept l.frame
 
-abbrev pub decreases-loop-rest : goal.decreases-loop-rest
-decreases-loop-rest l = length l.rest
+abbrev pub decreases-loop-obu : goal.decreases-loop-obu
+decreases-loop-obu l = length l.rest

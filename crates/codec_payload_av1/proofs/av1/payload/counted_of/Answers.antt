@@ -3,7 +3,7 @@ use Rattle.std.proofs.lemmas.List.{map_push}
 use Rattle.std.proofs.lemmas.Grind.{common_steps}
 use Rattle.std.specs.Borrow.{Bor}
 use Rattle.codec_payload_av1.specs.Av1Payload.{now_of, counted_at}
-use Rattle.codec_payload_av1.proofs.Av1Elements.{counted_goes_on, counted_fails, counted_ends, counted_last}
+use Rattle.codec_payload_av1.proofs.Av1ReadingElements.{counted_goes_on, counted_fails, counted_ends, counted_last}
 use Rattle.codec_payload_av1.proofs.av1.payload.counted_of.Goals as goal
 use Rattle.codec_payload_av1.proofs.av1.payload.counted_of.Goals.{then-not-is_empty+in_ok-push-2, else-not-is_empty}
 

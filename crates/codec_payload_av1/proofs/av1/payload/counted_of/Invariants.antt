@@ -1,6 +1,6 @@
 use Rattle.std.proofs.Common.{◌≡◌, ◌-◌}
 use Rattle.codec_payload_av1.specs.Av1Payload.{now_of, counted_at}
-use Rattle.codec_payload_av1.proofs.Av1Elements.{with_front}
+use Rattle.codec_payload_av1.proofs.Av1ReadingElements.{with_front}
 use Rattle.codec_payload_av1.proofs.av1.payload.counted_of.Given as goal
 
 abbrev pub invariant-loop : goal.invariant-loop

@@ -2,7 +2,7 @@ use Rattle.std.proofs.Common.{◌≡◌, [], ◌∷◌, ◌++◌, length, arith}
 use Rattle.std.proofs.lemmas.List.{map_push}
 use Rattle.std.proofs.lemmas.Grind.{common_steps}
 use Rattle.codec_payload_av1.specs.Av1Payload.{now_of, each_at}
-use Rattle.codec_payload_av1.proofs.Av1Elements.{each_goes_on, each_fails, each_ends, shorter}
+use Rattle.codec_payload_av1.proofs.Av1ReadingElements.{each_goes_on, each_fails, each_ends, shorter}
 use Rattle.codec_payload_av1.proofs.av1.payload.each_of.Goals as goal
 
 pub returns-in_default : goal.returns-in_default

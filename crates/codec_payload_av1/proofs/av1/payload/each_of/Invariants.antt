@@ -1,6 +1,6 @@
 use Rattle.std.proofs.Common.{◌≡◌, length}
 use Rattle.codec_payload_av1.specs.Av1Payload.{now_of, each_at}
-use Rattle.codec_payload_av1.proofs.Av1Elements.{with_front}
+use Rattle.codec_payload_av1.proofs.Av1ReadingElements.{with_front}
 use Rattle.codec_payload_av1.proofs.av1.payload.each_of.Given as goal
 
 abbrev pub invariant-loop-rest : goal.invariant-loop-rest

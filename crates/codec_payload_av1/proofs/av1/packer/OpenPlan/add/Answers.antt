@@ -3,7 +3,7 @@ use Rattle.codec_payload_av1.specs.declared.av1.piece.Piece.{Piece}
 use Rattle.std.proofs.lemmas.List.{length-map, map_push}
 use Rattle.codec_payload_av1.specs.Av1Size.{leb_len, lengths, own, deferred, packet_size}
 use Rattle.codec_payload_av1.specs.Av1Piece.{piece_bytes, pieces_of}
-use Rattle.codec_payload_av1.proofs.Av1Room.{has_room, less_left, own_either}
+use Rattle.codec_payload_av1.proofs.Av1PacketGrowth.{has_room, less_left, own_either}
 use Rattle.codec_payload_av1.proofs.av1.packer.OpenPlan.add.Goals as goal
 use Rattle.codec_payload_av1.proofs.av1.packer.OpenPlan.add.Goals.{then-len-lt3, else-len-lt3, In_ok-push}
 

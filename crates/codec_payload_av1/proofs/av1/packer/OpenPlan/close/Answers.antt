@@ -4,7 +4,7 @@ use Rattle.codec_payload_av1.specs.declared.av1.piece.Piece.{Piece}
 use Rattle.codec_payload_av1.specs.Av1Payload.{Payload, written}
 use Rattle.codec_payload_av1.specs.Av1Piece.{pieces_of}
 use Rattle.codec_payload_av1.specs.Av1Size.{packet_size, leb_len, lengths}
-use Rattle.codec_payload_av1.proofs.Av1Lengths.{length_written}
+use Rattle.codec_payload_av1.proofs.Av1PayloadLengths.{length_written}
 use Rattle.codec_payload_av1.proofs.av1.packer.OpenPlan.close.Goals as goal
 
 size_is : (p : Payload) (es : List (List ℕ)) (mtu left : ℕ) → p.elements ≡ es → left + packet_size leb_len (lengths es) ≡ mtu → mtu - left ≡ length (written p)

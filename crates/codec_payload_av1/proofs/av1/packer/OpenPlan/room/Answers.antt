@@ -2,7 +2,7 @@ use Rattle.std.proofs.Common.{ℕ, ◌≤◌, length, arith}
 use Rattle.std.proofs.lemmas.List.{length-map}
 use Rattle.codec_payload_av1.specs.Av1Size.{leb_len, lengths}
 use Rattle.codec_payload_av1.specs.Av1Piece.{piece_bytes, pieces_of}
-use Rattle.codec_payload_av1.proofs.Av1Room.{many_fit, many_most}
+use Rattle.codec_payload_av1.proofs.Av1PacketGrowth.{many_fit, many_most}
 use Rattle.codec_payload_av1.proofs.av1.packer.OpenPlan.room.Goals as goal
 
 pub returns-else-len-lt3-clause-fits : goal.returns-else-len-lt3-clause-fits

@@ -4,7 +4,7 @@ use Rattle.codec_payload_av1.specs.Av1Obu.{string, view}
 use Rattle.codec_payload_av1.specs.Av1Size.{Opened, packet_size, leb_len, lengths}
 use Rattle.codec_payload_av1.specs.Av1Piece.{piece_bytes, plans_of}
 use Rattle.codec_payload_av1.specs.Av1Laying.{Lays}
-use Rattle.codec_payload_av1.proofs.Av1Lays.{lays_part, lays_end, some_room, shorter_fits}
+use Rattle.codec_payload_av1.proofs.Av1PackerSteps.{lays_part, lays_end, some_room, shorter_fits}
 use Rattle.codec_payload_av1.proofs.av1.packer.Packer.lay.Goals as goal
 use Rattle.codec_payload_av1.proofs.av1.packer.Packer.lay.Goals.{After-room-room-in-loop-room}
 

@@ -1,7 +1,7 @@
 use Rattle.std.proofs.Common.{◌<◌, ◌≤◌, [], ◌∷◌, ◌++◌, arith}
 use Rattle.codec_payload_av1.specs.Av1Size.{packet_size, leb_len, lengths}
 use Rattle.codec_payload_av1.specs.Av1Piece.{plans_of}
-use Rattle.codec_payload_av1.proofs.Av1Lays.{lays_between, some_element, shorter_fits}
+use Rattle.codec_payload_av1.proofs.Av1PackerSteps.{lays_between, some_element, shorter_fits}
 use Rattle.codec_payload_av1.proofs.av1.packer.Packer.start_obu.Goals as goal
 
 pub returns-in_ok-close-clause-laid : goal.returns-in_ok-close-clause-laid

@@ -1,80 +1,16 @@
 -- The OBUs that are read from a frame are those that the grammar gives, and canonical OBUs are their own canonical form.
-use Rattle.std.proofs.Common.{◌≡◌, ℕ, zero, suc, ◌+◌, ◌*◌, ◌%◌, ◌^◌, ◌<◌, ◌≤◌, Bool, true, false, cond, ltb, eqb, List, [], ◌∷◌, ◌++◌, length, take, drop, map, get_or, Option, Some, None, refl, sym, ap, subst, ◌∙◌, append_assoc, ◌⊎◌, inl, inr, arith}
+use Rattle.std.proofs.Common.{◌≡◌, ℕ, zero, suc, ◌+◌, ◌^◌, ◌<◌, ◌≤◌, Bool, true, false, cond, ltb, eqb, List, [], ◌∷◌, ◌++◌, length, take, drop, map, get_or, Some, None, refl, sym, ap, subst, ◌∙◌, append_assoc, ◌⊎◌, inl, inr, arith}
 use Rattle.std.specs.Prelude.{◌&&◌, bit_and, bit_or}
 use Rattle.std.specs.List.{AllByRecursion, flat_map}
-use Rattle.std.proofs.lemmas.List.{length-append, append-nil, take_at, drop_at, take-append-drop, length-take, get_or-append-add}
+use Rattle.std.proofs.lemmas.List.{length-append, take_at, drop_at, take-append-drop, length-take, get_or-append-add}
 use Rattle.std.proofs.lemmas.Bool.{le-ltb, ltb-false, eqb-true}
-use Rattle.codec_payload_base.specs.Leb.{leb}
-use Rattle.codec_payload_av1.specs.Av1Leb.{◌>>=◌, leb_front, leb_at}
+use Rattle.codec_payload_base.specs.Leb.{IsLeb128, leb, leb_at}
+use Rattle.codec_payload_base.proofs.LebLaws.{writes_leb, leb_complete, leb_sound}
+use Rattle.codec_payload_av1.specs.Av1Reading.{◌>>=◌}
 use Rattle.codec_payload_av1.specs.Av1Obu.{Obu, IsObu, IsSequence, has_size, has_extension, kept, canonical, canonical_unit, extension_at, sized_at, obu_at, obus_within, obus_of}
-use Rattle.codec_payload_av1.proofs.Av1Lengths.{bind_some, some_is, chosen}
-use Rattle.codec_payload_av1.proofs.Av1Again.{and_true, at_each, leb_again, extension_again, IsGood, sized}
-use Rattle.codec_payload_av1.proofs.Av1Comes.{AllKept, kept_all}
-
--- ---- a size, alone and with something behind it
-
-abbrev pair : ℕ → List ℕ → ℕ × List ℕ
-pair n bytes = (n, bytes)
-
-more_high : (c : ℕ) (r : Option (ℕ × List ℕ)) (high : ℕ) (b : List ℕ) (v : ℕ) (d : List ℕ) → r ≡ Some (high, b) → pair (c % 128 + 128 * high) b ≡ pair v d
-    → (r >>= λ x. Some (pair (c % 128 + 128 * x.0) x.1)) ≡ Some (pair v d)
-more_high c r high b v d is same = rw is (ap (λ (x : ℕ × List ℕ). Some x) same)
-
-at_more : (r : Option (ℕ × List ℕ)) (n : ℕ) (b : List ℕ) (v : ℕ) (d : List ℕ) → r ≡ Some (n, b) → pair (n % 2 ^ 64) b ≡ pair v d → (r >>= λ x. Some (pair (x.0 % 2 ^ 64) x.1)) ≡ Some (pair v d)
-at_more r n b v d is same = rw is (ap (λ (x : ℕ × List ℕ). Some x) same)
-
-one_byte : (c : ℕ) (cs : List ℕ) (v : ℕ) (rest : List ℕ) (k : ℕ) → ltb c 128 ≡ true → pair c cs ≡ pair v rest → (size : List ℕ) × (c ∷ cs ≡ size ++ rest) × (leb_front k size ≡ Some (v, []))
-one_byte c cs v rest zero small same = (c ∷ [], ap (λ (x : ℕ × List ℕ). c ∷ x.1) same, rw small (ap (λ (x : ℕ × List ℕ). Some (x.0, [])) same))
-one_byte c cs v rest (suc k) small same = (c ∷ [], ap (λ (x : ℕ × List ℕ). c ∷ x.1) same, rw small (ap (λ (x : ℕ × List ℕ). Some (x.0, [])) same))
-
-front_more : (k : ℕ) (a rest : List ℕ) (v : ℕ) (b : List ℕ) → leb_front k a ≡ Some (v, b) → leb_front k (a ++ rest) ≡ Some (v, b ++ rest)
-front_more k [] rest v b e = absurd cc
-front_more zero (c ∷ cs) rest v b e =
-    elim (chosen (ltb c 128) (Some (c, cs)) None (Some (v, b)) e) [
-      | inl p ↦ rw p.0 (ap (λ (x : ℕ × List ℕ). Some (x.0, x.1 ++ rest)) (some_is (c, cs) (v, b) p.1))
-      | inr q ↦ absurd (let z = q.1 in cc)
-    ]
-front_more (suc k) (c ∷ cs) rest v b e =
-    elim (chosen (ltb c 128) (Some (c, cs)) (leb_front k cs >>= λ high. Some (c % 128 + 128 * high.0, high.1)) (Some (v, b)) e) [
-      | inl p ↦ rw p.0 (ap (λ (x : ℕ × List ℕ). Some (x.0, x.1 ++ rest)) (some_is (c, cs) (v, b) p.1))
-      | inr q ↦
-          let h = bind_some (leb_front k cs) (λ high. Some (c % 128 + 128 * high.0, high.1)) (v, b) q.1 in
-          rw q.0 (more_high c (leb_front k (cs ++ rest)) h.0.0 (h.0.1 ++ rest) v (b ++ rest) (front_more k cs rest h.0.0 h.0.1 h.1) (ap (λ (x : ℕ × List ℕ). (x.0, x.1 ++ rest)) (some_is (c % 128 + 128 * h.0.0, h.0.1) (v, b) h.2)))
-    ]
-
-pub leb_more : (a rest : List ℕ) (v : ℕ) (b : List ℕ) → leb_at a ≡ Some (v, b) → leb_at (a ++ rest) ≡ Some (v, b ++ rest)
-unfolding leb_at
-leb_more a rest v b e =
-    let h = bind_some (leb_front 9 a) (λ x. Some (x.0 % 2 ^ 64, x.1)) (v, b) e in
-    at_more (leb_front 9 (a ++ rest)) h.0.0 (h.0.1 ++ rest) v (b ++ rest) (front_more 9 a rest h.0.0 h.0.1 h.1) (ap (λ (x : ℕ × List ℕ). (x.0, x.1 ++ rest)) (some_is (h.0.0 % 2 ^ 64, h.0.1) (v, b) h.2))
-
-front_split : (k : ℕ) (bytes : List ℕ) (v : ℕ) (rest : List ℕ) → leb_front k bytes ≡ Some (v, rest) → (size : List ℕ) × (bytes ≡ size ++ rest) × (leb_front k size ≡ Some (v, []))
-front_split k [] v rest e = absurd cc
-front_split zero (c ∷ cs) v rest e =
-    elim (chosen (ltb c 128) (Some (c, cs)) None (Some (v, rest)) e) [
-      | inl p ↦ one_byte c cs v rest zero p.0 (some_is (c, cs) (v, rest) p.1)
-      | inr q ↦ absurd (let z = q.1 in cc)
-    ]
-front_split (suc k) (c ∷ cs) v rest e =
-    elim (chosen (ltb c 128) (Some (c, cs)) (leb_front k cs >>= λ high. Some (c % 128 + 128 * high.0, high.1)) (Some (v, rest)) e) [
-      | inl p ↦ one_byte c cs v rest (suc k) p.0 (some_is (c, cs) (v, rest) p.1)
-      | inr q ↦
-          let h = bind_some (leb_front k cs) (λ high. Some (c % 128 + 128 * high.0, high.1)) (v, rest) q.1 in
-          let same = some_is (c % 128 + 128 * h.0.0, h.0.1) (v, rest) h.2 in
-          let more = front_split k cs h.0.0 h.0.1 h.1 in (
-            c ∷ more.0,
-            ap (λ (t : List ℕ). c ∷ t) (more.1 ∙ ap (λ (x : ℕ × List ℕ). more.0 ++ x.1) same),
-            rw q.0 (more_high c (leb_front k more.0) h.0.0 [] v [] more.2 (ap (λ (x : ℕ × List ℕ). (x.0, [])) same)),
-          )
-    ]
-
-pub leb_split : (bytes : List ℕ) (v : ℕ) (rest : List ℕ) → leb_at bytes ≡ Some (v, rest) → (size : List ℕ) × (bytes ≡ size ++ rest) × (leb_at size ≡ Some (v, []))
-unfolding leb_at
-leb_split bytes v rest e =
-    let h = bind_some (leb_front 9 bytes) (λ x. Some (x.0 % 2 ^ 64, x.1)) (v, rest) e in
-    let same = some_is (h.0.0 % 2 ^ 64, h.0.1) (v, rest) h.2 in
-    let s = front_split 9 bytes h.0.0 h.0.1 h.1 in
-    (s.0, s.1 ∙ ap (λ (x : ℕ × List ℕ). s.0 ++ x.1) same, at_more (leb_front 9 s.0) h.0.0 [] v [] s.2 (ap (λ (x : ℕ × List ℕ). (x.0, [])) same))
+use Rattle.codec_payload_av1.proofs.Av1PayloadLengths.{bind_some, some_is, chosen}
+use Rattle.codec_payload_av1.proofs.Av1ReadBack.{and_true, at_each, extension_again, IsGood, sized}
+use Rattle.codec_payload_av1.proofs.Av1RoundTrip.{AllKept, kept_all}
 
 -- ---- what is read is in the grammar
 
@@ -89,7 +25,7 @@ extension_split true (x ∷ bytes) ext rest e = let same : ext_pair (x ∷ []) b
 -- one OBU with its size stands before the rest, or one without it takes all
 abbrev pub Parts : Obu → List ℕ → List ℕ → Type 0
 Parts o bytes rest = IsObu o ×
-    (((has_size o.header ≡ true) × ((size : List ℕ) × (leb_at size ≡ Some (length o.payload, [])) × (bytes ≡ o.header ∷ (o.extension ++ (size ++ (o.payload ++ rest))))))
+    (((has_size o.header ≡ true) × ((size : List ℕ) × IsLeb128 size (length o.payload) × (bytes ≡ o.header ∷ (o.extension ++ (size ++ (o.payload ++ rest))))))
     ⊎ ((has_size o.header ≡ false) × (rest ≡ []) × (bytes ≡ o.header ∷ (o.extension ++ o.payload))))
 
 sized_split : (header : ℕ) (ext bytes rest : List ℕ) (o : Obu) → has_size header ≡ true → length ext ≡ cond (has_extension header) 1 0 → sized_at header ext bytes ≡ Some (o, rest) → Parts o (header ∷ (ext ++ bytes)) rest
@@ -99,12 +35,12 @@ sized_split header ext bytes rest o sized one e =
       | inl p ↦ absurd (let z = p.1 in cc)
       | inr q ↦
           let long : n.0.0 ≤ length n.0.1 = ltb-false _ _ q.0 in
-          let s = leb_split bytes n.0.0 n.0.1 n.1 in
+          let s = leb_sound bytes n.0.0 n.0.1 n.1 in
           let made : Obu = record { header = header; extension = ext; payload = take n.0.0 n.0.1 } in
           let len : length (take n.0.0 n.0.1) ≡ n.0.0 = omega (arith, length-take n.0.0 n.0.1) in
-          let text : leb_at s.0 ≡ Some (length (take n.0.0 n.0.1), []) = s.2 ∙ ap (λ (k : ℕ). Some (k, [])) (sym len) in
+          let text : IsLeb128 s.0 (length (take n.0.0 n.0.1)) = subst (IsLeb128 s.0) (sym len) s.1 in
           let parts : header ∷ (ext ++ bytes) ≡ header ∷ (ext ++ (s.0 ++ (take n.0.0 n.0.1 ++ drop n.0.0 n.0.1))) =
-          ap (λ (t : List ℕ). header ∷ (ext ++ t)) (s.1 ∙ ap (λ (t : List ℕ). s.0 ++ t) (sym (take-append-drop n.0.0 n.0.1))) in
+          ap (λ (t : List ℕ). header ∷ (ext ++ t)) (s.2 ∙ ap (λ (t : List ℕ). s.0 ++ t) (sym (take-append-drop n.0.0 n.0.1))) in
           subst (λ (x : Obu × List ℕ). Parts x.0 (header ∷ (ext ++ bytes)) x.1) (some_is (made, drop n.0.0 n.0.1) (o, rest) q.1) (record { extension = one }, inl (sized, (s.0, text, parts)))
     ]
 
@@ -150,12 +86,12 @@ sequence_sound bytes os e = within_sound (length bytes) bytes os e
 
 -- ---- what is in the grammar is read
 
-sized_again : (o : Obu) (size rest : List ℕ) → leb_at size ≡ Some (length o.payload, []) → sized_at o.header o.extension (size ++ (o.payload ++ rest)) ≡ Some (o, rest)
+sized_again : (o : Obu) (size rest : List ℕ) → IsLeb128 size (length o.payload) → sized_at o.header o.extension (size ++ (o.payload ++ rest)) ≡ Some (o, rest)
 sized_again o size rest text =
-    let n = leb_more size (o.payload ++ rest) (length o.payload) [] text in
+    let n = leb_complete (size ++ (o.payload ++ rest)) (length o.payload) (o.payload ++ rest) size text refl in
     rw (n, le-ltb (length (o.payload ++ rest)) (length o.payload) (omega (arith, length-append o.payload rest)), take_at o.payload rest (length o.payload) refl, drop_at o.payload rest (length o.payload) refl) refl
 
-obu_again : (o : Obu) (bytes rest : List ℕ) → Parts o bytes rest → obu_at bytes ≡ Some (o, rest)
+pub obu_again : (o : Obu) (bytes rest : List ℕ) → Parts o bytes rest → obu_at bytes ≡ Some (o, rest)
 unfolding obu_at
 obu_again o bytes rest parts =
     elim parts.1 [
@@ -238,7 +174,7 @@ unfolding canonical
 canonical_parts o rest good =
     let s = sized_header o.header good.byte in
     let one : IsObu (sized o) = record { extension = rw s.extension good.is_obu.extension } in
-    let text : leb_at (leb (length o.payload)) ≡ Some (length o.payload, []) = rw append-nil at (leb_again (length o.payload) [] good.size) in
+    let text : IsLeb128 (leb (length o.payload)) (length o.payload) = writes_leb (length o.payload) good.size in
     (one, inl (rw s.size refl, (leb (length o.payload), text, simp append_assoc)))
 
 sized_kept : (os : List Obu) → AllKept os → kept (map sized os) ≡ map sized os

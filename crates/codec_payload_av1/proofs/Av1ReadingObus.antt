@@ -1,9 +1,11 @@
 -- Reading the strings of a frame one after the other, as a loop does.
-use Rattle.std.proofs.Common.{◌≡◌, ℕ, zero, suc, ◌≤◌, ◌<◌, Bool, true, false, List, [], ◌∷◌, ◌++◌, length, Option, Some, None, refl, sym, ap, ◌∙◌, append_assoc, inl, inr, arith}
+use Rattle.std.proofs.Common.{◌≡◌, ℕ, zero, suc, ◌+◌, ◌≤◌, ◌<◌, Bool, true, false, cond, List, [], ◌∷◌, ◌++◌, length, Option, Some, None, refl, sym, ap, ◌∙◌, append_assoc, inl, inr, arith}
 use Rattle.std.proofs.lemmas.List.{append-nil, length-append}
-use Rattle.codec_payload_av1.specs.Av1Leb.{◌>>=◌}
+use Rattle.std.specs.Option.{option_map}
+use Rattle.codec_payload_av1.specs.Av1Reading.{◌>>=◌}
 use Rattle.codec_payload_av1.specs.Av1Obu.{Obu, is_kept_type, kept, obu_at, obus_within, obus_of, frame_kept}
-use Rattle.codec_payload_av1.proofs.Av1Sequence.{obu_split}
+use Rattle.codec_payload_av1.proofs.Av1ObuGrammar.{obu_split}
+use Rattle.codec_payload_av1.proofs.Av1PayloadLengths.{some_is}
 
 pub shorter : (bytes rest : List ℕ) (o : Obu) → obu_at bytes ≡ Some (o, rest) → length rest < length bytes
 shorter bytes rest o is =
@@ -71,3 +73,54 @@ same_none None = refl
 
 pub frame_starts : (bytes : List ℕ) → with_kept [] (frame_kept bytes) ≡ frame_kept bytes
 frame_starts bytes = same_none (frame_kept bytes)
+
+-- ---- counting
+
+counted : (n : ℕ) (o : Obu) (r : Option (List Obu)) → option_map (λ os. n + length os) (with_kept (kept (o ∷ [])) r) ≡ option_map (λ os. n + length (kept (o ∷ [])) + length os) r
+counted n o None = refl
+counted n o (Some os) = ap (λ (m : ℕ). Some m) (omega (arith, length-append (kept (o ∷ [])) os))
+
+one_kept : (b : Bool) (o : Obu) → is_kept_type o.header ≡ b → length (kept (o ∷ [])) ≡ cond b 1 0
+one_kept true o is = rw is refl
+one_kept false o is = rw is refl
+
+pub length_kept : (o : Obu) → length (kept (o ∷ [])) ≡ cond (is_kept_type o.header) 1 0
+length_kept o = one_kept (is_kept_type o.header) o refl
+
+pub most_one : (o : Obu) → length (kept (o ∷ [])) ≤ 1
+most_one o = by_type_of (is_kept_type o.header) refl
+  where
+    by_type_of : (b : Bool) → is_kept_type o.header ≡ b → length (kept (o ∷ [])) ≤ 1
+    by_type_of b is = rw (one_kept b o is) (at_most b)
+      where
+        at_most : (b : Bool) → cond b 1 0 ≤ 1
+        at_most true = omega arith
+        at_most false = omega arith
+
+pub count_goes_on : (n : ℕ) (bytes rest : List ℕ) (o : Obu) (total : Option ℕ) → 0 < length bytes → obu_at bytes ≡ Some (o, rest) → option_map (λ os. n + length os) (frame_kept bytes) ≡ total
+    → option_map (λ os. n + length (kept (o ∷ [])) + length os) (frame_kept rest) ≡ total
+count_goes_on n bytes rest o total lt is so_far =
+    sym (counted n o (frame_kept rest))
+    ∙ ap (λ (r : Option (List Obu)). option_map (λ os. n + length os) r) (frame_goes_on [] bytes rest o (with_kept [] (frame_kept bytes)) lt is refl ∙ frame_starts bytes)
+    ∙ so_far
+
+pub count_fails : (n : ℕ) (bytes : List ℕ) (total : Option ℕ) → 0 < length bytes → obu_at bytes ≡ None → option_map (λ os. n + length os) (frame_kept bytes) ≡ total → None ≡ total
+count_fails n bytes total lt is so_far = ap (λ (r : Option (List Obu)). option_map (λ os. n + length os) r) (sym (frame_fails [] bytes (frame_kept bytes) lt is (frame_starts bytes))) ∙ so_far
+
+pub count_ends : (n : ℕ) (bytes : List ℕ) (total : Option ℕ) → length bytes ≡ 0 → option_map (λ os. n + length os) (frame_kept bytes) ≡ total → Some n ≡ total
+count_ends n bytes total none so_far = ap (λ (m : ℕ). Some m) (omega arith) ∙ ap (λ (r : Option (List Obu)). option_map (λ os. n + length os) r) (sym (frame_ends [] bytes (frame_kept bytes) none (frame_starts bytes))) ∙ so_far
+
+from_none : (n : ℕ) (r : Option (List Obu)) → n ≡ 0 → option_map (λ os. n + length os) r ≡ option_map (λ os. length os) r
+from_none n None is = refl
+from_none n (Some os) is = ap (λ (m : ℕ). Some m) (omega (arith, is))
+
+pub count_starts : (bytes : List ℕ) → option_map (λ os. 0 + length os) (frame_kept bytes) ≡ option_map (λ os. length os) (frame_kept bytes)
+count_starts bytes = from_none 0 (frame_kept bytes) refl
+
+-- nothing more can be read, and the whole is a sequence
+pub all_read : (front : List Obu) (bytes : List ℕ) (total : Option (List Obu)) (os : List Obu) → obu_at bytes ≡ None → with_kept front (frame_kept bytes) ≡ total → total ≡ Some os → front ≡ os
+all_read front [] total os is so_far whole = some_is front os (sym (frame_ends front [] total refl so_far) ∙ whole)
+all_read front (b ∷ bytes) total os is so_far whole = let none = sym (frame_fails front (b ∷ bytes) total (omega arith) is so_far) ∙ whole in absurd cc
+
+pub some_read : (bytes rest : List ℕ) (o : Obu) → obu_at bytes ≡ Some (o, rest) → 0 < length bytes
+some_read bytes rest o is = omega (arith, shorter bytes rest o is)

@@ -3,13 +3,14 @@ use Rattle.std.proofs.Common.{◌≡◌, ℕ, zero, suc, ◌/◌, ◌≤◌, ◌
 use Rattle.std.specs.Prelude.{◌||◌, ◌&&◌, bit_and}
 use Rattle.std.proofs.lemmas.Bool.{ltb-false}
 use Rattle.std.proofs.lemmas.List.{length-append, length-take, take-append-drop, take_at, drop_at}
-use Rattle.codec_payload_av1.specs.Av1Leb.{◌>>=◌, leb_at}
+use Rattle.codec_payload_av1.specs.Av1Reading.{◌>>=◌}
+use Rattle.codec_payload_base.specs.Leb.{IsLeb128, leb_at}
 use Rattle.codec_payload_av1.specs.Av1Obu.{has_bit}
 use Rattle.codec_payload_av1.specs.Av1Payload.{Payload, payload_at, element_at, each_at, counted_at, elements_at}
 use Rattle.codec_payload_av1.specs.Av1Grammar.{StandsFirst, AreEach, AreCounted, AreElements, IsBehind, IsPayload}
-use Rattle.codec_payload_av1.proofs.Av1Lengths.{bind_some, some_is, chosen, or_false}
-use Rattle.codec_payload_av1.proofs.Av1Again.{each_step, counted_step, nonzero_test}
-use Rattle.codec_payload_av1.proofs.Av1Sequence.{leb_more, leb_split}
+use Rattle.codec_payload_av1.proofs.Av1PayloadLengths.{bind_some, some_is, chosen, or_false}
+use Rattle.codec_payload_av1.proofs.Av1ReadBack.{each_step, counted_step, nonzero_test}
+use Rattle.codec_payload_base.proofs.LebLaws.{leb_complete, leb_sound}
 
 or_first : (a b : Bool) → (a || b) ≡ false → a ≡ false
 or_first true b e = absurd cc
@@ -28,20 +29,20 @@ element_split bytes e rest read =
       | inr q ↦
           let long : n.0.0 ≤ length n.0.1 = ltb-false _ _ (or_false (eqb n.0.0 0) (ltb (length n.0.1) n.0.0) q.0) in
           let some : 0 < n.0.0 = positive n.0.0 (or_first (eqb n.0.0 0) (ltb (length n.0.1) n.0.0) q.0) in
-          let s = leb_split bytes n.0.0 n.0.1 n.1 in
+          let s = leb_sound bytes n.0.0 n.0.1 n.1 in
           let len : length (take n.0.0 n.0.1) ≡ n.0.0 = omega (arith, length-take n.0.0 n.0.1) in
           subst (λ (x : List ℕ × List ℕ). StandsFirst x.0 bytes x.1) (some_is (take n.0.0 n.0.1, drop n.0.0 n.0.1) (e, rest) q.1) (record {
             nonempty = omega (arith, len, some);
             size = s.0;
-            spelled = s.2 ∙ ap (λ (k : ℕ). Some (k, [])) (sym len);
-            parts = s.1 ∙ ap (λ (t : List ℕ). s.0 ++ t) (sym (take-append-drop n.0.0 n.0.1));
+            spelled = subst (IsLeb128 s.0) (sym len) s.1;
+            parts = s.2 ∙ ap (λ (t : List ℕ). s.0 ++ t) (sym (take-append-drop n.0.0 n.0.1));
           })
     ]
 
 element_joined : (bytes e rest : List ℕ) → StandsFirst e bytes rest → element_at bytes ≡ Some (e, rest)
 unfolding element_at
 element_joined bytes e rest h =
-    rw (h.parts, leb_more h.size (e ++ rest) (length e) [] h.spelled, nonzero_test (length e) (length (e ++ rest)) h.nonempty (omega (arith, length-append e rest)), take_at e rest (length e) refl, drop_at e rest (length e) refl) refl
+    rw (h.parts, leb_complete (h.size ++ (e ++ rest)) (length e) (e ++ rest) h.size h.spelled refl, nonzero_test (length e) (length (e ++ rest)) h.nonempty (omega (arith, length-append e rest)), take_at e rest (length e) refl, drop_at e rest (length e) refl) refl
 
 -- ---- each behind its length
 

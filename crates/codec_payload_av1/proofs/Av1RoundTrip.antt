@@ -4,15 +4,15 @@ use Rattle.std.specs.List.{AllByRecursion, flat_map}
 use Rattle.std.proofs.lemmas.List.{length-append}
 use Rattle.std.proofs.lemmas.Bool.{cases_lt, lt-ltb, le-ltb}
 use Rattle.codec_payload_base.specs.Leb.{leb}
-use Rattle.codec_payload_av1.specs.Av1Leb.{◌>>=◌}
+use Rattle.codec_payload_av1.specs.Av1Reading.{◌>>=◌}
 use Rattle.codec_payload_av1.specs.Av1Obu.{Obu, is_kept_type, string, canonical, kept, canonical_unit}
 use Rattle.codec_payload_av1.specs.Av1Payload.{Payload, written, is_head, body, each_with_length, all_but_last_with_length, payload_at}
 use Rattle.codec_payload_av1.specs.Av1Packing.{ended, left_open, is_begun, IsElement, StandsAfter, HasElement, Sent, AreRead}
 use Rattle.codec_payload_av1.specs.Av1Receiving.{taken, unit_of, units_of, still_pending, usable, without_orphan, received, all_received}
-use Rattle.codec_payload_av1.proofs.Av1Lengths.{bind_some, some_is}
-use Rattle.codec_payload_av1.proofs.Av1Again.{Spelled, payload_again, written_head, IsGood, unit_again}
-use Rattle.codec_payload_av1.proofs.Av1Packed.{segments, segment, all_marks, one_byte}
-use Rattle.codec_payload_av1.proofs.Av1Fewest.{join}
+use Rattle.codec_payload_av1.proofs.Av1PayloadLengths.{bind_some, some_is}
+use Rattle.codec_payload_av1.proofs.Av1ReadBack.{Spelled, payload_again, written_head, IsGood, unit_again}
+use Rattle.codec_payload_av1.proofs.Av1FewestPackets.{segments, segment, all_marks, one_byte}
+use Rattle.codec_payload_av1.proofs.Av1FewestSegments.{join}
 
 -- ---- elements of a payload of fewer than 2 ^ 64 bytes can be spelled
 

@@ -3,10 +3,10 @@ use Rattle.std.proofs.Common.{◌≡◌, ℕ, ◌<◌, Bool, true, false, eqb, L
 use Rattle.std.specs.Prelude.{◌&&◌}
 use Rattle.std.proofs.lemmas.Bool.{eqb-false, eqb-true}
 use Rattle.std.proofs.lemmas.List.{append-nil, nil_from_length}
-use Rattle.codec_payload_av1.specs.Av1Leb.{◌>>=◌}
+use Rattle.codec_payload_av1.specs.Av1Reading.{◌>>=◌}
 use Rattle.codec_payload_av1.specs.Av1Packing.{ended, left_open}
 use Rattle.codec_payload_av1.specs.Av1Receiving.{unit_of, units_of, taken}
-use Rattle.codec_payload_av1.proofs.Av1Lengths.{some_is}
+use Rattle.codec_payload_av1.proofs.Av1PayloadLengths.{some_is}
 
 abbrev entry : List ℕ → List ℕ → Option (List ℕ × List ℕ)
 entry units left = Some (units, left)
@@ -20,13 +20,13 @@ pair_up u left (Some us) = refl
 pair_up u left None = refl
 
 -- an element that ends here
-one_taken : (goes_on : Bool) (begun e : List ℕ) (es : List (List ℕ)) (u : List ℕ) → (goes_on ≡ false) ⊎ (0 < length es) → unit_of (begun ++ e) ≡ Some u → taken goes_on begun (e ∷ es) ≡ after u (taken goes_on [] es)
+pub one_taken : (goes_on : Bool) (begun e : List ℕ) (es : List (List ℕ)) (u : List ℕ) → (goes_on ≡ false) ⊎ (0 < length es) → unit_of (begun ++ e) ≡ Some u → taken goes_on begun (e ∷ es) ≡ after u (taken goes_on [] es)
 unfolding taken units_of
 one_taken goes_on begun e (f ∷ es) u ends is = rw is (pair_up u (left_open goes_on [] (f ∷ es)) (units_of (ended goes_on [] (f ∷ es))))
 one_taken false begun e [] u ends is = rw is refl
 one_taken true begun e [] u ends is = elim ends [ inl a ↦ absurd cc | inr b ↦ absurd (omega (arith, b)) ]
 
-one_fails : (goes_on : Bool) (begun e : List ℕ) (es : List (List ℕ)) → (goes_on ≡ false) ⊎ (0 < length es) → unit_of (begun ++ e) ≡ None → taken goes_on begun (e ∷ es) ≡ None
+pub one_fails : (goes_on : Bool) (begun e : List ℕ) (es : List (List ℕ)) → (goes_on ≡ false) ⊎ (0 < length es) → unit_of (begun ++ e) ≡ None → taken goes_on begun (e ∷ es) ≡ None
 unfolding taken units_of
 one_fails goes_on begun e (f ∷ es) ends is = rw is refl
 one_fails false begun e [] ends is = rw is refl

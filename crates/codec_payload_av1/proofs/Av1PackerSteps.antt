@@ -6,9 +6,9 @@ use Rattle.codec_payload_av1.specs.Av1Payload.{Payload}
 use Rattle.codec_payload_av1.specs.Av1Packing.{IsElement, with_next, Sent}
 use Rattle.codec_payload_av1.specs.Av1Size.{packet_size, own, leb_len, lengths}
 use Rattle.codec_payload_av1.specs.Av1Laying.{IsClosed, Lays, starts_next, starts_with}
-use Rattle.codec_payload_av1.proofs.Av1Lengths.{length_written, leb_len_rises}
-use Rattle.codec_payload_av1.proofs.Av1Laying.{laying_none, lay_end, lay_part, lay_between, lay_last}
-use Rattle.codec_payload_av1.proofs.Av1Room.{size_push}
+use Rattle.codec_payload_av1.proofs.Av1PayloadLengths.{length_written, leb_len_rises}
+use Rattle.codec_payload_av1.proofs.Av1LayingStrings.{laying_none, lay_end, lay_part, lay_between, lay_last}
+use Rattle.codec_payload_av1.proofs.Av1PacketGrowth.{size_push}
 
 starts_same : (starts : Bool) (ps : List Payload) → starts_with starts ps ≡ starts_next starts ps
 starts_same true [] = refl

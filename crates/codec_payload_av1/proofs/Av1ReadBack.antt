@@ -1,12 +1,11 @@
 -- What was written is read again.
-use Rattle.std.proofs.Common.{◌≡◌, ℕ, zero, suc, ◌+◌, ◌*◌, ◌/◌, ◌%◌, ◌^◌, ◌<◌, ◌≤◌, Bool, true, false, not, cond, ltb, eqb, List, [], ◌∷◌, ◌++◌, length, Some, refl, ◌∙◌, ap, append_assoc, inl, inr, arith}
+use Rattle.std.proofs.Common.{◌≡◌, ℕ, zero, suc, ◌+◌, ◌*◌, ◌/◌, ◌^◌, ◌<◌, ◌≤◌, Bool, true, false, not, cond, ltb, eqb, List, [], ◌∷◌, ◌++◌, length, Some, refl, ◌∙◌, ap, append_assoc, inl, inr, arith}
 use Rattle.std.specs.Prelude.{◌||◌, ◌&&◌, bit_and, bit_or}
 use Rattle.std.specs.List.{AllByRecursion}
 use Rattle.std.proofs.lemmas.List.{length-append, take_at, drop_at}
 use Rattle.std.proofs.lemmas.Bool.{cases_lt, lt-ltb, le-ltb, ne_eqb, eq-eqb, eqb-true}
-use Rattle.codec_payload_base.specs.Leb.{leb, leb_within}
-use Rattle.codec_payload_base.proofs.LebLemmas.{limit}
-use Rattle.codec_payload_av1.specs.Av1Leb.{leb_front, leb_at}
+use Rattle.codec_payload_base.specs.Leb.{leb, leb_at}
+use Rattle.codec_payload_base.proofs.LebLaws.{writes_leb, leb_complete}
 use Rattle.codec_payload_av1.specs.Av1Obu.{Obu, IsObu, has_bit, has_extension, is_kept_type, string, canonical, obu_at, extension_at}
 use Rattle.codec_payload_av1.specs.Av1Payload.{is_head, Payload, written, body, element_count, each_with_length, all_but_last_with_length, payload_at, element_at, each_at, counted_at, elements_at}
 use Rattle.codec_payload_av1.specs.Av1Receiving.{unit_of}
@@ -32,19 +31,8 @@ at_each (suc n) test e k lt =
 
 -- ---- numbers
 
-front_again : (k n : ℕ) (rest : List ℕ) → n < limit k → leb_front k (leb_within k n ++ rest) ≡ Some (n, rest)
-front_again zero n rest lt = rw (lt-ltb n 128 lt) refl
-front_again (suc k) n rest lt =
-    elim (cases_lt n 128) [
-      | inl small ↦ rw (lt-ltb n 128 small, lt-ltb n 128 small) refl
-      | inr large ↦
-          let again = front_again k (n / 128) rest (omega arith) in
-          rw (le-ltb n 128 large, le-ltb (n % 128 + 128) 128 (omega arith), again) (ap (λ (m : ℕ). Some (m, rest)) (omega arith))
-    ]
-
 pub leb_again : (n : ℕ) (rest : List ℕ) → n < 2 ^ 64 → leb_at (leb n ++ rest) ≡ Some (n, rest)
-unfolding leb leb_at
-leb_again n rest lt = rw (front_again 9 n rest (omega arith)) (ap (λ (m : ℕ). Some (m, rest)) (omega arith))
+leb_again n rest lt = leb_complete (leb n ++ rest) n rest (leb n) (writes_leb n lt) refl
 
 -- ---- the aggregation header
 

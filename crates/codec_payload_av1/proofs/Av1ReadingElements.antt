@@ -1,9 +1,9 @@
 -- Reading elements one after the other, as a loop does.
 use Rattle.std.proofs.Common.{◌≡◌, ℕ, zero, suc, ◌≤◌, ◌<◌, List, [], ◌∷◌, ◌++◌, length, Option, Some, None, refl, sym, ap, ◌∙◌, append_assoc, arith}
 use Rattle.std.proofs.lemmas.List.{append-nil}
-use Rattle.codec_payload_av1.specs.Av1Leb.{◌>>=◌}
+use Rattle.codec_payload_av1.specs.Av1Reading.{◌>>=◌}
 use Rattle.codec_payload_av1.specs.Av1Payload.{element_at, each_at, counted_at}
-use Rattle.codec_payload_av1.proofs.Av1Lengths.{element_at_len, leb_len_some}
+use Rattle.codec_payload_av1.proofs.Av1PayloadLengths.{element_at_len, leb_len_some}
 
 -- what was read before, and what is still read
 abbrev pub with_front : List (List ℕ) → Option (List (List ℕ)) → Option (List (List ℕ))
@@ -29,7 +29,7 @@ fuel zero j (c ∷ bytes) a b = absurd (omega (arith, a))
 fuel (suc k) zero (c ∷ bytes) a b = absurd (omega (arith, b))
 fuel (suc k) (suc j) (c ∷ bytes) a b = same_step k j (c ∷ bytes) (element_at (c ∷ bytes)) refl (λ x is. fuel k j x.1 (omega (arith, a, shorter (c ∷ bytes) x.0 x.1 is)) (omega (arith, b, shorter (c ∷ bytes) x.0 x.1 is)))
 
-each_cons : (bytes e rest : List ℕ) → 0 < length bytes → element_at bytes ≡ Some (e, rest) → each_at (length bytes) bytes ≡ (each_at (length rest) rest >>= λ es. Some (e ∷ es))
+pub each_cons : (bytes e rest : List ℕ) → 0 < length bytes → element_at bytes ≡ Some (e, rest) → each_at (length bytes) bytes ≡ (each_at (length rest) rest >>= λ es. Some (e ∷ es))
 unfolding each_at
 each_cons [] e rest lt is = absurd (omega (arith, lt))
 each_cons (c ∷ bytes) e rest lt is = rw (is, fuel (length bytes) (length rest) rest (omega (arith, shorter (c ∷ bytes) e rest is)) (omega arith)) refl

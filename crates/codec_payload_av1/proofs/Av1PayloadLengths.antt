@@ -1,14 +1,15 @@
 -- How long payloads are.
-use Rattle.std.proofs.Common.{◌≡◌, ℕ, zero, suc, ◌+◌, ◌*◌, ◌/◌, ◌%◌, ◌^◌, ◌≤◌, Bool, true, false, cond, ltb, eqb, List, [], ◌∷◌, length, take, drop, map, Option, Some, None, refl, ap, ◌⊎◌, inl, inr, arith}
+use Rattle.std.proofs.Common.{◌≡◌, ℕ, zero, suc, ◌+◌, ◌/◌, ◌≤◌, Bool, true, false, cond, ltb, eqb, List, [], ◌∷◌, length, take, drop, map, Option, Some, None, refl, ap, ◌⊎◌, inl, inr, arith}
 use Rattle.std.specs.Prelude.{◌||◌, ◌&&◌}
 use Rattle.std.proofs.lemmas.List.{length-append, length-map, length-take, length-drop}
 use Rattle.std.proofs.lemmas.Bool.{cases_lt, lt-ltb, le-ltb, ltb-false}
-use Rattle.codec_payload_base.specs.Leb.{leb, leb_within}
-use Rattle.codec_payload_av1.specs.Av1Leb.{◌>>=◌, leb_front, leb_at}
+use Rattle.codec_payload_base.specs.Leb.{leb, leb_at, leb_within}
+use Rattle.codec_payload_base.proofs.LebLaws.{leb_sound, writes_shortest}
+use Rattle.codec_payload_av1.specs.Av1Reading.{◌>>=◌}
 use Rattle.codec_payload_av1.specs.Av1Obu.{has_bit}
 use Rattle.codec_payload_av1.specs.Av1Payload.{Payload, written, body, each_with_length, all_but_last_with_length, payload_at, element_at, each_at, counted_at, elements_at}
 use Rattle.codec_payload_av1.specs.Av1Size.{size_with_lengths, size_last_bare, packet_size, leb_len}
-use Rattle.codec_payload_av1.proofs.Av1Fewest.{bare-le-lengths, Rises}
+use Rattle.codec_payload_av1.proofs.Av1FewestSegments.{bare-le-lengths, Rises}
 use Rattle.std.specs.Prelude.{bit_and}
 use Rattle.std.proofs.lemmas.Nat.{and_le_r}
 
@@ -90,33 +91,10 @@ length_written p = omega (arith, length_body p.elements)
 
 -- ---- nothing that is read is shorter
 
-front_len : (k : ℕ) (bytes : List ℕ) (x : ℕ × List ℕ) → leb_front k bytes ≡ Some x → length (leb_within k x.0) + length x.1 ≤ length bytes
-front_len k [] x e = absurd cc
-front_len zero (b ∷ bs) x e =
-    elim (chosen (ltb b 128) (Some (b, bs)) None (Some x) e) [
-      | inl p ↦ rw (← some_is (b, bs) x p.1) (omega arith)
-      | inr q ↦ absurd (let no = q.1 in cc)
-    ]
-front_len (suc k) (b ∷ bs) x e =
-    elim (chosen (ltb b 128) (Some (b, bs)) (leb_front k bs >>= λ high. Some (b % 128 + 128 * high.0, high.1)) (Some x) e) [
-      | inl p ↦ rw (← some_is (b, bs) x p.1, p.0) (omega arith)
-      | inr q ↦
-          let h = bind_some (leb_front k bs) (λ high. Some (b % 128 + 128 * high.0, high.1)) x q.1 in
-          let less = front_len k bs h.0 h.1 in
-          let high-is : (b % 128 + 128 * h.0.0) / 128 ≡ h.0.0 = omega arith in
-          rw (← some_is (b % 128 + 128 * h.0.0, h.0.1) x h.2)
-          (elim (cases_lt (b % 128 + 128 * h.0.0) 128) [
-            | inl small ↦ rw (lt-ltb (b % 128 + 128 * h.0.0) 128 small) (omega (arith, less))
-            | inr large ↦ rw (le-ltb (b % 128 + 128 * h.0.0) 128 large, high-is) (omega (arith, less))
-          ])
-    ]
-
 leb_at_len : (bytes : List ℕ) (x : ℕ × List ℕ) → leb_at bytes ≡ Some x → leb_len x.0 + length x.1 ≤ length bytes
-unfolding leb leb_at
 leb_at_len bytes x e =
-    let b = bind_some (leb_front 9 bytes) (λ y. Some (y.0 % 2 ^ 64, y.1)) x e in
-    let less = front_len 9 bytes b.0 b.1 in
-    rw (← some_is (b.0.0 % 2 ^ 64, b.0.1) x b.2) (omega (arith, less, within_rises 9 (b.0.0 % 2 ^ 64) b.0.0 (omega arith)))
+    let s = leb_sound bytes x.0 x.1 e in
+    omega (arith, writes_shortest x.0 s.0 s.1, ap length s.2, length-append s.0 x.1)
 
 pub or_false : (a b : Bool) → (a || b) ≡ false → b ≡ false
 or_false true b e = absurd cc

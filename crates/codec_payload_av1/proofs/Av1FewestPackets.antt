@@ -6,8 +6,8 @@ use Rattle.codec_payload_base.specs.Pieces.{joined}
 use Rattle.codec_payload_av1.specs.Av1Payload.{Payload, written}
 use Rattle.codec_payload_av1.specs.Av1Packing.{ended, left_open, is_begun, IsElement, StandsAfter, with_next, AllFullButLast, HasElement, Sent, AreRead, Packs, bytes_in, carried, reach}
 use Rattle.codec_payload_av1.specs.Av1Size.{packet_size, leb_len}
-use Rattle.codec_payload_av1.proofs.Av1Fewest.{runs, runs_from, join, FullSegments, fewest_segments, furthest_segments}
-use Rattle.codec_payload_av1.proofs.Av1Lengths.{leb_len_rises, length_written, payload_at_len}
+use Rattle.codec_payload_av1.proofs.Av1FewestSegments.{runs, runs_from, join, FullSegments, fewest_segments, furthest_segments}
+use Rattle.codec_payload_av1.proofs.Av1PayloadLengths.{leb_len_rises, length_written, payload_at_len}
 
 -- ---- where strings begin in an element, and in a packet; mid: the element goes on from before
 
