@@ -4,7 +4,8 @@ ghost use Rattle.std.specs.Prelude.{◌≡◌, [], Some, true, false, ⊤};
 ghost use Rattle.codec_payload_audio.specs.Payloads.{Appends};
 ghost use Rattle.codec_payload_base.specs.Pieces.{AnswersPieces};
 
-use crate::plain::{append_payload, cut_pieces};
+use crate::plain::append_payload;
+use codec_payload_base::described::send_pieces;
 use codec_payload_base::error::PacketError;
 use codec_payload_base::interface::{CodecExtra, Depacketizer, Packetizer};
 use std::alloc::Global;
@@ -32,7 +33,7 @@ impl Packetizer for OpusPacketizer {
         mtu: usize,
         b: &[u8],
     ) -> Result<Vec<Vec<u8>>, PacketError> {
-        cut_pieces(alloc, mtu, b)
+        send_pieces(alloc, mtu, b)
     }
 
     fn is_marker(&mut self, _data: &[u8], _previous: Option<&[u8]>, _last: bool) -> bool {
