@@ -1,14 +1,14 @@
 -- What is spelled as AMR-WB is received, and what is received was spelled so.
-use Rattle.std.proofs.Common.{◌≡◌, ℕ, zero, suc, ◌+◌, ◌-◌, ◌*◌, ◌/◌, ◌%◌, ◌<◌, ◌≤◌, inl, inr, List, [], ◌∷◌, ◌++◌, length, take, drop, map, refl, sym, ◌∙◌, ap, arith, append_assoc, length-append, length-drop, cond, eqb, Option, Some, None, Ok, Err, Result, Bool, true, false}
+use Rattle.std.proofs.Common.{◌≡◌, ℕ, zero, suc, ◌+◌, ◌-◌, ◌*◌, ◌/◌, ◌%◌, ◌<◌, ◌≤◌, inl, inr, List, [], ◌∷◌, ◌++◌, length, take, drop, map, refl, sym, ◌∙◌, ap, arith, append_assoc, length-append, length-drop, cond, eqb, Option, Some, None, Ok, Err, Result, Bool, true, false, replicate}
 use Rattle.std.specs.List.{AllByRecursion}
 use Rattle.std.proofs.lemmas.Bool.{lt-ltb, le-ltb, cases_lt, eqb-true, eqb-false, cases_Bool}
-use Rattle.std.proofs.lemmas.List.{take_at, drop_at, take-append-drop, length-take-le, drop-drop}
+use Rattle.std.proofs.lemmas.List.{append-nil, length-replicate, take_at, drop_at, take-append-drop, length-take-le, drop-drop}
 use Rattle.codec_payload_base.specs.Bits.{bits, bits_of}
-use Rattle.codec_payload_base.proofs.BitLemmas.{length-bits_of}
+use Rattle.codec_payload_base.proofs.BitLemmas.{length-bits, length-bits_of}
 use Rattle.codec_payload_base.specs.declared.error.PacketError.{PacketError}
-use Rattle.codec_payload_audio.specs.AmrWb.{Frame, IsFrame, canonical, gap, speech_size}
+use Rattle.codec_payload_audio.specs.AmrWb.{Frame, IsFrame, canonical, entry, gap, payload, speech_size}
 use Rattle.codec_payload_audio.specs.AmrWbReceived.{Entry, entries_at, entry_from, entry_then, with_front, frame_at, frames_at, then_frames, with_frame, whole, behind_entries, received}
-use Rattle.codec_payload_audio.specs.AmrWbPayload.{request_size, entry_fill, speech_fill, toc_entry, AreEntries, AreSpeech, IsAmrWb, canonicals, SpelledIsReceived, ReceivedIsSpelled}
+use Rattle.codec_payload_audio.specs.AmrWbPayload.{request_size, entry_fill, speech_fill, toc_entry, AreEntries, AreSpeech, IsAmrWb, canonicals, SpelledIsReceived, ReceivedIsSpelled, SentIsSpelled}
 
 abbrev entry_for : Frame → Entry
 entry_for f = record { kind = f.kind; quality = f.quality }
@@ -348,3 +348,49 @@ none_received octet frames h = cc
 pub received_is_spelled : ReceivedIsSpelled
 received_is_spelled octet [] frames h = inl (refl, none_received octet frames h)
 received_is_spelled octet (b ∷ bs) frames h = inr (bytes_received octet (b ∷ bs) frames (omega arith) h)
+
+-- ---- what is sent is spelled so
+
+gap_below : (n : ℕ) → gap n < 8
+gap_below n = omega arith
+
+entry_length : (f : Frame) → length (entry f) ≡ 6
+unfolding bits
+entry_length f = refl
+
+gap_front : (h n : ℕ) → h ≡ 16 → gap (h + n) ≡ gap n
+gap_front h n e = omega arith
+
+pub sent_is_spelled : SentIsSpelled
+sent_is_spelled false f is =
+    let zeros : List ℕ = replicate (gap (length (bits 4 15 ++ entry f ++ f.speech))) 0 in
+    let size : length zeros ≡ gap (length (bits 4 15 ++ entry f ++ f.speech)) = length-replicate {A = ℕ} (gap (length (bits 4 15 ++ entry f ++ f.speech))) 0 in
+    record {
+      request = bits 4 15;
+      entries = toc_entry 0 f ++ [];
+      speech = f.speech ++ ([] ++ []);
+      fill = zeros;
+      frames = (is, tt);
+      request_length = length-bits 4 15;
+      are_entries = ([], refl, refl);
+      are_speech = ([], [], refl, refl, refl);
+      less_than_a_byte = omega (arith, size, gap_below (length (bits 4 15 ++ entry f ++ f.speech)));
+      is = simp (append_assoc, append-nil) refl;
+    }
+sent_is_spelled true f is =
+    let front : List ℕ = bits 4 15 ++ bits 4 0 ++ entry f ++ bits 2 0 in
+    let front_size : length front ≡ 16 = omega (arith, length-append (bits 4 15 ++ bits 4 0 ++ entry f) (bits 2 0), length-append (bits 4 15 ++ bits 4 0) (entry f), length-append (bits 4 15) (bits 4 0), length-bits 4 15, length-bits 4 0, length-bits 2 0, entry_length f) in
+    let zeros : List ℕ = replicate (gap (length (front ++ f.speech))) 0 in
+    let size : length zeros ≡ gap (length f.speech) = length-replicate {A = ℕ} (gap (length (front ++ f.speech))) 0 ∙ ap gap (length-append front f.speech) ∙ gap_front (length front) (length f.speech) front_size in
+    record {
+      request = bits 4 15 ++ bits 4 0;
+      entries = toc_entry 0 f ++ bits 2 0;
+      speech = f.speech ++ (zeros ++ []);
+      fill = [];
+      frames = (is, tt);
+      request_length = omega (arith, length-append (bits 4 15) (bits 4 0), length-bits 4 15, length-bits 4 0);
+      are_entries = (bits 2 0, length-bits 2 0, refl);
+      are_speech = (zeros, [], size, refl, refl);
+      less_than_a_byte = omega arith;
+      is = simp (append_assoc, append-nil) refl;
+    }

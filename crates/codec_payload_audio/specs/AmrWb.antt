@@ -82,11 +82,15 @@ abbrev pub amr_wb_is_skipped : List ℕ → Bool
 amr_wb_is_skipped [] = true
 amr_wb_is_skipped (b ∷ bs) = is_without_data (stored (b ∷ bs))
 
--- the fault with which bytes are refused that are not skipped, if they are: where they store no frame, and where its
--- payload is longer than the MTU
-abbrev pub amr_wb_refusal : Bool → ℕ → Option Frame → Option PacketError
-amr_wb_refusal octet mtu None = Some faults.ErrAmrWbCorruptedPacket
-amr_wb_refusal octet mtu (Some f) = if nat_lt (8 * mtu) (length (payload octet f)) then Some faults.ErrPayloadTooLarge else None
+-- the fault with which a frame with data is refused, if it is: where the bytes store none, and where its payload is longer
+-- than the MTU
+abbrev pub refusal_of_frame : Bool → ℕ → Option Frame → Option PacketError
+refusal_of_frame octet mtu None = Some faults.ErrAmrWbCorruptedPacket
+refusal_of_frame octet mtu (Some f) = if nat_lt (8 * mtu) (length (payload octet f)) then Some faults.ErrPayloadTooLarge else None
+
+-- the fault with which bytes are refused, if they are
+abbrev pub amr_wb_refusal : Bool → ℕ → List ℕ → Option PacketError
+amr_wb_refusal octet mtu bytes = if amr_wb_is_skipped bytes then None else refusal_of_frame octet mtu (stored bytes)
 
 -- the one packet of a frame
 abbrev pub IsPacketOf : Bool → ℕ → Option Frame → List (List ℕ) → Type 0
@@ -95,8 +99,8 @@ IsPacketOf octet mtu (Some f) packets = (packet : List ℕ) × (packets ≡ pack
 
 -- what is answered for a frame with data
 abbrev pub AnswersFrame : Bool → ℕ → Frame → Result (List (List ℕ)) PacketError → Type 0
-AnswersFrame octet mtu f answer = AnswersBy false (amr_wb_refusal octet mtu (Some f)) (λ packets. IsPacketOf octet mtu (Some f) packets) answer
+AnswersFrame octet mtu f answer = AnswersBy false (refusal_of_frame octet mtu (Some f)) (λ packets. IsPacketOf octet mtu (Some f) packets) answer
 
 -- what the packetizer answers
 abbrev pub AnswersAmrWb : Bool → ℕ → List ℕ → Result (List (List ℕ)) PacketError → Type 0
-AnswersAmrWb octet mtu bytes answer = AnswersBy (amr_wb_is_skipped bytes) (amr_wb_refusal octet mtu (stored bytes)) (λ packets. IsPacketOf octet mtu (stored bytes) packets) answer
+AnswersAmrWb octet mtu bytes answer = AnswersBy (amr_wb_is_skipped bytes) (amr_wb_refusal octet mtu bytes) (λ packets. IsPacketOf octet mtu (stored bytes) packets) answer

@@ -2,7 +2,7 @@
 use Rattle.std.specs.Prelude.{◌≡◌, ℕ, ◌<◌, ◌⊎◌, Bool, true, false, if◌then◌else◌, List, [], ◌∷◌, ◌++◌, length, Ok}
 use Rattle.std.specs.List.{flat_map, AllByRecursion}
 use Rattle.codec_payload_base.specs.Bits.{bits, bits_of}
-use Rattle.codec_payload_audio.specs.AmrWb.{Frame, IsFrame, canonical, gap}
+use Rattle.codec_payload_audio.specs.AmrWb.{Frame, IsFrame, canonical, gap, payload}
 use Rattle.codec_payload_audio.specs.AmrWbReceived.{received}
 
 -- the mode request in four bits; octet-aligned, four bits of any value stand behind it
@@ -60,3 +60,7 @@ abbrev pub ReceivedIsSpelled : Type 0
 ReceivedIsSpelled =
     (octet : Bool) (payload frames : List ℕ) → received octet (bits_of payload) ≡ Ok frames
     → ((payload ≡ []) × (frames ≡ [])) ⊎ ((fs : List Frame) × IsAmrWb octet (bits_of payload) fs × (frames ≡ canonicals fs))
+
+-- what is sent of a frame is spelled so
+abbrev pub SentIsSpelled : Type 0
+SentIsSpelled = (octet : Bool) (f : Frame) → IsFrame f → IsAmrWb octet (payload octet f) (f ∷ [])

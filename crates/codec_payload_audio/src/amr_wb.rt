@@ -5,7 +5,7 @@
 
 ghost use Rattle.std.specs.Prelude.{◌≡◌, ◌<◌, false};
 ghost use Rattle.codec_payload_audio.specs.AmrWb.{speech_size};
-ghost use Rattle.codec_payload_audio.specs.AmrWbPayload.{ReceivedIsSpelled, SpelledIsReceived};
+ghost use Rattle.codec_payload_audio.specs.AmrWbPayload.{ReceivedIsSpelled, SentIsSpelled, SpelledIsReceived};
 
 mod receive;
 mod send;
@@ -24,10 +24,11 @@ pub fn defaults_of_amr_wb() -> (AmrWbPacketizer, AmrWbDepacketizer)
 
 /// A payload that is spelled from a mode request, a table of contents and the speech of its entries, with any bits where
 /// their value means nothing, is received as those frames, each in canonical form; and whatever is received was spelled
-/// so (RFC 4867, sections 4.3 and 4.4).
+/// so (RFC 4867, sections 4.3 and 4.4). What is sent of a frame is spelled so too.
 pub fn payloads_follow_the_grammar()
     ensures received { SpelledIsReceived }
     ensures spelled { ReceivedIsSpelled }
+    ensures sent { SentIsSpelled }
 {}
 
 /// How many speech bits each frame type has; `None` for a reserved one. Types 14 and 15 stand for a lost frame and for a
