@@ -232,14 +232,6 @@ some_frame : (frame : List ℕ) (o : Obu) (os : List Obu) → frame_kept frame �
 some_frame [] o os keeps = let e = sym empty_keeps_nothing ∙ keeps in absurd (cc)
 some_frame (b ∷ bs) o os keeps = refl
 
-no_sequence : (frame : List ℕ) → ((obus : List Obu) → IsSequence obus frame → ⊥) → frame_kept frame ≡ None
-unfolding frame_kept
-no_sequence frame none = by_reading (obus_of frame) refl
-  where
-    by_reading : (r : Option (List Obu)) → obus_of frame ≡ r → (r >>= λ os. Some (kept os)) ≡ None
-    by_reading None is = refl
-    by_reading (Some os) is = absurd (none os (sequence_sound frame os is))
-
 no_strings : (os : List Obu) → map string os ≡ [] → os ≡ []
 no_strings [] e = refl
 no_strings (o ∷ os) e = absurd (cc)
