@@ -3,11 +3,6 @@ use Rattle.std.specs.Prelude.{◌≡◌, List, ℕ, ◌++◌, Option, Some, None
 use Rattle.codec_payload_base.specs.declared.error.PacketError.{PacketError}
 use Rattle.codec_payload_base.specs.declared.error.PacketError.TheVariants as faults
 
--- Seen by view, it is what reading finds.
-abbrev pub Finds : {X Y : Type 0} → (X → Y) → Option X → Option Y → Type 0
-Finds view (Some x) read = read ≡ Some (view x)
-Finds view None read = read ≡ None
-
 -- A fault of the bytes comes only where reading finds nothing; memory can run out anywhere.
 abbrev pub Fails : {Y : Type 0} → PacketError → Option Y → Type 0
 Fails faults.OutOfMemory read = Unit {0}

@@ -10,7 +10,7 @@ use Rattle.std.proofs.lemmas.Nat.Bits.{and_pow}
 use Rattle.codec_payload_base.specs.Pieces.{joined}
 use Rattle.codec_payload_base.specs.declared.error.PacketError.{PacketError}
 use Rattle.codec_payload_base.specs.declared.error.PacketError.TheVariants as faults
-use Rattle.codec_payload_av1.proofs.Av1ObuGrammar.{sequence_sound, sequence_complete}
+use Rattle.codec_payload_av1.proofs.Av1ObuGrammar.{sequence_complete}
 use Rattle.codec_payload_av1.specs.Av1Reading.{◌>>=◌}
 use Rattle.codec_payload_av1.specs.Av1Obu.{Obu, IsSequence, canonical, canonical_unit, frame_kept, kept, obus_of, obus_within, string, strings_of}
 use Rattle.codec_payload_av1.specs.Av1Packing.{IsElement, HasElement, StandsAfter, StandsFor, ended, is_begun, left_open}
@@ -227,14 +227,6 @@ empty_keeps_nothing = refl
 some_frame : (frame : List ℕ) (o : Obu) (os : List Obu) → frame_kept frame ≡ Some (o ∷ os) → is_empty frame ≡ false
 some_frame [] o os keeps = let e = sym empty_keeps_nothing ∙ keeps in absurd (cc)
 some_frame (b ∷ bs) o os keeps = refl
-
-no_sequence : (frame : List ℕ) → ((obus : List Obu) → IsSequence obus frame → ⊥) → frame_kept frame ≡ None
-unfolding frame_kept
-no_sequence frame none = by_reading (obus_of frame) refl
-  where
-    by_reading : (r : Option (List Obu)) → obus_of frame ≡ r → (r >>= λ os. Some (kept os)) ≡ None
-    by_reading None is = refl
-    by_reading (Some os) is = absurd (none os (sequence_sound frame os is))
 
 no_strings : (os : List Obu) → map string os ≡ [] → os ≡ []
 no_strings [] e = refl

@@ -1,6 +1,6 @@
 //! AV1 payloads as frames.
 
-ghost use Rattle.std.specs.Prelude.{◌≡◌, ◌∷◌, List, [], Some, length, take, ◌&&◌, ◌==◌, ℕ, is_some, not};
+ghost use Rattle.std.specs.Prelude.{◌≡◌, ◌∷◌, List, [], Some, length, take, ◌&&◌, ◌==◌, ℕ, is_some, not, ◌++◌, OnOk};
 ghost use Rattle.codec_payload_av1.specs.Av1Obu.{has_bit};
 ghost use Rattle.codec_payload_av1.specs.Av1Packing.{is_begun};
 ghost use Rattle.codec_payload_av1.specs.Av1Payload.{is_head, now_of};
@@ -229,6 +229,25 @@ fn append_unit(out: &mut Vec<u8>, element: &[u8]) -> Result<(), PacketError>
     Ok(())
 }
 
+/// Adds what the pending bytes and an element behind them give, which have to be exactly one OBU. Nothing is pending then.
+fn append_joined(
+    pending: &mut Vec<u8>,
+    out: &mut Vec<u8>,
+    element: &[u8],
+) -> Result<(), PacketError>
+    ensures added { Appends result out.old.items out.new.items (unit_of (pending.old.items ++ element.now)) }
+    ensures kept { take (length out.old.items) out.new.items ≡ out.old.items }
+    ensures emptied { OnOk result (pending.new.items ≡ []) }
+{
+    if pending.is_empty() {
+        return append_unit(out, element);
+    }
+    pending.extend_from_slice(element)?;
+    append_unit(out, pending)?;
+    pending.clear();
+    Ok(())
+}
+
 /// Whether an element is left open that so many others follow.
 fn stays_open(goes_on: bool, others: usize) -> bool
     ensures { result ≡ (goes_on && others == 0) }
@@ -247,12 +266,11 @@ fn take_elements(
     ensures kept { take (length out.old.items) out.new.items ≡ out.old.items }
 {
     for (i, element) in elements.iter().enumerate() {
-        pending.extend_from_slice(element)?;
         if stays_open(goes_on, elements.len() - i - 1) {
+            pending.extend_from_slice(element)?;
             return Ok(());
         }
-        append_unit(out, pending)?;
-        pending.clear();
+        append_joined(pending, out, element)?;
     }
     Ok(())
 }

@@ -3,7 +3,7 @@
 ghost use Rattle.std.specs.Prelude.{◌≡◌, ◌++◌, ◌<◌, ◌≤◌, ◌+◌, OnOk, length, take};
 ghost use Rattle.std.specs.Option.{option_map};
 ghost use Rattle.codec_payload_base.specs.Leb.{leb, leb_low, leb_at};
-ghost use Rattle.codec_payload_av1.specs.Av1Outcome.{Finds};
+ghost use Rattle.codec_payload_base.specs.Answers.{Finds};
 
 use std::alloc::AllocError;
 

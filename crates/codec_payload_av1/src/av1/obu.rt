@@ -3,7 +3,7 @@
 ghost use Rattle.std.specs.Prelude.{◌≡◌, ◌++◌, OnOk, length, take};
 ghost use Rattle.std.specs.Option.{option_map};
 ghost use Rattle.codec_payload_av1.specs.Av1Obu.{obu_at, extension_at, sized_at, canonical, has_size, is_kept_type, is_one, view};
-ghost use Rattle.codec_payload_av1.specs.Av1Outcome.{Finds};
+ghost use Rattle.codec_payload_base.specs.Answers.{Finds};
 
 use crate::av1::leb::{joined_number, number_at, put_number};
 use std::alloc::AllocError;

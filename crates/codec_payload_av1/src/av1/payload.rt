@@ -2,7 +2,8 @@
 
 ghost use Rattle.std.specs.Prelude.{◌≡◌, ◌∷◌, length};
 ghost use Rattle.codec_payload_av1.specs.Av1Payload.{now_of, view, element_at, each_at, counted_at, elements_at, next_at, w_after, payload_at};
-ghost use Rattle.codec_payload_av1.specs.Av1Outcome.{Finds, Gives};
+ghost use Rattle.codec_payload_base.specs.Answers.{Finds};
+ghost use Rattle.codec_payload_av1.specs.Av1Outcome.{Gives};
 
 use crate::av1::leb::number_at;
 use codec_payload_base::error::PacketError;

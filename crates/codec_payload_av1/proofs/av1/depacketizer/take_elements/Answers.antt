@@ -1,4 +1,4 @@
-use Rattle.std.proofs.Common.{◌≡◌, ℕ, ◌+◌, ◌-◌, ◌<◌, Bool, true, false, eqb, Option, Some, None, List, [], ◌∷◌, ◌++◌, length, get_or, drop, ap, arith}
+use Rattle.std.proofs.Common.{◌≡◌, ℕ, ◌+◌, ◌-◌, ◌<◌, Bool, true, false, eqb, Option, Some, None, List, [], ◌∷◌, ◌++◌, length, get_or, drop, refl, ap, arith}
 use Rattle.std.specs.Borrow.{Bor}
 use Rattle.std.proofs.lemmas.List.{drop_more, drop_all, length-map, length-drop}
 use Rattle.codec_payload_av1.specs.Av1Payload.{now_of}
@@ -51,21 +51,21 @@ returns-then-stays_open-clause-taken c =
     stays c.args.elements.now c.loop-i.i c.loop-i-test.true c.args.goes_on c.loop-i.out.items c.loop-i.pending.items c.args.out.now.items (taken c.args.goes_on c.args.pending.now.items (now_of c.args.elements.now)) c.loop-i.invariant.so_far
     c.extend_from_slice.new.self.items c.if-stays_open.ensures c.in_ok-extend_from_slice.ensures.items
 
-pub returns-in_err-append_unit-clause-taken : goal.returns-in_err-append_unit-clause-taken
-returns-in_err-append_unit-clause-taken c =
-    let p = err_from_is_err_and c.from_residual-in_err-append_unit.result c.from_residual-in_err-append_unit.ensures.1 in
+pub returns-in_err-append_joined-clause-taken : goal.returns-in_err-append_joined-clause-taken
+returns-in_err-append_joined-clause-taken c =
+    let p = err_from_is_err_and c.from_residual-in_err-append_joined.result c.from_residual-in_err-append_joined.ensures.1 in
     rw (p.1, p.2)
-    (refused_with c.in_err-append_unit.field-0.0 c.args.elements.now c.loop-i.i c.loop-i-test.true c.args.goes_on c.loop-i.out.items c.loop-i.pending.items c.args.out.now.items (taken c.args.goes_on c.args.pending.now.items (now_of c.args.elements.now)) c.loop-i.invariant.so_far
-    c.extend_from_slice.new.self.items c.if-stays_open.ensures c.in_ok-extend_from_slice.ensures.items (rw c.deref.ensures.value at c.in_err-append_unit.ensures.added))
+    (refused_with c.in_err-append_joined.field-0.0 c.args.elements.now c.loop-i.i c.loop-i-test.true c.args.goes_on c.loop-i.out.items c.loop-i.pending.items c.args.out.now.items (taken c.args.goes_on c.args.pending.now.items (now_of c.args.elements.now)) c.loop-i.invariant.so_far
+    _ c.if-stays_open.ensures refl c.in_err-append_joined.ensures.added)
 
 pub loop-i-preserved : goal.loop-i-preserved
 loop-i-preserved c =
-    let added = c.in_ok-append_unit.ensures.added in
+    let added = c.in_ok-append_joined.ensures.added in
     record {
-      so_far = rw c.clear.ensures.items
+      so_far = rw c.in_ok-append_joined.ensures.emptied
           (goes c.args.elements.now c.loop-i.i c.loop-i-test.true c.args.goes_on c.loop-i.out.items c.loop-i.pending.items c.args.out.now.items (taken c.args.goes_on c.args.pending.now.items (now_of c.args.elements.now)) c.loop-i.invariant.so_far
-          c.extend_from_slice.new.self.items c.append_unit.new.out.items added.0 c.if-stays_open.ensures c.in_ok-extend_from_slice.ensures.items (rw c.deref.ensures.value at added.1) added.2);
-      kept = kept_trans c.args.out.now.items c.loop-i.out.items c.append_unit.new.out.items c.loop-i.invariant.kept c.in_ok-append_unit.ensures.kept;
+          _ c.append_joined.new.out.items added.0 c.if-stays_open.ensures refl added.1 added.2);
+      kept = kept_trans c.args.out.now.items c.loop-i.out.items c.append_joined.new.out.items c.loop-i.invariant.kept c.in_ok-append_joined.ensures.kept;
     }
 
 pub returns-clause-taken : goal.returns-clause-taken
