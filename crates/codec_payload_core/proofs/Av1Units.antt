@@ -16,7 +16,7 @@ use Rattle.codec_payload_av1.specs.Av1Obu.{Obu, IsSequence, canonical, canonical
 use Rattle.codec_payload_av1.specs.Av1Packing.{IsElement, HasElement, StandsAfter, StandsFor, ended, is_begun, left_open}
 use Rattle.codec_payload_av1.specs.Av1Payload.{Payload, aggregation_header, body, element_count, is_head, payload_at, written}
 use Rattle.codec_payload_av1.specs.Av1Receiving.{all_received, received}
-use Rattle.codec_payload_av1.specs.Av1Steps.{AnswersAv1, Av1Step, IsRefusedPayload, IsSentFrame}
+use Rattle.codec_payload_av1.specs.Av1Steps.{AnswersAv1, Av1Step, IsRefusedPayload, IsSentFrame, keeps_nothing, refusal_of_kept}
 use Rattle.codec_payload_buffer.proofs.CaseLemmas.{by_test}
 use Rattle.codec_payload_core.proofs.TellLemmas.{quiet_tells}
 use Rattle.codec_payload_core.proofs.SendsUnits.{SendsUnits, no_units}
@@ -28,7 +28,7 @@ use Rattle.codec_payload_core.specs.Schedule.{payloads_of}
 use Rattle.codec_payload_core.specs.Sending.{Sample, packets_for}
 use Rattle.codec_payload_core.specs.SentStream.{SentUnit, EndsWithTail, StartsWithHead, IsReleaseOf, payloads_held, payloads_sent, IsLawful}
 use Rattle.codec_payload_buffer.specs.Steps.{Unpacked, Unpacks, nothing_unpacked}
-use Rattle.codec_payload_core.specs.Units.{canonical_obus, canonical_units, is_empty, keeps_nothing, refusal_of_obus}
+use Rattle.codec_payload_core.specs.Units.{canonical_obus, canonical_units, units_by}
 
 -- what comes of two reads, one after the other
 bind_split : {A B : Type 0} → (o : Option A) (f : A → Option B) (y : B) → (o >>= f) ≡ Some y → (a : A) × (o ≡ Some a) × (f a ≡ Some y)
@@ -202,31 +202,20 @@ module _ (sample : Sample) (rtp_time : ℕ) where
 
 -- the units of a frame whose kept OBUs are known
 abbrev units_if : ℕ → List ℕ → Option (List Obu) → List (List (List ℕ))
-units_if mtu frame o = cond (is_empty frame || leb mtu 1 || keeps_nothing o || is_some (refusal_of_obus o)) [] (canonical_obus o ∷ [])
+units_if mtu frame o = units_by (leb mtu 1 || keeps_nothing o) (cond (leb mtu 1) None (refusal_of_kept o)) (canonical_obus o ∷ [])
 
 small_skips : (mtu : ℕ) (frame : List ℕ) (o : Option (List Obu)) → leb mtu 1 ≡ true → units_if mtu frame o ≡ []
-small_skips mtu [] o small = refl
-small_skips mtu (b ∷ bs) o small = rw small refl
+small_skips mtu frame o small = rw small refl
 
 nothing_kept : (mtu : ℕ) (frame : List ℕ) → leb mtu 1 ≡ false → units_if mtu frame (Some []) ≡ []
-nothing_kept mtu [] large = refl
-nothing_kept mtu (b ∷ bs) large = rw large refl
+nothing_kept mtu frame large = rw large refl
 
 refused : (mtu : ℕ) (frame : List ℕ) → leb mtu 1 ≡ false → units_if mtu frame None ≡ []
-refused mtu [] large = refl
-refused mtu (b ∷ bs) large = rw large refl
+refused mtu frame large = rw large refl
 
 kept_of_sequence : (obus : List Obu) (frame : List ℕ) → IsSequence obus frame → frame_kept frame ≡ Some (kept obus)
 unfolding frame_kept
 kept_of_sequence obus frame sequence = ap (λ (r : Option (List Obu)). r >>= λ os. Some (kept os)) (sequence_complete obus frame sequence)
-
-empty_keeps_nothing : frame_kept [] ≡ Some []
-unfolding frame_kept obus_of obus_within
-empty_keeps_nothing = refl
-
-some_frame : (frame : List ℕ) (o : Obu) (os : List Obu) → frame_kept frame ≡ Some (o ∷ os) → is_empty frame ≡ false
-some_frame [] o os keeps = let e = sym empty_keeps_nothing ∙ keeps in absurd (cc)
-some_frame (b ∷ bs) o os keeps = refl
 
 no_strings : (os : List Obu) → map string os ≡ [] → os ≡ []
 no_strings [] e = refl
@@ -257,8 +246,7 @@ module _ (mtu : ℕ) (sample : Sample) (rtp_time number : ℕ) (large : leb mtu 
         let nothing : packet ∷ others ≡ [] = s.sent.1 ∙ ap (map written) none in
         absurd (cc)
     sends_unit (o ∷ os) is =
-        let frame : is_empty sample.bytes ≡ false = some_frame sample.bytes o os (kept_of_sequence s.obus sample.bytes s.sequence ∙ ap (λ (xs : List Obu). Some xs) is) in
-        let units : units_if mtu sample.bytes (Some (o ∷ os)) ≡ map canonical (o ∷ os) ∷ [] = rw (frame, large) refl in
+        let units : units_if mtu sample.bytes (Some (o ∷ os)) ≡ map canonical (o ∷ os) ∷ [] = rw large refl in
         record {
           units = obus_unit sample rtp_time number s.obus (packet ∷ others) ∷ [];
           canonical = ap (λ (xs : List Obu). map canonical xs ∷ []) is ∙ (sym units ∙ sym (units_are s.obus (o ∷ os) s.sequence is));

@@ -3,6 +3,7 @@
 use Rattle.std.proofs.Common.{◌≡◌, ◌∙◌, sym, ap, refl, subst, ℕ, ◌+◌, ◌-◌, ◌<◌, ◌%◌, ◌^◌, ◌||◌, List, [], ◌∷◌, ◌++◌, length, length-append, arith, Bool, true, false, Option, None, Ok, leb}
 use Rattle.std.proofs.lemmas.List.{append-nil}
 use Rattle.std.proofs.lemmas.Bool.Decides.{nat_tests}
+use Rattle.codec_payload_base.specs.Answers.{is_empty}
 use Rattle.codec_payload_base.specs.Described.{AnswersDescribed, described}
 use Rattle.codec_payload_base.specs.Pieces.{joined, ArePieces, AreOfSize}
 use Rattle.codec_payload_base.specs.declared.interface.CodecExtra.{CodecExtra}
@@ -17,7 +18,7 @@ use Rattle.codec_payload_core.specs.Packets.{Packet}
 use Rattle.codec_payload_core.specs.Sending.{Sample, packet_for, packets_for}
 use Rattle.codec_payload_core.specs.SentStream.{EndsWithTail, payloads_sent}
 use Rattle.codec_payload_core.specs.ToldIds.{id_later, next_id}
-use Rattle.codec_payload_core.specs.Units.{is_empty, is_skipped, refusal_of, units_sent, each_whole, pack_after, payloads_by, may_split}
+use Rattle.codec_payload_core.specs.Units.{is_skipped, refusal_of, units_sent, each_whole, pack_after, payloads_by, may_split}
 
 -- no piece is empty
 abbrev pub NoneEmpty : List (List ℕ) → Type 0

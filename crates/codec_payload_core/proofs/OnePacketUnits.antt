@@ -1,16 +1,16 @@
 -- Units of one packet whose payload may carry other bytes than its own: comfort noise, telephone events and AMR-WB.
 use Rattle.std.proofs.Common.{◌≡◌, ◌≢◌, ◌∙◌, sym, ap, refl, subst, ℕ, ◌*◌, ◌≤◌, inl, inr, ◌⊎◌, List, [], ◌∷◌, ◌++◌, length, take, arith, Bool, true, false, Option, Some, None, Result, Ok, Err, cond, ltb, eqb, ◌||◌}
-use Rattle.std.specs.Prelude.{MatchResult, is_some, option_map}
-use Rattle.codec_payload_base.specs.Faults.{fault_number}
+use Rattle.std.specs.Prelude.{MatchResult}
 use Rattle.std.proofs.lemmas.Bool.{le-ltb, ltb-false, eqb-true, eqb-false}
 use Rattle.std.proofs.lemmas.List.{append-nil}
 use Rattle.codec_payload_audio.proofs.AmrWbRoundTripLemmas.{stored_is_frame, received_again}
 use Rattle.codec_payload_base.proofs.BitLemmas.{length-bits_of}
 use Rattle.codec_payload_base.proofs.FaultLemmas.{only_memory}
-use Rattle.codec_payload_audio.specs.AmrWb.{Frame, AnswersAmrWb, AnswersFrame, AnswersStored, canonical, payload, stored, is_without_data, refusal_of_frame}
-use Rattle.codec_payload_audio.specs.AmrWbReceived.{AmrWbStep, received}
+use Rattle.codec_payload_audio.specs.AmrWb.{Frame, AnswersAmrWb, IsPacketOf, amr_wb_is_skipped, amr_wb_refusal, canonical, payload, stored}
+use Rattle.codec_payload_audio.specs.AmrWbReceived.{AmrWbStep, IsRefusal, received}
 use Rattle.codec_payload_base.specs.Bits.{bits_of, bytes_of}
-use Rattle.codec_payload_audio.specs.Payloads.{AnswersWhole}
+use Rattle.codec_payload_audio.specs.Payloads.{AnswersWhole, whole_refusal}
+use Rattle.codec_payload_base.specs.Answers.{AnswersBy, is_empty}
 use Rattle.codec_payload_base.specs.TelephoneReport.{TakesFirst, are_reports}
 use Rattle.codec_payload_base.specs.declared.error.PacketError.{PacketError}
 use Rattle.codec_payload_base.specs.declared.error.PacketError.TheVariants as faults
@@ -24,7 +24,7 @@ use Rattle.codec_payload_core.specs.Packets.{Packet}
 use Rattle.codec_payload_core.specs.Schedule.{payloads_of}
 use Rattle.codec_payload_core.specs.SentStream.{SentUnit, StartsWithHead, IsReleaseOf, payloads_held, payloads_sent, IsLawful}
 use Rattle.codec_payload_buffer.specs.Steps.{Unpacked, Unpacks, nothing_unpacked}
-use Rattle.codec_payload_core.specs.Units.{canonical_units, is_readable, payloads_by, bytes_of_frame}
+use Rattle.codec_payload_core.specs.Units.{canonical_units, each_whole, is_readable, payloads_by, bytes_of_frame, units_by}
 
 -- a payload begins and ends a unit, and carries these bytes
 pub record IsCarried (kind : DepackKind) (payload bytes : List ℕ) : Type 0 where
@@ -83,6 +83,25 @@ OneOrNone pack mtu frame payloads =
     ((payloads ≡ []) × (canonical_units pack mtu frame ≡ []))
     ⊎ ((payload : List ℕ) × (bytes : List ℕ) × (payloads ≡ payload ∷ []) × (canonical_units pack mtu frame ≡ (bytes ∷ []) ∷ []) × (is_readable pack frame ≡ true → IsCarried (payloads_by pack) payload bytes))
 
+-- none of a frame that is skipped or refused, and all of any other
+pub none_skipped : (skips : Bool) (refusal : Option PacketError) (units : List (List (List ℕ))) → skips ≡ true → units_by skips refusal units ≡ []
+none_skipped skips refusal units is = rw is refl
+
+pub none_refused : (skips : Bool) (refusal : Option PacketError) (fault : PacketError) (units : List (List (List ℕ))) → skips ≡ false → refusal ≡ Some fault → units_by skips refusal units ≡ []
+none_refused skips refusal fault units is refused = rw (is, refused) refl
+
+pub all_sent : (skips : Bool) (refusal : Option PacketError) (units : List (List (List ℕ))) → skips ≡ false → refusal ≡ None → units_by skips refusal units ≡ units
+all_sent skips refusal units is taken = rw (is, taken) refl
+
+-- an answer goes by what is skipped and refused; nothing is sent of either
+pub by_answer : (skips : Bool) (refusal : Option PacketError) (Sends : List (List ℕ) → Type 0) (answer : Result (List (List ℕ)) PacketError) → AnswersBy skips refusal Sends answer → answer ≢ Err faults.OutOfMemory
+    → (P : List (List ℕ) → Type 0) → (skips ≡ true → P []) → ((fault : PacketError) → skips ≡ false → refusal ≡ Some fault → P [])
+    → ((packets : List (List ℕ)) → skips ≡ false → refusal ≡ None → Sends packets → P packets) → P (payloads_of answer)
+by_answer true refusal Sends answer is found P skipped refused sent = subst (λ (a : Result (List (List ℕ)) PacketError). P (payloads_of a)) (sym is) (skipped refl)
+by_answer false (Some fault) Sends answer is found P skipped refused sent = subst (λ (a : Result (List (List ℕ)) PacketError). P (payloads_of a)) (sym is) (refused fault refl refl)
+by_answer false None Sends (Ok packets) is found P skipped refused sent = sent packets refl refl is
+by_answer false None Sends (Err fault) is found P skipped refused sent = absurd (found (ap Err is))
+
 -- comfort noise
 noise_given : (d : Depack) (b : ℕ) (bs : List ℕ) (extra : CodecExtra) (one : Result (Unit {0}) PacketError) (e : Depack) (out' : List ℕ) (extra' : CodecExtra) → kind_of_depack d ≡ ComfortNoisePayloads
     → DepackStep d (b ∷ bs) [] extra one e out' extra' → (kind_of_depack e ≡ ComfortNoisePayloads) × MatchResult one (λ _. out' ≡ b ∷ bs) (λ fault. fault ≡ faults.OutOfMemory)
@@ -94,13 +113,15 @@ noise_carried : (b : ℕ) (bs : List ℕ) → IsCarried ComfortNoisePayloads (b 
 noise_carried b bs = record { head = refl; tail = λ marker. refl; quiet = refl; gives = λ d extra one e out' extra' is step. noise_given d b bs extra one e out' extra' is step }
 
 pub noise_units : (mtu : ℕ) (frame : List ℕ) (answer : Result (List (List ℕ)) PacketError) → AnswersWhole mtu frame answer → answer ≢ Err faults.OutOfMemory → OneOrNone ComfortNoisePack mtu frame (payloads_of answer)
-noise_units mtu [] answer is found = inl (ap payloads_of is, refl)
-noise_units mtu (b ∷ bs) (Ok packets) is found = inr (b ∷ bs, b ∷ bs, is.1, rw (le-ltb mtu (length (b ∷ bs)) is.0) refl, λ _. noise_carried b bs)
-noise_units mtu (b ∷ bs) (Err fault) is found =
-    by_test (ltb mtu (length (b ∷ bs))) (λ r. ltb mtu (length (b ∷ bs)) ≡ r → OneOrNone ComfortNoisePack mtu (b ∷ bs) [])
-    (λ long _. inl (refl, rw long refl))
-    (λ short _. absurd (found (ap Err (is.1 (ltb-false mtu (length (b ∷ bs)) short)))))
-    refl
+noise_units mtu frame answer is found =
+    by_answer (is_empty frame) (whole_refusal mtu frame) (λ packets. packets ≡ frame ∷ []) answer is found (OneOrNone ComfortNoisePack mtu frame)
+    (λ skips. inl (refl, none_skipped (is_empty frame) (whole_refusal mtu frame) (each_whole (frame ∷ [])) skips))
+    (λ fault sent refused. inl (refl, none_refused (is_empty frame) (whole_refusal mtu frame) fault (each_whole (frame ∷ [])) sent refused))
+    (λ packets sent taken is. inr (frame, frame, is, all_sent (is_empty frame) (whole_refusal mtu frame) (each_whole (frame ∷ [])) sent taken, λ _. carried frame sent))
+  where
+    carried : (frame : List ℕ) → is_empty frame ≡ false → IsCarried ComfortNoisePayloads frame frame
+    carried [] some = absurd (cc)
+    carried (b ∷ bs) some = noise_carried b bs
 
 -- telephone events
 first_given : (rate : ℕ) (payload out' : List ℕ) (extra' : CodecExtra) → TakesFirst rate payload [] out' extra' → out' ≡ take 4 payload
@@ -120,19 +141,20 @@ tele_carried : (payload : List ℕ) → are_reports payload ≡ true → IsCarri
 tele_carried payload whole = record { head = refl; tail = λ marker. refl; quiet = refl; gives = λ d extra one e out' extra' is step. tele_given d payload extra one e out' extra' whole is step }
 
 pub tele_units : (mtu : ℕ) (frame : List ℕ) (answer : Result (List (List ℕ)) PacketError) → AnswersWhole mtu frame answer → answer ≢ Err faults.OutOfMemory → OneOrNone TelePack mtu frame (payloads_of answer)
-tele_units mtu [] answer is found = inl (ap payloads_of is, refl)
-tele_units mtu (b ∷ bs) (Ok packets) is found = inr (b ∷ bs, take 4 (b ∷ bs), is.1, rw (le-ltb mtu (length (b ∷ bs)) is.0) refl, λ whole. tele_carried (b ∷ bs) whole)
-tele_units mtu (b ∷ bs) (Err fault) is found =
-    by_test (ltb mtu (length (b ∷ bs))) (λ r. ltb mtu (length (b ∷ bs)) ≡ r → OneOrNone TelePack mtu (b ∷ bs) [])
-    (λ long _. inl (refl, rw long refl))
-    (λ short _. absurd (found (ap Err (is.1 (ltb-false mtu (length (b ∷ bs)) short)))))
-    refl
+tele_units mtu frame answer is found =
+    by_answer (is_empty frame) (whole_refusal mtu frame) (λ packets. packets ≡ frame ∷ []) answer is found (OneOrNone TelePack mtu frame)
+    (λ skips. inl (refl, none_skipped (is_empty frame) (whole_refusal mtu frame) (each_whole (take 4 frame ∷ [])) skips))
+    (λ fault sent refused. inl (refl, none_refused (is_empty frame) (whole_refusal mtu frame) fault (each_whole (take 4 frame ∷ [])) sent refused))
+    (λ packets sent taken is. inr (frame, take 4 frame, is, all_sent (is_empty frame) (whole_refusal mtu frame) (each_whole (take 4 frame ∷ [])) sent taken, λ whole. tele_carried frame (reports sent whole)))
+  where
+    reports : is_empty frame ≡ false → (is_empty frame || are_reports frame) ≡ true → are_reports frame ≡ true
+    reports some whole = rw some at whole
 
 -- AMR-WB
 amr_wb_step : (octet : Bool) (packet frames : List ℕ) (extra : CodecExtra) (one : Result (Unit {0}) PacketError) (out' : List ℕ) (extra' : CodecExtra) → received octet (bits_of packet) ≡ Ok frames
     → AmrWbStep octet packet [] extra one out' extra' → MatchResult one (λ _. out' ≡ bytes_of frames) (λ fault. fault ≡ faults.OutOfMemory)
 amr_wb_step octet packet frames extra (Ok _) out' extra' reads (given, is, bytes, same) = let e : given ≡ frames = cc in bytes ∙ ap bytes_of e
-amr_wb_step octet packet frames extra (Err fault) out' extra' reads step = only_memory fault (λ other. let e = sym reads ∙ step.0 other in cc)
+amr_wb_step octet packet frames extra (Err fault) out' extra' reads step = (subst (IsRefusal fault packet) reads step.0).0
 
 amr_wb_given : (d : Depack) (octet : Bool) (packet frames : List ℕ) (extra : CodecExtra) (one : Result (Unit {0}) PacketError) (e : Depack) (out' : List ℕ) (extra' : CodecExtra) → received octet (bits_of packet) ≡ Ok frames → kind_of_depack d ≡ AmrWbPayloads octet
     → DepackStep d packet [] extra one e out' extra' → (kind_of_depack e ≡ AmrWbPayloads octet) × MatchResult one (λ _. out' ≡ bytes_of frames) (λ fault. fault ≡ faults.OutOfMemory)
@@ -144,43 +166,21 @@ amr_wb_given d octet packet frames extra one e out' extra' reads is step = absur
 amr_wb_carried : (octet : Bool) (packet frames : List ℕ) → received octet (bits_of packet) ≡ Ok frames → IsCarried (AmrWbPayloads octet) packet (bytes_of frames)
 amr_wb_carried octet packet frames reads = record { head = refl; tail = λ marker. refl; quiet = refl; gives = λ d extra one e out' extra' is step. amr_wb_given d octet packet frames extra one e out' extra' reads is step }
 
--- the units of bytes that store that frame, or none
-abbrev units_if : Bool → ℕ → Option Frame → List (List (List ℕ))
-units_if octet mtu o = cond (is_without_data o || is_some (option_map fault_number (refusal_of_frame octet mtu o))) [] ((bytes_of_frame o ∷ []) ∷ [])
+-- the one packet of a stored frame
+abbrev SendsFrame : Bool → Option Frame → List (List ℕ) → Type 0
+SendsFrame octet o packets = (packet : List ℕ) × (packets ≡ packet ∷ []) × IsCarried (AmrWbPayloads octet) packet (bytes_of_frame o)
 
-abbrev FrameUnits : Bool → ℕ → Option Frame → List (List ℕ) → Type 0
-FrameUnits octet mtu o payloads =
-    ((payloads ≡ []) × (units_if octet mtu o ≡ []))
-    ⊎ ((packet : List ℕ) × (bytes : List ℕ) × (payloads ≡ packet ∷ []) × (units_if octet mtu o ≡ (bytes ∷ []) ∷ []) × IsCarried (AmrWbPayloads octet) packet bytes)
-
-frame_units : (octet : Bool) (mtu : ℕ) (f : Frame) (frame : List ℕ) (answer : Result (List (List ℕ)) PacketError) → stored frame ≡ Some f → eqb f.kind 15 ≡ false → AnswersFrame octet mtu f answer → answer ≢ Err faults.OutOfMemory
-    → FrameUnits octet mtu (Some f) (payloads_of answer)
-frame_units octet mtu f frame (Ok packets) stores speaks (packet, one, spelled, fits) found =
-    let short : length (payload octet f) ≤ 8 * mtu = omega (arith, length-bits_of packet, ap length spelled, fits) in
-    inr (
-      packet,
-      bytes_of (canonical f),
-      one,
-      rw (speaks, le-ltb (8 * mtu) (length (payload octet f)) short) refl,
-      amr_wb_carried octet packet (canonical f) (ap (received octet) spelled ∙ received_again octet f (stored_is_frame frame f stores)),
-    )
-frame_units octet mtu f frame (Err fault) stores speaks answers found =
-    by_test (ltb (8 * mtu) (length (payload octet f))) (λ r. ltb (8 * mtu) (length (payload octet f)) ≡ r → FrameUnits octet mtu (Some f) [])
-    (λ long _. inl (refl, rw (speaks, long) refl))
-    (λ short _. absurd (found (ap Err (answers.1 (ltb-false (8 * mtu) (length (payload octet f)) short)))))
-    refl
-
-stored_units : (octet : Bool) (mtu : ℕ) (o : Option Frame) (frame : List ℕ) (answer : Result (List (List ℕ)) PacketError) → stored frame ≡ o → AnswersStored octet mtu o answer → answer ≢ Err faults.OutOfMemory → FrameUnits octet mtu o (payloads_of answer)
-stored_units octet mtu None frame answer stores is found = inl (ap payloads_of is, refl)
-stored_units octet mtu (Some f) frame answer stores is found =
-    by_test (eqb f.kind 15) (λ r. eqb f.kind 15 ≡ r → FrameUnits octet mtu (Some f) (payloads_of answer))
-    (λ none _. inl (ap payloads_of (is.0 (eqb-true f.kind 15 none)), rw none refl))
-    (λ speaks _. frame_units octet mtu f frame answer stores speaks (is.1 (eqb-false f.kind 15 speaks)) found)
-    refl
+frame_carried : (octet : Bool) (mtu : ℕ) (frame : List ℕ) (o : Option Frame) (packets : List (List ℕ)) → stored frame ≡ o → IsPacketOf octet mtu o packets → SendsFrame octet o packets
+frame_carried octet mtu frame None packets stores is = absurd is
+frame_carried octet mtu frame (Some f) packets stores (packet, one, spelled, fits) =
+    (packet, one, amr_wb_carried octet packet (canonical f) (ap (received octet) spelled ∙ received_again octet f (stored_is_frame frame f stores)))
 
 pub amr_wb_units : (octet : Bool) (mtu : ℕ) (frame : List ℕ) (answer : Result (List (List ℕ)) PacketError) → AnswersAmrWb octet mtu frame answer → answer ≢ Err faults.OutOfMemory → OneOrNone (AmrWbPack octet) mtu frame (payloads_of answer)
-amr_wb_units octet mtu [] answer is found = inl (ap payloads_of is, refl)
-amr_wb_units octet mtu (b ∷ bs) answer is found = elim (stored_units octet mtu (stored (b ∷ bs)) (b ∷ bs) answer refl is found) [
-  | inl none ↦ inl none
-  | inr one ↦ inr (one.0, one.1, one.2, one.3, λ _. one.4)
-]
+amr_wb_units octet mtu frame answer is found =
+    let units = each_whole (bytes_of_frame (stored frame) ∷ []) in
+    by_answer (amr_wb_is_skipped frame) (amr_wb_refusal octet mtu frame) (λ packets. IsPacketOf octet mtu (stored frame) packets) answer is found (OneOrNone (AmrWbPack octet) mtu frame)
+    (λ skips. inl (refl, none_skipped (amr_wb_is_skipped frame) (amr_wb_refusal octet mtu frame) units skips))
+    (λ fault sent refused. inl (refl, none_refused (amr_wb_is_skipped frame) (amr_wb_refusal octet mtu frame) fault units sent refused))
+    (λ packets sent taken is.
+    let one = frame_carried octet mtu frame (stored frame) packets refl is in
+    inr (one.0, bytes_of_frame (stored frame), one.1, all_sent (amr_wb_is_skipped frame) (amr_wb_refusal octet mtu frame) units sent taken, λ _. one.2))

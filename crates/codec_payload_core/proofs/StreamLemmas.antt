@@ -4,9 +4,11 @@ use Rattle.std.specs.Prelude.{MatchResult, MatchOption, slice_get}
 use Rattle.std.proofs.Math.Dec.{eqb-suc-zero}
 use Rattle.std.proofs.lemmas.List.{append-nil, map-append}
 use Rattle.codec_payload_audio.specs.Payloads.{Appends}
-use Rattle.codec_payload_base.specs.Pieces.{AnswersPieces, pieces_of}
+use Rattle.codec_payload_base.specs.Answers.{AnswersBy}
+use Rattle.codec_payload_base.specs.Pieces.{AnswersPieces, ArePieces, pieces_are_skipped, pieces_of}
+use Rattle.std.specs.Int.{div_ceil}
 use Rattle.codec_payload_core.proofs.Av1Units.{av1_sends}
-use Rattle.codec_payload_core.proofs.OnePacketUnits.{OneOrNone, one_packet, only_whole, one_held, lawful_one, noise_units, tele_units, amr_wb_units}
+use Rattle.codec_payload_core.proofs.OnePacketUnits.{IsCarried, OneOrNone, all_sent, amr_wb_units, by_answer, lawful_one, noise_units, none_skipped, one_packet, tele_units}
 use Rattle.codec_payload_core.proofs.TellLemmas.{is_quiet, quiet_tells}
 use Rattle.codec_payload_core.proofs.SendsUnits.{CarryIds, SendsUnits, carry_on, no_units}
 use Rattle.codec_payload_core.proofs.Vp8Units.{vp8_sends}
@@ -28,7 +30,7 @@ use Rattle.codec_payload_core.specs.declared.schedule.Sent.{Sent}
 use Rattle.codec_payload_core.specs.declared.schedule.Step.{Step}
 use Rattle.codec_payload_core.specs.declared.schedule.Step.TheVariants as steps
 use Rattle.codec_payload_buffer.specs.Steps.{Unpacked, Unpacks, nothing_unpacked}
-use Rattle.codec_payload_core.specs.Units.{canonical_units, is_readable, pack_after, payloads_by, may_split, each_whole, is_empty}
+use Rattle.codec_payload_core.specs.Units.{canonical_units, is_readable, pack_after, payloads_by, may_split, each_whole, units_by}
 
 -- payloads of this kind are units, whole, and carry themselves
 pub data IsPlain : DepackKind → Type 0 where
@@ -59,39 +61,28 @@ appends OpusDepack plain payload out extra answer e out' extra' step = step
 appends NullDepack plain payload out extra answer e out' extra' step = step
 appends d plain payload out extra answer e out' extra' step = elim plain [ ]
 
--- a unit of one packet
-abbrev pub alone : Packet → SentUnit
-alone q = record { parts = q.payload ∷ []; packets = q ∷ []; id = None }
-
-given_alone : (q : Packet) (missing : List Packet) (kind : DepackKind) (d : Depack) (p : Held) (answer : Result Unpacked PacketError) (e : Depack) → missing ≡ [] → p.bytes ≡ q.payload → kind_of_depack d ≡ kind
-    → (one : Result (Unit {0}) PacketError) (mid : Depack) (v : Unpacked) → Appends p.bytes [] (nothing_unpacked).extra one v.bytes v.extra × (mid ≡ d)
-    → MatchResult one (λ _. (answer ≡ Ok v) × (e ≡ mid)) (λ fault. (answer ≡ Err fault) × (e ≡ mid))
-    → (kind_of_depack e ≡ kind) × MatchResult answer (λ unpacked. IsReleaseOf false (alone q) missing unpacked.bytes) (λ fault. fault ≡ faults.OutOfMemory)
-given_alone q missing kind d p answer e none same is (Ok u) mid v step rest = (
-  ap kind_of_depack (rest.1 ∙ step.1) ∙ is,
-  subst (λ (a : Result Unpacked PacketError). MatchResult a (λ unpacked. IsReleaseOf false (alone q) missing unpacked.bytes) (λ fault. fault ≡ faults.OutOfMemory)) (sym rest.0)
-      (inl (none, step.0.0 ∙ (same ∙ sym (append-nil q.payload)))),
-)
-given_alone q missing kind d p answer e none same is (Err f) mid v step rest = (
-  ap kind_of_depack (rest.1 ∙ step.1) ∙ is,
-  subst (λ (a : Result Unpacked PacketError). MatchResult a (λ unpacked. IsReleaseOf false (alone q) missing unpacked.bytes) (λ fault. fault ≡ faults.OutOfMemory)) (sym rest.0) step.0.0,
-)
-
-lawful_alone : (kind : DepackKind) → IsPlain kind → (q : Packet) → IsLawful kind false (alone q)
-lawful_alone kind plain q = record {
-  ends = plain_tail kind plain q.marker q.payload;
-  starts = plain_head kind plain q.payload;
-  gives = λ missing rest whole head ps same d answer e is gives.
-      let only = only_whole q missing rest kind whole head in
-      let found = one_held ps q.payload (same ∙ ap payloads_sent only.1) in
-      let one = subst (λ (hs : List Held). Unpacks d hs nothing_unpacked answer e) found.1 gives in
-      given_alone q missing kind d found.0 answer e only.0 found.2 is one.0 one.1 one.2 (appends d (subst IsPlain (sym is) plain) found.0.bytes [] (nothing_unpacked).extra one.0 one.1 one.2.bytes one.2.extra one.3) one.4;
-  tells = λ missing rest whole head ps same d unpacked e is gives. quiet_tells kind (plain_quiet kind plain) ps d unpacked e is gives;
+-- and so each is carried whole
+plain_carried : (kind : DepackKind) → IsPlain kind → (payload : List ℕ) → IsCarried kind payload payload
+plain_carried kind plain payload = record {
+  head = plain_head kind plain payload;
+  tail = λ marker. plain_tail kind plain marker payload;
+  quiet = plain_quiet kind plain;
+  gives = λ d extra one e out' extra' is step.
+      let given = appends d (subst IsPlain (sym is) plain) payload [] extra one e out' extra' step in
+      (ap kind_of_depack given.1 ∙ is, answered one out' extra' extra given.0);
 }
+  where
+    answered : (one : Result (Unit {0}) PacketError) (out' : List ℕ) (extra' extra : CodecExtra) → Appends payload [] extra one out' extra' → MatchResult one (λ _. out' ≡ payload) (λ fault. fault ≡ faults.OutOfMemory)
+    answered (Ok _) out' extra' extra given = given.0
+    answered (Err fault) out' extra' extra given = given.0
+
+-- a unit of one packet that carries itself
+abbrev pub alone : Packet → SentUnit
+alone q = one_packet q.payload q
 
 pub all_alone : (kind : DepackKind) → IsPlain kind → (ps : List Packet) → AllLawful kind false (map alone ps)
 all_alone kind plain [] = tt
-all_alone kind plain (p ∷ ps) = (lawful_alone kind plain p, all_alone kind plain ps)
+all_alone kind plain (p ∷ ps) = (lawful_one kind p.payload p (plain_carried kind plain p.payload), all_alone kind plain ps)
 
 -- these carry no ids
 ids_alone : (n : ℕ) (ps : List Packet) → CarryIds None n (map alone ps)
@@ -107,16 +98,19 @@ parts_alone pack sample rtp_time number [] = refl
 parts_alone pack sample rtp_time number (payload ∷ payloads) = ap (λ (us : List (List (List ℕ))). (payload ∷ []) ∷ us) (parts_alone pack sample rtp_time ((number + 1) % 2 ^ 64) payloads)
 
 -- the answer of a packetizer of pieces
-pieces_skipped : (mtu : ℕ) (frame : List ℕ) (payloads : List (List ℕ)) → AnswersPieces mtu frame (Ok payloads)
-    → each_whole payloads ≡ cond (is_empty frame || (mtu == 0) || false) [] (each_whole (pieces_of mtu frame))
-pieces_skipped zero [] payloads answer = ap each_whole (answer.0 refl)
-pieces_skipped (suc n) [] payloads answer =
-    let some : 0 < suc n = omega arith in
-    ap each_whole (one_list (suc n) [] payloads some (answer.1 some) ∙ sym (one_list (suc n) [] [] some (no_pieces (suc n) [] refl)))
-pieces_skipped zero (b ∷ bs) payloads answer = ap each_whole (answer.0 refl)
-pieces_skipped (suc n) (b ∷ bs) payloads answer =
-    let some : 0 < suc n = omega arith in
-    rw (eqb-suc-zero n) (ap each_whole (one_list (suc n) (b ∷ bs) payloads some (answer.1 some)))
+some_size : (mtu : ℕ) (frame : List ℕ) → pieces_are_skipped mtu frame ≡ false → 0 < mtu
+some_size zero [] some = absurd (cc)
+some_size zero (b ∷ bs) some = absurd (cc)
+some_size (suc n) frame some = omega arith
+
+pieces_skipped : (mtu : ℕ) (frame : List ℕ) (payloads : List (List ℕ)) → AnswersPieces mtu frame (Ok payloads) → each_whole payloads ≡ units_by (pieces_are_skipped mtu frame) None (each_whole (pieces_of mtu frame))
+pieces_skipped mtu frame payloads answer =
+    let units = each_whole (pieces_of mtu frame) in
+    by_answer (pieces_are_skipped mtu frame) None (λ packets. ArePieces mtu frame packets × (length packets ≡ div_ceil (length frame) mtu)) (Ok payloads) answer (λ e. cc)
+    (λ packets. each_whole packets ≡ units_by (pieces_are_skipped mtu frame) None units)
+    (λ skips. sym (none_skipped (pieces_are_skipped mtu frame) None units skips))
+    (λ fault sent refused. absurd (cc))
+    (λ packets sent taken are. ap each_whole (one_list mtu frame packets (some_size mtu frame sent) are.0) ∙ sym (all_sent (pieces_are_skipped mtu frame) None units sent refl))
 
 plain_sends : (pack after : Pack) (mtu : ℕ) (sample : Sample) (rtp_time number : ℕ) (payloads : List (List ℕ)) → IsPlain (payloads_by pack) → may_split pack ≡ false → next_id pack ≡ None → next_id after ≡ None
     → after ≡ pack_after pack mtu sample.bytes → each_whole payloads ≡ canonical_units pack mtu sample.bytes
@@ -146,6 +140,14 @@ one_sends pack after mtu sample rtp_time number payloads whole no_id none_after 
   goes_on = goes_on;
 }
 
+-- a packetizer of pieces refuses nothing but for want of memory
+pieces_fault : (mtu : ℕ) (frame : List ℕ) (fault : PacketError) → AnswersPieces mtu frame (Err fault) → ◌≡◌ {A = Result (List (List ℕ)) PacketError} (Err fault) (Err faults.OutOfMemory)
+pieces_fault mtu frame fault answer = by_skip (pieces_are_skipped mtu frame) answer
+  where
+    by_skip : (skips : Bool) → AnswersBy skips None (λ packets. ArePieces mtu frame packets × (length packets ≡ div_ceil (length frame) mtu)) (Err fault) → ◌≡◌ {A = Result (List (List ℕ)) PacketError} (Err fault) (Err faults.OutOfMemory)
+    by_skip true answer = absurd (cc)
+    by_skip false answer = ap Err answer
+
 -- every codec that is there keeps its law
 pub sends_units : (pack after : Pack) (mtu : ℕ) (sample : Sample) (rtp_time number : ℕ) (answer : Result (List (List ℕ)) PacketError)
     → PackStep pack mtu sample.bytes answer after → answer ≢ Err faults.OutOfMemory
@@ -159,9 +161,9 @@ sends_units TelePack after mtu sample rtp_time number answer step found = one_se
 sends_units (AmrWbPack octet) after mtu sample rtp_time number answer step found = one_sends (AmrWbPack octet) after mtu sample rtp_time number (payloads_of answer) refl refl (ap next_id step.1) step.1 (amr_wb_units octet mtu sample.bytes answer step.0 found)
 sends_units Av1Pack after mtu sample rtp_time number answer step found =
     subst (SendsUnits Av1Pack mtu sample rtp_time number (payloads_of answer)) (sym step.1) (av1_sends mtu sample rtp_time number answer step.0 found)
-sends_units G711Pack after mtu sample rtp_time number (Err fault) step found = absurd (found (ap Err step.0.0))
-sends_units G722Pack after mtu sample rtp_time number (Err fault) step found = absurd (found (ap Err step.0.0))
-sends_units OpusPack after mtu sample rtp_time number (Err fault) step found = absurd (found (ap Err step.0.0))
+sends_units G711Pack after mtu sample rtp_time number (Err fault) step found = absurd (found (pieces_fault mtu sample.bytes fault step.0))
+sends_units G722Pack after mtu sample rtp_time number (Err fault) step found = absurd (found (pieces_fault mtu sample.bytes fault step.0))
+sends_units OpusPack after mtu sample rtp_time number (Err fault) step found = absurd (found (pieces_fault mtu sample.bytes fault step.0))
 sends_units NullPack after mtu sample rtp_time number (Err fault) step found = absurd (found (ap Err step.0))
 sends_units (Vp8Pack id) after mtu sample rtp_time number (Ok payloads) step found =
     subst (SendsUnits (Vp8Pack id) mtu sample rtp_time number payloads) (sym step.3) (vp8_sends id step.1 mtu sample rtp_time number payloads step.0 step.2.0 step.2.1)

@@ -2,6 +2,7 @@
 -- marker.
 use Rattle.std.proofs.Common.{◌≡◌, ◌∙◌, sym, ap, refl, subst, ℕ, ◌+◌, ◌<◌, ◌%◌, ◌^◌, ◌||◌, ◌&&◌, List, [], ◌∷◌, ◌++◌, length, arith, Bool, true, false, Option, Some, None, Ok, Err, cond, eqb}
 use Rattle.codec_payload_buffer.proofs.CaseLemmas.{by_test}
+use Rattle.codec_payload_base.specs.Answers.{is_empty}
 use Rattle.codec_payload_base.specs.Described.{AnswersDescribed}
 use Rattle.codec_payload_base.specs.declared.interface.CodecExtra.{CodecExtra}
 use Rattle.codec_payload_base.specs.declared.interface.CodecExtra.TheVariants as extras
@@ -21,7 +22,7 @@ use Rattle.codec_payload_vp9.proofs.Taken.{first_starts, sent_is_taken}
 use Rattle.codec_payload_vp9.specs.Keyframe.{is_key_frame}
 use Rattle.codec_payload_vp9.specs.Laws.{IsInPlace}
 use Rattle.codec_payload_vp9.specs.Received.{told_before}
-use Rattle.codec_payload_vp9.specs.Sent.{Sender, advanced, begun, header, is_empty, next_tl0_in, reserve_in, sender_after}
+use Rattle.codec_payload_vp9.specs.Sent.{Sender, advanced, begun, header, next_tl0_in, reserve_in, sender_after}
 
 is_piece : (s : Sender) (key : Bool) → s.picture_id < 2 ^ 15 → (first last : Bool) (piece : List ℕ) → 0 < length piece → IsPiece Vp9Payloads (IsInPlace s.mode) (header s key first last ++ piece) piece
 is_piece s key small first last piece some (Vp9Depack d) out extra (Ok x) e out' extra' is keeps step =

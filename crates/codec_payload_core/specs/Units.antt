@@ -1,56 +1,45 @@
 -- The units of a frame: what a receiver is to be given of it.
 use Rattle.std.specs.Prelude.{◌≡◌, ℕ, ◌||◌, not, Bool, true, false, List, [], ◌∷◌, Option, Some, None, option_map, is_some, ◌==◌, nat_le, nat_lt, if◌then◌else◌, length, map, take, refl}
 use Rattle.codec_payload_audio.specs.AmrWb.{Frame, amr_wb_is_skipped, amr_wb_refusal, canonical as canonical_frame, stored}
+use Rattle.codec_payload_audio.specs.Payloads.{whole_refusal}
+use Rattle.codec_payload_base.specs.Answers.{is_empty}
 use Rattle.codec_payload_base.specs.Bits.{bytes_of}
-use Rattle.codec_payload_base.specs.Faults.{fault_number}
-use Rattle.codec_payload_base.specs.Pieces.{pieces_of}
+use Rattle.codec_payload_base.specs.Described.{described_is_skipped}
+use Rattle.codec_payload_base.specs.Pieces.{pieces_are_skipped, pieces_of}
+use Rattle.codec_payload_base.specs.declared.error.PacketError.{PacketError}
 use Rattle.codec_payload_base.specs.TelephoneReport.{are_reports}
 use Rattle.codec_payload_av1.specs.Av1Obu.{Obu, canonical, frame_kept}
+use Rattle.codec_payload_av1.specs.Av1Steps.{av1_is_skipped, av1_refusal}
 use Rattle.codec_payload_vp8.specs.Sent.{advanced, header_size}
 use Rattle.codec_payload_vp9.specs.Sent.{advanced as sender_advanced, begun, reserve_in}
 use Rattle.codec_payload_buffer.specs.Depack.{DepackKind, G711Payloads, OpusPayloads, NullPayloads, Vp8Payloads, Vp9Payloads, ComfortNoisePayloads, TelePayloads, Av1Payloads, AmrWbPayloads}
 use Rattle.codec_payload_buffer.specs.Pack.{Pack, G711Pack, G722Pack, OpusPack, NullPack, Vp8Pack, Vp9Pack, ComfortNoisePack, TelePack, Av1Pack, AmrWbPack}
 
-abbrev pub is_empty : List ℕ → Bool
-is_empty [] = true
-is_empty (b ∷ bs) = false
-
--- whether none of the OBUs of an AV1 frame is kept
-abbrev pub keeps_nothing : Option (List Obu) → Bool
-keeps_nothing None = false
-keeps_nothing (Some []) = true
-keeps_nothing (Some (o ∷ os)) = false
-
 -- whether a frame gives no packets, and no fault
 abbrev pub is_skipped : Pack → ℕ → List ℕ → Bool
-is_skipped G711Pack mtu frame = is_empty frame || (mtu == 0)
-is_skipped G722Pack mtu frame = is_empty frame || (mtu == 0)
-is_skipped OpusPack mtu frame = is_empty frame || (mtu == 0)
+is_skipped G711Pack mtu frame = pieces_are_skipped mtu frame
+is_skipped G722Pack mtu frame = pieces_are_skipped mtu frame
+is_skipped OpusPack mtu frame = pieces_are_skipped mtu frame
 is_skipped NullPack mtu frame = false
-is_skipped (Vp8Pack id) mtu frame = is_empty frame || nat_le mtu (header_size id)
-is_skipped (Vp9Pack sender) mtu frame = is_empty frame || nat_le mtu (reserve_in sender.mode)
+is_skipped (Vp8Pack id) mtu frame = described_is_skipped (header_size id) mtu frame
+is_skipped (Vp9Pack sender) mtu frame = described_is_skipped (reserve_in sender.mode) mtu frame
 is_skipped ComfortNoisePack mtu frame = is_empty frame
 is_skipped TelePack mtu frame = is_empty frame
-is_skipped Av1Pack mtu frame = is_empty frame || nat_le mtu 1 || keeps_nothing (frame_kept frame)
+is_skipped Av1Pack mtu frame = av1_is_skipped mtu frame
 is_skipped (AmrWbPack octet) mtu frame = amr_wb_is_skipped frame
 
--- the fault of a frame that is no sequence of OBUs
-abbrev pub refusal_of_obus : Option (List Obu) → Option ℕ
-refusal_of_obus None = Some 13
-refusal_of_obus (Some os) = None
-
--- the number of the fault with which a frame is refused, if it is; want of memory is no such fault
-abbrev pub refusal_of : Pack → ℕ → List ℕ → Option ℕ
+-- the fault with which a frame that is not skipped is refused, if it is; want of memory is no such fault
+abbrev pub refusal_of : Pack → ℕ → List ℕ → Option PacketError
 refusal_of G711Pack mtu frame = None
 refusal_of G722Pack mtu frame = None
 refusal_of OpusPack mtu frame = None
 refusal_of NullPack mtu frame = None
 refusal_of (Vp8Pack id) mtu frame = None
 refusal_of (Vp9Pack sender) mtu frame = None
-refusal_of ComfortNoisePack mtu frame = if nat_lt mtu (length frame) then Some 2 else None
-refusal_of TelePack mtu frame = if nat_lt mtu (length frame) then Some 2 else None
-refusal_of Av1Pack mtu frame = refusal_of_obus (frame_kept frame)
-refusal_of (AmrWbPack octet) mtu frame = option_map fault_number (amr_wb_refusal octet mtu frame)
+refusal_of ComfortNoisePack mtu frame = whole_refusal mtu frame
+refusal_of TelePack mtu frame = whole_refusal mtu frame
+refusal_of Av1Pack mtu frame = av1_refusal mtu frame
+refusal_of (AmrWbPack octet) mtu frame = amr_wb_refusal octet mtu frame
 
 -- each of these byte strings is a unit of one part
 abbrev pub each_whole : List (List ℕ) → List (List (List ℕ))
@@ -80,9 +69,13 @@ units_sent TelePack mtu frame = each_whole (take 4 frame ∷ [])
 units_sent Av1Pack mtu frame = canonical_obus (frame_kept frame) ∷ []
 units_sent (AmrWbPack octet) mtu frame = each_whole (bytes_of_frame (stored frame) ∷ [])
 
+-- none of a frame that is skipped or refused
+abbrev pub units_by : Bool → Option PacketError → List (List (List ℕ)) → List (List (List ℕ))
+units_by skips refusal units = if skips || is_some refusal then [] else units
+
 -- the units of a frame at an MTU
 abbrev pub canonical_units : Pack → ℕ → List ℕ → List (List (List ℕ))
-canonical_units pack mtu frame = if is_skipped pack mtu frame || is_some (refusal_of pack mtu frame) then [] else units_sent pack mtu frame
+canonical_units pack mtu frame = units_by (is_skipped pack mtu frame) (refusal_of pack mtu frame) (units_sent pack mtu frame)
 
 -- the packetizer after a frame that was not refused for memory
 abbrev pub pack_after : Pack → ℕ → List ℕ → Pack
