@@ -1,4 +1,5 @@
-//! Numbers, times, headers and faults of RTP payloads, the interfaces of packetizers and depacketizers, and a reader of bits.
+//! Numbers, times, headers and faults of RTP payloads, the interfaces of packetizers and depacketizers, a reader of bits,
+//! picture ids, and frames cut into pieces behind headers.
 #![tactic(auto)]
 
 pub mod bits;
