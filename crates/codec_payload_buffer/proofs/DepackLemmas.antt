@@ -13,11 +13,11 @@ use Rattle.codec_payload_buffer.specs.Depack.{Depack, G711Depack, OpusDepack, Co
 use Rattle.codec_payload_buffer.specs.Held.{Held}
 use Rattle.codec_payload_buffer.specs.Steps.{Unpacked, Unpacks}
 use Rattle.codec_payload_av1.specs.Av1Steps.{Av1Step}
-use Rattle.codec_payload_vp9.specs.Fields.{Fields, Groups}
-use Rattle.codec_payload_vp9.specs.Reading.{all_groups, read_all, with_flags}
-use Rattle.codec_payload_vp9.specs.Received.{AppendedIf, Vp9Rest, Vp9Step, is_misplaced, told_before}
-use Rattle.codec_payload_vp8.specs.Descriptor.{read_behind}
-use Rattle.codec_payload_vp8.specs.Received.{Vp8Step, Vp8Rest, extra_of, with_fields}
+use Rattle.codec_payload_vp9.specs.Vp9Fields.{Fields, Groups}
+use Rattle.codec_payload_vp9.specs.Vp9Reading.{all_groups, read_all, with_flags}
+use Rattle.codec_payload_vp9.specs.Vp9Received.{AppendedIf, Vp9Rest, Vp9Step, is_misplaced, told_before}
+use Rattle.codec_payload_vp8.specs.Vp8Descriptor.{read_behind}
+use Rattle.codec_payload_vp8.specs.Vp8Received.{Vp8Step, Vp8Rest, extra_of, with_fields}
 use Rattle.codec_payload_vp8.specs.declared.vp8.depacketizer.Vp8Depacketizer.{Vp8Depacketizer}
 use Rattle.codec_payload_vp8.specs.declared.vp8.descriptor.Vp8DescriptorError.{Vp8DescriptorError}
 

@@ -6,10 +6,10 @@ use Rattle.codec_payload_audio.specs.Payloads.{Appends, AppendsSome}
 use Rattle.codec_payload_base.specs.TelephoneReport.{TeleStep}
 use Rattle.codec_payload_av1.specs.Av1Payload.{is_head}
 use Rattle.codec_payload_av1.specs.Av1Steps.{Av1Step}
-use Rattle.codec_payload_vp8.specs.Received.{Vp8Step, is_start, numbers_of}
+use Rattle.codec_payload_vp8.specs.Vp8Received.{Vp8Step, is_start, numbers_of}
 use Rattle.codec_payload_vp8.specs.declared.vp8.depacketizer.Vp8Depacketizer.{Vp8Depacketizer}
-use Rattle.codec_payload_vp9.specs.Fields.{Fields, fields_of, unused}
-use Rattle.codec_payload_vp9.specs.Received.{Vp9Step, is_start as is_vp9_start, numbers_of as numbers_of_fields}
+use Rattle.codec_payload_vp9.specs.Vp9Fields.{Fields, fields_of, unused}
+use Rattle.codec_payload_vp9.specs.Vp9Received.{Vp9Step, is_start as is_vp9_start, numbers_of as numbers_of_fields}
 use Rattle.codec_payload_base.specs.declared.error.PacketError.{PacketError}
 use Rattle.codec_payload_base.specs.declared.interface.CodecExtra.{CodecExtra}
 use Rattle.codec_payload_base.specs.declared.wire.Codec.{Codec}

@@ -4,8 +4,8 @@ use Rattle.codec_payload_base.specs.Pieces.{AnswersPieces}
 use Rattle.codec_payload_audio.specs.AmrWb.{AnswersAmrWb, layout}
 use Rattle.codec_payload_audio.specs.Payloads.{AnswersItself, AnswersWhole}
 use Rattle.codec_payload_av1.specs.Av1Steps.{AnswersAv1}
-use Rattle.codec_payload_vp8.specs.Sent.{Vp8Sends, numbers_of_id}
-use Rattle.codec_payload_vp9.specs.Sent.{Sender, Vp9Sends, numbers_of_sender}
+use Rattle.codec_payload_vp8.specs.Vp8Sent.{Vp8Sends, numbers_of_id}
+use Rattle.codec_payload_vp9.specs.Vp9Sent.{Sender, Vp9Sends, numbers_of_sender}
 use Rattle.codec_payload_base.specs.declared.interface.Vp9PacketizerMode.{Vp9PacketizerMode}
 use Rattle.codec_payload_base.specs.declared.error.PacketError.{PacketError}
 use Rattle.codec_payload_base.specs.declared.wire.Codec.{Codec}

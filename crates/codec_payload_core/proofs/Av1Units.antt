@@ -1,7 +1,7 @@
 -- An AV1 frame is one lawful unit, whose parts are its kept OBUs: a receiver that lost its first packets may be given the
 -- last of them.
 use Rattle.std.proofs.Common.{◌≡◌, ◌≢◌, ◌∙◌, sym, ap, refl, subst, ℕ, ◌+◌, ◌*◌, ◌<◌, ◌≤◌, ◌%◌, ◌^◌, ◌||◌, inl, inr, List, [], ◌∷◌, ◌++◌, length, map, arith, append_assoc, Bool, true, false, Option, Some, None, Result, Ok, Err, cond, leb, ltb}
-use Rattle.std.specs.Prelude.{MatchResult, is_some}
+use Rattle.std.specs.Prelude.{MatchResult}
 use Rattle.std.specs.Int.Bits.{bit_and}
 use Rattle.std.specs.List.{AllByRecursion, flat_map}
 use Rattle.std.proofs.lemmas.Bool.{eq-eqb, ltb-false}
@@ -12,7 +12,7 @@ use Rattle.codec_payload_base.specs.declared.error.PacketError.{PacketError}
 use Rattle.codec_payload_base.specs.declared.error.PacketError.TheVariants as faults
 use Rattle.codec_payload_av1.proofs.Av1ObuGrammar.{sequence_complete}
 use Rattle.codec_payload_av1.specs.Av1Reading.{◌>>=◌}
-use Rattle.codec_payload_av1.specs.Av1Obu.{Obu, IsSequence, canonical, canonical_unit, frame_kept, kept, obus_of, obus_within, string, strings_of}
+use Rattle.codec_payload_av1.specs.Av1Obu.{Obu, IsSequence, canonical, canonical_unit, frame_kept, kept, string, strings_of}
 use Rattle.codec_payload_av1.specs.Av1Packing.{IsElement, HasElement, StandsAfter, StandsFor, ended, is_begun, left_open}
 use Rattle.codec_payload_av1.specs.Av1Payload.{Payload, aggregation_header, body, element_count, is_head, payload_at, written}
 use Rattle.codec_payload_av1.specs.Av1Receiving.{all_received, received}

@@ -1,11 +1,8 @@
 -- Units of one packet whose payload may carry other bytes than its own: comfort noise, telephone events and AMR-WB.
-use Rattle.std.proofs.Common.{◌≡◌, ◌≢◌, ◌∙◌, sym, ap, refl, subst, ℕ, ◌*◌, ◌≤◌, inl, inr, ◌⊎◌, List, [], ◌∷◌, ◌++◌, length, take, arith, Bool, true, false, Option, Some, None, Result, Ok, Err, cond, ltb, eqb, ◌||◌}
+use Rattle.std.proofs.Common.{◌≡◌, ◌≢◌, ◌∙◌, sym, ap, refl, subst, ℕ, inl, inr, ◌⊎◌, List, [], ◌∷◌, ◌++◌, take, Bool, true, false, Option, Some, None, Result, Ok, Err, ◌||◌}
 use Rattle.std.specs.Prelude.{MatchResult}
-use Rattle.std.proofs.lemmas.Bool.{le-ltb, ltb-false, eqb-true, eqb-false}
 use Rattle.std.proofs.lemmas.List.{append-nil}
 use Rattle.codec_payload_audio.proofs.AmrWbRoundTripLemmas.{stored_is_frame, received_again}
-use Rattle.codec_payload_base.proofs.BitLemmas.{length-bits_of}
-use Rattle.codec_payload_base.proofs.FaultLemmas.{only_memory}
 use Rattle.codec_payload_audio.specs.AmrWb.{Frame, AnswersAmrWb, IsPacketOf, amr_wb_is_skipped, amr_wb_refusal, canonical, payload, stored}
 use Rattle.codec_payload_audio.specs.AmrWbReceived.{AmrWbStep, IsRefusal, received}
 use Rattle.codec_payload_base.specs.Bits.{bits_of, bytes_of}
@@ -15,7 +12,6 @@ use Rattle.codec_payload_base.specs.TelephoneReport.{TakesFirst, are_reports}
 use Rattle.codec_payload_base.specs.declared.error.PacketError.{PacketError}
 use Rattle.codec_payload_base.specs.declared.error.PacketError.TheVariants as faults
 use Rattle.codec_payload_base.specs.declared.interface.CodecExtra.{CodecExtra}
-use Rattle.codec_payload_buffer.proofs.CaseLemmas.{by_test}
 use Rattle.codec_payload_core.proofs.TellLemmas.{is_quiet, quiet_tells}
 use Rattle.codec_payload_buffer.specs.Depack.{Depack, DepackKind, ComfortNoiseDepack, TeleDepack, AmrWbDepack, ComfortNoisePayloads, TelePayloads, AmrWbPayloads, kind_of_depack, DepackStep, head_in, tail_in}
 use Rattle.codec_payload_buffer.specs.Held.{Held}

@@ -1,7 +1,6 @@
 -- What a run sends is the stream of its canonical units, each lawful.
-use Rattle.std.proofs.Common.{◌≡◌, ◌≢◌, ◌∙◌, sym, ap, refl, subst, ℕ, zero, suc, ◌+◌, ◌<◌, ◌%◌, ◌^◌, ◌||◌, ◌==◌, inl, inr, List, [], ◌∷◌, ◌++◌, length, map, arith, length-append, append_assoc, Bool, true, false, Option, Some, None, Result, Ok, Err, cond}
+use Rattle.std.proofs.Common.{◌≡◌, ◌≢◌, ◌∙◌, sym, ap, refl, subst, ℕ, zero, suc, ◌+◌, ◌<◌, ◌%◌, ◌^◌, inl, inr, List, [], ◌∷◌, ◌++◌, length, map, arith, length-append, append_assoc, Bool, true, false, Option, Some, None, Result, Ok, Err}
 use Rattle.std.specs.Prelude.{MatchResult, MatchOption, slice_get}
-use Rattle.std.proofs.Math.Dec.{eqb-suc-zero}
 use Rattle.std.proofs.lemmas.List.{append-nil, map-append}
 use Rattle.codec_payload_audio.specs.Payloads.{Appends}
 use Rattle.codec_payload_base.specs.Answers.{AnswersBy}
@@ -9,27 +8,25 @@ use Rattle.codec_payload_base.specs.Pieces.{AnswersPieces, ArePieces, pieces_are
 use Rattle.std.specs.Int.{div_ceil}
 use Rattle.codec_payload_core.proofs.Av1Units.{av1_sends}
 use Rattle.codec_payload_core.proofs.OnePacketUnits.{IsCarried, OneOrNone, all_sent, amr_wb_units, by_answer, lawful_one, noise_units, none_skipped, one_packet, tele_units}
-use Rattle.codec_payload_core.proofs.TellLemmas.{is_quiet, quiet_tells}
+use Rattle.codec_payload_core.proofs.TellLemmas.{is_quiet}
 use Rattle.codec_payload_core.proofs.SendsUnits.{CarryIds, SendsUnits, carry_on, no_units}
 use Rattle.codec_payload_core.proofs.Vp8Units.{vp8_sends}
 use Rattle.codec_payload_core.proofs.Vp9Units.{vp9_sends}
 use Rattle.codec_payload_base.specs.declared.error.PacketError.{PacketError}
 use Rattle.codec_payload_base.specs.declared.error.PacketError.TheVariants as faults
 use Rattle.codec_payload_base.specs.declared.interface.CodecExtra.{CodecExtra}
-use Rattle.codec_payload_base.proofs.PieceLemmas.{one_list, no_pieces}
+use Rattle.codec_payload_base.proofs.PieceLemmas.{one_list}
 use Rattle.codec_payload_core.proofs.UnitTimes.{AllOneTime, times_of_sample, times_append}
 use Rattle.codec_payload_buffer.specs.Depack.{Depack, G711Depack, OpusDepack, NullDepack, DepackKind, G711Payloads, OpusPayloads, NullPayloads, kind_of_depack, DepackStep, head_in, tail_in}
-use Rattle.codec_payload_buffer.specs.Held.{Held}
 use Rattle.codec_payload_buffer.specs.Pack.{Pack, G711Pack, G722Pack, OpusPack, ComfortNoisePack, TelePack, NullPack, Vp8Pack, Vp9Pack, Av1Pack, AmrWbPack, PackStep}
 use Rattle.codec_payload_core.specs.Packets.{Packet, SentPackets, AreNumbered}
 use Rattle.codec_payload_core.specs.ToldIds.{next_id}
 use Rattle.codec_payload_core.specs.Sending.{Sample, packets_for, rtp_time_at}
 use Rattle.codec_payload_core.specs.Schedule.{payloads_of, RunState, Runs, SendsIt, Answer, packets_sent}
-use Rattle.codec_payload_core.specs.SentStream.{SentUnit, packets_of, IsReleaseOf, payloads_sent, IsLawful, AllLawful, AreReadable, units_of_run, units_of_sample, pack_after_sample}
+use Rattle.codec_payload_core.specs.SentStream.{SentUnit, packets_of, AllLawful, AreReadable, units_of_run, units_of_sample, pack_after_sample}
 use Rattle.codec_payload_core.specs.declared.schedule.Sent.{Sent}
 use Rattle.codec_payload_core.specs.declared.schedule.Step.{Step}
 use Rattle.codec_payload_core.specs.declared.schedule.Step.TheVariants as steps
-use Rattle.codec_payload_buffer.specs.Steps.{Unpacked, Unpacks, nothing_unpacked}
 use Rattle.codec_payload_core.specs.Units.{canonical_units, is_readable, pack_after, payloads_by, may_split, each_whole, units_by}
 
 -- payloads of this kind are units, whole, and carry themselves

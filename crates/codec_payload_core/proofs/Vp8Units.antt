@@ -11,8 +11,8 @@ use Rattle.codec_payload_core.proofs.SendsUnits.{SendsUnits}
 use Rattle.codec_payload_core.proofs.TellLemmas.{IsSilent}
 use Rattle.codec_payload_core.specs.Sending.{Sample}
 use Rattle.codec_payload_core.specs.ToldIds.{lacks_base}
-use Rattle.codec_payload_vp8.proofs.Taken.{first_starts, sent_is_taken, sent_tells}
-use Rattle.codec_payload_vp8.specs.Sent.{advanced, gives_packets, header, header_size}
+use Rattle.codec_payload_vp8.proofs.SentIsTakenLemmas.{first_starts, sent_is_taken, sent_tells}
+use Rattle.codec_payload_vp8.specs.Vp8Sent.{advanced, gives_packets, header, header_size}
 
 -- nothing is asked of the bytes and the extra between two packets
 abbrev Anything : List ℕ → CodecExtra → Type 0

@@ -1,6 +1,6 @@
 -- A VP9 frame is one lawful unit, in either mode: all of its packets, from the one with the B bit to the one with the
 -- marker.
-use Rattle.std.proofs.Common.{◌≡◌, ◌∙◌, sym, ap, refl, subst, ℕ, ◌+◌, ◌<◌, ◌%◌, ◌^◌, ◌||◌, ◌&&◌, List, [], ◌∷◌, ◌++◌, length, arith, Bool, true, false, Option, Some, None, Ok, Err, cond, eqb}
+use Rattle.std.proofs.Common.{◌≡◌, ◌∙◌, sym, ap, refl, ℕ, ◌+◌, ◌<◌, ◌%◌, ◌^◌, ◌||◌, ◌&&◌, List, [], ◌∷◌, ◌++◌, length, arith, Bool, true, false, Some, Ok, Err, cond, eqb}
 use Rattle.codec_payload_buffer.proofs.CaseLemmas.{by_test}
 use Rattle.codec_payload_base.specs.Answers.{is_empty}
 use Rattle.codec_payload_base.specs.Described.{AnswersDescribed}
@@ -16,13 +16,12 @@ use Rattle.codec_payload_core.proofs.SendsUnits.{SendsUnits}
 use Rattle.codec_payload_core.proofs.TellLemmas.{IsSilent, IsTold, extension_is_next}
 use Rattle.codec_payload_core.specs.Sending.{Sample}
 use Rattle.codec_payload_core.specs.ToldIds.{id_in, id_later, is_absent, lacks_base}
-use Rattle.codec_payload_core.specs.Units.{is_skipped}
 use Rattle.codec_payload_vp9.proofs.PictureLemmas.{sent_keeps_base, sent_tells}
-use Rattle.codec_payload_vp9.proofs.Taken.{first_starts, sent_is_taken}
-use Rattle.codec_payload_vp9.specs.Keyframe.{is_key_frame}
-use Rattle.codec_payload_vp9.specs.Laws.{IsInPlace}
-use Rattle.codec_payload_vp9.specs.Received.{told_before}
-use Rattle.codec_payload_vp9.specs.Sent.{Sender, advanced, begun, header, next_tl0_in, reserve_in, sender_after}
+use Rattle.codec_payload_vp9.proofs.SentIsTakenLemmas.{first_starts, sent_is_taken}
+use Rattle.codec_payload_vp9.specs.Vp9Keyframe.{is_key_frame}
+use Rattle.codec_payload_vp9.specs.Vp9Laws.{IsInPlace}
+use Rattle.codec_payload_vp9.specs.Vp9Received.{told_before}
+use Rattle.codec_payload_vp9.specs.Vp9Sent.{Sender, advanced, begun, header, next_tl0_in, reserve_in, sender_after}
 
 is_piece : (s : Sender) (key : Bool) → s.picture_id < 2 ^ 15 → (first last : Bool) (piece : List ℕ) → 0 < length piece → IsPiece Vp9Payloads (IsInPlace s.mode) (header s key first last ++ piece) piece
 is_piece s key small first last piece some (Vp9Depack d) out extra (Ok x) e out' extra' is keeps step =

@@ -1,5 +1,5 @@
 -- The units of a frame: what a receiver is to be given of it.
-use Rattle.std.specs.Prelude.{◌≡◌, ℕ, ◌||◌, not, Bool, true, false, List, [], ◌∷◌, Option, Some, None, option_map, is_some, ◌==◌, nat_le, nat_lt, if◌then◌else◌, length, map, take, refl}
+use Rattle.std.specs.Prelude.{◌≡◌, ℕ, ◌||◌, not, Bool, true, false, List, [], ◌∷◌, Option, Some, None, is_some, if◌then◌else◌, map, take, refl}
 use Rattle.codec_payload_audio.specs.AmrWb.{Frame, amr_wb_is_skipped, amr_wb_refusal, canonical as canonical_frame, stored}
 use Rattle.codec_payload_audio.specs.Payloads.{whole_refusal}
 use Rattle.codec_payload_base.specs.Answers.{is_empty}
@@ -10,8 +10,8 @@ use Rattle.codec_payload_base.specs.declared.error.PacketError.{PacketError}
 use Rattle.codec_payload_base.specs.TelephoneReport.{are_reports}
 use Rattle.codec_payload_av1.specs.Av1Obu.{Obu, canonical, frame_kept}
 use Rattle.codec_payload_av1.specs.Av1Steps.{av1_is_skipped, av1_refusal}
-use Rattle.codec_payload_vp8.specs.Sent.{advanced, header_size}
-use Rattle.codec_payload_vp9.specs.Sent.{advanced as sender_advanced, begun, reserve_in}
+use Rattle.codec_payload_vp8.specs.Vp8Sent.{advanced, header_size}
+use Rattle.codec_payload_vp9.specs.Vp9Sent.{advanced as sender_advanced, begun, reserve_in}
 use Rattle.codec_payload_buffer.specs.Depack.{DepackKind, G711Payloads, OpusPayloads, NullPayloads, Vp8Payloads, Vp9Payloads, ComfortNoisePayloads, TelePayloads, Av1Payloads, AmrWbPayloads}
 use Rattle.codec_payload_buffer.specs.Pack.{Pack, G711Pack, G722Pack, OpusPack, NullPack, Vp8Pack, Vp9Pack, ComfortNoisePack, TelePack, Av1Pack, AmrWbPack}
 

@@ -7,6 +7,7 @@ pub use codec_payload_base::{bits, error, interface, wire};
 pub use codec_payload_buffer::{buffer, codec, contiguity};
 pub use codec_payload_red::red;
 pub use codec_payload_vp8::vp8;
+pub use codec_payload_vp9::vp9;
 
 pub mod payload;
 pub mod schedule;

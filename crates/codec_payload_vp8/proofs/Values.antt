@@ -5,8 +5,8 @@ use Rattle.codec_payload_base.specs.PictureIds.{id_range, id_value}
 use Rattle.codec_payload_base.specs.declared.picture_id.PictureId.{PictureId}
 use Rattle.codec_payload_base.specs.declared.picture_id.PictureId.TheVariants.{Short, Long}
 use Rattle.codec_payload_vp8.specs.declared.vp8.patch.Vp8PatchError.{Vp8PatchError}
-use Rattle.codec_payload_vp8.specs.Descriptor.{has_key_idx, key_index, key_index_at, Descriptor}
-use Rattle.codec_payload_vp8.specs.Patch.{asked_or, behind_id, behind_start, behind_tl0, id_patched, octet_patched, octet_with, patched_descriptor, tl0_patched, Builder, HasValues}
+use Rattle.codec_payload_vp8.specs.Vp8Descriptor.{has_key_idx, key_index, key_index_at, Descriptor}
+use Rattle.codec_payload_vp8.specs.Vp8Patch.{asked_or, behind_id, behind_start, behind_tl0, id_patched, octet_patched, octet_with, patched_descriptor, tl0_patched, Builder, HasValues}
 
 -- a picture id
 abbrev IsValue : Option PictureId → Option ℕ → Option PictureId → Type 0

@@ -9,11 +9,11 @@ use Rattle.codec_payload_base.specs.declared.interface.Vp9PacketizerMode.TheVari
 use Rattle.codec_payload_base.specs.declared.picture_id.PictureId.{PictureId}
 use Rattle.codec_payload_base.specs.declared.picture_id.PictureId.TheVariants.{Long}
 use Rattle.codec_payload_base.proofs.PictureIdLemmas.{takes_spelled}
-use Rattle.codec_payload_vp9.proofs.Taken.{StepFromId, flagged, from_id}
-use Rattle.codec_payload_vp9.specs.Fields.{Fields}
-use Rattle.codec_payload_vp9.specs.Reading.{then_read, read_head}
-use Rattle.codec_payload_vp9.specs.Received.{AppendedIf, Vp9Step, extra_of, is_misplaced, told_before}
-use Rattle.codec_payload_vp9.specs.Sent.{header_in}
+use Rattle.codec_payload_vp9.proofs.SentIsTakenLemmas.{StepFromId, flagged, from_id}
+use Rattle.codec_payload_vp9.specs.Vp9Fields.{Fields}
+use Rattle.codec_payload_vp9.specs.Vp9Reading.{then_read, read_head}
+use Rattle.codec_payload_vp9.specs.Vp9Received.{AppendedIf, Vp9Step, extra_of, is_misplaced, told_before}
+use Rattle.codec_payload_vp9.specs.Vp9Sent.{header_in}
 
 -- the picture id and that of the base layer were read, and are told of the base layer's frame
 pub record TellsBoth (d : Fields) (id tl0 : ℕ) (after : Fields) (extra : CodecExtra) : Type 0 where

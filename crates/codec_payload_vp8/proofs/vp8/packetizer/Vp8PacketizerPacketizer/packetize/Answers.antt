@@ -1,4 +1,4 @@
-use Rattle.codec_payload_vp8.proofs.Taken.{all_fit, all_heads, all_come_back}
+use Rattle.codec_payload_vp8.proofs.SentIsTakenLemmas.{all_fit, all_heads, all_come_back}
 use Rattle.std.proofs.Common.{refl}
 use Rattle.codec_payload_base.specs.Answers.{packets_of}
 use Rattle.codec_payload_vp8.proofs.vp8.packetizer.Vp8PacketizerPacketizer.packetize.Goals as goal

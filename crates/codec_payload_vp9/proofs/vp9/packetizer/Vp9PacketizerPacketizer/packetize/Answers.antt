@@ -1,6 +1,6 @@
 use Rattle.std.proofs.Common.{refl}
 use Rattle.codec_payload_base.specs.Answers.{packets_of}
-use Rattle.codec_payload_vp9.proofs.Told.{all_come_back, all_fit, all_heads, keyframes_are_told}
+use Rattle.codec_payload_vp9.proofs.KeyframeToldLemmas.{all_come_back, all_fit, all_heads, keyframes_are_told}
 use Rattle.codec_payload_vp9.proofs.vp9.packetizer.Vp9PacketizerPacketizer.packetize.Goals as goal
 
 pub returns-clause-step : goal.returns-clause-step

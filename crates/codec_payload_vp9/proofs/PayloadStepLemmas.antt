@@ -3,9 +3,9 @@ use Rattle.std.proofs.Common.{◌≡◌, ◌∙◌, sym, ap, refl, subst, ℕ, L
 use Rattle.codec_payload_base.specs.declared.error.PacketError.{PacketError}
 use Rattle.codec_payload_base.specs.declared.interface.CodecExtra.{CodecExtra}
 use Rattle.codec_payload_vp9.proofs.GroupLemmas.{begins_same}
-use Rattle.codec_payload_vp9.specs.Fields.{Fields, Groups}
-use Rattle.codec_payload_vp9.specs.Reading.{all_groups, groups_of, is_no_memory, read_all, with_flags, Begins, SameButGroups}
-use Rattle.codec_payload_vp9.specs.Received.{Appended, Vp9Rest, Vp9Step}
+use Rattle.codec_payload_vp9.specs.Vp9Fields.{Fields, Groups}
+use Rattle.codec_payload_vp9.specs.Vp9Reading.{all_groups, groups_of, is_no_memory, read_all, with_flags, Begins, SameButGroups}
+use Rattle.codec_payload_vp9.specs.Vp9Received.{Appended, Vp9Rest, Vp9Step}
 
 module _ (d start after : Fields) (flags : ℕ) (bytes out : List ℕ) (extra : CodecExtra) (flagged : start ≡ with_flags d flags) (kept : SameButGroups after (read_all start bytes).fields) where
   stepped : (answer : Result (Unit {0}) PacketError) (out' : List ℕ) (extra' : CodecExtra)

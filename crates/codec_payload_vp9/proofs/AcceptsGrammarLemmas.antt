@@ -5,14 +5,14 @@ use Rattle.codec_payload_base.specs.Flags.{AreBytes}
 use Rattle.codec_payload_base.specs.declared.error.PacketError.{PacketError}
 use Rattle.codec_payload_base.specs.declared.error.PacketError.TheVariants as faults
 use Rattle.codec_payload_base.specs.declared.interface.CodecExtra.{CodecExtra}
-use Rattle.codec_payload_vp9.specs.Fields.{Fields}
-use Rattle.codec_payload_vp9.specs.Descriptor.{spelled, Descriptor}
-use Rattle.codec_payload_vp9.specs.Laws.{Accepts, IsDescribed, RefusesBy}
-use Rattle.codec_payload_vp9.specs.Reading.{all_groups, is_no_memory, with_flags}
-use Rattle.codec_payload_vp9.specs.Received.{is_misplaced, told_before, AppendedIf, Vp9Rest, Vp9Step}
-use Rattle.codec_payload_vp9.proofs.Read.{read_is_spelled}
-use Rattle.codec_payload_vp9.proofs.Spelled.{spelled_is_read}
-use Rattle.codec_payload_vp9.proofs.Taken.{no_memory_fault}
+use Rattle.codec_payload_vp9.specs.Vp9Fields.{Fields}
+use Rattle.codec_payload_vp9.specs.Vp9Descriptor.{spelled, Descriptor}
+use Rattle.codec_payload_vp9.specs.Vp9Laws.{Accepts, IsDescribed, RefusesBy}
+use Rattle.codec_payload_vp9.specs.Vp9Reading.{all_groups, is_no_memory, with_flags}
+use Rattle.codec_payload_vp9.specs.Vp9Received.{is_misplaced, told_before, AppendedIf, Vp9Rest, Vp9Step}
+use Rattle.codec_payload_vp9.proofs.ReadIsSpelledLemmas.{read_is_spelled}
+use Rattle.codec_payload_vp9.proofs.SpelledIsReadLemmas.{spelled_is_read}
+use Rattle.codec_payload_vp9.proofs.SentIsTakenLemmas.{no_memory_fault}
 
 -- taken: something was appended
 taken_if : (misplaced : Bool) (d : Fields) (rest out : List ℕ) (extra : CodecExtra) (out' : List ℕ) (extra' : CodecExtra) → AppendedIf misplaced d rest out extra (Ok tt) out' extra' → out' ≡ out ++ rest
