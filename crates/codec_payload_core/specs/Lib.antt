@@ -62,6 +62,7 @@ pub mod Packets
 pub mod RedPackets
 pub mod RunOrder
 pub mod RunPromises
+pub mod RunStream
 pub mod RunUnits
 pub mod Schedule
 pub mod Sending

@@ -1,20 +1,23 @@
 //! Whole runs: samples are sent, some of their packets are pushed, in any order, and units are popped.
 
-ghost use Rattle.std.specs.Prelude.{◌≡◌, ◌≢◌, ◌++◌, List, map, IfOk, IfErr, OnOk, OnErr, Option, Result};
+ghost use Rattle.std.specs.Prelude.{◌≡◌, ◌≢◌, ◌++◌, List, ◌≤◌, ◌^◌, ◌↔◌, map, IfOk, IfErr, IfSome, OnOk, OnErr, Option, Result};
 ghost use Rattle.codec_payload_base.specs.declared.error.PacketError.TheVariants.{OutOfMemory};
 ghost use Rattle.codec_payload_core.specs.Packets.{packet_of};
+ghost use Rattle.codec_payload_buffer.specs.Pack.{pack_for};
 ghost use Rattle.codec_payload_buffer.specs.Release.{Release};
 ghost use Rattle.codec_payload_core.specs.RunOrder.{OnlySetsCount};
 ghost use Rattle.codec_payload_core.specs.RunPromises.{KeepsPromises, ran};
+ghost use Rattle.codec_payload_core.specs.RunStream.{RunsStream};
 ghost use Rattle.codec_payload_core.specs.Schedule.{run_state, SendsIt, StopsSending, DoesStep, StopsAt, Runs, Stops, Answer, after_push};
 ghost use Rattle.codec_payload_core.specs.Sending.{Sample, sample_of};
 ghost use Rattle.codec_payload_buffer.specs.Steps.{State, Pops};
 ghost use Rattle.codec_payload_core.specs.declared.schedule.Sent.{Sent as Entry};
 
 use crate::buffer::{Depacketized, DepacketizingBuffer, RtpMeta};
+use crate::codec::{CodecDepacketizer, Vp9PacketizerMode};
 use crate::error::PacketError;
 use crate::payload::{MemorySink, OutgoingPacket, Payloader};
-use crate::wire::{Frequency, MediaTime, RtpHeader, Ticks, ToPayload};
+use crate::wire::{CodecSpec, Frequency, MediaTime, RtpHeader, Ticks, ToPayload};
 use std::alloc::Global;
 
 /// One step of a run.
@@ -80,6 +83,48 @@ pub fn run_schedule(
         do_step(payloader, buffer, sink, samples, place, *step, &mut run)?;
     }
     Ok(run)
+}
+
+/// How a stream is sent and received.
+#[derive(Clone, Copy, Debug, PartialEq, Eq)]
+pub struct Stream {
+    /// Its codec, its RTP clock and the layout of its payloads, for both sides.
+    pub spec: CodecSpec,
+    /// The mode of a VP9 packetizer.
+    pub mode: Vp9PacketizerMode,
+    /// The picture id of the first frame of a VP9 packetizer: 0 to 32,767.
+    pub first_id: u16,
+    /// The number of the first packet: 0 to 2^62.
+    pub first_number: u64,
+    /// How many complete frames may wait behind a gap; one more, and the gap is given up.
+    pub hold_back: usize,
+}
+
+/// Builds a payloader, a buffer of 4,096 packets and a sink for a stream, both sides configured by its specification, and
+/// runs the steps over them. The answer is `None` where the codec has no packetizer.
+pub fn run_stream(
+    alloc: Global,
+    stream: Stream,
+    samples: &[ToPayload],
+    steps: &[Step],
+) -> Result<Option<Run>, PacketError>
+    requires id { stream.first_id ≤ 32767 }
+    requires number { stream.first_number ≤ 2 ^ 62 }
+    ensures none { (result ≡ Result.Ok Option.None) ↔ (pack_for stream.mode stream.first_id stream.spec.codec ≡ Option.None) }
+    ensures headline { IfOk result (λ run. IfSome run (RunsStream stream samples.now steps.now)) }
+    ensures fault { IfErr result (λ fault. fault ≡ OutOfMemory) }
+{
+    let Some(mut payloader) = Payloader::new(stream.spec, stream.mode, stream.first_id) else {
+        return Ok(None);
+    };
+    let Some(mut depack) = CodecDepacketizer::from_codec(alloc, stream.spec.codec) else {
+        return Ok(None);
+    };
+    depack.configure_for(&stream.spec);
+    let mut buffer = DepacketizingBuffer::new(alloc, depack, stream.hold_back);
+    let mut sink = MemorySink::new(alloc, stream.first_number);
+    let run = run_schedule(alloc, &mut payloader, &mut buffer, &mut sink, samples, steps)?;
+    Ok(Some(run))
 }
 
 /// Does one step, and notes what came of it.

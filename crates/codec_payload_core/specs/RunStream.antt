@@ -1,0 +1,45 @@
+-- A run of a stream: samples sent by a fresh payloader of a specification, and received by a fresh buffer of the same.
+use Rattle.std.specs.Prelude.{◌≡◌, ℕ, false, List, [], Some, None, option_map, map}
+use Rattle.codec_payload_base.specs.declared.wire.ToPayload.{ToPayload}
+use Rattle.codec_payload_buffer.specs.ContiguityTable.{contiguity_for}
+use Rattle.codec_payload_buffer.specs.Depack.{Depack, depack_for, configured_depack, kind_of_depack}
+use Rattle.codec_payload_buffer.specs.Pack.{Pack, pack_for, configured}
+use Rattle.codec_payload_core.specs.Exact.{ReleasesUnits}
+use Rattle.codec_payload_core.specs.RunPromises.{KeepsPromises, ran}
+use Rattle.codec_payload_core.specs.Schedule.{RunState, run_state}
+use Rattle.codec_payload_core.specs.Sending.{sample_of}
+use Rattle.codec_payload_core.specs.SentStream.{AreReadable}
+use Rattle.codec_payload_buffer.specs.Steps.{State}
+use Rattle.codec_payload_core.specs.declared.schedule.Run.{Run}
+use Rattle.codec_payload_core.specs.declared.schedule.Step.{Step}
+use Rattle.codec_payload_core.specs.declared.schedule.Stream.{Stream}
+
+-- an empty buffer over that depacketizer
+abbrev pub empty_buffer : ℕ → Depack → State
+empty_buffer hold_back depack = record {
+  held = [];
+  cutoff = None;
+  mark = false;
+  contiguity = contiguity_for (kind_of_depack depack);
+  depack = depack;
+  hold_back = hold_back;
+  limit = 4096;
+}
+
+-- the payloader, the buffer and the sink of a stream before anything is sent
+abbrev pub fresh : Stream → Pack → Depack → RunState
+fresh stream pack depack = run_state
+    (record { pack = pack; clock_rate = stream.spec.clock_rate })
+    (empty_buffer stream.hold_back depack)
+    (record { first = stream.first_number; packets = [] })
+
+-- packetizer and depacketizer are those of the codec, both configured by the specification; where the samples can be read
+-- again, their units are released as the theorem says, in both halves; and every promise of a run is kept
+pub record RunsStream (stream : Stream) (samples : List ToPayload) (steps : List Step) (run : Run) : Type 0 where
+  pub pack : Pack
+  pub sender : option_map (configured stream.spec.octet_align) (pack_for stream.mode stream.first_id stream.spec.codec) ≡ Some pack
+  pub depack : Depack
+  pub receiver : option_map (configured_depack stream.spec.octet_align stream.spec.clock_rate) (depack_for stream.spec.codec) ≡ Some depack
+  pub after : RunState
+  pub headline : AreReadable pack (map sample_of samples) → ReleasesUnits (map sample_of samples) steps (fresh stream pack depack) run.sends.items run.pops.items after
+  pub promises : KeepsPromises (ran samples steps (fresh stream pack depack) run after)
