@@ -5,17 +5,22 @@ use Rattle.std.proofs.lemmas.List.{append-nil}
 use Rattle.std.proofs.Math.Dec.{eqb-suc-zero}
 use Rattle.std.proofs.Math.Nat.{mod-eq_of_lt}
 use Rattle.codec_payload_core.specs.Packets.{Packet, SentPackets, AreNumbered}
-use Rattle.codec_payload_core.specs.Sending.{Sends, Sample, packet_for, packets_for, is_last}
+use Rattle.codec_payload_core.specs.Sending.{Sends, Sample, packet_for, packets_for, is_last, number_after}
 use Rattle.codec_payload_base.specs.declared.error.PacketError.{PacketError}
 use Rattle.codec_payload_buffer.specs.Pack.{Pack}
 
-module _ {S : Type 0} (accepts : S → Packet → Packet → S → Type 0) (sent : S → List Packet) where
+number_after_one : (number : ℕ) (packets : List Packet) (packet : Packet) → number_after number (packets ++ packet ∷ []) ≡ (number_after number packets + 1) % 2 ^ 64
+number_after_one number [] packet = refl
+number_after_one number (p ∷ packets) packet = number_after_one ((number + 1) % 2 ^ 64) packets packet
+
+module _ {S : Type 0} (accepts : S → Packet → Packet → S → Type 0) (sent : S → List Packet) (next : S → ℕ) where
   -- of all packets the rest is still to be sent: those before it were, and the sink gained their images
   pub record SentSoFar (before : S) (all rest : List Packet) (now : S) : Type 0 where
     pub begun : List Packet
     pub images : List Packet
     pub sends : Sends accepts before begun images now
     pub gained : sent now ≡ sent before ++ images
+    pub goes_on : next now ≡ number_after (next before) images
     pub whole : all ≡ begun ++ rest
 
   -- one packet more behind those that were taken
@@ -28,16 +33,17 @@ module _ {S : Type 0} (accepts : S → Packet → Packet → S → Type 0) (sent
       (sends.0, sends.1 ++ image ∷ [], sends.2, ap (λ xs. xs ++ image ∷ []) sends.3, sends.4, sends_one sends.2 ps sends.1 mid packet image after sends.5 accepted)
 
   pub none_so_far : (before : S) (all : List Packet) → SentSoFar before all all before
-  none_so_far before all = record { begun = []; images = []; sends = (refl, refl); gained = sym (append-nil _); whole = refl }
+  none_so_far before all = record { begun = []; images = []; sends = (refl, refl); gained = sym (append-nil _); goes_on = refl; whole = refl }
 
   pub one_so_far : (before : S) (all : List Packet) (packet : Packet) (rest : List Packet) (mid : S) (image : Packet) (after : S)
-      → SentSoFar before all (packet ∷ rest) mid → accepts mid packet image after → sent after ≡ sent mid ++ image ∷ []
+      → SentSoFar before all (packet ∷ rest) mid → accepts mid packet image after → sent after ≡ sent mid ++ image ∷ [] → next after ≡ (next mid + 1) % 2 ^ 64
       → SentSoFar before all rest after
-  one_so_far before all packet rest mid image after so_far accepted grown = record {
+  one_so_far before all packet rest mid image after so_far accepted grown numbered = record {
     begun = so_far.begun ++ packet ∷ [];
     images = so_far.images ++ image ∷ [];
     sends = sends_one before so_far.begun so_far.images mid packet image after so_far.sends accepted;
     gained = grown ∙ (ap (λ xs. xs ++ image ∷ []) so_far.gained ∙ append_assoc (sent before) so_far.images (image ∷ []));
+    goes_on = numbered ∙ (ap (λ (n : ℕ). (n + 1) % 2 ^ 64) so_far.goes_on ∙ sym (number_after_one (next before) so_far.images image));
     whole = so_far.whole ∙ sym (append_assoc so_far.begun (packet ∷ []) rest);
   }
 
@@ -54,14 +60,14 @@ is_last_at_none (v ∷ vs) n e = rw e (eqb-suc-zero (length vs))
 pub next_so_far : {S : Type 0} (accepts : S → Packet → Packet → S → Type 0) (sent : S → List Packet) (next : S → ℕ)
     (before : S) (all : List Packet) (pack here : Pack) (sample : Sample) (rtp_time : ℕ) (vs : List (Vec ℕ)) (v : Vec ℕ) (left : List (Vec ℕ)) (n : ℕ) (mid after : S)
     → vs ≡ v ∷ left → n ≡ length left → here ≡ pack
-    → SentSoFar accepts sent before all (packets_for pack sample rtp_time (next mid) (map (λ w. w.items) vs)) mid
+    → SentSoFar accepts sent next before all (packets_for pack sample rtp_time (next mid) (map (λ w. w.items) vs)) mid
     → (image : Packet) × accepts mid (packet_for here sample rtp_time (next mid) (n == 0) v.items) image after × (sent after ≡ sent mid ++ image ∷ []) × (next after ≡ (next mid + 1) % 2 ^ 64)
-    → SentSoFar accepts sent before all (packets_for pack sample rtp_time (next after) (map (λ w. w.items) left)) after
+    → SentSoFar accepts sent next before all (packets_for pack sample rtp_time (next after) (map (λ w. w.items) left)) after
 next_so_far accepts sent next before all pack here sample rtp_time vs v left n mid after split count same so_far one =
     let last = is_last_at_none left n count in
-    let unfolded : SentSoFar accepts sent before all (packet_for pack sample rtp_time (next mid) (n == 0) v.items ∷ packets_for pack sample rtp_time (next after) (map (λ w. w.items) left)) mid =
-    rw (last, one.3) (subst (λ (ws : List (Vec ℕ)). SentSoFar accepts sent before all (packets_for pack sample rtp_time (next mid) (map (λ w. w.items) ws)) mid) split so_far) in
-    one_so_far accepts sent before all _ _ mid one.0 after unfolded (subst (λ (p : Pack). accepts mid (packet_for p sample rtp_time (next mid) (n == 0) v.items) one.0 after) same one.1) one.2
+    let unfolded : SentSoFar accepts sent next before all (packet_for pack sample rtp_time (next mid) (n == 0) v.items ∷ packets_for pack sample rtp_time (next after) (map (λ w. w.items) left)) mid =
+    rw (last, one.3) (subst (λ (ws : List (Vec ℕ)). SentSoFar accepts sent next before all (packets_for pack sample rtp_time (next mid) (map (λ w. w.items) ws)) mid) split so_far) in
+    one_so_far accepts sent next before all _ _ mid one.0 after unfolded (subst (λ (p : Pack). accepts mid (packet_for p sample rtp_time (next mid) (n == 0) v.items) one.0 after) same one.1) one.2 one.3
 
 -- what a sink in memory makes of packets: it keeps them
 abbrev pub Keeps : SentPackets → Packet → Packet → SentPackets → Type 0
@@ -95,7 +101,7 @@ kept_numbered pack sample rtp_time number (payload ∷ payloads) before images a
     )
 
 -- a payload was refused: those before it were sent
-pub record RefusedSoFar {S : Type 0} (accepts : S → Packet → Packet → S → Type 0) (refuses : S → Packet → PacketError → S → Type 0) (sent : S → List Packet) (before : S) (all : List Packet) (fault : PacketError) (after : S) : Type 0 where
+pub record RefusedSoFar {S : Type 0} (accepts : S → Packet → Packet → S → Type 0) (refuses : S → Packet → PacketError → S → Type 0) (sent : S → List Packet) (next : S → ℕ) (before : S) (all : List Packet) (fault : PacketError) (after : S) : Type 0 where
   pub begun : List Packet
   pub refused : Packet
   pub left : List Packet
@@ -105,17 +111,18 @@ pub record RefusedSoFar {S : Type 0} (accepts : S → Packet → Packet → S �
   pub sends : Sends accepts before begun images mid
   pub refusal : refuses mid refused fault after
   pub gained : sent after ≡ sent before ++ images
+  pub goes_on : next after ≡ number_after (next before) images
 
 pub refused_so_far : {S : Type 0} (accepts : S → Packet → Packet → S → Type 0) (refuses : S → Packet → PacketError → S → Type 0) (sent : S → List Packet) (next : S → ℕ)
     (before : S) (all : List Packet) (pack here : Pack) (sample : Sample) (rtp_time : ℕ) (vs : List (Vec ℕ)) (v : Vec ℕ) (left : List (Vec ℕ)) (n : ℕ) (mid after : S) (fault : PacketError)
     → vs ≡ v ∷ left → n ≡ length left → here ≡ pack
-    → SentSoFar accepts sent before all (packets_for pack sample rtp_time (next mid) (map (λ w. w.items) vs)) mid
+    → SentSoFar accepts sent next before all (packets_for pack sample rtp_time (next mid) (map (λ w. w.items) vs)) mid
     → refuses mid (packet_for here sample rtp_time (next mid) (n == 0) v.items) fault after × (sent after ≡ sent mid) × (next after ≡ next mid)
-    → RefusedSoFar accepts refuses sent before all fault after
+    → RefusedSoFar accepts refuses sent next before all fault after
 refused_so_far accepts refuses sent next before all pack here sample rtp_time vs v left n mid after fault split count same so_far one =
     let last = is_last_at_none left n count in
-    let unfolded : SentSoFar accepts sent before all (packet_for pack sample rtp_time (next mid) (n == 0) v.items ∷ packets_for pack sample rtp_time ((next mid + 1) % 2 ^ 64) (map (λ w. w.items) left)) mid =
-    rw last (subst (λ (ws : List (Vec ℕ)). SentSoFar accepts sent before all (packets_for pack sample rtp_time (next mid) (map (λ w. w.items) ws)) mid) split so_far) in
+    let unfolded : SentSoFar accepts sent next before all (packet_for pack sample rtp_time (next mid) (n == 0) v.items ∷ packets_for pack sample rtp_time ((next mid + 1) % 2 ^ 64) (map (λ w. w.items) left)) mid =
+    rw last (subst (λ (ws : List (Vec ℕ)). SentSoFar accepts sent next before all (packets_for pack sample rtp_time (next mid) (map (λ w. w.items) ws)) mid) split so_far) in
     record {
       begun = unfolded.begun;
       refused = packet_for pack sample rtp_time (next mid) (n == 0) v.items;
@@ -126,4 +133,5 @@ refused_so_far accepts refuses sent next before all pack here sample rtp_time vs
       sends = unfolded.sends;
       refusal = subst (λ (p : Pack). refuses mid (packet_for p sample rtp_time (next mid) (n == 0) v.items) fault after) same one.0;
       gained = one.1 ∙ unfolded.gained;
+      goes_on = one.2 ∙ unfolded.goes_on;
     }

@@ -64,6 +64,11 @@ Sends accepts before [] images after = (images ≡ []) × (after ≡ before)
 Sends {S} accepts before (packet ∷ packets) images after =
     (image : Packet) × (more : List Packet) × (mid : S) × (images ≡ image ∷ more) × accepts before packet image mid × Sends accepts mid packets more after
 
+-- the number that comes after those of these packets
+abbrev pub number_after : ℕ → List Packet → ℕ
+number_after number [] = number
+number_after number (packet ∷ packets) = number_after ((number + 1) % 2 ^ 64) packets
+
 -- the packets of the sample were sent: those of the payloads that the packetizer gives, and the sink gained their images
 pub record SendsSample {S : Type 0} (accepts : S → Packet → Packet → S → Type 0) (sent : S → List Packet) (next : S → ℕ) (mtu : ℕ) (sample : Sample) (p : Payloading) (before : S) (p' : Payloading) (after : S) : Type 0 where
   pub payloads : List (List ℕ)
@@ -71,6 +76,7 @@ pub record SendsSample {S : Type 0} (accepts : S → Packet → Packet → S →
   pub images : List Packet
   pub sends : Sends accepts before (packets_for p'.pack sample (rtp_time_at p.clock_rate sample.rtp_time) (next before) payloads) images after
   pub gained : sent after ≡ sent before ++ images
+  pub goes_on : next after ≡ number_after (next before) images
 
 -- the sink refused a packet of the sample: those before it were sent
 pub record SendsBeginning {S : Type 0} (accepts : S → Packet → Packet → S → Type 0) (refuses : S → Packet → PacketError → S → Type 0) (sent : S → List Packet) (next : S → ℕ) (mtu : ℕ) (sample : Sample) (fault : PacketError) (p : Payloading) (before : S) (p' : Payloading) (after : S) : Type 0 where
@@ -85,6 +91,7 @@ pub record SendsBeginning {S : Type 0} (accepts : S → Packet → Packet → S 
   pub sends : Sends accepts before begun images mid
   pub refusal : refuses mid refused fault after
   pub gained : sent after ≡ sent before ++ images
+  pub goes_on : next after ≡ number_after (next before) images
 
 -- the packetizer refused the sample, and nothing was sent
 pub record SendsNothing {S : Type 0} (mtu : ℕ) (sample : Sample) (fault : PacketError) (p : Payloading) (before : S) (p' : Payloading) (after : S) : Type 0 where

@@ -28,13 +28,14 @@ returns-clause-ok g c =
     let bytes : c.deref.result.now ≡ c.args.sample.now.bytes.items = search rules in
     let items : into_iter_items c.into_iter-payload-iterator.result ≡ c.in_ok-payloads.payloads.items = search rules in
     let view : pack_of c.self.inside.pack ≡ c.args.self.now.pack = ap (λ p. p.pack) c.self.view_is in
-    let all : SentSoFar g.S.PacketSink.accepts g.S.PacketSink.sent c.args.sink.now _ [] c.loop-payload.sink = rw none_left at c.loop-payload.invariant.so_far in
+    let all : SentSoFar g.S.PacketSink.accepts g.S.PacketSink.sent g.S.PacketSink.next c.args.sink.now _ [] c.loop-payload.sink = rw none_left at c.loop-payload.invariant.so_far in
     record {
       payloads = map (λ p. p.items) (into_iter_items c.into_iter-payload-iterator.result);
       packetized = rw (items, pack, ← bytes, ← view) c.in_ok-payloads.ensures.built_in;
       images = all.images;
-      sends = rw (pack, time) (all_so_far g.S.PacketSink.accepts g.S.PacketSink.sent _ _ _ all);
+      sends = rw (pack, time) (all_so_far g.S.PacketSink.accepts g.S.PacketSink.sent g.S.PacketSink.next _ _ _ all);
       gained = all.gained;
+      goes_on = all.goes_on;
     }
 
 pub returns-in_err-send_payload-clause-err : goal.returns-in_err-send_payload-clause-err
@@ -63,4 +64,5 @@ returns-in_err-send_payload-clause-err g c =
       sends = refused.sends;
       refusal = refused.refusal;
       gained = refused.gained;
+      goes_on = refused.goes_on;
     }))

@@ -13,7 +13,7 @@ invariant-loop-payload g l =
       kept : sink.keeps l.fn.sink l.sink;
       counted : length (into_iter_items l.payload-iterator) ≡ into_iter_len l.payload-iterator;
       left : l.left ≡ length (into_iter_items l.payload-iterator);
-      so_far : SentSoFar sink.accepts sink.sent l.fn.sink
+      so_far : SentSoFar sink.accepts sink.sent sink.next l.fn.sink
           (packets_for l.initial.self.pack (sample_of l.sample) l.rtp_time (sink.next l.fn.sink) (map (λ p. p.items) (into_iter_items l.initial.payload-iterator)))
           (packets_for l.initial.self.pack (sample_of l.sample) l.rtp_time (sink.next l.sink) (map (λ p. p.items) (into_iter_items l.payload-iterator)))
           l.sink;
