@@ -20,7 +20,8 @@ use Rattle.codec_payload_core.specs.Packets.{Packet, AreNumbered}
 use Rattle.codec_payload_core.specs.ToldIds.{next_id, read_by}
 use Rattle.codec_payload_core.specs.Schedule.{Answer, RunState, Runs, DoesStep, SendsIt, after_push, meta_of_push, packets_sent, payloads_of}
 use Rattle.codec_payload_core.specs.Sending.{Sample, rtp_time_at}
-use Rattle.codec_payload_core.specs.SentStream.{AreReadable, SentUnit, packets_of, AllLawful}
+use Rattle.codec_payload_core.specs.LawfulUnits.{AllLawful}
+use Rattle.codec_payload_core.specs.SentStream.{AreReadable, SentUnit, packets_of}
 use Rattle.codec_payload_buffer.specs.Steps.{State, arrived}
 use Rattle.codec_payload_core.specs.Units.{payloads_by, may_split}
 use Rattle.codec_payload_core.specs.declared.schedule.Sent.{Sent}

@@ -26,7 +26,8 @@ use Rattle.codec_payload_buffer.specs.Pack.{Av1Pack}
 use Rattle.codec_payload_core.specs.Packets.{Packet}
 use Rattle.codec_payload_core.specs.Schedule.{payloads_of}
 use Rattle.codec_payload_core.specs.Sending.{Sample, packets_for}
-use Rattle.codec_payload_core.specs.SentStream.{SentUnit, EndsWithTail, StartsWithHead, IsReleaseOf, payloads_held, payloads_sent, IsLawful}
+use Rattle.codec_payload_core.specs.LawfulUnits.{StartsWithHead, payloads_held, payloads_sent, IsLawful}
+use Rattle.codec_payload_core.specs.SentStream.{SentUnit, EndsWithTail, IsReleaseOf}
 use Rattle.codec_payload_buffer.specs.Steps.{Unpacked, Unpacks, nothing_unpacked}
 use Rattle.codec_payload_core.specs.Units.{canonical_obus, canonical_units, units_by}
 

@@ -16,7 +16,8 @@ use Rattle.codec_payload_core.proofs.SendsUnits.{SendsUnits, no_units}
 use Rattle.codec_payload_core.proofs.TellLemmas.{IsSilent, AllSilent, IsTold, AllTold, NoHeads}
 use Rattle.codec_payload_core.specs.Packets.{Packet}
 use Rattle.codec_payload_core.specs.Sending.{Sample, packet_for, packets_for}
-use Rattle.codec_payload_core.specs.SentStream.{EndsWithTail, payloads_sent}
+use Rattle.codec_payload_core.specs.LawfulUnits.{payloads_sent}
+use Rattle.codec_payload_core.specs.SentStream.{EndsWithTail}
 use Rattle.codec_payload_core.specs.ToldIds.{id_later, next_id}
 use Rattle.codec_payload_core.specs.Units.{is_skipped, refusal_of, units_sent, each_whole, pack_after, payloads_by, may_split}
 

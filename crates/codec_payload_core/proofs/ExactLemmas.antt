@@ -32,7 +32,8 @@ use Rattle.codec_payload_core.specs.ToldIds.{ReadId, Tells, id_in, id_later, nex
 use Rattle.codec_payload_buffer.specs.Release.{Release}
 use Rattle.codec_payload_core.specs.Schedule.{Answer, RunState, Runs, after_push}
 use Rattle.codec_payload_core.specs.Sending.{Sample}
-use Rattle.codec_payload_core.specs.SentStream.{SentUnit, packets_of, payloads_held, payloads_sent, AllLawful, EndsWithTail, IsReleaseOf}
+use Rattle.codec_payload_core.specs.LawfulUnits.{payloads_held, payloads_sent, AllLawful}
+use Rattle.codec_payload_core.specs.SentStream.{SentUnit, packets_of, EndsWithTail, IsReleaseOf}
 use Rattle.codec_payload_buffer.specs.Steps.{State, is_dropped, is_at_most, due_of, due_among, follows, metas_of, packets_of_frame, Unpacked, Unpacks, nothing_unpacked, Gives, Pops, PassesOver, Refuses}
 use Rattle.codec_payload_buffer.specs.declared.buffer.frames.Segment.{Segment}
 use Rattle.codec_payload_buffer.specs.declared.buffer.unit.RtpMeta.{RtpMeta}

@@ -14,7 +14,8 @@ use Rattle.codec_payload_buffer.specs.Depack.{DepackKind}
 use Rattle.codec_payload_core.specs.Headline.{IsPushOf}
 use Rattle.codec_payload_buffer.specs.Held.{Held, Rises, AllAbove, placed, has_number}
 use Rattle.codec_payload_core.specs.Packets.{Packet, AreNumbered}
-use Rattle.codec_payload_core.specs.SentStream.{SentUnit, packets_of, AllLawful}
+use Rattle.codec_payload_core.specs.LawfulUnits.{AllLawful}
+use Rattle.codec_payload_core.specs.SentStream.{SentUnit, packets_of}
 use Rattle.codec_payload_buffer.specs.Steps.{State, pushed, kept_to_limit, is_dropped, is_at_most}
 use Rattle.codec_payload_core.specs.declared.schedule.Step.{Step}
 

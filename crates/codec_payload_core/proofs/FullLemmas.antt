@@ -14,7 +14,8 @@ use Rattle.codec_payload_buffer.specs.Held.{Held}
 use Rattle.codec_payload_core.specs.Packets.{Packet, AreNumbered}
 use Rattle.codec_payload_buffer.specs.Release.{Release}
 use Rattle.codec_payload_core.specs.Schedule.{Answer}
-use Rattle.codec_payload_core.specs.SentStream.{SentUnit, EndsWithTail, StartsWithHead}
+use Rattle.codec_payload_core.specs.LawfulUnits.{StartsWithHead}
+use Rattle.codec_payload_core.specs.SentStream.{SentUnit, EndsWithTail}
 use Rattle.codec_payload_buffer.specs.Steps.{State, due_of, starts_right_after, Pops, Passes, none, one_more, PassesOver, Releases, Refuses}
 use Rattle.codec_payload_buffer.specs.declared.buffer.frames.Segment.{Segment}
 use Rattle.codec_payload_buffer.specs.declared.buffer.unit.RtpMeta.{RtpMeta}

@@ -18,7 +18,8 @@ use Rattle.codec_payload_buffer.specs.Held.{Held}
 use Rattle.codec_payload_buffer.specs.Pack.{Pack, ComfortNoisePack, TelePack, AmrWbPack}
 use Rattle.codec_payload_core.specs.Packets.{Packet}
 use Rattle.codec_payload_core.specs.Schedule.{payloads_of}
-use Rattle.codec_payload_core.specs.SentStream.{SentUnit, StartsWithHead, IsReleaseOf, payloads_held, payloads_sent, IsLawful}
+use Rattle.codec_payload_core.specs.LawfulUnits.{StartsWithHead, payloads_held, payloads_sent, IsLawful}
+use Rattle.codec_payload_core.specs.SentStream.{SentUnit, IsReleaseOf}
 use Rattle.codec_payload_buffer.specs.Steps.{Unpacked, Unpacks, nothing_unpacked}
 use Rattle.codec_payload_core.specs.Units.{canonical_units, each_whole, is_readable, payloads_by, bytes_of_frame, units_by}
 

@@ -11,7 +11,8 @@ use Rattle.codec_payload_core.proofs.TellLemmas.{AllSilent, AllTold, NoHeads, no
 use Rattle.codec_payload_buffer.specs.Depack.{Depack, DepackKind, kind_of_depack, DepackStep, head_in}
 use Rattle.codec_payload_buffer.specs.Held.{Held}
 use Rattle.codec_payload_core.specs.Packets.{Packet}
-use Rattle.codec_payload_core.specs.SentStream.{SentUnit, EndsWithTail, StartsWithHead, IsReleaseOf, payloads_held, payloads_sent, IsLawful}
+use Rattle.codec_payload_core.specs.LawfulUnits.{StartsWithHead, payloads_held, payloads_sent, IsLawful}
+use Rattle.codec_payload_core.specs.SentStream.{SentUnit, EndsWithTail, IsReleaseOf}
 use Rattle.codec_payload_buffer.specs.Steps.{Unpacked, Unpacks, nothing_unpacked}
 use Rattle.codec_payload_core.specs.ToldIds.{Tells, read_by}
 

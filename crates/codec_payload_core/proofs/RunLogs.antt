@@ -25,7 +25,8 @@ use Rattle.codec_payload_core.specs.RunPromises.{Ran, KeepsPromises, RunsAsSteps
 use Rattle.codec_payload_core.specs.RunUnits.{LosesNoneSilently, PassesNoneOver, PassesOnlyPastGap, FirstIsWhole, NoneEvicted, AreNext, BeginsAsSent}
 use Rattle.codec_payload_core.specs.Schedule.{Answer, RunState, Runs}
 use Rattle.codec_payload_core.specs.Sending.{Sample}
-use Rattle.codec_payload_core.specs.SentStream.{AreReadable, SentUnit, packets_of, EndsWithTail, AllLawful}
+use Rattle.codec_payload_core.specs.LawfulUnits.{AllLawful}
+use Rattle.codec_payload_core.specs.SentStream.{AreReadable, SentUnit, packets_of, EndsWithTail}
 use Rattle.codec_payload_core.specs.ToldIds.{id_later, next_id, read_by}
 use Rattle.codec_payload_core.specs.Units.{payloads_by, may_split}
 use Rattle.codec_payload_core.specs.declared.schedule.Sent.{Sent}
@@ -69,9 +70,11 @@ module _ (samples : List Sample) (all_steps : List Step) (s t : RunState) (sends
   pub logged : RunLog samples all_steps s sends pops t
   logged =
       let stream = streams samples 0 all_steps s t sends pops run in
+      let out = safe_stream samples all_steps s t sends pops run unused readable stream in
       let found = log_from t.sink.packets s.payloading.clock_rate sends samples all_steps 0 s t sends [] pops (begun s.buffer) run refl refl refl (λ n l. sym (ap length unused.nothing_sent)) refl in
       record {
-        released = (safe_stream samples all_steps s t sends pops run unused readable stream).0;
+        released = out.0;
+        lawful = subst (λ (us : List SentUnit). AllLawful (payloads_by s.payloading.pack) (may_split s.payloading.pack) us) (sym out.1) (stream.lawful readable);
         turns = found.turns;
         end = found.end;
         is_log = found.is_log;
@@ -89,20 +92,20 @@ module _ (samples : List Sample) (all_steps : List Step) (s t : RunState) (sends
     one_time =
         let stream = streams samples 0 all_steps s t sends pops run in
         let sent = sends_all samples all_steps s t unused stream in
-        times_of (payloads_by s.payloading.pack) (may_split s.payloading.pack) log.released.units stream.units log.released.lawful (stream.lawful readable) (log.released.packets ∙ sent.whole) stream.one_time
+        times_of (payloads_by s.payloading.pack) (may_split s.payloading.pack) log.released.units stream.units log.lawful (stream.lawful readable) (log.released.packets ∙ sent.whole) stream.one_time
 
     told : TellInTurn (payloads_by s.payloading.pack) (next_id s.payloading.pack) 0 log.released.units
     told =
         let stream = streams samples 0 all_steps s t sends pops run in
         let sent = sends_all samples all_steps s t unused stream in
         let lawful = stream.lawful readable in
-        ids_of (payloads_by s.payloading.pack) (may_split s.payloading.pack) (next_id s.payloading.pack) 0 log.released.units stream.units log.released.lawful lawful (log.released.packets ∙ sent.whole)
+        ids_of (payloads_by s.payloading.pack) (may_split s.payloading.pack) (next_id s.payloading.pack) 0 log.released.units stream.units log.lawful lawful (log.released.packets ∙ sent.whole)
         (tell_in_turn (payloads_by s.payloading.pack) (may_split s.payloading.pack) (next_id s.payloading.pack) 0 stream.units lawful stream.ids)
 
     short : length log.released.units < 2 ^ 63
     short =
         let few = (streams samples 0 all_steps s t sends pops run).few (omega (arith, ap length unused.nothing_sent)) in
-        omega (arith, few, ap length log.released.packets, no_more_units (payloads_by s.payloading.pack) (may_split s.payloading.pack) log.released.units log.released.lawful)
+        omega (arith, few, ap length log.released.packets, no_more_units (payloads_by s.payloading.pack) (may_split s.payloading.pack) log.released.units log.lawful)
 
     abbrev setting : Setting
     setting = record {
@@ -112,7 +115,7 @@ module _ (samples : List Sample) (all_steps : List Step) (s t : RunState) (sends
       kind = payloads_by s.payloading.pack;
       splits = may_split s.payloading.pack;
       units = log.released.units;
-      lawful = log.released.lawful;
+      lawful = log.lawful;
       numbered = numbered;
       one_time = one_time;
       start = next_id s.payloading.pack;
@@ -122,7 +125,7 @@ module _ (samples : List Sample) (all_steps : List Step) (s t : RunState) (sends
 
     ready : IsReady setting 0 s.buffer
     ready = record {
-      beyond = fresh all_steps s log.released.units log.released.lawful numbered unused;
+      beyond = fresh all_steps s log.released.units log.lawful numbered unused;
       few = subst (λ (hs : List Held). length hs ≤ s.buffer.limit) (sym unused.nothing_held) (omega arith);
     }
 
@@ -165,7 +168,7 @@ pub only_sets_count : OnlySetsCount
 only_sets_count samples all_steps other_steps s t u sends other_sends pops other_pops run other_run packets unused readable log other same =
     let setting_of_log = setting samples all_steps s t sends pops run unused readable log in
     let ready_of_log = ready samples all_steps s t sends pops run unused readable log in
-    let beyond = fresh other_steps s log.released.units log.released.lawful (numbered samples all_steps s t sends pops run unused readable log) unused in
+    let beyond = fresh other_steps s log.released.units log.lawful (numbered samples all_steps s t sends pops run unused readable log) unused in
     let ready_of_other : IsReady (record setting_of_log { all_steps = other_steps }) 0 s.buffer = record { beyond = beyond; few = ready_of_log.few } in
     let other_log : IsLog (packets_of log.released.units) s.payloading.clock_rate other_sends 0 other_steps (begun s.buffer) other.turns other.end =
     subst (λ (ps : List Packet). IsLog ps s.payloading.clock_rate other_sends 0 other_steps (begun s.buffer) other.turns other.end) (sym (log.released.packets ∙ packets)) other.is_log in

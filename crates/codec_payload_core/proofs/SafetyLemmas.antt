@@ -20,7 +20,8 @@ use Rattle.codec_payload_core.specs.Packets.{Packet, AreNumbered}
 use Rattle.codec_payload_buffer.specs.Release.{Release}
 use Rattle.codec_payload_core.specs.Schedule.{Answer, RunState, Runs, DoesStep, SendsIt, after_push, meta_of_push}
 use Rattle.codec_payload_core.specs.Sending.{Sample}
-use Rattle.codec_payload_core.specs.SentStream.{AreReadable, SentUnit, packets_of, StartsWithHead, IsLawful, AllLawful, IsReleaseOf}
+use Rattle.codec_payload_core.specs.LawfulUnits.{StartsWithHead, IsLawful, AllLawful}
+use Rattle.codec_payload_core.specs.SentStream.{AreReadable, SentUnit, packets_of, AllEndWithTail, IsReleaseOf}
 use Rattle.codec_payload_buffer.specs.Steps.{State, arrived, pushed, kept_to_limit, without_lowest, is_dropped, is_at_most, without, metas_of, due_of, packets_of_frame, Unpacked, Unpacks, nothing_unpacked, Gives, Passes, none, one_more, PassesOver, Releases, Refuses, Pops}
 use Rattle.codec_payload_core.specs.Units.{payloads_by, may_split}
 use Rattle.codec_payload_buffer.specs.declared.buffer.frames.Segment.{Segment}
@@ -350,6 +351,10 @@ sends_all samples all_steps s t unused stream =
       numbered = subst (λ (n : ℕ). AreNumbered n (packets_of stream.units)) none stream.numbered;
     }
 
+all_end : (kind : DepackKind) (splits : Bool) (units : List SentUnit) → AllLawful kind splits units → AllEndWithTail kind units
+all_end kind splits [] lawful = tt
+all_end kind splits (u ∷ us) lawful = (lawful.0.ends, all_end kind splits us lawful.1)
+
 -- a run over an unused sink and an unused buffer releases the units that it sends in order, each at most once
 pub safe_stream : (samples : List Sample) (all_steps : List Step) (s t : RunState) (sends : List Sent) (pops : List Answer) → Runs samples 0 all_steps s sends pops t → IsUnused s → AreReadable s.payloading.pack samples
     → (stream : Streams samples all_steps s t) → (released : ReleasesInOrder samples all_steps s pops t) × (released.units ≡ stream.units)
@@ -360,7 +365,7 @@ safe_stream samples all_steps s t sends pops run unused readable stream =
       units = stream.units;
       canonical = stream.canonical;
       packets = sym sent.whole;
-      lawful = lawful;
+      ends = all_end (payloads_by s.payloading.pack) (may_split s.payloading.pack) stream.units lawful;
       in_order = safe_from all_steps s.payloading.clock_rate s.sink.first (payloads_by s.payloading.pack) (may_split s.payloading.pack) stream.units lawful sent.numbered samples all_steps 0 0 s t sends pops refl run sent.whole refl
           (fresh all_steps s stream.units lawful sent.numbered unused);
     } in

@@ -4,7 +4,8 @@ use Rattle.std.specs.Prelude.{slice_get}
 use Rattle.codec_payload_buffer.specs.Pack.{Pack}
 use Rattle.codec_payload_core.specs.ToldIds.{id_later, next_id}
 use Rattle.codec_payload_core.specs.Sending.{Sample, packets_for}
-use Rattle.codec_payload_core.specs.SentStream.{SentUnit, packets_of, AllLawful}
+use Rattle.codec_payload_core.specs.LawfulUnits.{AllLawful}
+use Rattle.codec_payload_core.specs.SentStream.{SentUnit, packets_of}
 use Rattle.codec_payload_core.specs.Units.{canonical_units, is_readable, pack_after, payloads_by, may_split}
 
 -- the units carry the ids that come n units after `first` and later, one after another

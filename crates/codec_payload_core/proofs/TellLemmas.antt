@@ -10,7 +10,7 @@ use Rattle.codec_payload_base.specs.declared.interface.CodecExtra.{CodecExtra}
 use Rattle.codec_payload_buffer.specs.Depack.{Depack, ComfortNoiseDepack, TeleDepack, Vp8Depack, Vp9Depack, Av1Depack, AmrWbDepack, DepackKind, Vp8Payloads, Vp9Payloads, kind_of_depack, DepackStep, head_in}
 use Rattle.codec_payload_buffer.specs.Held.{Held}
 use Rattle.codec_payload_core.specs.Packets.{Packet}
-use Rattle.codec_payload_core.specs.SentStream.{payloads_held, payloads_sent, StartsWithHead}
+use Rattle.codec_payload_core.specs.LawfulUnits.{payloads_held, payloads_sent, StartsWithHead}
 use Rattle.codec_payload_buffer.specs.Steps.{Unpacked, Unpacks, nothing_unpacked}
 use Rattle.codec_payload_core.specs.ToldIds.{ReadId, IsNextId, TellsPicture, ahead, lacks_base, read_by, read_last}
 

@@ -19,7 +19,8 @@ use Rattle.codec_payload_core.specs.Packets.{Packet, AreNumbered}
 use Rattle.codec_payload_buffer.specs.Release.{Release}
 use Rattle.codec_payload_core.specs.RunOrder.{numbers_in, IsSentPacket, IsStretch, AreStretches}
 use Rattle.codec_payload_core.specs.Schedule.{Answer, meta_of_push}
-use Rattle.codec_payload_core.specs.SentStream.{SentUnit, packets_of, AllLawful}
+use Rattle.codec_payload_core.specs.LawfulUnits.{AllLawful}
+use Rattle.codec_payload_core.specs.SentStream.{SentUnit, packets_of}
 use Rattle.codec_payload_buffer.specs.Steps.{State, IsSound, arrived, pushed, is_at_most, due_of, Passes, none, one_more, PopsOver, Releases}
 use Rattle.codec_payload_buffer.specs.Stretches.{after_pushes, kept, IsLeft, IsInRange}
 use Rattle.codec_payload_buffer.specs.declared.buffer.frames.Segment.{Segment}

@@ -5,7 +5,8 @@ use Rattle.codec_payload_core.proofs.SendsUnits.{CarryIds}
 use Rattle.codec_payload_buffer.specs.Depack.{Depack, DepackKind, kind_of_depack}
 use Rattle.codec_payload_buffer.specs.Held.{Held}
 use Rattle.codec_payload_core.specs.Packets.{Packet}
-use Rattle.codec_payload_core.specs.SentStream.{SentUnit, payloads_held, payloads_sent, StartsWithHead, AllLawful}
+use Rattle.codec_payload_core.specs.LawfulUnits.{payloads_held, payloads_sent, StartsWithHead, AllLawful}
+use Rattle.codec_payload_core.specs.SentStream.{SentUnit}
 use Rattle.codec_payload_buffer.specs.Steps.{Unpacked, Unpacks, nothing_unpacked}
 use Rattle.codec_payload_core.specs.ToldIds.{Tells, id_later, read_by}
 

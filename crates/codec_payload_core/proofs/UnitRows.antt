@@ -10,7 +10,8 @@ use Rattle.codec_payload_buffer.specs.Depack.{DepackKind, head_in, tail_in}
 use Rattle.codec_payload_core.specs.Headline.{IsPushOf, ArePushesOf}
 use Rattle.codec_payload_buffer.specs.Held.{Held}
 use Rattle.codec_payload_core.specs.Packets.{Packet}
-use Rattle.codec_payload_core.specs.SentStream.{SentUnit, packets_of, EndsWithTail, StartsWithHead, payloads_held, payloads_sent, AllLawful}
+use Rattle.codec_payload_core.specs.LawfulUnits.{StartsWithHead, payloads_held, payloads_sent, AllLawful}
+use Rattle.codec_payload_core.specs.SentStream.{SentUnit, packets_of, EndsWithTail}
 use Rattle.codec_payload_buffer.specs.Steps.{metas_of}
 use Rattle.codec_payload_buffer.specs.declared.buffer.unit.RtpMeta.{RtpMeta}
 use Rattle.codec_payload_core.specs.declared.schedule.Step.{Step}

@@ -7,7 +7,7 @@ use Rattle.codec_payload_core.specs.ToldIds.{read_by}
 use Rattle.codec_payload_buffer.specs.Release.{Release}
 use Rattle.codec_payload_core.specs.Schedule.{Answer, RunState, meta_of_push}
 use Rattle.codec_payload_core.specs.Sending.{Sample}
-use Rattle.codec_payload_core.specs.SentStream.{SentUnit, packets_of, IsReleaseOf, AllLawful, units_of_run}
+use Rattle.codec_payload_core.specs.SentStream.{SentUnit, packets_of, AllEndWithTail, IsReleaseOf, units_of_run}
 use Rattle.codec_payload_core.specs.Units.{payloads_by, may_split}
 use Rattle.codec_payload_buffer.specs.declared.buffer.unit.RtpMeta.{RtpMeta}
 use Rattle.codec_payload_core.specs.declared.schedule.Step.{Step}
@@ -58,11 +58,11 @@ pub record IsUnused (s : RunState) : Type 0 where
   pub nothing_read : read_by s.buffer.depack ≡ None
   pub nothing_kept : s.buffer.contiguity ≡ contiguity_for (kind_of_depack s.buffer.depack)
 
--- the units of the samples, as the steps send them, with their packets, which the sink holds; and what the pops answered
--- are these units, in order, each at most once
+-- the units of the samples, as the steps send them, with their packets, of which the last alone ends a unit,
+-- and which the sink holds; and what the pops answered are these units, in order, each at most once
 pub record ReleasesInOrder (samples : List Sample) (all_steps : List Step) (s : RunState) (pops : List Answer) (t : RunState) : Type 0 where
   pub units : List SentUnit
   pub canonical : map (λ (u : SentUnit). u.parts) units ≡ units_of_run s.payloading.pack samples all_steps
   pub packets : packets_of units ≡ t.sink.packets
-  pub lawful : AllLawful (payloads_by s.payloading.pack) (may_split s.payloading.pack) units
+  pub ends : AllEndWithTail (payloads_by s.payloading.pack) units
   pub in_order : InOrder all_steps s.payloading.clock_rate (may_split s.payloading.pack) units 0 pops

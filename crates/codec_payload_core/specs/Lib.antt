@@ -57,6 +57,7 @@ pub use Rattle.codec_payload_buffer.specs.Steps
 pub use Rattle.codec_payload_buffer.specs.Stretches
 pub mod Exact
 pub mod Headline
+pub mod LawfulUnits
 pub mod Log
 pub mod Packets
 pub mod RedPackets

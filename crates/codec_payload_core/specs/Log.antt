@@ -3,11 +3,13 @@ use Rattle.std.specs.Prelude.{◌≡◌, ◌≢◌, ℕ, ◌+◌, List, [], ◌�
 use Rattle.codec_payload_base.specs.declared.error.PacketError.TheVariants as faults
 use Rattle.codec_payload_core.specs.Headline.{ReleasesInOrder}
 use Rattle.codec_payload_buffer.specs.Held.{Held}
+use Rattle.codec_payload_core.specs.LawfulUnits.{AllLawful}
 use Rattle.codec_payload_core.specs.Packets.{Packet}
 use Rattle.codec_payload_core.specs.Schedule.{Answer, RunState, meta_of_push}
 use Rattle.codec_payload_core.specs.Sending.{Sample}
 use Rattle.codec_payload_buffer.specs.Steps.{State, arrived, pushed, PopsOver}
 use Rattle.codec_payload_buffer.specs.declared.buffer.frames.Segment.{Segment}
+use Rattle.codec_payload_core.specs.Units.{payloads_by, may_split}
 use Rattle.codec_payload_core.specs.declared.schedule.Sent.{Sent}
 use Rattle.codec_payload_core.specs.declared.schedule.Step.{Step}
 use Rattle.codec_payload_core.specs.declared.schedule.Step.TheVariants as steps
@@ -62,9 +64,10 @@ IsLog packets clock_rate sends place (steps.Pop ∷ later) w (turn ∷ turns) en
     (turn.stretch ≡ w) × PopsOver w.now turn.passed turn.answer turn.after × (turn.answer ≢ Some (Err faults.OutOfMemory))
     × IsLog packets clock_rate sends (place + 1) later (begun turn.after) turns end
 
--- a run told pop by pop, with the units that it sends; `end` is what comes after the last pop
+-- a run told pop by pop, with the units that it sends, for each of which the codec keeps what it owes; `end` is what comes after the last pop
 pub record RunLog (samples : List Sample) (all_steps : List Step) (s : RunState) (sends : List Sent) (pops : List Answer) (t : RunState) : Type 0 where
   pub released : ReleasesInOrder samples all_steps s pops t
+  pub lawful : AllLawful (payloads_by s.payloading.pack) (may_split s.payloading.pack) released.units
   pub turns : List Turn
   pub end : Stretch
   pub is_log : IsLog t.sink.packets s.payloading.clock_rate sends 0 all_steps (begun s.buffer) turns end

@@ -1,4 +1,4 @@
-use Rattle.std.proofs.Common.{◌∙◌, sym, ap, refl, option_map, Some}
+use Rattle.std.proofs.Common.{◌∙◌, sym, ap, option_map}
 use Rattle.codec_payload_buffer.specs.Depack.{depack_of}
 use Rattle.codec_payload_core.proofs.StreamStart.{runs_stream}
 use Rattle.codec_payload_core.specs.RunStream.{empty_buffer}
