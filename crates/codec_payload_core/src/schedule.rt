@@ -13,6 +13,9 @@ ghost use Rattle.codec_payload_core.specs.Sending.{Sample, sample_of};
 ghost use Rattle.codec_payload_buffer.specs.Steps.{State, Pops};
 ghost use Rattle.codec_payload_core.specs.declared.schedule.Sent.{Sent as Entry};
 
+#[cfg(test)]
+mod tests;
+
 use crate::buffer::{Depacketized, DepacketizingBuffer, RtpMeta};
 use crate::codec::{CodecDepacketizer, Vp9PacketizerMode};
 use crate::error::PacketError;
@@ -123,7 +126,14 @@ pub fn run_stream(
     depack.configure_for(&stream.spec);
     let mut buffer = DepacketizingBuffer::new(alloc, depack, stream.hold_back);
     let mut sink = MemorySink::new(alloc, stream.first_number);
-    let run = run_schedule(alloc, &mut payloader, &mut buffer, &mut sink, samples, steps)?;
+    let run = run_schedule(
+        alloc,
+        &mut payloader,
+        &mut buffer,
+        &mut sink,
+        samples,
+        steps,
+    )?;
     Ok(Some(run))
 }
 
