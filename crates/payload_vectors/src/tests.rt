@@ -167,7 +167,6 @@ fn bad_lines(rt: HostRuntime) -> Result<(), Fail> {
         ("sample 960 0 9090\ncodec opus 48000 0 10 0\n", 1),
         ("codec opus 48000 0 10 0", 1),
         ("codec speex 48000 0 10 0\n", 1),
-        ("codec vp9 90000 0 10 0\n", 1),
         ("codec Opus 48000 0 10 0\n", 1),
         ("codec opus 0 0 10 0\n", 1),
         ("codec opus 4294967296 0 10 0\n", 1),
