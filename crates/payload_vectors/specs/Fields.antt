@@ -2,6 +2,8 @@
 use Rattle.std.specs.Prelude.{◌≡◌, ℕ, ◌+◌, ◌^◌, ◌<◌, ◌⊎◌, IsSome, if◌then◌else◌, Bool, List, codes, Option, Some, None}
 use Rattle.std.specs.Str.{bytes_eq}
 use Rattle.std.specs.Str.Parse.{IsNumeral, digits_value}
+use Rattle.codec_payload_core.specs.declared.interface.Vp9PacketizerMode.{Vp9PacketizerMode}
+use Rattle.codec_payload_core.specs.declared.interface.Vp9PacketizerMode.TheVariants as modes
 use Rattle.codec_payload_core.specs.declared.wire.Codec.{Codec}
 use Rattle.codec_payload_core.specs.declared.wire.Codec.TheVariants as codecs
 use Rattle.payload_vectors.specs.HexField.{hex_field_of}
@@ -21,6 +23,9 @@ codec_of name =
     else if bytes_eq name (codes "amrwb") then Some codecs.AmrWb
     else if bytes_eq name (codes "amrwb-octet") then Some codecs.AmrWb
     else if bytes_eq name (codes "vp8") then Some codecs.Vp8
+    else if bytes_eq name (codes "vp8-id") then Some codecs.Vp8
+    else if bytes_eq name (codes "vp9") then Some codecs.Vp9
+    else if bytes_eq name (codes "vp9-flex") then Some codecs.Vp9
     else if bytes_eq name (codes "av1") then Some codecs.Av1
     else if bytes_eq name (codes "tele") then Some codecs.Tele
     else if bytes_eq name (codes "null") then Some codecs.Null
@@ -29,6 +34,14 @@ codec_of name =
 -- whether a name asks for the octet-aligned layout
 abbrev pub names_octet_aligned : List ℕ → Bool
 names_octet_aligned name = bytes_eq name (codes "amrwb-octet")
+
+-- whether a name asks for VP8 with picture ids
+abbrev pub names_vp8_ids : List ℕ → Bool
+names_vp8_ids name = bytes_eq name (codes "vp8-id")
+
+-- the mode of VP9 that a name asks for
+abbrev pub vp9_mode_of : List ℕ → Vp9PacketizerMode
+vp9_mode_of name = if bytes_eq name (codes "vp9-flex") then modes.Flexible else modes.NonFlexible
 
 -- the fields after `codec` are in range: the rate is above 0, the first number at most 2^62, the id below 2^15
 abbrev pub AreSetup : List ℕ → List ℕ → List ℕ → List ℕ → List ℕ → Type 0

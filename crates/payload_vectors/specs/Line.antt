@@ -4,7 +4,7 @@ use Rattle.std.specs.List.{slice_split}
 use Rattle.std.specs.Option.{SomeIff}
 use Rattle.std.specs.Str.Parse.{digits_value}
 use Rattle.codec_payload_core.specs.declared.schedule.Step.TheVariants.{Pop, Push, Send}
-use Rattle.payload_vectors.specs.Fields.{AreSample, AreSetup, IsNumber, codec_of, names_octet_aligned}
+use Rattle.payload_vectors.specs.Fields.{AreSample, AreSetup, IsNumber, codec_of, names_octet_aligned, names_vp8_ids, vp9_mode_of}
 use Rattle.payload_vectors.specs.HexField.{hex_field_of}
 use Rattle.payload_vectors.specs.declared.line.Line.{Line}
 use Rattle.payload_vectors.specs.declared.line.Line.TheVariants as lines
@@ -14,6 +14,8 @@ use Rattle.payload_vectors.specs.declared.line.Setup.{Setup}
 pub record IsSetup (name rate hold_back number id : List ℕ) (setup : Setup) : Type 0 where
   pub of_name : codec_of name ≡ Some setup.codec
   pub of_layout : setup.octet_align ≡ names_octet_aligned name
+  pub of_vp8_ids : setup.vp8_ids ≡ names_vp8_ids name
+  pub of_vp9_mode : setup.vp9_mode ≡ vp9_mode_of name
   pub of_rate : setup.rate ≡ digits_value 10 rate
   pub of_hold_back : setup.hold_back ≡ digits_value 10 hold_back
   pub of_number : setup.first_number ≡ digits_value 10 number

@@ -1,18 +1,20 @@
 //! The fields of lines.
 
-ghost use Rattle.std.specs.Prelude.{◌≡◌, ◌⊎◌, ◌↔◌, ◌^◌, codes, IsSome, IfSome, Some, false, true};
+ghost use Rattle.std.specs.Prelude.{ℕ, ◌≡◌, ◌⊎◌, ◌↔◌, ◌^◌, codes, IsSome, IfSome, Some, false, true};
 ghost use Rattle.std.specs.Option.{SomeIff};
 ghost use Rattle.std.specs.Str.Parse.{digits_value};
 ghost use Rattle.codec_payload_core.specs.Depack.{depack_for};
 ghost use Rattle.codec_payload_core.specs.Pack.{pack_for};
-ghost use Rattle.payload_vectors.specs.Fields.{IsNumber, codec_of, names_octet_aligned};
+ghost use Rattle.payload_vectors.specs.Fields.{IsNumber, codec_of, names_octet_aligned, names_vp8_ids, vp9_mode_of};
+ghost use Rattle.codec_payload_core.specs.declared.interface.Vp9PacketizerMode.{Vp9PacketizerMode as Mode};
 
+use codec_payload_core::codec::Vp9PacketizerMode;
 use codec_payload_core::wire::Codec;
 
 /// The codec of that name, if a payloader and a buffer can be made for it.
 pub fn codec_named(name: &str) -> Option<Codec>
     ensures name { result ≡ codec_of name.now }
-    ensures has_packetizer { IfSome result (λ codec. IsSome (pack_for codec)) }
+    ensures has_packetizer { IfSome result (λ codec. (mode : Mode) (id : ℕ) → IsSome (pack_for mode id codec)) }
     ensures has_depacketizer { IfSome result (λ codec. IsSome (depack_for codec)) }
 {
     match name {
@@ -22,7 +24,8 @@ pub fn codec_named(name: &str) -> Option<Codec>
         "g722" => Some(Codec::G722),
         "cn" => Some(Codec::CN),
         "amrwb" | "amrwb-octet" => Some(Codec::AmrWb),
-        "vp8" => Some(Codec::Vp8),
+        "vp8" | "vp8-id" => Some(Codec::Vp8),
+        "vp9" | "vp9-flex" => Some(Codec::Vp9),
         "av1" => Some(Codec::Av1),
         "tele" => Some(Codec::Tele),
         "null" => Some(Codec::Null),
@@ -35,6 +38,23 @@ pub fn is_octet_aligned(name: &str) -> bool
     ensures { result ≡ names_octet_aligned name.now }
 {
     name == "amrwb-octet"
+}
+
+/// Whether the frames of VP8 of that name have picture ids.
+pub fn has_vp8_ids(name: &str) -> bool
+    ensures { result ≡ names_vp8_ids name.now }
+{
+    name == "vp8-id"
+}
+
+/// The mode of VP9 of that name.
+pub fn vp9_mode(name: &str) -> Vp9PacketizerMode
+    ensures { result ≡ vp9_mode_of name.now }
+{
+    match name {
+        "vp9-flex" => Vp9PacketizerMode::Flexible,
+        _ => Vp9PacketizerMode::NonFlexible,
+    }
 }
 
 /// The number that decimal digits spell, where it fits: a sign is refused, and leading zeros are not.

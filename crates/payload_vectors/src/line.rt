@@ -9,7 +9,8 @@ ghost use Rattle.codec_payload_core.specs.Pack.{pack_for};
 ghost use Rattle.payload_vectors.specs.Fields.{AreSample, AreSetup, IsNumber};
 
 use crate::digits::hex_field;
-use crate::fields::{codec_named, count, decimal, is_octet_aligned, truth};
+use crate::fields::{codec_named, count, decimal, has_vp8_ids, is_octet_aligned, truth, vp9_mode};
+use codec_payload_core::codec::Vp9PacketizerMode;
 use codec_payload_core::schedule::Step;
 use codec_payload_core::wire::{Codec, Frequency};
 use std::alloc::{AllocError, Global};
@@ -26,17 +27,20 @@ pub struct Setup {
     pub codec: Codec,
     /// Whether AMR-WB has its octet-aligned layout.
     pub octet_align: bool,
+    /// Whether the frames of VP8 have picture ids.
+    pub vp8_ids: bool,
+    pub vp9_mode: Vp9PacketizerMode,
     /// The rate of the RTP clock and of the times of samples.
     pub rate: Frequency,
     /// How many later frames a missing one is waited for.
     pub hold_back: usize,
     /// The number of the first packet.
     pub first_number: u64,
-    /// The picture id of the first frame.
+    /// The picture id of the first frame, where frames have one.
     pub first_id: u16,
     ghost number_fits: { first_number ≤ 2 ^ 62 },
     ghost id_fits: { first_id ≤ 32767 },
-    ghost has_packetizer: { IsSome (pack_for codec) },
+    ghost has_packetizer: { IsSome (pack_for vp9_mode first_id codec) },
     ghost has_depacketizer: { IsSome (depack_for codec) },
 }
 
@@ -59,6 +63,8 @@ impl Setup {
         Some(Setup {
             codec,
             octet_align: is_octet_aligned(name),
+            vp8_ids: has_vp8_ids(name),
+            vp9_mode: vp9_mode(name),
             rate,
             hold_back,
             first_number,

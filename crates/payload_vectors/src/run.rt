@@ -1,15 +1,19 @@
 //! The program's work, over any reader and writer.
 
-ghost use Rattle.std.specs.Prelude.{◌≡◌, ◌≢◌, ◌≤◌, ◌<◌, ◌^◌, ℕ, length, IfOk, IfErr, IfSome, OnOk};
+ghost use Rattle.std.specs.Prelude.{◌≡◌, ◌≢◌, ◌≤◌, ◌<◌, ◌^◌, ℕ, [], length, true, false, Some, option_map, IfOk, IfErr, IfSome, OnOk};
+ghost use Rattle.codec_payload_core.specs.Depack.{configured_depack, depack_for};
+ghost use Rattle.codec_payload_core.specs.Pack.{Vp8Pack, configured, pack_for};
 ghost use Rattle.payload_vectors.specs.Program.{IsFaultOf, IsLineFault, status_of};
 ghost use Rattle.payload_vectors.specs.declared.run.ProgramFault.TheVariants.{BadLine, OutOfMemory, TooLong};
 
+use crate::line::Setup;
 use crate::print::printed;
 use crate::script::Script;
 use codec_payload_core::buffer::DepacketizingBuffer;
-use codec_payload_core::codec::{CodecDepacketizer, Vp9PacketizerMode};
+use codec_payload_core::codec::{CodecDepacketizer, CodecPacketizer};
 use codec_payload_core::payload::{MemorySink, Payloader};
 use codec_payload_core::schedule::run_schedule;
+use codec_payload_core::vp8::Vp8Packetizer;
 use codec_payload_core::wire::CodecSpec;
 use std::alloc::{AllocError, AllocFailed, Global};
 use std::io;
@@ -111,21 +115,64 @@ pub fn run_lines<R: Read, W: Write>(
     Ok(())
 }
 
+/// How the program ends: the exit status. A fault is told on one line of `messages`, whether or not it can be written.
+pub fn finish<W: Write>(answer: Result<(), ProgramFault>, messages: &mut W) -> u8
+    ensures done { OnOk answer ((result ≡ 0) × (messages.new ≡ messages.old)) }
+    ensures fault { IfErr answer (λ fault. result ≡ status_of fault) }
+{
+    let Err(fault) = answer else {
+        return 0;
+    };
+    let _ = writeln!(messages, "{fault}");
+    fault.status()
+}
+
+/// What the setup says of the codec.
+fn codec_spec(setup: &Setup) -> CodecSpec
+    ensures codec { result.codec ≡ setup.now.codec }
+    ensures clock_rate { result.clock_rate ≡ setup.now.rate }
+    ensures octet_align { result.octet_align ≡ setup.now.octet_align }
+{
+    CodecSpec {
+        codec: setup.codec,
+        clock_rate: setup.rate,
+        octet_align: setup.octet_align,
+    }
+}
+
+/// The payloader that is set up.
+fn payloader(setup: &Setup) -> Payloader
+    ensures vp8_ids { setup.now.vp8_ids ≡ true
+        → result ≡ record { pack = Vp8Pack (Some setup.now.first_id); clock_rate = setup.now.rate } }
+    ensures by_codec { setup.now.vp8_ids ≡ false
+        → Some result ≡ option_map (λ pack. record { pack = configured setup.now.octet_align pack; clock_rate = setup.now.rate })
+        (pack_for setup.now.vp9_mode setup.now.first_id setup.now.codec) }
+{
+    if setup.vp8_ids {
+        let pack = CodecPacketizer::Vp8(Vp8Packetizer::with_picture_id(setup.first_id));
+        return Payloader::with_packetizer(pack, setup.rate);
+    }
+    Payloader::new(codec_spec(setup), setup.vp9_mode, setup.first_id).unwrap()
+}
+
+/// The empty buffer that is set up.
+fn buffer(alloc: Global, setup: &Setup) -> DepacketizingBuffer
+    ensures empty { result.held ≡ [] }
+    ensures hold_back { result.hold_back ≡ setup.now.hold_back }
+    ensures depack { Some result.depack ≡ option_map (configured_depack setup.now.octet_align setup.now.rate) (depack_for setup.now.codec) }
+{
+    let mut depack = CodecDepacketizer::from_codec(alloc, setup.codec).unwrap();
+    depack.configure_for(&codec_spec(setup));
+    DepacketizingBuffer::new(alloc, depack, setup.hold_back)
+}
+
 /// What the script's run prints.
 fn output_of(alloc: Global, script: &Script) -> Result<String, ProgramFault>
     ensures { IfErr result (λ fault. fault ≡ OutOfMemory) }
 {
     let setup = script.setup;
-    let spec = CodecSpec {
-        codec: setup.codec,
-        clock_rate: setup.rate,
-        octet_align: setup.octet_align,
-    };
-    let mode = Vp9PacketizerMode::NonFlexible;
-    let mut payloader = Payloader::new(spec, mode, setup.first_id).unwrap();
-    let mut depack = CodecDepacketizer::from_codec(alloc, setup.codec).unwrap();
-    depack.configure_for(&spec);
-    let mut buffer = DepacketizingBuffer::new(alloc, depack, setup.hold_back);
+    let mut payloader = payloader(&setup);
+    let mut buffer = buffer(alloc, &setup);
     let mut sink = MemorySink::new(alloc, setup.first_number);
     let run = run_schedule(
         alloc,

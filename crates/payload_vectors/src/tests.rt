@@ -1,6 +1,6 @@
 //! Whole inputs with what they print, and the faults.
 
-use crate::run::{ProgramFault, run_lines};
+use crate::run::{ProgramFault, finish, run_lines};
 use std::alloc::Global;
 use std::io;
 use std::io::{ErrorKind, Read, Write};
@@ -54,6 +54,21 @@ impl Write for FailingWriter<'_> {
     }
 }
 
+/// Keeps what is written, and cannot be flushed.
+#[derive(Drop)]
+struct UnflushedWriter<'a>(&'a mut Vec<u8>);
+
+impl Write for UnflushedWriter<'_> {
+    fn write(&mut self, buf: &[u8]) -> io::Result<usize> {
+        self.0.extend_from_slice(buf)?;
+        Ok(buf.len())
+    }
+
+    fn flush(&mut self) -> io::Result<()> {
+        Err(io::Error::from(ErrorKind::Other))
+    }
+}
+
 /// What the program prints for an input.
 fn output_for(alloc: Global, input: &str) -> Result<String, Fail> {
     let mut output = Vec::new(alloc);
@@ -76,6 +91,91 @@ fn program_tele_run(rt: HostRuntime) -> Result<(), Fail> {
     assert_eq!(rt;
         printed.as_str(),
         "refused 2\nsent 1\npacket 1 1 058a0320060a0140\nunit 1 1 1 058a0320\n"
+    );
+    Ok(())
+}
+
+/// A keyframe, and a frame that is first skipped at an MTU below 9. The skipped one has used a tl0picidx, so the second unit
+/// does not follow the first.
+#[test]
+fn program_vp9_skipped_frame(rt: HostRuntime) -> Result<(), Fail> {
+    let input =
+        "codec vp9 90000 0 1 0\nsample 0 0 824983\nsample 3000 0 8600\nsend 0 1200\nsend 1 8\nsend 1 1200\npush 0\npush 1\npop\npop\n";
+    let printed = output_for(rt.alloc(), input)?;
+    assert_eq!(rt;
+        printed.as_str(),
+        "sent 1\npacket 1 1 ae8000100100824983\nsent 0\nsent 1\npacket 2 1 ec800110038600\nunit 1 1 1 824983\nunit 2 2 0 8600\n"
+    );
+    Ok(())
+}
+
+/// VP8 with and without picture ids, and VP9 in both modes. A unit of two packets ends at the second.
+#[test]
+fn names_with_picture_ids(rt: HostRuntime) -> Result<(), Fail> {
+    for (input, output) in [
+        (
+            "codec vp8-id 90000 0 1 32\nsample 0 0 909090\nsample 3000 0 9191\nsend 0 5\nsend 1 5\npush 0\npush 1\npush 2\npop\npop\n",
+            "sent 2\npacket 1 0 9080209090\npacket 2 1 80802090\nsent 1\npacket 3 1 9080219191\nunit 1 2 1 909090\nunit 3 3 1 9191\n",
+        ),
+        (
+            "codec vp8 90000 0 1 32\nsample 0 0 909090\nsample 3000 0 9191\nsend 0 2\nsend 1 2\n",
+            "sent 3\npacket 1 0 1090\npacket 2 0 0090\npacket 3 1 0090\nsent 2\npacket 4 0 1091\npacket 5 1 0091\n",
+        ),
+        (
+            "codec vp8-id 90000 0 1 32767\nsample 0 0 90\nsend 0 5\nsend 0 5\n",
+            "sent 1\npacket 1 1 9080ffff90\nsent 1\npacket 2 1 90800090\n",
+        ),
+        (
+            "codec vp9 90000 0 1 4660\nsample 0 0 824983\nsend 0 10\npush 0\npush 1\npop\n",
+            "sent 2\npacket 1 0 aa92341001008249\npacket 2 1 a49234100183\nunit 1 2 1 824983\n",
+        ),
+        (
+            "codec vp9-flex 90000 0 1 4660\nsample 0 0 824983\nsend 0 5\npush 0\npush 1\npop\n",
+            "sent 2\npacket 1 0 9892348249\npacket 2 1 94923483\nunit 1 2 1 824983\n",
+        ),
+    ] {
+        let printed = output_for(rt.alloc(), input)?;
+        assert_eq!(rt; printed.as_str(), output, "for {input}");
+    }
+    Ok(())
+}
+
+/// Samples in the order of their lines, each sent by its own step. Packet 11 is missing: with a hold-back of 1, packet 12 waits
+/// until packet 13 is there too, and with 0 it does not wait. Packet 11 then comes too late.
+#[test]
+fn opus_hold_back(rt: HostRuntime) -> Result<(), Fail> {
+    let alloc = rt.alloc();
+    let samples = "sample 0 0 0a\nsample 960 0 0b\nsample 1920 0 0c\nsample 2880 0 0d\n";
+    let steps =
+        "send 0 9\nsend 1 9\nsend 2 9\nsend 3 9\npush 0\npop\npush 2\npop\npush 3\npop\npush 1\npop\n";
+    let sent =
+        "sent 1\npacket 10 0 0a\nsent 1\npacket 11 0 0b\nsent 1\npacket 12 0 0c\nsent 1\npacket 13 0 0d\n";
+    for (hold_back, units) in [
+        (
+            1,
+            "unit 10 10 1 0a\nnone\nunit 12 12 0 0c\nunit 13 13 1 0d\n",
+        ),
+        (
+            0,
+            "unit 10 10 1 0a\nunit 12 12 0 0c\nunit 13 13 1 0d\nnone\n",
+        ),
+    ] {
+        let input = format!(in alloc; "codec opus 48000 {hold_back} 10 0\n{samples}{steps}")?;
+        let wanted = format!(in alloc; "{sent}{units}")?;
+        let printed = output_for(alloc, &input)?;
+        assert_eq!(rt; printed.as_str(), wanted.as_str(), "with {hold_back}");
+    }
+    Ok(())
+}
+
+/// A report on a telephone event has four bytes, so five are sent and then refused.
+#[test]
+fn tele_five_bytes_fault(rt: HostRuntime) -> Result<(), Fail> {
+    let input = "codec tele 8000 0 1 0\nsample 0 0 058a032006\nsend 0 1200\npush 0\npop\npop\n";
+    let printed = output_for(rt.alloc(), input)?;
+    assert_eq!(rt;
+        printed.as_str(),
+        "sent 1\npacket 1 0 058a032006\nfault 15\nnone\n"
     );
     Ok(())
 }
@@ -167,7 +267,6 @@ fn bad_lines(rt: HostRuntime) -> Result<(), Fail> {
         ("sample 960 0 9090\ncodec opus 48000 0 10 0\n", 1),
         ("codec opus 48000 0 10 0", 1),
         ("codec speex 48000 0 10 0\n", 1),
-        ("codec vp9 90000 0 10 0\n", 1),
         ("codec Opus 48000 0 10 0\n", 1),
         ("codec opus 0 0 10 0\n", 1),
         ("codec opus 4294967296 0 10 0\n", 1),
@@ -180,6 +279,12 @@ fn bad_lines(rt: HostRuntime) -> Result<(), Fail> {
         ("codec opus 48000 0 10 0\r\n", 1),
         ("codec opus 48000 0 10 0\ncodec opus 48000 0 10 0\n", 2),
         ("codec opus 48000 0 10 0\npop", 2),
+        ("codec opus 48000 0 10 0\npush 0", 2),
+        ("codec opus 48000 0 10 0\nsend 0 1", 2),
+        ("codec opus 48000 0 10 0\nsample 0 0 90", 2),
+        ("codec vp8-ids 90000 0 10 0\n", 1),
+        ("codec vp9-id 90000 0 10 0\n", 1),
+        ("codec vp9-flex 90000 0 10 32768\n", 1),
         ("codec opus 48000 0 10 0\npop\n\n", 3),
         ("codec opus 48000 0 10 0\npull\nshove\n", 2),
         ("codec opus 48000 0 10 0\npop \n", 2),
@@ -265,6 +370,54 @@ fn program_reader_writer_fails(rt: HostRuntime) -> Result<(), Fail> {
         drop(writer);
         assert_eq!(rt; kept.as_slice(), written.as_bytes());
     }
+    Ok(())
+}
+
+/// All was written, and then the writer's flush fails.
+#[test]
+fn flush_fails(rt: HostRuntime) -> Result<(), Fail> {
+    let alloc = rt.alloc();
+    let mut kept = Vec::new(alloc);
+    let mut writer = UnflushedWriter(&mut kept);
+    let answer = run_lines(alloc, &mut FIRST_RUN.as_bytes(), &mut writer);
+    assert_eq!(rt; answer, Err(ProgramFault::Io));
+    drop(writer);
+    assert_eq!(rt; kept.as_slice(), FIRST_RUN_OUTPUT.as_bytes());
+    Ok(())
+}
+
+/// The status, and the line of messages. The status is the same where the message cannot be written.
+#[test]
+fn ends_of_the_program(rt: HostRuntime) -> Result<(), Fail> {
+    let alloc = rt.alloc();
+    for (input, status, text) in [
+        (FIRST_RUN, 0, ""),
+        ("", 2, "bad line 1\n"),
+        ("codec opus 48000 0 10 0\npull\n", 2, "bad line 2\n"),
+    ] {
+        let mut output = Vec::new(alloc);
+        let mut messages = Vec::new(alloc);
+        let answer = run_lines(alloc, &mut input.as_bytes(), &mut output);
+        assert_eq!(rt; finish(answer, &mut messages), status, "for {input}");
+        assert_eq!(rt; messages.as_slice(), text.as_bytes());
+    }
+    for (fault, status, text) in [
+        (ProgramFault::BadLine(12), 2, "bad line 12\n"),
+        (ProgramFault::TooLong, 2, "input too long\n"),
+        (ProgramFault::OutOfMemory, 1, "out of memory\n"),
+        (ProgramFault::Io, 1, "input or output failed\n"),
+    ] {
+        let mut messages = Vec::new(alloc);
+        assert_eq!(rt; finish(Err(fault), &mut messages), status);
+        assert_eq!(rt; messages.as_slice(), text.as_bytes());
+    }
+    let mut kept = Vec::new(alloc);
+    let mut failing = FailingWriter {
+        kept: &mut kept,
+        failing_call: 1,
+    };
+    let status = finish(Err(ProgramFault::TooLong), &mut failing);
+    assert_eq!(rt; status, 2);
     Ok(())
 }
 
