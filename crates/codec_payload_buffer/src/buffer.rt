@@ -131,7 +131,9 @@ impl DepacketizingBuffer {
     /// it leaves, and the turn of the next frame is looked at.
     ///
     /// A fault other than want of memory is the depacketizer's, and its frame has left; the next unit can be contiguous all
-    /// the same, since its numbers follow. On want of memory nothing has changed but what the depacketizer holds.
+    /// the same, since its numbers follow. On want of memory nothing has changed but what the depacketizer holds, and but for
+    /// frames that were passed over before. A unit of layered VP9 that lost the packets of its base layer comes without its
+    /// front, as complete, and is told contiguous where it is the first of the stream.
     ///
     /// Looks at the held packets once for each frame that it takes.
     pub fn pop(&mut self) -> Option<Result<Depacketized, PacketError>>

@@ -40,7 +40,8 @@ pub enum CodecPacketizer {
 
 impl CodecPacketizer {
     /// The packetizer of a codec, or `None` where the codec has none. `mode` and `first_id` are those of VP9: its mode,
-    /// and the picture id of the first frame.
+    /// and the picture id of the first frame, of at most 15 bits, which is asked for whatever the codec. VP8 sends no
+    /// picture ids.
     pub fn new(codec: Codec, mode: Vp9PacketizerMode, first_id: u16) -> Option<Self>
         requires { first_id ≤ 32767 }
         ensures { option_map pack_of result ≡ pack_for mode first_id codec }

@@ -94,7 +94,8 @@ impl Model for MemorySink {
 }
 
 impl MemorySink {
-    /// A sink without packets, whose first packet gets the number `first`.
+    /// A sink without packets, whose first packet gets the number `first`. It asks for at most 2^62, so that no number is
+    /// too large for 64 bits.
     pub fn new(alloc: Global, first: u64) -> Self
         requires { first ≤ 2 ^ 62 }
         ensures { result ≡ record { first = first; packets = [] } }
@@ -168,7 +169,8 @@ impl Model for Payloader {
 
 impl Payloader {
     /// A payloader for a codec, or `None` where the codec has no packetizer. Its RTP clock has the rate that the
-    /// specification gives, and payloads have the layout that it gives. `mode` and `first_id` are those of VP9: its mode, and the picture id of the first frame.
+    /// specification gives, and payloads have the layout that it gives. `mode` and `first_id` are those of VP9: its mode, and
+    /// the picture id of the first frame, of at most 15 bits, which is asked for whatever the codec.
     pub fn new(spec: CodecSpec, mode: Vp9PacketizerMode, first_id: u16) -> Option<Self>
         requires { first_id ≤ 32767 }
         ensures { result ≡ option_map (λ pack. record { pack = configured spec.octet_align pack; clock_rate = spec.clock_rate }) (pack_for mode first_id spec.codec) }

@@ -27,7 +27,8 @@ pub struct RtpMeta {
 pub struct Depacketized {
     /// The one time of its packets.
     pub time: MediaTime,
-    /// Whether it follows the unit that was released before it, with nothing lost in between.
+    /// Whether it follows the unit that was released before it: by its sequence numbers, or by its picture ids where VP8 or
+    /// VP9 told both. It is so of the first unit, unless its numbers tell it and a packet was evicted before.
     pub contiguous: bool,
     /// The unit itself.
     pub bytes: Vec<u8>,
