@@ -83,7 +83,7 @@ module _ (kind : DepackKind) (Keeps : List ℕ → CodecExtra → Type 0) (heade
       (skips : is_skipped pack mtu sample.bytes ≡ is_empty sample.bytes || leb mtu reserve) (refuses : refusal_of pack mtu sample.bytes ≡ None) (sends : units_sent pack mtu sample.bytes ≡ each_whole (sample.bytes ∷ []))
       (skipping : is_skipped pack mtu sample.bytes ≡ true → payloads ≡ [] → (after ≡ pack_after pack mtu sample.bytes) × (next_id (pack_after pack mtu sample.bytes) ≡ next_id pack))
       (sending : is_skipped pack mtu sample.bytes ≡ false → (first : List ℕ) (others : List (List ℕ)) → payloads ≡ first ∷ others
-          → (after ≡ pack_after pack mtu sample.bytes) × ((m : ℕ) → id_later (next_id after) m ≡ id_later id (1 + m))) where
+      → (after ≡ pack_after pack mtu sample.bytes) × ((m : ℕ) → id_later (next_id after) m ≡ id_later id (1 + m))) where
     roomy : (piece : List ℕ) (pieces : List (List ℕ)) → leb mtu reserve ≡ false → ArePieces (mtu - reserve) sample.bytes (piece ∷ pieces) → NoneEmpty (piece ∷ pieces) → is_skipped pack mtu sample.bytes ≡ false
     roomy piece pieces large are full =
         let frame : is_empty sample.bytes ≡ false = not_empty sample.bytes (omega (arith, full.0, ap length are.join, length-append piece (joined pieces))) in
