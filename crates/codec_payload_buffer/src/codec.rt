@@ -256,8 +256,7 @@ impl Depacketizer for CodecDepacketizer {
 
     ghost is_tail = { λ d marker payload. tail_of (depack_of d) marker payload };
 
-    fn out_size_hint(&self, packets_size: usize) -> Option<usize>
-    {
+    fn out_size_hint(&self, packets_size: usize) -> Option<usize> {
         match self {
             CodecDepacketizer::G711(d) => d.out_size_hint(packets_size),
             CodecDepacketizer::Opus(d) => d.out_size_hint(packets_size),
@@ -284,8 +283,7 @@ impl Depacketizer for CodecDepacketizer {
         self.receive(packet, out, codec_extra)
     }
 
-    fn is_partition_head(&self, packet: &[u8]) -> bool
-    {
+    fn is_partition_head(&self, packet: &[u8]) -> bool {
         match self {
             CodecDepacketizer::G711(d) => d.is_partition_head(packet),
             CodecDepacketizer::Opus(d) => d.is_partition_head(packet),
@@ -299,8 +297,7 @@ impl Depacketizer for CodecDepacketizer {
         }
     }
 
-    fn is_partition_tail(&self, marker: bool, packet: &[u8]) -> bool
-    {
+    fn is_partition_tail(&self, marker: bool, packet: &[u8]) -> bool {
         match self {
             CodecDepacketizer::G711(d) => d.is_partition_tail(marker, packet),
             CodecDepacketizer::Opus(d) => d.is_partition_tail(marker, packet),

@@ -1,50 +1,66 @@
 //! Whole runs of the codecs that are there.
 
-use crate::buffer::DepacketizingBuffer;
+ghost use Rattle.std.specs.Prelude.{◌≤◌};
+
+mod use_it;
+
+use crate::buffer::{Depacketized, DepacketizingBuffer};
 use crate::codec::{
     Av1CodecExtra, CodecDepacketizer, CodecExtra, CodecPacketizer, Depacketizer, Packetizer,
     TelephoneEvent, Vp9PacketizerMode,
 };
 use crate::payload::{MemorySink, PacketSink, Payloader};
 use crate::schedule::{Run, Step, run_schedule};
+use crate::vp8::Vp8Packetizer;
 use crate::wire::{
     Codec, CodecSpec, ExtensionValues, Frequency, MediaTime, Pt, SeqNo, Ticks, ToPayload,
 };
 use std::alloc::Global;
+use std::process::Abort;
 use std::test::Fail;
 
-/// A sample of payload type 96, at 960 ticks of 48 kHz, that starts a talk spurt.
-fn sample(alloc: Global, bytes: &[u8]) -> Result<ToPayload, Fail> {
+/// A sample of payload type 96, at that many ticks of 48 kHz, that starts a talk spurt.
+fn sample(alloc: Global, time: u64, bytes: &[u8]) -> Result<ToPayload, Fail> {
     Ok(ToPayload {
         pt: Pt::new_with_value(96),
         wallclock: Ticks(5),
-        rtp_time: MediaTime::new(960, Frequency::FORTY_EIGHT_KHZ),
+        rtp_time: MediaTime::new(time, Frequency::FORTY_EIGHT_KHZ),
         bytes: Vec::from_slice(alloc, bytes)?,
         start_of_talk_spurt: true,
         ext_vals: ExtensionValues::default(),
     })
 }
 
-/// A run over an unused sink, whose first number is 10, and an unused buffer that holds nothing back; last, how many
-/// packets the buffer holds in the end.
-fn run(
-    alloc: Global,
-    codec: Codec,
-    bytes: &[u8],
-    steps: &[Step],
-) -> Result<(MemorySink, Run, usize), Fail> {
+/// A payloader of a codec, with a clock of 8 kHz; of VP9 in that mode and with that first picture id.
+fn payloader(codec: Codec, mode: Vp9PacketizerMode, first_id: u16) -> Result<Payloader, Fail>
+    requires { first_id ≤ 32767 }
+{
     let spec = CodecSpec {
         codec,
         clock_rate: Frequency::EIGHT_KHZ,
         octet_align: false,
     };
-    let mode = Vp9PacketizerMode::NonFlexible;
-    let mut payloader = Payloader::new(spec, mode, 0).ok_or("no packetizer")?;
+    Ok(Payloader::new(spec, mode, first_id).ok_or("no packetizer")?)
+}
+
+/// A run over an unused sink, whose first number is 10, and an unused buffer that holds nothing back, of samples 960 ticks
+/// apart; last, how many packets the buffer holds in the end.
+fn run_frames(
+    alloc: Global,
+    mut payloader: Payloader,
+    codec: Codec,
+    frames: &[&[u8]],
+    steps: &[Step],
+) -> Result<(MemorySink, Run, usize), Fail> {
     let depack = CodecDepacketizer::from_codec(alloc, codec).ok_or("no depacketizer")?;
     let mut buffer = DepacketizingBuffer::new(alloc, depack, 0);
     let mut sink = MemorySink::new(alloc, 10);
     let mut samples = Vec::new(alloc);
-    samples.push(sample(alloc, bytes)?)?;
+    let mut time = 0u64;
+    for frame in frames {
+        time = time.wrapping_add(960);
+        samples.push(sample(alloc, time, frame)?)?;
+    }
     let run = run_schedule(
         alloc,
         &mut payloader,
@@ -56,19 +72,42 @@ fn run(
     Ok((sink, run, buffer.held()))
 }
 
-/// The units that were popped, each behind its length; a pop without a unit counts as 255.
-fn units(alloc: Global, run: &Run) -> Result<Vec<u8>, Fail> {
-    let mut all = Vec::new(alloc);
-    for pop in &run.pops {
-        match pop {
-            Some(Ok(unit)) => {
-                all.push((unit.bytes.len() % 255) as u8)?;
-                all.extend_from_slice(&unit.bytes)?;
+/// The same with one sample, of a codec by its default.
+fn run(
+    alloc: Global,
+    codec: Codec,
+    bytes: &[u8],
+    steps: &[Step],
+) -> Result<(MemorySink, Run, usize), Fail> {
+    let payloader = payloader(codec, Vp9PacketizerMode::NonFlexible, 0)?;
+    run_frames(alloc, payloader, codec, &[bytes], steps)
+}
+
+/// What a pop must answer.
+#[derive(Clone, Copy, Debug)]
+enum Popped<'a> {
+    /// A unit of these bytes.
+    Unit(&'a [u8]),
+    /// A fault of that number.
+    Fault(u8),
+    Nothing,
+}
+
+/// The pops of a run answered so.
+fn assert_pops(rt: &impl Abort, run: &Run, wanted: &[Popped<'_>]) {
+    assert_eq!(rt; run.pops.len(), wanted.len());
+    for (place, (pop, want)) in run.pops.iter().zip(wanted).enumerate() {
+        match (pop, want) {
+            (Some(Ok(unit)), Popped::Unit(bytes)) => {
+                assert_eq!(rt; unit.bytes.as_slice(), *bytes, "at pop {place}");
             }
-            _ => all.push(255)?,
+            (Some(Err(fault)), Popped::Fault(number)) => {
+                assert_eq!(rt; fault.number(), *number, "at pop {place}");
+            }
+            (None, Popped::Nothing) => {}
+            _ => assert!(rt; false, "pop {place} is of another kind"),
         }
     }
-    Ok(all)
 }
 
 #[test]
@@ -91,10 +130,12 @@ fn g7xx_as_opus(rt: HostRuntime) -> Result<(), Fail> {
             [0x90u8, 0x90].as_slice()
         );
         assert_eq!(rt; sink.packets()[1].payload.as_slice(), [0x90u8].as_slice());
-        assert_eq!(rt;
-            units(alloc, &done)?.as_slice(),
-            [2u8, 0x90, 0x90, 1, 0x90, 255].as_slice()
-        );
+        let units = [
+            Popped::Unit(&[0x90, 0x90]),
+            Popped::Unit(&[0x90]),
+            Popped::Nothing,
+        ];
+        assert_pops(&rt, &done, &units);
         let (empty, skipped, _) = run(
             alloc,
             codec,
@@ -121,7 +162,7 @@ fn null_empty_frame(rt: HostRuntime) -> Result<(), Fail> {
     let (sink, done, _) = run(alloc, Codec::Null, &[], &steps)?;
     assert_eq!(rt; sink.packets().len(), 1);
     assert!(rt; sink.packets()[0].payload.is_empty());
-    assert_eq!(rt; units(alloc, &done)?.as_slice(), [0u8, 255].as_slice());
+    assert_pops(&rt, &done, &[Popped::Unit(&[]), Popped::Nothing]);
     Ok(())
 }
 
@@ -150,14 +191,20 @@ fn what_packets_carry(rt: HostRuntime) -> Result<(), Fail> {
 }
 
 #[test]
-fn codecs_that_are_there(rt: HostRuntime) -> Result<(), Fail> {
+fn from_codec_eleven(rt: HostRuntime) -> Result<(), Fail> {
     let alloc = rt.alloc();
     let there = [
         Codec::Opus,
         Codec::PCMU,
         Codec::PCMA,
         Codec::G722,
+        Codec::CN,
+        Codec::AmrWb,
+        Codec::Vp8,
+        Codec::Vp9,
+        Codec::Av1,
         Codec::Null,
+        Codec::Tele,
     ];
     let absent = [
         Codec::H264,
@@ -185,18 +232,6 @@ fn codecs_that_are_there(rt: HostRuntime) -> Result<(), Fail> {
     Ok(())
 }
 
-/// The lengths of the units that were popped; a pop without a unit counts as 9,999.
-fn lengths(alloc: Global, run: &Run) -> Result<Vec<usize>, Fail> {
-    let mut all = Vec::new(alloc);
-    for pop in &run.pops {
-        all.push(match pop {
-            Some(Ok(unit)) => unit.bytes.len(),
-            _ => 9_999,
-        })?;
-    }
-    Ok(all)
-}
-
 #[test]
 fn vp8_4096_packets_reversed(rt: HostRuntime) -> Result<(), Fail> {
     let alloc = rt.alloc();
@@ -211,10 +246,8 @@ fn vp8_4096_packets_reversed(rt: HostRuntime) -> Result<(), Fail> {
     steps.push(Step::Pop)?;
     let (sink, done, held) = run(alloc, Codec::Vp8, &frame, &steps)?;
     assert_eq!(rt; sink.packets().len(), 4_096);
-    assert_eq!(rt;
-        lengths(alloc, &done)?.as_slice(),
-        [4_096usize, 9_999].as_slice()
-    );
+    assert_pops(&rt, &done, &[Popped::Unit(&frame), Popped::Nothing]);
+    assert_eq!(rt; held, 0);
     Ok(())
 }
 
@@ -230,7 +263,7 @@ fn vp8_4097_packets_evicts(rt: HostRuntime) -> Result<(), Fail> {
     steps.push(Step::Pop)?;
     let (sink, done, held) = run(alloc, Codec::Vp8, &frame, &steps)?;
     assert_eq!(rt; sink.packets().len(), 4_097);
-    assert_eq!(rt; lengths(alloc, &done)?.as_slice(), [9_999usize].as_slice());
+    assert_pops(&rt, &done, &[Popped::Nothing]);
     assert_eq!(rt; held, 4_096);
     Ok(())
 }
@@ -250,13 +283,11 @@ fn vp8_equal_times_apart(rt: HostRuntime) -> Result<(), Fail> {
     ];
     let (sink, done, held) = run(alloc, Codec::Vp8, &[0x91, 0x92], &steps)?;
     assert_eq!(rt; sink.packets().len(), 4);
+    assert_pops(&rt, &done, &[Popped::Unit(&[0x91, 0x92]), Popped::Nothing]);
     let Some(Some(Ok(unit))) = done.pops.first() else {
         return Err(Fail::from("no unit"));
     };
-    assert_eq!(rt; unit.bytes.as_slice(), [0x91u8, 0x92].as_slice());
     assert_eq!(rt; unit.seq_range(), SeqNo(12)..=SeqNo(13));
-    assert!(rt; done.pops.len() == 2);
-    assert!(rt; done.pops[1].is_none());
     assert_eq!(rt; held, 0);
     Ok(())
 }
@@ -316,10 +347,7 @@ fn av1_mtu_2_five_packets(rt: HostRuntime) -> Result<(), Fail> {
         assert_eq!(rt; packet.payload.as_slice(), payload.as_slice());
     }
     assert_eq!(rt; sink.packets().len(), payloads.len());
-    assert_eq!(rt;
-        units(alloc, &done)?.as_slice(),
-        [7u8, 0x0a, 0x01, 0xaa, 0x32, 0x02, 0xbb, 0xcc, 255].as_slice()
-    );
+    assert_pops(&rt, &done, &[Popped::Unit(frame), Popped::Nothing]);
     Ok(())
 }
 
@@ -379,5 +407,202 @@ fn a_specification_sets_the_clock_and_the_layout(rt: HostRuntime) -> Result<(), 
     let mut frame = Vec::new(alloc);
     received.depacketize(payload, &mut frame, &mut extra)?;
     assert_eq!(rt; frame.as_slice(), [0x74u8].as_slice());
+    Ok(())
+}
+
+/// Each unit of a run follows the one before it.
+fn assert_contiguous(rt: &impl Abort, run: &Run) {
+    for (place, pop) in run.pops.iter().enumerate() {
+        if let Some(Ok(unit)) = pop {
+            assert!(rt; unit.contiguous, "at pop {place}");
+        }
+    }
+}
+
+/// Sends frames at an MTU, pushes all packets in order, and pops once more than there are frames: the packets have these
+/// payloads, and the units are the frames, each contiguous.
+fn send_and_pop(
+    rt: &impl Abort,
+    alloc: Global,
+    payloader: Payloader,
+    codec: Codec,
+    frames: &[&[u8]],
+    mtu: usize,
+    payloads: &[&[u8]],
+) -> Result<Run, Fail> {
+    let mut steps = Vec::new(alloc);
+    let mut wanted = Vec::new(alloc);
+    for (place, frame) in frames.iter().enumerate() {
+        steps.push(Step::Send { sample: place, mtu })?;
+        wanted.push(Popped::Unit(frame))?;
+    }
+    for place in 0..payloads.len() {
+        steps.push(Step::Push(place))?;
+    }
+    for _ in 0..frames.len() {
+        steps.push(Step::Pop)?;
+    }
+    steps.push(Step::Pop)?;
+    wanted.push(Popped::Nothing)?;
+    let (sink, done, held) = run_frames(alloc, payloader, codec, frames, &steps)?;
+    assert_eq!(rt; sink.packets().len(), payloads.len());
+    for (place, (packet, payload)) in sink.packets().iter().zip(payloads).enumerate() {
+        assert_eq!(rt; packet.payload.as_slice(), *payload, "of packet {place}");
+    }
+    assert_pops(rt, &done, &wanted);
+    assert_contiguous(rt, &done);
+    assert_eq!(rt; held, 0);
+    Ok(done)
+}
+
+/// A payloader of VP8 with that first picture id.
+fn vp8_payloader(first_id: u16) -> Payloader
+    requires { first_id ≤ 32767 }
+{
+    let packetizer = CodecPacketizer::Vp8(Vp8Packetizer::with_picture_id(first_id));
+    Payloader::with_packetizer(packetizer, Frequency::NINETY_KHZ)
+}
+
+/// The extended picture id of a pop's unit.
+fn picture_id(run: &Run, place: usize) -> Option<u64> {
+    match &run.pops.get(place)?.as_ref()?.as_ref().ok()?.codec_extra {
+        CodecExtra::Vp8(told) => told.picture_id,
+        CodecExtra::Vp9(told) => told.picture_id,
+        _ => None,
+    }
+}
+
+#[test]
+fn vp8_id_two_frames(rt: HostRuntime) -> Result<(), Fail> {
+    let frames = [b"\x90\x90\x90".as_slice(), b"\x91\x91".as_slice()];
+    let payloads = [
+        b"\x90\x80\x20\x90\x90".as_slice(),
+        b"\x80\x80\x20\x90".as_slice(),
+        b"\x90\x80\x21\x91\x91".as_slice(),
+    ];
+    let payloader = vp8_payloader(0x20);
+    let done = send_and_pop(
+        &rt,
+        rt.alloc(),
+        payloader,
+        Codec::Vp8,
+        &frames,
+        5,
+        &payloads,
+    )?;
+    assert_eq!(rt; picture_id(&done, 0), Some(0x20));
+    assert_eq!(rt; picture_id(&done, 1), Some(0x21));
+    Ok(())
+}
+
+#[test]
+fn vp8_id_wrap_15(rt: HostRuntime) -> Result<(), Fail> {
+    let frames = [b"\x90".as_slice(), b"\x90".as_slice()];
+    let payloads = [
+        b"\x90\x80\xff\xff\x90".as_slice(),
+        b"\x90\x80\x00\x90".as_slice(),
+    ];
+    let payloader = vp8_payloader(0x7fff);
+    let done = send_and_pop(
+        &rt,
+        rt.alloc(),
+        payloader,
+        Codec::Vp8,
+        &frames,
+        5,
+        &payloads,
+    )?;
+    assert_eq!(rt; picture_id(&done, 0), Some(32_767));
+    assert_eq!(rt; picture_id(&done, 1), Some(32_768));
+    Ok(())
+}
+
+#[test]
+fn vp9_nonflex_two_packets(rt: HostRuntime) -> Result<(), Fail> {
+    let payloads = [
+        b"\xaa\x92\x34\x10\x01\x00\x82\x49".as_slice(),
+        b"\xa4\x92\x34\x10\x01\x83".as_slice(),
+    ];
+    let frames = [b"\x82\x49\x83".as_slice()];
+    let payloader = payloader(Codec::Vp9, Vp9PacketizerMode::NonFlexible, 0x1234)?;
+    let done = send_and_pop(
+        &rt,
+        rt.alloc(),
+        payloader,
+        Codec::Vp9,
+        &frames,
+        10,
+        &payloads,
+    )?;
+    assert_eq!(rt; picture_id(&done, 0), Some(0x1234));
+    Ok(())
+}
+
+#[test]
+fn vp9_flex_two_packets(rt: HostRuntime) -> Result<(), Fail> {
+    let payloads = [
+        b"\x98\x92\x34\x82\x49".as_slice(),
+        b"\x94\x92\x34\x83".as_slice(),
+    ];
+    let frames = [b"\x82\x49\x83".as_slice()];
+    let payloader = payloader(Codec::Vp9, Vp9PacketizerMode::Flexible, 0x1234)?;
+    let done = send_and_pop(
+        &rt,
+        rt.alloc(),
+        payloader,
+        Codec::Vp9,
+        &frames,
+        5,
+        &payloads,
+    )?;
+    assert_eq!(rt; picture_id(&done, 0), Some(0x1234));
+    Ok(())
+}
+
+/// A frame that no packet is sent of, since the MTU is its descriptor's length, has used a TL0PICIDX: so the frame after it
+/// does not follow, though its number does.
+#[test]
+fn vp9_skipped_frame(rt: HostRuntime) -> Result<(), Fail> {
+    let alloc = rt.alloc();
+    let frames = [b"\x82\x49\x83".as_slice(), b"\x86\x00".as_slice()];
+    let steps = [
+        Step::Send {
+            sample: 0,
+            mtu: 1_200,
+        },
+        Step::Send { sample: 1, mtu: 8 },
+        Step::Send {
+            sample: 1,
+            mtu: 1_200,
+        },
+        Step::Push(0),
+        Step::Push(1),
+        Step::Pop,
+        Step::Pop,
+    ];
+    let payloader = payloader(Codec::Vp9, Vp9PacketizerMode::NonFlexible, 0)?;
+    let (sink, done, _) = run_frames(alloc, payloader, Codec::Vp9, &frames, &steps)?;
+    let payloads = [
+        b"\xae\x80\x00\x10\x01\x00\x82\x49\x83".as_slice(),
+        b"\xec\x80\x01\x10\x03\x86\x00".as_slice(),
+    ];
+    assert_eq!(rt; sink.packets().len(), payloads.len());
+    for (packet, payload) in sink.packets().iter().zip(payloads) {
+        assert_eq!(rt; packet.payload.as_slice(), payload);
+    }
+    for (sent, count) in done.sends.iter().zip([1, 0, 1]) {
+        assert_eq!(rt; sent.count, count);
+    }
+    assert_pops(
+        &rt,
+        &done,
+        &[Popped::Unit(frames[0]), Popped::Unit(frames[1])],
+    );
+    for (pop, contiguous) in done.pops.iter().zip([true, false]) {
+        let Some(Ok(unit)) = pop else {
+            return Err(Fail::from("no unit"));
+        };
+        assert_eq!(rt; unit.contiguous, contiguous);
+    }
     Ok(())
 }

@@ -1,7 +1,7 @@
 use super::*;
 use codec_payload_audio::plain::OpusDepacketizer;
 use codec_payload_base::wire::{
-    ExtensionValues, Frequency, MediaTime, Pt, RtpHeader, SenderInfo, SeqNo, Ticks,
+    Codec, ExtensionValues, Frequency, MediaTime, Pt, RtpHeader, SenderInfo, SeqNo, Ticks,
 };
 use std::process::Abort;
 use std::test::Fail;
@@ -178,5 +178,61 @@ fn unit_tells_of_its_packets(rt: HostRuntime) -> Result<(), Fail> {
     assert_eq!(rt; unit.first_sender_info().map(|info| info.ntp_time), Some(5));
     assert_eq!(rt; unit.seq_range(), SeqNo(4)..=SeqNo(6));
     assert_eq!(rt; unit.start_of_talkspurt(), true);
+    Ok(())
+}
+
+/// An empty buffer of a codec, which holds nothing back.
+fn buffer_of(alloc: Global, codec: Codec) -> Result<DepacketizingBuffer, Fail> {
+    let depack = CodecDepacketizer::from_codec(alloc, codec).ok_or("no depacketizer")?;
+    Ok(DepacketizingBuffer::new(alloc, depack, 0))
+}
+
+/// Pushes a packet that is a frame by itself, with a time of its own.
+fn push_frame(
+    alloc: Global,
+    buffer: &mut DepacketizingBuffer,
+    number: u64,
+    payload: &[u8],
+) -> Result<(), Fail> {
+    let mut meta = meta(number, number);
+    meta.header.marker = true;
+    buffer.push(meta, Vec::from_slice(alloc, payload)?)?;
+    Ok(())
+}
+
+#[test]
+fn vp8_older_id_passed_over(rt: HostRuntime) -> Result<(), Fail> {
+    let alloc = rt.alloc();
+    let mut buffer = buffer_of(alloc, Codec::Vp8)?;
+    push_frame(alloc, &mut buffer, 1, &[0x90, 0xe0, 0x0a, 0x05, 0x00, 0x01])?;
+    let unit = buffer.pop().ok_or("no unit")??;
+    assert_eq!(rt; unit.bytes.as_slice(), [0x01u8].as_slice());
+    assert!(rt; unit.contiguous);
+    push_frame(alloc, &mut buffer, 2, &[0x90, 0xe0, 0x09, 0x05, 0x00, 0x01])?;
+    push_frame(alloc, &mut buffer, 3, &[0x90, 0xe0, 0x0b, 0x06, 0x00, 0x01])?;
+    assert_eq!(rt; pop(&mut buffer)?, Some((3, true)));
+    assert_eq!(rt; pop(&mut buffer)?, None);
+    assert_eq!(rt; buffer.held(), 0);
+    Ok(())
+}
+
+/// Keyframes that go back start again: they go out, and do not follow.
+#[test]
+fn vp9_contiguity_three_keyframes(rt: HostRuntime) -> Result<(), Fail> {
+    let alloc = rt.alloc();
+    let mut buffer = buffer_of(alloc, Codec::Vp9)?;
+    // The first byte tells of a picture id, of layers, and that a frame begins and ends; with 0x40 that it is no keyframe.
+    let frames = [
+        ([0xac, 40, 0x00, 40, 0x01], true),
+        ([0xac, 1, 0x00, 1, 0x01], false),
+        ([0xac, 1, 0x00, 1, 0x01], false),
+        ([0xec, 2, 0x00, 2, 0x01], true),
+    ];
+    for (place, (payload, contiguous)) in frames.iter().enumerate() {
+        let number = place as u64 + 1;
+        push_frame(alloc, &mut buffer, number, payload)?;
+        assert_eq!(rt; pop(&mut buffer)?, Some((number, *contiguous)));
+    }
+    assert_eq!(rt; pop(&mut buffer)?, None);
     Ok(())
 }
