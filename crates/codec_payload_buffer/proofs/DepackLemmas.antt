@@ -1,14 +1,12 @@
 -- What a depacketizer accepts, it accepts in one way.
-use Rattle.std.proofs.Common.{◌≡◌, ◌≢◌, ◌∙◌, sym, ap, ℕ, subst, List, [], ◌∷◌, ◌++◌, Result, Ok, Err, Bool, true, false, refl, length, Some, eqb, arith}
+use Rattle.std.proofs.Common.{◌≡◌, ◌∙◌, sym, ap, ℕ, subst, List, [], ◌∷◌, ◌++◌, Result, Ok, Err, Bool, true, false, refl, length, Some}
 use Rattle.std.specs.Prelude.{MatchResult}
-use Rattle.std.proofs.lemmas.Bool.Decides.{nat_tests}
 use Rattle.codec_payload_audio.specs.AmrWbReceived.{AmrWbStep}
 use Rattle.codec_payload_base.specs.Bits.{bytes_of}
 use Rattle.codec_payload_audio.specs.Payloads.{Appends, AppendsSome}
 use Rattle.codec_payload_base.specs.TelephoneReport.{TakesFirst}
 use Rattle.codec_payload_base.specs.declared.error.PacketError.{PacketError}
 use Rattle.codec_payload_base.specs.declared.interface.CodecExtra.{CodecExtra}
-use Rattle.codec_payload_buffer.proofs.CaseLemmas.{by_test}
 use Rattle.codec_payload_buffer.specs.Depack.{Depack, G711Depack, OpusDepack, ComfortNoiseDepack, TeleDepack, NullDepack, Vp8Depack, Vp9Depack, Av1Depack, AmrWbDepack, DepackStep}
 use Rattle.codec_payload_buffer.specs.Held.{Held}
 use Rattle.codec_payload_buffer.specs.Steps.{Unpacked, Unpacks}

@@ -1,5 +1,5 @@
 -- Packetizers as contracts see them, and what each call of theirs does.
-use Rattle.std.specs.Prelude.{◌≡◌, ℕ, ◌<◌, ◌^◌, List, [], ◌∷◌, Bool, true, false, Option, Some, None, IfSome, Result}
+use Rattle.std.specs.Prelude.{◌≡◌, ℕ, ◌<◌, ◌^◌, List, [], Bool, true, false, Option, Some, None, IfSome, Result}
 use Rattle.codec_payload_base.specs.Pieces.{AnswersPieces}
 use Rattle.codec_payload_audio.specs.AmrWb.{AnswersAmrWb, layout}
 use Rattle.codec_payload_audio.specs.Payloads.{AnswersItself, AnswersWhole}

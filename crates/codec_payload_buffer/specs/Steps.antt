@@ -6,7 +6,7 @@ use Rattle.codec_payload_base.specs.declared.error.PacketError.TheVariants as fa
 use Rattle.codec_payload_base.specs.declared.interface.CodecExtra.{CodecExtra}
 use Rattle.codec_payload_base.specs.declared.interface.CodecExtra.TheVariants as extras
 use Rattle.codec_payload_buffer.specs.ContiguityTable.{checked}
-use Rattle.codec_payload_buffer.specs.Depack.{Depack, DepackStep, kind_of_depack, head_of, tail_of}
+use Rattle.codec_payload_buffer.specs.Depack.{Depack, DepackStep, head_of, tail_of}
 use Rattle.codec_payload_buffer.specs.Held.{Held, number_of, has_number, placed, between, above, Rises, IsAboveCutoff}
 use Rattle.codec_payload_buffer.specs.Frames.{frames}
 use Rattle.codec_payload_buffer.specs.Release.{Release}

@@ -1,5 +1,5 @@
 -- What the payloads that were sent tell of pictures.
-use Rattle.std.proofs.Common.{◌≡◌, ◌∙◌, ap, refl, subst, ℕ, ◌+◌, ◌<◌, ◌^◌, List, [], ◌∷◌, ◌++◌, length, Bool, true, false, not, Option, Some, None, Result, Ok, Err}
+use Rattle.std.proofs.Common.{◌≡◌, ◌∙◌, ap, refl, subst, ℕ, ◌+◌, ◌<◌, ◌^◌, List, ◌∷◌, ◌++◌, length, Bool, true, false, Option, Some, Ok}
 use Rattle.codec_payload_base.specs.Extended.{extended}
 use Rattle.codec_payload_base.specs.PictureIds.{extended_by, id_bytes, take_id}
 use Rattle.codec_payload_base.specs.declared.interface.CodecExtra.{CodecExtra}

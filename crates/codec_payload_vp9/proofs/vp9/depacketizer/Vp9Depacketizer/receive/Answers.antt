@@ -1,9 +1,7 @@
-use Rattle.std.proofs.Common.{rules, ◌≡◌, sym, refl, ◌∷◌, Ok, Err}
+use Rattle.std.proofs.Common.{rules, ◌≡◌, sym, refl, ◌∷◌}
 use Rattle.std.proofs.lemmas.Result.{err_from_is_err_and}
 use Rattle.codec_payload_vp9.proofs.PayloadStepLemmas.{refused, read_whole}
 use Rattle.codec_payload_vp9.specs.Vp9Fields.{fields_of}
-use Rattle.codec_payload_vp9.specs.Vp9Reading.{all_groups}
-use Rattle.codec_payload_vp9.specs.Vp9Received.{Vp9Step}
 use Rattle.codec_payload_vp9.proofs.vp9.depacketizer.Vp9Depacketizer.receive.Goals as goal
 
 pub returns-in_err-rest : goal.returns-in_err-rest
