@@ -51,10 +51,7 @@ pub struct DepacketizingBuffer {
 }
 
 impl Model for DepacketizingBuffer {
-    ghost use Rattle.std.specs.Prelude.{map};
-    ghost use Rattle.codec_payload_buffer.specs.Held.{held_of};
     ghost use Rattle.codec_payload_buffer.specs.Steps.{State, IsSound};
-    ghost use Rattle.codec_payload_buffer.specs.Depack.{depack_of};
     ghost use Rattle.codec_payload_buffer.specs.Buffer.{state_of};
 
     ghost Value = { State };

@@ -1,6 +1,6 @@
 //! Samples cut into packets and sent to a sink.
 
-ghost use Rattle.std.specs.Prelude.{◌≡◌, ◌∷◌, ◌++◌, ◌+◌, ◌%◌, ◌^◌, ◌<◌, ◌≤◌, ◌⊎◌, ℕ, List, [], Bool, Option, length, map, option_map, vec_len, IsOk, OnOk, OnErr, IfErr, Ok, Err};
+ghost use Rattle.std.specs.Prelude.{◌≡◌, ◌∷◌, ◌++◌, ◌+◌, ◌%◌, ◌^◌, ◌<◌, ◌≤◌, ◌⊎◌, ℕ, List, [], Option, length, option_map, OnOk, IfErr, Ok};
 ghost use Rattle.std.specs.Option.{option_copied};
 ghost use Rattle.codec_payload_base.specs.declared.error.PacketError.{PacketError as Fault};
 ghost use Rattle.codec_payload_buffer.specs.Pack.{pack_of, pack_for, configured};

@@ -4,12 +4,11 @@ ghost use Rattle.std.specs.Prelude.{◌≡◌, ◌≢◌, ◌++◌, List, ◌≤
 ghost use Rattle.codec_payload_base.specs.declared.error.PacketError.TheVariants.{OutOfMemory};
 ghost use Rattle.codec_payload_core.specs.Packets.{packet_of};
 ghost use Rattle.codec_payload_buffer.specs.Pack.{pack_for};
-ghost use Rattle.codec_payload_buffer.specs.Release.{Release};
 ghost use Rattle.codec_payload_core.specs.RunOrder.{OnlySetsCount};
 ghost use Rattle.codec_payload_core.specs.RunPromises.{KeepsPromises, ran};
 ghost use Rattle.codec_payload_core.specs.RunStream.{RunsStream};
-ghost use Rattle.codec_payload_core.specs.Schedule.{run_state, SendsIt, StopsSending, DoesStep, StopsAt, Runs, Stops, Answer, after_push};
-ghost use Rattle.codec_payload_core.specs.Sending.{Sample, sample_of};
+ghost use Rattle.codec_payload_core.specs.Schedule.{run_state, SendsIt, StopsSending, DoesStep, StopsAt, Stops, Answer, after_push};
+ghost use Rattle.codec_payload_core.specs.Sending.{sample_of};
 ghost use Rattle.codec_payload_buffer.specs.Steps.{State, Pops};
 ghost use Rattle.codec_payload_core.specs.declared.schedule.Sent.{Sent as Entry};
 

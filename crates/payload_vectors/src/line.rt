@@ -1,12 +1,9 @@
 //! The lines of the input.
 
-ghost use Rattle.std.specs.Prelude.{ℕ, List, ◌≡◌, ◌∷◌, [], ◌⊎◌, ◌↔◌, ◌≤◌, ◌^◌, map, codes, IsSome, IfSome, IfOk, Some, None};
-ghost use Rattle.std.specs.List.{slice_split};
-ghost use Rattle.std.specs.Option.{SomeIff};
-ghost use Rattle.std.specs.Str.Parse.{digits_value};
+ghost use Rattle.std.specs.Prelude.{ℕ, List, ◌≡◌, ◌∷◌, [], ◌↔◌, ◌≤◌, ◌^◌, map, codes, IsSome, IfSome, IfOk, Some, None};
 ghost use Rattle.codec_payload_core.specs.Depack.{depack_for};
 ghost use Rattle.codec_payload_core.specs.Pack.{pack_for};
-ghost use Rattle.payload_vectors.specs.Fields.{AreSample, AreSetup, IsNumber};
+ghost use Rattle.payload_vectors.specs.Fields.{AreSetup};
 
 use crate::digits::hex_field;
 use crate::fields::{codec_named, count, decimal, has_vp8_ids, is_octet_aligned, truth, vp9_mode};

@@ -3,7 +3,7 @@
 ghost use Rattle.std.specs.Prelude.{◌≡◌, ◌≢◌, ◌≤◌, ◌<◌, ◌^◌, ℕ, [], length, true, false, Some, option_map, IfOk, IfErr, IfSome, OnOk};
 ghost use Rattle.codec_payload_core.specs.Depack.{configured_depack, depack_for};
 ghost use Rattle.codec_payload_core.specs.Pack.{Vp8Pack, configured, pack_for};
-ghost use Rattle.payload_vectors.specs.Program.{IsFaultOf, IsLineFault, status_of};
+ghost use Rattle.payload_vectors.specs.Program.{IsFaultOf, status_of};
 ghost use Rattle.payload_vectors.specs.declared.run.ProgramFault.TheVariants.{BadLine, OutOfMemory, TooLong};
 
 use crate::line::Setup;

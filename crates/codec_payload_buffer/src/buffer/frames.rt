@@ -2,7 +2,6 @@
 
 ghost use Rattle.std.specs.Prelude.{◌≡◌, ◌<◌, ◌^◌, ◌-◌, map, length};
 ghost use Rattle.std.specs.Option.{option_copied};
-ghost use Rattle.std.specs.VecDeque.{deque_len};
 ghost use Rattle.codec_payload_buffer.specs.Held.{held_of};
 ghost use Rattle.codec_payload_buffer.specs.Frames.{frames, leads_to, start_or_here};
 ghost use Rattle.codec_payload_buffer.specs.Scan.{first_of, joins, held_option, noted_at};
