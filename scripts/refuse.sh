@@ -1,8 +1,9 @@
 #!/bin/sh
 # Refuses each allocation of the program payload_vectors in turn, as it runs on its stored input and on one input of each
-# other codec, and checks what then comes: the whole output, with status 0 and nothing on standard error, or nothing but
-# the line `out of memory` on standard error, with status 1. The first comes where std asks for room ahead of need and,
-# refused, asks again when it stores. Needs rt and a C compiler, $CC or cc, for a C library that takes LD_PRELOAD.
+# other codec, VP8 with and without picture ids and VP9 in both modes, and checks what then comes: the whole output, with
+# status 0 and nothing on standard error, or nothing but the line `out of memory` on standard error, with status 1. The
+# first comes where std asks for room ahead of need and, refused, asks again when it stores. Needs rt and a C compiler, $CC
+# or cc, for a C library that takes LD_PRELOAD.
 set -eu
 
 root=$(cd "$(dirname "$0")/.." && pwd)
@@ -139,5 +140,8 @@ refuse_codec amrwb 4c5a5a5a5a5a 1200 0
 refuse_codec amrwb-octet 4c5a5a5a5a5a 1200 0
 refuse_codec tele 058a0320060a0140 8 0
 refuse_codec vp8 909090 2 2
+refuse_codec vp8-id 909090 5 1
+refuse_codec vp9 824983 10 1
+refuse_codec vp9-flex 824983 5 1
 refuse_codec av1 12000a01aa3202bbcc 3 2
 refuse_codec null 909090 0 0

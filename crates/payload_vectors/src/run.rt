@@ -115,7 +115,8 @@ pub fn run_lines<R: Read, W: Write>(
     Ok(())
 }
 
-/// How the program ends: the exit status. A fault is told on one line of `messages`, whether or not it can be written.
+/// Tells how the program ended: answers the exit status, and writes a fault as one line of `messages`. The status is the
+/// same where that line cannot be written.
 pub fn finish<W: Write>(answer: Result<(), ProgramFault>, messages: &mut W) -> u8
     ensures done { OnOk answer ((result ≡ 0) × (messages.new ≡ messages.old)) }
     ensures fault { IfErr answer (λ fault. result ≡ status_of fault) }
