@@ -166,6 +166,23 @@ fn null_empty_frame(rt: HostRuntime) -> Result<(), Fail> {
     Ok(())
 }
 
+/// An empty payload, as Null sends it, is no comfort noise: its frame is refused, and has left.
+#[test]
+fn cn_empty_fault(rt: HostRuntime) -> Result<(), Fail> {
+    let steps = [
+        Step::Send { sample: 0, mtu: 0 },
+        Step::Push(0),
+        Step::Pop,
+        Step::Pop,
+    ];
+    let payloader = payloader(Codec::Null, Vp9PacketizerMode::NonFlexible, 0)?;
+    let frames = [b"".as_slice()];
+    let (_, done, held) = run_frames(rt.alloc(), payloader, Codec::CN, &frames, &steps)?;
+    assert_pops(&rt, &done, &[Popped::Fault(1), Popped::Nothing]);
+    assert_eq!(rt; held, 0);
+    Ok(())
+}
+
 #[test]
 fn what_packets_carry(rt: HostRuntime) -> Result<(), Fail> {
     let alloc = rt.alloc();
