@@ -15,8 +15,8 @@ module _ (d start after : Fields) (flags : ℕ) (bytes out : List ℕ) (extra : 
       → Vp9Step d (flags ∷ bytes) out extra answer after out' extra'
   stepped answer out' extra' groups rest wanting =
       subst (λ (s : Fields). SameButGroups after (read_all s bytes).fields × (is_no_memory answer ≡ false → groups_of after ≡ (all_groups s bytes).groups)
-          × (is_no_memory answer ≡ false → Vp9Rest after (all_groups s bytes).rest out extra answer out' extra')
-          × (is_no_memory answer ≡ true → Begins (groups_of after) (all_groups s bytes).groups × (out' ≡ out) × (extra' ≡ extra))) flagged (kept, groups, rest, wanting)
+      × (is_no_memory answer ≡ false → Vp9Rest after (all_groups s bytes).rest out extra answer out' extra')
+      × (is_no_memory answer ≡ true → Begins (groups_of after) (all_groups s bytes).groups × (out' ≡ out) × (extra' ≡ extra))) flagged (kept, groups, rest, wanting)
 
   -- the descriptor is refused, or memory is
   pub refused : (fault : PacketError) → (is_no_memory {X = Unit {0}} (Err fault) ≡ false → groups_of after ≡ (all_groups start bytes).groups)

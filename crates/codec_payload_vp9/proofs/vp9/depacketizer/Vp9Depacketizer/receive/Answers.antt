@@ -18,4 +18,3 @@ returns c =
     rw packet
     (read_whole (fields_of c.args.self.now) (fields_of c.note_flags.new.self) (fields_of c.read_descriptor.new.self) c.in-Some.field-0-0.now c.in-Some.bytes.now c.args.out.now.items c.args.codec_extra.now c.note_flags.ensures c.in_ok-rest.ensures.kept
     c.in_ok-rest.rest.now c.append.result c.append.new.out.items c.append.new.codec_extra (c.in_ok-rest.ensures.groups refl) (sym (c.in_ok-rest.ensures.rest refl)) c.append.ensures.appended c.append.ensures.no_memory)
-
