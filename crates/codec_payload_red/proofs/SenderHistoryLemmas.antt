@@ -6,7 +6,7 @@ use Rattle.std.specs.Slice.{IsItemAt}
 use Rattle.std.proofs.lemmas.Option.{slice_get-map, slice_get_past, slice_get_read}
 use Rattle.std.proofs.lemmas.List.{take-map, take_more, take_more_set}
 use Rattle.codec_payload_red.specs.declared.red.sender.SentPayload.{SentPayload}
-use Rattle.codec_payload_red.specs.RedBlocks.{Finds}
+use Rattle.codec_payload_base.specs.Answers.{Finds}
 use Rattle.codec_payload_red.specs.RedHistory.{entry_of, entries_of}
 use Rattle.codec_payload_red.specs.RedLevels.{rises_above, is_accepted, deepest, back}
 

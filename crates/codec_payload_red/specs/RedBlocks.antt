@@ -40,11 +40,6 @@ abbrev pub part_of : BlockPart → Redundant → List ℕ
 part_of parts.Header b = header b
 part_of parts.Bytes b = b.bytes
 
--- Seen by view, it is what reading finds.
-abbrev pub Finds : {X Y : Type 0} → (X → Y) → Option X → Option Y → Type 0
-Finds view (Some x) read = read ≡ Some (view x)
-Finds view None read = read ≡ None
-
 -- The fault of the bytes comes where reading finds nothing, and want of memory only where it finds something.
 abbrev pub Fails : PacketError → Option Red → Type 0
 Fails faults.OutOfMemory read = is_some read ≡ true

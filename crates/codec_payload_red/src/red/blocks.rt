@@ -6,7 +6,8 @@ ghost use Rattle.std.specs.List.{flat_map};
 ghost use Rattle.codec_payload_base.specs.declared.error.PacketError.TheVariants.{ErrRedCorruptedPacket, OutOfMemory};
 ghost use Rattle.codec_payload_red.specs.RedPayload.{Red, IsRed, header_of, masked, fits, encoded, kept_of};
 ghost use Rattle.codec_payload_red.specs.RedReading.{count_at, block_at, blocks_at, red_at};
-ghost use Rattle.codec_payload_red.specs.RedBlocks.{blocks_of, blocks_in, older_of, redundant_of, Finds, Fails, Decodes, part_of, same_pt};
+ghost use Rattle.codec_payload_base.specs.Answers.{Finds};
+ghost use Rattle.codec_payload_red.specs.RedBlocks.{blocks_of, blocks_in, older_of, redundant_of, Fails, Decodes, part_of, same_pt};
 
 use codec_payload_base::error::PacketError;
 use std::alloc::{AllocError, Global};

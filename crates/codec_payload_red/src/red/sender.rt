@@ -5,7 +5,8 @@ ghost use Rattle.std.specs.List.{flat_map};
 ghost use Rattle.codec_payload_base.specs.declared.error.PacketError.TheVariants.{OutOfMemory};
 ghost use Rattle.codec_payload_red.specs.RedPayload.{IsRed, spelling};
 ghost use Rattle.codec_payload_red.specs.RedLevels.{is_accepted, deepest, back, as_block, level, levels, levels_of, within, room_of, cost, kept, wrapped, output, recorded, synced, IsLongest};
-ghost use Rattle.codec_payload_red.specs.RedBlocks.{Finds, part_of};
+ghost use Rattle.codec_payload_base.specs.Answers.{Finds};
+ghost use Rattle.codec_payload_red.specs.RedBlocks.{part_of};
 ghost use Rattle.codec_payload_red.specs.RedHistory.{entry_of, entries_of};
 
 use crate::red::blocks::{BlockPart, REDUNDANT_HEADER_LEN, fits_fields, put_part};
