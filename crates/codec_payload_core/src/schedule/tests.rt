@@ -1,5 +1,7 @@
 //! Runs of a stream that is built from one specification.
 
+ghost use Rattle.std.specs.Prelude.{◌≡◌, IfOk};
+
 use crate::codec::Vp9PacketizerMode;
 use crate::schedule::{Step, Stream, run_stream};
 use crate::wire::{Codec, CodecSpec, ExtensionValues, Frequency, MediaTime, Pt, Ticks, ToPayload};
@@ -7,7 +9,9 @@ use std::alloc::Global;
 use std::test::Fail;
 
 /// A stream of that codec with an RTP clock of 16 kHz, whose first packet has the number 7.
-fn stream_of(codec: Codec, octet_align: bool) -> Result<Stream, Fail> {
+fn stream_of(codec: Codec, octet_align: bool) -> Result<Stream, Fail>
+    ensures { IfOk result (λ stream. (stream.first_id ≡ 0) × (stream.first_number ≡ 7)) }
+{
     Ok(Stream {
         spec: CodecSpec {
             codec,
