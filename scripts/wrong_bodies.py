@@ -115,7 +115,7 @@ def check(folder, function):
 def judge(folder, function):
     """What came of a check of the edited crate: one of the three words, and the first thing that was said."""
     status, said = check(folder, function)
-    if function and re.search(r"fits (nothing|no function|several)", said):
+    if function and re.search(r"fits (nothing|no function|several)|has no function", said):
         status, said = check(folder, "")
     lines = said.rstrip("\n").split("\n")
     told = [it for it in lines if re.match(r"(note: )?\S+:\d+:\d+:", it) and (": error" in it or it.startswith("note: "))]
