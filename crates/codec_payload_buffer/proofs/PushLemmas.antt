@@ -1,10 +1,12 @@
 -- Pushes one by one keep the greatest of what was pushed.
-use Rattle.std.proofs.Common.{◌≡◌, if◌then◌else◌, ℕ, ◌<◌, ◌≤◌, ◌+◌, ◌-◌, [], ◌∷◌, ◌++◌, List, length, take, drop, refl, ap, sym, ◌∙◌, subst, arith, true, false, cond, Option, Some, None, append_assoc, inl, inr, ltb, ◌||◌}
+use Rattle.std.proofs.Common.{◌≡◌, if◌then◌else◌, ℕ, ◌<◌, ◌≤◌, ◌+◌, ◌-◌, [], ◌∷◌, ◌++◌, List, length, take, drop, refl, ap, sym, ◌∙◌, subst, arith, true, false, cond, Option, Some, None, append_assoc, inl, inr, ltb, ◌||◌, Bool}
 use Rattle.std.proofs.lemmas.Bool.{cases_lt}
 use Rattle.std.proofs.lemmas.Bool.Decides.{nat_tests}
 use Rattle.std.proofs.lemmas.List.{length-append, take-append-drop, take_at, drop_at, length-take-le}
-use Rattle.codec_payload_buffer.specs.Held.{Held, Rises, AllAbove, IsAboveCutoff, placed, has_number}
-use Rattle.codec_payload_buffer.specs.Steps.{State, pushed, kept_to_limit, without_lowest, is_at_most}
+use Rattle.codec_payload_buffer.specs.Depack.{Depack, is_built_in_depack, head_of, tail_of}
+use Rattle.codec_payload_buffer.specs.declared.buffer.unit.RtpMeta.{RtpMeta}
+use Rattle.codec_payload_buffer.specs.Held.{Held, Rises, AllAbove, IsAboveCutoff, placed, has_number, number_of, TakesLowest}
+use Rattle.codec_payload_buffer.specs.Steps.{State, IsArrived, pushed, is_dropped, kept_to_limit, without_lowest, is_at_most}
 use Rattle.codec_payload_buffer.proofs.Gathered.{gathered, last_number, is_some_left, with_kept}
 use Rattle.codec_payload_buffer.specs.Stretches.{after_pushes}
 use Rattle.codec_payload_buffer.proofs.CaseLemmas.{by_test}
@@ -190,3 +192,38 @@ pushes_keep s all (p ∷ ps) r a = ap (λ t. after_pushes t ps) (push_one s all 
 -- at each moment of a stretch the buffer holds the greatest of what was there and what was pushed since
 pub stretch_is : (s : State) (ps : List Held) → Rises s.held → IsAboveCutoff s.cutoff s.held → length s.held ≤ s.limit → after_pushes s ps ≡ with_kept s (gathered s.cutoff s.held ps)
 stretch_is s ps r a few = ap (λ t. after_pushes t ps) (sym (kept_is s [] s.held (omega (arith, few)))) ∙ pushes_keep s s.held ps r a
+
+-- a packet of which this depacketizer told whether it begins and ends a unit
+pub is_arrived : (depack here : Depack) → here ≡ depack → (meta : RtpMeta) (bytes seen again : List ℕ) → seen ≡ bytes → again ≡ bytes → (head tail : Bool)
+    → (is_built_in_depack here ≡ true → head ≡ head_of here seen) → (is_built_in_depack here ≡ true → tail ≡ tail_of here meta.header.marker again)
+    → IsArrived depack meta bytes (record { meta = meta; bytes = bytes; head = head; tail = tail })
+is_arrived depack here is meta bytes seen again one two head tail begins ends = (
+  refl,
+  refl,
+  λ built_in.
+      let b = ap is_built_in_depack is ∙ built_in in
+      ap (λ (h : Bool). record { meta = meta; bytes = bytes; head = h; tail = tail }) (begins b ∙ (ap (λ (d : Depack). head_of d seen) is ∙ ap (head_of depack) one))
+      ∙ ap (λ (t : Bool). record { meta = meta; bytes = bytes; head = head_of depack bytes; tail = t }) (ends b ∙ (ap (λ (d : Depack). tail_of d meta.header.marker again) is ∙ ap (tail_of depack meta.header.marker) two)),
+)
+
+-- a new packet is placed, and the lowest leaves where there are too many then
+new_placed : (s : State) (p : Held) → is_at_most s.cutoff (number_of p) ≡ false → has_number (number_of p) s.held ≡ false → pushed s p ≡ kept_to_limit (record s { held = placed p s.held })
+new_placed s p late fresh =
+    let kept : is_dropped s (number_of p) ≡ false = rw (late, fresh) refl in
+    ap (λ (b : Bool). cond b s (kept_to_limit (record s { held = placed p s.held }))) kept
+
+pub pushed_over : (s : State) (p : Held) (new left : List Held) (n : ℕ) → is_at_most s.cutoff (number_of p) ≡ false → has_number (number_of p) s.held ≡ false → new ≡ placed p s.held
+    → s.limit < length new → TakesLowest new n left → pushed s p ≡ record s { held = left; cutoff = Some n; mark = true }
+pushed_over s p [] left n late fresh at more takes = absurd takes
+pushed_over s p (q ∷ qs) left n late fresh at more takes =
+    new_placed s p late fresh ∙ (ap (λ (hs : List Held). kept_to_limit (record s { held = hs })) (sym at)
+    ∙ (by_test (ltb s.limit (length (q ∷ qs))) (λ b. cond b (record s { held = qs; cutoff = Some (number_of q); mark = true }) (record s { held = q ∷ qs }) ≡ record s { held = qs; cutoff = Some (number_of q); mark = true })
+    (λ e. refl) (λ e. absurd (grind (arith, nat_tests, e, more)))
+    ∙ (ap (λ (hs : List Held). record s { held = hs; cutoff = Some (number_of q); mark = true }) (sym takes.1) ∙ ap (λ (k : ℕ). record s { held = left; cutoff = Some k; mark = true }) (sym takes.0))))
+
+pub pushed_within : (s : State) (p : Held) (new : List Held) → is_at_most s.cutoff (number_of p) ≡ false → has_number (number_of p) s.held ≡ false → new ≡ placed p s.held
+    → length new ≤ s.limit → pushed s p ≡ record s { held = new }
+pushed_within s p new late fresh at few =
+    new_placed s p late fresh ∙ (ap (λ (hs : List Held). kept_to_limit (record s { held = hs })) (sym at)
+    ∙ by_test (ltb s.limit (length new)) (λ b. cond b (without_lowest (record s { held = new }) new) (record s { held = new }) ≡ record s { held = new })
+    (λ e. absurd (grind (arith, nat_tests, e, few))) (λ e. refl))

@@ -17,7 +17,7 @@ use Rattle.codec_payload_base.specs.declared.wire.Codec.TheVariants as codecs
 use Rattle.codec_payload_buffer.specs.declared.codec.CodecDepacketizer.{CodecDepacketizer}
 use Rattle.codec_payload_buffer.specs.declared.codec.CodecDepacketizer.TheVariants as variants
 
--- a depacketizer of each codec, with what it holds
+-- a depacketizer of each codec, with what it holds; of one that a caller brings in a box nothing is known
 pub data Depack : Type 0 where
   G711Depack : Depack
   OpusDepack : Depack
@@ -28,8 +28,9 @@ pub data Depack : Type 0 where
   Av1Depack : List ℕ → Depack
   AmrWbDepack : Bool → Depack
   NullDepack : Depack
+  BoxedDepack : Depack
 
-abbrev pub depack_of : CodecDepacketizer → Depack
+abbrev pub depack_of : {I : _} {D : _} → CodecDepacketizer I D → Depack
 depack_of (variants.G711 _) = G711Depack
 depack_of (variants.Opus _) = OpusDepack
 depack_of (variants.Null _) = NullDepack
@@ -39,6 +40,7 @@ depack_of (variants.ComfortNoise _) = ComfortNoiseDepack
 depack_of (variants.Tele rate) = TeleDepack rate
 depack_of (variants.Av1 pending) = Av1Depack pending
 depack_of (variants.AmrWb d) = AmrWbDepack d.octet_align
+depack_of (variants.Boxed _) = BoxedDepack
 
 -- which payloads a depacketizer reads, whatever it holds
 pub data DepackKind : Type 0 where
@@ -51,6 +53,7 @@ pub data DepackKind : Type 0 where
   Av1Payloads : DepackKind
   AmrWbPayloads : Bool → DepackKind
   NullPayloads : DepackKind
+  BoxedPayloads : DepackKind
 
 abbrev pub kind_of_depack : Depack → DepackKind
 kind_of_depack G711Depack = G711Payloads
@@ -62,6 +65,15 @@ kind_of_depack ComfortNoiseDepack = ComfortNoisePayloads
 kind_of_depack (TeleDepack rate) = TelePayloads
 kind_of_depack (Av1Depack pending) = Av1Payloads
 kind_of_depack (AmrWbDepack octet) = AmrWbPayloads octet
+kind_of_depack BoxedDepack = BoxedPayloads
+
+-- whether the payloads are those of a codec, and not of a depacketizer in a box
+abbrev pub is_codec : DepackKind → Bool
+is_codec BoxedPayloads = false
+is_codec kind = true
+
+abbrev pub is_built_in_depack : Depack → Bool
+is_built_in_depack depack = is_codec (kind_of_depack depack)
 
 -- a VP8 depacketizer that has read nothing
 abbrev pub unused_vp8 : Vp8Depacketizer
@@ -115,8 +127,10 @@ configured_depack octet rate (Vp9Depack d) = Vp9Depack d
 configured_depack octet rate (Av1Depack pending) = Av1Depack pending
 configured_depack octet rate (AmrWbDepack before) = AmrWbDepack octet
 configured_depack octet rate NullDepack = NullDepack
+configured_depack octet rate BoxedDepack = BoxedDepack
 
--- the depacketizer, the payload, the bytes and the extra before; the answer; the three afterwards
+-- the depacketizer, the payload, the bytes and the extra before; the answer; the three afterwards. One in a box may answer
+-- anything
 abbrev pub DepackStep : Depack → List ℕ → List ℕ → CodecExtra → Result ⊤ PacketError → Depack → List ℕ → CodecExtra → Type 0
 DepackStep G711Depack payload out extra answer after out' extra' = Appends payload out extra answer out' extra' × (after ≡ G711Depack)
 DepackStep OpusDepack payload out extra answer after out' extra' = Appends payload out extra answer out' extra' × (after ≡ OpusDepack)
@@ -127,8 +141,9 @@ DepackStep ComfortNoiseDepack payload out extra answer after out' extra' = Appen
 DepackStep (TeleDepack rate) payload out extra answer after out' extra' = TeleStep rate payload out extra answer out' extra' × (after ≡ TeleDepack rate)
 DepackStep (Av1Depack pending) payload out extra answer after out' extra' = (left : List ℕ) × Av1Step pending payload out extra answer left out' extra' × (after ≡ Av1Depack left)
 DepackStep (AmrWbDepack octet) payload out extra answer after out' extra' = AmrWbStep octet payload out extra answer out' extra' × (after ≡ AmrWbDepack octet)
+DepackStep BoxedDepack payload out extra answer after out' extra' = after ≡ BoxedDepack
 
--- what a depacketizer holds, as numbers
+-- what a depacketizer of a codec holds, as numbers
 abbrev pub numbers_of_depack : Depack → List ℕ
 numbers_of_depack G711Depack = []
 numbers_of_depack OpusDepack = []
@@ -139,12 +154,14 @@ numbers_of_depack ComfortNoiseDepack = []
 numbers_of_depack (TeleDepack rate) = rate ∷ []
 numbers_of_depack (Av1Depack pending) = pending
 numbers_of_depack (AmrWbDepack octet) = layout octet
+numbers_of_depack BoxedDepack = []
 
 -- the same step, with the depacketizer afterwards as its numbers
 abbrev pub DepackStepTo : Depack → List ℕ → List ℕ → CodecExtra → Result ⊤ PacketError → List ℕ → List ℕ → CodecExtra → Type 0
 DepackStepTo d payload out extra answer after out' extra' = (next : Depack) × DepackStep d payload out extra answer next out' extra' × (after ≡ numbers_of_depack next)
 
--- whether a payload begins a unit
+-- whether a payload begins a unit. Of a depacketizer in a box this is not known: nothing stands on the values that it has
+-- here, and in the two below
 abbrev pub head_in : DepackKind → List ℕ → Bool
 head_in G711Payloads payload = true
 head_in OpusPayloads payload = true
@@ -155,6 +172,7 @@ head_in ComfortNoisePayloads payload = true
 head_in TelePayloads payload = true
 head_in Av1Payloads payload = is_head payload
 head_in (AmrWbPayloads octet) payload = true
+head_in BoxedPayloads payload = false
 
 abbrev pub head_of : Depack → List ℕ → Bool
 head_of depack payload = head_in (kind_of_depack depack) payload
@@ -170,6 +188,7 @@ tail_in ComfortNoisePayloads marker payload = true
 tail_in TelePayloads marker payload = true
 tail_in Av1Payloads marker payload = marker
 tail_in (AmrWbPayloads octet) marker payload = true
+tail_in BoxedPayloads marker payload = false
 
 abbrev pub tail_of : Depack → Bool → List ℕ → Bool
 tail_of depack marker payload = tail_in (kind_of_depack depack) marker payload
@@ -185,3 +204,4 @@ hint_of ComfortNoiseDepack size = Some size
 hint_of (TeleDepack rate) size = Some (min size 4)
 hint_of (Av1Depack pending) size = Some size
 hint_of (AmrWbDepack octet) size = Some size
+hint_of BoxedDepack size = None

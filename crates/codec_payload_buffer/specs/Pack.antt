@@ -13,7 +13,7 @@ use Rattle.codec_payload_base.specs.declared.wire.Codec.TheVariants as codecs
 use Rattle.codec_payload_buffer.specs.declared.codec.CodecPacketizer.{CodecPacketizer}
 use Rattle.codec_payload_buffer.specs.declared.codec.CodecPacketizer.TheVariants as variants
 
--- a packetizer of each codec, with what it holds
+-- a packetizer of each codec, with what it holds; of one that a caller brings in a box nothing is known
 pub data Pack : Type 0 where
   G711Pack : Pack
   G722Pack : Pack
@@ -25,8 +25,9 @@ pub data Pack : Type 0 where
   Av1Pack : Pack
   AmrWbPack : Bool → Pack
   NullPack : Pack
+  BoxedPack : Pack
 
-abbrev pub pack_of : CodecPacketizer → Pack
+abbrev pub pack_of : {I : _} {D : _} → CodecPacketizer I D → Pack
 pack_of (variants.G711 _) = G711Pack
 pack_of (variants.G722 _) = G722Pack
 pack_of (variants.Opus _) = OpusPack
@@ -37,6 +38,12 @@ pack_of (variants.ComfortNoise _) = ComfortNoisePack
 pack_of (variants.Tele _) = TelePack
 pack_of (variants.Av1 _) = Av1Pack
 pack_of (variants.AmrWb p) = AmrWbPack p.octet_align
+pack_of (variants.Boxed _) = BoxedPack
+
+-- whether the packetizer is that of a codec, and not in a box
+abbrev pub is_built_in : Pack → Bool
+is_built_in BoxedPack = false
+is_built_in pack = true
 
 -- the packetizer that a codec is given, if it has one; VP9's has a mode and the picture id of its first frame
 abbrev pub pack_for : Vp9PacketizerMode → ℕ → Codec → Option Pack
@@ -70,8 +77,9 @@ configured octet (Vp9Pack sender) = Vp9Pack sender
 configured octet Av1Pack = Av1Pack
 configured octet (AmrWbPack before) = AmrWbPack octet
 configured octet NullPack = NullPack
+configured octet BoxedPack = BoxedPack
 
--- the packetizer, the MTU and the frame; the answer and the packetizer afterwards
+-- the packetizer, the MTU and the frame; the answer and the packetizer afterwards. One in a box may answer anything
 abbrev pub PackStep : Pack → ℕ → List ℕ → Result (List (List ℕ)) PacketError → Pack → Type 0
 PackStep G711Pack mtu frame answer after = AnswersPieces mtu frame answer × (after ≡ G711Pack)
 PackStep G722Pack mtu frame answer after = AnswersPieces mtu frame answer × (after ≡ G722Pack)
@@ -83,8 +91,9 @@ PackStep ComfortNoisePack mtu frame answer after = AnswersWhole mtu frame answer
 PackStep TelePack mtu frame answer after = AnswersWhole mtu frame answer × (after ≡ TelePack)
 PackStep Av1Pack mtu frame answer after = AnswersAv1 mtu frame answer × (after ≡ Av1Pack)
 PackStep (AmrWbPack octet) mtu frame answer after = AnswersAmrWb octet mtu frame answer × (after ≡ AmrWbPack octet)
+PackStep BoxedPack mtu frame answer after = after ≡ BoxedPack
 
--- what a packetizer holds, as numbers
+-- what a packetizer of a codec holds, as numbers
 abbrev pub numbers_of_pack : Pack → List ℕ
 numbers_of_pack G711Pack = []
 numbers_of_pack G722Pack = []
@@ -96,12 +105,14 @@ numbers_of_pack ComfortNoisePack = []
 numbers_of_pack TelePack = []
 numbers_of_pack Av1Pack = []
 numbers_of_pack (AmrWbPack octet) = layout octet
+numbers_of_pack BoxedPack = []
 
 -- the same step, with the packetizer afterwards as its numbers
 abbrev pub PackStepTo : Pack → ℕ → List ℕ → Result (List (List ℕ)) PacketError → List ℕ → Type 0
 PackStepTo pack mtu frame answer after = (next : Pack) × PackStep pack mtu frame answer next × (after ≡ numbers_of_pack next)
 
--- whether a packet is marked; the last argument says that it is the last of its frame
+-- whether a packet is marked; the last argument says that it is the last of its frame. Of one in a box this is not known:
+-- nothing stands on the values that it has here, and in the two below
 abbrev pub marker_of : Pack → Bool → Bool
 marker_of G711Pack last = false
 marker_of G722Pack last = false
@@ -113,6 +124,11 @@ marker_of ComfortNoisePack last = false
 marker_of TelePack last = false
 marker_of Av1Pack last = last
 marker_of (AmrWbPack octet) last = false
+marker_of BoxedPack last = false
+
+-- the same as a step, which leaves the packetizer as it is; it looks at neither packet
+abbrev pub MarkerStep : Pack → List ℕ → Option (List ℕ) → Bool → Bool → List ℕ → Type 0
+MarkerStep pack packet previous last answer after = (answer ≡ marker_of pack last) × (after ≡ numbers_of_pack pack)
 
 -- whether the marker tells where a talk spurt starts
 abbrev pub talkspurt_of : Pack → Bool
@@ -126,6 +142,7 @@ talkspurt_of ComfortNoisePack = false
 talkspurt_of TelePack = true
 talkspurt_of Av1Pack = false
 talkspurt_of (AmrWbPack octet) = true
+talkspurt_of BoxedPack = false
 
 -- whether a lost packet may be asked for again
 abbrev pub nackable_of : Pack → Bool
@@ -139,3 +156,4 @@ nackable_of ComfortNoisePack = false
 nackable_of TelePack = false
 nackable_of Av1Pack = true
 nackable_of (AmrWbPack octet) = false
+nackable_of BoxedPack = true

@@ -6,7 +6,7 @@ use Rattle.codec_payload_base.specs.declared.error.PacketError.TheVariants as fa
 use Rattle.codec_payload_base.specs.declared.interface.CodecExtra.{CodecExtra}
 use Rattle.codec_payload_base.specs.declared.interface.CodecExtra.TheVariants as extras
 use Rattle.codec_payload_buffer.specs.ContiguityTable.{checked}
-use Rattle.codec_payload_buffer.specs.Depack.{Depack, DepackStep, head_of, tail_of}
+use Rattle.codec_payload_buffer.specs.Depack.{Depack, DepackStep, is_built_in_depack, head_of, tail_of}
 use Rattle.codec_payload_buffer.specs.Held.{Held, number_of, has_number, placed, between, above, Rises, IsAboveCutoff}
 use Rattle.codec_payload_buffer.specs.Frames.{frames}
 use Rattle.codec_payload_buffer.specs.Release.{Release}
@@ -32,9 +32,13 @@ pub record IsSound (s : State) : Type 0 where
   pub above : IsAboveCutoff s.cutoff s.held
   pub few : length s.held ≤ s.limit
 
--- a packet as it is held: the depacketizer tells whether it begins and ends a unit
+-- a packet as it is held: the depacketizer of a codec tells whether it begins and ends a unit
 abbrev pub arrived : Depack → RtpMeta → List ℕ → Held
 arrived depack meta bytes = record { meta = meta; bytes = bytes; head = head_of depack bytes; tail = tail_of depack meta.header.marker bytes }
+
+-- the same of any depacketizer: one in a box may tell anything
+abbrev pub IsArrived : Depack → RtpMeta → List ℕ → Held → Type 0
+IsArrived depack meta bytes p = (p.meta ≡ meta) × (p.bytes ≡ bytes) × (is_built_in_depack depack ≡ true → p ≡ arrived depack meta bytes)
 
 -- n is at or below the cutoff
 abbrev pub is_at_most : Option ℕ → ℕ → Bool

@@ -4,9 +4,9 @@ ghost use Rattle.std.specs.Prelude.{◌≡◌, ◌≤◌, ◌<◌, IsTrue, IsOk,
 ghost use Rattle.codec_payload_base.specs.declared.error.PacketError.TheVariants.{OutOfMemory};
 ghost use Rattle.codec_payload_buffer.specs.ContiguityTable.{contiguity_for};
 ghost use Rattle.codec_payload_buffer.specs.Depack.{depack_of, kind_of_depack};
-ghost use Rattle.codec_payload_buffer.specs.Held.{Rises};
+ghost use Rattle.codec_payload_buffer.specs.Held.{Held, Rises};
 ghost use Rattle.codec_payload_buffer.specs.Frames.{AreFramesOfSet, AreInOrder, AreApart, AreOnlyList, BothSaySame};
-ghost use Rattle.codec_payload_buffer.specs.Steps.{IsSound, arrived, pushed, is_dropped, due_of, TriesFrame, Pops, HasTaken};
+ghost use Rattle.codec_payload_buffer.specs.Steps.{IsSound, IsArrived, pushed, is_dropped, due_of, TriesFrame, Pops, HasTaken};
 ghost use Rattle.codec_payload_buffer.specs.Stretches.{LeavesNumbers, OrderIsFree};
 
 pub mod frames;
@@ -91,7 +91,7 @@ impl DepacketizingBuffer {
     ///
     /// Out of order it costs a binary search and a move of entries, not of payloads.
     pub fn push(&mut self, meta: RtpMeta, data: Vec<u8>) -> Result<(), PacketError>
-        ensures ok { OnOk result (self.new ≡ pushed self.old (arrived self.old.depack meta «data».items)) }
+        ensures ok { OnOk result ((p : Held) × IsArrived self.old.depack meta «data».items p × (self.new ≡ pushed self.old p)) }
         ensures err { OnErr result (self.new ≡ self.old) }
         ensures fault { IfErr result (λ f. f ≡ OutOfMemory) }
         ensures dropped { IsTrue (is_dropped self.old meta.seq_no.0) → IsOk result }

@@ -1,10 +1,11 @@
 //! A packetizer and a depacketizer of any codec that is there.
 
-ghost use Rattle.std.specs.Prelude.{◌≡◌, ◌≤◌, option_map, IsTrue, false};
+ghost use Rattle.std.specs.Prelude.{◌≡◌, ◌≤◌, option_map, IsTrue, true, false};
+ghost use Rattle.std.specs.Option.{option_copied};
 ghost use Rattle.codec_payload_base.specs.Answers.{packets_of};
 ghost use Rattle.codec_payload_base.specs.declared.interface.Vp9PacketizerMode.TheVariants.{NonFlexible};
-ghost use Rattle.codec_payload_buffer.specs.Pack.{pack_of, pack_for, configured, PackStep, PackStepTo, numbers_of_pack, marker_of, talkspurt_of, nackable_of};
-ghost use Rattle.codec_payload_buffer.specs.Depack.{depack_of, depack_for, configured_depack, kind_of_depack, DepackStep, DepackStepTo, numbers_of_depack, head_of, tail_of, hint_of};
+ghost use Rattle.codec_payload_buffer.specs.Pack.{pack_of, pack_for, configured, is_built_in, PackStep, PackStepTo, MarkerStep, numbers_of_pack, marker_of, talkspurt_of, nackable_of};
+ghost use Rattle.codec_payload_buffer.specs.Depack.{depack_of, depack_for, configured_depack, kind_of_depack, is_built_in_depack, DepackStep, DepackStepTo, numbers_of_depack, head_of, tail_of, hint_of};
 
 use codec_payload_audio::amr_wb::{AmrWbDepacketizer, AmrWbPacketizer};
 use codec_payload_audio::plain::{
@@ -22,9 +23,10 @@ use codec_payload_base::wire::{Codec, CodecSpec};
 use codec_payload_vp8::vp8::{Vp8Depacketizer, Vp8Packetizer};
 use codec_payload_vp9::vp9::{Vp9Depacketizer, Vp9Packetizer};
 use std::alloc::Global;
+use std::fmt;
 
-/// A packetizer of a built-in codec.
-#[derive(Debug, Drop)]
+/// A packetizer of a built-in codec, or one that the caller brings.
+#[derive(Drop)]
 pub enum CodecPacketizer {
     G711(G711Packetizer),
     G722(G722Packetizer),
@@ -36,6 +38,27 @@ pub enum CodecPacketizer {
     Av1(Av1Packetizer),
     AmrWb(AmrWbPacketizer),
     Null(NullPacketizer),
+    /// One that the caller brings. Nothing is taken for granted of its answers: packets of any size are sent as they are.
+    Boxed(Box<dyn Packetizer>),
+}
+
+/// Names the codec. What is in a box is not shown.
+impl fmt::Debug for CodecPacketizer {
+    fn fmt<W: fmt::Write>(&self, f: &mut fmt::Formatter<W>) -> fmt::Result {
+        match self {
+            CodecPacketizer::G711(p) => write!(f, "G711({p:?})"),
+            CodecPacketizer::G722(p) => write!(f, "G722({p:?})"),
+            CodecPacketizer::Opus(p) => write!(f, "Opus({p:?})"),
+            CodecPacketizer::ComfortNoise(p) => write!(f, "ComfortNoise({p:?})"),
+            CodecPacketizer::Tele(p) => write!(f, "Tele({p:?})"),
+            CodecPacketizer::Vp8(p) => write!(f, "Vp8({p:?})"),
+            CodecPacketizer::Vp9(p) => write!(f, "Vp9({p:?})"),
+            CodecPacketizer::Av1(p) => write!(f, "Av1({p:?})"),
+            CodecPacketizer::AmrWb(p) => write!(f, "AmrWb({p:?})"),
+            CodecPacketizer::Null(p) => write!(f, "Null({p:?})"),
+            CodecPacketizer::Boxed(_) => write!(f, "Boxed"),
+        }
+    }
 }
 
 impl CodecPacketizer {
@@ -76,10 +99,30 @@ impl CodecPacketizer {
             p.octet_align = spec.octet_align;
         }
     }
+}
 
-    /// The packets of a frame, by the chosen packetizer.
-    fn send(&mut self, alloc: Global, mtu: usize, b: &[u8]) -> Result<Vec<Vec<u8>>, PacketError>
-        ensures { PackStep (pack_of self.old) mtu b.now (packets_of result) (pack_of self.new) }
+/// Each call is that of the chosen packetizer.
+impl Packetizer for CodecPacketizer {
+    ghost use Rattle.codec_payload_buffer.specs.declared.codec.CodecPacketizer.TheVariants.{Boxed};
+
+    ghost state = { elim [ Boxed b ↦ (Packetizer-box b).Packetizer.state b.value | p ↦ numbers_of_pack (pack_of p) ] };
+
+    ghost packetize_step = { elim [ Boxed b ↦ (Packetizer-box b).Packetizer.packetize_step b.value | p ↦ PackStepTo (pack_of p) ] };
+
+    ghost marker_step = { elim [ Boxed b ↦ (Packetizer-box b).Packetizer.marker_step b.value | p ↦ MarkerStep (pack_of p) ] };
+
+    ghost may_mark = { elim [ Boxed b ↦ (Packetizer-box b).Packetizer.may_mark b.value | p ↦ IsTrue (talkspurt_of (pack_of p)) ] };
+
+    ghost may_do_without = { elim [ Boxed b ↦ (Packetizer-box b).Packetizer.may_do_without b.value | p ↦ nackable_of (pack_of p) ≡ false ] };
+
+    fn packetize(
+        &mut self,
+        alloc: Global,
+        mtu: usize,
+        b: &[u8],
+    ) -> Result<Vec<Vec<u8>>, PacketError>
+        ensures step { ⟦<CodecPacketizer as Packetizer>⟧.packetize_step self.old mtu b.now (packets_of result) (⟦<CodecPacketizer as Packetizer>⟧.state self.new) }
+        ensures built_in { PackStep (pack_of self.old) mtu b.now (packets_of result) (pack_of self.new) }
     {
         match self {
             CodecPacketizer::G711(p) => p.packetize(alloc, mtu, b),
@@ -92,36 +135,13 @@ impl CodecPacketizer {
             CodecPacketizer::Av1(p) => p.packetize(alloc, mtu, b),
             CodecPacketizer::AmrWb(p) => p.packetize(alloc, mtu, b),
             CodecPacketizer::Null(p) => p.packetize(alloc, mtu, b),
+            CodecPacketizer::Boxed(p) => p.packetize(alloc, mtu, b),
         }
-    }
-}
-
-/// Each call is that of the chosen packetizer.
-impl Packetizer for CodecPacketizer {
-    ghost state = { λ p. numbers_of_pack (pack_of p) };
-
-    ghost packetize_step = { λ p mtu frame answer after. PackStepTo (pack_of p) mtu frame answer after };
-
-    ghost marker_step = { λ p _ _ last answer after. (answer ≡ marker_of (pack_of p) last) × (after ≡ numbers_of_pack (pack_of p)) };
-
-    ghost may_mark = { λ p. IsTrue (talkspurt_of (pack_of p)) };
-
-    ghost may_do_without = { λ p. nackable_of (pack_of p) ≡ false };
-
-    fn packetize(
-        &mut self,
-        alloc: Global,
-        mtu: usize,
-        b: &[u8],
-    ) -> Result<Vec<Vec<u8>>, PacketError>
-        ensures step { PackStepTo (pack_of self.old) mtu b.now (packets_of result) (numbers_of_pack (pack_of self.new)) }
-        ensures built_in { PackStep (pack_of self.old) mtu b.now (packets_of result) (pack_of self.new) }
-    {
-        self.send(alloc, mtu, b)
     }
 
     fn is_marker(&mut self, data: &[u8], previous: Option<&[u8]>, last: bool) -> bool
-        ensures step { (result ≡ marker_of (pack_of self.old) last) × (numbers_of_pack (pack_of self.new) ≡ numbers_of_pack (pack_of self.old)) }
+        ensures step { ⟦<CodecPacketizer as Packetizer>⟧.marker_step self.old «data».now (option_copied previous.entry) last result (⟦<CodecPacketizer as Packetizer>⟧.state self.new) }
+        ensures built_in { is_built_in (pack_of self.old) ≡ true → result ≡ marker_of (pack_of self.old) last }
         ensures same { pack_of self.new ≡ pack_of self.old }
     {
         match self {
@@ -135,11 +155,13 @@ impl Packetizer for CodecPacketizer {
             CodecPacketizer::Av1(p) => p.is_marker(data, previous, last),
             CodecPacketizer::AmrWb(p) => p.is_marker(data, previous, last),
             CodecPacketizer::Null(p) => p.is_marker(data, previous, last),
+            CodecPacketizer::Boxed(p) => p.is_marker(data, previous, last),
         }
     }
 
     fn marks_talkspurt(&self) -> bool
-        ensures { result ≡ talkspurt_of (pack_of self.now) }
+        ensures step { IsTrue result → ⟦<CodecPacketizer as Packetizer>⟧.may_mark self.now }
+        ensures built_in { is_built_in (pack_of self.now) ≡ true → result ≡ talkspurt_of (pack_of self.now) }
     {
         match self {
             CodecPacketizer::G711(p) => p.marks_talkspurt(),
@@ -152,11 +174,13 @@ impl Packetizer for CodecPacketizer {
             CodecPacketizer::Av1(p) => p.marks_talkspurt(),
             CodecPacketizer::AmrWb(p) => p.marks_talkspurt(),
             CodecPacketizer::Null(p) => p.marks_talkspurt(),
+            CodecPacketizer::Boxed(p) => p.marks_talkspurt(),
         }
     }
 
     fn nackable(&self) -> bool
-        ensures { result ≡ nackable_of (pack_of self.now) }
+        ensures step { result ≡ false → ⟦<CodecPacketizer as Packetizer>⟧.may_do_without self.now }
+        ensures built_in { is_built_in (pack_of self.now) ≡ true → result ≡ nackable_of (pack_of self.now) }
     {
         match self {
             CodecPacketizer::G711(p) => p.nackable(),
@@ -169,12 +193,13 @@ impl Packetizer for CodecPacketizer {
             CodecPacketizer::Av1(p) => p.nackable(),
             CodecPacketizer::AmrWb(p) => p.nackable(),
             CodecPacketizer::Null(p) => p.nackable(),
+            CodecPacketizer::Boxed(p) => p.nackable(),
         }
     }
 }
 
-/// A depacketizer of a built-in codec.
-#[derive(Debug, Drop)]
+/// A depacketizer of a built-in codec, or one that the caller brings.
+#[derive(Drop)]
 pub enum CodecDepacketizer {
     G711(G711Depacketizer),
     Opus(OpusDepacketizer),
@@ -185,6 +210,26 @@ pub enum CodecDepacketizer {
     Av1(Av1Depacketizer),
     AmrWb(AmrWbDepacketizer),
     Null(NullDepacketizer),
+    /// One that the caller brings. Nothing is taken for granted of its answers.
+    Boxed(Box<dyn Depacketizer>),
+}
+
+/// Names the codec. What is in a box is not shown.
+impl fmt::Debug for CodecDepacketizer {
+    fn fmt<W: fmt::Write>(&self, f: &mut fmt::Formatter<W>) -> fmt::Result {
+        match self {
+            CodecDepacketizer::G711(d) => write!(f, "G711({d:?})"),
+            CodecDepacketizer::Opus(d) => write!(f, "Opus({d:?})"),
+            CodecDepacketizer::ComfortNoise(d) => write!(f, "ComfortNoise({d:?})"),
+            CodecDepacketizer::Tele(d) => write!(f, "Tele({d:?})"),
+            CodecDepacketizer::Vp8(d) => write!(f, "Vp8({d:?})"),
+            CodecDepacketizer::Vp9(d) => write!(f, "Vp9({d:?})"),
+            CodecDepacketizer::Av1(d) => write!(f, "Av1({d:?})"),
+            CodecDepacketizer::AmrWb(d) => write!(f, "AmrWb({d:?})"),
+            CodecDepacketizer::Null(d) => write!(f, "Null({d:?})"),
+            CodecDepacketizer::Boxed(_) => write!(f, "Boxed"),
+        }
+    }
 }
 
 impl CodecDepacketizer {
@@ -219,15 +264,48 @@ impl CodecDepacketizer {
             _ => {}
         }
     }
+}
 
-    /// Takes a payload in, by the chosen depacketizer.
-    fn receive(
+/// Each call is that of the chosen depacketizer.
+impl Depacketizer for CodecDepacketizer {
+    ghost use Rattle.codec_payload_buffer.specs.declared.codec.CodecDepacketizer.TheVariants.{Boxed as BoxedIn};
+
+    ghost state = { elim [ BoxedIn b ↦ (Depacketizer-box b).Depacketizer.state b.value | d ↦ numbers_of_depack (depack_of d) ] };
+
+    ghost depacketize_step = { elim [ BoxedIn b ↦ (Depacketizer-box b).Depacketizer.depacketize_step b.value | d ↦ DepackStepTo (depack_of d) ] };
+
+    ghost size_hint = { elim [ BoxedIn b ↦ (Depacketizer-box b).Depacketizer.size_hint b.value | d ↦ hint_of (depack_of d) ] };
+
+    ghost is_head = { elim [ BoxedIn b ↦ (Depacketizer-box b).Depacketizer.is_head b.value | d ↦ head_of (depack_of d) ] };
+
+    ghost is_tail = { elim [ BoxedIn b ↦ (Depacketizer-box b).Depacketizer.is_tail b.value | d ↦ tail_of (depack_of d) ] };
+
+    fn out_size_hint(&self, packets_size: usize) -> Option<usize>
+        ensures step { result ≡ ⟦<CodecDepacketizer as Depacketizer>⟧.size_hint self.now packets_size }
+        ensures built_in { is_built_in_depack (depack_of self.now) ≡ true → result ≡ hint_of (depack_of self.now) packets_size }
+    {
+        match self {
+            CodecDepacketizer::G711(d) => d.out_size_hint(packets_size),
+            CodecDepacketizer::Opus(d) => d.out_size_hint(packets_size),
+            CodecDepacketizer::ComfortNoise(d) => d.out_size_hint(packets_size),
+            CodecDepacketizer::Tele(d) => d.out_size_hint(packets_size),
+            CodecDepacketizer::Vp8(d) => d.out_size_hint(packets_size),
+            CodecDepacketizer::Vp9(d) => d.out_size_hint(packets_size),
+            CodecDepacketizer::Av1(d) => d.out_size_hint(packets_size),
+            CodecDepacketizer::AmrWb(d) => d.out_size_hint(packets_size),
+            CodecDepacketizer::Null(d) => d.out_size_hint(packets_size),
+            CodecDepacketizer::Boxed(d) => d.out_size_hint(packets_size),
+        }
+    }
+
+    fn depacketize(
         &mut self,
         packet: &[u8],
         out: &mut Vec<u8>,
         codec_extra: &mut CodecExtra,
     ) -> Result<(), PacketError>
-        ensures step { DepackStep (depack_of self.old) packet.now out.old.items codec_extra.old result (depack_of self.new) out.new.items codec_extra.new }
+        ensures step { ⟦<CodecDepacketizer as Depacketizer>⟧.depacketize_step self.old packet.now out.old.items codec_extra.old result (⟦<CodecDepacketizer as Depacketizer>⟧.state self.new) out.new.items codec_extra.new }
+        ensures built_in { DepackStep (depack_of self.old) packet.now out.old.items codec_extra.old result (depack_of self.new) out.new.items codec_extra.new }
         ensures kind { kind_of_depack (depack_of self.new) ≡ kind_of_depack (depack_of self.old) }
     {
         match self {
@@ -240,50 +318,14 @@ impl CodecDepacketizer {
             CodecDepacketizer::Av1(d) => d.depacketize(packet, out, codec_extra),
             CodecDepacketizer::AmrWb(d) => d.depacketize(packet, out, codec_extra),
             CodecDepacketizer::Null(d) => d.depacketize(packet, out, codec_extra),
-        }
-    }
-}
-
-/// Each call is that of the chosen depacketizer.
-impl Depacketizer for CodecDepacketizer {
-    ghost state = { λ d. numbers_of_depack (depack_of d) };
-
-    ghost depacketize_step = { λ d payload out extra answer after out' extra'. DepackStepTo (depack_of d) payload out extra answer after out' extra' };
-
-    ghost size_hint = { λ d size. hint_of (depack_of d) size };
-
-    ghost is_head = { λ d payload. head_of (depack_of d) payload };
-
-    ghost is_tail = { λ d marker payload. tail_of (depack_of d) marker payload };
-
-    fn out_size_hint(&self, packets_size: usize) -> Option<usize> {
-        match self {
-            CodecDepacketizer::G711(d) => d.out_size_hint(packets_size),
-            CodecDepacketizer::Opus(d) => d.out_size_hint(packets_size),
-            CodecDepacketizer::ComfortNoise(d) => d.out_size_hint(packets_size),
-            CodecDepacketizer::Tele(d) => d.out_size_hint(packets_size),
-            CodecDepacketizer::Vp8(d) => d.out_size_hint(packets_size),
-            CodecDepacketizer::Vp9(d) => d.out_size_hint(packets_size),
-            CodecDepacketizer::Av1(d) => d.out_size_hint(packets_size),
-            CodecDepacketizer::AmrWb(d) => d.out_size_hint(packets_size),
-            CodecDepacketizer::Null(d) => d.out_size_hint(packets_size),
+            CodecDepacketizer::Boxed(d) => d.depacketize(packet, out, codec_extra),
         }
     }
 
-    fn depacketize(
-        &mut self,
-        packet: &[u8],
-        out: &mut Vec<u8>,
-        codec_extra: &mut CodecExtra,
-    ) -> Result<(), PacketError>
-        ensures step { DepackStepTo (depack_of self.old) packet.now out.old.items codec_extra.old result (numbers_of_depack (depack_of self.new)) out.new.items codec_extra.new }
-        ensures built_in { DepackStep (depack_of self.old) packet.now out.old.items codec_extra.old result (depack_of self.new) out.new.items codec_extra.new }
-        ensures kind { kind_of_depack (depack_of self.new) ≡ kind_of_depack (depack_of self.old) }
+    fn is_partition_head(&self, packet: &[u8]) -> bool
+        ensures step { result ≡ ⟦<CodecDepacketizer as Depacketizer>⟧.is_head self.now packet.now }
+        ensures built_in { is_built_in_depack (depack_of self.now) ≡ true → result ≡ head_of (depack_of self.now) packet.now }
     {
-        self.receive(packet, out, codec_extra)
-    }
-
-    fn is_partition_head(&self, packet: &[u8]) -> bool {
         match self {
             CodecDepacketizer::G711(d) => d.is_partition_head(packet),
             CodecDepacketizer::Opus(d) => d.is_partition_head(packet),
@@ -294,10 +336,14 @@ impl Depacketizer for CodecDepacketizer {
             CodecDepacketizer::Av1(d) => d.is_partition_head(packet),
             CodecDepacketizer::AmrWb(d) => d.is_partition_head(packet),
             CodecDepacketizer::Null(d) => d.is_partition_head(packet),
+            CodecDepacketizer::Boxed(d) => d.is_partition_head(packet),
         }
     }
 
-    fn is_partition_tail(&self, marker: bool, packet: &[u8]) -> bool {
+    fn is_partition_tail(&self, marker: bool, packet: &[u8]) -> bool
+        ensures step { result ≡ ⟦<CodecDepacketizer as Depacketizer>⟧.is_tail self.now marker packet.now }
+        ensures built_in { is_built_in_depack (depack_of self.now) ≡ true → result ≡ tail_of (depack_of self.now) marker packet.now }
+    {
         match self {
             CodecDepacketizer::G711(d) => d.is_partition_tail(marker, packet),
             CodecDepacketizer::Opus(d) => d.is_partition_tail(marker, packet),
@@ -308,6 +354,7 @@ impl Depacketizer for CodecDepacketizer {
             CodecDepacketizer::Av1(d) => d.is_partition_tail(marker, packet),
             CodecDepacketizer::AmrWb(d) => d.is_partition_tail(marker, packet),
             CodecDepacketizer::Null(d) => d.is_partition_tail(marker, packet),
+            CodecDepacketizer::Boxed(d) => d.is_partition_tail(marker, packet),
         }
     }
 }

@@ -2,7 +2,7 @@
 
 ghost use Rattle.std.specs.Prelude.{◌≡◌, ◌≤◌, ◌<◌, IfOk, OnOk, OnErr, map, drop, slice_range, [], min, vec_capacity};
 ghost use Rattle.std.specs.VecDeque.{deque_len};
-ghost use Rattle.codec_payload_buffer.specs.Depack.{depack_of, kind_of_depack, hint_of};
+ghost use Rattle.codec_payload_buffer.specs.Depack.{depack_of, kind_of_depack};
 ghost use Rattle.codec_payload_buffer.specs.Held.{held_of, Rises, has_number, placed, between, above, TakesLowest};
 ghost use Rattle.codec_payload_buffer.specs.Scan.{place_of, end_of, total_size, room_for};
 ghost use Rattle.codec_payload_buffer.specs.Steps.{is_at_most, starts_right_after, metas_of, Unpacks, answer_of};
@@ -148,7 +148,7 @@ pub(super) fn make_room(
     requires order { from ≤ to }
     requires within { to ≤ deque_len packets.now }
     ensures empty { IfOk result (λ bytes. bytes.items ≡ []) }
-    ensures room { IfOk result (λ bytes. vec_capacity bytes ≡ room_for (hint_of (depack_of depack.now) (min (total_size (map held_of (slice_range packets.now.items from to))) usize.MAX))) }
+    ensures room { IfOk result (λ bytes. vec_capacity bytes ≡ room_for (⟦<CodecDepacketizer as Depacketizer>⟧.size_hint depack.now (min (total_size (map held_of (slice_range packets.now.items from to))) usize.MAX))) }
 {
     match depack.out_size_hint(payload_size(packets, from, to)) {
         Some(size) => Vec::with_capacity(alloc, size),

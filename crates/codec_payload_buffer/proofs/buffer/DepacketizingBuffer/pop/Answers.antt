@@ -4,13 +4,13 @@ use Rattle.codec_payload_buffer.proofs.PopLemmas.{passes_shorter, release_shorte
 use Rattle.codec_payload_buffer.proofs.buffer.DepacketizingBuffer.pop.Goals as goal
 
 pub loop-frame-init : goal.loop-frame-init
-loop-frame-init c = record { over = []; passes = none; fewer = omega arith; limit = refl }
+loop-frame-init g c = record { over = []; passes = none; fewer = omega arith; limit = refl }
 
 pub loop-frame-smaller : goal.loop-frame-smaller
-loop-frame-smaller c = passes_shorter c.loop-frame.self c.take_frame.new.self c.due.ensures.rises (rw c.in-Ok-None.field-0-is at c.in-Ok-None.ensures.takes)
+loop-frame-smaller g c = passes_shorter c.loop-frame.self c.take_frame.new.self c.due.ensures.rises (rw c.in-Ok-None.field-0-is at c.in-Ok-None.ensures.takes)
 
 pub loop-frame-preserved : goal.loop-frame-preserved
-loop-frame-preserved c =
+loop-frame-preserved g c =
     let passed : PassesOver c.loop-frame.self c.take_frame.new.self = rw c.in-Ok-None.field-0-is at c.in-Ok-None.ensures.takes in
     record {
       over = passed.frame ∷ c.loop-frame.invariant.over;
@@ -20,13 +20,13 @@ loop-frame-preserved c =
     }
 
 pub returns-in-Ok-Some-clause-waits : goal.returns-in-Ok-Some-clause-waits
-returns-in-Ok-Some-clause-waits c = λ waits. absurd (nothing_passed c.args.self.now c.loop-frame.self c.loop-frame.invariant.over c.in-Some.frame waits c.loop-frame.invariant.passes (sym c.due.ensures.due ∙ c.in-Some.is))
+returns-in-Ok-Some-clause-waits g c = λ waits. absurd (nothing_passed c.args.self.now c.loop-frame.self c.loop-frame.invariant.over c.in-Some.frame waits c.loop-frame.invariant.passes (sym c.due.ensures.due ∙ c.in-Some.is))
 
 pub returns-in-Err-clause-waits : goal.returns-in-Err-clause-waits
-returns-in-Err-clause-waits c = λ waits. absurd (nothing_passed c.args.self.now c.loop-frame.self c.loop-frame.invariant.over c.in-Some.frame waits c.loop-frame.invariant.passes (sym c.due.ensures.due ∙ c.in-Some.is))
+returns-in-Err-clause-waits g c = λ waits. absurd (nothing_passed c.args.self.now c.loop-frame.self c.loop-frame.invariant.over c.in-Some.frame waits c.loop-frame.invariant.passes (sym c.due.ensures.due ∙ c.in-Some.is))
 
 pub returns-in-Ok-Some-clause-fewer : goal.returns-in-Ok-Some-clause-fewer
-returns-in-Ok-Some-clause-fewer c = omega (arith, c.loop-frame.invariant.fewer, release_shorter c.loop-frame.self c.take_frame.new.self c.in-Ok-Some.unit c.due.ensures.rises (rw c.in-Ok-Some.field-0-is at c.in-Ok-Some.ensures.takes))
+returns-in-Ok-Some-clause-fewer g c = omega (arith, c.loop-frame.invariant.fewer, release_shorter c.loop-frame.self c.take_frame.new.self c.in-Ok-Some.unit c.due.ensures.rises (rw c.in-Ok-Some.field-0-is at c.in-Ok-Some.ensures.takes))
 
 pub returns-in-Err-clause-fewer : goal.returns-in-Err-clause-fewer
-returns-in-Err-clause-fewer c = λ other. omega (arith, c.loop-frame.invariant.fewer, refusal_shorter c.loop-frame.self c.take_frame.new.self c.in-Err.fault c.due.ensures.rises c.in-Err.ensures.takes other)
+returns-in-Err-clause-fewer g c = λ other. omega (arith, c.loop-frame.invariant.fewer, refusal_shorter c.loop-frame.self c.take_frame.new.self c.in-Err.fault c.due.ensures.rises c.in-Err.ensures.takes other)

@@ -4,7 +4,7 @@ use Rattle.codec_payload_buffer.specs.declared.buffer.frames.Segment.{Segment}
 use Rattle.codec_payload_buffer.proofs.buffer.DepacketizingBuffer.pop.Given as goal
 
 abbrev pub invariant-loop-frame : goal.invariant-loop-frame
-invariant-loop-frame l = record {
+invariant-loop-frame g l = record {
   over : List Segment;
   -- these frames were passed over so far
   passes : Passes l.initial.self over l.self;
@@ -15,4 +15,4 @@ invariant-loop-frame l = record {
 
 -- each takes a packet with it
 abbrev pub decreases-loop-frame : goal.decreases-loop-frame
-decreases-loop-frame l = length l.self.held
+decreases-loop-frame g l = length l.self.held

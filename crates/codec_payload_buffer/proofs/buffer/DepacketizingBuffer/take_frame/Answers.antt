@@ -14,20 +14,20 @@ use Rattle.codec_payload_buffer.proofs.buffer.DepacketizingBuffer.take_frame.Goa
 use Rattle.codec_payload_buffer.proofs.buffer.DepacketizingBuffer.take_frame.Goals as goal
 
 pub frame_range-from-requires-clause-order : goal.frame_range-from-requires-clause-order
-frame_range-from-requires-clause-order c = order_due c.args.self.now c.args.frame c.requires
+frame_range-from-requires-clause-order g c = order_due c.args.self.now c.args.frame c.requires
 
 pub returns-in_err-metas-clause-takes : goal.returns-in_err-metas-clause-takes
-returns-in_err-metas-clause-takes c =
+returns-in_err-metas-clause-takes g c =
     let exit = err_from_is_err_and c.from_residual.result c.from_residual.ensures.1 in
     rw (exit.1, exit.2) (inl (refl, record { frame = c.args.frame; is_due = c.requires; depack = c.args.self.now.depack; reached = inl refl; left = refl }))
 
 pub returns-in_err-bytes-clause-takes : goal.returns-in_err-bytes-clause-takes
-returns-in_err-bytes-clause-takes c =
+returns-in_err-bytes-clause-takes g c =
     let exit = err_from_is_err_and c.from_residual-in_err-bytes.result c.from_residual-in_err-bytes.ensures.1 in
     rw (exit.1, exit.2) (inl (refl, record { frame = c.args.frame; is_due = c.requires; depack = c.args.self.now.depack; reached = inl refl; left = refl }))
 
 pub returns-then-is_out_of_memory-clause-takes : goal.returns-then-is_out_of_memory-clause-takes
-returns-then-is_out_of_memory-clause-takes c =
+returns-then-is_out_of_memory-clause-takes g c =
     let s = state_of c.self.inside in
     let due : due_of s ≡ Some c.args.frame = ap due_of c.self.view_is ∙ c.requires in
     let packets = map held_of (slice_range c.self.inside.packets.items c.frame_range-from.result.0 c.frame_range-from.result.1) in
@@ -37,12 +37,12 @@ returns-then-is_out_of_memory-clause-takes c =
     (gives_of s c.args.frame packets c.in_ok-bytes.bytes.items (Err OutOfMemory) e c.frame_range-from.ensures.part c.in_ok-bytes.ensures.empty (rw wanting at c.unpack-unpacked.ensures.unpacks))
 
 pub invariant_of-self-in_err-unpacked : goal.invariant_of-self-in_err-unpacked
-invariant_of-self-in_err-unpacked c =
+invariant_of-self-in_err-unpacked g c =
     let rest : map held_of c.drop_front.new.packets.items ≡ above c.args.frame.last (map held_of c.self.inside.packets.items) = ap (map held_of) c.drop_front.ensures ∙ c.frame_range-from.ensures.rest in
     sound_left (state_of c.self.inside) _ c.args.frame.last c.self.invariant rest refl refl
 
 pub returns-in_err-unpacked-clause-takes : goal.returns-in_err-unpacked-clause-takes
-returns-in_err-unpacked-clause-takes c =
+returns-in_err-unpacked-clause-takes g c =
     let s = state_of c.self.inside in
     let due : due_of s ≡ Some c.args.frame = ap due_of c.self.view_is ∙ c.requires in
     let packets = map held_of (slice_range c.self.inside.packets.items c.frame_range-from.result.0 c.frame_range-from.result.1) in
@@ -57,31 +57,31 @@ returns-in_err-unpacked-clause-takes c =
     rest)
 
 pub index-requires : goal.index-requires
-index-requires c =
+index-requires g c =
     let s = state_of c.self.inside in
     let due : due_of s ≡ Some c.args.frame = ap due_of c.self.view_is ∙ c.requires in
     let metas : c.in_ok-metas.metas.items ≡ metas_of (packets_of_frame s c.args.frame) = c.in_ok-metas.ensures ∙ ap metas_of c.frame_range-from.ensures.part in
     omega (arith, due_metas s c.args.frame c.in_ok-metas.metas.items c.self.invariant.rises due metas, c.in_ok-metas.metas.ok.0)
 
 pub new-requires : goal.new-requires
-new-requires c =
+new-requires g c =
     let s = state_of c.self.inside in
     let due : due_of s ≡ Some c.args.frame = ap due_of c.self.view_is ∙ c.requires in
     let metas : c.in_ok-metas.metas.items ≡ metas_of (packets_of_frame s c.args.frame) = c.in_ok-metas.ensures ∙ ap metas_of c.frame_range-from.ensures.part in
     due_metas s c.args.frame c.in_ok-metas.metas.items c.self.invariant.rises due metas
 
 pub invariant_of-self-2 : goal.invariant_of-self-2
-invariant_of-self-2 c =
+invariant_of-self-2 g c =
     let rest : map held_of c.drop_front.new.packets.items ≡ above c.args.frame.last (map held_of c.self.inside.packets.items) = ap (map held_of) c.drop_front.ensures ∙ c.frame_range-from.ensures.rest in
     sound_left (state_of c.self.inside) _ c.args.frame.last c.self.invariant rest refl refl
 
 pub invariant_of-self-then-not-may_go : goal.invariant_of-self-then-not-may_go
-invariant_of-self-then-not-may_go c =
+invariant_of-self-then-not-may_go g c =
     let rest : map held_of c.drop_front.new.packets.items ≡ above c.args.frame.last (map held_of c.self.inside.packets.items) = ap (map held_of) c.drop_front.ensures ∙ c.frame_range-from.ensures.rest in
     sound_left (state_of c.self.inside) _ c.args.frame.last c.self.invariant rest refl refl
 
 pub returns-then-not-may_go-clause-takes : goal.returns-then-not-may_go-clause-takes
-returns-then-not-may_go-clause-takes c =
+returns-then-not-may_go-clause-takes g c =
     let s = state_of c.self.inside in
     let frame = c.args.frame in
     let due : due_of s ≡ Some frame = ap due_of c.self.view_is ∙ c.requires in
@@ -99,7 +99,7 @@ returns-then-not-may_go-clause-takes c =
     test answer (ap (map held_of) c.drop_front.ensures ∙ c.frame_range-from.ensures.rest)
 
 pub returns-clause-takes : goal.returns-clause-takes
-returns-clause-takes c =
+returns-clause-takes g c =
     let s = state_of c.self.inside in
     let frame = c.args.frame in
     let due : due_of s ≡ Some frame = ap due_of c.self.view_is ∙ c.requires in

@@ -8,7 +8,7 @@ use Rattle.codec_payload_buffer.specs.Steps.{Unpacked, Unpacks}
 use Rattle.codec_payload_buffer.proofs.buffer.packets.unpack.Given as goal
 
 abbrev pub invariant-loop-packet : goal.invariant-loop-packet
-invariant-loop-packet l = record {
+invariant-loop-packet g l = record {
   -- what the rest gives from here is what all of it gives from the start
   unpacks : (answer : Result Unpacked PacketError) (e : Depack)
       → Unpacks (depack_of l.depack) (map held_of (deque_iter_rest l.packet-iterator)) (record { bytes = l.bytes.items; extra = l.codec_extra }) answer e
