@@ -6,7 +6,7 @@ use Rattle.codec_payload_buffer.specs.Steps.{State}
 use Rattle.codec_payload_buffer.specs.declared.buffer.DepacketizingBuffer.TheInside.{Inside}
 
 -- what the fields say of the buffer
-abbrev pub state_of : {I : _} {D : _} → Inside I D → State
+abbrev pub state_of : {B : _} → Inside B → State
 state_of b = record {
   held = map held_of b.packets.items;
   cutoff = b.cutoff;

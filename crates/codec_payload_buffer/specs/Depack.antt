@@ -30,7 +30,7 @@ pub data Depack : Type 0 where
   NullDepack : Depack
   BoxedDepack : Depack
 
-abbrev pub depack_of : {I : _} {D : _} → CodecDepacketizer I D → Depack
+abbrev pub depack_of : {B : _} → CodecDepacketizer B → Depack
 depack_of (variants.G711 _) = G711Depack
 depack_of (variants.Opus _) = OpusDepack
 depack_of (variants.Null _) = NullDepack

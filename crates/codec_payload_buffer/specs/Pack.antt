@@ -27,7 +27,7 @@ pub data Pack : Type 0 where
   NullPack : Pack
   BoxedPack : Pack
 
-abbrev pub pack_of : {I : _} {D : _} → CodecPacketizer I D → Pack
+abbrev pub pack_of : {B : _} → CodecPacketizer B → Pack
 pack_of (variants.G711 _) = G711Pack
 pack_of (variants.G722 _) = G722Pack
 pack_of (variants.Opus _) = OpusPack

@@ -15,7 +15,7 @@ mod packets;
 mod tests;
 mod unit;
 
-use crate::codec::{CodecDepacketizer, Depacketizer};
+use crate::codec::{CodecDepacketizer, Depacketizer, NoBox};
 use crate::contiguity::Contiguity;
 use codec_payload_base::error::PacketError;
 use codec_payload_base::interface::CodecExtra;
@@ -37,7 +37,7 @@ const HELD_LIMIT: usize = 4_096;
 /// It holds at most one packet of each sequence number. Packets at or below a cutoff, the end of the latest frame that
 /// was taken or the latest packet that was evicted, come too late and are dropped.
 #[derive(Debug, Drop)]
-pub struct DepacketizingBuffer {
+pub struct DepacketizingBuffer<B = NoBox> {
     packets: VecDeque<HeldPacket>,
     /// The number up to which packets come too late.
     cutoff: Option<u64>,
@@ -45,12 +45,12 @@ pub struct DepacketizingBuffer {
     mark: bool,
     /// The picture ids of the latest release, by which the next is judged.
     contiguity: Contiguity,
-    depack: CodecDepacketizer,
+    depack: CodecDepacketizer<B>,
     hold_back: usize,
     limit: usize,
 }
 
-impl Model for DepacketizingBuffer {
+impl<B> Model for DepacketizingBuffer<B> {
     ghost use Rattle.codec_payload_buffer.specs.Steps.{State, IsSound};
     ghost use Rattle.codec_payload_buffer.specs.Buffer.{state_of};
 
@@ -61,10 +61,10 @@ impl Model for DepacketizingBuffer {
     ghost invariant = { λ b. IsSound (state_of b) };
 }
 
-impl DepacketizingBuffer {
+impl<B: Depacketizer> DepacketizingBuffer<B> {
     /// An empty buffer over that depacketizer, with room for 4,096 packets. A frame that does not start right after the
     /// cutoff is held back until more than `hold_back` complete frames are there. Takes no memory.
-    pub fn new(alloc: Global, depack: CodecDepacketizer, hold_back: usize) -> Self
+    pub fn new(alloc: Global, depack: CodecDepacketizer<B>, hold_back: usize) -> Self
         ensures { result ≡ record {
           held = [];
           cutoff = Option.None;

@@ -7,6 +7,9 @@ ghost use Rattle.codec_payload_base.specs.declared.interface.Vp9PacketizerMode.T
 ghost use Rattle.codec_payload_buffer.specs.Pack.{pack_of, pack_for, configured, is_built_in, PackStep, PackStepTo, MarkerStep, numbers_of_pack, marker_of, talkspurt_of, nackable_of};
 ghost use Rattle.codec_payload_buffer.specs.Depack.{depack_of, depack_for, configured_depack, kind_of_depack, is_built_in_depack, DepackStep, DepackStepTo, numbers_of_depack, head_of, tail_of, hint_of};
 
+mod boxed;
+
+pub use boxed::{BoxedDepacketizer, BoxedPacketizer, NoBox};
 use codec_payload_audio::amr_wb::{AmrWbDepacketizer, AmrWbPacketizer};
 use codec_payload_audio::plain::{
     ComfortNoiseDepacketizer, ComfortNoisePacketizer, G711Depacketizer, G711Packetizer,
@@ -25,9 +28,10 @@ use codec_payload_vp9::vp9::{Vp9Depacketizer, Vp9Packetizer};
 use std::alloc::Global;
 use std::fmt;
 
-/// A packetizer of a built-in codec, or one that the caller brings.
+/// A packetizer of a built-in codec, or one that the caller brings, of type `B`: with [`NoBox`], which is the default, there
+/// is none; with [`BoxedPacketizer`] it is in a box.
 #[derive(Drop)]
-pub enum CodecPacketizer {
+pub enum CodecPacketizer<B = NoBox> {
     G711(G711Packetizer),
     G722(G722Packetizer),
     Opus(OpusPacketizer),
@@ -39,11 +43,11 @@ pub enum CodecPacketizer {
     AmrWb(AmrWbPacketizer),
     Null(NullPacketizer),
     /// One that the caller brings. Nothing is taken for granted of its answers: packets of any size are sent as they are.
-    Boxed(Box<dyn Packetizer>),
+    Boxed(B),
 }
 
 /// Names the codec. What is in a box is not shown.
-impl fmt::Debug for CodecPacketizer {
+impl<B> fmt::Debug for CodecPacketizer<B> {
     fn fmt<W: fmt::Write>(&self, f: &mut fmt::Formatter<W>) -> fmt::Result {
         match self {
             CodecPacketizer::G711(p) => write!(f, "G711({p:?})"),
@@ -90,7 +94,9 @@ impl CodecPacketizer {
     {
         CodecPacketizer::new(codec, Vp9PacketizerMode::NonFlexible, 0)
     }
+}
 
+impl<B> CodecPacketizer<B> {
     /// Takes over what a specification says of payloads: the layout of AMR-WB. Other codecs stay as they are.
     pub fn configure_for(&mut self, spec: &CodecSpec)
         ensures { pack_of self.new ≡ configured spec.now.octet_align (pack_of self.old) }
@@ -102,18 +108,18 @@ impl CodecPacketizer {
 }
 
 /// Each call is that of the chosen packetizer.
-impl Packetizer for CodecPacketizer {
+impl<B: Packetizer> Packetizer for CodecPacketizer<B> {
     ghost use Rattle.codec_payload_buffer.specs.declared.codec.CodecPacketizer.TheVariants.{Boxed};
 
-    ghost state = { elim [ Boxed b ↦ (Packetizer-box b).Packetizer.state b.value | p ↦ numbers_of_pack (pack_of p) ] };
+    ghost state = { elim [ Boxed b ↦ B.state b | p ↦ numbers_of_pack (pack_of p) ] };
 
-    ghost packetize_step = { elim [ Boxed b ↦ (Packetizer-box b).Packetizer.packetize_step b.value | p ↦ PackStepTo (pack_of p) ] };
+    ghost packetize_step = { elim [ Boxed b ↦ B.packetize_step b | p ↦ PackStepTo (pack_of p) ] };
 
-    ghost marker_step = { elim [ Boxed b ↦ (Packetizer-box b).Packetizer.marker_step b.value | p ↦ MarkerStep (pack_of p) ] };
+    ghost marker_step = { elim [ Boxed b ↦ B.marker_step b | p ↦ MarkerStep (pack_of p) ] };
 
-    ghost may_mark = { elim [ Boxed b ↦ (Packetizer-box b).Packetizer.may_mark b.value | p ↦ IsTrue (talkspurt_of (pack_of p)) ] };
+    ghost may_mark = { elim [ Boxed b ↦ B.may_mark b | p ↦ IsTrue (talkspurt_of (pack_of p)) ] };
 
-    ghost may_do_without = { elim [ Boxed b ↦ (Packetizer-box b).Packetizer.may_do_without b.value | p ↦ nackable_of (pack_of p) ≡ false ] };
+    ghost may_do_without = { elim [ Boxed b ↦ B.may_do_without b | p ↦ nackable_of (pack_of p) ≡ false ] };
 
     fn packetize(
         &mut self,
@@ -121,7 +127,7 @@ impl Packetizer for CodecPacketizer {
         mtu: usize,
         b: &[u8],
     ) -> Result<Vec<Vec<u8>>, PacketError>
-        ensures step { ⟦<CodecPacketizer as Packetizer>⟧.packetize_step self.old mtu b.now (packets_of result) (⟦<CodecPacketizer as Packetizer>⟧.state self.new) }
+        ensures step { ⟦<CodecPacketizer<B> as Packetizer>⟧.packetize_step self.old mtu b.now (packets_of result) (⟦<CodecPacketizer<B> as Packetizer>⟧.state self.new) }
         ensures built_in { PackStep (pack_of self.old) mtu b.now (packets_of result) (pack_of self.new) }
     {
         match self {
@@ -140,7 +146,7 @@ impl Packetizer for CodecPacketizer {
     }
 
     fn is_marker(&mut self, data: &[u8], previous: Option<&[u8]>, last: bool) -> bool
-        ensures step { ⟦<CodecPacketizer as Packetizer>⟧.marker_step self.old «data».now (option_copied previous.entry) last result (⟦<CodecPacketizer as Packetizer>⟧.state self.new) }
+        ensures step { ⟦<CodecPacketizer<B> as Packetizer>⟧.marker_step self.old «data».now (option_copied previous.entry) last result (⟦<CodecPacketizer<B> as Packetizer>⟧.state self.new) }
         ensures built_in { is_built_in (pack_of self.old) ≡ true → result ≡ marker_of (pack_of self.old) last }
         ensures same { pack_of self.new ≡ pack_of self.old }
     {
@@ -160,7 +166,7 @@ impl Packetizer for CodecPacketizer {
     }
 
     fn marks_talkspurt(&self) -> bool
-        ensures step { IsTrue result → ⟦<CodecPacketizer as Packetizer>⟧.may_mark self.now }
+        ensures step { IsTrue result → ⟦<CodecPacketizer<B> as Packetizer>⟧.may_mark self.now }
         ensures built_in { is_built_in (pack_of self.now) ≡ true → result ≡ talkspurt_of (pack_of self.now) }
     {
         match self {
@@ -179,7 +185,7 @@ impl Packetizer for CodecPacketizer {
     }
 
     fn nackable(&self) -> bool
-        ensures step { result ≡ false → ⟦<CodecPacketizer as Packetizer>⟧.may_do_without self.now }
+        ensures step { result ≡ false → ⟦<CodecPacketizer<B> as Packetizer>⟧.may_do_without self.now }
         ensures built_in { is_built_in (pack_of self.now) ≡ true → result ≡ nackable_of (pack_of self.now) }
     {
         match self {
@@ -198,9 +204,10 @@ impl Packetizer for CodecPacketizer {
     }
 }
 
-/// A depacketizer of a built-in codec, or one that the caller brings.
+/// A depacketizer of a built-in codec, or one that the caller brings, of type `B`: with [`NoBox`], which is the default,
+/// there is none; with [`BoxedDepacketizer`] it is in a box.
 #[derive(Drop)]
-pub enum CodecDepacketizer {
+pub enum CodecDepacketizer<B = NoBox> {
     G711(G711Depacketizer),
     Opus(OpusDepacketizer),
     ComfortNoise(ComfortNoiseDepacketizer),
@@ -211,11 +218,11 @@ pub enum CodecDepacketizer {
     AmrWb(AmrWbDepacketizer),
     Null(NullDepacketizer),
     /// One that the caller brings. Nothing is taken for granted of its answers.
-    Boxed(Box<dyn Depacketizer>),
+    Boxed(B),
 }
 
 /// Names the codec. What is in a box is not shown.
-impl fmt::Debug for CodecDepacketizer {
+impl<B> fmt::Debug for CodecDepacketizer<B> {
     fn fmt<W: fmt::Write>(&self, f: &mut fmt::Formatter<W>) -> fmt::Result {
         match self {
             CodecDepacketizer::G711(d) => write!(f, "G711({d:?})"),
@@ -252,7 +259,9 @@ impl CodecDepacketizer {
             _ => None,
         }
     }
+}
 
+impl<B> CodecDepacketizer<B> {
     /// Takes over what a specification says of payloads: the layout of AMR-WB, and the clock of telephone events. Other
     /// codecs stay as they are.
     pub fn configure_for(&mut self, spec: &CodecSpec)
@@ -267,21 +276,21 @@ impl CodecDepacketizer {
 }
 
 /// Each call is that of the chosen depacketizer.
-impl Depacketizer for CodecDepacketizer {
+impl<B: Depacketizer> Depacketizer for CodecDepacketizer<B> {
     ghost use Rattle.codec_payload_buffer.specs.declared.codec.CodecDepacketizer.TheVariants.{Boxed as BoxedIn};
 
-    ghost state = { elim [ BoxedIn b ↦ (Depacketizer-box b).Depacketizer.state b.value | d ↦ numbers_of_depack (depack_of d) ] };
+    ghost state = { elim [ BoxedIn b ↦ B.state b | d ↦ numbers_of_depack (depack_of d) ] };
 
-    ghost depacketize_step = { elim [ BoxedIn b ↦ (Depacketizer-box b).Depacketizer.depacketize_step b.value | d ↦ DepackStepTo (depack_of d) ] };
+    ghost depacketize_step = { elim [ BoxedIn b ↦ B.depacketize_step b | d ↦ DepackStepTo (depack_of d) ] };
 
-    ghost size_hint = { elim [ BoxedIn b ↦ (Depacketizer-box b).Depacketizer.size_hint b.value | d ↦ hint_of (depack_of d) ] };
+    ghost size_hint = { elim [ BoxedIn b ↦ B.size_hint b | d ↦ hint_of (depack_of d) ] };
 
-    ghost is_head = { elim [ BoxedIn b ↦ (Depacketizer-box b).Depacketizer.is_head b.value | d ↦ head_of (depack_of d) ] };
+    ghost is_head = { elim [ BoxedIn b ↦ B.is_head b | d ↦ head_of (depack_of d) ] };
 
-    ghost is_tail = { elim [ BoxedIn b ↦ (Depacketizer-box b).Depacketizer.is_tail b.value | d ↦ tail_of (depack_of d) ] };
+    ghost is_tail = { elim [ BoxedIn b ↦ B.is_tail b | d ↦ tail_of (depack_of d) ] };
 
     fn out_size_hint(&self, packets_size: usize) -> Option<usize>
-        ensures step { result ≡ ⟦<CodecDepacketizer as Depacketizer>⟧.size_hint self.now packets_size }
+        ensures step { result ≡ ⟦<CodecDepacketizer<B> as Depacketizer>⟧.size_hint self.now packets_size }
         ensures built_in { is_built_in_depack (depack_of self.now) ≡ true → result ≡ hint_of (depack_of self.now) packets_size }
     {
         match self {
@@ -304,7 +313,7 @@ impl Depacketizer for CodecDepacketizer {
         out: &mut Vec<u8>,
         codec_extra: &mut CodecExtra,
     ) -> Result<(), PacketError>
-        ensures step { ⟦<CodecDepacketizer as Depacketizer>⟧.depacketize_step self.old packet.now out.old.items codec_extra.old result (⟦<CodecDepacketizer as Depacketizer>⟧.state self.new) out.new.items codec_extra.new }
+        ensures step { ⟦<CodecDepacketizer<B> as Depacketizer>⟧.depacketize_step self.old packet.now out.old.items codec_extra.old result (⟦<CodecDepacketizer<B> as Depacketizer>⟧.state self.new) out.new.items codec_extra.new }
         ensures built_in { DepackStep (depack_of self.old) packet.now out.old.items codec_extra.old result (depack_of self.new) out.new.items codec_extra.new }
         ensures kind { kind_of_depack (depack_of self.new) ≡ kind_of_depack (depack_of self.old) }
     {
@@ -323,7 +332,7 @@ impl Depacketizer for CodecDepacketizer {
     }
 
     fn is_partition_head(&self, packet: &[u8]) -> bool
-        ensures step { result ≡ ⟦<CodecDepacketizer as Depacketizer>⟧.is_head self.now packet.now }
+        ensures step { result ≡ ⟦<CodecDepacketizer<B> as Depacketizer>⟧.is_head self.now packet.now }
         ensures built_in { is_built_in_depack (depack_of self.now) ≡ true → result ≡ head_of (depack_of self.now) packet.now }
     {
         match self {
@@ -341,7 +350,7 @@ impl Depacketizer for CodecDepacketizer {
     }
 
     fn is_partition_tail(&self, marker: bool, packet: &[u8]) -> bool
-        ensures step { result ≡ ⟦<CodecDepacketizer as Depacketizer>⟧.is_tail self.now marker packet.now }
+        ensures step { result ≡ ⟦<CodecDepacketizer<B> as Depacketizer>⟧.is_tail self.now marker packet.now }
         ensures built_in { is_built_in_depack (depack_of self.now) ≡ true → result ≡ tail_of (depack_of self.now) marker packet.now }
     {
         match self {

@@ -21,7 +21,7 @@ pub enum Contiguity {
 
 impl Contiguity {
     /// That of a buffer over a depacketizer which has released nothing.
-    pub(crate) fn of(depack: &CodecDepacketizer) -> Self
+    pub(crate) fn of<B>(depack: &CodecDepacketizer<B>) -> Self
         ensures { result ≡ contiguity_for (kind_of_depack (depack_of depack.now)) }
     {
         match depack {

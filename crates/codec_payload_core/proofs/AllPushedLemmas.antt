@@ -18,7 +18,8 @@ use Rattle.codec_payload_core.specs.Headline.{IsUnused}
 use Rattle.codec_payload_buffer.specs.Held.{has_number}
 use Rattle.codec_payload_core.specs.Packets.{Packet, AreNumbered}
 use Rattle.codec_payload_core.specs.ToldIds.{next_id, read_by}
-use Rattle.codec_payload_core.specs.Schedule.{Answer, RunState, Runs, DoesStep, SendsIt, after_push, meta_of_push, packets_sent, payloads_of}
+use Rattle.codec_payload_core.proofs.BuiltInRuns.{Runs, DoesStep, SendsIt, after_push}
+use Rattle.codec_payload_core.specs.Schedule.{Answer, RunState, meta_of_push, packets_sent, payloads_of}
 use Rattle.codec_payload_core.specs.Sending.{Sample, rtp_time_at}
 use Rattle.codec_payload_core.specs.LawfulUnits.{AllLawful}
 use Rattle.codec_payload_core.specs.SentStream.{AreReadable, SentUnit, packets_of}

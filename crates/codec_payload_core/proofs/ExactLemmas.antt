@@ -30,7 +30,8 @@ use Rattle.codec_payload_base.specs.declared.interface.Vp9PacketizerMode.{Vp9Pac
 use Rattle.codec_payload_base.specs.declared.interface.Vp9PacketizerMode.TheVariants.{Flexible, NonFlexible}
 use Rattle.codec_payload_core.specs.ToldIds.{ReadId, Tells, id_in, id_later, next_id, read_by}
 use Rattle.codec_payload_buffer.specs.Release.{Release}
-use Rattle.codec_payload_core.specs.Schedule.{Answer, RunState, Runs, after_push}
+use Rattle.codec_payload_core.proofs.BuiltInRuns.{Runs, after_push}
+use Rattle.codec_payload_core.specs.Schedule.{Answer, RunState}
 use Rattle.codec_payload_core.specs.Sending.{Sample}
 use Rattle.codec_payload_core.specs.LawfulUnits.{payloads_held, payloads_sent, AllLawful}
 use Rattle.codec_payload_core.specs.SentStream.{SentUnit, packets_of, EndsWithTail, IsReleaseOf}

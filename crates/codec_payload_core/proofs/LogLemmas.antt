@@ -9,7 +9,8 @@ use Rattle.codec_payload_core.proofs.SafetyLemmas.{send_keeps}
 use Rattle.codec_payload_core.proofs.StreamLemmas.{streams}
 use Rattle.codec_payload_core.specs.Log.{Stretch, Turn, begun, sent_before, packet_named, after_naming, IsLog}
 use Rattle.codec_payload_core.specs.Packets.{Packet}
-use Rattle.codec_payload_core.specs.Schedule.{Answer, RunState, Runs, DoesStep, SendsIt, after_push}
+use Rattle.codec_payload_core.proofs.BuiltInRuns.{Runs, DoesStep, SendsIt, after_push}
+use Rattle.codec_payload_core.specs.Schedule.{Answer, RunState}
 use Rattle.codec_payload_core.specs.Sending.{Sample}
 use Rattle.codec_payload_core.specs.SentStream.{packets_of}
 use Rattle.codec_payload_buffer.specs.Steps.{State, PopsOver}

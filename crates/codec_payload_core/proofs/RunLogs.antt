@@ -21,9 +21,10 @@ use Rattle.codec_payload_buffer.specs.Held.{Held}
 use Rattle.codec_payload_core.specs.Log.{begun, IsLog, RunLog}
 use Rattle.codec_payload_core.specs.Packets.{Packet, AreNumbered}
 use Rattle.codec_payload_core.specs.RunOrder.{AreStretches, IsOrderFree, AllFollowAsSaid, IsContiguousAsSaid, bare_answer, OnlySetsCount}
-use Rattle.codec_payload_core.specs.RunPromises.{Ran, KeepsPromises, RunsAsSteps}
+use Rattle.codec_payload_core.specs.RunPromises.{Ran, IsFresh, KeepsPromises, RunsAsSteps}
 use Rattle.codec_payload_core.specs.RunUnits.{LosesNoneSilently, PassesNoneOver, PassesOnlyPastGap, FirstIsWhole, NoneEvicted, AreNext, BeginsAsSent}
-use Rattle.codec_payload_core.specs.Schedule.{Answer, RunState, Runs}
+use Rattle.codec_payload_core.proofs.BuiltInRuns.{Runs, unused_exactly}
+use Rattle.codec_payload_core.specs.Schedule.{Answer, RunState}
 use Rattle.codec_payload_core.specs.Sending.{Sample}
 use Rattle.codec_payload_core.specs.LawfulUnits.{AllLawful}
 use Rattle.codec_payload_core.specs.SentStream.{AreReadable, SentUnit, packets_of, EndsWithTail}
@@ -166,28 +167,31 @@ module _ (samples : List Sample) (all_steps : List Step) (s t : RunState) (sends
 -- two runs over the same packets
 pub only_sets_count : OnlySetsCount
 only_sets_count samples all_steps other_steps s t u sends other_sends pops other_pops run other_run packets unused readable log other same =
-    let setting_of_log = setting samples all_steps s t sends pops run unused readable log in
-    let ready_of_log = ready samples all_steps s t sends pops run unused readable log in
-    let beyond = fresh other_steps s log.released.units log.lawful (numbered samples all_steps s t sends pops run unused readable log) unused in
+    let exactly = unused_exactly samples all_steps s sends pops t unused run in
+    let setting_of_log = setting samples all_steps s t sends pops exactly unused readable log in
+    let ready_of_log = ready samples all_steps s t sends pops exactly unused readable log in
+    let beyond = fresh other_steps s log.released.units log.lawful (numbered samples all_steps s t sends pops exactly unused readable log) unused in
     let ready_of_other : IsReady (record setting_of_log { all_steps = other_steps }) 0 s.buffer = record { beyond = beyond; few = ready_of_log.few } in
     let other_log : IsLog (packets_of log.released.units) s.payloading.clock_rate other_sends 0 other_steps (begun s.buffer) other.turns other.end =
     subst (λ (ps : List Packet). IsLog ps s.payloading.clock_rate other_sends 0 other_steps (begun s.buffer) other.turns other.end) (sym (log.released.packets ∙ packets)) other.is_log in
     let other_chain = chain_of (record setting_of_log { all_steps = other_steps }) other_sends other_steps 0 (begun s.buffer) other.turns other.end refl 0 beyond (record { sent = tt; now = refl }) other_log in
     ap (map bare_answer) (sym log.answers)
-    ∙ chains_same setting_of_log other_steps 0 0 s.buffer s.buffer log.turns other.turns log.end other.end ready_of_log ready_of_other refl (chain samples all_steps s t sends pops run unused readable log) other_chain same
+    ∙ chains_same setting_of_log other_steps 0 0 s.buffer s.buffer log.turns other.turns log.end other.end ready_of_log ready_of_other refl (chain samples all_steps s t sends pops exactly unused readable log) other_chain same
     ∙ ap (map bare_answer) other.answers
 
 -- what is promised of a run follows from its steps alone
 pub promises : (r : Ran) → RunsAsSteps r → KeepsPromises r
-promises r run = record {
-  run_as_steps = run;
-  safety_half = λ is. safe r.samples r.steps r.before r.after r.sends r.pops run is.0 is.1;
-  exact_half = λ is. exact r.samples r.steps r.before r.after r.sends r.pops run is.0 is.1;
-  logged = λ is. logged r.samples r.steps r.before r.after r.sends r.pops run is.0 is.1;
-  order = λ is log. order_free r.samples r.steps r.before r.after r.sends r.pops run is.0 is.1 log;
-  contiguous = λ is log. contiguous_as_said r.samples r.steps r.before r.after r.sends r.pops run is.0 is.1 log;
-  no_silent_loss = λ is log. loses_none_silently r.samples r.steps r.before r.after r.sends r.pops run is.0 is.1 log;
-  none_passed_over = λ is log. passes_none_over r.samples r.steps r.before r.after r.sends r.pops run is.0 is.1 log;
-  passed_over = λ is log. passes_only_past_gap r.samples r.steps r.before r.after r.sends r.pops run is.0 is.1 log;
-  beginning = λ is log. begins_as_sent r.samples r.steps r.before r.after r.sends r.pops run is.0 is.1 log;
-}
+promises r run =
+    let exactly : IsFresh r → Runs r.samples 0 r.steps r.before r.sends r.pops r.after = λ is. unused_exactly r.samples r.steps r.before r.sends r.pops r.after is.0 run in
+    record {
+      run_as_steps = run;
+      safety_half = λ is. safe r.samples r.steps r.before r.after r.sends r.pops (exactly is) is.0 is.1;
+      exact_half = λ is. exact r.samples r.steps r.before r.after r.sends r.pops (exactly is) is.0 is.1;
+      logged = λ is. logged r.samples r.steps r.before r.after r.sends r.pops (exactly is) is.0 is.1;
+      order = λ is log. order_free r.samples r.steps r.before r.after r.sends r.pops (exactly is) is.0 is.1 log;
+      contiguous = λ is log. contiguous_as_said r.samples r.steps r.before r.after r.sends r.pops (exactly is) is.0 is.1 log;
+      no_silent_loss = λ is log. loses_none_silently r.samples r.steps r.before r.after r.sends r.pops (exactly is) is.0 is.1 log;
+      none_passed_over = λ is log. passes_none_over r.samples r.steps r.before r.after r.sends r.pops (exactly is) is.0 is.1 log;
+      passed_over = λ is log. passes_only_past_gap r.samples r.steps r.before r.after r.sends r.pops (exactly is) is.0 is.1 log;
+      beginning = λ is log. begins_as_sent r.samples r.steps r.before r.after r.sends r.pops (exactly is) is.0 is.1 log;
+    }

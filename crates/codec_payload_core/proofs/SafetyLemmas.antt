@@ -18,7 +18,8 @@ use Rattle.codec_payload_core.specs.Headline.{IsPushOf, ArePushesOf, packets_bef
 use Rattle.codec_payload_buffer.specs.Held.{Held, Rises, IsAboveCutoff, placed, above, between, has_number}
 use Rattle.codec_payload_core.specs.Packets.{Packet, AreNumbered}
 use Rattle.codec_payload_buffer.specs.Release.{Release}
-use Rattle.codec_payload_core.specs.Schedule.{Answer, RunState, Runs, DoesStep, SendsIt, after_push, meta_of_push}
+use Rattle.codec_payload_core.proofs.BuiltInRuns.{Runs, DoesStep, SendsIt, after_push}
+use Rattle.codec_payload_core.specs.Schedule.{Answer, RunState, meta_of_push}
 use Rattle.codec_payload_core.specs.Sending.{Sample}
 use Rattle.codec_payload_core.specs.LawfulUnits.{StartsWithHead, IsLawful, AllLawful}
 use Rattle.codec_payload_core.specs.SentStream.{AreReadable, SentUnit, packets_of, AllEndWithTail, IsReleaseOf}

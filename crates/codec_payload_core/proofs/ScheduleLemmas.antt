@@ -1,14 +1,17 @@
 -- What a sent sample leaves, as a step of a run.
-use Rattle.std.proofs.Common.{◌≡◌, ◌≢◌, ◌∙◌, sym, ap, refl, subst, ℕ, suc, ◌+◌, ◌-◌, ◌<◌, ◌%◌, ◌^◌, ◌⊎◌, inl, inr, List, [], ◌∷◌, ◌++◌, length, arith, length-append, Some, None, Result, Ok, Err, OnOk, OnErr}
+use Rattle.std.proofs.Common.{◌≡◌, ◌≢◌, ◌∙◌, sym, ap, refl, subst, ℕ, suc, ◌+◌, ◌-◌, ◌<◌, ◌%◌, ◌^◌, ◌⊎◌, inl, inr, List, [], ◌∷◌, ◌++◌, length, arith, length-append, Some, None, Result, Ok, Err, OnOk, OnErr, IfErr}
 use Rattle.std.proofs.lemmas.List.{append-nil}
 use Rattle.codec_payload_base.specs.declared.error.PacketError.{PacketError}
 use Rattle.codec_payload_base.specs.declared.error.PacketError.TheVariants as faults
-use Rattle.codec_payload_buffer.specs.Pack.{Pack, PackStep}
+use Rattle.codec_payload_buffer.specs.Pack.{Pack, PackStep, is_built_in}
 use Rattle.codec_payload_core.specs.Packets.{Packet, SentPackets}
 use Rattle.codec_payload_core.specs.Sending.{Sample, Payloading, packets_for, rtp_time_at, SendsSample, SendsBeginning, SendsNothing}
 use Rattle.codec_payload_core.specs.Schedule.{run_state, after_send, SendsIt, StopsSending}
-use Rattle.codec_payload_buffer.specs.Steps.{State}
-use Rattle.codec_payload_core.proofs.SendLemmas.{Keeps, kept_all, kept_numbered}
+use Rattle.codec_payload_buffer.specs.Depack.{Depack}
+use Rattle.codec_payload_buffer.specs.Held.{Held}
+use Rattle.codec_payload_buffer.specs.Steps.{State, IsArrived}
+use Rattle.codec_payload_buffer.specs.declared.buffer.unit.RtpMeta.{RtpMeta}
+use Rattle.codec_payload_core.proofs.SendLemmas.{Keeps, kept_all, kept_numbered, as_many}
 
 pub length-packets_for : (pack : Pack) (sample : Sample) (rtp_time number : ℕ) (payloads : List (List ℕ)) → length (packets_for pack sample rtp_time number payloads) ≡ length payloads
 length-packets_for pack sample rtp_time number [] = refl
@@ -36,11 +39,11 @@ pub sent_it : (place mtu : ℕ) (sample : Sample) (p p' : Payloading) (b : State
     → SendsSample Keeps kept_packets next_number mtu sample p sink p' sink' → length sink'.packets < 2 ^ 63
     → SendsIt place mtu sample (run_state p b sink) (record { step = place; first = length sink.packets; count = length sink'.packets - length sink.packets; fault = None }) (run_state p' b sink')
 sent_it place mtu sample p p' b sink sink' clock sent few =
-    let packets = packets_for p'.pack sample (rtp_time_at p.clock_rate sample.rtp_time) (next_number sink) sent.payloads in
+    let packets = sent.packets in
     let kept = kept_all sink packets sent.images sink' sent.sends in
     let grown = ap (λ (s : SentPackets). length s.packets) kept.1 in
     let total = length-append sink.packets packets in
-    let many = length-packets_for p'.pack sample (rtp_time_at p.clock_rate sample.rtp_time) (next_number sink) sent.payloads in
+    let many = as_many (is_built_in p'.pack) packets _ sent.are ∙ length-packets_for p'.pack sample (rtp_time_at p.clock_rate sample.rtp_time) (next_number sink) sent.payloads in
     let count : length sink'.packets - length sink.packets ≡ length sent.payloads = omega (arith, grown, total, many) in
     record {
       answer = Ok sent.payloads;
@@ -48,7 +51,9 @@ sent_it place mtu sample p p' b sink sink' clock sent few =
       packetized = sent.packetized;
       not_memory = λ e. cc;
       entry_is = ap (λ (n : ℕ). record { step = place; first = length sink.packets; count = n; fault = None }) count;
-      numbered = kept_numbered p'.pack sample (rtp_time_at p.clock_rate sample.rtp_time) (next_number sink) sent.payloads sink sent.images sink' refl sent.sends;
+      packets = packets;
+      are = sent.are;
+      numbered = kept_numbered (is_built_in p'.pack) p'.pack sample (rtp_time_at p.clock_rate sample.rtp_time) (next_number sink) sent.payloads sink sent.images sink' packets sent.are refl sent.sends;
       few = few;
       left = left_by p p' b sink sink' packets clock kept.1;
     }
@@ -63,6 +68,8 @@ refused_it place mtu sample fault p p' b sink sink' clock other few (inl nothing
       packetized = nothing.packetized;
       not_memory = λ e. other (cc);
       entry_is = refl;
+      packets = [];
+      are = tt;
       numbered = tt;
       few = omega (arith, few, ap (λ (s : SentPackets). length s.packets) nothing.same);
       left = left_by p p' b sink sink' [] clock (nothing.same ∙ ap (λ (ps : List Packet). record sink { packets = ps }) (sym (append-nil sink.packets)));
@@ -107,3 +114,13 @@ on_ok (Err e) f p = p
 pub from_err : {T E P Q : Type 0} (r : Result T E) → (P → Q) → OnErr r P → OnErr r Q
 from_err (Ok x) f p = p
 from_err (Err e) f p = f p
+
+-- a packet that arrived, under another spelling of what is known of it
+pub arrived_as : (depack : Depack) (here there : RtpMeta) (bytes others : List ℕ) (x : Held) → here ≡ there → bytes ≡ others → IsArrived depack here bytes x → IsArrived depack there others x
+arrived_as depack here there bytes others x same equal is =
+    subst (λ (m : RtpMeta). IsArrived depack m others x) same (subst (λ (bs : List ℕ). IsArrived depack here bs x) equal is)
+
+-- what follows from a fact of the fault
+pub if_err : {T E : Type 0} {P Q : E → Type 0} (r : Result T E) → ((e : E) → P e → Q e) → IfErr r P → IfErr r Q
+if_err (Ok x) f p = tt
+if_err (Err e) f p = f e p

@@ -1,11 +1,11 @@
 -- A fresh stream: its payloader and its buffer are of one kind, and unused.
-use Rattle.std.proofs.Common.{◌≡◌, ◌∙◌, refl, sym, ap, subst, ℕ, Bool, false, List, [], Option, Some, None, option_map}
+use Rattle.std.proofs.Common.{◌≡◌, ◌∙◌, refl, sym, ap, subst, ℕ, Bool, true, false, List, [], Option, Some, None, option_map}
 use Rattle.codec_payload_base.specs.declared.interface.Vp9PacketizerMode.{Vp9PacketizerMode}
 use Rattle.codec_payload_base.specs.declared.wire.Codec.{Codec}
 use Rattle.codec_payload_base.specs.declared.wire.ToPayload.{ToPayload}
 use Rattle.codec_payload_base.specs.declared.wire.Codec.TheVariants as codecs
 use Rattle.codec_payload_buffer.specs.Depack.{Depack, depack_for, configured_depack, kind_of_depack}
-use Rattle.codec_payload_buffer.specs.Pack.{Pack, pack_for, configured}
+use Rattle.codec_payload_buffer.specs.Pack.{Pack, pack_for, configured, is_built_in}
 use Rattle.codec_payload_core.specs.Headline.{IsUnused}
 use Rattle.codec_payload_core.specs.Packets.{SentPackets}
 use Rattle.codec_payload_core.specs.RunPromises.{KeepsPromises, ran}
@@ -22,27 +22,27 @@ use Rattle.codec_payload_core.specs.declared.schedule.Stream.{Stream}
 -- both are there, of one kind, and nothing was read; or neither is
 Ends : Bool → ℕ → Option Pack → Option Depack → Type 0
 Ends octet rate (Some p) (Some d) =
-    (kind_of_depack (configured_depack octet rate d) ≡ payloads_by (configured octet p)) × (read_by (configured_depack octet rate d) ≡ None)
+    (kind_of_depack (configured_depack octet rate d) ≡ payloads_by (configured octet p)) × (read_by (configured_depack octet rate d) ≡ None) × (is_built_in (configured octet p) ≡ true)
 Ends octet rate None None = Unit {0}
 Ends octet rate (Some p) None = ⊥
 Ends octet rate None (Some d) = ⊥
 
 ends_of : (octet : Bool) (rate : ℕ) (mode : Vp9PacketizerMode) (id : ℕ) (codec : Codec) → Ends octet rate (pack_for mode id codec) (depack_for codec)
 unfolding Ends
-ends_of octet rate mode id codecs.Opus = (refl, refl)
-ends_of octet rate mode id codecs.PCMU = (refl, refl)
-ends_of octet rate mode id codecs.PCMA = (refl, refl)
-ends_of octet rate mode id codecs.G722 = (refl, refl)
-ends_of octet rate mode id codecs.Null = (refl, refl)
-ends_of octet rate mode id codecs.CN = (refl, refl)
-ends_of octet rate mode id codecs.AmrWb = (refl, refl)
+ends_of octet rate mode id codecs.Opus = (refl, refl, refl)
+ends_of octet rate mode id codecs.PCMU = (refl, refl, refl)
+ends_of octet rate mode id codecs.PCMA = (refl, refl, refl)
+ends_of octet rate mode id codecs.G722 = (refl, refl, refl)
+ends_of octet rate mode id codecs.Null = (refl, refl, refl)
+ends_of octet rate mode id codecs.CN = (refl, refl, refl)
+ends_of octet rate mode id codecs.AmrWb = (refl, refl, refl)
 ends_of octet rate mode id codecs.H264 = tt
 ends_of octet rate mode id codecs.H265 = tt
 ends_of octet rate mode id codecs.H266 = tt
-ends_of octet rate mode id codecs.Vp8 = (refl, refl)
-ends_of octet rate mode id codecs.Vp9 = (refl, refl)
-ends_of octet rate mode id codecs.Av1 = (refl, refl)
-ends_of octet rate mode id codecs.Tele = (refl, refl)
+ends_of octet rate mode id codecs.Vp8 = (refl, refl, refl)
+ends_of octet rate mode id codecs.Vp9 = (refl, refl, refl)
+ends_of octet rate mode id codecs.Av1 = (refl, refl, refl)
+ends_of octet rate mode id codecs.Tele = (refl, refl, refl)
 ends_of octet rate mode id codecs.Rtx = tt
 ends_of octet rate mode id codecs.Red = tt
 ends_of octet rate mode id codecs.Unknown = tt
@@ -54,7 +54,7 @@ no_receiver octet rate (Some p) None ends h = absurd ends
 no_receiver octet rate (Some p) (Some d) ends h = absurd (cc)
 
 joined_ends : (octet : Bool) (rate : ℕ) (p : Pack) (d : Depack) (op : Option Pack) (od : Option Depack) → Ends octet rate op od → op ≡ Some p → od ≡ Some d
-    → (kind_of_depack (configured_depack octet rate d) ≡ payloads_by (configured octet p)) × (read_by (configured_depack octet rate d) ≡ None)
+    → (kind_of_depack (configured_depack octet rate d) ≡ payloads_by (configured octet p)) × (read_by (configured_depack octet rate d) ≡ None) × (is_built_in (configured octet p) ≡ true)
 unfolding Ends
 joined_ends octet rate p d op od ends sends receives = subst (λ (o : Option Depack). Ends octet rate (Some p) o) receives (subst (λ (o : Option Pack). Ends octet rate o od) sends ends)
 
@@ -68,7 +68,7 @@ pub starts_unused : (stream : Stream) (p : Pack) (d : Depack)
     → IsUnused (fresh stream (configured stream.spec.octet_align p) (configured_depack stream.spec.octet_align stream.spec.clock_rate d))
 starts_unused stream p d sends receives =
     let ends = joined_ends _ _ p d (pack_for stream.mode stream.first_id stream.spec.codec) (depack_for stream.spec.codec) (ends_of _ _ _ _ _) sends receives in
-    record { nothing_sent = refl; nothing_held = refl; no_cutoff = refl; no_mark = refl; alike = ends.0; nothing_read = ends.1; nothing_kept = refl }
+    record { built_in = ends.2; nothing_sent = refl; nothing_held = refl; no_cutoff = refl; no_mark = refl; alike = ends.0; nothing_read = ends.1; nothing_kept = refl }
 
 some_of_map : {A B : Type 0} (f : A → B) (o : Option A) (y : B) → option_map f o ≡ Some y → (x : A) × (o ≡ Some x) × (f x ≡ y)
 some_of_map f None y h = absurd (cc)

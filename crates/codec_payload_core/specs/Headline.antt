@@ -1,7 +1,8 @@
 -- What a buffer releases of a run, whatever is lost, repeated and reordered.
-use Rattle.std.specs.Prelude.{◌≡◌, ℕ, ◌+◌, ◌≤◌, Bool, false, List, [], ◌∷◌, ◌++◌, Some, None, Ok, Err, length, map, take, slice_get}
+use Rattle.std.specs.Prelude.{◌≡◌, ℕ, ◌+◌, ◌≤◌, Bool, true, false, List, [], ◌∷◌, ◌++◌, Some, None, Ok, Err, length, map, take, slice_get}
 use Rattle.codec_payload_buffer.specs.ContiguityTable.{contiguity_for}
 use Rattle.codec_payload_buffer.specs.Depack.{kind_of_depack}
+use Rattle.codec_payload_buffer.specs.Pack.{is_built_in}
 use Rattle.codec_payload_core.specs.Packets.{Packet}
 use Rattle.codec_payload_core.specs.ToldIds.{read_by}
 use Rattle.codec_payload_buffer.specs.Release.{Release}
@@ -47,9 +48,10 @@ InOrder all_steps clock_rate splits units from (Some (Err fault) ∷ answers) = 
 InOrder all_steps clock_rate splits units from (Some (Ok r) ∷ answers) =
     (place : ℕ) × (from ≤ place) × IsUnitAt all_steps clock_rate splits units place r × InOrder all_steps clock_rate splits units (place + 1) answers
 
--- the sink and the buffer are unused, and the buffer's depacketizer reads what the payloader's packetizer makes, and has
--- extended no picture ids
+-- the packetizer is that of a codec, the sink and the buffer are unused, and the buffer's depacketizer reads what the
+-- payloader's packetizer makes, and has extended no picture ids
 pub record IsUnused (s : RunState) : Type 0 where
+  pub built_in : is_built_in s.payloading.pack ≡ true
   pub nothing_sent : s.sink.packets ≡ []
   pub nothing_held : s.buffer.held ≡ []
   pub no_cutoff : s.buffer.cutoff ≡ None

@@ -2,11 +2,12 @@
 use Rattle.std.specs.Prelude.{false, ◌≡◌, ◌≢◌, ℕ, ◌<◌, ◌+◌, ◌%◌, ◌^◌, ◌⊎◌, List, [], ◌∷◌, ◌++◌, Option, Some, None, Result, Ok, Err, MatchOption, length, slice_get, refl}
 use Rattle.codec_payload_base.specs.declared.error.PacketError.{PacketError}
 use Rattle.codec_payload_base.specs.declared.error.PacketError.TheVariants as faults
-use Rattle.codec_payload_buffer.specs.Pack.{Pack, PackStep}
+use Rattle.codec_payload_buffer.specs.Held.{Held}
+use Rattle.codec_payload_buffer.specs.Pack.{Pack, PackStep, is_built_in}
 use Rattle.codec_payload_core.specs.Packets.{Packet, SentPackets, AreNumbered}
-use Rattle.codec_payload_core.specs.Sending.{Sample, Payloading, packets_for, rtp_time_at}
+use Rattle.codec_payload_core.specs.Sending.{Sample, Payloading, packets_for, rtp_time_at, AreAs}
 use Rattle.codec_payload_buffer.specs.Release.{Release}
-use Rattle.codec_payload_buffer.specs.Steps.{State, arrived, pushed, Pops}
+use Rattle.codec_payload_buffer.specs.Steps.{State, IsArrived, pushed, Pops}
 use Rattle.codec_payload_buffer.specs.declared.buffer.unit.RtpMeta.{RtpMeta}
 use Rattle.codec_payload_core.specs.declared.schedule.Sent.{Sent}
 use Rattle.codec_payload_core.specs.declared.schedule.Step.{Step}
@@ -31,7 +32,7 @@ abbrev pub fault_of : Result (List (List ℕ)) PacketError → Option PacketErro
 fault_of (Ok payloads) = None
 fault_of (Err fault) = Some fault
 
--- the packets that the sink gains
+-- the packets that the sink gains of a packetizer that is built in
 abbrev pub packets_sent : RunState → Pack → Sample → List (List ℕ) → List Packet
 packets_sent s pack sample payloads =
     packets_for pack sample (rtp_time_at s.payloading.clock_rate sample.rtp_time) (s.sink.first + length s.sink.packets) payloads
@@ -47,9 +48,11 @@ pub record SendsIt (place mtu : ℕ) (sample : Sample) (s : RunState) (entry : S
   pub packetized : PackStep s.payloading.pack mtu sample.bytes answer pack
   pub not_memory : answer ≢ Err faults.OutOfMemory
   pub entry_is : entry ≡ record { step = place; first = length s.sink.packets; count = length (payloads_of answer); fault = fault_of answer }
-  pub numbered : AreNumbered (s.sink.first + length s.sink.packets) (packets_sent s pack sample (payloads_of answer))
+  pub packets : List Packet
+  pub are : AreAs (is_built_in pack) packets (packets_sent s pack sample (payloads_of answer))
+  pub numbered : AreNumbered (s.sink.first + length s.sink.packets) packets
   pub few : length t.sink.packets < 2 ^ 63
-  pub left : t ≡ after_send s pack (packets_sent s pack sample (payloads_of answer))
+  pub left : t ≡ after_send s pack packets
 
 -- what is known of a packet that step `place` pushes
 abbrev pub meta_of_push : ℕ → ℕ → Packet → RtpMeta
@@ -68,17 +71,17 @@ meta_of_push place clock_rate p = record {
   last_sender_info = None;
 }
 
--- the buffer after step `place` pushed that packet, if there is one
-abbrev pub after_push : ℕ → ℕ → Option Packet → State → State
-after_push place clock_rate None s = s
-after_push place clock_rate (Some p) s = pushed s (arrived s.depack (meta_of_push place clock_rate p) p.payload)
+-- step `place` pushed that packet, if there is one
+abbrev pub Pushes : ℕ → ℕ → Option Packet → State → State → Type 0
+Pushes place clock_rate None s t = t ≡ s
+Pushes place clock_rate (Some p) s t = (held : Held) × IsArrived s.depack (meta_of_push place clock_rate p) p.payload held × (t ≡ pushed s held)
 
 -- one step, at its place: the entry of a `Send` and the answer of a `Pop`, if it is one
 abbrev pub DoesStep : List Sample → ℕ → Step → RunState → List Sent → List Answer → RunState → Type 0
 DoesStep samples place (steps.Send i mtu) s sends pops t =
     (pops ≡ []) × MatchOption (slice_get samples i) ((sends ≡ []) × (t ≡ s)) (λ sample. (entry : Sent) × (sends ≡ entry ∷ []) × SendsIt place mtu sample s entry t)
 DoesStep samples place (steps.Push k) s sends pops t =
-    (sends ≡ []) × (pops ≡ []) × (t ≡ record s { buffer = after_push place s.payloading.clock_rate (slice_get s.sink.packets k) s.buffer })
+    (sends ≡ []) × (pops ≡ []) × (buffer : State) × Pushes place s.payloading.clock_rate (slice_get s.sink.packets k) s.buffer buffer × (t ≡ record s { buffer = buffer })
 DoesStep samples place steps.Pop s sends pops t =
     (sends ≡ []) × (answer : Answer) × (buffer : State) × (pops ≡ answer ∷ []) × (answer ≢ Some (Err faults.OutOfMemory)) × Pops s.buffer answer buffer × (t ≡ record s { buffer = buffer })
 
@@ -95,7 +98,7 @@ abbrev pub StopsSending : ℕ → Sample → RunState → RunState → Type 0
 StopsSending mtu sample s t = (pack : Pack) × (
     (PackStep s.payloading.pack mtu sample.bytes (Err faults.OutOfMemory) pack × (t ≡ after_send s pack []))
     ⊎ ((payloads : List (List ℕ)) × (begun : List Packet) × (refused : Packet) × (left : List Packet) × PackStep s.payloading.pack mtu sample.bytes (Ok payloads) pack
-    × (packets_sent s pack sample payloads ≡ begun ++ refused ∷ left) × (t ≡ after_send s pack begun)))
+    × AreAs (is_built_in pack) (begun ++ refused ∷ left) (packets_sent s pack sample payloads) × (t ≡ after_send s pack begun)))
 
 -- memory was refused to a step: before it began, or as the refused call leaves things
 abbrev pub StopsAt : List Sample → Step → RunState → RunState → Type 0

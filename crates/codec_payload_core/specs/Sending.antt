@@ -4,7 +4,7 @@ use Rattle.codec_payload_base.specs.Time.{Time, rebased}
 use Rattle.codec_payload_base.specs.declared.error.PacketError.{PacketError}
 use Rattle.codec_payload_base.specs.declared.wire.ExtensionValues.{ExtensionValues}
 use Rattle.codec_payload_base.specs.declared.wire.ToPayload.{ToPayload}
-use Rattle.codec_payload_buffer.specs.Pack.{Pack, PackStep, marker_of, talkspurt_of, nackable_of}
+use Rattle.codec_payload_buffer.specs.Pack.{Pack, PackStep, is_built_in, marker_of, talkspurt_of, nackable_of}
 use Rattle.codec_payload_core.specs.Packets.{Packet}
 
 -- a sample, without where its bytes lie
@@ -58,6 +58,19 @@ packets_for pack sample rtp_time number [] = []
 packets_for pack sample rtp_time number (payload ∷ payloads) =
     packet_for pack sample rtp_time number (is_last payloads) payload ∷ packets_for pack sample rtp_time ((number + 1) % 2 ^ 64) payloads
 
+-- the packet is q where the packetizer is built in; one in a box tells the marker, and whether the packet may be asked for
+-- again, as it likes
+abbrev pub IsAs : Bool → Packet → Packet → Type 0
+IsAs true p q = p ≡ q
+IsAs false p q = p ≡ record q { marker = p.marker; nackable = p.nackable }
+
+-- the same of each of these packets
+abbrev pub AreAs : Bool → List Packet → List Packet → Type 0
+AreAs built_in [] [] = Unit {0}
+AreAs built_in (p ∷ ps) (q ∷ qs) = IsAs built_in p q × AreAs built_in ps qs
+AreAs built_in [] (q ∷ qs) = ⊥
+AreAs built_in (p ∷ ps) [] = ⊥
+
 -- a sink takes these packets, one after another, and makes these images of them
 abbrev pub Sends : {S : Type 0} → (S → Packet → Packet → S → Type 0) → S → List Packet → List Packet → S → Type 0
 Sends accepts before [] images after = (images ≡ []) × (after ≡ before)
@@ -73,8 +86,10 @@ number_after number (packet ∷ packets) = number_after ((number + 1) % 2 ^ 64) 
 pub record SendsSample {S : Type 0} (accepts : S → Packet → Packet → S → Type 0) (sent : S → List Packet) (next : S → ℕ) (mtu : ℕ) (sample : Sample) (p : Payloading) (before : S) (p' : Payloading) (after : S) : Type 0 where
   pub payloads : List (List ℕ)
   pub packetized : PackStep p.pack mtu sample.bytes (Ok payloads) p'.pack
+  pub packets : List Packet
+  pub are : AreAs (is_built_in p'.pack) packets (packets_for p'.pack sample (rtp_time_at p.clock_rate sample.rtp_time) (next before) payloads)
   pub images : List Packet
-  pub sends : Sends accepts before (packets_for p'.pack sample (rtp_time_at p.clock_rate sample.rtp_time) (next before) payloads) images after
+  pub sends : Sends accepts before packets images after
   pub gained : sent after ≡ sent before ++ images
   pub goes_on : next after ≡ number_after (next before) images
 
@@ -85,7 +100,7 @@ pub record SendsBeginning {S : Type 0} (accepts : S → Packet → Packet → S 
   pub begun : List Packet
   pub refused : Packet
   pub left : List Packet
-  pub whole : packets_for p'.pack sample (rtp_time_at p.clock_rate sample.rtp_time) (next before) payloads ≡ begun ++ refused ∷ left
+  pub whole : AreAs (is_built_in p'.pack) (begun ++ refused ∷ left) (packets_for p'.pack sample (rtp_time_at p.clock_rate sample.rtp_time) (next before) payloads)
   pub images : List Packet
   pub mid : S
   pub sends : Sends accepts before begun images mid

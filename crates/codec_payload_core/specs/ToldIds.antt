@@ -6,7 +6,7 @@ use Rattle.codec_payload_base.specs.declared.interface.Vp9CodecExtra.{Vp9CodecEx
 use Rattle.codec_payload_base.specs.declared.interface.Vp9PacketizerMode.{Vp9PacketizerMode}
 use Rattle.codec_payload_base.specs.declared.interface.Vp9PacketizerMode.TheVariants.{Flexible, NonFlexible}
 use Rattle.codec_payload_buffer.specs.Depack.{Depack, G711Depack, OpusDepack, NullDepack, Vp8Depack, Vp9Depack, ComfortNoiseDepack, TeleDepack, Av1Depack, AmrWbDepack}
-use Rattle.codec_payload_buffer.specs.Pack.{Pack, G711Pack, G722Pack, OpusPack, NullPack, Vp8Pack, Vp9Pack, ComfortNoisePack, TelePack, Av1Pack, AmrWbPack}
+use Rattle.codec_payload_buffer.specs.Pack.{Pack, G711Pack, G722Pack, OpusPack, NullPack, Vp8Pack, Vp9Pack, ComfortNoisePack, TelePack, Av1Pack, AmrWbPack, BoxedPack}
 
 -- the picture id that was read last, as it was carried, and extended
 pub record ReadId : Type 0 where
@@ -85,6 +85,7 @@ next_id ComfortNoisePack = None
 next_id TelePack = None
 next_id Av1Pack = None
 next_id (AmrWbPack octet) = None
+next_id BoxedPack = None
 
 -- the id of the unit that comes m units later
 abbrev pub id_later : Option ℕ → ℕ → Option ℕ

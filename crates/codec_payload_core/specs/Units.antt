@@ -12,8 +12,8 @@ use Rattle.codec_payload_av1.specs.Av1Obu.{Obu, canonical, frame_kept}
 use Rattle.codec_payload_av1.specs.Av1Steps.{av1_is_skipped, av1_refusal}
 use Rattle.codec_payload_vp8.specs.Vp8Sent.{advanced, header_size}
 use Rattle.codec_payload_vp9.specs.Vp9Sent.{advanced as sender_advanced, begun, reserve_in}
-use Rattle.codec_payload_buffer.specs.Depack.{DepackKind, G711Payloads, OpusPayloads, NullPayloads, Vp8Payloads, Vp9Payloads, ComfortNoisePayloads, TelePayloads, Av1Payloads, AmrWbPayloads}
-use Rattle.codec_payload_buffer.specs.Pack.{Pack, G711Pack, G722Pack, OpusPack, NullPack, Vp8Pack, Vp9Pack, ComfortNoisePack, TelePack, Av1Pack, AmrWbPack}
+use Rattle.codec_payload_buffer.specs.Depack.{DepackKind, G711Payloads, OpusPayloads, NullPayloads, Vp8Payloads, Vp9Payloads, ComfortNoisePayloads, TelePayloads, Av1Payloads, AmrWbPayloads, BoxedPayloads}
+use Rattle.codec_payload_buffer.specs.Pack.{Pack, G711Pack, G722Pack, OpusPack, NullPack, Vp8Pack, Vp9Pack, ComfortNoisePack, TelePack, Av1Pack, AmrWbPack, BoxedPack}
 
 -- whether a frame gives no packets, and no fault
 abbrev pub is_skipped : Pack → ℕ → List ℕ → Bool
@@ -27,6 +27,7 @@ is_skipped ComfortNoisePack mtu frame = is_empty frame
 is_skipped TelePack mtu frame = is_empty frame
 is_skipped Av1Pack mtu frame = av1_is_skipped mtu frame
 is_skipped (AmrWbPack octet) mtu frame = amr_wb_is_skipped frame
+is_skipped BoxedPack mtu frame = false
 
 -- the fault with which a frame that is not skipped is refused, if it is; want of memory is no such fault
 abbrev pub refusal_of : Pack → ℕ → List ℕ → Option PacketError
@@ -40,6 +41,7 @@ refusal_of ComfortNoisePack mtu frame = whole_refusal mtu frame
 refusal_of TelePack mtu frame = whole_refusal mtu frame
 refusal_of Av1Pack mtu frame = av1_refusal mtu frame
 refusal_of (AmrWbPack octet) mtu frame = amr_wb_refusal octet mtu frame
+refusal_of BoxedPack mtu frame = None
 
 -- each of these byte strings is a unit of one part
 abbrev pub each_whole : List (List ℕ) → List (List (List ℕ))
@@ -68,6 +70,7 @@ units_sent ComfortNoisePack mtu frame = each_whole (frame ∷ [])
 units_sent TelePack mtu frame = each_whole (take 4 frame ∷ [])
 units_sent Av1Pack mtu frame = canonical_obus (frame_kept frame) ∷ []
 units_sent (AmrWbPack octet) mtu frame = each_whole (bytes_of_frame (stored frame) ∷ [])
+units_sent BoxedPack mtu frame = []
 
 -- none of a frame that is skipped or refused
 abbrev pub units_by : Bool → Option PacketError → List (List (List ℕ)) → List (List (List ℕ))
@@ -89,6 +92,7 @@ pack_after ComfortNoisePack mtu frame = ComfortNoisePack
 pack_after TelePack mtu frame = TelePack
 pack_after Av1Pack mtu frame = Av1Pack
 pack_after (AmrWbPack octet) mtu frame = AmrWbPack octet
+pack_after BoxedPack mtu frame = BoxedPack
 
 -- the payloads that a packetizer makes
 abbrev pub payloads_by : Pack → DepackKind
@@ -102,6 +106,7 @@ payloads_by ComfortNoisePack = ComfortNoisePayloads
 payloads_by TelePack = TelePayloads
 payloads_by Av1Pack = Av1Payloads
 payloads_by (AmrWbPack octet) = AmrWbPayloads octet
+payloads_by BoxedPack = BoxedPayloads
 
 -- whether a receiver may be given the last parts of a unit alone
 abbrev pub may_split : Pack → Bool
@@ -115,6 +120,7 @@ may_split ComfortNoisePack = false
 may_split TelePack = false
 may_split Av1Pack = true
 may_split (AmrWbPack octet) = false
+may_split BoxedPack = false
 
 -- whether what is sent of a frame can be read again: of telephone events whole reports, and all of any other codec
 abbrev pub is_readable : Pack → List ℕ → Bool

@@ -3,9 +3,9 @@
 ghost use Rattle.std.specs.Prelude.{◌≡◌, ◌∷◌, ◌++◌, ◌+◌, ◌%◌, ◌^◌, ◌<◌, ◌≤◌, ◌⊎◌, ℕ, List, [], Option, length, option_map, OnOk, IfErr, Ok};
 ghost use Rattle.std.specs.Option.{option_copied};
 ghost use Rattle.codec_payload_base.specs.declared.error.PacketError.{PacketError as Fault};
-ghost use Rattle.codec_payload_buffer.specs.Pack.{pack_of, pack_for, configured};
+ghost use Rattle.codec_payload_buffer.specs.Pack.{pack_of, pack_for, configured, is_built_in};
 ghost use Rattle.codec_payload_core.specs.Packets.{Packet, packet_of, packets_in, last_payload};
-ghost use Rattle.codec_payload_core.specs.Sending.{sample_of, packet_for, SendsSample, SendsBeginning, SendsNothing};
+ghost use Rattle.codec_payload_core.specs.Sending.{sample_of, packet_for, IsAs, SendsSample, SendsBeginning, SendsNothing};
 
 mod red_sink;
 #[cfg(test)]
@@ -207,11 +207,11 @@ impl Payloader {
         sink: &mut S,
     ) -> Result<(), PacketError>
         ensures same { self.new ≡ self.old }
-        ensures ok { let packet = packet_for self.old.pack (sample_of sample.now) rtp_time (S.next sink.old) last payload.items in
-            OnOk result ((image : Packet) × S.accepts sink.old packet image sink.new
+        ensures ok { let told = packet_for self.old.pack (sample_of sample.now) rtp_time (S.next sink.old) last payload.items in
+            OnOk result ((packet : Packet) × IsAs (is_built_in self.old.pack) packet told × (image : Packet) × S.accepts sink.old packet image sink.new
             × (S.sent sink.new ≡ S.sent sink.old ++ image ∷ []) × (S.next sink.new ≡ (S.next sink.old + 1) % 2 ^ 64)) }
-        ensures err { let packet = packet_for self.old.pack (sample_of sample.now) rtp_time (S.next sink.old) last payload.items in
-            IfErr result (λ fault. S.refuses sink.old packet fault sink.new
+        ensures err { let told = packet_for self.old.pack (sample_of sample.now) rtp_time (S.next sink.old) last payload.items in
+            IfErr result (λ fault. (packet : Packet) × IsAs (is_built_in self.old.pack) packet told × S.refuses sink.old packet fault sink.new
             × (S.sent sink.new ≡ S.sent sink.old) × (S.next sink.new ≡ S.next sink.old)) }
         ensures kept { S.keeps sink.old sink.new }
     {

@@ -7,7 +7,7 @@ ghost use Rattle.codec_payload_buffer.specs.Pack.{pack_for};
 ghost use Rattle.codec_payload_core.specs.RunOrder.{OnlySetsCount};
 ghost use Rattle.codec_payload_core.specs.RunPromises.{KeepsPromises, ran};
 ghost use Rattle.codec_payload_core.specs.RunStream.{RunsStream};
-ghost use Rattle.codec_payload_core.specs.Schedule.{run_state, SendsIt, StopsSending, DoesStep, StopsAt, Stops, Answer, after_push};
+ghost use Rattle.codec_payload_core.specs.Schedule.{run_state, SendsIt, StopsSending, DoesStep, StopsAt, Stops, Answer, Pushes};
 ghost use Rattle.codec_payload_core.specs.Sending.{sample_of};
 ghost use Rattle.codec_payload_buffer.specs.Steps.{State, Pops};
 ghost use Rattle.codec_payload_core.specs.declared.schedule.Sent.{Sent as Entry};
@@ -217,7 +217,7 @@ fn push_step(
     packet: &OutgoingPacket,
     place: usize,
 ) -> Result<(), PacketError>
-    ensures ok { OnOk result (buffer.new ≡ after_push place clock_rate (Option.Some (packet_of packet.now)) buffer.old) }
+    ensures ok { OnOk result (Pushes place clock_rate (Option.Some (packet_of packet.now)) buffer.old buffer.new) }
     ensures limit { buffer.new.limit ≡ buffer.old.limit }
     ensures fault { IfErr result (λ fault. fault ≡ OutOfMemory) }
     ensures err { OnErr result (buffer.new ≡ buffer.old) }

@@ -138,9 +138,9 @@ fn payload_size(packets: &VecDeque<HeldPacket>, from: usize, to: usize) -> usize
 }
 
 /// Room for what these packets carry, as the depacketizer expects it.
-pub(super) fn make_room(
+pub(super) fn make_room<B: Depacketizer>(
     alloc: Global,
-    depack: &CodecDepacketizer,
+    depack: &CodecDepacketizer<B>,
     packets: &VecDeque<HeldPacket>,
     from: usize,
     to: usize,
@@ -148,7 +148,7 @@ pub(super) fn make_room(
     requires order { from ≤ to }
     requires within { to ≤ deque_len packets.now }
     ensures empty { IfOk result (λ bytes. bytes.items ≡ []) }
-    ensures room { IfOk result (λ bytes. vec_capacity bytes ≡ room_for (⟦<CodecDepacketizer as Depacketizer>⟧.size_hint depack.now (min (total_size (map held_of (slice_range packets.now.items from to))) usize.MAX))) }
+    ensures room { IfOk result (λ bytes. vec_capacity bytes ≡ room_for (⟦<CodecDepacketizer<B> as Depacketizer>⟧.size_hint depack.now (min (total_size (map held_of (slice_range packets.now.items from to))) usize.MAX))) }
 {
     match depack.out_size_hint(payload_size(packets, from, to)) {
         Some(size) => Vec::with_capacity(alloc, size),
@@ -157,8 +157,8 @@ pub(super) fn make_room(
 }
 
 /// The payloads of these packets to the depacketizer, in order, up to the first that it refuses.
-pub(super) fn unpack(
-    depack: &mut CodecDepacketizer,
+pub(super) fn unpack<B: Depacketizer>(
+    depack: &mut CodecDepacketizer<B>,
     packets: &VecDeque<HeldPacket>,
     from: usize,
     to: usize,

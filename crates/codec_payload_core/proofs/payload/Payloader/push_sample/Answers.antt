@@ -1,11 +1,20 @@
 use Rattle.std.proofs.Common.{inr, rules, ◌≡◌, ◌∷◌, ◌-◌, [], length, map, ap, ◌∙◌, ◌%◌, ◌^◌}
 use Rattle.std.proofs.lemmas.List.{nil_from_length}
 use Rattle.std.proofs.lemmas.Result.{err_from_is_err_and}
-use Rattle.codec_payload_buffer.specs.Pack.{pack_of}
+use Rattle.codec_payload_buffer.specs.Pack.{pack_of, is_built_in}
 use Rattle.codec_payload_core.specs.Sending.{sample_of, rtp_time_at}
 use Rattle.std.specs.Vec.Iter.{into_iter_items}
-use Rattle.codec_payload_core.proofs.SendLemmas.{next_so_far, all_so_far, refused_so_far, SentSoFar}
+use Rattle.codec_payload_core.proofs.SendLemmas.{none_so_far, next_so_far, all_so_far, refused_so_far, SentSoFar}
 use Rattle.codec_payload_core.proofs.payload.Payloader.push_sample.Goals as goal
+
+pub loop-payload-init : goal.loop-payload-init
+loop-payload-init g c = record {
+  same = search rules;
+  kept = search rules;
+  counted = search rules;
+  left = search rules;
+  so_far = none_so_far _ g.S.PacketSink.accepts g.S.PacketSink.sent g.S.PacketSink.next _ _;
+}
 
 pub loop-payload-preserved : goal.loop-payload-preserved
 loop-payload-preserved g c =
@@ -28,12 +37,14 @@ returns-clause-ok g c =
     let bytes : c.deref.result.now ≡ c.args.sample.now.bytes.items = search rules in
     let items : into_iter_items c.into_iter-payload-iterator.result ≡ c.in_ok-payloads.payloads.items = search rules in
     let view : pack_of c.self.inside.pack ≡ c.args.self.now.pack = ap (λ p. p.pack) c.self.view_is in
-    let all : SentSoFar g.S.PacketSink.accepts g.S.PacketSink.sent g.S.PacketSink.next c.args.sink.now _ [] c.loop-payload.sink = rw none_left at c.loop-payload.invariant.so_far in
+    let all : SentSoFar (is_built_in (pack_of c.packetize.new.self)) g.S.PacketSink.accepts g.S.PacketSink.sent g.S.PacketSink.next c.args.sink.now _ [] c.loop-payload.sink = rw none_left at c.loop-payload.invariant.so_far in
     record {
       payloads = map (λ p. p.items) (into_iter_items c.into_iter-payload-iterator.result);
       packetized = rw (items, pack, ← bytes, ← view) c.in_ok-payloads.ensures.built_in;
+      packets = all.begun;
+      are = rw (pack, time) (all_so_far (is_built_in (pack_of c.packetize.new.self)) g.S.PacketSink.accepts g.S.PacketSink.sent g.S.PacketSink.next _ _ _ all);
       images = all.images;
-      sends = rw (pack, time) (all_so_far g.S.PacketSink.accepts g.S.PacketSink.sent g.S.PacketSink.next _ _ _ all);
+      sends = all.sends;
       gained = all.gained;
       goes_on = all.goes_on;
     }
