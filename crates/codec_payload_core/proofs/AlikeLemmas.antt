@@ -1,11 +1,13 @@
 -- Two runs that push the same packets before each pop are answered the same.
 use Rattle.std.proofs.Common.{◌≡◌, ◌∙◌, refl, sym, ap, ℕ, subst, List, [], Some, None, Ok, Err, Bool, ◌∷◌, ◌||◌, arith, map}
 use Rattle.std.specs.Prelude.{slice_get, filter}
+use Rattle.codec_payload_core.proofs.BuiltInRuns.{IsOfCodec, passed_stays}
 use Rattle.codec_payload_core.proofs.BareLemmas.{bare, bare_state, due_bare, bare_releases, releases_same, bare_passes, passes_same, one_way, bare_has}
 use Rattle.codec_payload_buffer.proofs.PopLemmas.{above_rises}
 use Rattle.codec_payload_core.proofs.SafetyLemmas.{number_of_sent}
 use Rattle.codec_payload_core.proofs.TurnLemmas.{Setting, IsPush, ArePushes, count, IsSpan, IsPop, waits, releases, Chain, IsReady, span_left, span_ready, ready_pops, left_ready}
 use Rattle.codec_payload_core.proofs.UnitRows.{held_as}
+use Rattle.codec_payload_buffer.specs.Depack.{is_codec}
 use Rattle.codec_payload_buffer.specs.Held.{Held, number_of, has_number, Rises, AllAbove}
 use Rattle.codec_payload_core.specs.Log.{Stretch, Turn}
 use Rattle.codec_payload_core.specs.Packets.{Packet}
@@ -58,25 +60,25 @@ passed_rises : (s t : State) → Rises s.held → PassesOver s t → Rises t.hel
 passed_rises s t r p = subst (λ (x : State). Rises x.held) (sym p.left) (above_rises p.frame.last s.held r)
 
 -- and it is the same where all but the times of receipt is the same
-goes_same : (s u t v : State) (a b : Answer) → Rises s.held → Rises u.held → bare_state s ≡ bare_state u → Goes s a t → Goes u b v → (bare_answer a ≡ bare_answer b) × (bare_state t ≡ bare_state v)
-goes_same s u t v a b rise_s rise_u e (stays x) (stays y) = (refl, e)
-goes_same s u t v a b rise_s rise_u e (stays x) (gives y) = absurd (segment_same y.frame (sym x ∙ due_same s u e ∙ y.is_due))
-goes_same s u t v a b rise_s rise_u e (stays x) (over p g) = absurd (segment_same p.frame (sym x ∙ due_same s u e ∙ p.is_due))
-goes_same s u t v a b rise_s rise_u e (gives x) (stays y) = absurd (segment_same x.frame (sym y ∙ sym (due_same s u e) ∙ x.is_due))
-goes_same s u t v a b rise_s rise_u e (over p g) (stays y) = absurd (segment_same p.frame (sym y ∙ sym (due_same s u e) ∙ p.is_due))
-goes_same s u t v a b rise_s rise_u e (gives {r = r} x) (gives {r = o} y) =
+goes_same : (s u t v : State) (a b : Answer) → IsOfCodec s → IsOfCodec u → Rises s.held → Rises u.held → bare_state s ≡ bare_state u → Goes s a t → Goes u b v → (bare_answer a ≡ bare_answer b) × (bare_state t ≡ bare_state v)
+goes_same s u t v a b of_s of_u rise_s rise_u e (stays x) (stays y) = (refl, e)
+goes_same s u t v a b of_s of_u rise_s rise_u e (stays x) (gives y) = absurd (segment_same y.frame (sym x ∙ due_same s u e ∙ y.is_due))
+goes_same s u t v a b of_s of_u rise_s rise_u e (stays x) (over p g) = absurd (segment_same p.frame (sym x ∙ due_same s u e ∙ p.is_due))
+goes_same s u t v a b of_s of_u rise_s rise_u e (gives x) (stays y) = absurd (segment_same x.frame (sym y ∙ sym (due_same s u e) ∙ x.is_due))
+goes_same s u t v a b of_s of_u rise_s rise_u e (over p g) (stays y) = absurd (segment_same p.frame (sym y ∙ sym (due_same s u e) ∙ p.is_due))
+goes_same s u t v a b of_s of_u rise_s rise_u e (gives {r = r} x) (gives {r = o} y) =
     let left : Releases (bare_state u) (bare_release r) (bare_state t) = subst (λ (z : State). Releases z (bare_release r) (bare_state t)) e (bare_releases s t r x) in
-    let same = releases_same (bare_state u) (bare_state t) (bare_state v) (bare_release r) (bare_release o) (bare_rises u.held rise_u) left (bare_releases u v o y) in
+    let same = releases_same (bare_state u) (bare_state t) (bare_state v) (bare_release r) (bare_release o) of_u (bare_rises u.held rise_u) left (bare_releases u v o y) in
     (ap (λ (z : Release). Some (Ok z)) same.0, same.1)
-goes_same s u t v a b rise_s rise_u e (gives {r = r} x) (over {m = m} p g) =
+goes_same s u t v a b of_s of_u rise_s rise_u e (gives {r = r} x) (over {m = m} p g) =
     let left : Releases (bare_state u) (bare_release r) (bare_state t) = subst (λ (z : State). Releases z (bare_release r) (bare_state t)) e (bare_releases s t r x) in
-    absurd (one_way (bare_state u) (bare_state t) (bare_state m) (bare_release r) left (bare_passes u m p))
-goes_same s u t v a b rise_s rise_u e (over {m = m} p g) (gives {r = o} y) =
+    absurd (one_way (bare_state u) (bare_state t) (bare_state m) (bare_release r) of_u left (bare_passes u m p))
+goes_same s u t v a b of_s of_u rise_s rise_u e (over {m = m} p g) (gives {r = o} y) =
     let right : Releases (bare_state s) (bare_release o) (bare_state v) = subst (λ (z : State). Releases z (bare_release o) (bare_state v)) (sym e) (bare_releases u v o y) in
-    absurd (one_way (bare_state s) (bare_state v) (bare_state m) (bare_release o) right (bare_passes s m p))
-goes_same s u t v a b rise_s rise_u e (over {m = m} p g) (over {m = n} q h) =
+    absurd (one_way (bare_state s) (bare_state v) (bare_state m) (bare_release o) of_s right (bare_passes s m p))
+goes_same s u t v a b of_s of_u rise_s rise_u e (over {m = m} p g) (over {m = n} q h) =
     let left : PassesOver (bare_state u) (bare_state m) = subst (λ (z : State). PassesOver z (bare_state m)) e (bare_passes s m p) in
-    goes_same m n t v a b (passed_rises s m rise_s p) (passed_rises u n rise_u q) (passes_same (bare_state u) (bare_state m) (bare_state n) left (bare_passes u n q)) g h
+    goes_same m n t v a b (passed_stays s m p ∙ of_s) (passed_stays u n q ∙ of_u) (passed_rises s m rise_s p) (passed_rises u n rise_u q) (passes_same (bare_state u) (bare_state m) (bare_state n) of_u left (bare_passes u n q)) g h
 
 goes_of : (c : Setting) (s t : State) (passed : List Segment) (a : Answer) → IsPop c s t passed a → Goes s a t
 goes_of c s t passed None (waits passes nothing) = goes_after s t t passed None passes (stays nothing)
@@ -147,7 +149,7 @@ module _ (c : Setting) (others : List Step) where
       let now = span_same from to t.stretch w.stretch left right chain_s.1 chain_u.1 begin same.0 in
       let ready_t = span_ready c from t.stretch left chain_s.1 in
       let ready_w = span_ready other to w.stretch right chain_u.1 in
-      let step = goes_same t.stretch.now w.stretch.now t.after w.after t.answer w.answer ready_t.beyond.rises ready_w.beyond.rises now (goes_of c t.stretch.now t.after t.passed t.answer chain_s.2) (goes_of other w.stretch.now w.after w.passed w.answer chain_u.2) in
+      let step = goes_same t.stretch.now w.stretch.now t.after w.after t.answer w.answer (ap is_codec ready_t.beyond.reads ∙ c.codec) (ap is_codec ready_w.beyond.reads ∙ c.codec) ready_t.beyond.rises ready_w.beyond.rises now (goes_of c t.stretch.now t.after t.passed t.answer chain_s.2) (goes_of other w.stretch.now w.after w.passed w.answer chain_u.2) in
       let next_t = ready_pops c from t.stretch.now t.after t.passed t.answer ready_t chain_s.2 in
       let next_w = ready_pops other to w.stretch.now w.after w.passed w.answer ready_w chain_u.2 in
       let later = chains_same next_t.0 next_w.0 t.after w.after turns more end rest next_t.1 next_w.1 step.1 chain_s.3 chain_u.3 same.1 in

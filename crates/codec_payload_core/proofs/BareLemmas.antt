@@ -8,7 +8,7 @@ use Rattle.codec_payload_buffer.proofs.CaseLemmas.{by_test}
 use Rattle.codec_payload_buffer.proofs.DepackLemmas.{unpacks_same}
 use Rattle.codec_payload_buffer.proofs.PopLemmas.{due_packets}
 use Rattle.codec_payload_buffer.specs.ContiguityTable.{checked}
-use Rattle.codec_payload_buffer.specs.Depack.{Depack}
+use Rattle.codec_payload_buffer.specs.Depack.{Depack, is_built_in_depack}
 use Rattle.codec_payload_buffer.specs.Frames.{frames, frames_after, frame_at, ended_at, lowest_head, row_before, leads_to, start_or_here}
 use Rattle.codec_payload_buffer.specs.Held.{Held, number_of, has_number, between, above, Rises}
 use Rattle.codec_payload_buffer.specs.Release.{Release}
@@ -110,13 +110,13 @@ abbrev release_of : Time → Bool → Unpacked → List RtpMeta → Release
 release_of time contiguous unpacked metas = record { time = time; contiguous = contiguous; bytes = unpacked.bytes; codec_extra = unpacked.extra; metas = metas }
 
 -- a release is fixed by the state
-pub releases_same : (s t u : State) (r q : Release) → Rises s.held → Releases s r t → Releases s q u → (r ≡ q) × (t ≡ u)
-releases_same s t u r q rises x y =
+pub releases_same : (s t u : State) (r q : Release) → is_built_in_depack s.depack ≡ true → Rises s.held → Releases s r t → Releases s q u → (r ≡ q) × (t ≡ u)
+releases_same s t u r q built_in rises x y =
     let f : x.frame ≡ y.frame = some_is x.frame y.frame (sym x.is_due ∙ y.is_due) in
     let one : Unpacked = record { bytes = r.bytes; extra = r.codec_extra } in
     let two : Unpacked = record { bytes = q.bytes; extra = q.codec_extra } in
     let gives : Gives s x.frame (Ok two) y.depack = subst (λ (z : Segment). Gives s z (Ok two) y.depack) (sym f) y.gives in
-    let out = unpacks_same s.depack (packets_of_frame s x.frame) nothing_unpacked one two x.depack y.depack x.gives gives in
+    let out = unpacks_same s.depack (packets_of_frame s x.frame) nothing_unpacked one two x.depack y.depack built_in x.gives gives in
     let seq : follows s x.frame ≡ follows s y.frame = ap (follows s) f in
     let extra : r.codec_extra ≡ q.codec_extra = ap (λ (z : Unpacked). z.extra) out.0 in
     let metas : r.metas ≡ q.metas = x.metas ∙ ap (λ (z : Segment). metas_of (packets_of_frame s z)) f ∙ sym y.metas in
@@ -148,22 +148,22 @@ bare_passes s t over =
 segment_is : (x y : Segment) → Some x ≡ Some y → x ≡ y
 segment_is x y e = cc
 
-pub passes_same : (s t u : State) → PassesOver s t → PassesOver s u → t ≡ u
-passes_same s t u x y =
+pub passes_same : (s t u : State) → is_built_in_depack s.depack ≡ true → PassesOver s t → PassesOver s u → t ≡ u
+passes_same s t u built_in x y =
     let f : x.frame ≡ y.frame = segment_is x.frame y.frame (sym x.is_due ∙ y.is_due) in
     let gives : Gives s x.frame (Ok y.unpacked) y.depack = subst (λ (z : Segment). Gives s z (Ok y.unpacked) y.depack) (sym f) y.gives in
-    let out = unpacks_same s.depack (packets_of_frame s x.frame) nothing_unpacked x.unpacked y.unpacked x.depack y.depack x.gives gives in
+    let out = unpacks_same s.depack (packets_of_frame s x.frame) nothing_unpacked x.unpacked y.unpacked x.depack y.depack built_in x.gives gives in
     x.left ∙ ap (λ (z : Segment). without s z x.depack (checked s.contiguity x.unpacked.extra (follows s z)).2 s.mark) f
     ∙ ap (λ (z : Unpacked). without s y.frame x.depack (checked s.contiguity z.extra (follows s y.frame)).2 s.mark) out.0
     ∙ ap (λ (d : Depack). without s y.frame d (checked s.contiguity y.unpacked.extra (follows s y.frame)).2 s.mark) out.1 ∙ sym y.left
 
 -- no frame both goes out and is passed over
-pub one_way : (s t u : State) (r : Release) → Releases s r t → PassesOver s u → ⊥
-one_way s t u r x y =
+pub one_way : (s t u : State) (r : Release) → is_built_in_depack s.depack ≡ true → Releases s r t → PassesOver s u → ⊥
+one_way s t u r built_in x y =
     let f : x.frame ≡ y.frame = segment_is x.frame y.frame (sym x.is_due ∙ y.is_due) in
     let one : Unpacked = record { bytes = r.bytes; extra = r.codec_extra } in
     let gives : Gives s x.frame (Ok y.unpacked) y.depack = subst (λ (z : Segment). Gives s z (Ok y.unpacked) y.depack) (sym f) y.gives in
-    let out = unpacks_same s.depack (packets_of_frame s x.frame) nothing_unpacked one y.unpacked x.depack y.depack x.gives gives in
+    let out = unpacks_same s.depack (packets_of_frame s x.frame) nothing_unpacked one y.unpacked x.depack y.depack built_in x.gives gives in
     clash (sym x.may ∙ ap (λ (z : Unpacked). (checked s.contiguity z.extra (follows s x.frame)).0) out.0 ∙ ap (λ (z : Segment). (checked s.contiguity y.unpacked.extra (follows s z)).0) f ∙ y.may_not)
   where
     clash : true ≡ false → ⊥

@@ -1,5 +1,5 @@
 -- A run over a packetizer and a depacketizer that are built in: what each step does is told exactly.
-use Rattle.std.proofs.Common.{inl, inr, ◌≡◌, ◌≢◌, ◌<◌, ◌^◌, ◌⊎◌, ◌∙◌, sym, ap, refl, subst, ℕ, ◌+◌, List, [], ◌∷◌, ◌++◌, Bool, true, false, Option, Some, None, Result, Ok, Err, length, cond}
+use Rattle.std.proofs.Common.{inl, inr, ◌≡◌, ◌≢◌, ◌<◌, ◌^◌, ◌⊎◌, ◌∙◌, ap, refl, subst, ℕ, ◌+◌, List, [], ◌∷◌, ◌++◌, Bool, true, Option, Some, None, Result, Ok, Err, length, cond}
 use Rattle.std.specs.Prelude.{MatchOption, MatchResult, slice_get, nat_lt, ⊤}
 use Rattle.codec_payload_base.specs.declared.error.PacketError.{PacketError}
 use Rattle.codec_payload_base.specs.declared.error.PacketError.TheVariants as faults
@@ -7,14 +7,15 @@ use Rattle.codec_payload_buffer.proofs.CaseLemmas.{by_test}
 use Rattle.codec_payload_core.proofs.SendLemmas.{as_built_in}
 use Rattle.codec_payload_buffer.specs.Depack.{Depack, G711Depack, OpusDepack, ComfortNoiseDepack, TeleDepack, Vp8Depack, Vp9Depack, Av1Depack, AmrWbDepack, NullDepack, BoxedDepack, DepackStep, is_built_in_depack, is_codec}
 use Rattle.codec_payload_core.specs.Headline.{IsUnused}
-use Rattle.codec_payload_buffer.specs.Held.{Held, has_number, placed, number_of}
+use Rattle.codec_payload_buffer.specs.Held.{Held, placed, number_of}
 use Rattle.codec_payload_buffer.specs.Pack.{Pack, G711Pack, G722Pack, OpusPack, ComfortNoisePack, TelePack, Vp8Pack, Vp9Pack, Av1Pack, AmrWbPack, NullPack, BoxedPack, PackStep, is_built_in}
 use Rattle.codec_payload_core.specs.Packets.{Packet, AreNumbered}
 use Rattle.codec_payload_core.specs.Schedule as any
 use Rattle.codec_payload_core.specs.Schedule.{Answer, RunState, payloads_of, fault_of, packets_sent, after_send, meta_of_push}
 use Rattle.codec_payload_core.specs.Sending.{Sample, AreAs}
-use Rattle.codec_payload_buffer.specs.Steps.{State, arrived, pushed, is_dropped, kept_to_limit, without_lowest, Unpacked, Unpacks, Gives, Passes, none, one_more, PassesOver, Releases, Refuses, Stalls, TakesFrame, Pops}
+use Rattle.codec_payload_buffer.specs.Steps.{State, arrived, pushed, is_dropped, kept_to_limit, without_lowest, Unpacked, Unpacks, Gives, Passes, none, one_more, PassesOver, TakesFrame, Pops}
 use Rattle.codec_payload_core.specs.Units.{payloads_by}
+use Rattle.codec_payload_buffer.specs.declared.buffer.frames.Segment.{Segment}
 use Rattle.codec_payload_core.specs.declared.schedule.Sent.{Sent}
 use Rattle.codec_payload_core.specs.declared.schedule.Step.{Step}
 use Rattle.codec_payload_core.specs.declared.schedule.Step.TheVariants as steps
@@ -91,26 +92,28 @@ unpacks_stays d (p ∷ ps) u answer e all = at all.0 all.4 (λ rest. unpacks_sta
     at (Ok x) rest more = more rest ∙ here
     at (Err fault) rest more = ap is_built_in_depack rest.1 ∙ here
 
-abbrev IsOfCodec : State → Type 0
+abbrev pub IsOfCodec : State → Type 0
 IsOfCodec s = is_built_in_depack s.depack ≡ true
+
+pub passed_stays : (s t : State) → PassesOver s t → is_built_in_depack t.depack ≡ is_built_in_depack s.depack
+passed_stays s t passed = ap (λ (x : State). is_built_in_depack x.depack) passed.left ∙ unpacks_stays s.depack _ _ _ passed.depack passed.gives
 
 passes_stay : (s t : State) (over : _) → Passes s over t → is_built_in_depack t.depack ≡ is_built_in_depack s.depack
 passes_stay s t over none = refl
-passes_stay s u over (one_more {t = t} passes passed) =
-    ap (λ (x : State). is_built_in_depack x.depack) passed.left ∙ (unpacks_stays t.depack _ _ _ passed.depack passed.gives ∙ passes_stay s t _ passes)
+passes_stay s u over (one_more {t = t} passes passed) = passed_stays t u passed ∙ passes_stay s t _ passes
 
 pops_stay : (s t : State) (answer : Answer) → Pops s answer t → is_built_in_depack t.depack ≡ is_built_in_depack s.depack
 pops_stay s t None pop = passes_stay s t pop.0 pop.1.0
 pops_stay s t (Some answer) pop = takes answer pop.1.2 ∙ passes_stay s pop.1.0 pop.0 pop.1.1
   where
-    at_stall : {frame : _} {d : Depack} → (d ≡ pop.1.0.depack) ⊎ Gives pop.1.0 frame (Err faults.OutOfMemory) d → is_built_in_depack d ≡ is_built_in_depack pop.1.0.depack
-    at_stall (inl same) = ap is_built_in_depack same
-    at_stall (inr gives) = unpacks_stays pop.1.0.depack _ _ _ _ gives
+    at_stall : (frame : Segment) (d : Depack) → (d ≡ pop.1.0.depack) ⊎ Gives pop.1.0 frame (Err faults.OutOfMemory) d → is_built_in_depack d ≡ is_built_in_depack pop.1.0.depack
+    at_stall frame d (inl same) = ap is_built_in_depack same
+    at_stall frame d (inr gives) = unpacks_stays pop.1.0.depack _ _ _ d gives
 
     takes : (a : Result _ PacketError) → TakesFrame pop.1.0 a t → is_built_in_depack t.depack ≡ is_built_in_depack pop.1.0.depack
     takes (Ok r) out = ap (λ (x : State). is_built_in_depack x.depack) out.left ∙ unpacks_stays pop.1.0.depack _ _ _ out.depack out.gives
     takes (Err fault) out = elim out [
-      | inl memory ↦ ap (λ (x : State). is_built_in_depack x.depack) memory.1.left ∙ at_stall memory.1.reached
+      | inl memory ↦ ap (λ (x : State). is_built_in_depack x.depack) memory.1.left ∙ at_stall memory.1.frame memory.1.depack memory.1.reached
       | inr refusal ↦ ap (λ (x : State). is_built_in_depack x.depack) refusal.left ∙ unpacks_stays pop.1.0.depack _ _ _ refusal.depack refusal.gives
     ]
 
@@ -198,7 +201,7 @@ runs_exactly samples place (steps.Pop ∷ later) s sends pops t pack depack run 
     )
 
 -- a packetizer that is built in makes payloads of a codec
-codec_payloads : (p : Pack) → is_built_in p ≡ true → is_codec (payloads_by p) ≡ true
+pub codec_payloads : (p : Pack) → is_built_in p ≡ true → is_codec (payloads_by p) ≡ true
 codec_payloads G711Pack e = refl
 codec_payloads G722Pack e = refl
 codec_payloads OpusPack e = refl

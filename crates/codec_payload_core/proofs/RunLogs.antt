@@ -23,7 +23,7 @@ use Rattle.codec_payload_core.specs.Packets.{Packet, AreNumbered}
 use Rattle.codec_payload_core.specs.RunOrder.{AreStretches, IsOrderFree, AllFollowAsSaid, IsContiguousAsSaid, bare_answer, OnlySetsCount}
 use Rattle.codec_payload_core.specs.RunPromises.{Ran, IsFresh, KeepsPromises, RunsAsSteps}
 use Rattle.codec_payload_core.specs.RunUnits.{LosesNoneSilently, PassesNoneOver, PassesOnlyPastGap, FirstIsWhole, NoneEvicted, AreNext, BeginsAsSent}
-use Rattle.codec_payload_core.proofs.BuiltInRuns.{Runs, unused_exactly}
+use Rattle.codec_payload_core.proofs.BuiltInRuns.{Runs, codec_payloads, unused_exactly}
 use Rattle.codec_payload_core.specs.Schedule.{Answer, RunState}
 use Rattle.codec_payload_core.specs.Sending.{Sample}
 use Rattle.codec_payload_core.specs.LawfulUnits.{AllLawful}
@@ -114,6 +114,7 @@ module _ (samples : List Sample) (all_steps : List Step) (s t : RunState) (sends
       clock_rate = s.payloading.clock_rate;
       first = s.sink.first;
       kind = payloads_by s.payloading.pack;
+      codec = codec_payloads s.payloading.pack unused.built_in;
       splits = may_split s.payloading.pack;
       units = log.released.units;
       lawful = log.lawful;

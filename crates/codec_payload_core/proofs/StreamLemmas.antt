@@ -18,7 +18,7 @@ use Rattle.codec_payload_base.specs.declared.interface.CodecExtra.{CodecExtra}
 use Rattle.codec_payload_base.proofs.PieceLemmas.{one_list}
 use Rattle.codec_payload_core.proofs.UnitTimes.{AllOneTime, times_of_sample, times_append}
 use Rattle.codec_payload_buffer.specs.Depack.{Depack, G711Depack, OpusDepack, NullDepack, DepackKind, G711Payloads, OpusPayloads, NullPayloads, kind_of_depack, DepackStep, head_in, tail_in}
-use Rattle.codec_payload_buffer.specs.Pack.{Pack, G711Pack, G722Pack, OpusPack, ComfortNoisePack, TelePack, NullPack, Vp8Pack, Vp9Pack, Av1Pack, AmrWbPack, PackStep}
+use Rattle.codec_payload_buffer.specs.Pack.{Pack, G711Pack, G722Pack, OpusPack, ComfortNoisePack, TelePack, NullPack, Vp8Pack, Vp9Pack, Av1Pack, AmrWbPack, PackStep, BoxedPack, is_built_in}
 use Rattle.codec_payload_core.specs.Packets.{Packet, SentPackets, AreNumbered}
 use Rattle.codec_payload_core.specs.ToldIds.{next_id}
 use Rattle.codec_payload_core.specs.Sending.{Sample, packets_for, rtp_time_at}
@@ -149,27 +149,28 @@ pieces_fault mtu frame fault answer = by_skip (pieces_are_skipped mtu frame) ans
 
 -- every codec that is there keeps its law
 pub sends_units : (pack after : Pack) (mtu : ℕ) (sample : Sample) (rtp_time number : ℕ) (answer : Result (List (List ℕ)) PacketError)
-    → PackStep pack mtu sample.bytes answer after → answer ≢ Err faults.OutOfMemory
+    → is_built_in pack ≡ true → PackStep pack mtu sample.bytes answer after → answer ≢ Err faults.OutOfMemory
     → SendsUnits pack mtu sample rtp_time number (payloads_of answer) after
-sends_units G711Pack after mtu sample rtp_time number (Ok payloads) step found = plain_sends G711Pack after mtu sample rtp_time number payloads g711 refl refl (ap next_id step.1) step.1 (pieces_skipped mtu sample.bytes payloads step.0)
-sends_units G722Pack after mtu sample rtp_time number (Ok payloads) step found = plain_sends G722Pack after mtu sample rtp_time number payloads g711 refl refl (ap next_id step.1) step.1 (pieces_skipped mtu sample.bytes payloads step.0)
-sends_units OpusPack after mtu sample rtp_time number (Ok payloads) step found = plain_sends OpusPack after mtu sample rtp_time number payloads opus refl refl (ap next_id step.1) step.1 (pieces_skipped mtu sample.bytes payloads step.0)
-sends_units NullPack after mtu sample rtp_time number (Ok payloads) step found = plain_sends NullPack after mtu sample rtp_time number payloads null refl refl (ap next_id step.1) step.1 (ap each_whole step.0)
-sends_units ComfortNoisePack after mtu sample rtp_time number answer step found = one_sends ComfortNoisePack after mtu sample rtp_time number (payloads_of answer) refl refl (ap next_id step.1) step.1 (noise_units mtu sample.bytes answer step.0 found)
-sends_units TelePack after mtu sample rtp_time number answer step found = one_sends TelePack after mtu sample rtp_time number (payloads_of answer) refl refl (ap next_id step.1) step.1 (tele_units mtu sample.bytes answer step.0 found)
-sends_units (AmrWbPack octet) after mtu sample rtp_time number answer step found = one_sends (AmrWbPack octet) after mtu sample rtp_time number (payloads_of answer) refl refl (ap next_id step.1) step.1 (amr_wb_units octet mtu sample.bytes answer step.0 found)
-sends_units Av1Pack after mtu sample rtp_time number answer step found =
+sends_units G711Pack after mtu sample rtp_time number (Ok payloads) built_in step found = plain_sends G711Pack after mtu sample rtp_time number payloads g711 refl refl (ap next_id step.1) step.1 (pieces_skipped mtu sample.bytes payloads step.0)
+sends_units G722Pack after mtu sample rtp_time number (Ok payloads) built_in step found = plain_sends G722Pack after mtu sample rtp_time number payloads g711 refl refl (ap next_id step.1) step.1 (pieces_skipped mtu sample.bytes payloads step.0)
+sends_units OpusPack after mtu sample rtp_time number (Ok payloads) built_in step found = plain_sends OpusPack after mtu sample rtp_time number payloads opus refl refl (ap next_id step.1) step.1 (pieces_skipped mtu sample.bytes payloads step.0)
+sends_units NullPack after mtu sample rtp_time number (Ok payloads) built_in step found = plain_sends NullPack after mtu sample rtp_time number payloads null refl refl (ap next_id step.1) step.1 (ap each_whole step.0)
+sends_units ComfortNoisePack after mtu sample rtp_time number answer built_in step found = one_sends ComfortNoisePack after mtu sample rtp_time number (payloads_of answer) refl refl (ap next_id step.1) step.1 (noise_units mtu sample.bytes answer step.0 found)
+sends_units TelePack after mtu sample rtp_time number answer built_in step found = one_sends TelePack after mtu sample rtp_time number (payloads_of answer) refl refl (ap next_id step.1) step.1 (tele_units mtu sample.bytes answer step.0 found)
+sends_units (AmrWbPack octet) after mtu sample rtp_time number answer built_in step found = one_sends (AmrWbPack octet) after mtu sample rtp_time number (payloads_of answer) refl refl (ap next_id step.1) step.1 (amr_wb_units octet mtu sample.bytes answer step.0 found)
+sends_units Av1Pack after mtu sample rtp_time number answer built_in step found =
     subst (SendsUnits Av1Pack mtu sample rtp_time number (payloads_of answer)) (sym step.1) (av1_sends mtu sample rtp_time number answer step.0 found)
-sends_units G711Pack after mtu sample rtp_time number (Err fault) step found = absurd (found (pieces_fault mtu sample.bytes fault step.0))
-sends_units G722Pack after mtu sample rtp_time number (Err fault) step found = absurd (found (pieces_fault mtu sample.bytes fault step.0))
-sends_units OpusPack after mtu sample rtp_time number (Err fault) step found = absurd (found (pieces_fault mtu sample.bytes fault step.0))
-sends_units NullPack after mtu sample rtp_time number (Err fault) step found = absurd (found (ap Err step.0))
-sends_units (Vp8Pack id) after mtu sample rtp_time number (Ok payloads) step found =
+sends_units G711Pack after mtu sample rtp_time number (Err fault) built_in step found = absurd (found (pieces_fault mtu sample.bytes fault step.0))
+sends_units G722Pack after mtu sample rtp_time number (Err fault) built_in step found = absurd (found (pieces_fault mtu sample.bytes fault step.0))
+sends_units OpusPack after mtu sample rtp_time number (Err fault) built_in step found = absurd (found (pieces_fault mtu sample.bytes fault step.0))
+sends_units NullPack after mtu sample rtp_time number (Err fault) built_in step found = absurd (found (ap Err step.0))
+sends_units (Vp8Pack id) after mtu sample rtp_time number (Ok payloads) built_in step found =
     subst (SendsUnits (Vp8Pack id) mtu sample rtp_time number payloads) (sym step.3) (vp8_sends id step.1 mtu sample rtp_time number payloads step.0 step.2.0 step.2.1)
-sends_units (Vp8Pack id) after mtu sample rtp_time number (Err fault) step found = absurd (found (ap Err step.2.0.0))
-sends_units (Vp9Pack sender) after mtu sample rtp_time number (Ok payloads) step found =
+sends_units (Vp8Pack id) after mtu sample rtp_time number (Err fault) built_in step found = absurd (found (ap Err step.2.0.0))
+sends_units (Vp9Pack sender) after mtu sample rtp_time number (Ok payloads) built_in step found =
     subst (SendsUnits (Vp9Pack sender) mtu sample rtp_time number payloads) (sym step.3) (vp9_sends sender step.1 mtu sample rtp_time number payloads step.0 step.2.0 step.2.1)
-sends_units (Vp9Pack sender) after mtu sample rtp_time number (Err fault) step found = absurd (found (ap Err step.2.0.0))
+sends_units (Vp9Pack sender) after mtu sample rtp_time number (Err fault) built_in step found = absurd (found (ap Err step.2.0.0))
+sends_units BoxedPack after mtu sample rtp_time number answer built_in step found = absurd (cc)
 
 packets_append : (us vs : List SentUnit) → packets_of (us ++ vs) ≡ packets_of us ++ packets_of vs
 packets_append [] vs = refl
@@ -251,7 +252,7 @@ sends_stream : (samples : List Sample) (later : List Step) (i mtu place : ℕ) (
     → SendsIt place mtu sample s entry mid → Streams samples later mid t → Streams samples (steps.Send i mtu ∷ later) s t
 sends_stream samples later i mtu place sample entry s mid t there sent rest =
     let time = rtp_time_at s.payloading.clock_rate sample.rtp_time in
-    let here = sends_units s.payloading.pack sent.pack mtu sample time (s.sink.first + length s.sink.packets) sent.answer sent.packetized sent.not_memory in
+    let here = sends_units s.payloading.pack sent.pack mtu sample time (s.sink.first + length s.sink.packets) sent.answer sent.built_in sent.packetized sent.not_memory in
     let packets = packets_sent s sent.pack sample (payloads_of sent.answer) in
     let pack : mid.payloading.pack ≡ pack_after s.payloading.pack mtu sample.bytes = ap (λ (x : RunState). x.payloading.pack) sent.left ∙ here.goes_on in
     let sink : mid.sink.packets ≡ s.sink.packets ++ packets = ap (λ (x : RunState). x.sink.packets) sent.left in

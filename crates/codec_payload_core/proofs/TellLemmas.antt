@@ -7,7 +7,7 @@ use Rattle.codec_payload_base.specs.TelephoneReport.{TakesFirst}
 use Rattle.codec_payload_base.specs.declared.picture_id.PictureId.TheVariants.{Long}
 use Rattle.codec_payload_base.specs.declared.error.PacketError.{PacketError}
 use Rattle.codec_payload_base.specs.declared.interface.CodecExtra.{CodecExtra}
-use Rattle.codec_payload_buffer.specs.Depack.{Depack, ComfortNoiseDepack, TeleDepack, Vp8Depack, Vp9Depack, Av1Depack, AmrWbDepack, DepackKind, Vp8Payloads, Vp9Payloads, kind_of_depack, DepackStep, head_in}
+use Rattle.codec_payload_buffer.specs.Depack.{Depack, ComfortNoiseDepack, TeleDepack, Vp8Depack, Vp9Depack, Av1Depack, AmrWbDepack, DepackKind, Vp8Payloads, Vp9Payloads, kind_of_depack, DepackStep, head_in, BoxedDepack, BoxedPayloads}
 use Rattle.codec_payload_buffer.specs.Held.{Held}
 use Rattle.codec_payload_core.specs.Packets.{Packet}
 use Rattle.codec_payload_core.specs.LawfulUnits.{payloads_held, payloads_sent, StartsWithHead}
@@ -44,6 +44,7 @@ silent_unpacks kind (p ∷ ps) d u unpacked e silent is lacks gives =
 abbrev pub is_quiet : DepackKind → Bool
 is_quiet Vp8Payloads = false
 is_quiet Vp9Payloads = false
+is_quiet BoxedPayloads = false
 is_quiet kind = true
 
 first_silent : (rate : ℕ) (payload out out' : List ℕ) (extra' : CodecExtra) → TakesFirst rate payload out out' extra' → lacks_base extra' ≡ true
@@ -54,6 +55,7 @@ quiet_step : (d : Depack) (payload out : List ℕ) (extra : CodecExtra) (x : Uni
     → DepackStep d payload out extra (Ok x) e out' extra' → (kind_of_depack e ≡ kind_of_depack d) × (lacks_base extra' ≡ true)
 quiet_step (Vp8Depack d) payload out extra x e out' extra' quiet lacks step = absurd (cc)
 quiet_step (Vp9Depack d) payload out extra x e out' extra' quiet lacks step = absurd (cc)
+quiet_step BoxedDepack payload out extra x e out' extra' quiet lacks step = absurd (cc)
 quiet_step ComfortNoiseDepack [] out extra x e out' extra' quiet lacks step = let none = step.0.0 in absurd (cc)
 quiet_step ComfortNoiseDepack (b ∷ bs) out extra x e out' extra' quiet lacks step = (ap kind_of_depack step.1, ap lacks_base step.0.1 ∙ lacks)
 quiet_step (TeleDepack rate) payload out extra x e out' extra' quiet lacks step = (ap kind_of_depack step.1, first_silent rate payload out out' extra' step.0.1)

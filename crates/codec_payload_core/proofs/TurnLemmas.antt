@@ -12,7 +12,7 @@ use Rattle.codec_payload_buffer.proofs.StretchLemmas.{leaves_numbers}
 use Rattle.codec_payload_core.proofs.UnitIds.{TellInTurn}
 use Rattle.codec_payload_core.proofs.UnitRows.{held_as, slice_append, drop_next}
 use Rattle.codec_payload_core.proofs.UnitTimes.{AllOneTime}
-use Rattle.codec_payload_buffer.specs.Depack.{DepackKind}
+use Rattle.codec_payload_buffer.specs.Depack.{DepackKind, is_codec}
 use Rattle.codec_payload_buffer.specs.Held.{Held, number_of, has_number, above}
 use Rattle.codec_payload_core.specs.Log.{Stretch, Turn, begun, with_push, packet_named, after_naming, IsLog}
 use Rattle.codec_payload_core.specs.Packets.{Packet, AreNumbered}
@@ -34,6 +34,7 @@ pub record Setting : Type 0 where
   pub clock_rate : ℕ
   pub first : ℕ
   pub kind : DepackKind
+  pub codec : is_codec kind ≡ true
   pub splits : Bool
   pub units : List SentUnit
   pub lawful : AllLawful kind splits units

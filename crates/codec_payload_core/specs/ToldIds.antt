@@ -5,7 +5,7 @@ use Rattle.codec_payload_base.specs.declared.interface.CodecExtra.TheVariants as
 use Rattle.codec_payload_base.specs.declared.interface.Vp9CodecExtra.{Vp9CodecExtra}
 use Rattle.codec_payload_base.specs.declared.interface.Vp9PacketizerMode.{Vp9PacketizerMode}
 use Rattle.codec_payload_base.specs.declared.interface.Vp9PacketizerMode.TheVariants.{Flexible, NonFlexible}
-use Rattle.codec_payload_buffer.specs.Depack.{Depack, G711Depack, OpusDepack, NullDepack, Vp8Depack, Vp9Depack, ComfortNoiseDepack, TeleDepack, Av1Depack, AmrWbDepack}
+use Rattle.codec_payload_buffer.specs.Depack.{Depack, G711Depack, OpusDepack, NullDepack, Vp8Depack, Vp9Depack, ComfortNoiseDepack, TeleDepack, Av1Depack, AmrWbDepack, BoxedDepack}
 use Rattle.codec_payload_buffer.specs.Pack.{Pack, G711Pack, G722Pack, OpusPack, NullPack, Vp8Pack, Vp9Pack, ComfortNoisePack, TelePack, Av1Pack, AmrWbPack, BoxedPack}
 
 -- the picture id that was read last, as it was carried, and extended
@@ -67,6 +67,7 @@ read_by ComfortNoiseDepack = None
 read_by (TeleDepack rate) = None
 read_by (Av1Depack pending) = None
 read_by (AmrWbDepack octet) = None
+read_by BoxedDepack = None
 
 -- frames of the non-flexible mode of VP9 carry both ids
 abbrev pub id_in : Vp9PacketizerMode → ℕ → Option ℕ

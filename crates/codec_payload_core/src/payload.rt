@@ -11,7 +11,7 @@ mod red_sink;
 #[cfg(test)]
 mod tests;
 
-use crate::codec::{CodecPacketizer, Packetizer, Vp9PacketizerMode};
+use crate::codec::{CodecPacketizer, NoBox, Packetizer, Vp9PacketizerMode};
 use crate::error::PacketError;
 use crate::wire::{CodecSpec, ExtensionValues, Frequency, Pt, SeqNo, Ticks, ToPayload};
 pub use red_sink::RedSink;
@@ -152,12 +152,12 @@ impl PacketSink for MemorySink {
 
 /// Cuts samples of one codec into packets and sends them.
 #[derive(Debug, Drop)]
-pub struct Payloader {
-    pack: CodecPacketizer,
+pub struct Payloader<B = NoBox> {
+    pack: CodecPacketizer<B>,
     clock_rate: Frequency,
 }
 
-impl Model for Payloader {
+impl<B> Model for Payloader<B> {
     ghost use Rattle.codec_payload_core.specs.Sending.{Payloading};
 
     ghost Value = { Payloading };
@@ -179,9 +179,11 @@ impl Payloader {
         pack.configure_for(&spec);
         Some(Payloader::with_packetizer(pack, spec.clock_rate))
     }
+}
 
+impl<B: Packetizer> Payloader<B> {
     /// A payloader over that packetizer, with an RTP clock of that rate.
-    pub fn with_packetizer(pack: CodecPacketizer, rate: Frequency) -> Self
+    pub fn with_packetizer(pack: CodecPacketizer<B>, rate: Frequency) -> Self
         ensures { result ≡ record { pack = pack_of pack; clock_rate = rate } }
     {
         Payloader {

@@ -16,7 +16,7 @@ ghost use Rattle.codec_payload_core.specs.declared.schedule.Sent.{Sent as Entry}
 mod tests;
 
 use crate::buffer::{Depacketized, DepacketizingBuffer, RtpMeta};
-use crate::codec::{CodecDepacketizer, Vp9PacketizerMode};
+use crate::codec::{CodecDepacketizer, Depacketizer, Packetizer, Vp9PacketizerMode};
 use crate::error::PacketError;
 use crate::payload::{MemorySink, OutgoingPacket, Payloader};
 use crate::wire::{CodecSpec, Frequency, MediaTime, RtpHeader, Ticks, ToPayload};
@@ -62,10 +62,10 @@ pub struct Sent {
 /// up with the entries. Room for an entry is found before its step begins, so no unit is popped that cannot be answered.
 ///
 /// Each pushed packet is a copy. The cost is that of the calls, one after another.
-pub fn run_schedule(
+pub fn run_schedule<P: Packetizer, D: Depacketizer>(
     alloc: Global,
-    payloader: &mut Payloader,
-    buffer: &mut DepacketizingBuffer,
+    payloader: &mut Payloader<P>,
+    buffer: &mut DepacketizingBuffer<D>,
     sink: &mut MemorySink,
     samples: &[ToPayload],
     steps: &[Step],
@@ -137,9 +137,9 @@ pub fn run_stream(
 }
 
 /// Does one step, and notes what came of it.
-fn do_step(
-    payloader: &mut Payloader,
-    buffer: &mut DepacketizingBuffer,
+fn do_step<P: Packetizer, D: Depacketizer>(
+    payloader: &mut Payloader<P>,
+    buffer: &mut DepacketizingBuffer<D>,
     sink: &mut MemorySink,
     samples: &[ToPayload],
     place: usize,
@@ -179,9 +179,9 @@ fn do_step(
 }
 
 /// Sends a sample.
-fn send_step(
+fn send_step<P: Packetizer>(
     alloc: Global,
-    payloader: &mut Payloader,
+    payloader: &mut Payloader<P>,
     sink: &mut MemorySink,
     sample: &ToPayload,
     mtu: usize,
@@ -210,10 +210,10 @@ fn send_step(
 }
 
 /// Pushes a copy of a packet that was sent.
-fn push_step(
+fn push_step<D: Depacketizer>(
     alloc: Global,
     clock_rate: Frequency,
-    buffer: &mut DepacketizingBuffer,
+    buffer: &mut DepacketizingBuffer<D>,
     packet: &OutgoingPacket,
     place: usize,
 ) -> Result<(), PacketError>
@@ -241,8 +241,8 @@ fn push_step(
 }
 
 /// Pops. Want of memory is no answer.
-fn pop_step(
-    buffer: &mut DepacketizingBuffer,
+fn pop_step<D: Depacketizer>(
+    buffer: &mut DepacketizingBuffer<D>,
 ) -> Result<Option<Result<Depacketized, PacketError>>, PacketError>
     ensures ok { IfOk result (λ answer. Pops buffer.old answer buffer.new × (answer ≢ Option.Some (Result.Err OutOfMemory))) }
     ensures limit { buffer.new.limit ≡ buffer.old.limit }

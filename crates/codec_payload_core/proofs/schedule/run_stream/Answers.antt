@@ -6,7 +6,7 @@ use Rattle.codec_payload_core.specs.Schedule.{run_state}
 use Rattle.codec_payload_core.proofs.schedule.run_stream.Goals as goal
 
 pub returns-clause-headline : goal.returns-clause-headline
-returns-clause-headline g c =
+returns-clause-headline c =
     let sends = sym c.new.ensures ∙ c.in-Some.is in
     let receives = sym c.from_codec.ensures ∙ ap (λ o. option_map depack_of o) c.in-Some-from_codec.is in
     let empty = c.new-buffer.ensures ∙ ap (λ d. empty_buffer c.args.stream.hold_back d) c.configure_for.ensures in

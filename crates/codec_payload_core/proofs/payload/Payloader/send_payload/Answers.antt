@@ -1,7 +1,7 @@
-use Rattle.std.proofs.Common.{rules, ◌≡◌, ◌||◌, ◌&&◌, ap, true}
+use Rattle.std.proofs.Common.{rules, ◌≡◌, ◌||◌, ◌&&◌, true}
 use Rattle.codec_payload_core.proofs.ScheduleLemmas.{on_ok, if_err}
 use Rattle.codec_payload_core.proofs.SendLemmas.{as_for}
-use Rattle.codec_payload_buffer.specs.Pack.{pack_of, is_built_in, marker_of, talkspurt_of, nackable_of}
+use Rattle.codec_payload_buffer.specs.Pack.{is_built_in, marker_of, talkspurt_of, nackable_of}
 use Rattle.codec_payload_core.specs.Sending.{sample_of}
 use Rattle.codec_payload_core.proofs.payload.Payloader.send_payload.Goals as goal
 
