@@ -2,6 +2,8 @@
 
 ghost use Rattle.std.specs.Prelude.{◌≤◌};
 
+mod boxes;
+mod own_codec;
 mod use_it;
 
 use crate::buffer::{Depacketized, DepacketizingBuffer};
