@@ -4,13 +4,15 @@ ghost use Rattle.std.specs.Prelude.{◌≡◌, ◌≤◌, ◌<◌, IsTrue, IsOk,
 ghost use Rattle.codec_payload_base.specs.declared.error.PacketError.TheVariants.{OutOfMemory};
 ghost use Rattle.codec_payload_buffer.specs.ContiguityTable.{contiguity_for};
 ghost use Rattle.codec_payload_buffer.specs.Depack.{depack_of, kind_of_depack};
-ghost use Rattle.codec_payload_buffer.specs.Held.{Rises};
+ghost use Rattle.codec_payload_buffer.specs.Held.{Rises, above};
 ghost use Rattle.codec_payload_buffer.specs.Frames.{AreFramesOfSet, AreInOrder, AreApart, AreOnlyList, BothSaySame};
+ghost use Rattle.codec_payload_buffer.specs.Scan.{end_of};
 ghost use Rattle.codec_payload_buffer.specs.Steps.{IsSound, arrived, pushed, is_dropped, due_of, TriesFrame, Pops, HasTaken};
 ghost use Rattle.codec_payload_buffer.specs.Stretches.{LeavesNumbers, OrderIsFree};
 
 pub mod frames;
 mod packets;
+mod rows;
 #[cfg(test)]
 mod tests;
 mod unit;
@@ -19,11 +21,12 @@ use crate::codec::{CodecDepacketizer, Depacketizer};
 use crate::contiguity::Contiguity;
 use codec_payload_base::error::PacketError;
 use codec_payload_base::interface::CodecExtra;
-use frames::{Segment, search_frames};
+use frames::{Segment, frame_of, mend_first, note};
 use packets::{
     HeldPacket, copy_metas, drop_front, find_place, frame_range, is_at, is_too_late, make_room,
     place_at, starts_next, take_lowest, unpack,
 };
+use rows::{Row, add_row, remove_rows, row_of_packet, shorten_first};
 use std::alloc::Global;
 use std::collections::VecDeque;
 use std::marker::Model;
@@ -39,6 +42,10 @@ const HELD_LIMIT: usize = 4_096;
 #[derive(Debug, Drop)]
 pub struct DepacketizingBuffer {
     packets: VecDeque<HeldPacket>,
+    /// The rows in which the packets stand together.
+    rows: VecDeque<Row>,
+    /// The complete frames, in order.
+    segments: VecDeque<Segment>,
     /// The number up to which packets come too late.
     cutoff: Option<u64>,
     /// Whether a packet was evicted since the latest release.
@@ -51,14 +58,14 @@ pub struct DepacketizingBuffer {
 }
 
 impl Model for DepacketizingBuffer {
-    ghost use Rattle.codec_payload_buffer.specs.Steps.{State, IsSound};
-    ghost use Rattle.codec_payload_buffer.specs.Buffer.{state_of};
+    ghost use Rattle.codec_payload_buffer.specs.Steps.{State};
+    ghost use Rattle.codec_payload_buffer.specs.Buffer.{state_of, IsIndexed};
 
     ghost Value = { State };
 
     ghost view = { state_of };
 
-    ghost invariant = { λ b. IsSound (state_of b) };
+    ghost invariant = { λ b. IsIndexed (state_of b) b.rows.items b.segments.items };
 }
 
 impl DepacketizingBuffer {
@@ -77,6 +84,8 @@ impl DepacketizingBuffer {
     {
         DepacketizingBuffer {
             packets: VecDeque::new(alloc),
+            rows: VecDeque::new(alloc),
+            segments: VecDeque::new(alloc),
             cutoff: None,
             mark: false,
             contiguity: Contiguity::of(&depack),
@@ -89,7 +98,9 @@ impl DepacketizingBuffer {
     /// Takes a packet in. One whose number is at or below the cutoff, or is held already, is dropped, which takes no
     /// memory. Where more packets than the limit are held then, the lowest is evicted. The only fault is want of memory.
     ///
-    /// Out of order it costs a binary search and a move of entries, not of payloads.
+    /// In order it costs the same however many packets are held. Out of order it costs three binary searches and moves of
+    /// entries, not of payloads: no packets are walked, neither for a tail nor for one that comes between others. An eviction
+    /// looks for the next packet that begins a unit, where the one that leaves did; each packet is looked at so twice at most.
     pub fn push(&mut self, meta: RtpMeta, data: Vec<u8>) -> Result<(), PacketError>
         ensures ok { OnOk result (self.new ≡ pushed self.old (arrived self.old.depack meta «data».items)) }
         ensures err { OnErr result (self.new ≡ self.old) }
@@ -113,9 +124,16 @@ impl DepacketizingBuffer {
             head,
             tail,
         };
+        let row = row_of_packet(&packet);
+        self.rows.reserve(1)?;
+        self.segments.reserve(1)?;
         place_at(&mut self.packets, place, packet)?;
+        let row = add_row(&mut self.rows, row);
+        note(&mut self.segments, frame_of(&row));
         if self.packets.len() > self.limit {
             self.cutoff = Some(take_lowest(&mut self.packets));
+            let (before, after) = shorten_first(&mut self.rows, &self.packets);
+            mend_first(&mut self.segments, before, after);
             self.mark = true;
         }
         Ok(())
@@ -132,7 +150,7 @@ impl DepacketizingBuffer {
     /// frames that were passed over before. A unit of layered VP9 that lost the packets of its base layer comes without its
     /// front, as complete, and is told contiguous where it is the first of the stream.
     ///
-    /// Looks at the held packets once for each frame that it takes.
+    /// Looks at the first complete frame and at how many there are, and at the packets that leave alone.
     pub fn pop(&mut self) -> Option<Result<Depacketized, PacketError>>
         ensures pops { Pops self.old result self.new }
         ensures waits { due_of self.old ≡ Option.None → result ≡ Option.None }
@@ -163,9 +181,8 @@ impl DepacketizingBuffer {
         ensures due { result ≡ due_of self.now }
         ensures rises { Rises self.now.held }
     {
-        let found = search_frames(&self.packets);
-        let frame = found.first?;
-        if starts_next(self.cutoff, frame.first) || found.count > self.hold_back {
+        let frame = *self.segments.front()?;
+        if starts_next(self.cutoff, frame.first) || self.segments.len() > self.hold_back {
             Some(frame)
         } else {
             None
@@ -196,8 +213,7 @@ impl DepacketizingBuffer {
             return Err(PacketError::OutOfMemory);
         }
         let follows = starts_next(self.cutoff, frame.first) && !self.mark;
-        drop_front(&mut self.packets, to);
-        self.cutoff = Some(frame.last);
+        self.leave(frame, to);
         unpacked?;
         let (may_go, contiguous) = self.contiguity.check(&codec_extra, follows);
         if !may_go {
@@ -206,6 +222,18 @@ impl DepacketizingBuffer {
         self.mark = false;
         let time = metas[0].time;
         Ok(Some(Depacketized::new(time, contiguous, bytes, codec_extra, metas)))
+    }
+
+    /// The frame that is due and all packets below it leave, the first `count` of all.
+    fn leave(&mut self, frame: Segment, count: usize)
+        requires due { due_of self.old ≡ Option.Some frame }
+        requires count { count ≡ end_of frame.last self.old.held }
+        ensures { self.new ≡ record self.old { held = above frame.last self.old.held; cutoff = Option.Some frame.last } }
+    {
+        drop_front(&mut self.packets, count);
+        remove_rows(&mut self.rows, frame.last);
+        self.segments.pop_front();
+        self.cutoff = Some(frame.last);
     }
 }
 
