@@ -5,7 +5,7 @@ ghost use Rattle.codec_payload_base.specs.declared.error.PacketError.TheVariants
 ghost use Rattle.codec_payload_buffer.specs.ContiguityTable.{contiguity_for};
 ghost use Rattle.codec_payload_buffer.specs.Depack.{depack_of, kind_of_depack};
 ghost use Rattle.codec_payload_buffer.specs.Held.{Rises, above};
-ghost use Rattle.codec_payload_buffer.specs.Frames.{AreFramesOfSet, AreInOrder, AreApart, AreOnlyList, BothSaySame};
+ghost use Rattle.codec_payload_buffer.specs.Frames.{frames, AreFramesOfSet, AreInOrder, AreApart, AreOnlyList, BothSaySame};
 ghost use Rattle.codec_payload_buffer.specs.Scan.{end_of};
 ghost use Rattle.codec_payload_buffer.specs.Steps.{IsSound, arrived, pushed, is_dropped, due_of, TriesFrame, Pops, HasTaken};
 ghost use Rattle.codec_payload_buffer.specs.Stretches.{LeavesNumbers, OrderIsFree};
@@ -174,6 +174,13 @@ impl DepacketizingBuffer {
         ensures sound { IsSound self.now }
     {
         self.packets.len()
+    }
+
+    /// How many complete frames are held, whether they may be taken yet or not. Takes no memory, and looks at no packet.
+    pub fn ready(&self) -> usize
+        ensures { result ≡ length (frames self.now.held) }
+    {
+        self.segments.len()
     }
 
     /// The frame that a pop takes next, if one may be taken.

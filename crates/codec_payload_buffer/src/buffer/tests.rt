@@ -200,6 +200,83 @@ fn push_frame(
     Ok(())
 }
 
+/// Pushes a packet of the one frame of that time.
+fn push_part(
+    alloc: Global,
+    buffer: &mut DepacketizingBuffer,
+    number: u64,
+    marker: bool,
+    payload: &[u8],
+) -> Result<(), Fail> {
+    let mut meta = meta(number, 960);
+    meta.header.marker = marker;
+    buffer.push(meta, Vec::from_slice(alloc, payload)?)?;
+    Ok(())
+}
+
+/// The second packet and the first each begin a unit: the frame that ends at the third grows with each.
+#[test]
+fn ready_av1_last_first(rt: HostRuntime) -> Result<(), Fail> {
+    let alloc = rt.alloc();
+    let mut buffer = buffer_of(alloc, Codec::Av1)?;
+    push_part(alloc, &mut buffer, 3, true, &[0x90, 0xcc])?;
+    assert_eq!(rt; buffer.ready(), 0);
+    push_part(alloc, &mut buffer, 2, false, &[0x50, 0x30, 0xbb])?;
+    assert_eq!(rt; buffer.ready(), 1);
+    push_part(alloc, &mut buffer, 1, false, &[0x18, 0x08, 0xaa])?;
+    assert_eq!(rt; buffer.ready(), 1);
+    let unit = buffer.pop().ok_or("no unit")??;
+    assert_eq!(rt; unit.seq_range(), SeqNo(1)..=SeqNo(3));
+    assert_eq!(rt; buffer.ready(), 0);
+    Ok(())
+}
+
+/// Packets 2 to 4,097 of a frame, and then its first, which leaves at once and comes too late from then on.
+#[test]
+fn ready_4097_first_last(rt: HostRuntime) -> Result<(), Fail> {
+    let alloc = rt.alloc();
+    let mut buffer = buffer_of(alloc, Codec::Vp8)?;
+    for number in 2..=4_097u64 {
+        push_part(alloc, &mut buffer, number, number == 4_097, &[0x00, 0x90])?;
+    }
+    for _ in 0..2 {
+        push_part(alloc, &mut buffer, 1, false, &[0x10, 0x90])?;
+        assert_eq!(rt; buffer.held(), 4_096);
+        assert_eq!(rt; buffer.ready(), 0);
+        assert_eq!(rt; pop(&mut buffer)?, None);
+    }
+    Ok(())
+}
+
+/// Of a buffer full of packets that each begin a unit, of which the last ends one, the lowest are evicted one by one, and the
+/// frame begins one packet later each time.
+#[test]
+fn ready_as_a_frame_shrinks(rt: HostRuntime) -> Result<(), Fail> {
+    let alloc = rt.alloc();
+    let mut buffer = buffer_of(alloc, Codec::Av1)?;
+    for number in 0..4_096u64 {
+        push_part(
+            alloc,
+            &mut buffer,
+            4_096 - number,
+            number == 0,
+            &[0x10, 0x30],
+        )?;
+        assert_eq!(rt; buffer.ready(), 1);
+    }
+    for number in 4_097..4_100u64 {
+        push_part(alloc, &mut buffer, number, true, &[0x10, 0x30])?;
+    }
+    assert_eq!(rt; buffer.held(), 4_096);
+    assert_eq!(rt; buffer.ready(), 4);
+    let unit = buffer.pop().ok_or("no unit")??;
+    assert_eq!(rt; unit.seq_range(), SeqNo(4)..=SeqNo(4_096));
+    assert_eq!(rt; unit.contiguous, false);
+    assert_eq!(rt; buffer.ready(), 3);
+    assert_eq!(rt; pop(&mut buffer)?, Some((4_097, true)));
+    Ok(())
+}
+
 #[test]
 fn vp8_older_id_passed_over(rt: HostRuntime) -> Result<(), Fail> {
     let alloc = rt.alloc();
