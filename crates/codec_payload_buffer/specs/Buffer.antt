@@ -1,5 +1,5 @@
 -- A buffer's fields, as contracts see them.
-use Rattle.std.specs.Prelude.{◌≡◌, List, map}
+use Rattle.std.specs.Prelude.{◌≡◌, ◌≤◌, List, map}
 use Rattle.codec_payload_buffer.specs.Depack.{depack_of}
 use Rattle.codec_payload_buffer.specs.Held.{held_of}
 use Rattle.codec_payload_buffer.specs.Steps.{State, IsSound}
@@ -21,8 +21,10 @@ state_of b = record {
   limit = b.limit;
 }
 
--- what every buffer keeps: it is sound, and its lists of rows and of frames are those of its packets
+-- what every buffer keeps: it is sound, its limit is in range, and its lists of rows and of frames are those of its packets
 pub record IsIndexed (s : State) (row_list : List Row) (segments : List Segment) : Type 0 where
   pub sound : IsSound s
+  pub least : 1 ≤ s.limit
+  pub most : s.limit ≤ 65536
   pub rows_are : row_list ≡ rows s.held
   pub frames_are : segments ≡ frames s.held

@@ -82,6 +82,29 @@ impl DepacketizingBuffer {
           limit = 4096;
         } }
     {
+        DepacketizingBuffer::with_limit(alloc, depack, hold_back, HELD_LIMIT)
+    }
+
+    /// The same with room for `limit` packets, 1 to 65,536. Takes no memory, whatever the limit is: the memory that a buffer
+    /// has grows with what it has held at once.
+    pub fn with_limit(
+        alloc: Global,
+        depack: CodecDepacketizer,
+        hold_back: usize,
+        limit: usize,
+    ) -> Self
+        requires least { 1 ≤ limit }
+        requires most { limit ≤ 65536 }
+        ensures { result ≡ record {
+          held = [];
+          cutoff = Option.None;
+          mark = false;
+          contiguity = contiguity_for (kind_of_depack (depack_of depack));
+          depack = depack_of depack;
+          hold_back = hold_back;
+          limit = limit;
+        } }
+    {
         DepacketizingBuffer {
             packets: VecDeque::new(alloc),
             rows: VecDeque::new(alloc),
@@ -91,7 +114,7 @@ impl DepacketizingBuffer {
             contiguity: Contiguity::of(&depack),
             depack,
             hold_back,
-            limit: HELD_LIMIT,
+            limit,
         }
     }
 
@@ -174,6 +197,15 @@ impl DepacketizingBuffer {
         ensures sound { IsSound self.now }
     {
         self.packets.len()
+    }
+
+    /// How many packets are held at most, 1 to 65,536. No call changes it.
+    pub fn limit(&self) -> usize
+        ensures value { result ≡ self.now.limit }
+        ensures least { 1 ≤ result }
+        ensures most { result ≤ 65536 }
+    {
+        self.limit
     }
 
     /// How many complete frames are held, whether they may be taken yet or not. Takes no memory, and looks at no packet.

@@ -29,7 +29,7 @@ invariant_of-self c =
     ∙ ap (λ k. drop k s.held) (c.requires.count ∙ ap (λ (t : State). end_of last t.held) (sym c.self.view_is)) ∙ drop_above last s.held c.self.invariant.sound.rises in
     let index = left_index_of s.held (map held_of c.drop_front.new.packets.items) c.args.frame c.self.inside.rows.items c.remove_rows.new.rows.items c.self.inside.segments.items c.pop_front.new.self.items
     c.self.invariant.sound.rises (due_is_first s c.args.frame due) c.self.invariant.rows_are c.self.invariant.frames_are left c.remove_rows.ensures c.pop_front.ensures.rest in
-    record { sound = sound_left s _ last c.self.invariant.sound left refl refl; rows_are = index.rows_are; frames_are = index.frames_are }
+    record { sound = sound_left s _ last c.self.invariant.sound left refl refl; least = c.self.invariant.least; most = c.self.invariant.most; rows_are = index.rows_are; frames_are = index.frames_are }
 
 pub returns : goal.returns
 returns c =

@@ -52,6 +52,8 @@ invariant_of-self-then-len-self c =
     with.rises c.take_lowest.ensures index.rows_are index.frames_are c.shorten_first-before.ensures c.mend_first.ensures in
     record {
       sound = record { rises = out.rises; above = out.above; few = omega (arith, with.long, out.shorter, c.self.invariant.sound.few, length-map new held_of, length-map items held_of) };
+      least = c.self.invariant.least;
+      most = c.self.invariant.most;
       rows_are = left.rows_are;
       frames_are = left.frames_are;
     }
@@ -67,6 +69,8 @@ invariant_of-self-else-len-self c =
     c.self.invariant.sound.rises fresh (c.reserve.ensures.items ∙ c.self.invariant.rows_are) (c.reserve-2.ensures.items ∙ c.self.invariant.frames_are) c.in_ok-place_at.ensures.ok c.row_of_packet-row.ensures c.add_row-row.ensures.rows c.add_row-row.ensures.row c.frame_of.ensures c.note.ensures in
     record {
       sound = record { rises = with.rises; above = with.above; few = omega (arith, c.if-len-self.false, c.len.ensures, length-map new held_of, c.place_at.new.packets.ok.0) };
+      least = c.self.invariant.least;
+      most = c.self.invariant.most;
       rows_are = index.rows_are;
       frames_are = index.frames_are;
     }
