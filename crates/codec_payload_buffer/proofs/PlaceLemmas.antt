@@ -1,5 +1,5 @@
 -- The place of a number among packets in order.
-use Rattle.std.proofs.Common.{◌≡◌, ℕ, zero, suc, ◌<◌, ◌≤◌, ◌+◌, eqb, [], ◌∷◌, List, length, get_or, take, drop, map, refl, ap, ◌∙◌, arith, Bool, true, false, cond, Option, Some, None, add-one, ltb}
+use Rattle.std.proofs.Common.{◌≡◌, ℕ, zero, suc, ◌<◌, ◌≤◌, ◌+◌, ◌-◌, eqb, [], ◌∷◌, List, length, get_or, take, drop, map, refl, ap, ◌∙◌, arith, Bool, true, false, cond, Option, Some, None, add-one, ltb}
 use Rattle.std.proofs.lemmas.List.{map-append, take-map, drop-map, length-map}
 use Rattle.std.specs.List.{insert}
 use Rattle.std.proofs.lemmas.Bool.Decides.{nat_tests}
@@ -139,3 +139,18 @@ end_from_point last (x ∷ xs) (suc i) point le =
     let over : ltb last x.meta.seq_no.0 ≡ false = grind (arith, nat_tests, t) in
     let rest = end_from_point last xs i (λ k d low l. point.0 (suc k) d (omega arith) (omega arith), λ k d low l. point.1 (suc k) d (omega arith) (omega arith)) (omega arith) in
     rw over (omega (arith, rest))
+
+-- a number above the last stands behind all
+pub behind_last : (n : ℕ) (xs : List HeldPacket) (x : HeldPacket) → Rises (map held_of xs) → 0 < length xs → x ≡ get_or xs (length xs - 1) x → x.meta.seq_no.0 < n → length xs ≡ place_of n (map held_of xs)
+behind_last n [] x r some is l = absurd (omega arith)
+behind_last n (y ∷ []) x r some is l =
+    let t : ltb y.meta.seq_no.0 n ≡ true = grind (arith, nat_tests, ap (λ (p : HeldPacket). p.meta.seq_no.0) is, l) in
+    rw t refl
+behind_last n (y ∷ z ∷ xs) x r some is l =
+    let at : length (y ∷ z ∷ xs) - 1 ≡ suc (length (z ∷ xs) - 1) = omega arith in
+    let there : x ≡ get_or (z ∷ xs) (length (z ∷ xs) - 1) x = rw at at is in
+    let over = number_from y.meta.seq_no.0 (z ∷ xs) r.0 (length (z ∷ xs) - 1) x (omega arith) in
+    let low : y.meta.seq_no.0 < n = omega (arith, over, l, ap (λ (p : HeldPacket). p.meta.seq_no.0) there) in
+    let t : ltb y.meta.seq_no.0 n ≡ true = grind (arith, nat_tests, low) in
+    let rest = behind_last n (z ∷ xs) x r.1 (omega arith) there l in
+    rw t (omega (arith, rest))

@@ -1,10 +1,9 @@
 -- The frame that is due, and what is left once it has gone.
-use Rattle.std.proofs.Common.{◌≡◌, ◌≢◌, inl, inr, Err, ℕ, ◌<◌, ◌≤◌, ◌+◌, [], ◌∷◌, ◌++◌, List, length, map, ap, sym, ◌∙◌, arith, cond, Some, None, ltb, ◌||◌}
+use Rattle.std.proofs.Common.{◌≡◌, ◌≢◌, inl, inr, Err, ℕ, ◌<◌, ◌≤◌, ◌+◌, [], ◌∷◌, ◌++◌, List, length, ap, sym, ◌∙◌, arith, cond, Some, None, ltb, ◌||◌}
 use Rattle.std.proofs.lemmas.List.{length-append, length-map}
 use Rattle.std.proofs.lemmas.Bool.Decides.{nat_tests}
 use Rattle.codec_payload_buffer.specs.declared.buffer.frames.Segment.{Segment}
-use Rattle.codec_payload_buffer.specs.declared.buffer.packets.HeldPacket.{HeldPacket}
-use Rattle.codec_payload_buffer.specs.Held.{Held, held_of, Rises, AllAbove, between, above}
+use Rattle.codec_payload_buffer.specs.Held.{Held, Rises, AllAbove, between, above}
 use Rattle.codec_payload_buffer.specs.Frames.{frames}
 use Rattle.codec_payload_buffer.proofs.FrameParts.{IsPart, IsRun}
 use Rattle.codec_payload_base.specs.Time.{Time}
@@ -24,9 +23,13 @@ due_first s (g ∷ gs) f h =
     by_test (starts_right_after s.cutoff g.first || ltb s.hold_back (length (g ∷ gs))) (λ b. cond b (Some g) None ≡ Some f → Some g ≡ Some f)
     (λ e h. h) (λ e h. absurd (cc)) h
 
+-- the frame that is due is the lowest
+pub due_is_first : (s : State) (f : Segment) → due_of s ≡ Some f → first_of (frames s.held) ≡ Some f
+due_is_first s f h = due_first s (frames s.held) f h
+
 -- the packets of the frame that is due stand together
 pub part_due : (s : State) (f : Segment) → due_of s ≡ Some f → (packets after : List Held) × IsPart s.held f packets after
-part_due s f h = first_split [] s.held f (due_first s (frames s.held) f h)
+part_due s f h = first_split [] s.held f (due_is_first s f h)
 
 pub order_due : (s : State) (f : Segment) → due_of s ≡ Some f → f.first ≤ f.last
 order_due s f h = let part = part_due s f h in first_le_last part.0 f.first f.last part.2.time part.2.run
@@ -58,14 +61,6 @@ due_shorter s f r h =
     let split = part_between part.2.before part.0 part.1 f.first f.last part.2.time part.2.run (rw (← part.2.whole) r) in
     let some : 0 < length part.0 = not_empty part.0 f.first f.last part.2.time part.2.run in
     rw part.2.whole (rw split.beyond (omega (arith, some, length-append part.2.before (part.0 ++ part.1), length-append part.0 part.1)))
-
--- what holds of the packets when those up to a number have left
-pub when_left : (items new : List HeldPacket) (last limit : ℕ) → Rises (map held_of items) → length items ≤ limit → map held_of new ≡ above last (map held_of items) → record { rises : Rises (map held_of new); beyond : AllAbove last (map held_of new); few : length new ≤ limit }
-when_left items new last limit r few is = record {
-  rises = rw is (above_rises last (map held_of items) r);
-  beyond = rw is (above_is_above last (map held_of items));
-  few = omega (arith, few, ap length is, above_shorter last (map held_of items), length-map new held_of, length-map items held_of);
-}
 
 pub passes_shorter : (s t : State) → Rises s.held → PassesOver s t → length t.held < length s.held
 passes_shorter s t r p = rw p.left (due_shorter s p.frame r p.is_due)

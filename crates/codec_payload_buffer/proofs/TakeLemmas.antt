@@ -19,13 +19,13 @@ gives_of s f packets bytes answer e is empty gives = rw (is, empty) at gives
 
 module _ (s t : State) (same : s ≡ t) (f : Segment) (due : due_of s ≡ Some f) (e : Depack) where
   -- it goes out
-  pub released : (r : Release) (time : Time) (contiguous seq : Bool) (c : Contiguity) (u : Unpacked) (metas : List RtpMeta) (new : List Held)
+  pub released : (r : Release) (time : Time) (contiguous seq : Bool) (c : Contiguity) (u : Unpacked) (metas : List RtpMeta) (new : State)
       → r ≡ record { time = time; contiguous = contiguous; bytes = u.bytes; codec_extra = u.extra; metas = metas }
-      → Gives s f (Ok u) e → AllOfTime time (packets_of_frame s f) → metas ≡ metas_of (packets_of_frame s f) → seq ≡ follows s f → checked s.contiguity u.extra seq ≡ (true, contiguous, c) → new ≡ above f.last s.held
-      → Releases t r (record s { held = new; cutoff = Some f.last; depack = e; contiguity = c; mark = false })
+      → Gives s f (Ok u) e → AllOfTime time (packets_of_frame s f) → metas ≡ metas_of (packets_of_frame s f) → seq ≡ follows s f → checked s.contiguity u.extra seq ≡ (true, contiguous, c)
+      → new ≡ record s { held = above f.last s.held; cutoff = Some f.last; depack = e; contiguity = c; mark = false } → Releases t r new
   released r time contiguous seq c u metas new is gives of_time of_packets follow answer left =
-      subst (λ (x : State). Releases x r (record s { held = new; cutoff = Some f.last; depack = e; contiguity = c; mark = false })) same
-      (subst (λ (x : Release). Releases s x (record s { held = new; cutoff = Some f.last; depack = e; contiguity = c; mark = false })) (sym is)
+      subst (λ (x : State). Releases x r new) same
+      (subst (λ (x : Release). Releases s x new) (sym is)
       (let given : checked s.contiguity u.extra (follows s f) ≡ (true, contiguous, c) = subst (λ (b : Bool). checked s.contiguity u.extra b ≡ (true, contiguous, c)) follow answer in
       record {
         frame = f;
@@ -36,15 +36,15 @@ module _ (s t : State) (same : s ≡ t) (f : Segment) (due : due_of s ≡ Some f
         time = of_time;
         metas = of_packets;
         contiguous = rw given refl;
-        left = rw (given, left) refl;
+        left = rw given left;
       }))
 
   -- it may not go out
-  pub passed_over : (contiguous seq : Bool) (c : Contiguity) (u : Unpacked) (new : List Held)
-      → Gives s f (Ok u) e → seq ≡ follows s f → checked s.contiguity u.extra seq ≡ (false, contiguous, c) → new ≡ above f.last s.held
-      → PassesOver t (record s { held = new; cutoff = Some f.last; depack = e; contiguity = c })
+  pub passed_over : (contiguous seq : Bool) (c : Contiguity) (u : Unpacked) (new : State)
+      → Gives s f (Ok u) e → seq ≡ follows s f → checked s.contiguity u.extra seq ≡ (false, contiguous, c)
+      → new ≡ record s { held = above f.last s.held; cutoff = Some f.last; depack = e; contiguity = c } → PassesOver t new
   passed_over contiguous seq c u new gives follow answer left =
-      subst (λ (x : State). PassesOver x (record s { held = new; cutoff = Some f.last; depack = e; contiguity = c })) same
+      subst (λ (x : State). PassesOver x new) same
       (let given : checked s.contiguity u.extra (follows s f) ≡ (false, contiguous, c) = subst (λ (b : Bool). checked s.contiguity u.extra b ≡ (false, contiguous, c)) follow answer in
       record {
         frame = f;
@@ -53,13 +53,13 @@ module _ (s t : State) (same : s ≡ t) (f : Segment) (due : due_of s ≡ Some f
         depack = e;
         gives = gives;
         may_not = rw given refl;
-        left = rw (given, left) refl;
+        left = rw given left;
       })
 
   -- the depacketizer refuses it
-  pub refused : (u : State) (fault : PacketError) (new : List Held) → u ≡ record s { held = new; cutoff = Some f.last; depack = e } → fault ≢ faults.OutOfMemory → Gives s f (Err fault) e → new ≡ above f.last s.held → TakesFrame t (Err fault) u
-  refused u fault new is other gives left =
-      subst (λ (x : State). TakesFrame x (Err fault) u) same (inr (record { frame = f; is_due = due; depack = e; not_memory = other; gives = gives; left = rw left at is }))
+  pub refused : (u : State) (fault : PacketError) → u ≡ record s { held = above f.last s.held; cutoff = Some f.last; depack = e } → fault ≢ faults.OutOfMemory → Gives s f (Err fault) e → TakesFrame t (Err fault) u
+  refused u fault is other gives =
+      subst (λ (x : State). TakesFrame x (Err fault) u) same (inr (record { frame = f; is_due = due; depack = e; not_memory = other; gives = gives; left = is }))
 
   -- memory is wanting
   pub stalled : (u : State) → u ≡ record s { depack = e } → Gives s f (Err faults.OutOfMemory) e → TakesFrame t (Err faults.OutOfMemory) u

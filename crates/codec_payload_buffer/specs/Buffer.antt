@@ -1,9 +1,13 @@
 -- A buffer's fields, as contracts see them.
-use Rattle.std.specs.Prelude.{map}
+use Rattle.std.specs.Prelude.{◌≡◌, ◌≤◌, List, map}
 use Rattle.codec_payload_buffer.specs.Depack.{depack_of}
 use Rattle.codec_payload_buffer.specs.Held.{held_of}
-use Rattle.codec_payload_buffer.specs.Steps.{State}
+use Rattle.codec_payload_buffer.specs.Steps.{State, IsSound}
+use Rattle.codec_payload_buffer.specs.Frames.{frames}
+use Rattle.codec_payload_buffer.specs.Rows.{rows}
 use Rattle.codec_payload_buffer.specs.declared.buffer.DepacketizingBuffer.TheInside.{Inside}
+use Rattle.codec_payload_buffer.specs.declared.buffer.frames.Segment.{Segment}
+use Rattle.codec_payload_buffer.specs.declared.buffer.rows.Row.{Row}
 
 -- what the fields say of the buffer
 abbrev pub state_of : {B : _} → Inside B → State
@@ -16,3 +20,11 @@ state_of b = record {
   hold_back = b.hold_back;
   limit = b.limit;
 }
+
+-- what every buffer keeps: it is sound, its limit is in range, and its lists of rows and of frames are those of its packets
+pub record IsIndexed (s : State) (row_list : List Row) (segments : List Segment) : Type 0 where
+  pub sound : IsSound s
+  pub least : 1 ≤ s.limit
+  pub most : s.limit ≤ 65536
+  pub rows_are : row_list ≡ rows s.held
+  pub frames_are : segments ≡ frames s.held

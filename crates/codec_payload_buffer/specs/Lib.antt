@@ -6,6 +6,7 @@ pub mod Frames
 pub mod Held
 pub mod Pack
 pub mod Release
+pub mod Rows
 pub mod Scan
 pub mod Steps
 pub mod Stretches

@@ -4,13 +4,15 @@ ghost use Rattle.std.specs.Prelude.{◌≡◌, ◌≤◌, ◌<◌, IsTrue, IsOk,
 ghost use Rattle.codec_payload_base.specs.declared.error.PacketError.TheVariants.{OutOfMemory};
 ghost use Rattle.codec_payload_buffer.specs.ContiguityTable.{contiguity_for};
 ghost use Rattle.codec_payload_buffer.specs.Depack.{depack_of, kind_of_depack};
-ghost use Rattle.codec_payload_buffer.specs.Held.{Held, Rises};
-ghost use Rattle.codec_payload_buffer.specs.Frames.{AreFramesOfSet, AreInOrder, AreApart, AreOnlyList, BothSaySame};
+ghost use Rattle.codec_payload_buffer.specs.Held.{Held, Rises, above};
+ghost use Rattle.codec_payload_buffer.specs.Frames.{frames, AreFramesOfSet, AreInOrder, AreApart, AreOnlyList, BothSaySame};
+ghost use Rattle.codec_payload_buffer.specs.Scan.{end_of};
 ghost use Rattle.codec_payload_buffer.specs.Steps.{IsSound, IsArrived, pushed, is_dropped, due_of, TriesFrame, Pops, HasTaken};
 ghost use Rattle.codec_payload_buffer.specs.Stretches.{LeavesNumbers, OrderIsFree};
 
 pub mod frames;
 mod packets;
+mod rows;
 #[cfg(test)]
 mod tests;
 mod unit;
@@ -19,11 +21,12 @@ use crate::codec::{CodecDepacketizer, Depacketizer, NoBox};
 use crate::contiguity::Contiguity;
 use codec_payload_base::error::PacketError;
 use codec_payload_base::interface::CodecExtra;
-use frames::{Segment, search_frames};
+use frames::{Segment, frame_of, mend_first, note};
 use packets::{
     HeldPacket, copy_metas, drop_front, find_place, frame_range, is_at, is_too_late, make_room,
     place_at, starts_next, take_lowest, unpack,
 };
+use rows::{Row, add_row, remove_rows, row_of_packet, shorten_first};
 use std::alloc::Global;
 use std::collections::VecDeque;
 use std::marker::Model;
@@ -39,6 +42,10 @@ const HELD_LIMIT: usize = 4_096;
 #[derive(Debug, Drop)]
 pub struct DepacketizingBuffer<B = NoBox> {
     packets: VecDeque<HeldPacket>,
+    /// The rows in which the packets stand together.
+    rows: VecDeque<Row>,
+    /// The complete frames, in order.
+    segments: VecDeque<Segment>,
     /// The number up to which packets come too late.
     cutoff: Option<u64>,
     /// Whether a packet was evicted since the latest release.
@@ -51,14 +58,14 @@ pub struct DepacketizingBuffer<B = NoBox> {
 }
 
 impl<B> Model for DepacketizingBuffer<B> {
-    ghost use Rattle.codec_payload_buffer.specs.Steps.{State, IsSound};
-    ghost use Rattle.codec_payload_buffer.specs.Buffer.{state_of};
+    ghost use Rattle.codec_payload_buffer.specs.Steps.{State};
+    ghost use Rattle.codec_payload_buffer.specs.Buffer.{state_of, IsIndexed};
 
     ghost Value = { State };
 
     ghost view = { state_of };
 
-    ghost invariant = { λ b. IsSound (state_of b) };
+    ghost invariant = { λ b. IsIndexed (state_of b) b.rows.items b.segments.items };
 }
 
 impl<B: Depacketizer> DepacketizingBuffer<B> {
@@ -75,21 +82,48 @@ impl<B: Depacketizer> DepacketizingBuffer<B> {
           limit = 4096;
         } }
     {
+        DepacketizingBuffer::with_limit(alloc, depack, hold_back, HELD_LIMIT)
+    }
+
+    /// The same with room for `limit` packets, 1 to 65,536. Takes no memory, whatever the limit is: the memory that a buffer
+    /// has grows with what it has held at once.
+    pub fn with_limit(
+        alloc: Global,
+        depack: CodecDepacketizer<B>,
+        hold_back: usize,
+        limit: usize,
+    ) -> Self
+        requires least { 1 ≤ limit }
+        requires most { limit ≤ 65536 }
+        ensures { result ≡ record {
+          held = [];
+          cutoff = Option.None;
+          mark = false;
+          contiguity = contiguity_for (kind_of_depack (depack_of depack));
+          depack = depack_of depack;
+          hold_back = hold_back;
+          limit = limit;
+        } }
+    {
         DepacketizingBuffer {
             packets: VecDeque::new(alloc),
+            rows: VecDeque::new(alloc),
+            segments: VecDeque::new(alloc),
             cutoff: None,
             mark: false,
             contiguity: Contiguity::of(&depack),
             depack,
             hold_back,
-            limit: HELD_LIMIT,
+            limit,
         }
     }
 
     /// Takes a packet in. One whose number is at or below the cutoff, or is held already, is dropped, which takes no
     /// memory. Where more packets than the limit are held then, the lowest is evicted. The only fault is want of memory.
     ///
-    /// Out of order it costs a binary search and a move of entries, not of payloads.
+    /// In order it costs the same however many packets are held. Out of order it costs three binary searches and moves of
+    /// entries, not of payloads: no packets are walked, neither for a tail nor for one that comes between others. An eviction
+    /// looks for the next packet that begins a unit, where the one that leaves did; each packet is looked at so twice at most.
     pub fn push(&mut self, meta: RtpMeta, data: Vec<u8>) -> Result<(), PacketError>
         ensures ok { OnOk result ((p : Held) × IsArrived self.old.depack meta «data».items p × (self.new ≡ pushed self.old p)) }
         ensures err { OnErr result (self.new ≡ self.old) }
@@ -113,9 +147,16 @@ impl<B: Depacketizer> DepacketizingBuffer<B> {
             head,
             tail,
         };
+        let row = row_of_packet(&packet);
+        self.rows.reserve(1)?;
+        self.segments.reserve(1)?;
         place_at(&mut self.packets, place, packet)?;
+        let row = add_row(&mut self.rows, row);
+        note(&mut self.segments, frame_of(&row));
         if self.packets.len() > self.limit {
             self.cutoff = Some(take_lowest(&mut self.packets));
+            let (before, after) = shorten_first(&mut self.rows, &self.packets);
+            mend_first(&mut self.segments, before, after);
             self.mark = true;
         }
         Ok(())
@@ -132,7 +173,7 @@ impl<B: Depacketizer> DepacketizingBuffer<B> {
     /// frames that were passed over before. A unit of layered VP9 that lost the packets of its base layer comes without its
     /// front, as complete, and is told contiguous where it is the first of the stream.
     ///
-    /// Looks at the held packets once for each frame that it takes.
+    /// Looks at the first complete frame and at how many there are, and at the packets that leave alone.
     pub fn pop(&mut self) -> Option<Result<Depacketized, PacketError>>
         ensures pops { Pops self.old result self.new }
         ensures waits { due_of self.old ≡ Option.None → result ≡ Option.None }
@@ -158,14 +199,29 @@ impl<B: Depacketizer> DepacketizingBuffer<B> {
         self.packets.len()
     }
 
+    /// How many packets are held at most, 1 to 65,536. No call changes it.
+    pub fn limit(&self) -> usize
+        ensures value { result ≡ self.now.limit }
+        ensures least { 1 ≤ result }
+        ensures most { result ≤ 65536 }
+    {
+        self.limit
+    }
+
+    /// How many complete frames are held, whether they may be taken yet or not. Takes no memory, and looks at no packet.
+    pub fn ready(&self) -> usize
+        ensures { result ≡ length (frames self.now.held) }
+    {
+        self.segments.len()
+    }
+
     /// The frame that a pop takes next, if one may be taken.
     fn due(&self) -> Option<Segment>
         ensures due { result ≡ due_of self.now }
         ensures rises { Rises self.now.held }
     {
-        let found = search_frames(&self.packets);
-        let frame = found.first?;
-        if starts_next(self.cutoff, frame.first) || found.count > self.hold_back {
+        let frame = *self.segments.front()?;
+        if starts_next(self.cutoff, frame.first) || self.segments.len() > self.hold_back {
             Some(frame)
         } else {
             None
@@ -196,8 +252,7 @@ impl<B: Depacketizer> DepacketizingBuffer<B> {
             return Err(PacketError::OutOfMemory);
         }
         let follows = starts_next(self.cutoff, frame.first) && !self.mark;
-        drop_front(&mut self.packets, to);
-        self.cutoff = Some(frame.last);
+        self.leave(frame, to);
         unpacked?;
         let (may_go, contiguous) = self.contiguity.check(&codec_extra, follows);
         if !may_go {
@@ -206,6 +261,18 @@ impl<B: Depacketizer> DepacketizingBuffer<B> {
         self.mark = false;
         let time = metas[0].time;
         Ok(Some(Depacketized::new(time, contiguous, bytes, codec_extra, metas)))
+    }
+
+    /// The frame that is due and all packets below it leave, the first `count` of all.
+    fn leave(&mut self, frame: Segment, count: usize)
+        requires due { due_of self.old ≡ Option.Some frame }
+        requires count { count ≡ end_of frame.last self.old.held }
+        ensures { self.new ≡ record self.old { held = above frame.last self.old.held; cutoff = Option.Some frame.last } }
+    {
+        drop_front(&mut self.packets, count);
+        remove_rows(&mut self.rows, frame.last);
+        self.segments.pop_front();
+        self.cutoff = Some(frame.last);
     }
 }
 

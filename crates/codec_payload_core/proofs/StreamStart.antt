@@ -95,12 +95,12 @@ from_start stream samples steps run after p d sends receives kept = record {
 -- a run of payloader, buffer and sink that are those of the stream
 pub runs_stream : (stream : Stream) (samples : List ToPayload) (steps : List Step) (run : Run) (payloading : Payloading) (buffer : State) (sink : SentPackets) (after : RunState) (d : Depack)
     → payloading_for stream ≡ Some payloading → depack_for stream.spec.codec ≡ Some d
-    → buffer ≡ empty_buffer stream.hold_back (configured_depack stream.spec.octet_align stream.spec.clock_rate d)
+    → buffer ≡ empty_buffer stream.hold_back stream.limit (configured_depack stream.spec.octet_align stream.spec.clock_rate d)
     → sink ≡ record { first = stream.first_number; packets = [] }
     → KeepsPromises (ran samples steps (run_state payloading buffer sink) run after) → RunsStream stream samples steps run
 runs_stream stream samples steps run payloading buffer sink after d sends receives empty unused kept =
     let found = some_of_map _ _ payloading sends in
     let starts : run_state payloading buffer sink ≡ fresh stream (configured stream.spec.octet_align found.0) (configured_depack stream.spec.octet_align stream.spec.clock_rate d) =
-    ap (λ (b : State). run_state payloading b sink) empty ∙ (ap (λ (k : SentPackets). run_state payloading (empty_buffer stream.hold_back (configured_depack stream.spec.octet_align stream.spec.clock_rate d)) k) unused
-    ∙ ap (λ (p : Payloading). run_state p (empty_buffer stream.hold_back (configured_depack stream.spec.octet_align stream.spec.clock_rate d)) (record { first = stream.first_number; packets = [] })) (sym found.2)) in
+    ap (λ (b : State). run_state payloading b sink) empty ∙ (ap (λ (k : SentPackets). run_state payloading (empty_buffer stream.hold_back stream.limit (configured_depack stream.spec.octet_align stream.spec.clock_rate d)) k) unused
+    ∙ ap (λ (p : Payloading). run_state p (empty_buffer stream.hold_back stream.limit (configured_depack stream.spec.octet_align stream.spec.clock_rate d)) (record { first = stream.first_number; packets = [] })) (sym found.2)) in
     from_start stream samples steps run after found.0 d found.1 receives (subst (λ (s : RunState). KeepsPromises (ran samples steps s run after)) starts kept)

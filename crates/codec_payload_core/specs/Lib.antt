@@ -52,6 +52,7 @@ pub use Rattle.codec_payload_buffer.specs.Frames
 pub use Rattle.codec_payload_buffer.specs.Held
 pub use Rattle.codec_payload_buffer.specs.Pack
 pub use Rattle.codec_payload_buffer.specs.Release
+pub use Rattle.codec_payload_buffer.specs.Rows
 pub use Rattle.codec_payload_buffer.specs.Scan
 pub use Rattle.codec_payload_buffer.specs.Steps
 pub use Rattle.codec_payload_buffer.specs.Stretches

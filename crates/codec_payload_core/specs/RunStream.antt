@@ -15,22 +15,22 @@ use Rattle.codec_payload_core.specs.declared.schedule.Step.{Step}
 use Rattle.codec_payload_core.specs.declared.schedule.Stream.{Stream}
 
 -- an empty buffer over that depacketizer
-abbrev pub empty_buffer : ℕ → Depack → State
-empty_buffer hold_back depack = record {
+abbrev pub empty_buffer : ℕ → ℕ → Depack → State
+empty_buffer hold_back limit depack = record {
   held = [];
   cutoff = None;
   mark = false;
   contiguity = contiguity_for (kind_of_depack depack);
   depack = depack;
   hold_back = hold_back;
-  limit = 4096;
+  limit = limit;
 }
 
 -- the payloader, the buffer and the sink of a stream before anything is sent
 abbrev pub fresh : Stream → Pack → Depack → RunState
 fresh stream pack depack = run_state
     (record { pack = pack; clock_rate = stream.spec.clock_rate })
-    (empty_buffer stream.hold_back depack)
+    (empty_buffer stream.hold_back stream.limit depack)
     (record { first = stream.first_number; packets = [] })
 
 -- packetizer and depacketizer are those of the codec, both configured by the specification; where the samples can be read

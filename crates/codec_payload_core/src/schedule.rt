@@ -100,10 +100,12 @@ pub struct Stream {
     pub first_number: u64,
     /// How many complete frames may wait behind a gap; one more, and the gap is given up.
     pub hold_back: usize,
+    /// How many packets the buffer holds at most: 1 to 65,536.
+    pub limit: usize,
 }
 
-/// Builds a payloader, a buffer of 4,096 packets and a sink for a stream, both sides configured by its specification, and
-/// runs the steps over them. The answer is `None` where the codec has no packetizer.
+/// Builds a payloader, a buffer and a sink for a stream, both sides configured by its specification, and runs the steps
+/// over them. The answer is `None` where the codec has no packetizer.
 pub fn run_stream(
     alloc: Global,
     stream: Stream,
@@ -112,6 +114,8 @@ pub fn run_stream(
 ) -> Result<Option<Run>, PacketError>
     requires id { stream.first_id ≤ 32767 }
     requires number { stream.first_number ≤ 2 ^ 62 }
+    requires least { 1 ≤ stream.limit }
+    requires most { stream.limit ≤ 65536 }
     ensures none { (result ≡ Result.Ok Option.None) ↔ (pack_for stream.mode stream.first_id stream.spec.codec ≡ Option.None) }
     ensures headline { IfOk result (λ run. IfSome run (RunsStream stream samples.now steps.now)) }
     ensures fault { IfErr result (λ fault. fault ≡ OutOfMemory) }
@@ -123,7 +127,7 @@ pub fn run_stream(
         return Ok(None);
     };
     depack.configure_for(&stream.spec);
-    let mut buffer = DepacketizingBuffer::new(alloc, depack, stream.hold_back);
+    let mut buffer = DepacketizingBuffer::with_limit(alloc, depack, stream.hold_back, stream.limit);
     let mut sink = MemorySink::new(alloc, stream.first_number);
     let run = run_schedule(
         alloc,

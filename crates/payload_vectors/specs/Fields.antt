@@ -49,6 +49,10 @@ AreSetup name rate hold_back number id =
     IsSome (codec_of name) × IsNumber (2 ^ 32) rate × (0 < digits_value 10 rate) × IsNumber (2 ^ 64) hold_back
     × IsNumber (2 ^ 62 + 1) number × IsNumber (2 ^ 15) id
 
+-- the field after `limit` is a number from 1 to 65,536
+abbrev pub IsLimitField : List ℕ → Type 0
+IsLimitField text = IsNumber 65537 text × (0 < digits_value 10 text)
+
 -- the fields after `sample` are a time, `0` or `1`, and hexadecimal digits
 abbrev pub AreSample : List ℕ → List ℕ → List ℕ → Type 0
 AreSample time talk_spurt hex =

@@ -1,10 +1,10 @@
 -- What lines say.
-use Rattle.std.specs.Prelude.{◌≡◌, ◌≢◌, ◌==◌, ◌↔◌, ◌^◌, ℕ, IsTrue, List, [], ◌∷◌, codes, IfSome, IsSome, Option, Some, None}
+use Rattle.std.specs.Prelude.{◌≡◌, ◌≢◌, ◌==◌, ◌↔◌, ◌^◌, ℕ, IsTrue, List, [], ◌∷◌, codes, IfSome, IsSome, Option, Some, None, ◌⊎◌}
 use Rattle.std.specs.List.{slice_split}
 use Rattle.std.specs.Option.{SomeIff}
 use Rattle.std.specs.Str.Parse.{digits_value}
 use Rattle.codec_payload_core.specs.declared.schedule.Step.TheVariants.{Pop, Push, Send}
-use Rattle.payload_vectors.specs.Fields.{AreSample, AreSetup, IsNumber, codec_of, names_octet_aligned, names_vp8_ids, vp9_mode_of}
+use Rattle.payload_vectors.specs.Fields.{AreSample, AreSetup, IsLimitField, IsNumber, codec_of, names_octet_aligned, names_vp8_ids, vp9_mode_of}
 use Rattle.payload_vectors.specs.HexField.{hex_field_of}
 use Rattle.payload_vectors.specs.declared.line.Line.{Line}
 use Rattle.payload_vectors.specs.declared.line.Line.TheVariants as lines
@@ -24,7 +24,7 @@ pub record IsSetup (name rate hold_back number id : List ℕ) (setup : Setup) : 
 -- the fields have the form of a line: its word, and as many fields as it has
 abbrev pub HasForm : List (List ℕ) → Type 0
 HasForm (word ∷ []) = word ≡ codes "pop"
-HasForm (word ∷ packet ∷ []) = word ≡ codes "push"
+HasForm (word ∷ field ∷ []) = (word ≡ codes "push") ⊎ (word ≡ codes "limit")
 HasForm (word ∷ sample ∷ mtu ∷ []) = word ≡ codes "send"
 HasForm (word ∷ time ∷ talk_spurt ∷ hex ∷ []) = word ≡ codes "sample"
 HasForm (word ∷ name ∷ rate ∷ hold_back ∷ number ∷ id ∷ []) = word ≡ codes "codec"
@@ -33,20 +33,33 @@ HasForm _ = ⊥
 -- the line that sets a codec
 abbrev pub SetsCodec : List ℕ → List ℕ → List ℕ → List ℕ → List ℕ → Line → Type 0
 SetsCodec name rate hold_back number id (lines.Codec setup) = IsSetup name rate hold_back number id setup
+SetsCodec name rate hold_back number id (lines.Limit _) = ⊥
 SetsCodec name rate hold_back number id (lines.Sample _ _ _) = ⊥
 SetsCodec name rate hold_back number id (lines.Step _) = ⊥
+
+-- the line that sets the limit of the buffer
+abbrev pub SetsLimit : List ℕ → Line → Type 0
+SetsLimit text (lines.Limit limit) = limit.packets ≡ digits_value 10 text
+SetsLimit text (lines.Codec _) = ⊥
+SetsLimit text (lines.Sample _ _ _) = ⊥
+SetsLimit text (lines.Step _) = ⊥
 
 -- the line that gives a sample
 abbrev pub GivesSample : List ℕ → List ℕ → List ℕ → Line → Type 0
 GivesSample time talk_spurt hex (lines.Sample ticks starts bytes) =
     (ticks ≡ digits_value 10 time) × (IsTrue starts ↔ (talk_spurt ≡ codes "1")) × (hex_field_of hex ≡ Some bytes.items)
 GivesSample time talk_spurt hex (lines.Codec _) = ⊥
+GivesSample time talk_spurt hex (lines.Limit _) = ⊥
 GivesSample time talk_spurt hex (lines.Step _) = ⊥
 
 -- what the fields after `codec` give
 abbrev pub IsCodec : List ℕ → List ℕ → List ℕ → List ℕ → List ℕ → Option Line → Type 0
 IsCodec name rate hold_back number id found =
     (IsSome found ↔ AreSetup name rate hold_back number id) × IfSome found (SetsCodec name rate hold_back number id)
+
+-- what the field after `limit` gives
+abbrev pub IsLimit : List ℕ → Option Line → Type 0
+IsLimit text found = (IsSome found ↔ IsLimitField text) × IfSome found (SetsLimit text)
 
 -- what the fields after `sample` give
 abbrev pub IsSample : List ℕ → List ℕ → List ℕ → Option Line → Type 0
@@ -70,7 +83,9 @@ fields_of text = slice_split (λ b. b == 32) text
 -- what a line of these fields says, by its word: nothing where it has no such word, other fields, or fields out of range
 abbrev pub Says : List (List ℕ) → Option Line → Type 0
 Says (word ∷ []) found = (word ≡ codes "pop" → found ≡ Some (lines.Step Pop)) × (word ≢ codes "pop" → found ≡ None)
-Says (word ∷ packet ∷ []) found = (word ≡ codes "push" → IsPush packet found) × (word ≢ codes "push" → found ≡ None)
+Says (word ∷ field ∷ []) found =
+    (word ≡ codes "push" → IsPush field found) × (word ≡ codes "limit" → IsLimit field found)
+    × (word ≢ codes "push" → word ≢ codes "limit" → found ≡ None)
 Says (word ∷ sample ∷ mtu ∷ []) found =
     (word ≡ codes "send" → IsSend sample mtu found) × (word ≢ codes "send" → found ≡ None)
 Says (word ∷ time ∷ talk_spurt ∷ hex ∷ []) found =

@@ -1,9 +1,10 @@
 //! The lines of the input.
 
 ghost use Rattle.std.specs.Prelude.{ℕ, List, ◌≡◌, ◌∷◌, [], ◌↔◌, ◌≤◌, ◌^◌, map, codes, IsSome, IfSome, IfOk, Some, None};
+ghost use Rattle.std.specs.Str.Parse.{digits_value};
 ghost use Rattle.codec_payload_core.specs.Depack.{depack_for};
 ghost use Rattle.codec_payload_core.specs.Pack.{pack_for};
-ghost use Rattle.payload_vectors.specs.Fields.{AreSetup};
+ghost use Rattle.payload_vectors.specs.Fields.{AreSetup, IsLimitField};
 
 use crate::digits::hex_field;
 use crate::fields::{codec_named, count, decimal, has_vp8_ids, is_octet_aligned, truth, vp9_mode};
@@ -17,6 +18,9 @@ const GREATEST_FIRST_NUMBER: u64 = 1 << 62;
 
 /// The greatest picture id, which has 15 bits.
 const GREATEST_PICTURE_ID: u16 = 0x7fff;
+
+/// The greatest limit of a buffer, in packets.
+const GREATEST_LIMIT: usize = 65_536;
 
 /// What the first line sets.
 #[derive(Clone, Copy, Debug)]
@@ -70,10 +74,36 @@ impl Setup {
     }
 }
 
+/// How many packets the buffer holds at most.
+#[derive(Clone, Copy, Debug)]
+pub struct Limit {
+    pub packets: usize,
+    ghost least: { 1 ≤ packets },
+    ghost most: { packets ≤ 65536 },
+}
+
+impl Limit {
+    /// The limit of a buffer where no line sets one.
+    pub const DEFAULT: Limit = Limit { packets: 4_096 };
+
+    /// The limit that the field after `limit` sets.
+    fn from_field(packets: &str) -> Option<Limit>
+        ensures found { IsSome result ↔ IsLimitField packets.now }
+        ensures value { IfSome result (λ limit. limit.packets ≡ digits_value 10 packets.now) }
+    {
+        let packets = count(packets)?;
+        if packets < 1 || packets > GREATEST_LIMIT {
+            return None;
+        }
+        Some(Limit { packets })
+    }
+}
+
 /// A line of the input, without its newline.
 #[derive(Debug, Drop)]
 pub enum Line {
     Codec(Setup),
+    Limit(Limit),
     Sample {
         time: u64,
         talk_spurt: bool,
@@ -84,7 +114,7 @@ pub enum Line {
 
 impl Line {
     ghost use Rattle.codec_payload_core.specs.declared.schedule.Step.TheVariants.{Pop};
-    ghost use Rattle.payload_vectors.specs.Line.{HasForm, IsCodec, IsPush, IsSample, IsSend, Says, fields_of};
+    ghost use Rattle.payload_vectors.specs.Line.{HasForm, IsCodec, IsLimit, IsPush, IsSample, IsSend, Says, fields_of};
     ghost use Rattle.payload_vectors.specs.declared.line.Line.TheVariants as lines;
 
     /// The line that a text spells, whose fields have one space between them. `Ok(None)` for any other text.
@@ -101,6 +131,8 @@ impl Line {
             → IfOk result (λ found. found ≡ Some (lines.Step Pop)) }
         ensures push { (packet : List ℕ) → map (λ field. field.now) fields.now ≡ codes "push" ∷ packet ∷ []
             → IfOk result (IsPush packet) }
+        ensures limit { (packets : List ℕ) → map (λ field. field.now) fields.now ≡ codes "limit" ∷ packets ∷ []
+            → IfOk result (IsLimit packets) }
         ensures send { (sample mtu : List ℕ) → map (λ field. field.now) fields.now ≡ codes "send" ∷ sample ∷ mtu ∷ []
             → IfOk result (IsSend sample mtu) }
         ensures sample { (time talk_spurt hex : List ℕ)
@@ -118,6 +150,7 @@ impl Line {
             }
             ["send", sample, mtu] => Ok(Line::send(sample, mtu)),
             ["push", packet] => Ok(count(packet).map(|k| Line::Step(Step::Push(k)))),
+            ["limit", packets] => Ok(Limit::from_field(packets).map(Line::Limit)),
             ["pop"] => Ok(Some(Line::Step(Step::Pop))),
             _ => Ok(None),
         }

@@ -6,7 +6,7 @@ ghost use Rattle.codec_payload_core.specs.Pack.{Vp8Pack, configured, pack_for};
 ghost use Rattle.payload_vectors.specs.Program.{IsFaultOf, status_of};
 ghost use Rattle.payload_vectors.specs.declared.run.ProgramFault.TheVariants.{BadLine, OutOfMemory, TooLong};
 
-use crate::line::Setup;
+use crate::line::{Limit, Setup};
 use crate::print::printed;
 use crate::script::Script;
 use codec_payload_core::buffer::DepacketizingBuffer;
@@ -157,14 +157,15 @@ fn payloader(setup: &Setup) -> Payloader
 }
 
 /// The empty buffer that is set up.
-fn buffer(alloc: Global, setup: &Setup) -> DepacketizingBuffer
+fn buffer(alloc: Global, setup: &Setup, limit: Limit) -> DepacketizingBuffer
     ensures empty { result.held ≡ [] }
+    ensures limit { result.limit ≡ limit.packets }
     ensures hold_back { result.hold_back ≡ setup.now.hold_back }
     ensures depack { Some result.depack ≡ option_map (configured_depack setup.now.octet_align setup.now.rate) (depack_for setup.now.codec) }
 {
     let mut depack = CodecDepacketizer::from_codec(alloc, setup.codec).unwrap();
     depack.configure_for(&codec_spec(setup));
-    DepacketizingBuffer::new(alloc, depack, setup.hold_back)
+    DepacketizingBuffer::with_limit(alloc, depack, setup.hold_back, limit.packets)
 }
 
 /// What the script's run prints.
@@ -173,7 +174,7 @@ fn output_of(alloc: Global, script: &Script) -> Result<String, ProgramFault>
 {
     let setup = script.setup;
     let mut payloader = payloader(&setup);
-    let mut buffer = buffer(alloc, &setup);
+    let mut buffer = buffer(alloc, &setup, script.limit);
     let mut sink = MemorySink::new(alloc, setup.first_number);
     let run = run_schedule(
         alloc,

@@ -3,7 +3,7 @@
 ghost use Rattle.std.specs.Prelude.{◌≡◌, IfErr};
 ghost use Rattle.payload_vectors.specs.Program.{IsLineFault};
 
-use crate::line::{Line, Setup};
+use crate::line::{Limit, Line, Setup};
 use crate::run::ProgramFault;
 use codec_payload_core::schedule::Step;
 use codec_payload_core::wire::{ExtensionValues, MediaTime, Pt, Ticks, ToPayload};
@@ -16,21 +16,25 @@ const PAYLOAD_TYPE: u8 = 96;
 #[derive(Drop)]
 pub struct Script {
     pub setup: Setup,
+    pub limit: Limit,
     pub samples: Vec<ToPayload>,
     pub steps: Vec<Step>,
 }
 
 impl Script {
-    /// The script whose lines are all of `input`. The first line sets up the run, and no other does.
+    /// The script whose lines are all of `input`. The first line sets up the run, and no other does; at most one of the
+    /// others sets the limit of the buffer.
     pub fn read(alloc: Global, input: &[u8]) -> Result<Script, ProgramFault>
         ensures { IfErr result IsLineFault }
     {
         let mut setup = None;
+        let mut limit = None;
         let mut samples = Vec::new(alloc);
         let mut steps = Vec::new(alloc);
         for (index, bytes) in input.split_inclusive(|byte| *byte == b'\n').enumerate() {
-            match (parse_line(alloc, bytes)?, setup) {
-                (Some(Line::Codec(read)), None) => setup = Some(read),
+            match (parse_line(alloc, bytes)?, setup, limit) {
+                (Some(Line::Codec(read)), None, _) => setup = Some(read),
+                (Some(Line::Limit(read)), Some(_), None) => limit = Some(read),
                 (
                     Some(
                         Line::Sample {
@@ -40,16 +44,18 @@ impl Script {
                         },
                     ),
                     Some(setup),
+                    _,
                 ) => {
                     samples.push(sample(&setup, time, talk_spurt, bytes))?;
                 }
-                (Some(Line::Step(step)), Some(_)) => steps.push(step)?,
+                (Some(Line::Step(step)), Some(_), _) => steps.push(step)?,
                 _ => return Err(ProgramFault::BadLine(index + 1)),
             }
         }
         let setup = setup.ok_or(ProgramFault::BadLine(1))?;
         Ok(Script {
             setup,
+            limit: limit.unwrap_or(Limit::DEFAULT),
             samples,
             steps,
         })

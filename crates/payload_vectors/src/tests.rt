@@ -315,6 +315,49 @@ fn bad_lines(rt: HostRuntime) -> Result<(), Fail> {
 }
 
 #[test]
+fn program_limit_out_of_range(rt: HostRuntime) -> Result<(), Fail> {
+    let alloc = rt.alloc();
+    for (input, line) in [
+        ("codec opus 48000 0 10 0\nlimit 0\n", 2),
+        ("codec opus 48000 0 10 0\nlimit 65537\n", 2),
+        ("codec opus 48000 0 10 0\nlimit -1\n", 2),
+        ("codec opus 48000 0 10 0\nlimit\n", 2),
+        ("codec opus 48000 0 10 0\nlimit 2 2\n", 2),
+        ("codec opus 48000 0 10 0\nlimit 2\npop\nlimit 2\n", 4),
+        ("limit 2\ncodec opus 48000 0 10 0\n", 1),
+    ] {
+        let mut output = Vec::new(alloc);
+        let mut messages = Vec::new(alloc);
+        let answer = run_lines(alloc, &mut input.as_bytes(), &mut output);
+        assert_eq!(rt; answer, Err(ProgramFault::BadLine(line)), "for {input}");
+        assert_eq!(rt; finish(answer, &mut messages), 2, "for {input}");
+        assert!(rt; output.is_empty());
+    }
+    Ok(())
+}
+
+/// The three packets of a frame. A buffer of two evicts the first, wherever the line with the limit stands.
+#[test]
+fn limit_of_the_buffer(rt: HostRuntime) -> Result<(), Fail> {
+    let alloc = rt.alloc();
+    let sent = "sent 3\npacket 1 0 1090\npacket 2 0 0090\npacket 3 1 0090\n";
+    let steps = "sample 0 0 909090\nsend 0 2\npush 0\npush 1\npush 2\npop\n";
+    for (before, behind, popped) in [
+        ("limit 2\n", "", "none\n"),
+        ("", "limit 2\n", "none\n"),
+        ("limit 3\n", "", "unit 1 3 1 909090\n"),
+        ("", "limit 065536\n", "unit 1 3 1 909090\n"),
+        ("", "", "unit 1 3 1 909090\n"),
+    ] {
+        let input = format!(in alloc; "codec vp8 90000 0 1 0\n{before}{steps}{behind}")?;
+        let wanted = format!(in alloc; "{sent}{popped}")?;
+        let printed = output_for(alloc, &input)?;
+        assert_eq!(rt; printed.as_str(), wanted.as_str(), "for {input}");
+    }
+    Ok(())
+}
+
+#[test]
 fn a_byte_that_is_no_text(rt: HostRuntime) -> Result<(), Fail> {
     let alloc = rt.alloc();
     let mut input = SETUP.as_bytes().chain(b"\xff\n".as_slice());

@@ -1,12 +1,10 @@
-//! The search for complete frames among packets.
+//! The complete frames among packets, in an ordered list that is mended as packets come and go.
 
-ghost use Rattle.std.specs.Prelude.{◌≡◌, ◌<◌, ◌^◌, ◌-◌, map, length};
-ghost use Rattle.std.specs.Option.{option_copied};
-ghost use Rattle.codec_payload_buffer.specs.Held.{held_of};
-ghost use Rattle.codec_payload_buffer.specs.Frames.{frames, leads_to, start_or_here};
-ghost use Rattle.codec_payload_buffer.specs.Scan.{first_of, joins, held_option, noted_at};
+ghost use Rattle.std.specs.Prelude.{◌≡◌, ◌<◌, IfSome};
+ghost use Rattle.std.specs.VecDeque.{deque_len, deque_capacity};
+ghost use Rattle.codec_payload_buffer.specs.Rows.{EndsRise, frame_of_row, frame_place, noted_if, first_mended};
 
-use super::packets::HeldPacket;
+use super::rows::Row;
 use std::collections::VecDeque;
 
 /// A complete frame: the sequence numbers of its first packet and its last.
@@ -16,81 +14,62 @@ pub struct Segment {
     pub last: u64,
 }
 
-/// What a search of the packets has found.
-#[derive(Clone, Copy, Debug, PartialEq, Eq)]
-pub(super) struct Found {
-    /// The lowest frame.
-    pub(super) first: Option<Segment>,
-    /// How many frames there are.
-    pub(super) count: usize,
-}
-
-/// Whether `earlier` may stand right before `packet` in one frame: the number before, the same time, and no tail.
-fn leads(earlier: &HeldPacket, packet: &HeldPacket) -> bool
-    ensures { result ≡ leads_to (held_of earlier.now) (held_of packet.now) }
+/// The frame of a row: from its lowest head to its tail, where it has both.
+pub(super) fn frame_of(row: &Row) -> Option<Segment>
+    ensures { result ≡ frame_of_row row.now }
 {
-    let before = earlier.meta.seq_no.0;
-    let here = packet.meta.seq_no.0;
-    before < here && here - before == 1 && earlier.meta.time == packet.meta.time && !earlier.tail
-}
-
-/// Whether the packet before, if there is one, leads to this one.
-fn is_joined(earlier: Option<&HeldPacket>, packet: &HeldPacket) -> bool
-    ensures { result ≡ joins (held_option (option_copied earlier.entry)) (held_of packet.now) }
-{
-    match earlier {
-        Some(earlier) => leads(earlier, packet),
-        None => false,
+    match row.head {
+        Some(first) if row.tail => Some(Segment {
+            first,
+            last: row.last,
+        }),
+        _ => None,
     }
 }
 
-/// The start that is there, or else the packet's number, if the packet begins a unit.
-fn start_with(start: Option<u64>, packet: &HeldPacket) -> Option<u64>
-    ensures { result ≡ start_or_here start (held_of packet.now) }
+/// Where the first frame that ends at that number or above stands or would stand. Past the last frame that is seen at
+/// once, else a binary search finds it.
+fn find_end(segments: &VecDeque<Segment>, last: u64) -> usize
+    requires { EndsRise segments.now.items }
+    ensures { result ≡ frame_place last segments.now.items }
 {
-    match start {
-        Some(first) => Some(first),
-        None if packet.head => Some(packet.meta.seq_no.0),
-        None => None,
+    let count = segments.len();
+    if count > 0 && segments[count - 1].last < last {
+        return count;
     }
+    segments.partition_point(|s| s.last < last)
 }
 
-/// Counts the frame that ends at the packet, if one does.
-fn note(found: Found, start: Option<u64>, packet: &HeldPacket) -> Found
-    requires { found.count < 2 ^ 64 - 1 }
-    ensures { result ≡ noted_at found start (held_of packet.now) }
+/// Takes a frame into the list, in the stead of the one with the same end, if there is one. The room was found before.
+pub(super) fn note(segments: &mut VecDeque<Segment>, frame: Option<Segment>)
+    requires rises { EndsRise segments.old.items }
+    requires room { deque_len segments.old < deque_capacity segments.old }
+    ensures { segments.new.items ≡ noted_if frame segments.old.items }
 {
-    match start {
-        Some(first) if packet.tail => {
-            let frame = Segment {
-                first,
-                last: packet.meta.seq_no.0,
-            };
-            Found {
-                first: found.first.or(Some(frame)),
-                count: found.count + 1,
-            }
+    if let Some(frame) = frame {
+        let place = find_end(segments, frame.last);
+        if place < segments.len() && segments[place].last == frame.last {
+            segments[place] = frame;
+        } else {
+            segments.insert(place, frame).unwrap();
         }
-        _ => found,
     }
 }
 
-/// The lowest complete frame, and how many there are. Looks at each packet once.
-pub(super) fn search_frames(packets: &VecDeque<HeldPacket>) -> Found
-    ensures first { result.first ≡ first_of (frames (map held_of packets.now.items)) }
-    ensures count { result.count ≡ length (frames (map held_of packets.now.items)) }
+/// The lowest frame, if it was there before, becomes the one that is there after, or leaves.
+pub(super) fn mend_first(
+    segments: &mut VecDeque<Segment>,
+    before: Option<Segment>,
+    after: Option<Segment>,
+)
+    requires { IfSome before (λ _. 0 < deque_len segments.old) }
+    ensures { segments.new.items ≡ first_mended before after segments.old.items }
 {
-    let mut found = Found {
-        first: None,
-        count: 0,
-    };
-    let mut earlier = None;
-    let mut start = None;
-    for packet in packets {
-        let joined = is_joined(earlier, packet);
-        start = start_with(if joined { start } else { None }, packet);
-        found = note(found, start, packet);
-        earlier = Some(packet);
+    match (before, after) {
+        (Some(_), Some(frame)) => segments[0] = frame,
+        (Some(_), None) => {
+            segments.pop_front();
+        }
+        (None, _) => {}
     }
-    found
 }

@@ -41,11 +41,16 @@ pub(super) fn starts_next(cutoff: Option<u64>, first: u64) -> bool
     }
 }
 
-/// Where the first packet of at least that number stands or would stand. A binary search.
+/// Where the first packet of at least that number stands or would stand. Past the last packet that is seen at once, else a
+/// binary search finds it.
 pub(super) fn find_place(packets: &VecDeque<HeldPacket>, number: u64) -> usize
     requires { Rises (map held_of packets.now.items) }
     ensures { result ≡ place_of number (map held_of packets.now.items) }
 {
+    let count = packets.len();
+    if count > 0 && packets[count - 1].meta.seq_no.0 < number {
+        return count;
+    }
     packets.partition_point(|p| p.meta.seq_no.0 < number)
 }
 
@@ -98,7 +103,7 @@ pub(super) fn frame_range(packets: &VecDeque<HeldPacket>, frame: Segment) -> (us
     ensures order { result.0 ≤ result.1 }
     ensures within { result.1 ≤ deque_len packets.now }
     ensures part { map held_of (slice_range packets.now.items result.0 result.1) ≡ between frame.first frame.last (map held_of packets.now.items) }
-    ensures rest { map held_of (drop result.1 packets.now.items) ≡ above frame.last (map held_of packets.now.items) }
+    ensures end { result.1 ≡ end_of frame.last (map held_of packets.now.items) }
 {
     (
         find_place(packets, frame.first),

@@ -1,3 +1,7 @@
+ghost use Rattle.std.specs.Prelude.{◌≤◌};
+
+mod plain_search;
+
 use super::*;
 use codec_payload_audio::plain::OpusDepacketizer;
 use codec_payload_base::wire::{
@@ -187,6 +191,20 @@ fn buffer_of(alloc: Global, codec: Codec) -> Result<DepacketizingBuffer, Fail> {
     Ok(DepacketizingBuffer::new(alloc, depack, 0))
 }
 
+/// An empty buffer of a codec, with its own limit.
+fn buffer_of_limit(
+    alloc: Global,
+    codec: Codec,
+    hold_back: usize,
+    limit: usize,
+) -> Result<DepacketizingBuffer, Fail>
+    requires least { 1 ≤ limit }
+    requires most { limit ≤ 65536 }
+{
+    let depack = CodecDepacketizer::from_codec(alloc, codec).ok_or("no depacketizer")?;
+    Ok(DepacketizingBuffer::with_limit(alloc, depack, hold_back, limit))
+}
+
 /// Pushes a packet that is a frame by itself, with a time of its own.
 fn push_frame(
     alloc: Global,
@@ -197,6 +215,89 @@ fn push_frame(
     let mut meta = meta(number, number);
     meta.header.marker = true;
     buffer.push(meta, Vec::from_slice(alloc, payload)?)?;
+    Ok(())
+}
+
+/// Pushes a packet of the one frame of that time.
+fn push_part(
+    alloc: Global,
+    buffer: &mut DepacketizingBuffer,
+    number: u64,
+    marker: bool,
+    payload: &[u8],
+) -> Result<(), Fail> {
+    let mut meta = meta(number, 960);
+    meta.header.marker = marker;
+    buffer.push(meta, Vec::from_slice(alloc, payload)?)?;
+    Ok(())
+}
+
+/// Pushes one of the three packets, from 1, of the VP8 frame `909090` at an MTU of 2.
+fn push_of_three(alloc: Global, buffer: &mut DepacketizingBuffer, number: u64) -> Result<(), Fail> {
+    let first_byte = if number == 1 { 0x10 } else { 0x00 };
+    push_part(alloc, buffer, number, number == 3, &[first_byte, 0x90])
+}
+
+/// The second packet and the first each begin a unit: the frame that ends at the third grows with each.
+#[test]
+fn ready_av1_last_first(rt: HostRuntime) -> Result<(), Fail> {
+    let alloc = rt.alloc();
+    let mut buffer = buffer_of(alloc, Codec::Av1)?;
+    push_part(alloc, &mut buffer, 3, true, &[0x90, 0xcc])?;
+    assert_eq!(rt; buffer.ready(), 0);
+    push_part(alloc, &mut buffer, 2, false, &[0x50, 0x30, 0xbb])?;
+    assert_eq!(rt; buffer.ready(), 1);
+    push_part(alloc, &mut buffer, 1, false, &[0x18, 0x08, 0xaa])?;
+    assert_eq!(rt; buffer.ready(), 1);
+    let unit = buffer.pop().ok_or("no unit")??;
+    assert_eq!(rt; unit.seq_range(), SeqNo(1)..=SeqNo(3));
+    assert_eq!(rt; buffer.ready(), 0);
+    Ok(())
+}
+
+/// Packets 2 to 4,097 of a frame, and then its first, which leaves at once and comes too late from then on.
+#[test]
+fn ready_4097_first_last(rt: HostRuntime) -> Result<(), Fail> {
+    let alloc = rt.alloc();
+    let mut buffer = buffer_of(alloc, Codec::Vp8)?;
+    for number in 2..=4_097u64 {
+        push_part(alloc, &mut buffer, number, number == 4_097, &[0x00, 0x90])?;
+    }
+    for _ in 0..2 {
+        push_part(alloc, &mut buffer, 1, false, &[0x10, 0x90])?;
+        assert_eq!(rt; buffer.held(), 4_096);
+        assert_eq!(rt; buffer.ready(), 0);
+        assert_eq!(rt; pop(&mut buffer)?, None);
+    }
+    Ok(())
+}
+
+/// Of a buffer full of packets that each begin a unit, of which the last ends one, the lowest are evicted one by one, and the
+/// frame begins one packet later each time.
+#[test]
+fn ready_as_a_frame_shrinks(rt: HostRuntime) -> Result<(), Fail> {
+    let alloc = rt.alloc();
+    let mut buffer = buffer_of(alloc, Codec::Av1)?;
+    for number in 0..4_096u64 {
+        push_part(
+            alloc,
+            &mut buffer,
+            4_096 - number,
+            number == 0,
+            &[0x10, 0x30],
+        )?;
+        assert_eq!(rt; buffer.ready(), 1);
+    }
+    for number in 4_097..4_100u64 {
+        push_part(alloc, &mut buffer, number, true, &[0x10, 0x30])?;
+    }
+    assert_eq!(rt; buffer.held(), 4_096);
+    assert_eq!(rt; buffer.ready(), 4);
+    let unit = buffer.pop().ok_or("no unit")??;
+    assert_eq!(rt; unit.seq_range(), SeqNo(4)..=SeqNo(4_096));
+    assert_eq!(rt; unit.contiguous, false);
+    assert_eq!(rt; buffer.ready(), 3);
+    assert_eq!(rt; pop(&mut buffer)?, Some((4_097, true)));
     Ok(())
 }
 
@@ -233,6 +334,80 @@ fn vp9_contiguity_three_keyframes(rt: HostRuntime) -> Result<(), Fail> {
         push_frame(alloc, &mut buffer, number, payload)?;
         assert_eq!(rt; pop(&mut buffer)?, Some((number, *contiguous)));
     }
+    assert_eq!(rt; pop(&mut buffer)?, None);
+    Ok(())
+}
+
+/// The three packets of a VP8 frame, in every order. A buffer of two evicts the first, and has no whole frame.
+#[test]
+fn limit_2_vp8_three_packets(rt: HostRuntime) -> Result<(), Fail> {
+    let alloc = rt.alloc();
+    for order in [
+        [1, 2, 3],
+        [1, 3, 2],
+        [2, 1, 3],
+        [2, 3, 1],
+        [3, 1, 2],
+        [3, 2, 1],
+    ] {
+        let mut buffer = buffer_of_limit(alloc, Codec::Vp8, 0, 2)?;
+        assert_eq!(rt; buffer.limit(), 2);
+        for number in order {
+            push_of_three(alloc, &mut buffer, number)?;
+        }
+        assert_eq!(rt; buffer.held(), 2, "in the order {order:?}");
+        assert_eq!(rt; pop(&mut buffer)?, None, "in the order {order:?}");
+    }
+    Ok(())
+}
+
+#[test]
+fn limit_3_vp8_three_packets(rt: HostRuntime) -> Result<(), Fail> {
+    let alloc = rt.alloc();
+    let mut buffer = buffer_of_limit(alloc, Codec::Vp8, 0, 3)?;
+    for number in [1, 2, 3] {
+        push_of_three(alloc, &mut buffer, number)?;
+    }
+    let unit = buffer.pop().ok_or("no unit")??;
+    assert_eq!(rt; unit.bytes.as_slice(), [0x90, 0x90, 0x90].as_slice());
+    assert_eq!(rt; unit.seq_range(), SeqNo(1)..=SeqNo(3));
+    assert_eq!(rt; pop(&mut buffer)?, None);
+    Ok(())
+}
+
+#[test]
+fn limit_1_opus(rt: HostRuntime) -> Result<(), Fail> {
+    let alloc = rt.alloc();
+    let mut buffer = buffer_of_limit(alloc, Codec::Opus, 0, 1)?;
+    for number in [1, 2] {
+        buffer.push(meta(number, number), Vec::new(alloc))?;
+        assert_eq!(rt; buffer.held(), 1);
+    }
+    assert_eq!(rt; pop(&mut buffer)?, Some((2, false)));
+    buffer.push(meta(3, 3), Vec::new(alloc))?;
+    assert_eq!(rt; pop(&mut buffer)?, Some((3, true)));
+    Ok(())
+}
+
+/// A frame of one packet more than a buffer from `new` holds.
+#[test]
+fn limit_65536_vp8(rt: HostRuntime) -> Result<(), Fail> {
+    let alloc = rt.alloc();
+    let mut buffer = buffer_of_limit(alloc, Codec::Vp8, 0, 65_536)?;
+    assert_eq!(rt; buffer.limit(), 65_536);
+    for number in 1..=4_097u64 {
+        let first_byte = if number == 1 { 0x10 } else { 0x00 };
+        push_part(
+            alloc,
+            &mut buffer,
+            number,
+            number == 4_097,
+            &[first_byte, 0x90],
+        )?;
+    }
+    let unit = buffer.pop().ok_or("no unit")??;
+    assert_eq!(rt; unit.bytes, vec![in alloc; 0x90u8; 4_097]?);
+    assert_eq!(rt; unit.seq_range(), SeqNo(1)..=SeqNo(4_097));
     assert_eq!(rt; pop(&mut buffer)?, None);
     Ok(())
 }

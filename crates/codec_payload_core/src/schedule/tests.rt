@@ -10,7 +10,7 @@ use std::test::Fail;
 
 /// A stream of that codec with an RTP clock of 16 kHz, whose first packet has the number 7.
 fn stream_of(codec: Codec, octet_align: bool) -> Result<Stream, Fail>
-    ensures { IfOk result (λ stream. (stream.first_id ≡ 0) × (stream.first_number ≡ 7)) }
+    ensures { IfOk result (λ stream. (stream.first_id ≡ 0) × (stream.first_number ≡ 7) × (stream.limit ≡ 4096)) }
 {
     Ok(Stream {
         spec: CodecSpec {
@@ -22,6 +22,7 @@ fn stream_of(codec: Codec, octet_align: bool) -> Result<Stream, Fail>
         first_id: 0,
         first_number: 7,
         hold_back: 0,
+        limit: 4_096,
     })
 }
 

@@ -9,7 +9,7 @@ pub returns-clause-headline : goal.returns-clause-headline
 returns-clause-headline c =
     let sends = sym c.new.ensures ∙ c.in-Some.is in
     let receives = sym c.from_codec.ensures ∙ ap (λ o. option_map depack_of o) c.in-Some-from_codec.is in
-    let empty = c.new-buffer.ensures ∙ ap (λ d. empty_buffer c.args.stream.hold_back d) c.configure_for.ensures in
-    runs_stream c.args.stream c.args.samples.now c.args.steps.now c.in_ok-run.run' c.in-Some.payloader c.new-buffer.result c.new-sink.result
+    let empty = c.with_limit-buffer.ensures ∙ ap (λ d. empty_buffer c.args.stream.hold_back c.args.stream.limit d) c.configure_for.ensures in
+    runs_stream c.args.stream c.args.samples.now c.args.steps.now c.in_ok-run.run' c.in-Some.payloader c.with_limit-buffer.result c.new-sink.result
     (run_state c.run_schedule.new.payloader c.run_schedule.new.buffer c.run_schedule.new.sink) (depack_of c.in-Some-from_codec.depack)
     sends receives empty c.new-sink.ensures c.in_ok-run.ensures.promises

@@ -6,8 +6,42 @@ use Rattle.codec_payload_buffer.specs.Steps.{State, arrived, pushed, is_at_most}
 use Rattle.codec_payload_buffer.specs.Held.{Held, held_of, has_number}
 use Rattle.codec_payload_buffer.proofs.PushLemmas.{is_arrived, pushed_over, pushed_within}
 use Rattle.codec_payload_buffer.proofs.PlaceLemmas.{lowest_out, with_new}
+use Rattle.codec_payload_buffer.proofs.IndexLemmas.{pushed_index, evict_short, evict_some, evicted_index, segments_rise}
+use Rattle.codec_payload_buffer.proofs.RowListLemmas.{are_longest, rows_rise}
 use Rattle.codec_payload_buffer.proofs.buffer.DepacketizingBuffer.push.Goals as goal
 use Rattle.codec_payload_buffer.proofs.buffer.DepacketizingBuffer.push.Goals.{then-len-self, else-len-self}
+
+pub add_row-row-requires-clause-normal : goal.add_row-row-requires-clause-normal
+add_row-row-requires-clause-normal g c = rw (c.reserve.ensures.items, c.self.invariant.rows_are) (are_longest (map held_of c.self.inside.packets.items))
+
+pub add_row-row-requires-clause-rises : goal.add_row-row-requires-clause-rises
+add_row-row-requires-clause-rises g c = rw (c.reserve.ensures.items, c.self.invariant.rows_are) (rows_rise (map held_of c.self.inside.packets.items) c.self.invariant.sound.rises)
+
+pub note-requires-clause-rises : goal.note-requires-clause-rises
+note-requires-clause-rises g c = segments_rise (map held_of c.self.inside.packets.items) c.reserve-2.new.self.items c.self.invariant.sound.rises (c.reserve-2.ensures.items ∙ c.self.invariant.frames_are)
+
+pub shorten_first-before-requires : goal.shorten_first-before-requires
+shorten_first-before-requires g c =
+    let items = c.self.inside.packets.items in
+    let new = c.place_at.new.packets.items in
+    let packet : Held = record { meta = c.args.meta; bytes = c.args.«data».items; head = c.is_partition_head-head.result; tail = c.is_partition_tail-tail.result } in
+    let fresh : has_number c.args.meta.seq_no.0 (map held_of items) ≡ false = sym c.is_at.ensures ∙ c.if-is_at.false in
+    let with = with_new items new packet c.self.inside.cutoff c.self.invariant.sound.rises c.self.invariant.sound.above fresh (sym c.is_too_late.ensures ∙ c.if-is_too_late.false) c.in_ok-place_at.ensures.ok in
+    let index = pushed_index packet (map held_of items) (map held_of new) c.reserve.new.self.items c.add_row-row.new.rows.items c.row_of_packet-row.result c.add_row-row.result c.frame_of.result c.reserve-2.new.self.items c.note.new.segments.items
+    c.self.invariant.sound.rises fresh (c.reserve.ensures.items ∙ c.self.invariant.rows_are) (c.reserve-2.ensures.items ∙ c.self.invariant.frames_are) c.in_ok-place_at.ensures.ok c.row_of_packet-row.ensures c.add_row-row.ensures.rows c.add_row-row.ensures.row c.frame_of.ensures c.note.ensures in
+    evict_short (map held_of new) (map held_of c.take_lowest.new.packets.items) c.take_lowest.result c.add_row-row.new.rows.items with.rises c.take_lowest.ensures index.rows_are
+
+pub mend_first-requires : goal.mend_first-requires
+mend_first-requires g c =
+    let items = c.self.inside.packets.items in
+    let new = c.place_at.new.packets.items in
+    let packet : Held = record { meta = c.args.meta; bytes = c.args.«data».items; head = c.is_partition_head-head.result; tail = c.is_partition_tail-tail.result } in
+    let fresh : has_number c.args.meta.seq_no.0 (map held_of items) ≡ false = sym c.is_at.ensures ∙ c.if-is_at.false in
+    let with = with_new items new packet c.self.inside.cutoff c.self.invariant.sound.rises c.self.invariant.sound.above fresh (sym c.is_too_late.ensures ∙ c.if-is_too_late.false) c.in_ok-place_at.ensures.ok in
+    let index = pushed_index packet (map held_of items) (map held_of new) c.reserve.new.self.items c.add_row-row.new.rows.items c.row_of_packet-row.result c.add_row-row.result c.frame_of.result c.reserve-2.new.self.items c.note.new.segments.items
+    c.self.invariant.sound.rises fresh (c.reserve.ensures.items ∙ c.self.invariant.rows_are) (c.reserve-2.ensures.items ∙ c.self.invariant.frames_are) c.in_ok-place_at.ensures.ok c.row_of_packet-row.ensures c.add_row-row.ensures.rows c.add_row-row.ensures.row c.frame_of.ensures c.note.ensures in
+    evict_some (map held_of new) (map held_of c.take_lowest.new.packets.items) c.add_row-row.new.rows.items c.shorten_first-before.new.rows.items c.note.new.segments.items _ c.shorten_first-before.result.0 c.shorten_first-before.result.1
+    index.rows_are index.frames_are c.note.new.segments.ok.0 c.shorten_first-before.ensures
 
 pub invariant_of-self-then-len-self : goal.invariant_of-self-then-len-self
 invariant_of-self-then-len-self g c =
@@ -15,9 +49,19 @@ invariant_of-self-then-len-self g c =
     let new = c.place_at.new.packets.items in
     let packet : Held = record { meta = c.args.meta; bytes = c.args.«data».items; head = c.is_partition_head-head.result; tail = c.is_partition_tail-tail.result } in
     let fresh : has_number c.args.meta.seq_no.0 (map held_of items) ≡ false = sym c.is_at.ensures ∙ c.if-is_at.false in
-    let with = with_new items new packet c.self.inside.cutoff c.self.invariant.rises c.self.invariant.above fresh (sym c.is_too_late.ensures ∙ c.if-is_too_late.false) c.in_ok-place_at.ensures.ok in
+    let with = with_new items new packet c.self.inside.cutoff c.self.invariant.sound.rises c.self.invariant.sound.above fresh (sym c.is_too_late.ensures ∙ c.if-is_too_late.false) c.in_ok-place_at.ensures.ok in
+    let index = pushed_index packet (map held_of items) (map held_of new) c.reserve.new.self.items c.add_row-row.new.rows.items c.row_of_packet-row.result c.add_row-row.result c.frame_of.result c.reserve-2.new.self.items c.note.new.segments.items
+    c.self.invariant.sound.rises fresh (c.reserve.ensures.items ∙ c.self.invariant.rows_are) (c.reserve-2.ensures.items ∙ c.self.invariant.frames_are) c.in_ok-place_at.ensures.ok c.row_of_packet-row.ensures c.add_row-row.ensures.rows c.add_row-row.ensures.row c.frame_of.ensures c.note.ensures in
     let out = lowest_out _ _ _ c.take_lowest.ensures with.rises in
-    record { rises = out.rises; above = out.above; few = omega (arith, with.long, out.shorter, c.self.invariant.few, length-map new held_of, length-map items held_of) }
+    let left = evicted_index (map held_of new) (map held_of c.take_lowest.new.packets.items) c.take_lowest.result c.add_row-row.new.rows.items c.shorten_first-before.new.rows.items c.note.new.segments.items c.mend_first.new.segments.items c.shorten_first-before.result.0 c.shorten_first-before.result.1
+    with.rises c.take_lowest.ensures index.rows_are index.frames_are c.shorten_first-before.ensures c.mend_first.ensures in
+    record {
+      sound = record { rises = out.rises; above = out.above; few = omega (arith, with.long, out.shorter, c.self.invariant.sound.few, length-map new held_of, length-map items held_of) };
+      least = c.self.invariant.least;
+      most = c.self.invariant.most;
+      rows_are = left.rows_are;
+      frames_are = left.frames_are;
+    }
 
 pub invariant_of-self-else-len-self : goal.invariant_of-self-else-len-self
 invariant_of-self-else-len-self g c =
@@ -25,8 +69,16 @@ invariant_of-self-else-len-self g c =
     let new = c.place_at.new.packets.items in
     let packet : Held = record { meta = c.args.meta; bytes = c.args.«data».items; head = c.is_partition_head-head.result; tail = c.is_partition_tail-tail.result } in
     let fresh : has_number c.args.meta.seq_no.0 (map held_of items) ≡ false = sym c.is_at.ensures ∙ c.if-is_at.false in
-    let with = with_new items new packet c.self.inside.cutoff c.self.invariant.rises c.self.invariant.above fresh (sym c.is_too_late.ensures ∙ c.if-is_too_late.false) c.in_ok-place_at.ensures.ok in
-    record { rises = with.rises; above = with.above; few = omega (arith, c.if-len-self.false, c.len.ensures, length-map new held_of, c.place_at.new.packets.ok.0) }
+    let with = with_new items new packet c.self.inside.cutoff c.self.invariant.sound.rises c.self.invariant.sound.above fresh (sym c.is_too_late.ensures ∙ c.if-is_too_late.false) c.in_ok-place_at.ensures.ok in
+    let index = pushed_index packet (map held_of items) (map held_of new) c.reserve.new.self.items c.add_row-row.new.rows.items c.row_of_packet-row.result c.add_row-row.result c.frame_of.result c.reserve-2.new.self.items c.note.new.segments.items
+    c.self.invariant.sound.rises fresh (c.reserve.ensures.items ∙ c.self.invariant.rows_are) (c.reserve-2.ensures.items ∙ c.self.invariant.frames_are) c.in_ok-place_at.ensures.ok c.row_of_packet-row.ensures c.add_row-row.ensures.rows c.add_row-row.ensures.row c.frame_of.ensures c.note.ensures in
+    record {
+      sound = record { rises = with.rises; above = with.above; few = omega (arith, c.if-len-self.false, c.len.ensures, length-map new held_of, c.place_at.new.packets.ok.0) };
+      least = c.self.invariant.least;
+      most = c.self.invariant.most;
+      rows_are = index.rows_are;
+      frames_are = index.frames_are;
+    }
 
 -- a packet that is dropped may be any
 pub returns-then-is_too_late-clause-ok : goal.returns-then-is_too_late-clause-ok

@@ -5,10 +5,10 @@ use Rattle.codec_payload_base.specs.declared.error.PacketError.TheVariants.{OutO
 use Rattle.codec_payload_buffer.specs.Buffer.{state_of}
 use Rattle.codec_payload_buffer.specs.ContiguityTable.{checked}
 use Rattle.codec_payload_buffer.specs.Depack.{depack_of}
-use Rattle.codec_payload_buffer.specs.Held.{held_of, above}
-use Rattle.codec_payload_buffer.specs.Steps.{Unpacked, due_of, packets_of_frame, metas_of, follows}
+use Rattle.codec_payload_buffer.specs.Held.{held_of}
+use Rattle.codec_payload_buffer.specs.Steps.{State, Unpacked, due_of, packets_of_frame, metas_of, follows}
 use Rattle.codec_payload_buffer.proofs.CaseLemmas.{not_both}
-use Rattle.codec_payload_buffer.proofs.PopLemmas.{order_due, due_metas, due_time, sound_left}
+use Rattle.codec_payload_buffer.proofs.PopLemmas.{order_due, due_metas, due_time}
 use Rattle.codec_payload_buffer.proofs.TakeLemmas.{gives_of, released, passed_over, refused, stalled}
 use Rattle.codec_payload_buffer.proofs.buffer.DepacketizingBuffer.take_frame.Goals.{then-starts_next, else-starts_next}
 use Rattle.codec_payload_buffer.proofs.buffer.DepacketizingBuffer.take_frame.Goals as goal
@@ -36,10 +36,8 @@ returns-then-is_out_of_memory-clause-takes g c =
     stalled s c.args.self.now c.self.view_is c.args.frame due e _ refl
     (gives_of s c.args.frame packets c.in_ok-bytes.bytes.items (Err OutOfMemory) e c.frame_range-from.ensures.part c.in_ok-bytes.ensures.empty (rw wanting at c.unpack-unpacked.ensures.unpacks))
 
-pub invariant_of-self-in_err-unpacked : goal.invariant_of-self-in_err-unpacked
-invariant_of-self-in_err-unpacked g c =
-    let rest : map held_of c.drop_front.new.packets.items ≡ above c.args.frame.last (map held_of c.self.inside.packets.items) = ap (map held_of) c.drop_front.ensures ∙ c.frame_range-from.ensures.rest in
-    sound_left (state_of c.self.inside) _ c.args.frame.last c.self.invariant rest refl refl
+pub leave-requires-clause-count : goal.leave-requires-clause-count
+leave-requires-clause-count g c = c.frame_range-from.ensures.end
 
 pub returns-in_err-unpacked-clause-takes : goal.returns-in_err-unpacked-clause-takes
 returns-in_err-unpacked-clause-takes g c =
@@ -49,36 +47,24 @@ returns-in_err-unpacked-clause-takes g c =
     let e = depack_of c.unpack-unpacked.new.depack in
     let fault = c.in_err-unpacked.field-0.0 in
     let exit = err_from_is_err_and c.from_residual-in_err-unpacked.result c.from_residual-in_err-unpacked.ensures.1 in
-    let rest : map held_of c.drop_front.new.packets.items ≡ above c.args.frame.last s.held = ap (map held_of) c.drop_front.ensures ∙ c.frame_range-from.ensures.rest in
     rw (exit.1, exit.2)
-    (refused s c.args.self.now c.self.view_is c.args.frame due e _ fault (map held_of c.drop_front.new.packets.items) refl
+    (refused s c.args.self.now c.self.view_is c.args.frame due e _ fault c.leave.ensures
     (λ is. not_both c.is_out_of_memory.result (c.is_out_of_memory.ensures.1 (c.in_err-unpacked.was ∙ ap Err is)) c.if-is_out_of_memory.false)
-    (gives_of s c.args.frame packets c.in_ok-bytes.bytes.items (Err fault) e c.frame_range-from.ensures.part c.in_ok-bytes.ensures.empty (rw c.in_err-unpacked.was at c.unpack-unpacked.ensures.unpacks))
-    rest)
+    (gives_of s c.args.frame packets c.in_ok-bytes.bytes.items (Err fault) e c.frame_range-from.ensures.part c.in_ok-bytes.ensures.empty (rw c.in_err-unpacked.was at c.unpack-unpacked.ensures.unpacks)))
 
 pub index-requires : goal.index-requires
 index-requires g c =
     let s = state_of c.self.inside in
     let due : due_of s ≡ Some c.args.frame = ap due_of c.self.view_is ∙ c.requires in
     let metas : c.in_ok-metas.metas.items ≡ metas_of (packets_of_frame s c.args.frame) = c.in_ok-metas.ensures ∙ ap metas_of c.frame_range-from.ensures.part in
-    omega (arith, due_metas s c.args.frame c.in_ok-metas.metas.items c.self.invariant.rises due metas, c.in_ok-metas.metas.ok.0)
+    omega (arith, due_metas s c.args.frame c.in_ok-metas.metas.items c.self.invariant.sound.rises due metas, c.in_ok-metas.metas.ok.0)
 
 pub new-requires : goal.new-requires
 new-requires g c =
     let s = state_of c.self.inside in
     let due : due_of s ≡ Some c.args.frame = ap due_of c.self.view_is ∙ c.requires in
     let metas : c.in_ok-metas.metas.items ≡ metas_of (packets_of_frame s c.args.frame) = c.in_ok-metas.ensures ∙ ap metas_of c.frame_range-from.ensures.part in
-    due_metas s c.args.frame c.in_ok-metas.metas.items c.self.invariant.rises due metas
-
-pub invariant_of-self-2 : goal.invariant_of-self-2
-invariant_of-self-2 g c =
-    let rest : map held_of c.drop_front.new.packets.items ≡ above c.args.frame.last (map held_of c.self.inside.packets.items) = ap (map held_of) c.drop_front.ensures ∙ c.frame_range-from.ensures.rest in
-    sound_left (state_of c.self.inside) _ c.args.frame.last c.self.invariant rest refl refl
-
-pub invariant_of-self-then-not-may_go : goal.invariant_of-self-then-not-may_go
-invariant_of-self-then-not-may_go g c =
-    let rest : map held_of c.drop_front.new.packets.items ≡ above c.args.frame.last (map held_of c.self.inside.packets.items) = ap (map held_of) c.drop_front.ensures ∙ c.frame_range-from.ensures.rest in
-    sound_left (state_of c.self.inside) _ c.args.frame.last c.self.invariant rest refl refl
+    due_metas s c.args.frame c.in_ok-metas.metas.items c.self.invariant.sound.rises due metas
 
 pub returns-then-not-may_go-clause-takes : goal.returns-then-not-may_go-clause-takes
 returns-then-not-may_go-clause-takes g c =
@@ -92,11 +78,12 @@ returns-then-not-may_go-clause-takes g c =
       | then-starts_next w ↦ w.follows-is ∙ rw (sym c.starts_next.ensures ∙ w.if-starts_next.true) refl
       | else-starts_next w ↦ w.follows-is ∙ w.if-starts_next.false ∙ rw (sym c.starts_next.ensures ∙ w.if-starts_next.false) refl
     ] in
+    let left = c.self-2.view_is ∙ c.leave.ensures in
     let answer : checked s.contiguity unpacked.extra c.if-starts_next.follows ≡ (false, c.check-may_go.result.1, c.check-may_go.new.self) =
-    c.check-may_go.ensures ∙ ap (λ (b : Bool). (b, c.check-may_go.result.1, c.check-may_go.new.self)) c.if-not-may_go.true in
-    passed_over s c.args.self.now c.self.view_is frame due e c.check-may_go.result.1 c.if-starts_next.follows c.check-may_go.new.self unpacked (map held_of c.drop_front.new.packets.items)
+    ap (λ (x : State). checked x.contiguity unpacked.extra c.if-starts_next.follows) (sym left) ∙ c.check-may_go.ensures ∙ ap (λ (b : Bool). (b, c.check-may_go.result.1, c.check-may_go.new.self)) c.if-not-may_go.true in
+    passed_over s c.args.self.now c.self.view_is frame due e c.check-may_go.result.1 c.if-starts_next.follows c.check-may_go.new.self unpacked _
     (gives_of s frame packets c.in_ok-bytes.bytes.items (Ok unpacked) e c.frame_range-from.ensures.part c.in_ok-bytes.ensures.empty (rw c.in_ok-unpacked.was at c.unpack-unpacked.ensures.unpacks))
-    test answer (ap (map held_of) c.drop_front.ensures ∙ c.frame_range-from.ensures.rest)
+    test answer (ap (λ (x : State). record x { contiguity = c.check-may_go.new.self }) left)
 
 pub returns-clause-takes : goal.returns-clause-takes
 returns-clause-takes g c =
@@ -111,10 +98,11 @@ returns-clause-takes g c =
       | then-starts_next w ↦ w.follows-is ∙ rw (sym c.starts_next.ensures ∙ w.if-starts_next.true) refl
       | else-starts_next w ↦ w.follows-is ∙ w.if-starts_next.false ∙ rw (sym c.starts_next.ensures ∙ w.if-starts_next.false) refl
     ] in
+    let left = c.self-2.view_is ∙ c.leave.ensures in
     let answer : checked s.contiguity unpacked.extra c.if-starts_next.follows ≡ (true, c.check-may_go.result.1, c.check-may_go.new.self) =
-    c.check-may_go.ensures ∙ ap (λ (b : Bool). (b, c.check-may_go.result.1, c.check-may_go.new.self)) c.if-not-may_go.false in
-    released s c.args.self.now c.self.view_is frame due e c.new.result c.index.result.now.time c.check-may_go.result.1 c.if-starts_next.follows c.check-may_go.new.self unpacked c.in_ok-metas.metas.items (map held_of c.drop_front.new.packets.items)
+    ap (λ (x : State). checked x.contiguity unpacked.extra c.if-starts_next.follows) (sym left) ∙ c.check-may_go.ensures ∙ ap (λ (b : Bool). (b, c.check-may_go.result.1, c.check-may_go.new.self)) c.if-not-may_go.false in
+    released s c.args.self.now c.self.view_is frame due e c.new.result c.index.result.now.time c.check-may_go.result.1 c.if-starts_next.follows c.check-may_go.new.self unpacked c.in_ok-metas.metas.items _
     c.new.ensures
     (gives_of s frame packets c.in_ok-bytes.bytes.items (Ok unpacked) e c.frame_range-from.ensures.part c.in_ok-bytes.ensures.empty (rw c.in_ok-unpacked.was at c.unpack-unpacked.ensures.unpacks))
-    (due_time s frame c.in_ok-metas.metas.items c.index.result.now c.self.invariant.rises due metas c.index.ensures)
-    metas test answer (ap (map held_of) c.drop_front.ensures ∙ c.frame_range-from.ensures.rest)
+    (due_time s frame c.in_ok-metas.metas.items c.index.result.now c.self.invariant.sound.rises due metas c.index.ensures)
+    metas test answer (ap (λ (x : State). record x { contiguity = c.check-may_go.new.self; mark = false }) left)

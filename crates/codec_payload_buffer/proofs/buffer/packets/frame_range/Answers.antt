@@ -1,8 +1,8 @@
-use Rattle.std.proofs.Common.{arith, map, ap, sym, ◌∙◌, ◌-◌, take, drop}
+use Rattle.std.proofs.Common.{arith, map, ap, sym, refl, ◌∙◌, ◌-◌, take, drop}
 use Rattle.std.proofs.lemmas.List.{length-map, take-map, drop-map}
 use Rattle.codec_payload_buffer.specs.Held.{held_of}
 use Rattle.codec_payload_buffer.specs.Scan.{place_of, end_of}
-use Rattle.codec_payload_buffer.proofs.RangeLemmas.{end_within, slice_between, drop_above}
+use Rattle.codec_payload_buffer.proofs.RangeLemmas.{end_within, slice_between}
 use Rattle.codec_payload_buffer.proofs.buffer.packets.frame_range.Goals as goal
 
 pub returns : goal.returns
@@ -15,6 +15,6 @@ returns c =
     rw (c.find_place.ensures, c.count_up_to.ensures) (record {
       order = slice.order;
       within = omega (arith, end_within c.args.frame.last hs, length-map items held_of, c.args.packets.now.ok.0);
-      rest = sym (drop-map held_of to items) ∙ drop_above c.args.frame.last hs c.requires.rises;
+      end = refl;
       part = sym (take-map held_of (to - from) (drop from items)) ∙ ap (take (to - from)) (sym (drop-map held_of from items)) ∙ slice.part;
     })

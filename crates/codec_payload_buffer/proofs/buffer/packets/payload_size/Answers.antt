@@ -1,5 +1,5 @@
 use Rattle.std.specs.VecDeque.Iter.{deque_iter_rest}
-use Rattle.codec_payload_buffer.proofs.SearchLemmas.{all_counted}
+use Rattle.codec_payload_buffer.proofs.CountLemmas.{all_counted}
 use Rattle.codec_payload_buffer.proofs.buffer.packets.payload_size.Goals as goal
 
 pub returns : goal.returns

@@ -1,0 +1,41 @@
+use Rattle.std.proofs.Common.{◌≡◌, ◌∙◌, ap, sym, refl, arith, List, map, drop, Some}
+use Rattle.std.proofs.lemmas.List.{length-map, drop-map}
+use Rattle.codec_payload_buffer.specs.Buffer.{state_of}
+use Rattle.codec_payload_buffer.specs.Held.{Held, held_of, above}
+use Rattle.codec_payload_buffer.specs.Scan.{end_of}
+use Rattle.codec_payload_buffer.specs.Steps.{State, due_of}
+use Rattle.codec_payload_buffer.proofs.IndexLemmas.{left_index_of}
+use Rattle.codec_payload_buffer.proofs.PopLemmas.{due_is_first, sound_left}
+use Rattle.codec_payload_buffer.proofs.RangeLemmas.{end_within, drop_above}
+use Rattle.codec_payload_buffer.proofs.RowListLemmas.{rows_rise}
+use Rattle.codec_payload_buffer.proofs.buffer.DepacketizingBuffer.leave.Goals as goal
+
+pub drop_front-requires : goal.drop_front-requires
+drop_front-requires g c =
+    let items = c.self.inside.packets.items in
+    let count : c.args.count ≡ end_of c.args.frame.last (map held_of items) = c.requires.count ∙ ap (λ (s : State). end_of c.args.frame.last s.held) (sym c.self.view_is) in
+    omega (arith, count, end_within c.args.frame.last (map held_of items), length-map items held_of, c.self.inside.packets.ok.0)
+
+pub remove_rows-requires : goal.remove_rows-requires
+remove_rows-requires g c = rw c.self.invariant.rows_are (rows_rise (map held_of c.self.inside.packets.items) c.self.invariant.sound.rises)
+
+pub invariant_of-self : goal.invariant_of-self
+invariant_of-self g c =
+    let s = state_of c.self.inside in
+    let last = c.args.frame.last in
+    let due : due_of s ≡ Some c.args.frame = ap due_of c.self.view_is ∙ c.requires.due in
+    let left : map held_of c.drop_front.new.packets.items ≡ above last s.held =
+    ap (map held_of) c.drop_front.ensures ∙ sym (drop-map held_of c.args.count c.self.inside.packets.items)
+    ∙ ap (λ k. drop k s.held) (c.requires.count ∙ ap (λ (t : State). end_of last t.held) (sym c.self.view_is)) ∙ drop_above last s.held c.self.invariant.sound.rises in
+    let index = left_index_of s.held (map held_of c.drop_front.new.packets.items) c.args.frame c.self.inside.rows.items c.remove_rows.new.rows.items c.self.inside.segments.items c.pop_front.new.self.items
+    c.self.invariant.sound.rises (due_is_first s c.args.frame due) c.self.invariant.rows_are c.self.invariant.frames_are left c.remove_rows.ensures c.pop_front.ensures.rest in
+    record { sound = sound_left s _ last c.self.invariant.sound left refl refl; least = c.self.invariant.least; most = c.self.invariant.most; rows_are = index.rows_are; frames_are = index.frames_are }
+
+pub returns : goal.returns
+returns g c =
+    let s = state_of c.self.inside in
+    let last = c.args.frame.last in
+    let left : map held_of c.drop_front.new.packets.items ≡ above last s.held =
+    ap (map held_of) c.drop_front.ensures ∙ sym (drop-map held_of c.args.count c.self.inside.packets.items)
+    ∙ ap (λ k. drop k s.held) (c.requires.count ∙ ap (λ (t : State). end_of last t.held) (sym c.self.view_is)) ∙ drop_above last s.held c.self.invariant.sound.rises in
+    ap (λ (hs : List Held). record s { held = hs; cutoff = Some last }) left ∙ ap (λ (t : State). record t { held = above last t.held; cutoff = Some last }) c.self.view_is
