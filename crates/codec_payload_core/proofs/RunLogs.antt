@@ -4,6 +4,7 @@ use Rattle.codec_payload_core.proofs.AlikeLemmas.{chains_same}
 use Rattle.codec_payload_core.proofs.AllPushedLemmas.{exact}
 use Rattle.codec_payload_core.proofs.BeginLemmas.{begins_from}
 use Rattle.codec_payload_core.proofs.ContiguousLemmas.{all_follow, IsTracked}
+use Rattle.codec_payload_core.proofs.CountLemmas.{run_counts}
 use Rattle.codec_payload_core.proofs.ExactLemmas.{begins, no_more_units}
 use Rattle.codec_payload_core.proofs.GapLemmas.{only_past_gap}
 use Rattle.codec_payload_core.proofs.LogLemmas.{log_from}
@@ -186,6 +187,7 @@ promises r run =
     let exactly : IsFresh r → Runs r.samples 0 r.steps r.before r.sends r.pops r.after = λ is. unused_exactly r.samples r.steps r.before r.sends r.pops r.after is.0 run in
     record {
       run_as_steps = run;
+      counted = run_counts r.samples 0 r.steps r.before r.sends r.pops r.after run;
       safety_half = λ is. safe r.samples r.steps r.before r.after r.sends r.pops (exactly is) is.0 is.1;
       exact_half = λ is. exact r.samples r.steps r.before r.after r.sends r.pops (exactly is) is.0 is.1;
       logged = λ is. logged r.samples r.steps r.before r.after r.sends r.pops (exactly is) is.0 is.1;

@@ -62,6 +62,7 @@ pub mod LawfulUnits
 pub mod Log
 pub mod Packets
 pub mod RedPackets
+pub mod RunCounts
 pub mod RunOrder
 pub mod RunPromises
 pub mod RunStream

@@ -4,6 +4,7 @@ use Rattle.codec_payload_base.specs.declared.wire.ToPayload.{ToPayload}
 use Rattle.codec_payload_core.specs.Exact.{ReleasesUnits}
 use Rattle.codec_payload_core.specs.Headline.{IsUnused, ReleasesInOrder}
 use Rattle.codec_payload_core.specs.Log.{RunLog}
+use Rattle.codec_payload_core.specs.RunCounts.{IsCounted}
 use Rattle.codec_payload_core.specs.RunOrder.{IsOrderFree, IsContiguousAsSaid}
 use Rattle.codec_payload_core.specs.RunUnits.{LosesNoneSilently, PassesNoneOver, PassesOnlyPastGap, BeginsAsSent}
 use Rattle.codec_payload_core.specs.Schedule.{Answer, RunState, Runs}
@@ -26,7 +27,7 @@ pub record Ran : Type 0 where
 abbrev pub ran : List ToPayload → List Step → RunState → Run → RunState → Ran
 ran samples steps before run after = record { samples = map sample_of samples; steps = steps; before = before; sends = run.sends.items; pops = run.pops.items; after = after }
 
--- the premises: the sink and the buffer are unused, the buffer reads what the payloader makes, and what is sent of the
+-- the premises: the packetizer is that of a codec, the sink and the buffer are unused, the buffer reads what the payloader makes, and what is sent of the
 -- samples can be read again
 abbrev pub IsFresh : Ran → Type 0
 IsFresh r = IsUnused r.before × AreReadable r.before.payloading.pack r.samples
@@ -42,6 +43,11 @@ OfEachLog r P = IsFresh r → (log : LogOf r) → P log
 -- Run as steps: the steps are done one after another, each as the call that it makes says.
 abbrev pub RunsAsSteps : Ran → Type 0
 RunsAsSteps r = Runs r.samples 0 r.steps r.before r.sends r.pops r.after
+
+-- Counts: one entry for each `Send` that names a sample, one answer for each `Pop`, and the sink gains what the entries
+-- count. This and the run as steps hold of every codec, also of a caller's own.
+abbrev pub CountsSteps : Ran → Type 0
+CountsSteps r = IsCounted r.samples r.steps r.before r.sends r.pops r.after
 
 -- The safety half: whatever is lost, repeated and reordered, the canonical units of the samples are released, in order,
 -- each at most once and whole.
@@ -86,6 +92,7 @@ BeginsWithFirst r = OfEachLog r BeginsAsSent
 -- all of it
 pub record KeepsPromises (r : Ran) : Type 0 where
   pub run_as_steps : RunsAsSteps r
+  pub counted : CountsSteps r
   pub safety_half : IsSafe r
   pub exact_half : IsExact r
   pub logged : IsLogged r

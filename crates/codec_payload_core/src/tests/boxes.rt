@@ -16,7 +16,7 @@ use crate::wire::{ExtensionValues, Frequency, MediaTime, Pt, RtpHeader, SeqNo, T
 use std::alloc::{AllocError, Global};
 use std::test::Fail;
 
-/// Answers an empty packet and one longer than the MTU.
+/// Answers an empty packet and one longer than the MTU, and marks where a talk spurt starts.
 #[derive(Debug, Drop)]
 struct Lawless {}
 
@@ -45,6 +45,10 @@ impl Packetizer for Lawless {
 
     fn is_marker(&mut self, _data: &[u8], _previous: Option<&[u8]>, _last: bool) -> bool {
         false
+    }
+
+    fn marks_talkspurt(&self) -> bool {
+        true
     }
 }
 
@@ -276,6 +280,7 @@ fn box_lawless_packets_sent(rt: HostRuntime) -> Result<(), Fail> {
     let mut lengths = Vec::new(alloc);
     for packet in sink.packets() {
         lengths.push(packet.payload.len())?;
+        assert!(rt; packet.marker);
     }
     assert_eq!(rt; lengths.as_slice(), [0usize, 3].as_slice());
     Ok(())
