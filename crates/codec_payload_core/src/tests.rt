@@ -2,6 +2,7 @@
 
 ghost use Rattle.std.specs.Prelude.{◌≤◌};
 
+mod extensions;
 mod use_it;
 
 use crate::buffer::{Depacketized, DepacketizingBuffer};
