@@ -8,6 +8,7 @@ pub mod Leb128Lemmas
 pub mod LebLaws
 pub mod LebLemmas
 pub mod LebReads
+pub mod PaddingLemmas
 pub mod PictureIdLemmas
 pub mod PieceLemmas
 pub mod TelephoneLemmas

@@ -2,9 +2,11 @@ pub mod Answers
 pub mod Bits
 pub mod Described
 pub mod Extended
+pub mod Extensions
 pub mod Faults
 pub mod Flags
 pub mod Leb
+pub mod Media
 pub mod PictureIds
 pub mod Pieces
 pub mod TelephoneReport

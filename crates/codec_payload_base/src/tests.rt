@@ -3,7 +3,11 @@
 use crate::bits::{BitRead, BitReader};
 use crate::error::PacketError;
 use crate::interface::Vp9PacketizerMode;
-use crate::wire::{ExtensionValues, Frequency, MediaTime, Pt, encode_leb_u63};
+use crate::wire::{
+    AbsCaptureTime, ExtensionValues, Frequency, MediaKind, MediaTime, MediaType, Pt,
+    VideoLayersAllocation, VideoTiming, encode_leb_u63,
+};
+use std::collections::HashMap;
 use std::test::Fail;
 
 #[test]
@@ -123,7 +127,6 @@ fn times_and_defaults(rt: HostRuntime) -> Result<(), Fail> {
         Vp9PacketizerMode::default(),
         Vp9PacketizerMode::NonFlexible
     );
-    assert_eq!(rt; ExtensionValues::default(), ExtensionValues {});
     Ok(())
 }
 
@@ -138,4 +141,105 @@ fn leb_at_the_front(rt: HostRuntime) {
         long.as_slice(),
         [0xffu8, 0xff, 0xff, 0xff, 0xff, 0xff, 0xff, 0xff, 0x7f].as_slice()
     );
+}
+
+#[test]
+fn layers_allocation_255_bytes(rt: HostRuntime) -> Result<(), Fail> {
+    let bytes = [7; 256];
+    assert!(rt; VideoLayersAllocation::new(&bytes).is_none());
+    let longest = VideoLayersAllocation::new(&bytes[..255]).ok_or("255 bytes")?;
+    assert_eq!(rt; longest.bytes(), &bytes[..255]);
+    let empty = VideoLayersAllocation::new(&[]).ok_or("no bytes")?;
+    assert_eq!(rt; empty.bytes().len(), 0);
+    Ok(())
+}
+
+#[test]
+fn layers_allocations_are_their_bytes(rt: HostRuntime) -> Result<(), Fail> {
+    let two = VideoLayersAllocation::new(&[1, 0]).ok_or("two bytes")?;
+    let same = VideoLayersAllocation::new(&[1, 0]).ok_or("two bytes")?;
+    let shorter = VideoLayersAllocation::new(&[1]).ok_or("one byte")?;
+    let other = VideoLayersAllocation::new(&[1, 2]).ok_or("two bytes")?;
+    assert!(rt; two == same);
+    assert!(rt; two != shorter);
+    assert!(rt; two != other);
+    Ok(())
+}
+
+#[test]
+fn extension_values_differ_in_each_field(rt: HostRuntime) {
+    let none = ExtensionValues::default();
+    let timing = VideoTiming {
+        flags: 1,
+        encode_start: 2,
+        encode_finish: 3,
+        packetize_complete: 4,
+        last_left_pacer: 5,
+        network_1: 6,
+        network_2: 7,
+    };
+    let captured = AbsCaptureTime {
+        capture_time: 1,
+        clock_offset: Some(-1),
+    };
+    let mut captured_only = none;
+    captured_only.abs_capture_time = Some(captured);
+    let mut turned_only = none;
+    turned_only.video_orientation = Some(0);
+    let mut screen_only = none;
+    screen_only.video_content_type = Some(0);
+    let mut timed_only = none;
+    timed_only.video_timing = Some(timing);
+    let mut layers_only = none;
+    layers_only.layers_allocation = VideoLayersAllocation::new(&[]);
+    let mut level_only = none;
+    level_only.audio_level = Some(0);
+    let mut voice_only = none;
+    voice_only.voice_activity = Some(false);
+    for some in [
+        captured_only,
+        turned_only,
+        screen_only,
+        timed_only,
+        layers_only,
+        level_only,
+        voice_only,
+    ] {
+        assert!(rt; some != none);
+        assert!(rt; some == some);
+    }
+}
+
+#[test]
+fn media_kind_application_none(rt: HostRuntime) {
+    assert_eq!(rt; MediaKind::from_media_type(MediaType::Application), None);
+    assert_eq!(rt; MediaKind::from_media_type(MediaType::Unknown), None);
+    let audio = MediaKind::from_media_type(MediaType::Audio);
+    assert_eq!(rt; audio, Some(MediaKind::Audio));
+    let video = MediaKind::from_media_type(MediaType::Video);
+    assert_eq!(rt; video, Some(MediaKind::Video));
+}
+
+#[test]
+fn media_kinds_are_keys(rt: HostRuntime) -> Result<(), Fail> {
+    let mut names = HashMap::new(rt.alloc());
+    names.insert(MediaKind::Audio, "audio")?;
+    names.insert(MediaKind::Video, "video")?;
+    assert_eq!(rt; names.len(), 2);
+    assert_eq!(rt; names.get(&MediaKind::Video).copied(), Some("video"));
+    Ok(())
+}
+
+#[test]
+fn media_kinds_are_printed(rt: HostRuntime) -> Result<(), Fail> {
+    let alloc = rt.alloc();
+    for (kind, text) in [(MediaKind::Audio, "audio"), (MediaKind::Video, "video")] {
+        let shown = format!(in alloc; "{kind}")?;
+        assert_eq!(rt; shown.as_str(), text);
+    }
+    assert!(rt; MediaKind::Audio.is_audio());
+    assert!(rt; !MediaKind::Audio.is_video());
+    assert!(rt; MediaKind::Video.is_video());
+    assert!(rt; !MediaKind::Video.is_audio());
+    Ok(())
 }

@@ -1,5 +1,6 @@
 -- What the definitions of the buffer say of a few packets.
 use Rattle.std.specs.Prelude.{◌≡◌, ℕ, Bool, true, false, List, [], ◌∷◌, Some, None, map, refl}
+use Rattle.codec_payload_base.specs.Extensions.{no_values}
 use Rattle.codec_payload_buffer.specs.Depack.{OpusDepack}
 use Rattle.codec_payload_buffer.specs.Held.{Held}
 use Rattle.codec_payload_buffer.specs.Frames.{frames}
@@ -15,7 +16,7 @@ meta_at number time = record {
   received = record { 0 = 0 };
   time = record { numer = time; rate = 48000 };
   seq_no = record { 0 = number };
-  header = record { payload_type = 96; sequence_number = number; timestamp = time; ssrc = 0; marker = false; ext_vals = record {} };
+  header = record { payload_type = 96; sequence_number = number; timestamp = time; ssrc = 0; marker = false; ext_vals = no_values };
   last_sender_info = None;
 }
 

@@ -1,7 +1,9 @@
 -- A unit that was released, and what its packets tell of it.
 use Rattle.std.specs.Prelude.{◌≡◌, ℕ, ◌-◌, ◌<◌, ◌≤◌, List, Bool, Some, All, length, take, slice_get}
+use Rattle.std.specs.Option.{option_or}
 use Rattle.codec_payload_base.specs.Time.{Time}
 use Rattle.codec_payload_base.specs.declared.interface.CodecExtra.{CodecExtra}
+use Rattle.codec_payload_base.specs.declared.wire.extension.ExtensionValues.{ExtensionValues}
 use Rattle.codec_payload_buffer.specs.declared.buffer.unit.RtpMeta.{RtpMeta}
 
 -- the time of its packets, whether it follows the unit released before it, its bytes, what its payloads told besides,
@@ -27,3 +29,18 @@ pub record IsReceivedFirst (metas : List RtpMeta) (m : RtpMeta) : Type 0 where
   pub there : slice_get metas at ≡ Some m
   pub least : All (λ (x : RtpMeta). m.received.0 ≤ x.received.0) metas
   pub first : All (λ (x : RtpMeta). m.received.0 < x.received.0) (take at metas)
+
+-- the values of the last packet, with the first packet's capture time and layers allocation where that has them
+abbrev pub merged : ExtensionValues → ExtensionValues → ExtensionValues
+merged first last = record last {
+  abs_capture_time = option_or first.abs_capture_time last.abs_capture_time;
+  layers_allocation = option_or first.layers_allocation last.layers_allocation;
+}
+
+-- the extension values of a unit with these packets
+pub record AreValues (metas : List RtpMeta) (values : ExtensionValues) : Type 0 where
+  pub first : RtpMeta
+  pub last : RtpMeta
+  pub begins : IsFirst metas first
+  pub ends : IsLast metas last
+  pub are : values ≡ merged first.header.ext_vals last.header.ext_vals

@@ -25,7 +25,7 @@ use Rattle.codec_payload_buffer.specs.Held.{Held}
 use Rattle.codec_payload_buffer.specs.Pack.{Av1Pack}
 use Rattle.codec_payload_core.specs.Packets.{Packet}
 use Rattle.codec_payload_core.specs.Schedule.{payloads_of}
-use Rattle.codec_payload_core.specs.Sending.{Sample, packets_for}
+use Rattle.codec_payload_core.specs.Sending.{Sample, packets_from}
 use Rattle.codec_payload_core.specs.LawfulUnits.{StartsWithHead, payloads_held, payloads_sent, IsLawful}
 use Rattle.codec_payload_core.specs.SentStream.{SentUnit, EndsWithTail, IsReleaseOf}
 use Rattle.codec_payload_buffer.specs.Steps.{Unpacked, Unpacks, nothing_unpacked}
@@ -141,21 +141,21 @@ none_sent (p ∷ ps) full (continues, elements, (rest, strings, stands)) =
     absurd (none_begun ps (left_open p.goes_on [] p.elements) (goes_on_begun p.elements p.goes_on [] elements full.0 parts.0) full.1 (subst (StandsAfter (left_open p.goes_on [] p.elements) ps) parts.1 stands))
 
 module _ (sample : Sample) (rtp_time : ℕ) where
-  abbrev laid : ℕ → List (List ℕ) → List Packet
-  laid number packets = packets_for Av1Pack sample rtp_time number packets
+  abbrev laid : ℕ → ℕ → List (List ℕ) → List Packet
+  laid number place packets = packets_from Av1Pack sample rtp_time number place packets
 
-  ends : (number : ℕ) (packet : List ℕ) (packets : List (List ℕ)) → EndsWithTail Av1Payloads (laid number (packet ∷ packets))
-  ends number packet [] = refl
-  ends number packet (next ∷ []) = (refl, refl)
-  ends number packet (next ∷ more ∷ packets) = (refl, ends ((number + 1) % 2 ^ 64) next (more ∷ packets))
+  ends : (number place : ℕ) (packet : List ℕ) (packets : List (List ℕ)) → EndsWithTail Av1Payloads (laid number place (packet ∷ packets))
+  ends number place packet [] = refl
+  ends number place packet (next ∷ []) = (refl, refl)
+  ends number place packet (next ∷ more ∷ packets) = (refl, ends ((number + 1) % 2 ^ 64) (place + 1) next (more ∷ packets))
 
-  payloads_laid : (number : ℕ) (packets : List (List ℕ)) → payloads_sent (laid number packets) ≡ packets
-  payloads_laid number [] = refl
-  payloads_laid number (packet ∷ packets) = ap (λ (ps : List (List ℕ)). packet ∷ ps) (payloads_laid ((number + 1) % 2 ^ 64) packets)
+  payloads_laid : (number place : ℕ) (packets : List (List ℕ)) → payloads_sent (laid number place packets) ≡ packets
+  payloads_laid number place [] = refl
+  payloads_laid number place (packet ∷ packets) = ap (λ (ps : List (List ℕ)). packet ∷ ps) (payloads_laid ((number + 1) % 2 ^ 64) (place + 1) packets)
 
   -- the frame as a unit
   abbrev obus_unit : ℕ → List Obu → List (List ℕ) → SentUnit
-  obus_unit number obus packets = record { parts = map canonical (kept obus); packets = laid number packets; id = None }
+  obus_unit number obus packets = record { parts = map canonical (kept obus); packets = laid number 0 packets; id = None }
 
   module _ (mtu number : ℕ) (packet : List ℕ) (others : List (List ℕ)) (s : IsSentFrame mtu sample.bytes (packet ∷ others)) where
     abbrev unit_is : SentUnit
@@ -174,18 +174,18 @@ module _ (sample : Sample) (rtp_time : ℕ) where
         (given.0, inr (refl, omega arith, map canonical first, map canonical last, ap (map canonical) split ∙ map-append canonical first last, omega (arith, size, some), given.1 ∙ flat_joined last))
     last_released m ms first last (Err fault) e split some given = given
 
-    gives_unit : (missing rest : List Packet) → missing ++ rest ≡ laid number (packet ∷ others) → StartsWithHead Av1Payloads rest → (ps : List Held) → payloads_held ps ≡ payloads_sent rest
+    gives_unit : (missing rest : List Packet) → missing ++ rest ≡ laid number 0 (packet ∷ others) → StartsWithHead Av1Payloads rest → (ps : List Held) → payloads_held ps ≡ payloads_sent rest
         → (d : Depack) (answer : Result Unpacked PacketError) (e : Depack) → kind_of_depack d ≡ Av1Payloads → Unpacks d ps nothing_unpacked answer e → Released missing answer e
     gives_unit [] rest whole head ps same d answer e is gives =
         let holds = is_av1 d is in
         let read = s.comes_back holds.0 in
-        let all : payloads_held ps ≡ packet ∷ others = same ∙ (ap payloads_sent whole ∙ payloads_laid number (packet ∷ others)) in
+        let all : payloads_held ps ≡ packet ∷ others = same ∙ (ap payloads_sent whole ∙ payloads_laid number 0 (packet ∷ others)) in
         whole_released answer e (all_given ps holds.0 (canonical_unit s.obus) read.0 nothing_unpacked answer e (ap (all_received holds.0) all ∙ read.1) (subst (λ (x : Depack). Unpacks x ps nothing_unpacked answer e) holds.1 gives))
     gives_unit (m ∷ ms) [] whole head ps same d answer e is gives = absurd head
     gives_unit (m ∷ ms) (r ∷ rs) whole head ps same d answer e is gives =
         let holds = is_av1 d is in
         let split : packet ∷ others ≡ payloads_sent (m ∷ ms) ++ r.payload ∷ payloads_sent rs =
-        sym (payloads_laid number (packet ∷ others)) ∙ (ap payloads_sent (sym whole) ∙ map-append (λ (p : Packet). p.payload) (m ∷ ms) (r ∷ rs)) in
+        sym (payloads_laid number 0 (packet ∷ others)) ∙ (ap payloads_sent (sym whole) ∙ map-append (λ (p : Packet). p.payload) (m ∷ ms) (r ∷ rs)) in
         let (first, last, end, parts, some, read) = s.last_come_back (payloads_sent (m ∷ ms)) r.payload (payloads_sent rs) split head holds.0 in
         last_released m ms first last answer e parts some (all_given ps holds.0 (flat_map canonical last) end nothing_unpacked answer e (ap (all_received holds.0) same ∙ read) (subst (λ (x : Depack). Unpacks x ps nothing_unpacked answer e) holds.1 gives))
 
@@ -195,7 +195,7 @@ module _ (sample : Sample) (rtp_time : ℕ) where
 
     lawful_obus : IsLawful Av1Payloads true unit_is
     lawful_obus = record {
-      ends = ends number packet others;
+      ends = ends number 0 packet others;
       starts = first_head s.sent.0 s.sent.1 s.sent.2.stands;
       gives = gives_unit;
       tells = λ missing rest whole head ps same d unpacked e is gives. quiet_tells Av1Payloads refl ps d unpacked e is gives;

@@ -1,5 +1,6 @@
 -- What is promised of whole runs, from their logs.
-use Rattle.std.proofs.Common.{◌≡◌, ◌∙◌, refl, sym, ap, subst, List, [], Option, None, Bool, false, ℕ, suc, ◌++◌, ◌∷◌, ◌≤◌, ◌<◌, ◌^◌, arith, length, map}
+use Rattle.std.specs.Prelude.{slice_get}
+use Rattle.std.proofs.Common.{◌≡◌, ◌∙◌, refl, sym, ap, subst, List, [], Option, None, Some, Bool, false, ℕ, zero, suc, ◌+◌, ◌++◌, ◌∷◌, ◌≤◌, ◌<◌, ◌^◌, arith, length, map}
 use Rattle.codec_payload_core.proofs.AlikeLemmas.{chains_same}
 use Rattle.codec_payload_core.proofs.AllPushedLemmas.{exact}
 use Rattle.codec_payload_core.proofs.BeginLemmas.{begins_from}
@@ -9,15 +10,20 @@ use Rattle.codec_payload_core.proofs.ExactLemmas.{begins, no_more_units}
 use Rattle.codec_payload_core.proofs.GapLemmas.{only_past_gap}
 use Rattle.codec_payload_core.proofs.LogLemmas.{log_from}
 use Rattle.codec_payload_core.proofs.LossLemmas.{none_is_lost}
-use Rattle.codec_payload_core.proofs.SafetyLemmas.{fresh, safe, safe_stream, sends_all}
+use Rattle.codec_payload_core.proofs.SafetyLemmas.{all_end, fresh, safe, safe_stream, sends_all}
+use Rattle.codec_payload_core.proofs.SameUnits.{not_nothing, same_front, values_of}
 use Rattle.codec_payload_core.proofs.StreamLemmas.{streams}
 use Rattle.codec_payload_core.proofs.TakenLemmas.{Follows, nothing_taken, none_is_passed}
 use Rattle.codec_payload_core.proofs.TurnLemmas.{Setting, Chain, IsReady, chain_of, are_stretches}
 use Rattle.codec_payload_core.proofs.UnitIds.{TellId, TellInTurn, tell_in_turn}
 use Rattle.codec_payload_core.proofs.UnitTimes.{AllOneTime, HasTime}
+use Rattle.codec_payload_core.proofs.UnitValues.{AreStripped, carried_at, told_by_all}
 use Rattle.codec_payload_buffer.specs.ContiguityTable.{contiguity_for}
 use Rattle.codec_payload_buffer.specs.Depack.{DepackKind}
-use Rattle.codec_payload_core.specs.Headline.{IsUnused}
+use Rattle.codec_payload_base.specs.declared.wire.extension.ExtensionValues.{ExtensionValues}
+use Rattle.codec_payload_buffer.specs.Release.{AreValues}
+use Rattle.codec_payload_core.specs.Headline.{ArePushesOf, IsUnused, ReleasesInOrder, packets_before}
+use Rattle.codec_payload_core.specs.RunValues.{HaveValuesOfSamples, values_of_run}
 use Rattle.codec_payload_buffer.specs.Held.{Held}
 use Rattle.codec_payload_core.specs.Log.{begun, IsLog, RunLog}
 use Rattle.codec_payload_core.specs.Packets.{Packet, AreNumbered}
@@ -28,28 +34,11 @@ use Rattle.codec_payload_core.proofs.BuiltInRuns.{Runs, codec_payloads, unused_e
 use Rattle.codec_payload_core.specs.Schedule.{Answer, RunState}
 use Rattle.codec_payload_core.specs.Sending.{Sample}
 use Rattle.codec_payload_core.specs.LawfulUnits.{AllLawful}
-use Rattle.codec_payload_core.specs.SentStream.{AreReadable, SentUnit, packets_of, EndsWithTail}
+use Rattle.codec_payload_core.specs.SentStream.{AllEndWithTail, AreReadable, SentUnit, packets_of, EndsWithTail}
 use Rattle.codec_payload_core.specs.ToldIds.{id_later, next_id, read_by}
 use Rattle.codec_payload_core.specs.Units.{payloads_by, may_split}
 use Rattle.codec_payload_core.specs.declared.schedule.Sent.{Sent}
 use Rattle.codec_payload_core.specs.declared.schedule.Step.{Step}
-
--- where a list of packets is cut behind its first tail
-same_front : (kind : DepackKind) (xs ys as' bs : List Packet) → EndsWithTail kind xs → EndsWithTail kind ys → xs ++ as' ≡ ys ++ bs → (xs ≡ ys) × (as' ≡ bs)
-same_front kind [] ys as' bs a b e = absurd a
-same_front kind (x ∷ xs) [] as' bs a b e = absurd b
-same_front kind (x ∷ []) (y ∷ []) as' bs a b e = (cc, cc)
-same_front kind (x ∷ []) (y ∷ z ∷ ys) as' bs a b e = let same : x ≡ y = cc in let no = b.0 in absurd (cc)
-same_front kind (x ∷ w ∷ xs) (y ∷ []) as' bs a b e = let same : x ≡ y = cc in let no = a.0 in absurd (cc)
-same_front kind (x ∷ w ∷ xs) (y ∷ z ∷ ys) as' bs a b e =
-    let same : x ≡ y = cc in
-    let later : w ∷ xs ++ as' ≡ z ∷ ys ++ bs = cc in
-    let rest = same_front kind (w ∷ xs) (z ∷ ys) as' bs a.1 b.1 later in
-    (ap (λ (p : Packet). p ∷ w ∷ xs) same ∙ ap (λ (ps : List Packet). y ∷ ps) rest.0, rest.1)
-
-not_nothing : (kind : DepackKind) (xs as' : List Packet) → EndsWithTail kind xs → xs ++ as' ≡ [] → ⊥
-not_nothing kind [] as' a e = a
-not_nothing kind (x ∷ xs) as' a e = cc
 
 -- so lawful units with these packets are one list, and have the times of each other
 times_of : (kind : DepackKind) (splits : Bool) (us vs : List SentUnit) → AllLawful kind splits us → AllLawful kind splits vs → packets_of us ≡ packets_of vs → AllOneTime vs → AllOneTime us
@@ -58,6 +47,11 @@ times_of kind splits (u ∷ us) [] a b e times = absurd (not_nothing kind u.pack
 times_of kind splits (u ∷ us) (v ∷ vs) a b e times =
     let same = same_front kind u.packets v.packets (packets_of us) (packets_of vs) a.0.ends b.0.ends e in
     ((times.0.0, subst (HasTime times.0.0) (sym same.0) times.0.1), times_of kind splits us vs a.1 b.1 same.1 times.1)
+
+end_at : (kind : DepackKind) (units : List SentUnit) (place : ℕ) (u : SentUnit) → AllEndWithTail kind units → slice_get units place ≡ Some u → EndsWithTail kind u.packets
+end_at kind [] place u ends is = absurd (cc)
+end_at kind (v ∷ us) zero u ends is = let same : v ≡ u = cc in subst (λ (x : SentUnit). EndsWithTail kind x.packets) same ends.0
+end_at kind (v ∷ us) (suc place) u ends is = end_at kind us place u ends.1 is
 
 -- and tell the ids of each other
 ids_of : (kind : DepackKind) (splits : Bool) (first : Option ℕ) (n : ℕ) (us vs : List SentUnit) → AllLawful kind splits us → AllLawful kind splits vs → packets_of us ≡ packets_of vs → TellInTurn kind first n vs → TellInTurn kind first n us
@@ -83,6 +77,24 @@ module _ (samples : List Sample) (all_steps : List Step) (s t : RunState) (sends
         answers = found.answers;
         left = found.left;
       }
+
+  -- of video, a whole release tells the values of its sample
+  pub has_values : (released : ReleasesInOrder samples all_steps s pops t) → HaveValuesOfSamples released
+  has_values released video place r whole =
+      let stream = streams samples 0 all_steps s t sends pops run in
+      let sent = sends_all samples all_steps s t unused stream in
+      let kind = payloads_by s.payloading.pack in
+      let ends = all_end kind (may_split s.payloading.pack) stream.units (stream.lawful readable) in
+      let all = values_of kind (values_of_run s.payloading.pack samples all_steps) released.units stream.units released.ends ends (released.packets ∙ sent.whole) (stream.values video) in
+      let at = carried_at (values_of_run s.payloading.pack samples all_steps) released.units place whole.0.sent all whole.0.at_place in
+      let exact : whole.0.rest ≡ whole.0.sent.packets = ap (λ (ps : List Packet). ps ++ whole.0.rest) (sym whole.1) ∙ whole.0.whole in
+      let k = packets_before place released.units + length whole.0.missing in
+      let pushes : ArePushesOf all_steps s.payloading.clock_rate k whole.0.sent.packets r.metas = subst (λ (ps : List Packet). ArePushesOf all_steps s.payloading.clock_rate k ps r.metas) exact whole.0.metas in
+      (at.0, at.1, told whole.0.sent.packets k at.0 (end_at kind released.units place whole.0.sent released.ends whole.0.at_place) pushes at.2)
+    where
+      told : (ps : List Packet) (k : ℕ) (values : ExtensionValues) → EndsWithTail (payloads_by s.payloading.pack) ps → ArePushesOf all_steps s.payloading.clock_rate k ps r.metas → AreStripped values 0 (length ps) ps → AreValues r.metas values
+      told [] k values end pushes carry = absurd end
+      told (p ∷ ps) k values end pushes carry = told_by_all all_steps s.payloading.clock_rate values k p ps r.metas pushes carry
 
   module _ (log : RunLog samples all_steps s sends pops t) where
     numbered : AreNumbered s.sink.first (packets_of log.released.units)
@@ -197,4 +209,5 @@ promises r run =
       none_passed_over = λ is log. passes_none_over r.samples r.steps r.before r.after r.sends r.pops (exactly is) is.0 is.1 log;
       passed_over = λ is log. passes_only_past_gap r.samples r.steps r.before r.after r.sends r.pops (exactly is) is.0 is.1 log;
       beginning = λ is log. begins_as_sent r.samples r.steps r.before r.after r.sends r.pops (exactly is) is.0 is.1 log;
+      extension_values = λ is released. has_values r.samples r.steps r.before r.after r.sends r.pops (exactly is) is.0 is.1 released;
     }

@@ -352,7 +352,7 @@ sends_all samples all_steps s t unused stream =
       numbered = subst (λ (n : ℕ). AreNumbered n (packets_of stream.units)) none stream.numbered;
     }
 
-all_end : (kind : DepackKind) (splits : Bool) (units : List SentUnit) → AllLawful kind splits units → AllEndWithTail kind units
+pub all_end : (kind : DepackKind) (splits : Bool) (units : List SentUnit) → AllLawful kind splits units → AllEndWithTail kind units
 all_end kind splits [] lawful = tt
 all_end kind splits (u ∷ us) lawful = (lawful.0.ends, all_end kind splits us lawful.1)
 

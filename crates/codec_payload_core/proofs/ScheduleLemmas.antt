@@ -5,7 +5,7 @@ use Rattle.codec_payload_base.specs.declared.error.PacketError.{PacketError}
 use Rattle.codec_payload_base.specs.declared.error.PacketError.TheVariants as faults
 use Rattle.codec_payload_buffer.specs.Pack.{Pack, PackStep, is_built_in}
 use Rattle.codec_payload_core.specs.Packets.{Packet, SentPackets}
-use Rattle.codec_payload_core.specs.Sending.{Sample, Payloading, packets_for, rtp_time_at, SendsSample, SendsBeginning, SendsNothing}
+use Rattle.codec_payload_core.specs.Sending.{Sample, Payloading, packets_for, packets_from, rtp_time_at, SendsSample, SendsBeginning, SendsNothing}
 use Rattle.codec_payload_core.specs.Schedule.{run_state, after_send, SendsIt, StopsSending}
 use Rattle.codec_payload_buffer.specs.Depack.{Depack}
 use Rattle.codec_payload_buffer.specs.Held.{Held}
@@ -14,8 +14,11 @@ use Rattle.codec_payload_buffer.specs.declared.buffer.unit.RtpMeta.{RtpMeta}
 use Rattle.codec_payload_core.proofs.SendLemmas.{Keeps, kept_all, kept_numbered, as_many}
 
 pub length-packets_for : (pack : Pack) (sample : Sample) (rtp_time number : ℕ) (payloads : List (List ℕ)) → length (packets_for pack sample rtp_time number payloads) ≡ length payloads
-length-packets_for pack sample rtp_time number [] = refl
-length-packets_for pack sample rtp_time number (p ∷ ps) = ap suc (length-packets_for pack sample rtp_time ((number + 1) % 2 ^ 64) ps)
+length-packets_for pack sample rtp_time number payloads = from 0 number payloads
+  where
+    from : (place number : ℕ) (payloads : List (List ℕ)) → length (packets_from pack sample rtp_time number place payloads) ≡ length payloads
+    from place number [] = refl
+    from place number (p ∷ ps) = ap suc (from (place + 1) ((number + 1) % 2 ^ 64) ps)
 
 -- the number of the next packet of a sink in memory
 abbrev pub next_number : SentPackets → ℕ

@@ -17,11 +17,14 @@ use Rattle.codec_payload_base.specs.declared.error.PacketError.TheVariants as fa
 use Rattle.codec_payload_base.specs.declared.interface.CodecExtra.{CodecExtra}
 use Rattle.codec_payload_base.proofs.PieceLemmas.{one_list}
 use Rattle.codec_payload_core.proofs.UnitTimes.{AllOneTime, times_of_sample, times_append}
+use Rattle.codec_payload_core.proofs.UnitValues.{AllCarry, carried_by_sample, carry_append, same_video}
+use Rattle.codec_payload_base.specs.declared.wire.extension.ExtensionValues.{ExtensionValues}
+use Rattle.codec_payload_core.specs.RunValues.{is_video, values_of_run, values_of_sample}
 use Rattle.codec_payload_buffer.specs.Depack.{Depack, G711Depack, OpusDepack, NullDepack, DepackKind, G711Payloads, OpusPayloads, NullPayloads, kind_of_depack, DepackStep, head_in, tail_in}
 use Rattle.codec_payload_buffer.specs.Pack.{Pack, G711Pack, G722Pack, OpusPack, ComfortNoisePack, TelePack, NullPack, Vp8Pack, Vp9Pack, Av1Pack, AmrWbPack, PackStep, BoxedPack, is_built_in}
 use Rattle.codec_payload_core.specs.Packets.{Packet, SentPackets, AreNumbered}
 use Rattle.codec_payload_core.specs.ToldIds.{next_id}
-use Rattle.codec_payload_core.specs.Sending.{Sample, packets_for, rtp_time_at}
+use Rattle.codec_payload_core.specs.Sending.{Sample, packets_for, packets_from, rtp_time_at}
 use Rattle.codec_payload_core.proofs.BuiltInRuns.{Runs, SendsIt}
 use Rattle.codec_payload_core.specs.Schedule.{payloads_of, RunState, Answer, packets_sent}
 use Rattle.codec_payload_core.specs.LawfulUnits.{AllLawful}
@@ -92,9 +95,9 @@ pub packets_alone : (ps : List Packet) → packets_of (map alone ps) ≡ ps
 packets_alone [] = refl
 packets_alone (p ∷ ps) = ap (λ (qs : List Packet). p ∷ qs) (packets_alone ps)
 
-pub parts_alone : (pack : Pack) (sample : Sample) (rtp_time number : ℕ) (payloads : List (List ℕ)) → map (λ (u : SentUnit). u.parts) (map alone (packets_for pack sample rtp_time number payloads)) ≡ each_whole payloads
-parts_alone pack sample rtp_time number [] = refl
-parts_alone pack sample rtp_time number (payload ∷ payloads) = ap (λ (us : List (List (List ℕ))). (payload ∷ []) ∷ us) (parts_alone pack sample rtp_time ((number + 1) % 2 ^ 64) payloads)
+pub parts_alone : (pack : Pack) (sample : Sample) (rtp_time number place : ℕ) (payloads : List (List ℕ)) → map (λ (u : SentUnit). u.parts) (map alone (packets_from pack sample rtp_time number place payloads)) ≡ each_whole payloads
+parts_alone pack sample rtp_time number place [] = refl
+parts_alone pack sample rtp_time number place (payload ∷ payloads) = ap (λ (us : List (List (List ℕ))). (payload ∷ []) ∷ us) (parts_alone pack sample rtp_time ((number + 1) % 2 ^ 64) (place + 1) payloads)
 
 -- the answer of a packetizer of pieces
 some_size : (mtu : ℕ) (frame : List ℕ) → pieces_are_skipped mtu frame ≡ false → 0 < mtu
@@ -116,7 +119,7 @@ plain_sends : (pack after : Pack) (mtu : ℕ) (sample : Sample) (rtp_time number
     → SendsUnits pack mtu sample rtp_time number payloads after
 plain_sends pack after mtu sample rtp_time number payloads plain whole no_id none_after goes_on canonical = record {
   units = map alone (packets_for after sample rtp_time number payloads);
-  canonical = parts_alone after sample rtp_time number payloads ∙ canonical;
+  canonical = parts_alone after sample rtp_time number 0 payloads ∙ canonical;
   packets = packets_alone (packets_for after sample rtp_time number payloads);
   lawful = λ _. rw whole (all_alone (payloads_by pack) plain (packets_for after sample rtp_time number payloads));
   ids = rw no_id (ids_alone 0 (packets_for after sample rtp_time number payloads));
@@ -217,12 +220,13 @@ pub record Streams (samples : List Sample) (later : List Step) (s t : RunState) 
   pub ids : CarryIds (next_id s.payloading.pack) 0 units
   pub few : length s.sink.packets < 2 ^ 63 → length t.sink.packets < 2 ^ 63
   pub first : t.sink.first ≡ s.sink.first
+  pub values : is_video s.payloading.pack ≡ true → AllCarry (values_of_run s.payloading.pack samples later) units
 
--- nothing is sent by these steps
-no_stream : (samples : List Sample) (later : List Step) (s t : RunState) → units_of_run s.payloading.pack samples later ≡ [] → t ≡ s → Streams samples later s t
-no_stream samples later s t none same = record {
+-- nothing is sent by no steps
+no_stream : (samples : List Sample) (s t : RunState) → t ≡ s → Streams samples [] s t
+no_stream samples s t same = record {
   units = [];
-  canonical = sym none;
+  canonical = refl;
   gained = ap (λ (x : RunState). x.sink.packets) same ∙ sym (append-nil s.sink.packets);
   lawful = λ _. tt;
   one_time = tt;
@@ -230,12 +234,14 @@ no_stream samples later s t none same = record {
   ids = tt;
   few = λ few. subst (λ (x : RunState). length x.sink.packets < 2 ^ 63) (sym same) few;
   first = ap (λ (x : RunState). x.sink.first) same;
+  values = λ video. tt;
 }
 
 -- a step that does not send, and those after it
 keeps_stream : (samples : List Sample) (later all : List Step) (s mid t : RunState) → mid.payloading.pack ≡ s.payloading.pack → mid.sink ≡ s.sink
-    → units_of_run s.payloading.pack samples all ≡ units_of_run s.payloading.pack samples later → Streams samples later mid t → Streams samples all s t
-keeps_stream samples later all s mid t pack sink units rest = record {
+    → units_of_run s.payloading.pack samples all ≡ units_of_run s.payloading.pack samples later → values_of_run s.payloading.pack samples all ≡ values_of_run s.payloading.pack samples later
+    → Streams samples later mid t → Streams samples all s t
+keeps_stream samples later all s mid t pack sink units values rest = record {
   units = rest.units;
   canonical = rest.canonical ∙ (ap (λ (p : Pack). units_of_run p samples later) pack ∙ sym units);
   gained = rest.gained ∙ ap (λ (x : SentPackets). x.packets ++ packets_of rest.units) sink;
@@ -245,6 +251,7 @@ keeps_stream samples later all s mid t pack sink units rest = record {
   ids = subst (λ (p : Pack). CarryIds (next_id p) 0 rest.units) pack rest.ids;
   few = λ few. rest.few (subst (λ (x : SentPackets). length x.packets < 2 ^ 63) (sym sink) few);
   first = rest.first ∙ ap (λ (x : SentPackets). x.first) sink;
+  values = λ video. subst (λ (vs : List ExtensionValues). AllCarry vs rest.units) (ap (λ (p : Pack). values_of_run p samples later) pack ∙ sym values) (rest.values (ap is_video pack ∙ video));
 }
 
 -- a step that sends a sample, and those after it
@@ -261,6 +268,8 @@ sends_stream samples later i mtu place sample entry s mid t there sent rest =
     let splits = ap may_split pack ∙ same_splits s.payloading.pack mtu sample.bytes in
     let whole : units_of_run s.payloading.pack samples (steps.Send i mtu ∷ later) ≡ canonical_units s.payloading.pack mtu sample.bytes ++ units_of_run (pack_after s.payloading.pack mtu sample.bytes) samples later =
     ap (λ (o : Option Sample). units_of_sample s.payloading.pack mtu o ++ units_of_run (pack_after_sample s.payloading.pack mtu o) samples later) there in
+    let told : values_of_run s.payloading.pack samples (steps.Send i mtu ∷ later) ≡ values_of_sample s.payloading.pack mtu (Some sample) ++ values_of_run (pack_after s.payloading.pack mtu sample.bytes) samples later =
+    ap (λ (o : Option Sample). values_of_sample s.payloading.pack mtu o ++ values_of_run (pack_after_sample s.payloading.pack mtu o) samples later) there in
     let next : mid.sink.first + length mid.sink.packets ≡ (s.sink.first + length s.sink.packets) + length packets =
     omega (arith, first, ap length sink, length-append s.sink.packets packets) in
     record {
@@ -279,18 +288,22 @@ sends_stream samples later i mtu place sample entry s mid t there sent rest =
       ids = carry_on (next_id s.payloading.pack) (next_id sent.pack) here.units rest.units here.ids here.ids_go_on (subst (λ (p : Pack). CarryIds (next_id p) 0 rest.units) (ap (λ (x : RunState). x.payloading.pack) sent.left) rest.ids);
       few = λ _. rest.few sent.few;
       first = rest.first ∙ first;
+      values = λ video. subst (λ (vs : List ExtensionValues). AllCarry vs (here.units ++ rest.units)) (sym told)
+          (carry_append (values_of_sample s.payloading.pack mtu (Some sample)) (values_of_run (pack_after s.payloading.pack mtu sample.bytes) samples later) here.units rest.units
+          (carried_by_sample s.payloading.pack sent.pack mtu sample time (s.sink.first + length s.sink.packets) (payloads_of sent.answer) here.units video here.canonical here.packets)
+          (subst (λ (p : Pack). AllCarry (values_of_run p samples later) rest.units) pack (rest.values (ap is_video pack ∙ (same_video s.payloading.pack mtu sample.bytes ∙ video)))));
     }
 
 pub streams : (samples : List Sample) (place : ℕ) (later : List Step) (s t : RunState) (sends : List Sent) (pops : List Answer) → Runs samples place later s sends pops t → Streams samples later s t
-streams samples place [] s t sends pops run = no_stream samples [] s t refl run.2
+streams samples place [] s t sends pops run = no_stream samples s t run.2
 streams samples place (steps.Push k ∷ later) s t sends pops run =
     let mid = run.4 in
     let rest = streams samples (place + 1) later mid t run.1 run.3 run.8 in
-    keeps_stream samples later (steps.Push k ∷ later) s mid t (ap (λ (x : RunState). x.payloading.pack) run.7.2) (ap (λ (x : RunState). x.sink) run.7.2) refl rest
+    keeps_stream samples later (steps.Push k ∷ later) s mid t (ap (λ (x : RunState). x.payloading.pack) run.7.2) (ap (λ (x : RunState). x.sink) run.7.2) refl refl rest
 streams samples place (steps.Pop ∷ later) s t sends pops run =
     let mid = run.4 in
     let rest = streams samples (place + 1) later mid t run.1 run.3 run.8 in
-    keeps_stream samples later (steps.Pop ∷ later) s mid t (ap (λ (x : RunState). x.payloading.pack) run.7.6) (ap (λ (x : RunState). x.sink) run.7.6) refl rest
+    keeps_stream samples later (steps.Pop ∷ later) s mid t (ap (λ (x : RunState). x.payloading.pack) run.7.6) (ap (λ (x : RunState). x.sink) run.7.6) refl refl rest
 streams samples place (steps.Send i mtu ∷ later) s t sends pops run =
     let rest = streams samples (place + 1) later run.4 t run.1 run.3 run.8 in
     by_sample (slice_get samples i) refl run.7.1 rest
@@ -300,5 +313,6 @@ streams samples place (steps.Send i mtu ∷ later) s t sends pops run =
         → Streams samples later run.4 t → Streams samples (steps.Send i mtu ∷ later) s t
     by_sample None none step rest =
         keeps_stream samples later (steps.Send i mtu ∷ later) s run.4 t (ap (λ (x : RunState). x.payloading.pack) step.1) (ap (λ (x : RunState). x.sink) step.1)
-        (ap (λ (o : Option Sample). units_of_sample s.payloading.pack mtu o ++ units_of_run (pack_after_sample s.payloading.pack mtu o) samples later) none) rest
+        (ap (λ (o : Option Sample). units_of_sample s.payloading.pack mtu o ++ units_of_run (pack_after_sample s.payloading.pack mtu o) samples later) none)
+        (ap (λ (o : Option Sample). values_of_sample s.payloading.pack mtu o ++ values_of_run (pack_after_sample s.payloading.pack mtu o) samples later) none) rest
     by_sample (Some sample) there step rest = sends_stream samples later i mtu place sample step.0 s run.4 t there step.2 rest

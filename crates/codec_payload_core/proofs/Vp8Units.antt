@@ -40,7 +40,7 @@ pub vp8_sends : (id next : Option ℕ) (mtu : ℕ) (sample : Sample) (rtp_time n
     → next ≡ advanced (gives_packets (Ok payloads)) id → SendsUnits (Vp8Pack id) mtu sample rtp_time number payloads (Vp8Pack next)
 vp8_sends id next mtu sample rtp_time number payloads small answer goes_on =
     described_sends Vp8Payloads Anything (header id) (Vp8Pack next) sample rtp_time (first_starts id) (λ number last payload. marks id sample last) (is_piece id small)
-    (Vp8Pack id) None mtu (header_size id) number payloads tt (λ piece pieces. all_silent Vp8Payloads (header id) (is_silent id small) (Vp8Pack next) sample rtp_time true number (piece ∷ pieces))
+    (Vp8Pack id) None mtu (header_size id) number payloads tt (λ piece pieces. all_silent Vp8Payloads (header id) (is_silent id small) (Vp8Pack next) sample rtp_time true number 0 (piece ∷ pieces))
     refl refl refl refl refl refl refl
     (λ skip none. (ap Vp8Pack (goes_on ∙ rw (none, skip) refl), refl))
     (λ roomy first others some. (ap Vp8Pack (goes_on ∙ rw (some, roomy) refl), λ m. refl))

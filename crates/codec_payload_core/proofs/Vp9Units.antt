@@ -61,11 +61,11 @@ is_told id tl0 key small first last piece (Vp9Depack d) out extra x e out' extra
 is_told id tl0 key small first last piece d out extra x e out' extra' is step = absurd (cc)
 
 tell : (mode : Vp9PacketizerMode) (id tl0 : ℕ) (key : Bool) (next : Sender) (sample : Sample) (rtp_time number : ℕ) → id < 2 ^ 15 → (piece : List ℕ) (pieces : List (List ℕ))
-    → TellAll Vp9Payloads (IsInPlace mode) (id_in mode id) (cut (header (record { mode = mode; picture_id = id; tl0picidx = tl0 }) key) (Vp9Pack next) sample rtp_time true number (piece ∷ pieces))
+    → TellAll Vp9Payloads (IsInPlace mode) (id_in mode id) (cut (header (record { mode = mode; picture_id = id; tl0picidx = tl0 }) key) (Vp9Pack next) sample rtp_time true number 0 (piece ∷ pieces))
 tell NonFlexible id tl0 key next sample rtp_time number small piece pieces =
-    (small, all_told Vp9Payloads id (header (record { mode = NonFlexible; picture_id = id; tl0picidx = tl0 }) key) (is_told id tl0 key small) (Vp9Pack next) sample rtp_time true number (piece ∷ pieces))
+    (small, all_told Vp9Payloads id (header (record { mode = NonFlexible; picture_id = id; tl0picidx = tl0 }) key) (is_told id tl0 key small) (Vp9Pack next) sample rtp_time true number 0 (piece ∷ pieces))
 tell Flexible id tl0 key next sample rtp_time number small piece pieces =
-    all_silent Vp9Payloads (header (record { mode = Flexible; picture_id = id; tl0picidx = tl0 }) key) (is_silent id tl0 key small) (Vp9Pack next) sample rtp_time true number (piece ∷ pieces)
+    all_silent Vp9Payloads (header (record { mode = Flexible; picture_id = id; tl0picidx = tl0 }) key) (is_silent id tl0 key small) (Vp9Pack next) sample rtp_time true number 0 (piece ∷ pieces)
 
 starts : (mode : Vp9PacketizerMode) → IsInPlace mode [] extras.None
 starts NonFlexible = refl

@@ -2,9 +2,11 @@ pub use Rattle.codec_payload_base.specs.Answers
 pub use Rattle.codec_payload_base.specs.Bits
 pub use Rattle.codec_payload_base.specs.Described
 pub use Rattle.codec_payload_base.specs.Extended
+pub use Rattle.codec_payload_base.specs.Extensions
 pub use Rattle.codec_payload_base.specs.Faults
 pub use Rattle.codec_payload_base.specs.Flags
 pub use Rattle.codec_payload_base.specs.Leb
+pub use Rattle.codec_payload_base.specs.Media
 pub use Rattle.codec_payload_base.specs.PictureIds
 pub use Rattle.codec_payload_base.specs.Pieces
 pub use Rattle.codec_payload_base.specs.TelephoneReport
@@ -67,8 +69,10 @@ pub mod RunOrder
 pub mod RunPromises
 pub mod RunStream
 pub mod RunUnits
+pub mod RunValues
 pub mod Schedule
 pub mod Sending
 pub mod SentStream
+pub mod StrippedValues
 pub mod ToldIds
 pub mod Units

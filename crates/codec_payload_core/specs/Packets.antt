@@ -1,6 +1,6 @@
 -- Packets on their way out, without where they lie in memory.
 use Rattle.std.specs.Prelude.{◌≡◌, ℕ, ◌+◌, Bool, List, [], ◌∷◌, Option, option_map, slice_get, length, ◌-◌, map}
-use Rattle.codec_payload_base.specs.declared.wire.ExtensionValues.{ExtensionValues}
+use Rattle.codec_payload_base.specs.declared.wire.extension.ExtensionValues.{ExtensionValues}
 use Rattle.codec_payload_core.specs.declared.payload.OutgoingPacket.{OutgoingPacket}
 
 pub record Packet : Type 0 where

@@ -6,6 +6,7 @@ use Rattle.codec_payload_core.specs.Headline.{IsUnused, ReleasesInOrder}
 use Rattle.codec_payload_core.specs.Log.{RunLog}
 use Rattle.codec_payload_core.specs.RunCounts.{IsCounted}
 use Rattle.codec_payload_core.specs.RunOrder.{IsOrderFree, IsContiguousAsSaid}
+use Rattle.codec_payload_core.specs.RunValues.{HaveValuesOfSamples}
 use Rattle.codec_payload_core.specs.RunUnits.{LosesNoneSilently, PassesNoneOver, PassesOnlyPastGap, BeginsAsSent}
 use Rattle.codec_payload_core.specs.Schedule.{Answer, RunState, Runs}
 use Rattle.codec_payload_core.specs.Sending.{Sample, sample_of}
@@ -89,6 +90,10 @@ PassesOverPastGaps r = OfEachLog r PassesOnlyPastGap
 abbrev pub BeginsWithFirst : Ran → Type 0
 BeginsWithFirst r = OfEachLog r BeginsAsSent
 
+-- Extension values: a release that is a unit of video, whole, has the extension values of the sample of that unit.
+abbrev pub TellsExtensionValues : Ran → Type 0
+TellsExtensionValues r = IsFresh r → (released : ReleasesInOrder r.samples r.steps r.before r.pops r.after) → HaveValuesOfSamples released
+
 -- all of it
 pub record KeepsPromises (r : Ran) : Type 0 where
   pub run_as_steps : RunsAsSteps r
@@ -102,3 +107,4 @@ pub record KeepsPromises (r : Ran) : Type 0 where
   pub none_passed_over : PassesNothingOver r
   pub passed_over : PassesOverPastGaps r
   pub beginning : BeginsWithFirst r
+  pub extension_values : TellsExtensionValues r

@@ -1,11 +1,12 @@
 -- How a sample becomes packets, and how a sink takes them.
-use Rattle.std.specs.Prelude.{◌≡◌, ℕ, ◌+◌, ◌%◌, ◌^◌, ◌&&◌, ◌||◌, Bool, true, false, List, [], ◌∷◌, ◌++◌, Ok, Err, refl}
+use Rattle.std.specs.Prelude.{◌≡◌, ℕ, ◌+◌, ◌%◌, ◌^◌, ◌&&◌, ◌||◌, Bool, true, false, List, [], ◌∷◌, ◌++◌, Ok, Err, length, refl}
 use Rattle.codec_payload_base.specs.Time.{Time, rebased}
 use Rattle.codec_payload_base.specs.declared.error.PacketError.{PacketError}
-use Rattle.codec_payload_base.specs.declared.wire.ExtensionValues.{ExtensionValues}
+use Rattle.codec_payload_base.specs.declared.wire.extension.ExtensionValues.{ExtensionValues}
 use Rattle.codec_payload_base.specs.declared.wire.ToPayload.{ToPayload}
 use Rattle.codec_payload_buffer.specs.Pack.{Pack, PackStep, is_built_in, marker_of, talkspurt_of, nackable_of}
 use Rattle.codec_payload_core.specs.Packets.{Packet}
+use Rattle.codec_payload_core.specs.StrippedValues.{stripped}
 
 -- a sample, without where its bytes lie
 pub record Sample : Type 0 where
@@ -35,16 +36,16 @@ pub record Payloading : Type 0 where
 abbrev pub rtp_time_at : ℕ → Time → ℕ
 rtp_time_at clock_rate time = (rebased time clock_rate).numer % 2 ^ 32
 
--- one packet of a sample; `last` says that no other of the sample follows
-abbrev pub packet_for : Pack → Sample → ℕ → ℕ → Bool → List ℕ → Packet
-packet_for pack sample rtp_time number last payload = record {
+-- one packet of a sample, with those of its extension values that go on it; `last` says that no other of the sample follows
+abbrev pub packet_for : Pack → Sample → ℕ → ℕ → ExtensionValues → Bool → List ℕ → Packet
+packet_for pack sample rtp_time number ext_vals last payload = record {
   pt = sample.pt;
   number = number;
   rtp_time = rtp_time;
   wallclock = sample.wallclock;
   marker = marker_of pack last || (talkspurt_of pack && sample.start_of_talk_spurt);
   nackable = nackable_of pack;
-  ext_vals = sample.ext_vals;
+  ext_vals = ext_vals;
   payload = payload;
 }
 
@@ -52,11 +53,16 @@ abbrev pub is_last : List (List ℕ) → Bool
 is_last [] = true
 is_last (payload ∷ payloads) = false
 
--- the packets of a sample, with consecutive numbers
+-- the packets of a sample from one at that place on, with consecutive numbers
+abbrev pub packets_from : Pack → Sample → ℕ → ℕ → ℕ → List (List ℕ) → List Packet
+packets_from pack sample rtp_time number place [] = []
+packets_from pack sample rtp_time number place (payload ∷ payloads) =
+    packet_for pack sample rtp_time number (stripped sample.ext_vals place (place + 1 + length payloads)) (is_last payloads) payload
+    ∷ packets_from pack sample rtp_time ((number + 1) % 2 ^ 64) (place + 1) payloads
+
+-- all packets of a sample
 abbrev pub packets_for : Pack → Sample → ℕ → ℕ → List (List ℕ) → List Packet
-packets_for pack sample rtp_time number [] = []
-packets_for pack sample rtp_time number (payload ∷ payloads) =
-    packet_for pack sample rtp_time number (is_last payloads) payload ∷ packets_for pack sample rtp_time ((number + 1) % 2 ^ 64) payloads
+packets_for pack sample rtp_time number payloads = packets_from pack sample rtp_time number 0 payloads
 
 -- the packet is q where the packetizer is built in; one in a box tells the marker, and whether the packet may be asked for
 -- again, as it likes

@@ -6,6 +6,7 @@ ghost use Rattle.codec_payload_base.specs.declared.error.PacketError.{PacketErro
 ghost use Rattle.codec_payload_buffer.specs.Pack.{pack_of, pack_for, configured, is_built_in};
 ghost use Rattle.codec_payload_core.specs.Packets.{Packet, packet_of, packets_in, last_payload};
 ghost use Rattle.codec_payload_core.specs.Sending.{sample_of, packet_for, IsAs, SendsSample, SendsBeginning, SendsNothing};
+ghost use Rattle.codec_payload_core.specs.StrippedValues.{kept_if, stripped};
 
 mod red_sink;
 #[cfg(test)]
@@ -199,20 +200,21 @@ impl<B: Packetizer> Payloader<B> {
         self.clock_rate
     }
 
-    /// Sends one payload of a sample.
+    /// Sends one payload of a sample, with those of its extension values that go on it.
     fn send_payload<S: PacketSink>(
         &mut self,
         sample: &ToPayload,
         rtp_time: u32,
+        ext_vals: ExtensionValues,
         payload: Vec<u8>,
         last: bool,
         sink: &mut S,
     ) -> Result<(), PacketError>
         ensures same { self.new ≡ self.old }
-        ensures ok { let told = packet_for self.old.pack (sample_of sample.now) rtp_time (S.next sink.old) last payload.items in
+        ensures ok { let told = packet_for self.old.pack (sample_of sample.now) rtp_time (S.next sink.old) ext_vals last payload.items in
             OnOk result ((packet : Packet) × IsAs (is_built_in self.old.pack) packet told × (image : Packet) × S.accepts sink.old packet image sink.new
             × (S.sent sink.new ≡ S.sent sink.old ++ image ∷ []) × (S.next sink.new ≡ (S.next sink.old + 1) % 2 ^ 64)) }
-        ensures err { let told = packet_for self.old.pack (sample_of sample.now) rtp_time (S.next sink.old) last payload.items in
+        ensures err { let told = packet_for self.old.pack (sample_of sample.now) rtp_time (S.next sink.old) ext_vals last payload.items in
             IfErr result (λ fault. (packet : Packet) × IsAs (is_built_in self.old.pack) packet told × S.refuses sink.old packet fault sink.new
             × (S.sent sink.new ≡ S.sent sink.old) × (S.next sink.new ≡ S.next sink.old)) }
         ensures kept { S.keeps sink.old sink.new }
@@ -227,13 +229,15 @@ impl<B: Packetizer> Payloader<B> {
             wallclock: sample.wallclock,
             marker,
             nackable: self.pack.nackable(),
-            ext_vals: sample.ext_vals,
+            ext_vals,
             payload,
         })
     }
 
-    /// Sends the packets of a sample, cut for an MTU in bytes, in order. A fault of the packetizer sends nothing. Where
-    /// the sink refuses a packet, those before it are sent, and the packetizer has gone on.
+    /// Sends the packets of a sample, cut for an MTU in bytes, in order. Of its extension values, capture time and layers
+    /// allocation go on the first packet alone, orientation, content type and timing on the last alone, and all others on
+    /// each. A fault of the packetizer sends nothing. Where the sink refuses a packet, those before it are sent, and the
+    /// packetizer has gone on.
     ///
     /// Each payload byte is copied once, from the sample into its packet.
     pub fn push_sample<S: PacketSink>(
@@ -251,11 +255,37 @@ impl<B: Packetizer> Payloader<B> {
     {
         let payloads = self.pack.packetize(alloc, mtu, &sample.bytes)?;
         let rtp_time = (sample.rtp_time.rebase(self.clock_rate).numer() % (1 << 32)) as u32;
-        let mut left = payloads.len();
+        let count = payloads.len();
+        let mut place = 0;
         for payload in payloads {
-            left -= 1;
-            self.send_payload(sample, rtp_time, payload, left == 0, sink)?;
+            let ext_vals = values_at(sample.ext_vals, place, count);
+            place += 1;
+            self.send_payload(sample, rtp_time, ext_vals, payload, place == count, sink)?;
         }
         Ok(())
+    }
+}
+
+/// The value, if it goes along.
+fn only_if<T: Drop>(goes: bool, value: Option<T>) -> Option<T>
+    ensures { result ≡ kept_if goes value }
+{
+    if goes { value } else { None }
+}
+
+/// The extension values of a sample that go on its packet at that place, of so many.
+fn values_at(values: ExtensionValues, place: usize, count: usize) -> ExtensionValues
+    requires { place < count }
+    ensures { result ≡ stripped values place count }
+{
+    let first = place == 0;
+    let last = place + 1 == count;
+    ExtensionValues {
+        abs_capture_time: only_if(first, values.abs_capture_time),
+        video_orientation: only_if(last, values.video_orientation),
+        video_content_type: only_if(last, values.video_content_type),
+        video_timing: only_if(last, values.video_timing),
+        layers_allocation: only_if(first, values.layers_allocation),
+        ..values
     }
 }

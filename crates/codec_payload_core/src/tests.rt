@@ -3,6 +3,7 @@
 ghost use Rattle.std.specs.Prelude.{◌≤◌};
 
 mod boxes;
+mod extensions;
 mod own_codec;
 mod use_it;
 

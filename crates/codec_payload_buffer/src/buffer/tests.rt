@@ -5,7 +5,8 @@ mod plain_search;
 use super::*;
 use codec_payload_audio::plain::OpusDepacketizer;
 use codec_payload_base::wire::{
-    Codec, ExtensionValues, Frequency, MediaTime, Pt, RtpHeader, SenderInfo, SeqNo, Ticks,
+    AbsCaptureTime, Codec, ExtensionValues, Frequency, MediaTime, Pt, RtpHeader, SenderInfo, SeqNo,
+    Ticks, VideoLayersAllocation,
 };
 use std::process::Abort;
 use std::test::Fail;
@@ -21,7 +22,7 @@ fn meta(number: u64, time: u64) -> RtpMeta {
             timestamp: (time % 4_294_967_296) as u32,
             ssrc: 0,
             marker: false,
-            ext_vals: ExtensionValues {},
+            ext_vals: ExtensionValues::default(),
         },
         last_sender_info: None,
     }
@@ -409,5 +410,53 @@ fn limit_65536_vp8(rt: HostRuntime) -> Result<(), Fail> {
     assert_eq!(rt; unit.bytes, vec![in alloc; 0x90u8; 4_097]?);
     assert_eq!(rt; unit.seq_range(), SeqNo(1)..=SeqNo(4_097));
     assert_eq!(rt; pop(&mut buffer)?, None);
+    Ok(())
+}
+
+/// The unit that comes of a VP8 frame in packets with these extension values.
+fn unit_with(alloc: Global, values: &[ExtensionValues]) -> Result<Depacketized, Fail> {
+    let mut buffer = buffer_of(alloc, Codec::Vp8)?;
+    for (place, value) in values.iter().enumerate() {
+        let mut meta = meta(place as u64, 960);
+        meta.header.ext_vals = *value;
+        meta.header.marker = place + 1 == values.len();
+        // The S bit begins a frame.
+        let descriptor = if place == 0 { 0x10 } else { 0x00 };
+        buffer.push(meta, Vec::from_slice(alloc, &[descriptor, 0x01])?)?;
+    }
+    Ok(buffer.pop().ok_or("no unit")??)
+}
+
+/// Capture time and layers allocation are those of the first packet, or else of the last; all others those of the last.
+#[test]
+fn unit_merges_extension_values(rt: HostRuntime) -> Result<(), Fail> {
+    let alloc = rt.alloc();
+    let captured = |capture_time| AbsCaptureTime {
+        capture_time,
+        clock_offset: None,
+    };
+    let mut first = ExtensionValues::default();
+    first.abs_capture_time = Some(captured(1));
+    first.layers_allocation = VideoLayersAllocation::new(&[1]);
+    first.audio_level = Some(-1);
+    let mut last = ExtensionValues::default();
+    last.abs_capture_time = Some(captured(2));
+    last.layers_allocation = VideoLayersAllocation::new(&[2]);
+    last.video_orientation = Some(2);
+    last.video_content_type = Some(2);
+    let none = ExtensionValues::default();
+
+    let mut merged = last;
+    merged.abs_capture_time = first.abs_capture_time;
+    merged.layers_allocation = first.layers_allocation;
+    assert!(rt; unit_with(alloc, &[first, none, last])?.ext_vals() == merged);
+    assert!(rt; unit_with(alloc, &[none, first, last])?.ext_vals() == last);
+    assert!(rt; unit_with(alloc, &[last])?.ext_vals() == last);
+    assert!(rt;
+        unit_with(alloc, &[last, none])?
+            .ext_vals()
+            .video_orientation
+            .is_none()
+    );
     Ok(())
 }

@@ -2,11 +2,11 @@
 
 ghost use Rattle.std.specs.Prelude.{◌≡◌, ◌<◌, length, false};
 ghost use Rattle.std.specs.Range.{range_inclusive_start, range_inclusive_end, range_inclusive_exhausted};
-ghost use Rattle.codec_payload_buffer.specs.Release.{IsFirst, IsLast, IsReceivedFirst};
+ghost use Rattle.codec_payload_buffer.specs.Release.{AreValues, IsFirst, IsLast, IsReceivedFirst};
 ghost use Rattle.codec_payload_buffer.specs.declared.buffer.unit.RtpMeta.{RtpMeta as Meta};
 
 use codec_payload_base::interface::CodecExtra;
-use codec_payload_base::wire::{MediaTime, RtpHeader, SenderInfo, SeqNo, Ticks};
+use codec_payload_base::wire::{ExtensionValues, MediaTime, RtpHeader, SenderInfo, SeqNo, Ticks};
 use std::marker::Model;
 use std::ops::RangeInclusive;
 
@@ -119,6 +119,21 @@ impl Depacketized {
         ensures { (m : Meta) × IsFirst self.now.metas m × (result ≡ m.header.marker) }
     {
         self.meta()[0].header.marker
+    }
+
+    /// The values of header extensions that go with it: those of its last packet, with the capture time and the layers
+    /// allocation of its first packet where that has them.
+    pub fn ext_vals(&self) -> ExtensionValues
+        ensures { AreValues self.now.metas result }
+    {
+        let metas = self.meta();
+        let first = metas[0].header.ext_vals;
+        let last = metas[metas.len() - 1].header.ext_vals;
+        ExtensionValues {
+            abs_capture_time: first.abs_capture_time.or(last.abs_capture_time),
+            layers_allocation: first.layers_allocation.or(last.layers_allocation),
+            ..last
+        }
     }
 }
 

@@ -1,0 +1,105 @@
+//! Values of RTP header extensions (RFC 8285). They are carried and never looked into.
+
+ghost use Rattle.std.specs.Prelude.{◌≡◌, ◌≤◌, ◌<◌, ◌↔◌, IsNone, IfSome, length};
+ghost use Rattle.codec_payload_base.specs.Extensions.{no_values};
+
+use std::marker::Model;
+
+/// The values of the header extensions that go with a packet, or with all packets of a sample. `None` stands for an
+/// extension that is not there.
+#[derive(Clone, Copy, Debug, Default, PartialEq, Eq)]
+pub struct ExtensionValues {
+    /// When the frame was captured (abs-capture-time).
+    pub abs_capture_time: Option<AbsCaptureTime>,
+    /// The byte of the coordination of video orientation: camera, flip and rotation (3GPP TS 26.114, section 7.4.5).
+    pub video_orientation: Option<u8>,
+    /// The byte of video-content-type: 0 for a camera, 1 for a screen.
+    pub video_content_type: Option<u8>,
+    /// When the frame passed the stages of its sender (video-timing).
+    pub video_timing: Option<VideoTiming>,
+    /// The layers that are sent (video-layers-allocation).
+    pub layers_allocation: Option<VideoLayersAllocation>,
+    /// The level of the audio in dBov, 0 and below (RFC 6464).
+    pub audio_level: Option<i8>,
+    /// Whether the audio holds speech (RFC 6464).
+    pub voice_activity: Option<bool>,
+}
+
+/// No values at all, which is the default.
+pub fn default_of_extension_values() -> ExtensionValues
+    ensures { result ≡ no_values }
+{
+    ExtensionValues::default()
+}
+
+/// When a frame was captured, by the clock of the system that captured it.
+#[derive(Clone, Copy, Debug, PartialEq, Eq)]
+pub struct AbsCaptureTime {
+    /// Seconds since 1900 in the high 32 bits, their fraction in the low 32.
+    pub capture_time: u64,
+    /// What is to be added to get the sender's clock, in the same unit, if it is known.
+    pub clock_offset: Option<i64>,
+}
+
+/// When a frame passed the stages of its sender, in milliseconds since it was captured.
+#[derive(Clone, Copy, Debug, PartialEq, Eq)]
+pub struct VideoTiming {
+    /// Why the values are there: 1 for a timer, 2 for a frame of unusual size.
+    pub flags: u8,
+    /// When its encoding began.
+    pub encode_start: u16,
+    /// When its encoding ended.
+    pub encode_finish: u16,
+    /// When its last packet was made.
+    pub packetize_complete: u16,
+    /// When its last packet left the pacer.
+    pub last_left_pacer: u16,
+    /// When it passed a first point in the network.
+    pub network_1: u16,
+    /// When it passed a second point in the network.
+    pub network_2: u16,
+}
+
+/// The bytes of a layers allocation, as they stand in the header extension: at most 255, as many as the two-byte header
+/// has room for (RFC 8285, section 4.3).
+#[derive(Clone, Copy, Debug, PartialEq, Eq)]
+pub struct VideoLayersAllocation {
+    len: u8,
+    /// The bytes, and then zeros, so that the same bytes are the same fields.
+    padded: [u8; 255],
+}
+
+impl Model for VideoLayersAllocation {
+    ghost use Rattle.std.specs.Prelude.{◌≡◌, ℕ, ◌-◌, List, ◌++◌, length, take, replicate};
+
+    ghost Value = { List ℕ };
+
+    ghost view = { λ a. take a.len a.padded };
+
+    ghost inverse = { λ bytes. record { len = length bytes; padded = bytes ++ replicate (255 - length bytes) 0 } };
+
+    ghost invariant = { λ a. let bytes = take a.len a.padded in (length bytes ≡ a.len) × (bytes ++ replicate (255 - length bytes) 0 ≡ a.padded) };
+
+    ghost inverse_ok = { λ a h i. record { len = h.0 i; padded = h.1 i } };
+}
+
+impl VideoLayersAllocation {
+    /// The allocation that these bytes are, or `None` for more than 255 of them.
+    pub fn new(bytes: &[u8]) -> Option<Self>
+        ensures none { IsNone result ↔ (255 < length bytes.now) }
+        ensures value { IfSome result (λ allocation. allocation ≡ bytes.now) }
+    {
+        let len = u8::try_from(bytes.len()).ok()?;
+        let mut padded = [0; 255];
+        padded[..bytes.len()].copy_from_slice(bytes);
+        Some(VideoLayersAllocation { len, padded })
+    }
+
+    /// The bytes that it was made of.
+    pub fn bytes(&self) -> &[u8]
+        ensures value { result.now ≡ self.now }
+        ensures few { length result.now ≤ 255 }
+    {
+        &self.padded[..usize::from(self.len)]
+    }
+}
