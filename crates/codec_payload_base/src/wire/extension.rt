@@ -3,6 +3,7 @@
 ghost use Rattle.std.specs.Prelude.{◌≡◌, ◌≤◌, ◌<◌, ◌↔◌, IsNone, IfSome, length};
 ghost use Rattle.codec_payload_base.specs.Extensions.{no_values};
 
+use std::fmt;
 use std::marker::Model;
 
 /// The values of the header extensions that go with a packet, or with all packets of a sample. `None` stands for an
@@ -62,10 +63,10 @@ pub struct VideoTiming {
 
 /// The bytes of a layers allocation, as they stand in the header extension: at most 255, as many as the two-byte header
 /// has room for (RFC 8285, section 4.3).
-#[derive(Clone, Copy, Debug, PartialEq, Eq)]
+#[derive(Clone, Copy)]
 pub struct VideoLayersAllocation {
     len: u8,
-    /// The bytes, and then zeros, so that the same bytes are the same fields.
+    /// The bytes, and then zeros, so that the bytes tell all of it.
     padded: [u8; 255],
 }
 
@@ -81,6 +82,26 @@ impl Model for VideoLayersAllocation {
     ghost invariant = { λ a. let bytes = take a.len a.padded in (length bytes ≡ a.len) × (bytes ++ replicate (255 - length bytes) 0 ≡ a.padded) };
 
     ghost inverse_ok = { λ a h i. record { len = h.0 i; padded = h.1 i } };
+}
+
+impl PartialEq for VideoLayersAllocation {
+    ghost use Rattle.std.specs.Prelude.{nat_eq};
+    ghost use Rattle.std.specs.Cmp.{partial_equiv_from_equiv};
+    ghost use Rattle.std.specs.Cmp.Lexicographic.{nat_list_eq_equiv, pointwise};
+
+    ghost eq = { pointwise nat_eq };
+
+    ghost laws = { partial_equiv_from_equiv nat_list_eq_equiv };
+
+    fn eq(&self, other: &Self) -> bool {
+        self.bytes() == other.bytes()
+    }
+}
+
+impl Eq for VideoLayersAllocation {
+    ghost use Rattle.std.specs.Cmp.Lexicographic.{nat_list_eq_equiv};
+
+    ghost laws = { nat_list_eq_equiv };
 }
 
 impl VideoLayersAllocation {
@@ -101,5 +122,14 @@ impl VideoLayersAllocation {
         ensures few { length result.now ≤ 255 }
     {
         &self.padded[..usize::from(self.len)]
+    }
+}
+
+/// Writes the bytes that it was made of.
+impl fmt::Debug for VideoLayersAllocation {
+    fn fmt<W: fmt::Write>(&self, f: &mut fmt::Formatter<W>) -> fmt::Result {
+        f.debug_tuple("VideoLayersAllocation")
+            .field(&self.bytes())
+            .finish()
     }
 }
