@@ -1,7 +1,7 @@
 -- What a loop over packets has counted.
 use Rattle.std.proofs.Common.{◌≡◌, ℕ, ◌+◌, ◌≤◌, [], ◌∷◌, List, length, map, arith}
 use Rattle.std.specs.Prelude.{min}
-use Rattle.codec_payload_buffer.specs.declared.buffer.packets.HeldPacket.{HeldPacket}
+use Rattle.codec_payload_buffer.specs.declared.buffer.held_packet.HeldPacket.{HeldPacket}
 use Rattle.codec_payload_buffer.specs.Held.{held_of}
 use Rattle.codec_payload_buffer.specs.Scan.{total_size}
 

@@ -16,5 +16,6 @@ pub mod RowFrames
 pub mod RowLemmas
 pub mod RowListLemmas
 pub mod RowPlaces
+pub mod SearchLemmas
 pub mod StretchLemmas
 pub mod TakeLemmas

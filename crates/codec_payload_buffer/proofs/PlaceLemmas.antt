@@ -1,14 +1,13 @@
 -- The place of a number among packets in order.
-use Rattle.std.proofs.Common.{◌≡◌, ℕ, zero, suc, ◌<◌, ◌≤◌, ◌+◌, ◌-◌, eqb, [], ◌∷◌, List, length, get_or, take, drop, map, refl, ap, ◌∙◌, arith, Bool, true, false, cond, Option, Some, None, add-one, ltb}
+use Rattle.std.proofs.Common.{◌≡◌, ℕ, zero, suc, ◌<◌, ◌≤◌, ◌+◌, eqb, [], ◌∷◌, List, length, get_or, take, drop, map, refl, ap, ◌∙◌, arith, Bool, true, false, cond, Option, Some, None, add-one, ltb}
 use Rattle.std.proofs.lemmas.List.{map-append, take-map, drop-map, length-map}
 use Rattle.std.specs.List.{insert}
 use Rattle.std.proofs.lemmas.Bool.Decides.{nat_tests}
-use Rattle.codec_payload_buffer.specs.declared.buffer.packets.HeldPacket.{HeldPacket}
+use Rattle.codec_payload_buffer.specs.declared.buffer.held_packet.HeldPacket.{HeldPacket}
 use Rattle.codec_payload_buffer.specs.Held.{Held, held_of, AllAbove, Rises, IsAboveCutoff, TakesLowest, has_number, placed}
 use Rattle.codec_payload_buffer.specs.Steps.{is_at_most}
 use Rattle.std.specs.List.Sorted.{IsNonDecreasingBy, IsPartitionPoint}
-use Rattle.std.proofs.Common.{leb}
-use Rattle.codec_payload_buffer.specs.Scan.{place_of, end_of}
+use Rattle.codec_payload_buffer.specs.Scan.{place_of}
 use Rattle.codec_payload_buffer.proofs.CaseLemmas.{by_test}
 
 pub place_within : (n : ℕ) (hs : List Held) → place_of n hs ≤ length hs
@@ -41,22 +40,22 @@ pub absent_below : (n : ℕ) (q : Held) (qs : List Held) → n < q.meta.seq_no.0
 absent_below n q qs l a = grind (arith, nat_tests, not_below n qs (above_lower n q.meta.seq_no.0 qs (omega arith) a))
 
 -- the number stands at its place, if it is there
-pub at_place : (n : ℕ) (xs : List HeldPacket) (x : HeldPacket) → Rises (map held_of xs) → place_of n (map held_of xs) < length xs → eqb (get_or xs (place_of n (map held_of xs)) x).meta.seq_no.0 n ≡ has_number n (map held_of xs)
+pub at_place : (n : ℕ) (xs : List HeldPacket) (x : HeldPacket) → Rises (map held_of xs) → place_of n (map held_of xs) < length xs → eqb (get_or xs (place_of n (map held_of xs)) x).meta.value.seq_no.0 n ≡ has_number n (map held_of xs)
 at_place n [] x r l = absurd (omega arith)
-at_place n (q ∷ qs) x r l = at_test (at_place n qs x r.1) (ltb q.meta.seq_no.0 n) refl l
+at_place n (q ∷ qs) x r l = at_test (at_place n qs x r.1) (ltb q.meta.value.seq_no.0 n) refl l
   where
-    at_test : (place_of n (map held_of qs) < length qs → eqb (get_or qs (place_of n (map held_of qs)) x).meta.seq_no.0 n ≡ has_number n (map held_of qs)) → (b : Bool) → ltb q.meta.seq_no.0 n ≡ b → cond b (place_of n (map held_of qs) + 1) 0 < length (q ∷ qs) → eqb (get_or (q ∷ qs) (cond b (place_of n (map held_of qs) + 1) 0) x).meta.seq_no.0 n ≡ has_number n (map held_of (q ∷ qs))
+    at_test : (place_of n (map held_of qs) < length qs → eqb (get_or qs (place_of n (map held_of qs)) x).meta.value.seq_no.0 n ≡ has_number n (map held_of qs)) → (b : Bool) → ltb q.meta.value.seq_no.0 n ≡ b → cond b (place_of n (map held_of qs) + 1) 0 < length (q ∷ qs) → eqb (get_or (q ∷ qs) (cond b (place_of n (map held_of qs) + 1) 0) x).meta.value.seq_no.0 n ≡ has_number n (map held_of (q ∷ qs))
     at_test rest true e l =
-        let below : q.meta.seq_no.0 < n = grind (arith, nat_tests, e) in
+        let below : q.meta.value.seq_no.0 < n = grind (arith, nat_tests, e) in
         rw add-one (rest (omega arith) ∙ grind (arith, nat_tests))
     at_test rest false e l =
-        let at_least : n ≤ q.meta.seq_no.0 = grind (arith, nat_tests, e) in
-        grind (arith, nat_tests, not_below n (map held_of qs) (above_lower n q.meta.seq_no.0 (map held_of qs) at_least r.0))
+        let at_least : n ≤ q.meta.value.seq_no.0 = grind (arith, nat_tests, e) in
+        grind (arith, nat_tests, not_below n (map held_of qs) (above_lower n q.meta.value.seq_no.0 (map held_of qs) at_least r.0))
 
 -- the packet that is found at that place tells it
-pub at_found : (n : ℕ) (xs : List HeldPacket) (i : ℕ) (q : HeldPacket) → Rises (map held_of xs) → i ≡ place_of n (map held_of xs) → i < length xs → q ≡ get_or xs i q → eqb q.meta.seq_no.0 n ≡ has_number n (map held_of xs)
+pub at_found : (n : ℕ) (xs : List HeldPacket) (i : ℕ) (q : HeldPacket) → Rises (map held_of xs) → i ≡ place_of n (map held_of xs) → i < length xs → q ≡ get_or xs i q → eqb q.number n ≡ has_number n (map held_of xs)
 at_found n xs i q r at l is =
-    ap (λ (p : HeldPacket). eqb p.meta.seq_no.0 n) (is ∙ ap (λ k. get_or xs k q) at) ∙ at_place n xs q r (omega (arith, l, at))
+    ap (λ k. eqb k n) q.numbered ∙ ap (λ (p : HeldPacket). eqb p.meta.value.seq_no.0 n) (is ∙ ap (λ k. get_or xs k q) at) ∙ at_place n xs q r (omega (arith, l, at))
 
 pub past_place : (n : ℕ) (hs : List Held) → Rises hs → length hs ≤ place_of n hs → has_number n hs ≡ false
 past_place n [] r l = refl
@@ -82,8 +81,8 @@ pub length_placed : (p : Held) (hs : List Held) → length (placed p hs) ≡ len
 length_placed p [] = refl
 length_placed p (q ∷ qs) = grind (arith, nat_tests, length_placed p qs)
 
-pub place_ok : (p : HeldPacket) (xs zs : List HeldPacket) (i : ℕ) → i ≡ place_of p.meta.seq_no.0 (map held_of xs) → zs ≡ insert xs i p → map held_of zs ≡ placed (held_of p) (map held_of xs)
-place_ok p xs zs i at is = ap (map held_of) is ∙ held_insert xs i p ∙ ap (λ k. insert (map held_of xs) k (held_of p)) at ∙ placed_is (held_of p) (map held_of xs)
+pub place_ok : (p : HeldPacket) (xs zs : List HeldPacket) (i : ℕ) → i ≡ place_of p.number (map held_of xs) → zs ≡ insert xs i p → map held_of zs ≡ placed (held_of p) (map held_of xs)
+place_ok p xs zs i at is = ap (map held_of) is ∙ held_insert xs i p ∙ ap (λ k. insert (map held_of xs) k (held_of p)) (at ∙ ap (λ k. place_of k (map held_of xs)) p.numbered) ∙ placed_is (held_of p) (map held_of xs)
 
 -- what is left when the lowest has left
 pub lowest_out : (hs new : List Held) (n : ℕ) → TakesLowest hs n new → Rises hs → record { rises : Rises new; above : AllAbove n new; shorter : length new + 1 ≡ length hs }
@@ -103,54 +102,26 @@ with_new items new p cutoff r a fresh over is = record {
   long = omega (arith, ap length is, length_placed p (map held_of items), length-map new held_of, length-map items held_of);
 }
 
--- Places found by a binary search
+-- Places found by a search
 
-number_from : (n : ℕ) (xs : List HeldPacket) → AllAbove n (map held_of xs) → (k : ℕ) (d : HeldPacket) → k < length xs → n < (get_or xs k d).meta.seq_no.0
+number_from : (n : ℕ) (xs : List HeldPacket) → AllAbove n (map held_of xs) → (k : ℕ) (d : HeldPacket) → k < length xs → n < (get_or xs k d).number
 number_from n [] a k d l = absurd (omega arith)
-number_from n (x ∷ xs) a zero d l = a.0
+number_from n (x ∷ xs) a zero d l = omega (arith, a.0, x.numbered)
 number_from n (x ∷ xs) a (suc k) d l = number_from n xs a.1 k d (omega arith)
 
--- packets whose numbers rise, as a binary search asks it
-pub rises_by_number : (xs : List HeldPacket) → Rises (map held_of xs) → IsNonDecreasingBy (λ (p : HeldPacket). p.meta.seq_no.0) xs
+-- packets whose numbers rise, as a search asks it
+pub rises_by_number : (xs : List HeldPacket) → Rises (map held_of xs) → IsNonDecreasingBy (λ (p : HeldPacket). p.number) xs
 rises_by_number [] r i j d le l = absurd (omega arith)
 rises_by_number (x ∷ xs) r zero zero d le l = omega arith
-rises_by_number (x ∷ xs) r zero (suc j) d le l = let over = number_from x.meta.seq_no.0 xs r.0 j d (omega arith) in omega arith
+rises_by_number (x ∷ xs) r zero (suc j) d le l = let over = number_from x.meta.value.seq_no.0 xs r.0 j d (omega arith) in omega (arith, over, x.numbered)
 rises_by_number (x ∷ xs) r (suc i) zero d le l = absurd (omega arith)
 rises_by_number (x ∷ xs) r (suc i) (suc j) d le l = rises_by_number xs r.1 i j d (omega arith) (omega arith)
 
 -- the place up to which all numbers are below n
-pub place_from_point : (n : ℕ) (xs : List HeldPacket) (i : ℕ) → IsPartitionPoint (λ (p : HeldPacket). ltb p.meta.seq_no.0 n ≡ true) (λ (p : HeldPacket). ltb p.meta.seq_no.0 n ≡ false) xs i → i ≤ length xs → i ≡ place_of n (map held_of xs)
+pub place_from_point : (n : ℕ) (xs : List HeldPacket) (i : ℕ) → IsPartitionPoint (λ (p : HeldPacket). p.number < n) (λ (p : HeldPacket). n ≤ p.number) xs i → i ≤ length xs → i ≡ place_of n (map held_of xs)
 place_from_point n [] i point le = omega arith
-place_from_point n (x ∷ xs) zero point le = let t : ltb x.meta.seq_no.0 n ≡ false = point.1 0 x (omega arith) (omega arith) in rw t refl
+place_from_point n (x ∷ xs) zero point le = let t : ltb x.meta.value.seq_no.0 n ≡ false = grind (arith, nat_tests, point.1 0 x (omega arith) (omega arith), x.numbered) in rw t refl
 place_from_point n (x ∷ xs) (suc i) point le =
-    let t : ltb x.meta.seq_no.0 n ≡ true = point.0 0 x (omega arith) (omega arith) in
+    let t : ltb x.meta.value.seq_no.0 n ≡ true = grind (arith, nat_tests, point.0 0 x (omega arith) (omega arith), x.numbered) in
     let rest = place_from_point n xs i (λ k d low l. point.0 (suc k) d (omega arith) (omega arith), λ k d low l. point.1 (suc k) d (omega arith) (omega arith)) (omega arith) in
-    rw t (omega (arith, rest))
-
--- the place up to which all numbers are at most last
-pub end_from_point : (last : ℕ) (xs : List HeldPacket) (i : ℕ) → IsPartitionPoint (λ (p : HeldPacket). leb p.meta.seq_no.0 last ≡ true) (λ (p : HeldPacket). leb p.meta.seq_no.0 last ≡ false) xs i → i ≤ length xs → i ≡ end_of last (map held_of xs)
-end_from_point last [] i point le = omega arith
-end_from_point last (x ∷ xs) zero point le =
-    let t : leb x.meta.seq_no.0 last ≡ false = point.1 0 x (omega arith) (omega arith) in
-    let over : ltb last x.meta.seq_no.0 ≡ true = grind (arith, nat_tests, t) in
-    rw over refl
-end_from_point last (x ∷ xs) (suc i) point le =
-    let t : leb x.meta.seq_no.0 last ≡ true = point.0 0 x (omega arith) (omega arith) in
-    let over : ltb last x.meta.seq_no.0 ≡ false = grind (arith, nat_tests, t) in
-    let rest = end_from_point last xs i (λ k d low l. point.0 (suc k) d (omega arith) (omega arith), λ k d low l. point.1 (suc k) d (omega arith) (omega arith)) (omega arith) in
-    rw over (omega (arith, rest))
-
--- a number above the last stands behind all
-pub behind_last : (n : ℕ) (xs : List HeldPacket) (x : HeldPacket) → Rises (map held_of xs) → 0 < length xs → x ≡ get_or xs (length xs - 1) x → x.meta.seq_no.0 < n → length xs ≡ place_of n (map held_of xs)
-behind_last n [] x r some is l = absurd (omega arith)
-behind_last n (y ∷ []) x r some is l =
-    let t : ltb y.meta.seq_no.0 n ≡ true = grind (arith, nat_tests, ap (λ (p : HeldPacket). p.meta.seq_no.0) is, l) in
-    rw t refl
-behind_last n (y ∷ z ∷ xs) x r some is l =
-    let at : length (y ∷ z ∷ xs) - 1 ≡ suc (length (z ∷ xs) - 1) = omega arith in
-    let there : x ≡ get_or (z ∷ xs) (length (z ∷ xs) - 1) x = rw at at is in
-    let over = number_from y.meta.seq_no.0 (z ∷ xs) r.0 (length (z ∷ xs) - 1) x (omega arith) in
-    let low : y.meta.seq_no.0 < n = omega (arith, over, l, ap (λ (p : HeldPacket). p.meta.seq_no.0) there) in
-    let t : ltb y.meta.seq_no.0 n ≡ true = grind (arith, nat_tests, low) in
-    let rest = behind_last n (z ∷ xs) x r.1 (omega arith) there l in
     rw t (omega (arith, rest))

@@ -15,7 +15,7 @@ use Rattle.codec_payload_buffer.specs.Steps.{State, IsSound, due_of, due_among, 
 use Rattle.codec_payload_buffer.specs.declared.buffer.unit.RtpMeta.{RtpMeta}
 use Rattle.std.proofs.Common.{zero, suc, get_or, subst}
 use Rattle.codec_payload_buffer.proofs.CaseLemmas.{by_test}
-use Rattle.codec_payload_buffer.proofs.RowLemmas.{first_split, first_le_last, part_between}
+use Rattle.codec_payload_buffer.proofs.RowLemmas.{first_split, first_le_last, part_between, run_length}
 
 pub due_first : (s : State) (fs : List Segment) (f : Segment) → due_among s fs ≡ Some f → first_of fs ≡ Some f
 due_first s [] f h = absurd (cc)
@@ -99,6 +99,14 @@ due_metas s f metas r h is = omega (arith, (due_packets s f r h).2, ap length is
 first_time : (ps : List Held) (m : RtpMeta) (time : Time) → AllOfTime time ps → 0 < length ps → m ≡ get_or (metas_of ps) 0 m → time ≡ m.time
 first_time [] m time all some is = absurd (omega arith)
 first_time (p ∷ ps) m time all some is = sym (ap (λ (x : RtpMeta). x.time) is ∙ all 0 p (omega arith))
+
+-- and their numbers follow one another
+pub due_whole : (s : State) (f : Segment) → Rises s.held → due_of s ≡ Some f → f.last + 1 ≡ f.first + length (packets_of_frame s f)
+due_whole s f r h =
+    let part = part_due s f h in
+    let split = part_between part.2.before part.0 part.1 f.first f.last part.2.time part.2.run (rw (← part.2.whole) r) in
+    let inside : packets_of_frame s f ≡ part.0 = ap (between f.first f.last) part.2.whole ∙ split.inside in
+    rw inside (run_length part.0 f.first f.last part.2.time part.2.run)
 
 -- their time is that of the first
 pub due_time : (s : State) (f : Segment) (metas : List RtpMeta) (m : RtpMeta) → Rises s.held → due_of s ≡ Some f → metas ≡ metas_of (packets_of_frame s f) → m ≡ get_or metas 0 m → AllOfTime m.time (packets_of_frame s f)

@@ -1,6 +1,7 @@
 -- A part of the packets by their numbers is a part by place.
 use Rattle.std.proofs.Common.{◌≡◌, ℕ, suc, ◌≤◌, ◌+◌, ◌-◌, [], ◌∷◌, List, length, take, drop, refl, ap, sym, arith, true, false, cond, ltb, add-one}
 use Rattle.std.proofs.lemmas.Bool.{cases_lt}
+use Rattle.std.proofs.lemmas.List.{length-take, length-drop}
 use Rattle.std.proofs.Common.{inl, inr}
 use Rattle.std.proofs.lemmas.Bool.Decides.{nat_tests}
 use Rattle.codec_payload_buffer.specs.Held.{Held, Rises, AllAbove, between, above}
@@ -56,3 +57,10 @@ slice_between first last (q ∷ qs) r le =
             record { order = rw (t, u) (omega arith); part = rw (t, u) (rw same (ap (λ (zs : List Held). q ∷ zs) (rw whole at (rw zero_place at rest.part)))) }
       ]
     ]
+
+-- where the numbers of the part follow one another, they tell how long it is
+pub end_from_place : (first last : ℕ) (hs : List Held) → Rises hs → first ≤ last → last + 1 ≡ first + length (between first last hs) → end_of last hs ≡ place_of first hs + (last - first) + 1
+end_from_place first last hs r le whole =
+    let slice = slice_between first last hs r le in
+    let size = end_of last hs - place_of first hs in
+    omega (arith, le, whole, slice.order, end_within last hs, ap length slice.part, length-take size (drop (place_of first hs) hs), length-drop (place_of first hs) hs)

@@ -1,10 +1,10 @@
 -- Places of rows and of frames, found by binary searches, and what is written there.
-use Rattle.std.proofs.Common.{◌≡◌, ℕ, zero, suc, ◌<◌, ◌≤◌, ◌+◌, ◌-◌, [], ◌∷◌, List, length, get_or, drop, refl, ap, sym, ◌∙◌, arith, true, false, cond, ltb, leb, eqb}
+use Rattle.std.proofs.Common.{◌≡◌, ℕ, zero, suc, ◌<◌, ◌≤◌, ◌+◌, ◌-◌, [], ◌∷◌, List, length, get_or, drop, refl, ap, sym, ◌∙◌, arith, true, false, cond, ltb, eqb}
 use Rattle.std.specs.Prelude.{slice_set}
 use Rattle.std.specs.List.{insert, remove}
 use Rattle.std.specs.List.Sorted.{IsNonDecreasingBy, IsPartitionPoint}
 use Rattle.std.proofs.lemmas.Bool.Decides.{nat_tests}
-use Rattle.codec_payload_buffer.specs.Rows.{meet, joined, join_if, put_before, row_place, row_end, row_placed, with_next, merged_after, merged, put_at, join_at, noted, frame_place, RowsAbove, RowsRise, AreLongest, EndsAbove, EndsRise}
+use Rattle.codec_payload_buffer.specs.Rows.{meet, joined, join_if, put_before, row_place, row_placed, with_next, merged_after, merged, put_at, join_at, noted, frame_place, RowsAbove, RowsRise, AreLongest, EndsAbove, EndsRise}
 use Rattle.codec_payload_buffer.specs.declared.buffer.frames.Segment.{Segment}
 use Rattle.codec_payload_buffer.specs.declared.buffer.rows.Row.{Row}
 use Rattle.codec_payload_buffer.proofs.CaseLemmas.{by_test}
@@ -28,46 +28,17 @@ rows_by_first (r ∷ rs) a zero (suc j) d le l = let over = above_at r.last rs a
 rows_by_first (r ∷ rs) a (suc i) zero d le l = absurd (omega arith)
 rows_by_first (r ∷ rs) a (suc i) (suc j) d le l = rows_by_first rs (rise_above r.last rs a.1) i j d (omega arith) (omega arith)
 
-pub row_from_point : (n : ℕ) (rs : List Row) (i : ℕ) → IsPartitionPoint (λ (r : Row). ltb r.first n ≡ true) (λ (r : Row). ltb r.first n ≡ false) rs i → i ≤ length rs → i ≡ row_place n rs
+pub row_from_point : (n : ℕ) (rs : List Row) (i : ℕ) → IsPartitionPoint (λ (r : Row). r.first < n) (λ (r : Row). n ≤ r.first) rs i → i ≤ length rs → i ≡ row_place n rs
 row_from_point n [] i point le = omega arith
-row_from_point n (r ∷ rs) zero point le = let t : ltb r.first n ≡ false = point.1 0 r (omega arith) (omega arith) in rw t refl
+row_from_point n (r ∷ rs) zero point le = let t : ltb r.first n ≡ false = grind (arith, nat_tests, point.1 0 r (omega arith) (omega arith)) in rw t refl
 row_from_point n (r ∷ rs) (suc i) point le =
-    let t : ltb r.first n ≡ true = point.0 0 r (omega arith) (omega arith) in
+    let t : ltb r.first n ≡ true = grind (arith, nat_tests, point.0 0 r (omega arith) (omega arith)) in
     let rest = row_from_point n rs i (λ k d low l. point.0 (suc k) d (omega arith) (omega arith), λ k d low l. point.1 (suc k) d (omega arith) (omega arith)) (omega arith) in
     rw t (omega (arith, rest))
-
--- a number above the start of the last row
-pub behind_rows : (n : ℕ) (rs : List Row) (x : Row) → RowsRise rs → 0 < length rs → x ≡ get_or rs (length rs - 1) x → x.first < n → length rs ≡ row_place n rs
-behind_rows n [] x a some is l = absurd (omega arith)
-behind_rows n (r ∷ []) x a some is l = let t : ltb r.first n ≡ true = grind (arith, nat_tests, ap (λ (y : Row). y.first) is, l) in rw t refl
-behind_rows n (r ∷ s ∷ rs) x a some is l =
-    let at : length (r ∷ s ∷ rs) - 1 ≡ suc (length (s ∷ rs) - 1) = omega arith in
-    let there : x ≡ get_or (s ∷ rs) (length (s ∷ rs) - 1) x = rw at at is in
-    let over = above_at r.last (s ∷ rs) a.1 (length (s ∷ rs) - 1) x (omega arith) in
-    let low : r.first < n = omega (arith, over, l, a.0, ap (λ (y : Row). y.first) there) in
-    let t : ltb r.first n ≡ true = grind (arith, nat_tests, low) in
-    let rest = behind_rows n (s ∷ rs) x (rise_above r.last (s ∷ rs) a.1) (omega arith) there l in
-    rw t (omega (arith, rest))
-
-pub row_end_from_point : (last : ℕ) (rs : List Row) (i : ℕ) → IsPartitionPoint (λ (r : Row). leb r.first last ≡ true) (λ (r : Row). leb r.first last ≡ false) rs i → i ≤ length rs → i ≡ row_end last rs
-row_end_from_point last [] i point le = omega arith
-row_end_from_point last (r ∷ rs) zero point le =
-    let t : leb r.first last ≡ false = point.1 0 r (omega arith) (omega arith) in
-    let over : ltb last r.first ≡ true = grind (arith, nat_tests, t) in
-    rw over refl
-row_end_from_point last (r ∷ rs) (suc i) point le =
-    let t : leb r.first last ≡ true = point.0 0 r (omega arith) (omega arith) in
-    let over : ltb last r.first ≡ false = grind (arith, nat_tests, t) in
-    let rest = row_end_from_point last rs i (λ k d low l. point.0 (suc k) d (omega arith) (omega arith), λ k d low l. point.1 (suc k) d (omega arith) (omega arith)) (omega arith) in
-    rw over (omega (arith, rest))
 
 pub row_place_within : (n : ℕ) (rs : List Row) → row_place n rs ≤ length rs
 row_place_within n [] = omega arith
 row_place_within n (r ∷ rs) = grind (arith, nat_tests, row_place_within n rs)
-
-pub row_end_within : (n : ℕ) (rs : List Row) → row_end n rs ≤ length rs
-row_end_within n [] = omega arith
-row_end_within n (r ∷ rs) = grind (arith, nat_tests, row_end_within n rs)
 
 -- What is written at a place
 
@@ -198,25 +169,12 @@ frames_by_end (f ∷ fs) a zero (suc j) d le l = let over = ends_at f.last fs a 
 frames_by_end (f ∷ fs) a (suc i) zero d le l = absurd (omega arith)
 frames_by_end (f ∷ fs) a (suc i) (suc j) d le l = frames_by_end fs (ends_rest f.last fs a) i j d (omega arith) (omega arith)
 
-pub end_from_point : (n : ℕ) (fs : List Segment) (i : ℕ) → IsPartitionPoint (λ (f : Segment). ltb f.last n ≡ true) (λ (f : Segment). ltb f.last n ≡ false) fs i → i ≤ length fs → i ≡ frame_place n fs
+pub end_from_point : (n : ℕ) (fs : List Segment) (i : ℕ) → IsPartitionPoint (λ (f : Segment). f.last < n) (λ (f : Segment). n ≤ f.last) fs i → i ≤ length fs → i ≡ frame_place n fs
 end_from_point n [] i point le = omega arith
-end_from_point n (f ∷ fs) zero point le = let t : ltb f.last n ≡ false = point.1 0 f (omega arith) (omega arith) in rw t refl
+end_from_point n (f ∷ fs) zero point le = let t : ltb f.last n ≡ false = grind (arith, nat_tests, point.1 0 f (omega arith) (omega arith)) in rw t refl
 end_from_point n (f ∷ fs) (suc i) point le =
-    let t : ltb f.last n ≡ true = point.0 0 f (omega arith) (omega arith) in
+    let t : ltb f.last n ≡ true = grind (arith, nat_tests, point.0 0 f (omega arith) (omega arith)) in
     let rest = end_from_point n fs i (λ k d low l. point.0 (suc k) d (omega arith) (omega arith), λ k d low l. point.1 (suc k) d (omega arith) (omega arith)) (omega arith) in
-    rw t (omega (arith, rest))
-
--- an end above all others
-pub behind_frames : (n : ℕ) (fs : List Segment) (x : Segment) → EndsRise fs → 0 < length fs → x ≡ get_or fs (length fs - 1) x → x.last < n → length fs ≡ frame_place n fs
-behind_frames n [] x a some is l = absurd (omega arith)
-behind_frames n (f ∷ []) x a some is l = let t : ltb f.last n ≡ true = grind (arith, nat_tests, ap (λ (y : Segment). y.last) is, l) in rw t refl
-behind_frames n (f ∷ g ∷ fs) x a some is l =
-    let at : length (f ∷ g ∷ fs) - 1 ≡ suc (length (g ∷ fs) - 1) = omega arith in
-    let there : x ≡ get_or (g ∷ fs) (length (g ∷ fs) - 1) x = rw at at is in
-    let over = ends_at f.last (g ∷ fs) a (length (g ∷ fs) - 1) x (omega arith) in
-    let low : f.last < n = omega (arith, over, l, ap (λ (y : Segment). y.last) there) in
-    let t : ltb f.last n ≡ true = grind (arith, nat_tests, low) in
-    let rest = behind_frames n (g ∷ fs) x (ends_rest f.last (g ∷ fs) a) (omega arith) there l in
     rw t (omega (arith, rest))
 
 pub frame_place_within : (n : ℕ) (fs : List Segment) → frame_place n fs ≤ length fs

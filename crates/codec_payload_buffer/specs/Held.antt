@@ -1,7 +1,7 @@
 -- The packets that a buffer holds: a list with rising numbers, so a set with at most one packet a number.
 use Rattle.std.specs.Prelude.{◌≡◌, ℕ, ◌<◌, ◌||◌, Bool, false, List, [], ◌∷◌, nat_lt, ◌==◌, if◌then◌else◌, Option, Some, None}
 use Rattle.codec_payload_buffer.specs.declared.buffer.unit.RtpMeta.{RtpMeta}
-use Rattle.codec_payload_buffer.specs.declared.buffer.packets.HeldPacket.{HeldPacket}
+use Rattle.codec_payload_buffer.specs.declared.buffer.held_packet.HeldPacket.{HeldPacket}
 
 -- a held packet: what is known of it, its payload, and whether it begins and ends a unit
 pub record Held : Type 0 where
@@ -10,9 +10,9 @@ pub record Held : Type 0 where
   pub head : Bool
   pub tail : Bool
 
--- the packet, without where its payload lies in memory
+-- the packet, without where what it has lies in memory
 abbrev pub held_of : HeldPacket → Held
-held_of p = record { meta = p.meta; bytes = p.bytes.items; head = p.head; tail = p.tail }
+held_of p = record { meta = p.meta.value; bytes = p.bytes.items; head = p.head; tail = p.tail }
 
 -- its sequence number
 abbrev pub number_of : Held → ℕ

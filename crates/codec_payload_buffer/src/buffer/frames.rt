@@ -5,6 +5,7 @@ ghost use Rattle.std.specs.VecDeque.{deque_len, deque_capacity};
 ghost use Rattle.codec_payload_buffer.specs.Rows.{EndsRise, frame_of_row, frame_place, noted_if, first_mended};
 
 use super::rows::Row;
+use super::search::place_of_number;
 use std::collections::VecDeque;
 
 /// A complete frame: the sequence numbers of its first packet and its last.
@@ -27,17 +28,12 @@ pub(super) fn frame_of(row: &Row) -> Option<Segment>
     }
 }
 
-/// Where the first frame that ends at that number or above stands or would stand. Past the last frame that is seen at
-/// once, else a binary search finds it.
+/// Where the first frame that ends at that number or above stands or would stand.
 fn find_end(segments: &VecDeque<Segment>, last: u64) -> usize
     requires { EndsRise segments.now.items }
     ensures { result ≡ frame_place last segments.now.items }
 {
-    let count = segments.len();
-    if count > 0 && segments[count - 1].last < last {
-        return count;
-    }
-    segments.partition_point(|s| s.last < last)
+    place_of_number(segments, last)
 }
 
 /// Takes a frame into the list, in the stead of the one with the same end, if there is one. The room was found before.

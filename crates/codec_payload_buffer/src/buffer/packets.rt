@@ -1,6 +1,6 @@
 //! The packets that a buffer holds, in rising order of sequence number.
 
-ghost use Rattle.std.specs.Prelude.{◌≡◌, ◌≤◌, ◌<◌, IfOk, OnOk, OnErr, map, drop, slice_range, [], min, vec_capacity};
+ghost use Rattle.std.specs.Prelude.{◌++◌, ◌∷◌, ◌≡◌, ◌≤◌, ◌<◌, ◌+◌, length, IfOk, OnOk, OnErr, map, drop, slice_range, [], min, vec_capacity};
 ghost use Rattle.std.specs.VecDeque.{deque_len};
 ghost use Rattle.codec_payload_buffer.specs.Depack.{depack_of, kind_of_depack};
 ghost use Rattle.codec_payload_buffer.specs.Held.{held_of, Rises, has_number, placed, between, above, TakesLowest};
@@ -8,6 +8,8 @@ ghost use Rattle.codec_payload_buffer.specs.Scan.{place_of, end_of, total_size, 
 ghost use Rattle.codec_payload_buffer.specs.Steps.{is_at_most, starts_right_after, metas_of, Unpacks, answer_of};
 
 use super::frames::Segment;
+use super::held_packet::HeldPacket;
+use super::search::place_of_number;
 use super::unit::RtpMeta;
 use crate::codec::{CodecDepacketizer, Depacketizer};
 use codec_payload_base::error::PacketError;
@@ -15,13 +17,25 @@ use codec_payload_base::interface::CodecExtra;
 use std::alloc::{AllocError, Global};
 use std::collections::VecDeque;
 
-/// A packet that is held. Whether it begins and ends a unit was asked of the depacketizer when it came.
-#[derive(Debug, Drop)]
-pub(super) struct HeldPacket {
-    pub(super) meta: RtpMeta,
-    pub(super) bytes: Vec<u8>,
-    pub(super) head: bool,
-    pub(super) tail: bool,
+/// A packet as it is held. Takes memory for what is known of it.
+pub(super) fn hold(
+    alloc: Global,
+    meta: RtpMeta,
+    bytes: Vec<u8>,
+    head: bool,
+    tail: bool,
+) -> Result<HeldPacket, AllocError>
+    ensures { IfOk result (λ packet. held_of packet ≡ record { meta = meta; bytes = bytes.items; head = head; tail = tail }) }
+{
+    let number = meta.seq_no.0;
+    let meta = Box::new(alloc, meta)?;
+    Ok(HeldPacket {
+        number,
+        meta,
+        bytes,
+        head,
+        tail,
+    })
 }
 
 /// Whether the number is at or below the cutoff.
@@ -41,25 +55,12 @@ pub(super) fn starts_next(cutoff: Option<u64>, first: u64) -> bool
     }
 }
 
-/// Where the first packet of at least that number stands or would stand. Past the last packet that is seen at once, else a
-/// binary search finds it.
+/// Where the first packet of at least that number stands or would stand.
 pub(super) fn find_place(packets: &VecDeque<HeldPacket>, number: u64) -> usize
     requires { Rises (map held_of packets.now.items) }
     ensures { result ≡ place_of number (map held_of packets.now.items) }
 {
-    let count = packets.len();
-    if count > 0 && packets[count - 1].meta.seq_no.0 < number {
-        return count;
-    }
-    packets.partition_point(|p| p.meta.seq_no.0 < number)
-}
-
-/// How many packets stand up to that number. A binary search.
-fn count_up_to(packets: &VecDeque<HeldPacket>, last: u64) -> usize
-    requires { Rises (map held_of packets.now.items) }
-    ensures { result ≡ end_of last (map held_of packets.now.items) }
-{
-    packets.partition_point(|p| p.meta.seq_no.0 <= last)
+    place_of_number(packets, number)
 }
 
 /// Whether a packet of that number stands at its place.
@@ -68,7 +69,7 @@ pub(super) fn is_at(packets: &VecDeque<HeldPacket>, place: usize, number: u64) -
     requires place { place ≡ place_of number (map held_of packets.now.items) }
     ensures { result ≡ has_number number (map held_of packets.now.items) }
 {
-    place < packets.len() && packets[place].meta.seq_no.0 == number
+    place < packets.len() && packets[place].number == number
 }
 
 /// Puts a packet at its place. Nothing moves where it is the last.
@@ -77,7 +78,7 @@ pub(super) fn place_at(
     place: usize,
     packet: HeldPacket,
 ) -> Result<(), AllocError>
-    requires { place ≡ place_of packet.meta.seq_no.0 (map held_of packets.old.items) }
+    requires { place ≡ place_of packet.number (map held_of packets.old.items) }
     ensures ok { OnOk result (map held_of packets.new.items ≡ placed (held_of packet) (map held_of packets.old.items)) }
     ensures err { OnErr result (packets.new.items ≡ packets.old.items) }
 {
@@ -93,22 +94,29 @@ pub(super) fn take_lowest(packets: &mut VecDeque<HeldPacket>) -> u64
     ensures { TakesLowest (map held_of packets.old.items) result (map held_of packets.new.items) }
 {
     let lowest = packets.pop_front().unwrap();
-    lowest.meta.seq_no.0
+    lowest.number
 }
 
-/// Where the packets of a frame begin and end.
+/// Where the packets of a frame begin and end. Their numbers follow one another, so how many there are need not be searched.
 pub(super) fn frame_range(packets: &VecDeque<HeldPacket>, frame: Segment) -> (usize, usize)
     requires rises { Rises (map held_of packets.now.items) }
     requires order { frame.first ≤ frame.last }
+    requires whole { frame.last + 1 ≡ frame.first + length (between frame.first frame.last (map held_of packets.now.items)) }
     ensures order { result.0 ≤ result.1 }
     ensures within { result.1 ≤ deque_len packets.now }
     ensures part { map held_of (slice_range packets.now.items result.0 result.1) ≡ between frame.first frame.last (map held_of packets.now.items) }
     ensures end { result.1 ≡ end_of frame.last (map held_of packets.now.items) }
 {
-    (
-        find_place(packets, frame.first),
-        count_up_to(packets, frame.last),
-    )
+    let from = find_place(packets, frame.first);
+    (from, from + (frame.last - frame.first) as usize + 1)
+}
+
+/// Appends a copy.
+fn push_copy<T: Clone>(copies: &mut Vec<T>, item: &T) -> Result<(), AllocError>
+    ensures { OnOk result ((copy : _) × T.is_clone item.now copy × (copies.new.items ≡ copies.old.items ++ copy ∷ [])) }
+{
+    copies.push(item.clone()?)?;
+    Ok(())
 }
 
 /// What is known of the packets from one place to another.
@@ -124,7 +132,7 @@ pub(super) fn copy_metas(
 {
     let mut metas = Vec::with_capacity(alloc, to - from)?;
     for packet in packets.range(from..to) {
-        metas.push(packet.meta.clone()?)?;
+        push_copy(&mut metas, &*packet.meta)?;
     }
     Ok(metas)
 }

@@ -6,7 +6,8 @@ ghost use Rattle.codec_payload_buffer.specs.Held.{held_of};
 ghost use Rattle.codec_payload_buffer.specs.Rows.{row_of, meet, joined, join_if, RowsRise, AreLongest, row_place, row_end, put_at, join_at, with_next, row_placed, merged, next_head, shortened, with_row, frame_of_rest, IsHeadKept, IsFirstShort, IsShortened};
 
 use super::frames::{Segment, frame_of};
-use super::packets::HeldPacket;
+use super::held_packet::HeldPacket;
+use super::search::place_of_number;
 use codec_payload_base::wire::MediaTime;
 use std::collections::VecDeque;
 
@@ -26,7 +27,7 @@ pub(super) struct Row {
 pub(super) fn row_of_packet(packet: &HeldPacket) -> Row
     ensures { result ≡ row_of (held_of packet.now) }
 {
-    let number = packet.meta.seq_no.0;
+    let number = packet.number;
     Row {
         first: number,
         last: number,
@@ -59,24 +60,12 @@ fn join(earlier: Row, later: Row) -> Row
     }
 }
 
-/// How many rows begin below that number. Past the last row's start that is seen at once, else a binary search finds it.
+/// How many rows begin below that number.
 fn find_row(rows: &VecDeque<Row>, number: u64) -> usize
     requires { RowsRise rows.now.items }
     ensures { result ≡ row_place number rows.now.items }
 {
-    let count = rows.len();
-    if count > 0 && rows[count - 1].first < number {
-        return count;
-    }
-    rows.partition_point(|r| r.first < number)
-}
-
-/// How many rows begin up to that number. A binary search.
-fn count_rows_up_to(rows: &VecDeque<Row>, last: u64) -> usize
-    requires { RowsRise rows.now.items }
-    ensures { result ≡ row_end last rows.now.items }
-{
-    rows.partition_point(|r| r.first <= last)
+    place_of_number(rows, number)
 }
 
 /// Another row at a place.
@@ -145,11 +134,11 @@ fn find_head(packets: &VecDeque<HeldPacket>, last: u64) -> Option<u64>
     ensures { result ≡ next_head last (map held_of packets.now.items) }
 {
     for packet in packets {
-        if packet.meta.seq_no.0 > last {
+        if packet.number > last {
             return None;
         }
         if packet.head {
-            return Some(packet.meta.seq_no.0);
+            return Some(packet.number);
         }
     }
     None
@@ -218,19 +207,14 @@ pub(super) fn shorten_first(
     frames
 }
 
-/// The rows up to that number leave.
+/// The rows that begin up to that number leave.
 pub(super) fn remove_rows(rows: &mut VecDeque<Row>, last: u64)
-    requires { RowsRise rows.old.items }
     ensures { rows.new.items ≡ drop (row_end last rows.old.items) rows.old.items }
 {
-    let count = count_rows_up_to(rows, last);
-    drop_rows(rows, count);
-}
-
-/// The first `count` rows leave.
-fn drop_rows(rows: &mut VecDeque<Row>, count: usize)
-    requires { count ≤ deque_len rows.old }
-    ensures { rows.new.items ≡ drop count rows.old.items }
-{
-    rows.drain(..count);
+    while let Some(row) = rows.front() {
+        if row.first > last {
+            return;
+        }
+        rows.pop_front();
+    }
 }

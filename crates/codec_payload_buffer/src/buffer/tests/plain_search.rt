@@ -22,7 +22,7 @@ struct OddRun {
 
 /// Whether `earlier` may stand right before `packet` in one frame.
 fn leads(earlier: &HeldPacket, packet: &HeldPacket) -> bool {
-    earlier.meta.seq_no.0.checked_add(1) == Some(packet.meta.seq_no.0)
+    earlier.number.checked_add(1) == Some(packet.number)
         && earlier.meta.time == packet.meta.time
         && !earlier.tail
 }
@@ -33,7 +33,7 @@ fn search_frames(alloc: Global, packets: &VecDeque<HeldPacket>) -> Result<Vec<Se
     let mut earlier: Option<&HeldPacket> = None;
     let mut start = None;
     for packet in packets {
-        let number = packet.meta.seq_no.0;
+        let number = packet.number;
         if !earlier.is_some_and(|earlier| leads(earlier, packet)) {
             start = None;
         }

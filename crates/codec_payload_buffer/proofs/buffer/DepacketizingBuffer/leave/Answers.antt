@@ -7,7 +7,6 @@ use Rattle.codec_payload_buffer.specs.Steps.{State, due_of}
 use Rattle.codec_payload_buffer.proofs.IndexLemmas.{left_index_of}
 use Rattle.codec_payload_buffer.proofs.PopLemmas.{due_is_first, sound_left}
 use Rattle.codec_payload_buffer.proofs.RangeLemmas.{end_within, drop_above}
-use Rattle.codec_payload_buffer.proofs.RowListLemmas.{rows_rise}
 use Rattle.codec_payload_buffer.proofs.buffer.DepacketizingBuffer.leave.Goals as goal
 
 pub drop_front-requires : goal.drop_front-requires
@@ -15,9 +14,6 @@ drop_front-requires g c =
     let items = c.self.inside.packets.items in
     let count : c.args.count ≡ end_of c.args.frame.last (map held_of items) = c.requires.count ∙ ap (λ (s : State). end_of c.args.frame.last s.held) (sym c.self.view_is) in
     omega (arith, count, end_within c.args.frame.last (map held_of items), length-map items held_of, c.self.inside.packets.ok.0)
-
-pub remove_rows-requires : goal.remove_rows-requires
-remove_rows-requires g c = rw c.self.invariant.rows_are (rows_rise (map held_of c.self.inside.packets.items) c.self.invariant.sound.rises)
 
 pub invariant_of-self : goal.invariant_of-self
 invariant_of-self g c =

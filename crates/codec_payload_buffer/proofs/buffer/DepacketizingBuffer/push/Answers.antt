@@ -3,8 +3,9 @@ use Rattle.std.proofs.lemmas.List.{length-map}
 use Rattle.codec_payload_buffer.specs.Buffer.{state_of}
 use Rattle.codec_payload_buffer.specs.Depack.{depack_of}
 use Rattle.codec_payload_buffer.specs.Steps.{State, arrived, pushed, is_at_most}
-use Rattle.codec_payload_buffer.specs.Held.{Held, held_of, has_number}
+use Rattle.codec_payload_buffer.specs.Held.{Held, held_of, has_number, placed}
 use Rattle.codec_payload_buffer.proofs.PushLemmas.{is_arrived, pushed_over, pushed_within}
+use Rattle.codec_payload_buffer.specs.Rows.{row_of}
 use Rattle.codec_payload_buffer.proofs.PlaceLemmas.{lowest_out, with_new}
 use Rattle.codec_payload_buffer.proofs.IndexLemmas.{pushed_index, evict_short, evict_some, evicted_index, segments_rise}
 use Rattle.codec_payload_buffer.proofs.RowListLemmas.{are_longest, rows_rise}
@@ -25,10 +26,11 @@ shorten_first-before-requires g c =
     let items = c.self.inside.packets.items in
     let new = c.place_at.new.packets.items in
     let packet : Held = record { meta = c.args.meta; bytes = c.args.«data».items; head = c.is_partition_head-head.result; tail = c.is_partition_tail-tail.result } in
+    let put : map held_of new ≡ placed packet (map held_of items) = c.in_ok-place_at.ensures.ok ∙ ap (λ (p : Held). placed p (map held_of items)) c.in_ok-packet.ensures in
     let fresh : has_number c.args.meta.seq_no.0 (map held_of items) ≡ false = sym c.is_at.ensures ∙ c.if-is_at.false in
-    let with = with_new items new packet c.self.inside.cutoff c.self.invariant.sound.rises c.self.invariant.sound.above fresh (sym c.is_too_late.ensures ∙ c.if-is_too_late.false) c.in_ok-place_at.ensures.ok in
+    let with = with_new items new packet c.self.inside.cutoff c.self.invariant.sound.rises c.self.invariant.sound.above fresh (sym c.is_too_late.ensures ∙ c.if-is_too_late.false) put in
     let index = pushed_index packet (map held_of items) (map held_of new) c.reserve.new.self.items c.add_row-row.new.rows.items c.row_of_packet-row.result c.add_row-row.result c.frame_of.result c.reserve-2.new.self.items c.note.new.segments.items
-    c.self.invariant.sound.rises fresh (c.reserve.ensures.items ∙ c.self.invariant.rows_are) (c.reserve-2.ensures.items ∙ c.self.invariant.frames_are) c.in_ok-place_at.ensures.ok c.row_of_packet-row.ensures c.add_row-row.ensures.rows c.add_row-row.ensures.row c.frame_of.ensures c.note.ensures in
+    c.self.invariant.sound.rises fresh (c.reserve.ensures.items ∙ c.self.invariant.rows_are) (c.reserve-2.ensures.items ∙ c.self.invariant.frames_are) put (c.row_of_packet-row.ensures ∙ ap row_of c.in_ok-packet.ensures) c.add_row-row.ensures.rows c.add_row-row.ensures.row c.frame_of.ensures c.note.ensures in
     evict_short (map held_of new) (map held_of c.take_lowest.new.packets.items) c.take_lowest.result c.add_row-row.new.rows.items with.rises c.take_lowest.ensures index.rows_are
 
 pub mend_first-requires : goal.mend_first-requires
@@ -36,10 +38,11 @@ mend_first-requires g c =
     let items = c.self.inside.packets.items in
     let new = c.place_at.new.packets.items in
     let packet : Held = record { meta = c.args.meta; bytes = c.args.«data».items; head = c.is_partition_head-head.result; tail = c.is_partition_tail-tail.result } in
+    let put : map held_of new ≡ placed packet (map held_of items) = c.in_ok-place_at.ensures.ok ∙ ap (λ (p : Held). placed p (map held_of items)) c.in_ok-packet.ensures in
     let fresh : has_number c.args.meta.seq_no.0 (map held_of items) ≡ false = sym c.is_at.ensures ∙ c.if-is_at.false in
-    let with = with_new items new packet c.self.inside.cutoff c.self.invariant.sound.rises c.self.invariant.sound.above fresh (sym c.is_too_late.ensures ∙ c.if-is_too_late.false) c.in_ok-place_at.ensures.ok in
+    let with = with_new items new packet c.self.inside.cutoff c.self.invariant.sound.rises c.self.invariant.sound.above fresh (sym c.is_too_late.ensures ∙ c.if-is_too_late.false) put in
     let index = pushed_index packet (map held_of items) (map held_of new) c.reserve.new.self.items c.add_row-row.new.rows.items c.row_of_packet-row.result c.add_row-row.result c.frame_of.result c.reserve-2.new.self.items c.note.new.segments.items
-    c.self.invariant.sound.rises fresh (c.reserve.ensures.items ∙ c.self.invariant.rows_are) (c.reserve-2.ensures.items ∙ c.self.invariant.frames_are) c.in_ok-place_at.ensures.ok c.row_of_packet-row.ensures c.add_row-row.ensures.rows c.add_row-row.ensures.row c.frame_of.ensures c.note.ensures in
+    c.self.invariant.sound.rises fresh (c.reserve.ensures.items ∙ c.self.invariant.rows_are) (c.reserve-2.ensures.items ∙ c.self.invariant.frames_are) put (c.row_of_packet-row.ensures ∙ ap row_of c.in_ok-packet.ensures) c.add_row-row.ensures.rows c.add_row-row.ensures.row c.frame_of.ensures c.note.ensures in
     evict_some (map held_of new) (map held_of c.take_lowest.new.packets.items) c.add_row-row.new.rows.items c.shorten_first-before.new.rows.items c.note.new.segments.items _ c.shorten_first-before.result.0 c.shorten_first-before.result.1
     index.rows_are index.frames_are c.note.new.segments.ok.0 c.shorten_first-before.ensures
 
@@ -48,10 +51,11 @@ invariant_of-self-then-len-self g c =
     let items = c.self.inside.packets.items in
     let new = c.place_at.new.packets.items in
     let packet : Held = record { meta = c.args.meta; bytes = c.args.«data».items; head = c.is_partition_head-head.result; tail = c.is_partition_tail-tail.result } in
+    let put : map held_of new ≡ placed packet (map held_of items) = c.in_ok-place_at.ensures.ok ∙ ap (λ (p : Held). placed p (map held_of items)) c.in_ok-packet.ensures in
     let fresh : has_number c.args.meta.seq_no.0 (map held_of items) ≡ false = sym c.is_at.ensures ∙ c.if-is_at.false in
-    let with = with_new items new packet c.self.inside.cutoff c.self.invariant.sound.rises c.self.invariant.sound.above fresh (sym c.is_too_late.ensures ∙ c.if-is_too_late.false) c.in_ok-place_at.ensures.ok in
+    let with = with_new items new packet c.self.inside.cutoff c.self.invariant.sound.rises c.self.invariant.sound.above fresh (sym c.is_too_late.ensures ∙ c.if-is_too_late.false) put in
     let index = pushed_index packet (map held_of items) (map held_of new) c.reserve.new.self.items c.add_row-row.new.rows.items c.row_of_packet-row.result c.add_row-row.result c.frame_of.result c.reserve-2.new.self.items c.note.new.segments.items
-    c.self.invariant.sound.rises fresh (c.reserve.ensures.items ∙ c.self.invariant.rows_are) (c.reserve-2.ensures.items ∙ c.self.invariant.frames_are) c.in_ok-place_at.ensures.ok c.row_of_packet-row.ensures c.add_row-row.ensures.rows c.add_row-row.ensures.row c.frame_of.ensures c.note.ensures in
+    c.self.invariant.sound.rises fresh (c.reserve.ensures.items ∙ c.self.invariant.rows_are) (c.reserve-2.ensures.items ∙ c.self.invariant.frames_are) put (c.row_of_packet-row.ensures ∙ ap row_of c.in_ok-packet.ensures) c.add_row-row.ensures.rows c.add_row-row.ensures.row c.frame_of.ensures c.note.ensures in
     let out = lowest_out _ _ _ c.take_lowest.ensures with.rises in
     let left = evicted_index (map held_of new) (map held_of c.take_lowest.new.packets.items) c.take_lowest.result c.add_row-row.new.rows.items c.shorten_first-before.new.rows.items c.note.new.segments.items c.mend_first.new.segments.items c.shorten_first-before.result.0 c.shorten_first-before.result.1
     with.rises c.take_lowest.ensures index.rows_are index.frames_are c.shorten_first-before.ensures c.mend_first.ensures in
@@ -68,10 +72,11 @@ invariant_of-self-else-len-self g c =
     let items = c.self.inside.packets.items in
     let new = c.place_at.new.packets.items in
     let packet : Held = record { meta = c.args.meta; bytes = c.args.«data».items; head = c.is_partition_head-head.result; tail = c.is_partition_tail-tail.result } in
+    let put : map held_of new ≡ placed packet (map held_of items) = c.in_ok-place_at.ensures.ok ∙ ap (λ (p : Held). placed p (map held_of items)) c.in_ok-packet.ensures in
     let fresh : has_number c.args.meta.seq_no.0 (map held_of items) ≡ false = sym c.is_at.ensures ∙ c.if-is_at.false in
-    let with = with_new items new packet c.self.inside.cutoff c.self.invariant.sound.rises c.self.invariant.sound.above fresh (sym c.is_too_late.ensures ∙ c.if-is_too_late.false) c.in_ok-place_at.ensures.ok in
+    let with = with_new items new packet c.self.inside.cutoff c.self.invariant.sound.rises c.self.invariant.sound.above fresh (sym c.is_too_late.ensures ∙ c.if-is_too_late.false) put in
     let index = pushed_index packet (map held_of items) (map held_of new) c.reserve.new.self.items c.add_row-row.new.rows.items c.row_of_packet-row.result c.add_row-row.result c.frame_of.result c.reserve-2.new.self.items c.note.new.segments.items
-    c.self.invariant.sound.rises fresh (c.reserve.ensures.items ∙ c.self.invariant.rows_are) (c.reserve-2.ensures.items ∙ c.self.invariant.frames_are) c.in_ok-place_at.ensures.ok c.row_of_packet-row.ensures c.add_row-row.ensures.rows c.add_row-row.ensures.row c.frame_of.ensures c.note.ensures in
+    c.self.invariant.sound.rises fresh (c.reserve.ensures.items ∙ c.self.invariant.rows_are) (c.reserve-2.ensures.items ∙ c.self.invariant.frames_are) put (c.row_of_packet-row.ensures ∙ ap row_of c.in_ok-packet.ensures) c.add_row-row.ensures.rows c.add_row-row.ensures.row c.frame_of.ensures c.note.ensures in
     record {
       sound = record { rises = with.rises; above = with.above; few = omega (arith, c.if-len-self.false, c.len.ensures, length-map new held_of, c.place_at.new.packets.ok.0) };
       least = c.self.invariant.least;
@@ -94,9 +99,10 @@ returns-clause-ok g c =
     let before = state_of c.self.inside in
     let late : is_at_most c.self.inside.cutoff c.args.meta.seq_no.0 ≡ false = sym c.is_too_late.ensures ∙ c.if-is_too_late.false in
     let fresh : has_number c.args.meta.seq_no.0 (map held_of c.self.inside.packets.items) ≡ false = sym c.is_at.ensures ∙ c.if-is_at.false in
+    let put : map held_of c.place_at.new.packets.items ≡ placed packet (map held_of c.self.inside.packets.items) = c.in_ok-place_at.ensures.ok ∙ ap (λ (p : Held). placed p (map held_of c.self.inside.packets.items)) c.in_ok-packet.ensures in
     let whole : c.if-len-self.self ≡ pushed before packet = elim c.if-len-self.branch [
-      | then-len-self w ↦ w.self-is ∙ sym (pushed_over before packet _ _ _ late fresh c.in_ok-place_at.ensures.ok (omega (arith, w.if-len-self.true, c.len.ensures, length-map c.place_at.new.packets.items held_of)) w.take_lowest.ensures)
-      | else-len-self w ↦ w.self-is ∙ sym (pushed_within before packet _ late fresh c.in_ok-place_at.ensures.ok (omega (arith, w.if-len-self.false, c.len.ensures, length-map c.place_at.new.packets.items held_of)))
+      | then-len-self w ↦ w.self-is ∙ sym (pushed_over before packet _ _ _ late fresh put (omega (arith, w.if-len-self.true, c.len.ensures, length-map c.place_at.new.packets.items held_of)) w.take_lowest.ensures)
+      | else-len-self w ↦ w.self-is ∙ sym (pushed_within before packet _ late fresh put (omega (arith, w.if-len-self.false, c.len.ensures, length-map c.place_at.new.packets.items held_of)))
     ] in (
       packet,
       is_arrived c.args.self.now.depack _ view c.args.meta c.args.«data».items _ _ c.deref.ensures.value c.deref-2.ensures.value _ _ c.is_partition_head-head.ensures.built_in c.is_partition_tail-tail.ensures.built_in,

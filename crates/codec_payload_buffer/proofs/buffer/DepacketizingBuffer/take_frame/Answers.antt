@@ -8,13 +8,18 @@ use Rattle.codec_payload_buffer.specs.Depack.{depack_of}
 use Rattle.codec_payload_buffer.specs.Held.{held_of}
 use Rattle.codec_payload_buffer.specs.Steps.{State, Unpacked, due_of, packets_of_frame, metas_of, follows}
 use Rattle.codec_payload_buffer.proofs.CaseLemmas.{not_both}
-use Rattle.codec_payload_buffer.proofs.PopLemmas.{order_due, due_metas, due_time}
+use Rattle.codec_payload_buffer.proofs.PopLemmas.{order_due, due_whole, due_metas, due_time}
 use Rattle.codec_payload_buffer.proofs.TakeLemmas.{gives_of, released, passed_over, refused, stalled}
 use Rattle.codec_payload_buffer.proofs.buffer.DepacketizingBuffer.take_frame.Goals.{then-starts_next, else-starts_next}
 use Rattle.codec_payload_buffer.proofs.buffer.DepacketizingBuffer.take_frame.Goals as goal
 
 pub frame_range-from-requires-clause-order : goal.frame_range-from-requires-clause-order
 frame_range-from-requires-clause-order g c = order_due c.args.self.now c.args.frame c.requires
+
+pub frame_range-from-requires-clause-whole : goal.frame_range-from-requires-clause-whole
+frame_range-from-requires-clause-whole g c =
+    let s = state_of c.self.inside in
+    due_whole s c.args.frame c.self.invariant.sound.rises (ap due_of c.self.view_is ∙ c.requires)
 
 pub returns-in_err-metas-clause-takes : goal.returns-in_err-metas-clause-takes
 returns-in_err-metas-clause-takes g c =

@@ -1,9 +1,21 @@
-use Rattle.std.proofs.Common.{arith, map, ap, sym, refl, ◌∙◌, ◌-◌, take, drop}
+use Rattle.std.proofs.Common.{◌≡◌, ◌+◌, ◌-◌, arith, map, ap, sym, refl, ◌∙◌, take, drop}
 use Rattle.std.proofs.lemmas.List.{length-map, take-map, drop-map}
 use Rattle.codec_payload_buffer.specs.Held.{held_of}
 use Rattle.codec_payload_buffer.specs.Scan.{place_of, end_of}
-use Rattle.codec_payload_buffer.proofs.RangeLemmas.{end_within, slice_between}
+use Rattle.codec_payload_buffer.proofs.RangeLemmas.{end_within, end_from_place, slice_between}
 use Rattle.codec_payload_buffer.proofs.buffer.packets.frame_range.Goals as goal
+
+pub overflow_add-result : goal.overflow_add-result
+overflow_add-result c =
+    let items = c.args.packets.now.items in
+    let end = end_from_place c.args.frame.first c.args.frame.last (map held_of items) c.requires.rises c.requires.order c.requires.whole in
+    omega (arith, c.find_place-from.ensures, end, end_within c.args.frame.last (map held_of items), length-map items held_of, c.args.packets.now.ok.0, c.args.packets.now.small.0, c.args.packets.now.small.1)
+
+pub overflow_add-result-2 : goal.overflow_add-result-2
+overflow_add-result-2 c =
+    let items = c.args.packets.now.items in
+    let end = end_from_place c.args.frame.first c.args.frame.last (map held_of items) c.requires.rises c.requires.order c.requires.whole in
+    omega (arith, c.find_place-from.ensures, end, end_within c.args.frame.last (map held_of items), length-map items held_of, c.args.packets.now.ok.0, c.args.packets.now.small.0, c.args.packets.now.small.1)
 
 pub returns : goal.returns
 returns c =
@@ -12,7 +24,8 @@ returns c =
     let from = place_of c.args.frame.first hs in
     let to = end_of c.args.frame.last hs in
     let slice = slice_between c.args.frame.first c.args.frame.last hs c.requires.rises c.requires.order in
-    rw (c.find_place.ensures, c.count_up_to.ensures) (record {
+    let end : from + (c.args.frame.last - c.args.frame.first) + 1 ≡ to = sym (end_from_place c.args.frame.first c.args.frame.last hs c.requires.rises c.requires.order c.requires.whole) in
+    rw (c.find_place-from.ensures, end) (record {
       order = slice.order;
       within = omega (arith, end_within c.args.frame.last hs, length-map items held_of, c.args.packets.now.ok.0);
       end = refl;

@@ -8,7 +8,7 @@ use Rattle.codec_payload_buffer.proofs.buffer.packets.place_at.Goals.{in-Ok, in-
 pub insert-requires : goal.insert-requires
 insert-requires c =
     let hs = map held_of c.args.packets.now.items in
-    omega (arith, c.requires, place_within c.args.packet.meta.seq_no.0 hs, length-map c.args.packets.now.items held_of, c.args.packets.now.ok.0)
+    omega (arith, c.requires, place_within c.args.packet.number hs, length-map c.args.packets.now.items held_of, c.args.packets.now.ok.0)
 
 pub returns-clause-ok : goal.returns-clause-ok
 returns-clause-ok c = elim c.match-insert.branch [

@@ -1,0 +1,99 @@
+//! Searches of queues that are ordered by a number.
+
+ghost use Rattle.std.specs.Prelude.{◌≡◌, ◌<◌, ◌≤◌, length, ℕ};
+ghost use Rattle.std.specs.List.{AllWithin};
+ghost use Rattle.std.specs.List.Sorted.{IsNonDecreasingBy, IsPartitionPoint};
+ghost use Rattle.std.specs.VecDeque.{deque_len};
+
+use super::frames::Segment;
+use super::held_packet::HeldPacket;
+use super::rows::Row;
+use std::collections::VecDeque;
+
+/// What stands in a queue in rising order of a number.
+pub(super) trait Numbered {
+    ghost number_of: { Self → ℕ };
+
+    fn number(&self) -> u64
+        ensures { result ≡ number_of self.now };
+}
+
+impl Numbered for HeldPacket {
+    ghost number_of = { λ packet. packet.number };
+
+    fn number(&self) -> u64 {
+        self.number
+    }
+}
+
+/// By their beginnings.
+impl Numbered for Row {
+    ghost number_of = { λ row. row.first };
+
+    fn number(&self) -> u64 {
+        self.first
+    }
+}
+
+/// By their ends.
+impl Numbered for Segment {
+    ghost number_of = { λ frame. frame.last };
+
+    fn number(&self) -> u64 {
+        self.last
+    }
+}
+
+/// How many items have a lower number. Looks at the first item, and then back from the last one in steps that double, so the
+/// cost grows with the logarithm of how far from the end the place is, and not with the length of the queue.
+pub(super) fn place_of_number<T: Numbered>(items: &VecDeque<T>, number: u64) -> usize
+    requires { IsNonDecreasingBy T.number_of items.now.items }
+    ensures bound { result ≤ deque_len items.now }
+    ensures point { IsPartitionPoint (λ x. T.number_of x < number) (λ x. number ≤ T.number_of x) items.now.items result }
+{
+    if items.is_empty() || number <= items[0].number() {
+        return 0;
+    }
+    let (low, high) = look_back(items, number);
+    search_between(items, number, low, high)
+}
+
+/// Two places, between which is that of the number.
+fn look_back<T: Numbered>(items: &VecDeque<T>, number: u64) -> (usize, usize)
+    requires { IsNonDecreasingBy T.number_of items.now.items }
+    ensures order { result.0 ≤ result.1 }
+    ensures bound { result.1 ≤ deque_len items.now }
+    ensures below { AllWithin (λ x. T.number_of x < number) items.now.items 0 result.0 }
+    ensures behind { AllWithin (λ x. number ≤ T.number_of x) items.now.items result.1 (length items.now.items) }
+{
+    let mut high = items.len();
+    let mut step = 1;
+    while step <= high && items[high - step].number() >= number {
+        high -= step;
+        step *= 2;
+    }
+    (high.saturating_sub(step), high)
+}
+
+/// The place of the number between two others. A binary search.
+fn search_between<T: Numbered>(items: &VecDeque<T>, number: u64, low: usize, high: usize) -> usize
+    requires rises { IsNonDecreasingBy T.number_of items.now.items }
+    requires order { low ≤ high }
+    requires bound { high ≤ deque_len items.now }
+    requires below { AllWithin (λ x. T.number_of x < number) items.now.items 0 low }
+    requires behind { AllWithin (λ x. number ≤ T.number_of x) items.now.items high (length items.now.items) }
+    ensures bound { result ≤ deque_len items.now }
+    ensures point { IsPartitionPoint (λ x. T.number_of x < number) (λ x. number ≤ T.number_of x) items.now.items result }
+{
+    let mut low = low;
+    let mut high = high;
+    while low < high {
+        let middle = low + (high - low) / 2;
+        if items[middle].number() < number {
+            low = middle + 1;
+        } else {
+            high = middle;
+        }
+    }
+    low
+}
