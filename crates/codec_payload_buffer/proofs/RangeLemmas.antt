@@ -18,10 +18,6 @@ pub end_within : (last : ℕ) (hs : List Held) → end_of last hs ≤ length hs
 end_within last [] = omega arith
 end_within last (q ∷ qs) = grind (arith, nat_tests, end_within last qs)
 
-end_zero : (last n : ℕ) (hs : List Held) → last ≤ n → AllAbove n hs → end_of last hs ≡ 0
-end_zero last n [] l a = refl
-end_zero last n (p ∷ ps) l a = grind (arith, nat_tests, a.0)
-
 pub drop_above : (last : ℕ) (hs : List Held) → Rises hs → drop (end_of last hs) hs ≡ above last hs
 drop_above last [] r = refl
 drop_above last (q ∷ qs) r =

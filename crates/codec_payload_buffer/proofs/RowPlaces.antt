@@ -48,11 +48,6 @@ put_over k p x [] l is e = absurd (omega arith)
 put_over zero p x (r ∷ rs) l is e = rw (← is, e) refl
 put_over (suc k) p x (r ∷ rs) l is e = ap (λ (zs : List Row). r ∷ zs) (put_over k p x rs (omega arith) is e)
 
-pub put_over_is : (k : ℕ) (p x : Row) (rs : List Row) → k < length rs → x ≡ get_or rs k x → meet p x ≡ true → joined p x ≡ with_next p (drop k rs)
-put_over_is k p x [] l is e = absurd (omega arith)
-put_over_is zero p x (r ∷ rs) l is e = rw (← is, e) refl
-put_over_is (suc k) p x (r ∷ rs) l is e = put_over_is k p x rs (omega arith) is e
-
 -- the row there does not meet p
 pub put_between : (k : ℕ) (p x : Row) (rs : List Row) → k < length rs → x ≡ get_or rs k x → meet p x ≡ false → (insert rs k p ≡ put_at k p rs) × (p ≡ with_next p (drop k rs))
 put_between k p x [] l is e = absurd (omega arith)
@@ -109,12 +104,6 @@ pub placed_first : (p : Row) (rs : List Row) → row_place p.first rs ≡ 0 → 
 placed_first p [] at = refl
 placed_first p (r ∷ rs) at =
     by_test (ltb r.first p.first) (λ b. cond b (row_place p.first rs + 1) 0 ≡ 0 → put_before p (r ∷ rs) ≡ cond b (put_before r (row_placed p rs)) (put_before p (r ∷ rs)))
-    (λ e at. absurd (omega arith)) (λ e at. refl) at
-
-pub merged_first : (p : Row) (rs : List Row) → row_place p.first rs ≡ 0 → with_next p rs ≡ merged p rs
-merged_first p [] at = refl
-merged_first p (r ∷ rs) at =
-    by_test (ltb r.first p.first) (λ b. cond b (row_place p.first rs + 1) 0 ≡ 0 → with_next p (r ∷ rs) ≡ cond b (merged_after r p rs) (with_next p (r ∷ rs)))
     (λ e at. absurd (omega arith)) (λ e at. refl) at
 
 -- a place that is not the first: the first row begins below p

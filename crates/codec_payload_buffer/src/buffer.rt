@@ -124,11 +124,12 @@ impl<B: Depacketizer> DepacketizingBuffer<B> {
     /// Takes a packet in. One whose number is at or below the cutoff, or is held already, is dropped, which takes no
     /// memory. Where more packets than the limit are held then, the lowest is evicted. The only fault is want of memory.
     ///
-    /// The cost does not grow with the packets that are held, where packets come in order, in reverse, or near the end of
-    /// what is held. Far from both ends entries of 48 bytes are moved, not payloads: up to half as many as are held, and as
-    /// many at most of 56 and of 16 bytes. No packets are walked, neither for one that ends a frame nor for one that comes
-    /// between others. An eviction looks for the next packet that begins a unit, where the one that leaves did: each packet
-    /// is looked at so twice at most.
+    /// Takes memory for what is known of the packet, and at times for more entries, each time for twice as many. So on
+    /// average the cost does not grow with the packets that are held, where packets come in order, in reverse, or near the
+    /// end of what is held. Far from both ends the entries of the shorter side move, up to half of all: 48 bytes for each
+    /// packet, and at most 72 more where each is a frame by itself. Payloads stay where they are, and no packets are
+    /// walked, neither for one that ends a frame nor for one that comes between others. An eviction looks for the next
+    /// packet that begins a unit, where the one that leaves did: each packet is looked at so twice at most.
     pub fn push(&mut self, meta: RtpMeta, data: Vec<u8>) -> Result<(), PacketError>
         ensures ok { OnOk result ((p : Held) × IsArrived self.old.depack meta «data».items p × (self.new ≡ pushed self.old p)) }
         ensures err { OnErr result (self.new ≡ self.old) }
@@ -174,8 +175,8 @@ impl<B: Depacketizer> DepacketizingBuffer<B> {
     /// frames that were passed over before. A unit of layered VP9 that lost the packets of its base layer comes without its
     /// front, as complete, and is told contiguous where it is the first of the stream.
     ///
-    /// Looks at the first complete frame and at how many there are, and at the packets that leave alone, unless packets below
-    /// a frame leave with it: that frame is then found by a binary search.
+    /// Looks at the first complete frame and at how many there are, and at the packets that leave alone, unless packets
+    /// below a frame leave with it: that frame is then found by a binary search.
     pub fn pop(&mut self) -> Option<Result<Depacketized, PacketError>>
         ensures pops { Pops self.old result self.new }
         ensures waits { due_of self.old ≡ Option.None → result ≡ Option.None }

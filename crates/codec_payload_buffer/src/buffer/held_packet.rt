@@ -3,6 +3,7 @@
 ghost use Rattle.std.specs.Prelude.{◌≡◌};
 
 use super::unit::RtpMeta;
+use std::mem::size_of;
 
 /// A packet that is held. Whether it begins and ends a unit was asked of the depacketizer when it came.
 #[derive(Debug, Drop)]
@@ -16,3 +17,6 @@ pub(super) struct HeldPacket {
     pub(super) tail: bool,
     ghost numbered: { number ≡ meta.value.seq_no.0 },
 }
+
+/// A push that is far from both ends moves as many entries as half of the packets that are held.
+const _: () = prove!(size_of::<HeldPacket>() <= 48);
