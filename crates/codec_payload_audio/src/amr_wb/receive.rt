@@ -7,6 +7,7 @@ ghost use Rattle.codec_payload_audio.specs.AmrWb.{gap, layout, speech_size, padd
 ghost use Rattle.codec_payload_audio.specs.AmrWbReceived.{AmrWbStep, Entry, Extends, FailsAs, Gains, HasEntries, IsCopyFault, entries_at, frame_at, frames_of, received};
 ghost use Rattle.codec_payload_audio.specs.AmrWbEntries.{ReadsEntry, entry_of};
 
+use crate::amr_wb::shift::append_shifted;
 use crate::amr_wb::speech_bits;
 use crate::amr_wb::toc::TocEntry;
 use codec_payload_base::bits::{BitRead, BitReader};
@@ -285,9 +286,13 @@ fn copy_bytes<'a>(
     ensures short { IfErr result (λ e. IsCopyFault (left reader.old) (8 * count) e) }
     ensures kept { Extends out.old.items out.new.items }
 {
-    for _byte in 0..count {
-        let byte = reader.get_u8().ok_or(PacketError::ErrShortPacket)?;
-        out.push(byte)?;
+    let bytes = reader.ahead();
+    let shift = reader.bits_behind_byte();
+    let whole = reader.get_bytes(count).ok_or(PacketError::ErrShortPacket)?;
+    if shift == 0 {
+        out.extend_from_slice(whole)?;
+    } else {
+        append_shifted(out, bytes, shift, count)?;
     }
     Ok(())
 }
