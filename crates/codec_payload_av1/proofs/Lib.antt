@@ -14,5 +14,6 @@ pub mod Av1Readable
 pub mod Av1ReadingElements
 pub mod Av1ReadingObus
 pub mod Av1RoundTrip
+pub mod Av1TakingBytes
 pub mod Av1TakingElements
 pub mod Av1UnitGrammar
