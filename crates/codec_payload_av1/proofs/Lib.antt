@@ -2,6 +2,7 @@ pub mod Av1FewestPackets
 pub mod Av1FewestSegments
 pub mod Av1FrameAnswers
 pub mod Av1FrontKept
+pub mod Av1GoingOn
 pub mod Av1LayingStrings
 pub mod Av1ObuGrammar
 pub mod Av1OneObu

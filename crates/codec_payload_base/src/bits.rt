@@ -105,6 +105,17 @@ impl<'a> BitReader<'a> {
         }
     }
 
+    /// Another reader at the same place; each moves on its own.
+    pub fn fork(&self) -> Self
+        ensures { result ≡ self.now }
+    {
+        BitReader {
+            source: self.source,
+            byte: self.byte,
+            bit: self.bit,
+        }
+    }
+
     /// All bytes from that one on in which the place stands. The place stays.
     pub fn ahead(&self) -> &'a [u8]
         ensures { result.now ≡ here self.now }

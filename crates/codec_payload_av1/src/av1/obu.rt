@@ -2,7 +2,7 @@
 
 ghost use Rattle.std.specs.Prelude.{◌≡◌, ◌++◌, OnOk, length, take};
 ghost use Rattle.std.specs.Option.{option_map};
-ghost use Rattle.codec_payload_av1.specs.Av1Obu.{obu_at, extension_at, sized_at, canonical, has_size, is_kept_type, is_one, view};
+ghost use Rattle.codec_payload_av1.specs.Av1Obu.{obu_at, extension_at, going_on, sized_at, canonical, has_size, is_kept_type, is_one, view};
 ghost use Rattle.codec_payload_base.specs.Answers.{Finds};
 
 use crate::av1::leb::{joined_number, number_at, put_number};
@@ -128,15 +128,17 @@ pub fn is_one_obu(front: &[u8], back: &[u8]) -> bool
     }
 }
 
-/// Writes the canonical form at the end: the size bit set, and the size in as few bytes as it takes.
-#[tactic(auto, using(crate::proofs::Av1FrontKept::kept_more, crate::proofs::Av1FrontKept::kept_same, crate::proofs::Av1FrontKept::kept_trans), unfolding(crate::specs::Av1Obu::canonical))]
-pub fn put_canonical(out: &mut Vec<u8>, obu: &ObuSlices<'_>) -> Result<(), AllocError>
-    ensures written { OnOk result (out.new.items ≡ out.old.items ++ canonical (view obu.now)) }
+/// Writes the canonical form of an OBU whose payload goes on in `back` at the end: the size bit set, and the size in as few
+/// bytes as it takes.
+#[tactic(auto, using(crate::proofs::Av1FrontKept::kept_more, crate::proofs::Av1FrontKept::kept_same, crate::proofs::Av1FrontKept::kept_trans))]
+pub fn put_canonical(out: &mut Vec<u8>, obu: &ObuSlices<'_>, back: &[u8]) -> Result<(), AllocError>
+    ensures written { OnOk result (out.new.items ≡ out.old.items ++ canonical (going_on (view obu.now) back.now)) }
     ensures kept { take (length out.old.items) out.new.items ≡ out.old.items }
 {
     out.push(obu.header | 2)?;
     out.extend_from_slice(obu.extension)?;
-    put_number(out, obu.payload.len() as u64)?;
+    put_number(out, obu.payload.len() as u64 + back.len() as u64)?;
     out.extend_from_slice(obu.payload)?;
+    out.extend_from_slice(back)?;
     Ok(())
 }
