@@ -1,9 +1,13 @@
 -- An OBU without a size, and bytes behind it.
 use Rattle.std.proofs.Common.{◌≡◌, ℕ, false, cond, List, [], ◌∷◌, ◌++◌, Some, refl, ap, ◌∙◌, append_assoc, inl, inr}
-use Rattle.codec_payload_av1.specs.Av1Obu.{Obu, IsSequence, has_size, is_kept_type, canonical, going_on, obu_at}
+use Rattle.codec_payload_av1.specs.Av1Obu.{Obu, IsSequence, has_size, is_kept_type, canonical, obu_at}
 use Rattle.codec_payload_av1.specs.Av1Receiving.{unit_of}
 use Rattle.codec_payload_av1.proofs.Av1ObuGrammar.{obu_split}
 use Rattle.codec_payload_av1.proofs.Av1UnitGrammar.{unit_complete}
+
+-- an OBU whose payload goes on
+abbrev pub going_on : Obu → List ℕ → Obu
+going_on o more = record { header = o.header; extension = o.extension; payload = o.payload ++ more }
 
 same_obu : (bytes more rest : List ℕ) (o : Obu) → obu_at bytes ≡ Some (o, rest) → has_size o.header ≡ false → IsSequence (going_on o more ∷ []) (bytes ++ more)
 same_obu bytes more rest o is none =

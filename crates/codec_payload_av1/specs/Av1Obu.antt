@@ -48,10 +48,6 @@ string o = bit_and o.header 0xfd ∷ (o.extension ++ o.payload)
 unfoldable pub canonical : Obu → List ℕ
 canonical o = bit_or o.header 2 ∷ (o.extension ++ (leb (length o.payload) ++ o.payload))
 
--- an OBU whose payload goes on
-abbrev pub going_on : Obu → List ℕ → Obu
-going_on o more = record { header = o.header; extension = o.extension; payload = o.payload ++ more }
-
 abbrev pub kept : List Obu → List Obu
 kept os = filter (λ o. is_kept_type o.header) os
 

@@ -1,7 +1,7 @@
 //! AV1 payloads as frames.
 
 ghost use Rattle.std.specs.Prelude.{◌≡◌, ◌∷◌, List, [], Some, length, take, true, nat_lt, ◌&&◌, ℕ, is_some, not, ◌++◌, OnOk, if◌then◌else◌};
-ghost use Rattle.codec_payload_av1.specs.Av1Obu.{canonical, going_on, has_bit, is_kept_type, view};
+ghost use Rattle.codec_payload_av1.specs.Av1Obu.{canonical, has_bit, is_kept_type};
 ghost use Rattle.codec_payload_av1.specs.Av1Packing.{is_begun};
 ghost use Rattle.codec_payload_av1.specs.Av1Payload.{is_head};
 ghost use Rattle.codec_payload_av1.specs.Av1Receiving.{unit_of, received, begun_at, can_take};
@@ -9,7 +9,7 @@ ghost use Rattle.codec_payload_av1.specs.Av1Outcome.{Appends, Takes};
 ghost use Rattle.codec_payload_av1.specs.Av1Steps.{Av1Step, TakesPayload, extra_of};
 
 use crate::av1::detect_av1_keyframe;
-use crate::av1::obu::{ObuSlices, has_size_bit, is_kept, is_one_obu, obu_of, put_canonical};
+use crate::av1::obu::{has_size_bit, is_kept, is_one_obu, obu_of, put_canonical};
 use crate::av1::payload::{next_element, w_after_one};
 use codec_payload_base::error::PacketError;
 use codec_payload_base::interface::{Av1CodecExtra, CodecExtra, Depacketizer};
@@ -231,20 +231,26 @@ fn append_unit(out: &mut Vec<u8>, element: &[u8]) -> Result<(), PacketError>
         if has_size_bit(obu.header) {
             out.extend_from_slice(element)?;
         } else {
-            put_canonical(out, &obu, &[])?;
+            put_canonical(out, obu.header, obu.extension, obu.payload, &[])?;
         }
     }
     Ok(())
 }
 
-/// Adds what an OBU without a size and the bytes behind it give, in which its payload goes on: nothing where it is not kept.
+/// Adds what an OBU gives whose payload is in two parts: nothing where it is not kept.
 #[tactic(auto, using(crate::proofs::Av1FrontKept::kept_same))]
-fn append_going_on(out: &mut Vec<u8>, obu: &ObuSlices<'_>, back: &[u8]) -> Result<(), AllocError>
-    ensures added { OnOk result (out.new.items ≡ out.old.items ++ (if is_kept_type obu.now.header then canonical (going_on (view obu.now) back.now) else [])) }
+fn append_in_parts(
+    out: &mut Vec<u8>,
+    header: u8,
+    extension: &[u8],
+    front: &[u8],
+    back: &[u8],
+) -> Result<(), AllocError>
+    ensures added { OnOk result (out.new.items ≡ out.old.items ++ (if is_kept_type header then canonical (record { header = header; extension = extension.now; payload = front.now ++ back.now }) else [])) }
     ensures kept { take (length out.old.items) out.new.items ≡ out.old.items }
 {
-    if is_kept(obu.header) {
-        put_canonical(out, obu, back)?;
+    if is_kept(header) {
+        put_canonical(out, header, extension, front, back)?;
     }
     Ok(())
 }
@@ -265,7 +271,7 @@ fn append_joined(
     }
     if let Some((begun, _)) = obu_of(pending) {
         if !has_size_bit(begun.header) {
-            append_going_on(out, &begun, element)?;
+            append_in_parts(out, begun.header, begun.extension, begun.payload, element)?;
             pending.clear();
             return Ok(());
         }

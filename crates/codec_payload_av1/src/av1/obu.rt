@@ -2,7 +2,7 @@
 
 ghost use Rattle.std.specs.Prelude.{◌≡◌, ◌++◌, OnOk, length, take};
 ghost use Rattle.std.specs.Option.{option_map};
-ghost use Rattle.codec_payload_av1.specs.Av1Obu.{obu_at, extension_at, going_on, sized_at, canonical, has_size, is_kept_type, is_one, view};
+ghost use Rattle.codec_payload_av1.specs.Av1Obu.{obu_at, extension_at, sized_at, canonical, has_size, is_kept_type, is_one, view};
 ghost use Rattle.codec_payload_base.specs.Answers.{Finds};
 
 use crate::av1::leb::{joined_number, number_at, put_number};
@@ -128,17 +128,35 @@ pub fn is_one_obu(front: &[u8], back: &[u8]) -> bool
     }
 }
 
-/// Writes the canonical form of an OBU whose payload goes on in `back` at the end: the size bit set, and the size in as few
-/// bytes as it takes.
-#[tactic(auto, using(crate::proofs::Av1FrontKept::kept_more, crate::proofs::Av1FrontKept::kept_same, crate::proofs::Av1FrontKept::kept_trans))]
-pub fn put_canonical(out: &mut Vec<u8>, obu: &ObuSlices<'_>, back: &[u8]) -> Result<(), AllocError>
-    ensures written { OnOk result (out.new.items ≡ out.old.items ++ canonical (going_on (view obu.now) back.now)) }
+/// Writes bytes at the end, of which there are mostly none.
+#[tactic(auto, using(crate::proofs::Av1FrontKept::kept_more, crate::proofs::Av1FrontKept::kept_same))]
+pub fn put_if_any(out: &mut Vec<u8>, bytes: &[u8]) -> Result<(), AllocError>
+    ensures written { OnOk result (out.new.items ≡ out.old.items ++ bytes.now) }
     ensures kept { take (length out.old.items) out.new.items ≡ out.old.items }
 {
-    out.push(obu.header | 2)?;
-    out.extend_from_slice(obu.extension)?;
-    put_number(out, obu.payload.len() as u64 + back.len() as u64)?;
-    out.extend_from_slice(obu.payload)?;
-    out.extend_from_slice(back)?;
+    if !bytes.is_empty() {
+        out.extend_from_slice(bytes)?;
+    }
+    Ok(())
+}
+
+/// Writes the canonical form of an OBU at the end: the size bit set, and the size in as few bytes as it takes. Its payload is
+/// in two parts.
+#[tactic(auto, using(crate::proofs::Av1FrontKept::kept_more, crate::proofs::Av1FrontKept::kept_same, crate::proofs::Av1FrontKept::kept_trans))]
+pub fn put_canonical(
+    out: &mut Vec<u8>,
+    header: u8,
+    extension: &[u8],
+    front: &[u8],
+    back: &[u8],
+) -> Result<(), AllocError>
+    ensures written { OnOk result (out.new.items ≡ out.old.items ++ canonical (record { header = header; extension = extension.now; payload = front.now ++ back.now })) }
+    ensures kept { take (length out.old.items) out.new.items ≡ out.old.items }
+{
+    out.push(header | 2)?;
+    put_if_any(out, extension)?;
+    put_number(out, front.len() as u64 + back.len() as u64)?;
+    out.extend_from_slice(front)?;
+    put_if_any(out, back)?;
     Ok(())
 }
