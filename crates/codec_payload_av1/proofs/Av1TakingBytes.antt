@@ -1,13 +1,14 @@
 -- Taking the elements of a payload as they are read, one after the other, as a loop does.
 use Rattle.std.proofs.Common.{◌≡◌, ℕ, ◌<◌, ◌/◌, Bool, true, false, not, eqb, ltb, cond, List, [], ◌∷◌, ◌++◌, length, Option, Some, None, refl, sym, ap, ◌∙◌, ◌⊎◌, inl, inr, arith}
 use Rattle.std.specs.Prelude.{◌||◌, ◌&&◌, bit_and}
+use Rattle.std.proofs.lemmas.List.{append-nil}
 use Rattle.codec_payload_base.specs.declared.error.PacketError.{PacketError}
 use Rattle.codec_payload_base.specs.declared.error.PacketError.TheVariants as faults
 use Rattle.codec_payload_av1.specs.Av1Reading.{◌>>=◌}
 use Rattle.codec_payload_av1.specs.Av1Obu.{has_bit}
 use Rattle.codec_payload_av1.specs.Av1Outcome.{Fails}
 use Rattle.codec_payload_av1.specs.Av1Packing.{is_begun}
-use Rattle.codec_payload_av1.specs.Av1Payload.{Payload, elements_at, next_at, w_after, payload_at}
+use Rattle.codec_payload_av1.specs.Av1Payload.{Payload, counted_at, elements_at, next_at, w_after, payload_at}
 use Rattle.codec_payload_av1.specs.Av1Receiving.{unit_of, units_of, taken, received, without_orphan, begun_at, still_pending, usable}
 use Rattle.codec_payload_av1.proofs.Av1TakingElements.{after, entry, one_taken, one_fails, after_after, none_before, ends_with}
 use Rattle.codec_payload_av1.proofs.Av1Readable.{elements_cons, elements_none, elements_nil, open_at, last_open, same_open, no_elements, one_rest}
@@ -160,3 +161,15 @@ received_begun pending h bytes =
     sym (takes_first (begun_at h pending) h bytes)
     ∙ ap (λ (b : List ℕ). takes (has_bit 64 h) (has_bit 128 h && not (is_begun b)) b (bit_and h 0x30 / 16) (elements_at (bit_and h 0x30 / 16) bytes)) (begun_twice (has_bit 128 h && not (has_bit 8 h)) pending)
     ∙ takes_first pending h bytes
+
+-- ---- inside an OBU
+
+inner_begun : (p : ℕ) (pending bytes : List ℕ) → received (p ∷ pending) (0xd0 ∷ bytes) ≡ entry [] ((p ∷ pending) ++ bytes)
+unfolding received payload_at counted_at taken units_of
+inner_begun p pending [] = ap (entry []) (sym (append-nil (p ∷ pending)))
+inner_begun p pending (b ∷ bytes) = refl
+
+-- a payload of one element that goes on from what is pending, and in the next
+pub received_inner : (pending : List ℕ) (h : ℕ) (bytes : List ℕ) → h ≡ 0xd0 → (length pending ≡ 0 → ⊥) → received pending (h ∷ bytes) ≡ entry [] (pending ++ bytes)
+received_inner [] h bytes is some = absurd (some refl)
+received_inner (p ∷ pending) h bytes is some = ap (λ (t : ℕ). received (p ∷ pending) (t ∷ bytes)) is ∙ inner_begun p pending bytes

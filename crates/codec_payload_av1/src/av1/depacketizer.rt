@@ -10,7 +10,7 @@ ghost use Rattle.codec_payload_av1.specs.Av1Steps.{Av1Step, TakesPayload, extra_
 
 use crate::av1::detect_av1_keyframe;
 use crate::av1::obu::{has_size_bit, is_kept, is_one_obu, obu_of, put_canonical};
-use crate::av1::payload::{next_element, w_after_one};
+use crate::av1::payload::{INNER_HEADER, next_element, w_after_one};
 use codec_payload_base::error::PacketError;
 use codec_payload_base::interface::{Av1CodecExtra, CodecExtra, Depacketizer};
 use std::alloc::{AllocError, Global};
@@ -49,6 +49,10 @@ impl Av1Depacketizer {
         ensures taken { TakesPayload result self.old (header ∷ bytes.now) out.old.items out.new.items self.new }
         ensures kept { take (length out.old.items) out.new.items ≡ out.old.items }
     {
+        if header == INNER_HEADER && !self.pending.is_empty() {
+            self.pending.extend_from_slice(bytes)?;
+            return Ok(());
+        }
         if !is_readable(&self.pending, header, bytes) {
             return Err(PacketError::ErrAv1CorruptedPacket);
         }

@@ -6,6 +6,7 @@ ghost use Rattle.codec_payload_av1.specs.Av1Payload.{written, body};
 ghost use Rattle.codec_payload_av1.specs.Av1Piece.{piece_bytes, pieces_of};
 
 use crate::av1::leb::put_number;
+use crate::av1::payload::INNER_HEADER;
 use crate::av1::piece::Piece;
 use std::alloc::{AllocError, Global};
 
@@ -42,7 +43,7 @@ pub fn write_inner_payload(alloc: Global, element: &[u8]) -> Result<Vec<u8>, All
     ensures { IfOk result (λ v. v.items ≡ written (record { continues = true; goes_on = true; starts = false; elements = element.now ∷ [] })) }
 {
     let mut out = Vec::with_capacity(alloc, element.len() + 1)?;
-    out.push(0xd0)?;
+    out.push(INNER_HEADER)?;
     out.extend_from_slice(element)?;
     Ok(out)
 }
