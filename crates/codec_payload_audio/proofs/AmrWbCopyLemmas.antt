@@ -17,24 +17,6 @@ pub record Carries (written : List ℕ) (carry : ℕ) (front : List ℕ) : Type 
 pub bits_of-push : (xs : List ℕ) (b : ℕ) → bits_of (xs ++ b ∷ []) ≡ bits_of xs ++ bits 8 b
 bits_of-push xs b = bits_of-append xs (b ∷ []) ∙ ap (λ t. bits_of xs ++ t) (append-nil (bits 8 b))
 
-pub carries_more : (written : List ℕ) (carry b : ℕ) (front : List ℕ) → b < 256 → Carries written carry front → Carries (written ++ bit_or carry (b / 4) ∷ []) (b * 64 % 256) (front ++ bits 8 b)
-carries_more written carry b front small c =
-    let high : carry ≡ carry / 64 * 2 ^ 6 = omega (arith, c.clear) in
-    let low : b / 4 < 2 ^ 6 = omega arith in
-    let joined : bit_or carry (b / 4) ≡ carry / 64 * 2 ^ 6 + b / 4 = ap (λ t. bit_or t (b / 4)) high ∙ or_shifted (carry / 64) 6 (b / 4) low in
-    let byte : bits 8 (bit_or carry (b / 4)) ≡ bits 2 (carry / 64) ++ bits 6 (b / 4) = ap (bits 8) joined ∙ bits-cat 6 2 (carry / 64) (b / 4) low in
-    let kept : b * 64 % 256 / 64 % 2 ^ 2 ≡ b % 2 ^ 2 = omega arith in
-    let rest : bits 2 (b * 64 % 256 / 64) ≡ bits 2 b = bits-same 2 (b * 64 % 256 / 64) b kept in
-    record {
-      clear = omega arith;
-      small = omega arith;
-      so_far =
-          ap (λ t. t ++ bits 2 (b * 64 % 256 / 64)) (bits_of-push written (bit_or carry (b / 4)) ∙ ap (λ t. bits_of written ++ t) byte ∙ sym (append_assoc (bits_of written) (bits 2 (carry / 64)) (bits 6 (b / 4))) ∙ ap (λ t. t ++ bits 6 (b / 4)) c.so_far)
-          ∙ append_assoc front (bits 6 (b / 4)) (bits 2 (b * 64 % 256 / 64))
-          ∙ ap (λ t. front ++ (bits 6 (b / 4) ++ t)) rest
-          ∙ ap (λ t. front ++ t) (sym (bits-split 2 6 b));
-    }
-
 pub carries_all : (written : List ℕ) (carry : ℕ) (front : List ℕ) → Carries written carry front → bits_of (written ++ carry ∷ []) ≡ front ++ bits 6 0
 carries_all written carry front c =
     bits_of-push written carry

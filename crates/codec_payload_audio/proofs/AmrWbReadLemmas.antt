@@ -1,7 +1,7 @@
 -- Lemmas on bits copied from a reader.
-use Rattle.std.proofs.Common.{◌≡◌, ℕ, ◌+◌, ◌-◌, ◌*◌, ◌%◌, ◌^◌, ◌<◌, ◌≤◌, List, [], ◌∷◌, ◌++◌, length, take, drop, replicate, refl, sym, ◌∙◌, ap, arith, append_assoc, append-nil, length-append, length-drop, Some}
+use Rattle.std.proofs.Common.{◌≡◌, ℕ, ◌+◌, ◌-◌, ◌*◌, ◌%◌, ◌^◌, ◌<◌, ◌≤◌, List, [], ◌∷◌, ◌++◌, length, take, drop, replicate, sym, ◌∙◌, ap, arith, append_assoc, append-nil, length-append, length-drop, Some}
 use Rattle.std.proofs.Math.Nat.{add-zero}
-use Rattle.std.proofs.Math.Seq.{take-append-add, take-add}
+use Rattle.std.proofs.Math.Seq.{take-add}
 use Rattle.std.proofs.lemmas.Nat.{pow_pos, shl_whole}
 use Rattle.std.proofs.lemmas.List.{take_at, drop-drop, length-take-le}
 use Rattle.codec_payload_base.specs.Bits.{Reader, bits, bits_of, left, moved, ReadsBits}
@@ -11,62 +11,18 @@ use Rattle.codec_payload_audio.specs.AmrWbReceived.{Extends, IsCopyFault}
 use Rattle.codec_payload_base.specs.declared.error.PacketError.{PacketError}
 use Rattle.codec_payload_audio.proofs.AmrWbCopyLemmas.{bits_of-push}
 
--- nothing appended, one byte appended, and one after another
+-- nothing appended, and one after another
 pub extends_same : (xs : List ℕ) → Extends xs xs
 extends_same xs = ([], sym (append-nil xs))
-
-pub extends_push : (old xs : List ℕ) (b : ℕ) → Extends old xs → Extends old (xs ++ b ∷ [])
-extends_push old xs b e = (e.0 ++ b ∷ [], ap (λ t. t ++ b ∷ []) e.1 ∙ append_assoc old e.0 (b ∷ []))
 
 pub extends_on : (old mid new : List ℕ) → Extends old mid → Extends mid new → Extends old new
 extends_on old mid new first second = (first.0 ++ second.0, second.1 ∙ ap (λ t. t ++ second.0) first.1 ∙ append_assoc old first.0 second.0)
 
--- what i bytes leave: the bits written and the bits left are those from before
-pub record Copied (old now : Reader) (out0 out : List ℕ) (i : ℕ) : Type 0 where
-  pub place : now ≡ moved old (8 * i)
-  pub within : 8 * i ≤ length (left old)
-  pub kept : bits_of out ++ left now ≡ bits_of out0 ++ left old
-  pub extends : Extends out0 out
-
 length_moved : (r : Reader) (n : ℕ) → length (left (moved r n)) ≡ length (left r) - n
 length_moved r n = ap length (sym (drop-drop n r.place (bits_of r.bytes))) ∙ length-drop n (left r)
 
--- bits read were there
-read_within : (old now next : Reader) (m n v : ℕ) → now ≡ moved old m → m ≤ length (left old) → ReadsBits n now next (Some v) → m + n ≤ length (left old)
-read_within old now next m n v place within r =
-    let there : length (left (moved old m)) ≡ n + length (left next) = sym (ap (λ t. length (left t)) place) ∙ ap length r.1 ∙ length-append (bits n v) (left next) ∙ ap (λ t. t + length (left next)) (length-bits n v) in
-    omega (arith, length_moved old m, there)
-
-pub copied_none : (r : Reader) (out : List ℕ) → Copied r r out out 0
-copied_none r out = record { place = ap (λ p. record r { place = p }) (sym (add-zero r.place)); within = omega arith; kept = refl; extends = extends_same out }
-
-pub copied_more : (old now next : Reader) (out0 out : List ℕ) (i b : ℕ) → Copied old now out0 out i → ReadsBits 8 now next (Some b) → Copied old next out0 (out ++ b ∷ []) (i + 1)
-copied_more old now next out0 out i b c r = record {
-  place = r.2 ∙ ap (λ t. moved t 8) c.place ∙ ap (λ p. record old { place = p }) (omega arith);
-  within = omega (arith, read_within old now next (8 * i) 8 b c.place c.within r);
-  kept = ap (λ t. t ++ left next) (bits_of-push out b) ∙ append_assoc (bits_of out) (bits 8 b) (left next) ∙ ap (λ t. bits_of out ++ t) (sym r.1) ∙ c.kept;
-  extends = extends_push out0 out b c.extends;
-}
-
--- equal lists have equal fronts
-front : (a b r l : List ℕ) (n : ℕ) → a ++ r ≡ b ++ l → length a ≡ length b + n → a ≡ b ++ take n l
-front a b r l n e size = sym (take_at a r (length b + n) size) ∙ ap (take (length b + n)) e ∙ take-append-add b l n
-
 padded_is : (xs : List ℕ) (n k : ℕ) → length xs ≡ n → gap n ≡ k → padded xs ≡ xs ++ replicate k 0
 padded_is xs n k size e = ap (λ t. xs ++ replicate t 0) (ap gap size ∙ e)
-
--- the bytes copied are the bits that were next
-pub copied_all : (old now : Reader) (out0 out : List ℕ) (i : ℕ) → Copied old now out0 out i → bits_of out ≡ bits_of out0 ++ take (8 * i) (left old)
-copied_all old now out0 out i c =
-    let rest : length (left now) ≡ length (left old) - 8 * i = ap (λ t. length (left t)) c.place ∙ length_moved old (8 * i) in
-    let total = ap length c.kept in
-    let size : length (bits_of out) ≡ length (bits_of out0) + 8 * i = omega (arith, c.within, total, length-append (bits_of out) (left now), length-append (bits_of out0) (left old)) in
-    front (bits_of out) (bits_of out0) (left now) (left old) (8 * i) c.kept size
-
-pub copied_short : (old now : Reader) (out0 out : List ℕ) (i n : ℕ) → Copied old now out0 out i → i < n → length (left now) < 8 → length (left old) < 8 * n
-copied_short old now out0 out i n c more short =
-    let rest : length (left now) ≡ length (left old) - 8 * i = ap (λ t. length (left t)) c.place ∙ length_moved old (8 * i) in
-    omega (arith, c.within, rest)
 
 gap_whole : (m n : ℕ) → m % 8 ≡ 0 → gap (m + n) ≡ gap n
 gap_whole m n h = omega arith

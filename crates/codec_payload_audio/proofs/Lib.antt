@@ -7,3 +7,4 @@ pub mod AmrWbPayloadLemmas
 pub mod AmrWbReadLemmas
 pub mod AmrWbReceivedLemmas
 pub mod AmrWbRoundTripLemmas
+pub mod ShiftLemmas

@@ -9,6 +9,7 @@ ghost use Rattle.codec_payload_audio.specs.AmrWbPayload.{ReceivedIsSpelled, Sent
 
 mod receive;
 mod send;
+mod shift;
 mod toc;
 
 pub use receive::AmrWbDepacketizer;

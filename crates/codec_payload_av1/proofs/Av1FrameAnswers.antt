@@ -1,10 +1,12 @@
 -- What holds of the packets of a frame.
-use Rattle.std.proofs.Common.{◌≡◌, ℕ, ◌≤◌, ◌<◌, ◌^◌, false, leb, map, Option, List, [], ◌∷◌, length, take, Some, None, Ok, Err, refl, sym, ap, ◌∙◌, arith}
+use Rattle.std.proofs.Common.{◌≡◌, ℕ, ◌≤◌, ◌<◌, ◌^◌, Bool, true, false, leb, map, Option, List, [], ◌∷◌, length, take, Some, None, Ok, Err, refl, sym, ap, ◌∙◌, arith}
 use Rattle.std.specs.Option.{option_map}
+use Rattle.std.specs.Prelude.{◌||◌}
 use Rattle.std.proofs.lemmas.Bool.Decides.{nat_tests}
 use Rattle.std.proofs.lemmas.List.{length-map}
 use Rattle.codec_payload_av1.specs.Av1Obu.{Obu, IsSequence, kept, string, strings_of, starts_sequence, obus_of, frame_kept}
 use Rattle.codec_payload_av1.specs.Av1Payload.{written}
+use Rattle.codec_payload_av1.specs.Av1Size.{bytes_sent}
 use Rattle.codec_payload_av1.specs.Av1Packing.{Packs, reach, AreSent}
 use Rattle.codec_payload_av1.specs.Av1Steps.{ComesBack, LastComeBack, IsSentFrame, AnswersAv1}
 use Rattle.codec_payload_base.specs.declared.error.PacketError.TheVariants as faults
@@ -27,19 +29,27 @@ same_sequence bytes os others a b = some_is os others (sym (sequence_complete os
 is_large : (mtu : ℕ) → 2 ≤ mtu → leb mtu 1 ≡ false
 is_large mtu le = grind (arith, nat_tests)
 
-no_length : (r : Option (List Obu)) → None ≡ option_map (λ os. length os) r → r ≡ None
-no_length None is = refl
-no_length (Some os) is = absurd cc
+no_size : (r : Option (List Obu)) → None ≡ option_map bytes_sent r → r ≡ None
+no_size None is = refl
+no_size (Some os) is = absurd cc
 
-some_length : (n : ℕ) (r : Option (List Obu)) → Some n ≡ option_map (λ os. length os) r → (os : List Obu) × (r ≡ Some os) × (n ≡ length os)
-some_length n None is = absurd cc
-some_length n (Some os) is = (os, refl, cc)
+some_size : (n : ℕ) (r : Option (List Obu)) → Some n ≡ option_map bytes_sent r → (os : List Obu) × (r ≡ Some os) × (n ≡ bytes_sent os)
+some_size n None is = absurd cc
+some_size n (Some os) is = (os, refl, cc)
 
-pub kept_frame : (n : ℕ) (bytes : List ℕ) → Some n ≡ option_map (λ os. length os) (frame_kept bytes) → (os : List Obu) × (frame_kept bytes ≡ Some os) × (n ≡ length os)
-kept_frame n bytes is = some_length n (frame_kept bytes) is
+pub kept_frame : (n : ℕ) (bytes : List ℕ) → Some n ≡ option_map bytes_sent (frame_kept bytes) → (os : List Obu) × (frame_kept bytes ≡ Some os) × (n ≡ bytes_sent os)
+kept_frame n bytes is = some_size n (frame_kept bytes) is
 
-pub refused_frame : (mtu : ℕ) (bytes : List ℕ) → 2 ≤ mtu → None ≡ option_map (λ os. length os) (frame_kept bytes) → AnswersAv1 mtu bytes (Err faults.ErrAv1CorruptedPacket)
-refused_frame mtu bytes large is = rw (is_large mtu large, no_length (frame_kept bytes) is) (refl, refl)
+pub refused_frame : (mtu : ℕ) (bytes : List ℕ) → 2 ≤ mtu → None ≡ option_map bytes_sent (frame_kept bytes) → AnswersAv1 mtu bytes (Err faults.ErrAv1CorruptedPacket)
+refused_frame mtu bytes large is = rw (is_large mtu large, no_size (frame_kept bytes) is) (refl, refl)
+
+or_true : (b : Bool) → (b || true) ≡ false → ⊥
+or_true true e = cc
+or_true false e = cc
+
+pub skipped_frame : (mtu : ℕ) (bytes : List ℕ) (os : List Obu) → frame_kept bytes ≡ Some os → length os ≡ 0 → AnswersAv1 mtu bytes (Ok [])
+skipped_frame mtu bytes [] is none = rw is (λ _. refl, λ no. absurd (or_true (leb mtu 1) no))
+skipped_frame mtu bytes (o ∷ os) is none = absurd (omega (arith, none))
 
 pub sent_is_answer : (mtu : ℕ) (bytes : List ℕ) (os : List Obu) (packets : List (List ℕ)) → 2 ≤ mtu → frame_kept bytes ≡ Some os → (length os ≡ 0 → ⊥) → IsSentFrame mtu bytes packets → AnswersAv1 mtu bytes (Ok packets)
 sent_is_answer mtu bytes [] packets large is some sent = absurd (some refl)

@@ -89,3 +89,23 @@ some_room es (suc room) mtu fits most = omega arith
 -- no strings are sent in no packets
 pub sent_none : (mtu : ℕ) (starts : Bool) → Sent mtu starts [] []
 sent_none mtu starts = record { stands = (refl, refl); nonempty = tt; within = tt; full = tt; first = tt }
+
+-- ---- a payload inside a string
+
+-- the payload of one element that goes on from the payload before and in the next
+abbrev pub inner : List ℕ → Payload
+inner e = record { continues = true; goes_on = true; starts = false; elements = e ∷ [] }
+
+never_starts : (starts : Bool) (ps : List Payload) → 0 < length ps → starts_with starts ps ≡ false
+never_starts starts [] later = absurd (omega (arith, later))
+never_starts true (p ∷ ps) later = starts_same true (p ∷ ps)
+never_starts false (p ∷ ps) later = refl
+
+pub lays_inner : (starts : Bool) (before : List (List ℕ)) (partial : List ℕ) (ps : List Payload) (continues : Bool) (mtu : ℕ) (es : List (List ℕ)) (e : List ℕ)
+    → Lays starts before partial ps continues (record { mtu = mtu; elements = es }) → es ≡ [] → continues ≡ true → 0 < length ps → IsElement e → 1 ≤ mtu → packet_size leb_len (length e ∷ []) ≤ mtu → mtu < packet_size leb_len ((length e + 1) ∷ [])
+    → Lays starts before (partial ++ e) (ps ++ inner e ∷ []) continues (record { mtu = mtu; elements = es })
+lays_inner starts before partial ps continues mtu es e h none goes_on later one le fits most =
+    let begun : Lays starts before partial ps true (record { mtu = mtu; elements = [] }) = rw (none, goes_on) at h in
+    let part = lays_part starts before partial ps true mtu [] begun e one le fits most in
+    let inside : Lays starts before (partial ++ e) (ps ++ inner e ∷ []) true (record { mtu = mtu; elements = [] }) = rw (never_starts starts ps later) at part in
+    rw (none, goes_on) inside

@@ -44,7 +44,7 @@ unfolding counted_at
 counted_nil zero = refl
 counted_nil (suc k) = refl
 
-elements_cons : (w : ℕ) (bytes e rest : List ℕ) → 0 < length bytes → next_at w bytes ≡ Some (e, rest) → elements_at w bytes ≡ (elements_at (w_after w) rest >>= λ es. Some (e ∷ es))
+pub elements_cons : (w : ℕ) (bytes e rest : List ℕ) → 0 < length bytes → next_at w bytes ≡ Some (e, rest) → elements_at w bytes ≡ (elements_at (w_after w) rest >>= λ es. Some (e ∷ es))
 elements_cons zero bytes e rest lt is = each_cons bytes e rest lt is
 elements_cons (suc zero) bytes e rest lt is =
     rw (no_rest bytes e rest is, counted_nil 0) (counted_one bytes lt ∙ ap (λ (t : List ℕ). Some (t ∷ [])) (all_taken bytes e rest is))
@@ -60,12 +60,12 @@ unfolding counted_at
 counted_none k [] lt is = absurd (omega (arith, lt))
 counted_none k (c ∷ bytes) lt is = rw is refl
 
-elements_none : (w : ℕ) (bytes : List ℕ) → 0 < length bytes → next_at w bytes ≡ None → elements_at w bytes ≡ None
+pub elements_none : (w : ℕ) (bytes : List ℕ) → 0 < length bytes → next_at w bytes ≡ None → elements_at w bytes ≡ None
 elements_none zero bytes lt is = each_none bytes lt is
 elements_none (suc zero) bytes lt is = absurd cc
 elements_none (suc (suc k)) bytes lt is = counted_none k bytes lt (sym (more_at k bytes) ∙ is)
 
-elements_nil : (w : ℕ) → elements_at w [] ≡ Some []
+pub elements_nil : (w : ℕ) → elements_at w [] ≡ Some []
 unfolding each_at
 elements_nil zero = refl
 elements_nil (suc k) = counted_nil k
@@ -73,7 +73,7 @@ elements_nil (suc k) = counted_nil k
 -- ---- what a receiver makes of elements
 
 -- whether the last of so many elements goes on
-abbrev open_at : Bool → ℕ → ℕ → Bool
+abbrev pub open_at : Bool → ℕ → ℕ → Bool
 open_at y w n = y && (eqb w 0 || eqb n w)
 
 -- whether these elements can be taken behind what was begun
@@ -117,7 +117,7 @@ goes_open : (begun e : List ℕ) → is_some (taken true begun (e ∷ [])) ≡ t
 unfolding taken units_of
 goes_open begun e = refl
 
-last_open : (y : Bool) (w : ℕ) → open_at y w 1 ≡ (y && ltb w 2)
+pub last_open : (y : Bool) (w : ℕ) → open_at y w 1 ≡ (y && ltb w 2)
 last_open false w = refl
 last_open true zero = refl
 last_open true (suc zero) = refl
@@ -131,7 +131,7 @@ eqb_suc : (a b : ℕ) → eqb (suc a) (suc b) ≡ eqb a b
 eqb_suc a b = grind (arith, nat_tests)
 
 -- where more elements follow, the same of them goes on
-same_open : (y : Bool) (w : ℕ) (rest : List ℕ) (f : List ℕ) (fs : List (List ℕ)) → (w ≡ 1 → rest ≡ []) → elements_at (w_after w) rest ≡ Some (f ∷ fs) → open_at y w (suc (length (f ∷ fs))) ≡ open_at y (w_after w) (length (f ∷ fs))
+pub same_open : (y : Bool) (w : ℕ) (rest : List ℕ) (f : List ℕ) (fs : List (List ℕ)) → (w ≡ 1 → rest ≡ []) → elements_at (w_after w) rest ≡ Some (f ∷ fs) → open_at y w (suc (length (f ∷ fs))) ≡ open_at y (w_after w) (length (f ∷ fs))
 same_open y zero rest f fs one read = refl
 same_open y (suc zero) rest f fs one read = let none = sym (elements_nil 1) ∙ (ap (elements_at 1) (sym (one refl)) ∙ read) in absurd cc
 same_open y (suc (suc k)) rest f fs one read =
@@ -155,7 +155,7 @@ counted_some (suc k) (b ∷ bytes) is =
     let ys = bind_some (counted_at k x.0.1) (λ ys. Some (x.0.0 ∷ ys)) [] x.2 in
     absurd (let no = ys.2 in cc)
 
-no_elements : (w : ℕ) (bytes : List ℕ) → elements_at w bytes ≡ Some [] → bytes ≡ []
+pub no_elements : (w : ℕ) (bytes : List ℕ) → elements_at w bytes ≡ Some [] → bytes ≡ []
 no_elements zero bytes is = each_some (length bytes) bytes is
 no_elements (suc k) bytes is = counted_some k bytes is
 
@@ -190,7 +190,7 @@ taken_step y false begun w e rest (Some (f ∷ fs)) read one lost =
     ∙ ap (λ (u : Bool). u && is_some (taken (open_at y (w_after w) (length (f ∷ fs))) [] (f ∷ fs))) (unit_is_one (begun ++ e))
     ∙ before_others y (ltb w 2) (is_one (begun ++ e)) (is_some (taken (open_at y (w_after w) (length (f ∷ fs))) [] (f ∷ fs))))
 
-one_rest : (w : ℕ) (bytes e rest : List ℕ) → next_at w bytes ≡ Some (e, rest) → w ≡ 1 → rest ≡ []
+pub one_rest : (w : ℕ) (bytes e rest : List ℕ) → next_at w bytes ≡ Some (e, rest) → w ≡ 1 → rest ≡ []
 one_rest w bytes e rest is one = no_rest bytes e rest (ap (λ (v : ℕ). next_at v bytes) (sym one) ∙ is)
 
 pub taken_next : (y orphan : Bool) (begun : List ℕ) (w : ℕ) (bytes e rest : List ℕ) → 0 < length bytes → next_at w bytes ≡ Some (e, rest) → (orphan ≡ true → begun ≡ [])

@@ -1,14 +1,12 @@
 -- Taking elements one after the other, as a loop does.
-use Rattle.std.proofs.Common.{◌≡◌, ℕ, ◌<◌, Bool, true, false, eqb, List, [], ◌∷◌, ◌++◌, length, Option, Some, None, refl, sym, ap, ◌∙◌, append_assoc, ◌⊎◌, inl, inr, arith}
-use Rattle.std.specs.Prelude.{◌&&◌}
-use Rattle.std.proofs.lemmas.Bool.{eqb-false, eqb-true}
-use Rattle.std.proofs.lemmas.List.{append-nil, nil_from_length}
+use Rattle.std.proofs.Common.{◌≡◌, ℕ, ◌<◌, Bool, true, false, List, [], ◌∷◌, ◌++◌, length, Option, Some, None, refl, sym, ap, ◌∙◌, append_assoc, ◌⊎◌, inl, inr, arith}
+use Rattle.std.proofs.lemmas.List.{append-nil}
 use Rattle.codec_payload_av1.specs.Av1Reading.{◌>>=◌}
 use Rattle.codec_payload_av1.specs.Av1Packing.{ended, left_open}
 use Rattle.codec_payload_av1.specs.Av1Receiving.{unit_of, units_of, taken}
 use Rattle.codec_payload_av1.proofs.Av1PayloadLengths.{some_is}
 
-abbrev entry : List ℕ → List ℕ → Option (List ℕ × List ℕ)
+abbrev pub entry : List ℕ → List ℕ → Option (List ℕ × List ℕ)
 entry units left = Some (units, left)
 
 -- what stood in the output before what is taken
@@ -32,49 +30,19 @@ one_fails goes_on begun e (f ∷ es) ends is = rw is refl
 one_fails false begun e [] ends is = rw is refl
 one_fails true begun e [] ends is = elim ends [ inl a ↦ absurd cc | inr b ↦ absurd (omega (arith, b)) ]
 
-after_after : (out u : List ℕ) (r : Option (List ℕ × List ℕ)) → after out (after u r) ≡ after (out ++ u) r
+pub after_after : (out u : List ℕ) (r : Option (List ℕ × List ℕ)) → after out (after u r) ≡ after (out ++ u) r
 after_after out u (Some x) = ap (λ (t : List ℕ). entry t x.1) (sym (append_assoc out u x.0))
 after_after out u None = refl
 
-none_before : (out : List ℕ) (r : Option (List ℕ × List ℕ)) → after out r ≡ None → r ≡ None
+pub none_before : (out : List ℕ) (r : Option (List ℕ × List ℕ)) → after out r ≡ None → r ≡ None
 none_before out (Some x) e = absurd cc
 none_before out None e = refl
-
-pub goes_over : (goes_on : Bool) (out begun e new u : List ℕ) (es : List (List ℕ)) (total : Option (List ℕ × List ℕ)) → (goes_on ≡ false) ⊎ (0 < length es) → unit_of (begun ++ e) ≡ Some u → new ≡ out ++ u
-    → after out (taken goes_on begun (e ∷ es)) ≡ total → after new (taken goes_on [] es) ≡ total
-goes_over goes_on out begun e new u es total ends is made so_far =
-    rw made (sym (after_after out u (taken goes_on [] es)) ∙ ap (λ r. after out r) (sym (one_taken goes_on begun e es u ends is)) ∙ so_far)
-
-pub is_refused : (goes_on : Bool) (out begun e old : List ℕ) (es : List (List ℕ)) (total : Option (List ℕ × List ℕ)) → (goes_on ≡ false) ⊎ (0 < length es) → unit_of (begun ++ e) ≡ None
-    → after out (taken goes_on begun (e ∷ es)) ≡ after old total → total ≡ None
-is_refused goes_on out begun e old es total ends is so_far = none_before old total (sym so_far ∙ ap (λ r. after out r) (one_fails goes_on begun e es ends is))
 
 same_entry : (a b c d : List ℕ) → entry a b ≡ entry c d → (a ≡ c) × (b ≡ d)
 same_entry a b c d e = (ap (λ (x : List ℕ × List ℕ). x.0) (some_is (a, b) (c, d) e), ap (λ (x : List ℕ × List ℕ). x.1) (some_is (a, b) (c, d) e))
 
-ends_with : (out left old : List ℕ) (total : Option (List ℕ × List ℕ)) → after out (entry [] left) ≡ after old total → (x : List ℕ) × (total ≡ Some (x, left)) × (out ≡ old ++ x)
+pub ends_with : (out left old : List ℕ) (total : Option (List ℕ × List ℕ)) → after out (entry [] left) ≡ after old total → (x : List ℕ) × (total ≡ Some (x, left)) × (out ≡ old ++ x)
 ends_with out left old None e = absurd cc
 ends_with out left old (Some x) e =
     let same = same_entry (out ++ []) left (old ++ x.0) x.1 e in
     (x.0, ap (λ (t : List ℕ). entry x.0 t) (sym same.1), sym (append-nil out) ∙ same.0)
-
-pub stays_open : (out begun e old : List ℕ) (total : Option (List ℕ × List ℕ)) → after out (taken true begun (e ∷ [])) ≡ after old total → (x : List ℕ) × (total ≡ Some (x, begun ++ e)) × (out ≡ old ++ x)
-unfolding taken units_of
-stays_open out begun e old total so_far = ends_with out (begun ++ e) old total so_far
-
-pub is_over : (goes_on : Bool) (out begun old : List ℕ) (total : Option (List ℕ × List ℕ)) → after out (taken goes_on begun []) ≡ after old total → (x : List ℕ) × (total ≡ Some (x, begun)) × (out ≡ old ++ x)
-unfolding taken units_of
-is_over goes_on out begun old total so_far = ends_with out begun old total so_far
-
-positive : (n : ℕ) (es : List (List ℕ)) → (n ≡ 0 → ⊥) → n ≡ length es → 0 < length es
-positive n [] h is = absurd (h is)
-positive n (e ∷ es) h is = omega arith
-
--- the test whether an element ends here
-pub it_ends : (goes_on : Bool) (others : ℕ) (es : List (List ℕ)) → false ≡ (goes_on && eqb others 0) → others ≡ length es → (goes_on ≡ false) ⊎ (0 < length es)
-it_ends false others es test is = inl refl
-it_ends true others es test is = inr (positive others es (eqb-false others 0 (sym test)) is)
-
-pub it_stays : (goes_on : Bool) (others : ℕ) (es : List (List ℕ)) → true ≡ (goes_on && eqb others 0) → others ≡ length es → (goes_on ≡ true) × (es ≡ [])
-it_stays false others es test is = absurd cc
-it_stays true others es test is = (refl, nil_from_length es (sym is ∙ eqb-true others 0 (sym test)))

@@ -2,6 +2,7 @@ pub mod Av1FewestPackets
 pub mod Av1FewestSegments
 pub mod Av1FrameAnswers
 pub mod Av1FrontKept
+pub mod Av1GoingOn
 pub mod Av1LayingStrings
 pub mod Av1ObuGrammar
 pub mod Av1OneObu
@@ -14,5 +15,6 @@ pub mod Av1Readable
 pub mod Av1ReadingElements
 pub mod Av1ReadingObus
 pub mod Av1RoundTrip
+pub mod Av1TakingBytes
 pub mod Av1TakingElements
 pub mod Av1UnitGrammar

@@ -1,5 +1,5 @@
 -- The state of a packer between two pieces.
-use Rattle.std.specs.Prelude.{◌&&◌, ◌==◌, ◌≡◌, ℕ, ◌≤◌, Bool, false, List, [], ◌∷◌, ◌++◌, length}
+use Rattle.std.specs.Prelude.{◌&&◌, ◌==◌, ◌≡◌, ℕ, ◌≤◌, Bool, false, List, [], ◌∷◌, ◌++◌, length, map}
 use Rattle.std.specs.List.{AllByRecursion}
 use Rattle.codec_payload_av1.specs.Av1Payload.{Payload, written}
 use Rattle.codec_payload_av1.specs.Av1Packing.{ended, left_open, is_begun, IsElement, IsFull, HasElement, StartsFirst}
@@ -41,3 +41,7 @@ Lays starts before partial ps continues opened = Laying opened.mtu starts before
 -- N stands where no packets are before it
 abbrev pub starts_with : Bool → List Payload → Bool
 starts_with starts ps = starts && length ps == 0
+
+-- The packets so far, as bytes, and the open one hold these strings and this much of the next.
+abbrev pub LaysWritten : Bool → List (List ℕ) → List ℕ → List (List ℕ) → Bool → Opened → Type 0
+LaysWritten starts before partial packets continues opened = (ps : List Payload) × (packets ≡ map written ps) × Lays starts before partial ps continues opened

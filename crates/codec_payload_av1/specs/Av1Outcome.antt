@@ -9,10 +9,6 @@ Fails faults.OutOfMemory read = Unit {0}
 Fails faults.ErrAv1CorruptedPacket read = read ≡ None
 Fails _ read = ⊥
 
-abbrev pub Gives : {X Y : Type 0} → (X → Y) → Result X PacketError → Option Y → Type 0
-Gives view (Ok x) read = read ≡ Some (view x)
-Gives view (Err e) read = Fails e read
-
 -- What reading finds was added at the end.
 abbrev pub Appends : {X : Type 0} → Result X PacketError → List ℕ → List ℕ → Option (List ℕ) → Type 0
 Appends (Ok x) old new read = (added : List ℕ) × (read ≡ Some added) × (new ≡ old ++ added)

@@ -1,8 +1,6 @@
 -- The payload of a packet: an aggregation header, and elements.
-use Rattle.std.specs.Prelude.{ℕ, zero, suc, ◌+◌, ◌*◌, ◌/◌, List, [], ◌∷◌, ◌++◌, length, map, take, drop, Option, Some, None, Bool, false, not, ◌||◌, ◌&&◌, nat_lt, ◌==◌, if◌then◌else◌, bit_and}
+use Rattle.std.specs.Prelude.{ℕ, zero, suc, ◌+◌, ◌*◌, ◌/◌, List, [], ◌∷◌, ◌++◌, length, take, drop, Option, Some, None, Bool, false, not, ◌||◌, ◌&&◌, nat_lt, ◌==◌, if◌then◌else◌, bit_and}
 use Rattle.std.specs.List.{flat_map}
-use Rattle.std.specs.Borrow.{Bor}
-use Rattle.codec_payload_av1.specs.declared.av1.payload.PayloadSlices.{PayloadSlices}
 use Rattle.codec_payload_base.specs.Leb.{leb, leb_at}
 use Rattle.codec_payload_av1.specs.Av1Reading.{◌>>=◌}
 use Rattle.codec_payload_av1.specs.Av1Obu.{has_bit}
@@ -14,13 +12,6 @@ pub record Payload : Type 0 where
   pub goes_on : Bool
   pub starts : Bool
   pub elements : List (List ℕ)
-
-abbrev pub now_of : List (Bor (List ℕ)) → List (List ℕ)
-now_of es = map (λ e. e.now) es
-
--- a payload without where it lies in memory
-abbrev pub view : PayloadSlices → Payload
-view p = record { continues = p.continues; goes_on = p.goes_on; starts = p.starts; elements = now_of p.elements.items }
 
 -- ---- the shortest bytes of a payload
 

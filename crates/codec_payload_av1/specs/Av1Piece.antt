@@ -1,10 +1,8 @@
--- Parts of OBUs that lie in the memory of a frame, and packets made of them.
+-- Parts of OBUs that lie in the memory of a frame.
 use Rattle.std.specs.Prelude.{ℕ, List, [], ◌∷◌, ◌++◌, Option, Some, None, map}
 use Rattle.codec_payload_av1.specs.declared.av1.obu.ObuSlices.{ObuSlices}
 use Rattle.codec_payload_av1.specs.declared.av1.piece.Piece.{Piece}
-use Rattle.codec_payload_av1.specs.declared.av1.plan.Plan.{Plan}
 use Rattle.codec_payload_av1.specs.Av1Obu.{Obu, view}
-use Rattle.codec_payload_av1.specs.Av1Payload.{Payload}
 
 abbrev pub views : List ObuSlices → List Obu
 views os = map view os
@@ -19,10 +17,3 @@ piece_bytes p = header_bytes p.header ++ (p.extension.now ++ p.payload.now)
 
 abbrev pub pieces_of : List Piece → List (List ℕ)
 pieces_of ps = map piece_bytes ps
-
--- the payload that is planned
-abbrev pub plan_view : Plan → Payload
-plan_view p = record { continues = p.continues; goes_on = p.goes_on; starts = p.starts; elements = pieces_of p.elements.items }
-
-abbrev pub plans_of : List Plan → List Payload
-plans_of ps = map plan_view ps

@@ -1,7 +1,9 @@
 -- What a packet takes, by the lengths of its elements.
 use Rattle.std.specs.Prelude.{ℕ, ◌+◌, List, [], ◌∷◌, length, map, nat_lt, if◌then◌else◌}
 use Rattle.std.specs.Global.{Vec}
+use Rattle.std.specs.List.{sum_by}
 use Rattle.codec_payload_base.specs.Leb.{leb}
+use Rattle.codec_payload_av1.specs.Av1Obu.{Obu, string}
 
 -- ---- what a packet of elements of these lengths takes; cost is what a length takes
 
@@ -42,3 +44,7 @@ lengths es = map length es
 
 abbrev pub items_of : List (Vec ℕ) → List (List ℕ)
 items_of vs = map (λ v. v.items) vs
+
+-- how many bytes packets carry of these OBUs
+abbrev pub bytes_sent : List Obu → ℕ
+bytes_sent os = sum_by (λ o. length (string o)) os

@@ -11,8 +11,8 @@ mod obu;
 mod packer;
 mod packetizer;
 mod payload;
+mod payload_writer;
 mod piece;
-mod plan;
 #[cfg(test)]
 mod tests;
 

@@ -1,6 +1,6 @@
 //! A reader of bits, the highest of each byte first, and of LEB128 numbers.
 
-ghost use Rattle.std.specs.Prelude.{◌≡◌, ◌+◌, ◌*◌, ◌/◌, ◌<◌, ◌≤◌, length, min, None};
+ghost use Rattle.std.specs.Prelude.{◌≡◌, ◌+◌, ◌*◌, ◌/◌, ◌%◌, ◌<◌, ◌≤◌, length, min, None};
 ghost use Rattle.std.specs.Option.{option_map};
 ghost use Rattle.codec_payload_base.specs.Bits.{Reader, ReadsBits, ReadsLeb128, LendsBytes, ReadsLebAtFront, Skips, left, here, at_end};
 ghost use Rattle.codec_payload_base.specs.Leb.{WritesLeb, WritesShortest, TakesNine, FindsLeb};
@@ -103,6 +103,31 @@ impl<'a> BitReader<'a> {
                 bit: place_in_bits % 8,
             }
         }
+    }
+
+    /// Another reader at the same place; each moves on its own.
+    pub fn fork(&self) -> Self
+        ensures { result ≡ self.now }
+    {
+        BitReader {
+            source: self.source,
+            byte: self.byte,
+            bit: self.bit,
+        }
+    }
+
+    /// All bytes from that one on in which the place stands. The place stays.
+    pub fn ahead(&self) -> &'a [u8]
+        ensures { result.now ≡ here self.now }
+    {
+        &self.source[self.byte..]
+    }
+
+    /// How many bits lie between the start of that byte in which the place stands and the place, from 0 to 7.
+    pub fn bits_behind_byte(&self) -> usize
+        ensures { result ≡ self.now.place % 8 }
+    {
+        self.bit
     }
 }
 

@@ -1,12 +1,13 @@
 //! AMR-WB payloads as frames.
 
-ghost use Rattle.std.specs.Prelude.{◌≡◌, ◌↔◌, ℕ, ◌+◌, ◌*◌, ◌%◌, ◌<◌, ◌≤◌, ◌++◌, length, take, drop, IfErr, OnOk, MatchResult, IsTrue, if◌then◌else◌, List, Some, true, Ok, Err};
+ghost use Rattle.std.specs.Prelude.{◌≡◌, ◌↔◌, ℕ, ◌+◌, ◌*◌, ◌%◌, ◌<◌, ◌≤◌, ◌++◌, length, take, drop, IfOk, IfErr, OnOk, MatchResult, IsTrue, if◌then◌else◌, List, Some, true, Ok, Err};
 ghost use Rattle.codec_payload_base.specs.Bits.{bits_of, left, moved};
 ghost use Rattle.codec_payload_base.specs.declared.error.PacketError.TheVariants.{OutOfMemory};
 ghost use Rattle.codec_payload_audio.specs.AmrWb.{gap, layout, speech_size, padded};
 ghost use Rattle.codec_payload_audio.specs.AmrWbReceived.{AmrWbStep, Entry, Extends, FailsAs, Gains, HasEntries, IsCopyFault, entries_at, frame_at, frames_of, received};
 ghost use Rattle.codec_payload_audio.specs.AmrWbEntries.{ReadsEntry, entry_of};
 
+use crate::amr_wb::shift::append_shifted;
 use crate::amr_wb::speech_bits;
 use crate::amr_wb::toc::TocEntry;
 use codec_payload_base::bits::{BitRead, BitReader};
@@ -52,9 +53,12 @@ impl Depacketizer for AmrWbDepacketizer {
         ensures step { AmrWbStep self.old.octet_align packet.now out.old.items codec_extra.old result out.new.items codec_extra.new × (layout self.new.octet_align ≡ layout self.old.octet_align) }
         ensures same { self.new ≡ self.old }
     {
-        let storage_size = check_payload(self.octet_align, packet)?;
+        if packet.is_empty() {
+            return Ok(());
+        }
+        let contents = check_payload(self.octet_align, packet)?;
         let size_before = out.len();
-        if let Err(fault) = append_payload(self.octet_align, packet, storage_size, out) {
+        if let Err(fault) = append_payload(self.octet_align, contents, packet, out) {
             out.truncate(size_before);
             return Err(fault);
         }
@@ -70,21 +74,39 @@ impl Depacketizer for AmrWbDepacketizer {
     }
 }
 
-/// How many bytes the frames of a payload take in storage form, or `usize::MAX` where they are more. It takes no memory.
-fn check_payload(octet_align: bool, packet: &[u8]) -> Result<usize, PacketError>
-    ensures { MatchResult result (λ _. (frames : List ℕ) × (received octet_align (bits_of packet.now) ≡ Ok frames)) (λ e. received octet_align (bits_of packet.now) ≡ Err e) }
+/// What is known of a payload that was checked.
+#[derive(Drop)]
+struct Contents<'a> {
+    /// Stands at the table of contents.
+    toc: BitReader<'a>,
+    /// Stands behind it, at the first frame.
+    speech: BitReader<'a>,
+    /// How many bytes the frames take in storage form, or `usize::MAX` where they are more.
+    storage_size: usize,
+}
+
+/// Looks at a payload whole. It takes no memory.
+fn check_payload<'a>(octet_align: bool, packet: &'a [u8]) -> Result<Contents<'a>, PacketError>
+    requires { 0 < length packet.now }
+    ensures received { MatchResult result (λ _. (frames : List ℕ) × (received octet_align (bits_of packet.now) ≡ Ok frames)) (λ e. received octet_align (bits_of packet.now) ≡ Err e) }
+    ensures toc { IfOk result (λ c. c.toc ≡ record { bytes = packet.now; place = (if octet_align then 8 else 4) }) }
+    ensures speech { IfOk result (λ c. (es : List Entry) × (entries_at octet_align (left c.toc) ≡ Ok (es, left c.speech))) }
+    ensures whole { IfOk result (λ c. IsTrue octet_align → (length (left c.toc) % 8 ≡ 0) × (length (left c.speech) % 8 ≡ 0)) }
 {
-    if packet.is_empty() {
-        return Ok(0);
-    }
-    let mut toc = behind_request(octet_align, packet);
-    let mut speech = behind_request(octet_align, packet);
+    let toc = behind_request(octet_align, packet);
+    let mut speech = toc.fork();
     skip_entries(&mut speech, octet_align)?;
-    let storage_size = skip_frames(&mut toc, &mut speech, octet_align)?;
-    if !less_than_a_byte_is_left(&speech) {
+    let mut entries = toc.fork();
+    let mut frames = speech.fork();
+    let storage_size = skip_frames(&mut entries, &mut frames, octet_align)?;
+    if !less_than_a_byte_is_left(&frames) {
         return Err(PacketError::ErrAmrWbCorruptedPacket);
     }
-    Ok(storage_size)
+    Ok(Contents {
+        toc,
+        speech,
+        storage_size,
+    })
 }
 
 /// Whether fewer than eight bits are left.
@@ -95,24 +117,24 @@ fn less_than_a_byte_is_left<'a>(reader: &BitReader<'a>) -> bool
 }
 
 /// Appends the frames of a payload that was checked; after a refusal some of them may be there.
-fn append_payload(
+fn append_payload<'a>(
     octet_align: bool,
-    packet: &[u8],
-    storage_size: usize,
+    contents: Contents<'a>,
+    packet: &'a [u8],
     out: &mut Vec<u8>,
 ) -> Result<(), PacketError>
-    requires { (frames : List ℕ) × (received octet_align (bits_of packet.now) ≡ Ok frames) }
+    requires some { 0 < length packet.now }
+    requires received { (frames : List ℕ) × (received octet_align (bits_of packet.now) ≡ Ok frames) }
+    requires toc { contents.toc ≡ record { bytes = packet.now; place = (if octet_align then 8 else 4) } }
+    requires speech { (es : List Entry) × (entries_at octet_align (left contents.toc) ≡ Ok (es, left contents.speech)) }
+    requires whole { IsTrue octet_align → (length (left contents.toc) % 8 ≡ 0) × (length (left contents.speech) % 8 ≡ 0) }
     ensures ok { OnOk result ((frames : List ℕ) × (received octet_align (bits_of packet.now) ≡ Ok frames) × (bits_of out.new.items ≡ bits_of out.old.items ++ frames)) }
     ensures err { IfErr result (λ e. (e ≡ OutOfMemory) × (0 < length packet.now)) }
     ensures kept { Extends out.old.items out.new.items }
 {
-    if packet.is_empty() {
-        return Ok(());
-    }
-    let mut toc = behind_request(octet_align, packet);
-    let mut speech = behind_request(octet_align, packet);
-    skip_entries(&mut speech, octet_align)?;
-    out.reserve(storage_size)?;
+    out.reserve(contents.storage_size)?;
+    let mut toc = contents.toc;
+    let mut speech = contents.speech;
     append_frames(&mut toc, &mut speech, octet_align, out)
 }
 
@@ -254,8 +276,9 @@ fn skip_padding<'a>(reader: &mut BitReader<'a>, count: usize, octet_align: bool)
     requires whole { IsTrue octet_align → (length (left reader.old) + count) % 8 ≡ 0 }
     ensures { left reader.new ≡ drop (if octet_align then gap count else 0) (left reader.old) }
 {
-    let spare = if octet_align { (8 - count % 8) % 8 } else { 0 };
-    let _ = reader.get_bits(spare);
+    if octet_align {
+        let _ = reader.get_bits((8 - count % 8) % 8);
+    }
 }
 
 /// Appends the next `count` bits, with zeros up to a byte.
@@ -285,9 +308,13 @@ fn copy_bytes<'a>(
     ensures short { IfErr result (λ e. IsCopyFault (left reader.old) (8 * count) e) }
     ensures kept { Extends out.old.items out.new.items }
 {
-    for _byte in 0..count {
-        let byte = reader.get_u8().ok_or(PacketError::ErrShortPacket)?;
-        out.push(byte)?;
+    let bytes = reader.ahead();
+    let shift = reader.bits_behind_byte();
+    let whole = reader.get_bytes(count).ok_or(PacketError::ErrShortPacket)?;
+    if shift == 0 {
+        out.extend_from_slice(whole)?;
+    } else {
+        append_shifted(out, bytes, shift, count)?;
     }
     Ok(())
 }

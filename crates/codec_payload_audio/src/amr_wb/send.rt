@@ -7,6 +7,7 @@ ghost use Rattle.codec_payload_base.specs.Bits.{bits, bits_of};
 ghost use Rattle.codec_payload_audio.specs.AmrWb.{padded, payload, frame_from, layout, stored, AnswersAmrWb, AnswersFrame};
 ghost use Rattle.codec_payload_audio.specs.AmrWbReceived.{CarriesCanonical};
 
+use crate::amr_wb::shift::append_shifted;
 use crate::amr_wb::speech_bits;
 use codec_payload_base::error::PacketError;
 use codec_payload_base::interface::Packetizer;
@@ -171,12 +172,15 @@ fn shifted(alloc: Global, toc: u8, speech: &[u8]) -> Result<Vec<u8>, PacketError
 {
     let mut payload = Vec::with_capacity(alloc, speech.len() + 2)?;
     payload.push(0xf0 | (toc >> 4))?;
-    let mut carry = toc << 4;
-    for &byte in speech {
-        payload.push(carry | (byte >> 2))?;
-        carry = byte << 6;
+    match speech.first() {
+        None => payload.push(toc << 4)?,
+        Some(first) => {
+            payload.push((toc << 4) | (first >> 2))?;
+            let last = speech.len() - 1;
+            append_shifted(&mut payload, speech, 6, last)?;
+            payload.push(speech[last] << 6)?;
+        }
     }
-    payload.push(carry)?;
     Ok(payload)
 }
 

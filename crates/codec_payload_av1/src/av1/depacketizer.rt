@@ -1,26 +1,25 @@
 //! AV1 payloads as frames.
 
-ghost use Rattle.std.specs.Prelude.{◌≡◌, ◌∷◌, List, [], Some, length, take, ◌&&◌, ◌==◌, ℕ, is_some, not, ◌++◌, OnOk};
-ghost use Rattle.codec_payload_av1.specs.Av1Obu.{has_bit};
+ghost use Rattle.std.specs.Prelude.{◌≡◌, ◌∷◌, List, [], Some, length, take, true, nat_lt, ◌&&◌, ℕ, is_some, not, ◌++◌, OnOk, if◌then◌else◌};
+ghost use Rattle.codec_payload_av1.specs.Av1Obu.{canonical, has_bit, is_kept_type};
 ghost use Rattle.codec_payload_av1.specs.Av1Packing.{is_begun};
-ghost use Rattle.codec_payload_av1.specs.Av1Payload.{is_head, now_of};
-ghost use Rattle.codec_payload_av1.specs.Av1Receiving.{unit_of, taken, received, without_orphan, begun_at, can_take};
+ghost use Rattle.codec_payload_av1.specs.Av1Payload.{is_head};
+ghost use Rattle.codec_payload_av1.specs.Av1Receiving.{unit_of, received, begun_at, can_take};
 ghost use Rattle.codec_payload_av1.specs.Av1Outcome.{Appends, Takes};
 ghost use Rattle.codec_payload_av1.specs.Av1Steps.{Av1Step, TakesPayload, extra_of};
 
 use crate::av1::detect_av1_keyframe;
 use crate::av1::obu::{has_size_bit, is_kept, is_one_obu, obu_of, put_canonical};
-use crate::av1::payload::{next_element, payload_of, w_after_one};
+use crate::av1::payload::{INNER_HEADER, next_element, w_after_one};
 use codec_payload_base::error::PacketError;
 use codec_payload_base::interface::{Av1CodecExtra, CodecExtra, Depacketizer};
-use std::alloc::Global;
+use std::alloc::{AllocError, Global};
 use std::marker::Model;
 
 /// Puts AV1 temporal units together, each OBU with its size (RTP Payload Format for AV1, sections 4.4 and 5). It holds
 /// the beginning of an OBU whose end is still to come.
 #[derive(Debug, Drop)]
 pub struct Av1Depacketizer {
-    alloc: Global,
     pending: Vec<u8>,
 }
 
@@ -36,7 +35,6 @@ impl Av1Depacketizer {
         ensures { result ≡ [] }
     {
         Av1Depacketizer {
-            alloc,
             pending: Vec::new(alloc),
         }
     }
@@ -51,6 +49,10 @@ impl Av1Depacketizer {
         ensures taken { TakesPayload result self.old (header ∷ bytes.now) out.old.items out.new.items self.new }
         ensures kept { take (length out.old.items) out.new.items ≡ out.old.items }
     {
+        if header == INNER_HEADER && !self.pending.is_empty() {
+            self.pending.extend_from_slice(bytes)?;
+            return Ok(());
+        }
         if !is_readable(&self.pending, header, bytes) {
             return Err(PacketError::ErrAv1CorruptedPacket);
         }
@@ -58,7 +60,6 @@ impl Av1Depacketizer {
     }
 
     /// The same, where want of memory comes of any payload.
-    #[tactic(auto, unfolding(crate::specs::Av1Receiving::received))]
     fn take_elements_of(
         &mut self,
         header: u8,
@@ -68,13 +69,8 @@ impl Av1Depacketizer {
         ensures taken { Takes result out.old.items out.new.items self.new (received self.old (header ∷ bytes.now)) }
         ensures kept { take (length out.old.items) out.new.items ≡ out.old.items }
     {
-        let payload = payload_of(self.alloc, header, bytes)?;
-        if !payload.continues || payload.starts {
-            self.pending.clear();
-        }
-        let orphan = payload.continues && self.pending.is_empty();
-        let elements = without_orphan(orphan, &payload.elements);
-        take_elements(&mut self.pending, out, payload.goes_on, elements)
+        keep_begun(&mut self.pending, header);
+        take_elements(&mut self.pending, out, header, bytes)
     }
 }
 
@@ -149,14 +145,30 @@ impl Depacketizer for Av1Depacketizer {
     }
 }
 
+/// Whether what is pending goes on in the payload of this aggregation header: Z is set, and N is clear.
+fn continues_pending(header: u8) -> bool
+    ensures { result ≡ (has_bit 128 header && not (has_bit 8 header)) }
+{
+    header & 128 != 0 && header & 8 == 0
+}
+
 /// What of the pending bytes goes on in the payload of this aggregation header.
 fn begun_of(header: u8, pending: &[u8]) -> &[u8]
     ensures { result.now ≡ begun_at header pending.now }
 {
-    if header & 128 != 0 && header & 8 == 0 {
+    if continues_pending(header) {
         pending
     } else {
         &[]
+    }
+}
+
+/// Lets go of what is pending where it does not go on in the payload of this aggregation header.
+fn keep_begun(pending: &mut Vec<u8>, header: u8)
+    ensures { pending.new.items ≡ begun_at header pending.old.items }
+{
+    if !continues_pending(header) {
+        pending.clear();
     }
 }
 
@@ -223,13 +235,32 @@ fn append_unit(out: &mut Vec<u8>, element: &[u8]) -> Result<(), PacketError>
         if has_size_bit(obu.header) {
             out.extend_from_slice(element)?;
         } else {
-            put_canonical(out, &obu)?;
+            put_canonical(out, obu.header, obu.extension, obu.payload, &[])?;
         }
     }
     Ok(())
 }
 
+/// Adds what an OBU gives whose payload is in two parts: nothing where it is not kept.
+#[tactic(auto, using(crate::proofs::Av1FrontKept::kept_same))]
+fn append_in_parts(
+    out: &mut Vec<u8>,
+    header: u8,
+    extension: &[u8],
+    front: &[u8],
+    back: &[u8],
+) -> Result<(), AllocError>
+    ensures added { OnOk result (out.new.items ≡ out.old.items ++ (if is_kept_type header then canonical (record { header = header; extension = extension.now; payload = front.now ++ back.now }) else [])) }
+    ensures kept { take (length out.old.items) out.new.items ≡ out.old.items }
+{
+    if is_kept(header) {
+        put_canonical(out, header, extension, front, back)?;
+    }
+    Ok(())
+}
+
 /// Adds what the pending bytes and an element behind them give, which have to be exactly one OBU. Nothing is pending then.
+/// The element is copied once, but for an OBU with a size of its own.
 fn append_joined(
     pending: &mut Vec<u8>,
     out: &mut Vec<u8>,
@@ -242,45 +273,73 @@ fn append_joined(
     if pending.is_empty() {
         return append_unit(out, element);
     }
+    if let Some((begun, _)) = obu_of(pending) {
+        if !has_size_bit(begun.header) {
+            append_in_parts(out, begun.header, begun.extension, begun.payload, element)?;
+            pending.clear();
+            return Ok(());
+        }
+    }
     pending.extend_from_slice(element)?;
     append_unit(out, pending)?;
     pending.clear();
     Ok(())
 }
 
-/// Whether an element is left open that so many others follow.
-fn stays_open(goes_on: bool, others: usize) -> bool
-    ensures { result ≡ (goes_on && others == 0) }
+/// Takes an element that ends here: joins it to what is pending, and adds what both give, or drops it where it goes on from
+/// bytes that never came. Nothing is pending then.
+fn take_element(
+    pending: &mut Vec<u8>,
+    out: &mut Vec<u8>,
+    is_orphan: bool,
+    element: &[u8],
+) -> Result<(), PacketError>
+    requires { is_orphan ≡ true → pending.old.items ≡ [] }
+    ensures added { Appends result out.old.items out.new.items (if is_orphan then Some [] else unit_of (pending.old.items ++ element.now)) }
+    ensures kept { take (length out.old.items) out.new.items ≡ out.old.items }
+    ensures emptied { OnOk result (pending.new.items ≡ []) }
 {
-    goes_on && others == 0
+    if is_orphan {
+        return Ok(());
+    }
+    append_joined(pending, out, element)
 }
 
-/// Joins each element to what is pending, and adds it; the last one of a packet that goes on stays pending.
+/// Whether an element under a W of `w` and before these bytes goes on in the next packet.
+fn stays_open(is_orphan: bool, may_go_on: bool, w: u8, rest: &[u8]) -> bool
+    ensures { result ≡ (not is_orphan && may_go_on && nat_lt w 2 && not (is_begun rest.now)) }
+{
+    !is_orphan && may_go_on && w < 2 && rest.is_empty()
+}
+
+/// Takes the elements behind an aggregation header one after another, as they are read; the last one of a packet that goes
+/// on stays pending.
 fn take_elements(
     pending: &mut Vec<u8>,
     out: &mut Vec<u8>,
-    goes_on: bool,
-    elements: &[&[u8]],
+    header: u8,
+    bytes: &[u8],
 ) -> Result<(), PacketError>
-    ensures taken { Takes result out.old.items out.new.items pending.new.items (taken goes_on pending.old.items (now_of elements.now)) }
+    requires { begun_at header pending.old.items ≡ pending.old.items }
+    ensures taken { Takes result out.old.items out.new.items pending.new.items (received pending.old.items (header ∷ bytes.now)) }
     ensures kept { take (length out.old.items) out.new.items ≡ out.old.items }
 {
-    for (i, element) in elements.iter().enumerate() {
-        if stays_open(goes_on, elements.len() - i - 1) {
+    let may_go_on = header & 64 != 0;
+    let mut is_orphan = has_orphan(header, pending);
+    let mut w = (header & 0x30) / 16;
+    let mut rest = bytes;
+    while !rest.is_empty() {
+        let Some((element, after)) = next_element(w, rest) else {
+            return Err(PacketError::ErrAv1CorruptedPacket);
+        };
+        if stays_open(is_orphan, may_go_on, w, after) {
             pending.extend_from_slice(element)?;
             return Ok(());
         }
-        append_joined(pending, out, element)?;
+        take_element(pending, out, is_orphan, element)?;
+        is_orphan = false;
+        w = w_after_one(w);
+        rest = after;
     }
     Ok(())
-}
-
-/// The elements without the first, where that one goes on from bytes that never came.
-fn without_orphan<'a, 'b>(orphan: bool, elements: &'b [&'a [u8]]) -> &'b [&'a [u8]]
-    ensures { now_of result.now ≡ without_orphan orphan (now_of elements.now) }
-{
-    match elements {
-        [_, rest @ ..] if orphan => rest,
-        _ => elements,
-    }
 }

@@ -128,15 +128,35 @@ pub fn is_one_obu(front: &[u8], back: &[u8]) -> bool
     }
 }
 
-/// Writes the canonical form at the end: the size bit set, and the size in as few bytes as it takes.
-#[tactic(auto, using(crate::proofs::Av1FrontKept::kept_more, crate::proofs::Av1FrontKept::kept_same, crate::proofs::Av1FrontKept::kept_trans), unfolding(crate::specs::Av1Obu::canonical))]
-pub fn put_canonical(out: &mut Vec<u8>, obu: &ObuSlices<'_>) -> Result<(), AllocError>
-    ensures written { OnOk result (out.new.items ≡ out.old.items ++ canonical (view obu.now)) }
+/// Writes bytes at the end, of which there are mostly none.
+#[tactic(auto, using(crate::proofs::Av1FrontKept::kept_more, crate::proofs::Av1FrontKept::kept_same))]
+pub fn put_if_any(out: &mut Vec<u8>, bytes: &[u8]) -> Result<(), AllocError>
+    ensures written { OnOk result (out.new.items ≡ out.old.items ++ bytes.now) }
     ensures kept { take (length out.old.items) out.new.items ≡ out.old.items }
 {
-    out.push(obu.header | 2)?;
-    out.extend_from_slice(obu.extension)?;
-    put_number(out, obu.payload.len() as u64)?;
-    out.extend_from_slice(obu.payload)?;
+    if !bytes.is_empty() {
+        out.extend_from_slice(bytes)?;
+    }
+    Ok(())
+}
+
+/// Writes the canonical form of an OBU at the end: the size bit set, and the size in as few bytes as it takes. Its payload is
+/// in two parts.
+#[tactic(auto, using(crate::proofs::Av1FrontKept::kept_more, crate::proofs::Av1FrontKept::kept_same, crate::proofs::Av1FrontKept::kept_trans))]
+pub fn put_canonical(
+    out: &mut Vec<u8>,
+    header: u8,
+    extension: &[u8],
+    front: &[u8],
+    back: &[u8],
+) -> Result<(), AllocError>
+    ensures written { OnOk result (out.new.items ≡ out.old.items ++ canonical (record { header = header; extension = extension.now; payload = front.now ++ back.now })) }
+    ensures kept { take (length out.old.items) out.new.items ≡ out.old.items }
+{
+    out.push(header | 2)?;
+    put_if_any(out, extension)?;
+    put_number(out, front.len() as u64 + back.len() as u64)?;
+    out.extend_from_slice(front)?;
+    put_if_any(out, back)?;
     Ok(())
 }

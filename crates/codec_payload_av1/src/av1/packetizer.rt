@@ -1,18 +1,18 @@
 //! AV1 frames as payloads.
 
-ghost use Rattle.std.specs.Prelude.{◌≡◌, ◌<◌, ◌++◌, ◌∷◌, [], List, length, true, false, Some, OnOk, IfOk, if◌then◌else◌};
+ghost use Rattle.std.specs.Prelude.{◌≡◌, ◌<◌, ◌∷◌, [], true, false, Some, IfOk};
 ghost use Rattle.std.specs.Option.{option_map};
 ghost use Rattle.codec_payload_base.specs.Answers.{packets_of};
-ghost use Rattle.codec_payload_av1.specs.Av1Obu.{Obu, is_kept_type, kept, frame_kept, view};
-ghost use Rattle.codec_payload_av1.specs.Av1Piece.{views};
-ghost use Rattle.codec_payload_av1.specs.Av1Size.{items_of};
+ghost use Rattle.codec_payload_av1.specs.Av1Obu.{kept, frame_kept, view};
+ghost use Rattle.codec_payload_av1.specs.Av1Size.{bytes_sent, items_of};
 ghost use Rattle.codec_payload_av1.specs.Av1Steps.{AnswersAv1, IsLeast, ReachesFurthest};
 
 use crate::av1::obu::{ObuSlices, is_kept, obu_of};
 use crate::av1::packer::pack;
+use crate::av1::piece::Piece;
 use codec_payload_base::error::PacketError;
 use codec_payload_base::interface::Packetizer;
-use std::alloc::{AllocError, Global};
+use std::alloc::Global;
 
 /// Lays the OBUs of AV1 temporal units into payloads (RTP Payload Format for AV1, sections 4.4 and 5). It keeps nothing
 /// between calls.
@@ -49,14 +49,13 @@ impl Packetizer for Av1Packetizer {
         if mtu < 2 {
             return Ok(Vec::new(alloc));
         }
-        let Some(count) = kept_count(b) else {
+        let Some(size) = kept_size(b) else {
             return Err(PacketError::ErrAv1CorruptedPacket);
         };
-        if count == 0 {
+        if size == 0 {
             return Ok(Vec::new(alloc));
         }
-        let obus = kept_obus(alloc, count, b)?;
-        Ok(pack(alloc, mtu, &obus)?)
+        Ok(pack(alloc, mtu, size, b)?)
     }
 
     /// The last packet of a temporal unit is marked (RTP Payload Format for AV1, section 4.2).
@@ -77,48 +76,29 @@ impl Packetizer for Av1Packetizer {
     }
 }
 
-/// Adds an OBU where it is kept.
-fn keep<'a>(obus: &mut Vec<ObuSlices<'a>>, obu: &ObuSlices<'a>) -> Result<(), AllocError>
-    ensures { OnOk result (views obus.new.items ≡ views obus.old.items ++ kept (view obu.now ∷ [])) }
+/// How many bytes packets carry of an OBU: none where it is not kept.
+fn size_where_kept(obu: &ObuSlices<'_>) -> usize
+    ensures { result ≡ bytes_sent (kept (view obu.now ∷ [])) }
 {
     if is_kept(obu.header) {
-        obus.push(*obu)?;
+        Piece::whole(obu).len()
+    } else {
+        0
     }
-    Ok(())
 }
 
-/// 1 for an OBU that is kept, else 0.
-fn one_if_kept(header: u8) -> usize
-    ensures { result ≡ (if is_kept_type header then 1 else 0) }
+/// How many bytes packets carry of a frame, or `None` where it is no sequence of OBUs. It takes no memory.
+fn kept_size(frame: &[u8]) -> Option<usize>
+    ensures { result ≡ option_map bytes_sent (frame_kept frame.now) }
 {
-    if is_kept(header) { 1 } else { 0 }
-}
-
-/// How many OBUs of a frame are kept, or `None` where it is no sequence of OBUs. It takes no memory.
-fn kept_count(frame: &[u8]) -> Option<usize>
-    ensures { result ≡ option_map (λ os. length os) (frame_kept frame.now) }
-{
-    let mut count = 0usize;
+    let mut size = 0usize;
     let mut rest = frame;
     while !rest.is_empty() {
         let Some((obu, after)) = obu_of(rest) else {
             return None;
         };
-        count += one_if_kept(obu.header);
+        size += size_where_kept(&obu);
         rest = after;
     }
-    Some(count)
-}
-
-/// The kept OBUs of a frame that is a sequence of OBUs, in order; so many are kept.
-fn kept_obus(alloc: Global, count: usize, frame: &[u8]) -> Result<Vec<ObuSlices<'_>>, AllocError>
-    ensures { IfOk result (λ v. (os : List Obu) → frame_kept frame.now ≡ Some os → views v.items ≡ os) }
-{
-    let mut obus = Vec::with_capacity(alloc, count)?;
-    let mut rest = frame;
-    while let Some((obu, after)) = obu_of(rest) {
-        keep(&mut obus, &obu)?;
-        rest = after;
-    }
-    Ok(obus)
+    Some(size)
 }

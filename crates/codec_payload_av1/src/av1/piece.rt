@@ -4,7 +4,7 @@ ghost use Rattle.std.specs.Prelude.{◌≡◌, ◌≤◌, ◌++◌, length, take
 ghost use Rattle.codec_payload_av1.specs.Av1Obu.{string, view};
 ghost use Rattle.codec_payload_av1.specs.Av1Piece.{piece_bytes};
 
-use crate::av1::obu::ObuSlices;
+use crate::av1::obu::{ObuSlices, put_if_any};
 use std::alloc::AllocError;
 
 /// A piece of the bytes that payloads carry of an OBU.
@@ -77,7 +77,7 @@ impl<'a> Piece<'a> {
         if let Some(header) = self.header {
             out.push(header)?;
         }
-        out.extend_from_slice(self.extension)?;
+        put_if_any(out, self.extension)?;
         out.extend_from_slice(self.payload)?;
         Ok(())
     }

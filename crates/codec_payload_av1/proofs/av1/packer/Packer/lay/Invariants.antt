@@ -1,8 +1,8 @@
 use Rattle.std.proofs.Common.{◌≡◌, ℕ, ◌+◌, ◌<◌, ◌≤◌, List, [], ◌∷◌, ◌++◌, length}
 use Rattle.codec_payload_av1.specs.Av1Obu.{string, view}
-use Rattle.codec_payload_av1.specs.Av1Size.{packet_size, leb_len, lengths}
-use Rattle.codec_payload_av1.specs.Av1Piece.{piece_bytes, plans_of}
-use Rattle.codec_payload_av1.specs.Av1Laying.{Lays}
+use Rattle.codec_payload_av1.specs.Av1Size.{packet_size, leb_len, lengths, items_of}
+use Rattle.codec_payload_av1.specs.Av1Piece.{piece_bytes}
+use Rattle.codec_payload_av1.specs.Av1Laying.{LaysWritten}
 use Rattle.codec_payload_av1.proofs.av1.packer.Packer.lay.Given as goal
 
 abbrev pub invariant-loop-room : goal.invariant-loop-room
@@ -12,8 +12,8 @@ invariant-loop-room l = record {
   most : l.self.opened.mtu < packet_size leb_len (lengths l.self.opened.elements ++ (l.room + 1) ∷ []);
   some : 0 < length (piece_bytes l.rest);
   kept : (l.self.opened.mtu ≡ l.fn.self.opened.mtu) × (l.self.starts ≡ l.fn.self.starts);
-  laid : (before : List (List ℕ)) → Lays l.fn.self.starts before [] (plans_of l.fn.self.plans.items) l.fn.self.continues l.fn.self.opened
-      → (partial : List ℕ) × (partial ++ piece_bytes l.rest ≡ string (view l.obu)) × Lays l.self.starts before partial (plans_of l.self.plans.items) l.self.continues l.self.opened;
+  laid : (before : List (List ℕ)) → LaysWritten l.fn.self.starts before [] (items_of l.fn.self.packets.items) l.fn.self.continues l.fn.self.opened
+      → (partial : List ℕ) × (partial ++ piece_bytes l.rest ≡ string (view l.obu)) × LaysWritten l.self.starts before partial (items_of l.self.packets.items) l.self.continues l.self.opened;
 }
 
 abbrev pub decreases-loop-room : goal.decreases-loop-room

@@ -1,0 +1,65 @@
+#!/bin/bash
+# Times the library's calls beside copying the same payloads into fresh Vecs, and prints tables of nanoseconds and ratios.
+#
+#   scripts/bench.sh                 builds crates/payload_bench and runs all its cases
+#   scripts/bench.sh OTHER [WORD]    beside another build of that program, as one of an older state; WORD: the cases with it in
+#                                    their names alone
+#
+# Each number is the least of ROUNDS rounds of REPEATS repeats; both builds take turns. A ratio to a copy says how much more
+# a call takes than asking for the memory of the payloads and copying their bytes. It needs rt, and some five minutes.
+set -eu
+cd "$(dirname "$0")/../crates/payload_bench"
+rounds=${ROUNDS:-5} repeats=${REPEATS:-20} mtu=${MTU:-1200}
+other=${1:-} word=${2:-}
+results=$(mktemp)
+trap 'rm -f "$results"' EXIT
+
+rt run > /dev/null 2> "$results" || { cat "$results"; exit 1; }
+: > "$results"
+
+# So many calls that a repeat takes about a millisecond or more.
+times_of() {
+    case $1 in
+        buffer-64/reverse) echo 20 ;;
+        buffer-512/reverse) echo 3 ;;
+        buffer-4096/reverse) echo 1 ;;
+        buffer-*) echo 2000 ;;
+        *-200k/*) echo 60 ;;
+        *-20k/*) echo 600 ;;
+        *-1k/*) echo 6000 ;;
+        *) echo 20000 ;;
+    esac
+}
+
+for _ in $(seq "$rounds"); do
+    for case in $(out/payload_bench | grep -F -- "$word"); do
+        printf 'now\t%s\n' "$(out/payload_bench "$case" "$(times_of "$case")" "$repeats" "$mtu")" >> "$results"
+        if [ -n "$other" ]; then
+            printf 'other\t%s\n' "$("$other" "$case" "$(times_of "$case")" "$repeats" "$mtu")" >> "$results"
+        fi
+    done
+done
+
+awk -F'\t' -v with_other="$other" '
+    { key = $1 "\t" $2
+      if (!(key in least) || $3 < least[key]) least[key] = $3
+      if ($1 == "now" && !($2 in seen)) { seen[$2] = 1; order[++count] = $2 } }
+    END {
+        printf "| case | ns a frame | over a copy |"
+        if (with_other) printf " other, ns | over the other |"
+        printf "\n|---|---|---|"
+        if (with_other) printf "---|---|"
+        printf "\n"
+        for (i = 1; i <= count; i++) {
+            split(order[i], part, "/")
+            ns = least["now\t" order[i]]
+            copy = least["now\t" part[1] "/copy"]
+            ratio = (copy > 0 && part[2] != "copy") ? sprintf("%.2f", ns / copy) : ""
+            printf "| %s | %s | %s |", order[i], ns, ratio
+            if (with_other) {
+                was = least["other\t" order[i]]
+                printf " %s | %s |", was, (was > 0) ? sprintf("%.2f", ns / was) : ""
+            }
+            printf "\n"
+        }
+    }' "$results"
