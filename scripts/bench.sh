@@ -22,7 +22,7 @@ times_of() {
     case $1 in
         buffer-64/reverse) echo 20 ;;
         buffer-512/reverse) echo 3 ;;
-        buffer-4096/reverse) echo 1 ;;
+        buffer-4096/reverse | buffer-65536/reverse) echo 1 ;;
         buffer-*) echo 2000 ;;
         *-200k/*) echo 60 ;;
         *-20k/*) echo 600 ;;

@@ -14,15 +14,15 @@ use std::time::Clock;
 /// frame whose end never comes, so that there is nothing to take.
 pub const ORDERS: [&str; 4] = ["in-order", "jitter", "reverse", "waiting"];
 
-/// How many packets are held. A buffer of `new` holds no more than the last of these.
-pub const HELD: [u64; 3] = [64, 512, 4_096];
+/// How many packets are held.
+pub const HELD: [u64; 4] = [64, 512, 4_096, 65_536];
 
-/// A buffer that waits for nothing.
+/// A buffer that holds the most of these, and waits for nothing.
 fn buffer_of(alloc: Global, codec: Codec) -> Result<DepacketizingBuffer, PacketError> {
     let Some(depack) = CodecDepacketizer::from_codec(alloc, codec) else {
         return Err(PacketError::ErrShortPacket);
     };
-    Ok(DepacketizingBuffer::new(alloc, depack, 0))
+    Ok(DepacketizingBuffer::with_limit(alloc, depack, 0, 65_536))
 }
 
 /// What is known of the packet of that number.
