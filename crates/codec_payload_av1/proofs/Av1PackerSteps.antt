@@ -86,10 +86,6 @@ pub some_room : (es : List (List ℕ)) (room mtu : ℕ) → packet_size leb_len 
 some_room es zero mtu fits most = absurd (omega (arith, fits, most))
 some_room es (suc room) mtu fits most = omega arith
 
--- no strings are sent in no packets
-pub sent_none : (mtu : ℕ) (starts : Bool) → Sent mtu starts [] []
-sent_none mtu starts = record { stands = (refl, refl); nonempty = tt; within = tt; full = tt; first = tt }
-
 -- ---- a payload inside a string
 
 -- the payload of one element that goes on from the payload before and in the next

@@ -91,12 +91,6 @@ one_sent : (b : Bool) (o : Obu) → is_kept_type o.header ≡ b → bytes_sent (
 one_sent true o is = rw is (omega arith)
 one_sent false o is = rw is refl
 
-pub sent_where_kept : (o : Obu) → is_kept_type o.header ≡ true → bytes_sent (kept (o ∷ [])) ≡ length (string o)
-sent_where_kept o is = one_sent true o is
-
-pub sent_where_dropped : (o : Obu) → is_kept_type o.header ≡ false → bytes_sent (kept (o ∷ [])) ≡ 0
-sent_where_dropped o is = one_sent false o is
-
 at_most_string : (b : Bool) (o : Obu) → is_kept_type o.header ≡ b → bytes_sent (kept (o ∷ [])) ≤ length (string o)
 at_most_string true o is = omega (arith, one_sent true o is)
 at_most_string false o is = omega (arith, one_sent false o is)

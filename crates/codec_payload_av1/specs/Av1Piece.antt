@@ -1,11 +1,6 @@
 -- Parts of OBUs that lie in the memory of a frame.
 use Rattle.std.specs.Prelude.{ℕ, List, [], ◌∷◌, ◌++◌, Option, Some, None, map}
-use Rattle.codec_payload_av1.specs.declared.av1.obu.ObuSlices.{ObuSlices}
 use Rattle.codec_payload_av1.specs.declared.av1.piece.Piece.{Piece}
-use Rattle.codec_payload_av1.specs.Av1Obu.{Obu, view}
-
-abbrev pub views : List ObuSlices → List Obu
-views os = map view os
 
 abbrev pub header_bytes : Option ℕ → List ℕ
 header_bytes None = []
