@@ -3,3 +3,4 @@ pub mod RedHistory
 pub mod RedLevels
 pub mod RedPayload
 pub mod RedReading
+pub mod RedRecovery
