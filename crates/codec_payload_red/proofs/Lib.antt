@@ -4,5 +4,7 @@ pub mod EncoderLoopLemmas
 pub mod LongestLevelsLemmas
 pub mod RedGrammarLemmas
 pub mod ReceiverLoopLemmas
+pub mod RedRunExamples
+pub mod RedRunLemmas
 pub mod SenderHistoryLemmas
 pub mod SenderOutputLemmas

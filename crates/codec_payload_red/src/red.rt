@@ -13,5 +13,5 @@ mod sender;
 pub use blocks::{
     RedBlock, RedDecoder, RedEncoder, RedundantBlock, SamePtBlocks, red_same_pt_blocks,
 };
-pub use receiver::{Recovered, RedReceiver};
+pub use receiver::{Recovered, RedReceiver, recovered_were_sent};
 pub use sender::{MAX_RED_RECOVERY_DEPTH, RedSender, constants_of_red};

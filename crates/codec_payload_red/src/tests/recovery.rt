@@ -1,7 +1,7 @@
 //! The worked examples of recovery, and what comes where memory is refused.
 
+use super::{found, sender_of_four, wrapped};
 use crate::red::{Recovered, RedReceiver};
-use crate::tests::found;
 use codec_payload_base::error::PacketError;
 use codec_payload_base::wire::SeqNo;
 use std::alloc::Global;
@@ -127,6 +127,22 @@ fn times_pass_zero_and_numbers_do_not(rt: HostRuntime) -> Result<(), Fail> {
         below_zero.as_slice(),
         [primary(5, 899, &[0xaa])].as_slice()
     );
+    Ok(())
+}
+
+/// Of five packets, numbered from 10 and 960 ticks apart, the fifth repeats the first one before it and the third.
+#[test]
+fn what_a_sender_repeats_is_recovered(rt: HostRuntime) -> Result<(), Fail> {
+    let alloc = rt.alloc();
+    let mut sender = sender_of_four(alloc)?;
+    let fifth = wrapped(alloc, &mut sender, &[0x2a], 3_840, 1_200)?;
+    let packets = recovered(alloc, 111, 960, 14, 3_840, &fifth)?;
+    let want = [
+        older(11, 960, &[1]),
+        older(13, 2_880, &[3]),
+        primary(14, 3_840, &[0x2a]),
+    ];
+    assert_eq!(rt; packets.as_slice(), want.as_slice());
     Ok(())
 }
 
