@@ -46,6 +46,8 @@ pub use Rattle.codec_payload_red.specs.RedHistory
 pub use Rattle.codec_payload_red.specs.RedLevels
 pub use Rattle.codec_payload_red.specs.RedPayload
 pub use Rattle.codec_payload_red.specs.RedReading
+pub use Rattle.codec_payload_red.specs.RedRecovery
+pub use Rattle.codec_payload_red.specs.RedRun
 pub use Rattle.codec_payload_buffer.specs.Buffer
 pub use Rattle.codec_payload_buffer.specs.BufferExamples
 pub use Rattle.codec_payload_buffer.specs.ContiguityTable

@@ -3,5 +3,8 @@ pub mod EncodeDecodeLemmas
 pub mod EncoderLoopLemmas
 pub mod LongestLevelsLemmas
 pub mod RedGrammarLemmas
+pub mod ReceiverLoopLemmas
+pub mod RedRunExamples
+pub mod RedRunLemmas
 pub mod SenderHistoryLemmas
 pub mod SenderOutputLemmas

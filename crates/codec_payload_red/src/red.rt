@@ -3,12 +3,15 @@
 //! A payload is a row of headers with the blocks behind it, in the order of their headers. The primary block is the
 //! packet's own media and comes last; the others are redundant, each as many ticks of the RTP clock older as its
 //! timestamp offset says. [`RedEncoder`] writes such payloads and [`RedDecoder`] reads them; [`RedSender`] remembers
-//! what was sent and wraps each new payload with some of it.
+//! what was sent and wraps each new payload with some of it. [`RedReceiver`] finds the packets that a payload holds, so
+//! also those that were lost and stand in the payload of a later one.
 
 mod blocks;
+mod receiver;
 mod sender;
 
 pub use blocks::{
     RedBlock, RedDecoder, RedEncoder, RedundantBlock, SamePtBlocks, red_same_pt_blocks,
 };
+pub use receiver::{Recovered, RedReceiver, recovered_were_sent};
 pub use sender::{MAX_RED_RECOVERY_DEPTH, RedSender, constants_of_red};

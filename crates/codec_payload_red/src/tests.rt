@@ -3,6 +3,8 @@
 ghost use Rattle.std.specs.Prelude.{IsTrue};
 ghost use Rattle.codec_payload_red.specs.RedLevels.{is_accepted};
 
+mod recovery;
+
 use crate::red::{
     MAX_RED_RECOVERY_DEPTH, RedBlock, RedDecoder, RedEncoder, RedSender, RedundantBlock,
     red_same_pt_blocks,

@@ -14,7 +14,7 @@ use std::alloc::{AllocError, Global};
 use std::marker::Model;
 
 /// The greatest timestamp offset that 14 bits hold, in ticks of the RTP clock.
-const MAX_OFFSET: u32 = 16_383;
+pub(crate) const MAX_OFFSET: u32 = 16_383;
 
 /// The greatest block length that 10 bits hold, in bytes.
 const MAX_BLOCK_LEN: usize = 1_023;

@@ -1,0 +1,168 @@
+//! The receiver of RED payloads, which finds lost media in the payloads of later packets (RFC 2198, section 3).
+
+ghost use Rattle.std.specs.Prelude.{◌≡◌, ◌%◌, ◌<◌, ◌≤◌, ◌↔◌, IsSome, IfSome, IfOk, MatchResult, map};
+ghost use Rattle.std.specs.List.{filter_map};
+ghost use Rattle.codec_payload_base.specs.Answers.{Finds};
+ghost use Rattle.codec_payload_red.specs.RedReading.{red_at};
+ghost use Rattle.codec_payload_red.specs.RedBlocks.{Fails, block_of, blocks_of};
+ghost use Rattle.codec_payload_red.specs.RedRecovery.{recovered_from, packet_of, Recovers};
+ghost use Rattle.codec_payload_red.specs.RedRun.{RecoversSent};
+
+use crate::red::blocks::{MAX_OFFSET, RedBlock, RedDecoder};
+use crate::red::sender::MAX_RED_RECOVERY_DEPTH;
+use codec_payload_base::error::PacketError;
+use codec_payload_base::wire::SeqNo;
+use std::alloc::{AllocError, Global};
+use std::marker::Model;
+
+/// A packet that the payload of a packet holds: that packet itself, or one that was sent before it. It borrows its bytes
+/// from the payload.
+#[derive(Clone, Debug, PartialEq, Eq, Drop)]
+pub struct Recovered<'a> {
+    /// The number of the packet.
+    pub seq_no: SeqNo,
+    /// The RTP time of the packet, in ticks of the RTP clock, modulo 2^32.
+    pub rtp_time: u32,
+    /// The media, as it was before it was put in RED: at most 1,023 bytes of an earlier packet, any number of the packet
+    /// itself.
+    pub payload: &'a [u8],
+    /// Whether this is the packet itself whose payload was read.
+    pub is_primary: bool,
+}
+
+/// Finds the packets that a RED payload holds, of a stream whose packets are a fixed step of RTP time apart.
+///
+/// A redundant block says how many ticks of the RTP clock older it is, and not which number it had (RFC 2198, section 3),
+/// so the number is told by the step: a receiver whose step is another than the sender's gives wrong numbers, or none.
+/// With 48 kHz and packets of 20 milliseconds the step is 960.
+#[derive(Clone, Copy, Debug, PartialEq, Eq)]
+pub struct RedReceiver {
+    primary_pt: u8,
+    step: u32,
+}
+
+impl Model for RedReceiver {
+    ghost use Rattle.std.specs.Prelude.{◌<◌, ◌≤◌};
+    ghost use Rattle.codec_payload_red.specs.RedRecovery.{Receiver};
+
+    ghost Value = { Receiver };
+
+    ghost view = { λ r. record { primary_pt = r.primary_pt; step = r.step } };
+
+    ghost inverse = { λ r. record { primary_pt = r.primary_pt; step = r.step } };
+
+    ghost invariant = { λ r. (0 < r.step) × (r.step ≤ 16383) × (r.primary_pt < 128) };
+}
+
+impl RedReceiver {
+    /// A receiver of blocks of the payload type `primary_pt`, whose low 7 bits count, of packets that are `step` ticks of
+    /// the RTP clock apart. `None` for a step of 0, and for one above 16,383, the greatest offset of a block. It takes no
+    /// memory.
+    pub fn new(primary_pt: u8, step: u32) -> Option<Self>
+        ensures some { IsSome result ↔ ((0 < step) × (step ≤ 16383)) }
+        ensures value { IfSome result (λ r. r ≡ record { primary_pt = primary_pt % 128; step = step }) }
+    {
+        if step == 0 || step > MAX_OFFSET {
+            return None;
+        }
+        Some(RedReceiver {
+            primary_pt: primary_pt % 128,
+            step,
+        })
+    }
+
+    /// The payload type of the blocks that count, from 0 to 127.
+    pub fn primary_pt(&self) -> u8
+        ensures { result ≡ self.now.primary_pt }
+    {
+        self.primary_pt
+    }
+
+    /// The packet that a block is, if it is one.
+    fn recover_block<'a>(
+        &self,
+        seq_no: SeqNo,
+        rtp_time: u32,
+        block: &RedBlock<'a>,
+    ) -> Option<Recovered<'a>>
+        ensures { Finds packet_of result (recovered_from self.now seq_no.0 rtp_time (block_of block.now)) }
+    {
+        if block.pt != self.primary_pt {
+            return None;
+        }
+        if block.is_primary {
+            return Some(Recovered {
+                seq_no,
+                rtp_time,
+                payload: block.payload,
+                is_primary: true,
+            });
+        }
+        let offset = block.timestamp_offset;
+        let back = u64::from(offset / self.step);
+        if offset == 0 || offset % self.step != 0 || back > MAX_RED_RECOVERY_DEPTH {
+            return None;
+        }
+        Some(Recovered {
+            seq_no: SeqNo(seq_no.0.checked_sub(back)?),
+            rtp_time: rtp_time.wrapping_sub(offset),
+            payload: block.payload,
+            is_primary: false,
+        })
+    }
+
+    /// The packets that the blocks are, in order.
+    fn recover_blocks<'a>(
+        &self,
+        alloc: Global,
+        seq_no: SeqNo,
+        rtp_time: u32,
+        blocks: &[RedBlock<'a>],
+    ) -> Result<Vec<Recovered<'a>>, AllocError>
+        ensures { IfOk result (λ v. map packet_of v.items ≡ filter_map (recovered_from self.now seq_no.0 rtp_time) (blocks_of blocks.now)) }
+    {
+        let mut found = Vec::new(alloc);
+        for block in blocks {
+            if let Some(packet) = self.recover_block(seq_no, rtp_time, block) {
+                found.push(packet)?;
+            }
+        }
+        Ok(found)
+    }
+
+    /// The packets that the payload of the packet with that number and RTP time holds, in payload order, so that packet
+    /// itself is last. Each borrows its bytes from the payload; nothing is copied, and the receiver remembers nothing: a
+    /// packet that came already, or was recovered before, is answered again (RFC 2198, section 3).
+    ///
+    /// A redundant block of the receiver's payload type is the packet as many numbers back as its timestamp offset has
+    /// steps, with an RTP time by the offset less, modulo 2^32. It is passed over where the offset is 0 or no multiple of
+    /// the step, where it goes back more than [`MAX_RED_RECOVERY_DEPTH`] steps, and where it goes below number 0. The
+    /// primary block is the packet itself, where it has the type. So the answer has at most 33 packets, and may be empty.
+    ///
+    /// Fault 14, `ErrRedCorruptedPacket`, comes where the payload is no RED payload, exactly as for
+    /// [`RedDecoder::decode`], and no memory is asked for then. Fault 17, `OutOfMemory`, comes where the list of blocks
+    /// or the list of packets of a RED payload finds no memory.
+    pub fn recover<'a>(
+        &self,
+        alloc: Global,
+        seq_no: SeqNo,
+        rtp_time: u32,
+        payload: &'a [u8],
+    ) -> Result<Vec<Recovered<'a>>, PacketError>
+        ensures { MatchResult result (λ v. Recovers self.now seq_no.0 rtp_time (red_at payload.now) (map packet_of v.items)) (λ e. Fails e (red_at payload.now)) }
+    {
+        let blocks = RedDecoder::decode(alloc, payload)?;
+        Ok(self.recover_blocks(alloc, seq_no, rtp_time, &blocks)?)
+    }
+}
+
+/// What is recovered was sent. Let a new sender wrap payloads whose RTP times are a fixed step of 1 to 16,383 ticks apart,
+/// modulo 2^32, each shorter than the budget, and let the packets be numbered one by one. A receiver of the sender's primary
+/// type and of that step is handed what the sender made of one packet, with that packet's number and RTP time. Then it
+/// answers that packet, last, and before it just those earlier ones whose payload stands in a level that the budget left to
+/// it, each with the number, the RTP time and the payload that it was sent with.
+///
+/// No step of 0 is granted: packets of one RTP time, as those of a frame that was cut, have one offset for several numbers.
+pub fn recovered_were_sent()
+    ensures { RecoversSent }
+{}
