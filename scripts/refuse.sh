@@ -1,20 +1,31 @@
 #!/bin/sh
-# Refuses each allocation of the program payload_vectors in turn, as it runs on its stored input and on one input of each
-# other codec, VP8 with and without picture ids and VP9 in both modes, and checks what then comes: the whole output, with
-# status 0 and nothing on standard error, or nothing but the line `out of memory` on standard error, with status 1. The
-# first comes where std asks for room ahead of need and, refused, asks again when it stores. Needs rt and a C compiler, $CC
+# Refuses each allocation of the library's calls in turn, and checks what then comes. Two programs are run:
+#
+# - `payload_vectors`, on its stored input and on one input of each other codec: it gives the whole output with status 0, or
+#   nothing but the line `out of memory` on standard error, with status 1.
+# - `payload_hostile`, once for each call that takes memory: it prints the full right answer, or fault 17, and how things
+#   stand after it, which the table below has for both. Where memory is refused to it before or after the call, it prints
+#   nothing, with status 3.
+#
+# The full answer comes also where std asks for room ahead of need and, refused, asks again when it stores. The last line says
+# how many refusals were tried and how many went as promised; the status is 0 where all did. Needs rt and a C compiler, $CC
 # or cc, for a C library that takes LD_PRELOAD.
 set -eu
 
 root=$(cd "$(dirname "$0")/.." && pwd)
-crate=$root/crates/payload_vectors
+vectors=$root/crates/payload_vectors
+hostile=$root/crates/payload_hostile
 work=$(mktemp -d)
 trap 'rm -rf "$work"' EXIT
 
-(cd "$crate" && rt run <stdin >"$work/built" 2>"$work/messages") || {
-    cat "$work/messages" >&2
-    exit 1
-}
+for crate in "$vectors" "$hostile"; do
+    (cd "$crate" && rt run <stdin >"$work/built" 2>"$work/messages") || {
+        cat "$work/messages" >&2
+        exit 1
+    }
+done
+tried=0
+promised=0
 
 cat >"$work/refuse.c" <<'END'
 /* Answers the allocation of number $REFUSE, from 1, with no memory, and then writes a byte to descriptor 9. */
@@ -74,10 +85,10 @@ END
 printf 'out of memory\n' >"$work/told"
 : >"$work/nothing"
 
-# Runs the program on $input with allocation $1 refused.
+# Runs $program on $input with allocation $1 refused.
 run_refusing() {
     status=0
-    LD_PRELOAD=$work/refuse.so REFUSE=$1 "$crate/out/payload_vectors" \
+    LD_PRELOAD=$work/refuse.so REFUSE=$1 "$program" \
         <"$input" >"$work/output" 2>"$work/errors" 9>"$work/refused" || status=$?
 }
 
@@ -86,18 +97,35 @@ ended_with() {
     cmp -s "$work/output" "$1" && cmp -s "$work/errors" "$2" && [ "$status" -eq "$3" ]
 }
 
-# Refuses each allocation of a run on the input $1, whose whole output is $2. $3 is what the run is called.
+# Notes that the refusal of number $2 of $1 went otherwise than promised, or that the run with all memory did.
+other_than_promised() {
+    echo "$1: allocation $2 refused: status $status, and not as promised"
+    cat "$work/output" "$work/errors"
+}
+
+# Whether no refusal of $1 was told, which cannot be.
+none_told() {
+    [ "$told" -gt 0 ] || {
+        echo "$1: no refused allocation was told"
+        exit 1
+    }
+}
+
+# Refuses each allocation of a run of payload_vectors on the input $1, whose whole output is $2. $3 is what the run is called.
 refuse_each() {
+    program=$vectors/out/payload_vectors
     input=$1
     number=1
     told=0
     while run_refusing "$number" && [ -s "$work/refused" ]; do
+        tried=$((tried + 1))
         if ended_with "$work/nothing" "$work/told" 1; then
             told=$((told + 1))
-        elif ! ended_with "$2" "$work/nothing" 0; then
-            echo "$3: allocation $number refused: status $status, and not as promised"
-            cat "$work/output" "$work/errors"
-            exit 1
+            promised=$((promised + 1))
+        elif ended_with "$2" "$work/nothing" 0; then
+            promised=$((promised + 1))
+        else
+            other_than_promised "$3" "$number"
         fi
         number=$((number + 1))
     done
@@ -105,11 +133,43 @@ refuse_each() {
         echo "$3: with no allocation refused the program fails: status $status"
         exit 1
     fi
-    if [ "$told" -eq 0 ]; then
-        echo "$3: no refused allocation was told"
+    none_told "$3"
+    echo "$3: $((number - 1)) allocations refused"
+}
+
+# Refuses each allocation of the call $1, which prints $2 with all memory, and one of the lines of $3, which are joined by
+# `|`, where it answers fault 17.
+refuse_call() {
+    program=$hostile/out/payload_hostile
+    input=$work/input
+    echo "$1" >"$input"
+    number=1
+    told=0
+    while run_refusing "$number" && [ -s "$work/refused" ]; do
+        tried=$((tried + 1))
+        line=$(cat "$work/output")
+        case "$status|$3|" in
+        "3"*) as_promised=$([ -s "$work/output" ] || echo yes) ;;
+        "0"*"|$line|"*)
+            as_promised=yes
+            told=$((told + 1))
+            ;;
+        *) as_promised=$([ "$status|$line" != "0|$2" ] || echo yes) ;;
+        esac
+        if [ "$as_promised" ]; then
+            promised=$((promised + 1))
+        else
+            other_than_promised "$1" "$number"
+        fi
+        number=$((number + 1))
+    done
+    if [ "$status|$(cat "$work/output")" != "0|$2" ]; then
+        echo "$1: with no allocation refused the call fails: status $status"
+        cat "$work/output"
         exit 1
     fi
-    echo "$3: $((number - 1)) allocations refused, all as promised"
+    none_told "$1"
+    echo "$1: $((number - 1)) allocations refused, $told of them told by the call"
 }
 
 # A run of the codec $1: one sample with the bytes $2, sent at an MTU of $3; the packets up to index $4 are pushed, the
@@ -126,7 +186,7 @@ refuse_codec() {
         done
         echo pop
     } >"$work/input"
-    "$crate/out/payload_vectors" <"$work/input" >"$work/whole"
+    "$vectors/out/payload_vectors" <"$work/input" >"$work/whole"
     if ! tail -n 1 "$work/whole" | grep -q '^unit '; then
         echo "$1: no unit"
         exit 1
@@ -134,7 +194,7 @@ refuse_codec() {
     refuse_each "$work/input" "$work/whole" "$1"
 }
 
-refuse_each "$crate/stdin" "$crate/stdout" "stored run"
+refuse_each "$vectors/stdin" "$vectors/stdout" "stored run"
 refuse_codec cn 2a8040 1200 0
 refuse_codec amrwb 4c5a5a5a5a5a 1200 0
 refuse_codec amrwb-octet 4c5a5a5a5a5a 1200 0
@@ -145,3 +205,63 @@ refuse_codec vp9 824983 10 1
 refuse_codec vp9-flex 824983 5 1
 refuse_codec av1 12000a01aa3202bbcc 3 2
 refuse_codec null 909090 0 0
+
+# Each call, what it prints with all memory, and what it may print after fault 17. `packetize` cuts a frame twice, and
+# `depacketize` reads a payload twice, behind those before it; each of the others is told in the program's sources. Of what
+# stands behind "then" all memory is found.
+while IFS='|' read -r name whole after; do
+    refuse_call "$name" "$whole" "$after"
+done <<'END'
+packetize opus|packetize 9090 90, then 9090 90|packetize fault 17, then 9090 90
+packetize pcmu|packetize 9090 90, then 9090 90|packetize fault 17, then 9090 90
+packetize g722|packetize 9090 90, then 9090 90|packetize fault 17, then 9090 90
+packetize cn|packetize 2a8040, then 2a8040|packetize fault 17, then 2a8040
+packetize amrwb|packetize f740, then f740|packetize fault 17, then f740
+packetize amrwb-octet|packetize f074, then f074|packetize fault 17, then f074
+packetize tele|packetize 058a0320060a0140, then 058a0320060a0140|packetize fault 17, then 058a0320060a0140
+packetize vp8|packetize 1090 0090 0090, then 1090 0090 0090|packetize fault 17, then 1090 0090 0090
+packetize vp8-id|packetize 9080209090 80802090, then 9080219090 80802190|packetize fault 17, then 9080209090 80802090
+packetize vp9|packetize aa92341001008249 a49234100183, then aa92351002008249 a49235100283|packetize fault 17, then aa92341001008249 a49234100183
+packetize vp9-flex|packetize 9892348249 94923483, then 9892358249 94923583|packetize fault 17, then 9892348249 94923483
+packetize av1|packetize 1808aa 5030bb 90cc, then 1808aa 5030bb 90cc|packetize fault 17, then 1808aa 5030bb 90cc
+packetize null|packetize 909090, then 909090|packetize fault 17, then 909090
+depacketize opus|depacketize ok 909090, then 90909090|depacketize fault 17 9090, then 909090
+depacketize pcmu|depacketize ok 909090, then 90909090|depacketize fault 17 9090, then 909090
+depacketize g722|depacketize ok 909090, then 90909090|depacketize fault 17 9090, then 909090
+depacketize cn|depacketize ok 2a8040, then 2a80402a8040|depacketize fault 17 -, then 2a8040
+depacketize amrwb|depacketize ok 74, then 7474|depacketize fault 17 -, then 74
+depacketize amrwb-octet|depacketize ok 74, then 7474|depacketize fault 17 -, then 74
+depacketize tele|depacketize ok 058a0320, then 058a0320058a0320|depacketize fault 17 -, then 058a0320
+depacketize vp8|depacketize ok 909090, then 90909090|depacketize fault 17 9090, then 909090
+depacketize vp8-id|depacketize ok 909090, then 90909090|depacketize fault 17 9090, then 909090
+depacketize vp9|depacketize ok 824983, then 82498383|depacketize fault 17 8249, then 824983
+depacketize vp9-flex|depacketize ok 824983, then 82498383|depacketize fault 17 8249, then 824983
+depacketize av1|depacketize ok 0a01aa3202bbcc, then 0a01aa3202bbcc|depacketize fault 17 0a01aa, then 0a01aa
+depacketize null|depacketize ok 909090, then 909090909090|depacketize fault 17 -, then 909090
+pop opus|pop unit 0 0 1 9090 held 1 ready 1, then unit 1 1 1 90|pop fault 17 held 2 ready 2, then unit 0 0 1 9090 unit 1 1 1 90
+pop pcmu|pop unit 0 0 1 9090 held 1 ready 1, then unit 1 1 1 90|pop fault 17 held 2 ready 2, then unit 0 0 1 9090 unit 1 1 1 90
+pop g722|pop unit 0 0 1 9090 held 1 ready 1, then unit 1 1 1 90|pop fault 17 held 2 ready 2, then unit 0 0 1 9090 unit 1 1 1 90
+pop cn|pop unit 0 0 1 2a8040 held 0 ready 0, then|pop fault 17 held 1 ready 1, then unit 0 0 1 2a8040
+pop amrwb|pop unit 0 0 1 74 held 0 ready 0, then|pop fault 17 held 1 ready 1, then unit 0 0 1 74
+pop amrwb-octet|pop unit 0 0 1 74 held 0 ready 0, then|pop fault 17 held 1 ready 1, then unit 0 0 1 74
+pop tele|pop unit 0 0 1 058a0320 held 0 ready 0, then|pop fault 17 held 1 ready 1, then unit 0 0 1 058a0320
+pop vp8|pop unit 0 2 1 909090 held 0 ready 0, then|pop fault 17 held 3 ready 1, then unit 0 2 1 909090
+pop vp8-id|pop unit 0 1 1 909090 held 0 ready 0, then|pop fault 17 held 2 ready 1, then unit 0 1 1 909090
+pop vp9|pop unit 0 1 1 824983 held 0 ready 0, then|pop fault 17 held 2 ready 1, then unit 0 1 1 824983
+pop vp9-flex|pop unit 0 1 1 824983 held 0 ready 0, then|pop fault 17 held 2 ready 1, then unit 0 1 1 824983
+pop av1|pop unit 0 2 1 0a01aa3202bbcc held 0 ready 0, then|pop fault 17 held 3 ready 1, then unit 0 2 1 0a01aa3202bbcc
+pop null|pop unit 0 0 1 909090 held 0 ready 0, then|pop fault 17 held 1 ready 1, then unit 0 0 1 909090
+pop-passing-over|pop unit 3 3 1 01 held 0 ready 0, then|pop fault 17 held 2 ready 2, then unit 3 3 1 01|pop fault 17 held 1 ready 1, then unit 3 3 1 01
+push|push ok held 5 ready 1, then unit 1 5 1 9091919192|push fault 17 held 4 ready 0, then unit 1 5 1 9091919192
+push-evicting|push ok held 4 ready 4, then unit 2 2 0 90 unit 3 3 1 90 unit 4 4 1 90 unit 5 5 1 91|push fault 17 held 4 ready 4, then unit 1 1 1 90 unit 2 2 1 90 unit 3 3 1 90 unit 4 4 1 90
+encode|encode e00f0002600909010203|encode fault 17
+decode|decode 96 960 0909 96 0 010203|decode fault 17
+wrap|wrap ef2d0001ef0f00016f01032a, then ef2d0001ef0f00016f022a2b|wrap fault 17, then ef3c0001ef1e00016f01032b
+memory-sink-send|send ok 1: 0102, next 2|send fault 17, next 1
+red-sink-send|send ok, then 1: 6f0102 2: ef0f00026f010203|send fault 17, then 1: 6f03|send fault 17, then 1: ef0f00026f010203
+push-sample|push_sample ok 1: 90802090 2: 80802091 3: 80802092 4: 80802093 5: 80802094, then 1: 90802090 2: 80802091 3: 80802092 4: 80802093 5: 80802094 6: 90802195|push_sample fault 17, then 1: 90802095|push_sample fault 17, then 1: 90802195|push_sample fault 17 1: 90802090, then 1: 90802090 2: 90802195|push_sample fault 17 1: 90802090 2: 80802091, then 1: 90802090 2: 80802091 3: 90802195|push_sample fault 17 1: 90802090 2: 80802091 3: 80802092, then 1: 90802090 2: 80802091 3: 80802092 4: 90802195|push_sample fault 17 1: 90802090 2: 80802091 3: 80802092 4: 80802093, then 1: 90802090 2: 80802091 3: 80802092 4: 80802093 5: 90802195
+run-schedule|run unit 10 10 1 9090 unit 11 11 1 91 none 10: 9090 11: 91 held 0 ready 0, then|run fault 17 held 0 ready 0, then|run fault 17 10: 9090 held 0 ready 0, then|run fault 17 10: 9090 11: 91 held 0 ready 0, then|run fault 17 10: 9090 11: 91 held 1 ready 1, then unit 10 10 1 9090|run fault 17 10: 9090 11: 91 held 2 ready 2, then unit 10 10 1 9090 unit 11 11 1 91|run fault 17 10: 9090 11: 91 held 1 ready 1, then unit 11 11 1 91
+END
+
+echo "$tried refusals tried, $promised as promised"
+[ "$tried" -eq "$promised" ]

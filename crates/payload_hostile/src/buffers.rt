@@ -1,0 +1,202 @@
+//! A buffer's pushes and pops, and a whole run.
+
+use crate::codecs::Example;
+use crate::report::{put_answer, put_bytes, put_fault};
+use crate::senders::{put_sink, sample};
+use codec_payload_core::buffer::{Depacketized, DepacketizingBuffer, RtpMeta};
+use codec_payload_core::codec::{CodecDepacketizer, Vp9PacketizerMode};
+use codec_payload_core::error::PacketError;
+use codec_payload_core::payload::{MemorySink, Payloader};
+use codec_payload_core::schedule::{Step, run_schedule};
+use codec_payload_core::wire::{
+    Codec, CodecSpec, ExtensionValues, Frequency, MediaTime, Pt, RtpHeader, SeqNo, Ticks,
+};
+use std::alloc::{AllocError, Global};
+use std::fmt::Write;
+
+/// What is known of a packet of that number and time.
+fn meta(number: u64, time: u64, marker: bool) -> RtpMeta {
+    RtpMeta {
+        received: Ticks(0),
+        time: MediaTime::new(time, Frequency::EIGHT_KHZ),
+        seq_no: SeqNo(number),
+        header: RtpHeader {
+            payload_type: Pt::new_with_value(96),
+            sequence_number: (number % 65_536) as u16,
+            timestamp: (time % 4_294_967_296) as u32,
+            ssrc: 0,
+            marker,
+            ext_vals: ExtensionValues::default(),
+        },
+        last_sender_info: None,
+    }
+}
+
+fn put_held(text: &mut String, buffer: &DepacketizingBuffer) -> Result<(), AllocError> {
+    write!(text, " held {} ready {}", buffer.held(), buffer.ready())
+}
+
+/// A unit as its numbers, whether it is contiguous, and its bytes.
+fn put_unit(text: &mut String, unit: &Depacketized) -> Result<(), AllocError> {
+    let numbers = unit.seq_range();
+    let contiguous = u8::from(unit.contiguous);
+    write!(
+        text,
+        " unit {} {} {contiguous}",
+        numbers.start().0,
+        numbers.end().0
+    )?;
+    put_bytes(text, &unit.bytes)
+}
+
+fn put_popped(
+    text: &mut String,
+    popped: &Option<Result<Depacketized, PacketError>>,
+) -> Result<(), AllocError> {
+    match popped {
+        None => text.push_str(" none"),
+        Some(Ok(unit)) => put_unit(text, unit),
+        Some(Err(fault)) => put_fault(text, fault),
+    }
+}
+
+/// All units that can be popped. Want of memory here is none of the call's.
+fn put_all_popped(text: &mut String, buffer: &mut DepacketizingBuffer) -> Result<(), PacketError> {
+    text.push_str(", then")?;
+    while let Some(unit) = buffer.pop() {
+        put_unit(text, &unit?)?;
+    }
+    text.push_str("\n")?;
+    Ok(())
+}
+
+/// Pops the first unit of the packets of a frame, and then all that there is.
+pub fn pops(alloc: Global, text: &mut String, example: &Example) -> Result<(), PacketError> {
+    let Some(depacketizer) = example.depacketizer(alloc) else {
+        return Ok(());
+    };
+    let mut buffer = DepacketizingBuffer::new(alloc, depacketizer, 0);
+    for (place, payload) in example.payloads.iter().enumerate() {
+        let last = place + 1 == example.payloads.len();
+        buffer.push(
+            meta(place as u64, 0, last),
+            Vec::from_slice(alloc, payload)?,
+        )?;
+    }
+    text.push_str("pop")?;
+    let popped = buffer.pop();
+    put_popped(text, &popped)?;
+    put_held(text, &buffer)?;
+    put_all_popped(text, &mut buffer)
+}
+
+/// Pops behind a frame that is older than the one before, by its picture id.
+pub fn pops_after_passing_over(alloc: Global, text: &mut String) -> Result<(), PacketError> {
+    let Some(depacketizer) = CodecDepacketizer::from_codec(alloc, Codec::Vp8) else {
+        return Ok(());
+    };
+    let mut buffer = DepacketizingBuffer::new(alloc, depacketizer, 0);
+    let first = Vec::from_slice(alloc, &[0x90, 0xe0, 0x0a, 0x05, 0x00, 0x01])?;
+    buffer.push(meta(1, 1, true), first)?;
+    if let Some(Err(fault)) = buffer.pop() {
+        return Err(fault);
+    }
+    let older = Vec::from_slice(alloc, &[0x90, 0xe0, 0x09, 0x05, 0x00, 0x01])?;
+    buffer.push(meta(2, 2, true), older)?;
+    let newer = Vec::from_slice(alloc, &[0x90, 0xe0, 0x0b, 0x06, 0x00, 0x01])?;
+    buffer.push(meta(3, 3, true), newer)?;
+    text.push_str("pop")?;
+    let popped = buffer.pop();
+    put_popped(text, &popped)?;
+    put_held(text, &buffer)?;
+    put_all_popped(text, &mut buffer)
+}
+
+/// Pushes the last packet of a VP8 frame, then pushes it again, and pops.
+pub fn pushes(alloc: Global, text: &mut String) -> Result<(), PacketError> {
+    let Some(depacketizer) = CodecDepacketizer::from_codec(alloc, Codec::Vp8) else {
+        return Ok(());
+    };
+    let mut buffer = DepacketizingBuffer::new(alloc, depacketizer, 0);
+    buffer.push(meta(1, 0, false), Vec::from_slice(alloc, &[0x10, 0x90])?)?;
+    for number in 2..5u64 {
+        buffer.push(
+            meta(number, 0, false),
+            Vec::from_slice(alloc, &[0x00, 0x91])?,
+        )?;
+    }
+    let last = Vec::from_slice(alloc, &[0x00, 0x92])?;
+    let again = Vec::from_slice(alloc, &[0x00, 0x92])?;
+    text.push_str("push")?;
+    let answer = buffer.push(meta(5, 0, true), last);
+    put_answer(text, &answer)?;
+    put_held(text, &buffer)?;
+    buffer.push(meta(5, 0, true), again)?;
+    put_all_popped(text, &mut buffer)
+}
+
+/// Pushes a fifth packet of Opus to a buffer with room for four, which evicts the first one, and pops.
+pub fn pushes_and_evicts(alloc: Global, text: &mut String) -> Result<(), PacketError> {
+    let Some(depacketizer) = CodecDepacketizer::from_codec(alloc, Codec::Opus) else {
+        return Ok(());
+    };
+    let mut buffer = DepacketizingBuffer::with_limit(alloc, depacketizer, 0, 4);
+    for number in 1..5u64 {
+        buffer.push(
+            meta(number, number, false),
+            Vec::from_slice(alloc, &[0x90])?,
+        )?;
+    }
+    let last = Vec::from_slice(alloc, &[0x91])?;
+    text.push_str("push")?;
+    let answer = buffer.push(meta(5, 5, false), last);
+    put_answer(text, &answer)?;
+    put_held(text, &buffer)?;
+    put_all_popped(text, &mut buffer)
+}
+
+/// Runs one sample of Opus through all, and then pops what is left.
+pub fn runs(alloc: Global, text: &mut String) -> Result<(), PacketError> {
+    let spec = CodecSpec {
+        codec: Codec::Opus,
+        clock_rate: Frequency::EIGHT_KHZ,
+        octet_align: false,
+    };
+    let Some(mut payloader) = Payloader::new(spec, Vp9PacketizerMode::NonFlexible, 0) else {
+        return Ok(());
+    };
+    let Some(depacketizer) = CodecDepacketizer::from_codec(alloc, Codec::Opus) else {
+        return Ok(());
+    };
+    let mut buffer = DepacketizingBuffer::new(alloc, depacketizer, 0);
+    let mut sink = MemorySink::new(alloc, 10);
+    let mut samples = Vec::new(alloc);
+    samples.push(sample(alloc, 960, &[0x90, 0x90, 0x91])?)?;
+    let steps = [
+        Step::Send { sample: 0, mtu: 2 },
+        Step::Push(0),
+        Step::Push(1),
+        Step::Pop,
+        Step::Pop,
+        Step::Pop,
+    ];
+    text.push_str("run")?;
+    match run_schedule(
+        alloc,
+        &mut payloader,
+        &mut buffer,
+        &mut sink,
+        &samples,
+        &steps,
+    ) {
+        Ok(run) => {
+            for popped in &run.pops {
+                put_popped(text, popped)?;
+            }
+        }
+        Err(fault) => put_fault(text, &fault)?,
+    }
+    put_sink(text, &sink)?;
+    put_held(text, &buffer)?;
+    put_all_popped(text, &mut buffer)
+}

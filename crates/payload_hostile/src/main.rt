@@ -1,0 +1,50 @@
+//! Makes one call of the library, by the name that is the one line of standard input, and prints what it answered and how
+//! things stand after it. `scripts/refuse.sh` refuses it each allocation in turn.
+#![tactic(auto)]
+
+mod buffers;
+mod codecs;
+mod report;
+mod senders;
+#[cfg(test)]
+mod tests;
+
+use codec_payload_core::error::PacketError;
+use report::report;
+use std::alloc::Global;
+use std::io;
+use std::io::{Read, Write};
+use std::process::ExitCode;
+
+/// No call of that name.
+const NO_CALL: u8 = 2;
+
+/// Memory was refused before the call or after it, and nothing is printed.
+const REFUSED_ELSEWHERE: u8 = 3;
+
+/// Input or output failed.
+const IO_FAILED: u8 = 1;
+
+/// What is printed of the call whose name is a line.
+fn report_of_line(alloc: Global, line: &[u8]) -> Result<Option<String>, PacketError> {
+    match str::from_utf8(line) {
+        Ok(name) => report(alloc, name.trim_end()),
+        Err(_) => Ok(None),
+    }
+}
+
+fn main(rt: HostRuntime) -> ExitCode {
+    let mut line = [0u8; 64];
+    let Ok(count) = rt.reader().read(&mut line) else {
+        return ExitCode::from(IO_FAILED);
+    };
+    let text = match report_of_line(rt.alloc(), line.get(..count).unwrap_or(&[])) {
+        Ok(Some(text)) => text,
+        Ok(None) => return ExitCode::from(NO_CALL),
+        Err(_) => return ExitCode::from(REFUSED_ELSEWHERE),
+    };
+    match io::writer(&rt).write_all(text.as_bytes()) {
+        Ok(()) => ExitCode::from(0),
+        Err(_) => ExitCode::from(IO_FAILED),
+    }
+}

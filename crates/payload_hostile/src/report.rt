@@ -1,0 +1,66 @@
+//! The calls by name, and how answers are printed.
+
+use crate::buffers::{pops, pops_after_passing_over, pushes, pushes_and_evicts, runs};
+use crate::codecs::{depacketizes, example_of, packetizes};
+use crate::senders::{decodes, encodes, pushes_a_sample, sends_in_red, sends_to_memory, wraps};
+use codec_payload_core::error::PacketError;
+use std::alloc::{AllocError, Global};
+use std::fmt::Write;
+
+/// What is printed of the call of that name, or `None` where there is none. A fault is want of memory elsewhere than in the
+/// call.
+pub fn report(alloc: Global, name: &str) -> Result<Option<String>, PacketError> {
+    let mut text = String::new(alloc);
+    match name {
+        "encode" => encodes(alloc, &mut text)?,
+        "decode" => decodes(alloc, &mut text)?,
+        "wrap" => wraps(alloc, &mut text)?,
+        "memory-sink-send" => sends_to_memory(alloc, &mut text)?,
+        "red-sink-send" => sends_in_red(alloc, &mut text)?,
+        "push-sample" => pushes_a_sample(alloc, &mut text)?,
+        "push" => pushes(alloc, &mut text)?,
+        "push-evicting" => pushes_and_evicts(alloc, &mut text)?,
+        "pop-passing-over" => pops_after_passing_over(alloc, &mut text)?,
+        "run-schedule" => runs(alloc, &mut text)?,
+        _ => {
+            let Some((call, codec)) = name.split_once(' ') else {
+                return Ok(None);
+            };
+            let Some(example) = example_of(codec) else {
+                return Ok(None);
+            };
+            match call {
+                "packetize" => packetizes(alloc, &mut text, &example)?,
+                "depacketize" => depacketizes(alloc, &mut text, &example)?,
+                "pop" => pops(alloc, &mut text, &example)?,
+                _ => return Ok(None),
+            }
+        }
+    }
+    Ok(Some(text))
+}
+
+/// A space and the bytes as hexadecimal digits, or `-` for no bytes.
+pub fn put_bytes(text: &mut String, bytes: &[u8]) -> Result<(), AllocError> {
+    text.push_str(" ")?;
+    if bytes.is_empty() {
+        return text.push_str("-");
+    }
+    for byte in bytes {
+        write!(text, "{byte:02x}")?;
+    }
+    Ok(())
+}
+
+/// ` fault` and the number of a fault.
+pub fn put_fault(text: &mut String, fault: &PacketError) -> Result<(), AllocError> {
+    write!(text, " fault {}", fault.number())
+}
+
+/// ` ok`, or the fault.
+pub fn put_answer(text: &mut String, answer: &Result<(), PacketError>) -> Result<(), AllocError> {
+    match answer {
+        Ok(()) => text.push_str(" ok"),
+        Err(fault) => put_fault(text, fault),
+    }
+}

@@ -1,0 +1,128 @@
+//! Packetizers at odd MTUs, over frames of their own and of others.
+
+use super::payloads::{FRAMES, LONG_PAYLOADS, PAYLOADS};
+use codec_payload_core::codec::{
+    CodecDepacketizer, CodecExtra, CodecPacketizer, Depacketizer, Packetizer, Vp9PacketizerMode,
+};
+use codec_payload_core::error::PacketError;
+use codec_payload_core::vp8::Vp8Packetizer;
+use codec_payload_core::vp9::detect_vp9_keyframe_bitstream;
+use codec_payload_core::wire::{Codec, CodecSpec, Frequency};
+use std::alloc::Global;
+use std::process::Abort;
+use std::test::Fail;
+
+/// A kind of packetizer: its codec, its mode of VP9, and whether it sends VP8 with picture ids, or AMR-WB octet-aligned.
+type Kind = (Codec, Vp9PacketizerMode, bool);
+
+const KINDS: [Kind; 14] = [
+    (Codec::Opus, Vp9PacketizerMode::NonFlexible, false),
+    (Codec::PCMU, Vp9PacketizerMode::NonFlexible, false),
+    (Codec::PCMA, Vp9PacketizerMode::NonFlexible, false),
+    (Codec::G722, Vp9PacketizerMode::NonFlexible, false),
+    (Codec::CN, Vp9PacketizerMode::NonFlexible, false),
+    (Codec::AmrWb, Vp9PacketizerMode::NonFlexible, false),
+    (Codec::AmrWb, Vp9PacketizerMode::NonFlexible, true),
+    (Codec::Tele, Vp9PacketizerMode::NonFlexible, false),
+    (Codec::Vp8, Vp9PacketizerMode::NonFlexible, false),
+    (Codec::Vp8, Vp9PacketizerMode::NonFlexible, true),
+    (Codec::Vp9, Vp9PacketizerMode::NonFlexible, false),
+    (Codec::Vp9, Vp9PacketizerMode::Flexible, false),
+    (Codec::Av1, Vp9PacketizerMode::NonFlexible, false),
+    (Codec::Null, Vp9PacketizerMode::NonFlexible, false),
+];
+
+/// What both sides are configured by.
+fn specification(kind: Kind) -> CodecSpec {
+    let (codec, _, octet_align) = kind;
+    CodecSpec {
+        codec,
+        clock_rate: Frequency::EIGHT_KHZ,
+        octet_align,
+    }
+}
+
+fn packetizer(kind: Kind) -> Result<CodecPacketizer, Fail> {
+    let (codec, mode, other) = kind;
+    if codec == Codec::Vp8 && other {
+        return Ok(CodecPacketizer::Vp8(Vp8Packetizer::with_picture_id(0x7fff)));
+    }
+    let mut packetizer = CodecPacketizer::new(codec, mode, 0x7fff).ok_or("no packetizer")?;
+    packetizer.configure_for(&specification(kind));
+    Ok(packetizer)
+}
+
+/// Whether a frame of the codec may be refused with this fault.
+fn names_fault(codec: Codec, fault: &PacketError) -> bool {
+    let number = fault.number();
+    match codec {
+        Codec::CN | Codec::Tele => number == 2,
+        Codec::AmrWb => number == 2 || number == 16,
+        Codec::Av1 => number == 13,
+        _ => false,
+    }
+}
+
+/// Each packet has a byte and none more than the MTU, but of Null, which looks at no MTU. At the greatest MTU there is one
+/// packet at most, which can be received; of VP9 in the non-flexible mode it tells a keyframe where the frame is one.
+fn packets_fit(
+    rt: &impl Abort,
+    alloc: Global,
+    kind: Kind,
+    mtu: usize,
+    frame: &[u8],
+    packets: &[Vec<u8>],
+) -> Result<(), Fail> {
+    let (codec, mode, _) = kind;
+    if codec == Codec::Null {
+        assert_eq!(rt; packets.len(), 1);
+        return Ok(());
+    }
+    for packet in packets {
+        assert!(rt; !packet.is_empty());
+        assert!(rt; packet.len() <= mtu);
+    }
+    if mtu < usize::MAX || codec == Codec::Tele {
+        return Ok(());
+    }
+    assert!(rt; packets.len() <= 1);
+    let Some(packet) = packets.first() else {
+        return Ok(());
+    };
+    let mut depacketizer = CodecDepacketizer::from_codec(alloc, codec).ok_or("none")?;
+    depacketizer.configure_for(&specification(kind));
+    let mut out = Vec::new(alloc);
+    let mut extra = CodecExtra::None;
+    depacketizer.depacketize(packet, &mut out, &mut extra)?;
+    if codec == Codec::AmrWb || codec == Codec::Av1 {
+        return Ok(());
+    }
+    assert_eq!(rt; out.as_slice(), frame);
+    if let CodecExtra::Vp9(told) = extra {
+        let keyframe = mode == Vp9PacketizerMode::Flexible || detect_vp9_keyframe_bitstream(frame);
+        assert_eq!(rt; told.is_keyframe, keyframe);
+    }
+    Ok(())
+}
+
+#[test]
+fn every_packetizer_at_odd_mtus(rt: HostRuntime) -> Result<(), Fail> {
+    let alloc = rt.alloc();
+    for kind in KINDS {
+        for frames in [
+            FRAMES.as_slice(),
+            PAYLOADS.as_slice(),
+            LONG_PAYLOADS.as_slice(),
+        ] {
+            for frame in frames {
+                for mtu in [0usize, 1, 2, 9, usize::MAX] {
+                    match packetizer(kind)?.packetize(alloc, mtu, frame) {
+                        Ok(packets) => packets_fit(&rt, alloc, kind, mtu, frame, &packets)?,
+                        Err(fault) => assert!(rt; names_fault(kind.0, &fault)),
+                    }
+                }
+            }
+        }
+    }
+    Ok(())
+}
