@@ -23,7 +23,7 @@ times_of() {
         buffer-64/reverse) echo 20 ;;
         buffer-512/reverse) echo 3 ;;
         buffer-4096/reverse | buffer-65536/reverse) echo 1 ;;
-        buffer-*) echo 2000 ;;
+        buffer-*) echo 20000 ;;
         *-200k/*) echo 60 ;;
         *-20k/*) echo 600 ;;
         *-1k/*) echo 6000 ;;
