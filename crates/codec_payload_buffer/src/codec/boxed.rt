@@ -1,6 +1,6 @@
 //! Codecs that a caller brings in a box, and the lack of any.
 
-ghost use Rattle.std.specs.Prelude.{[], Option};
+ghost use Rattle.std.specs.Prelude.{◌≡◌, [], false, Option, Result};
 
 use super::{Depacketizer, Packetizer};
 use codec_payload_base::error::PacketError;
@@ -8,16 +8,17 @@ use codec_payload_base::interface::CodecExtra;
 use std::alloc::Global;
 use std::fmt;
 
-/// No codec but the built-in ones. There is no value of this type, so no `Boxed` is made of it.
+/// No codec but the built-in ones. There is no call that makes a value of this type, so no `Boxed` is made of it. One would
+/// send no packets and take nothing in.
 #[derive(Debug, Drop)]
-pub enum NoBox {}
+pub struct NoBox(());
 
 impl Packetizer for NoBox {
     ghost state = { λ _. [] };
 
-    ghost packetize_step = { λ _ _ _ _ _. ⊥ };
+    ghost packetize_step = { λ _ _ _ answer _. answer ≡ Result.Ok [] };
 
-    ghost marker_step = { λ _ _ _ _ _ _. ⊥ };
+    ghost marker_step = { λ _ _ _ _ answer _. answer ≡ false };
 
     ghost may_mark = { λ _. ⊥ };
 
@@ -25,31 +26,31 @@ impl Packetizer for NoBox {
 
     fn packetize(
         &mut self,
-        _alloc: Global,
+        alloc: Global,
         _mtu: usize,
         _b: &[u8],
     ) -> Result<Vec<Vec<u8>>, PacketError> {
-        match *self {}
+        Ok(Vec::new(alloc))
     }
 
     fn is_marker(&mut self, _data: &[u8], _previous: Option<&[u8]>, _last: bool) -> bool {
-        match *self {}
+        false
     }
 }
 
 impl Depacketizer for NoBox {
     ghost state = { λ _. [] };
 
-    ghost depacketize_step = { λ _ _ _ _ _ _ _ _. ⊥ };
+    ghost depacketize_step = { λ _ _ out extra answer _ out' extra'. (answer ≡ Result.Ok tt) × (out' ≡ out) × (extra' ≡ extra) };
 
     ghost size_hint = { λ _ _. Option.None };
 
-    ghost is_head = { λ _ _. Rattle.std.specs.Prelude.false };
+    ghost is_head = { λ _ _. false };
 
-    ghost is_tail = { λ _ _ _. Rattle.std.specs.Prelude.false };
+    ghost is_tail = { λ _ _ _. false };
 
     fn out_size_hint(&self, _packets_size: usize) -> Option<usize> {
-        match *self {}
+        None
     }
 
     fn depacketize(
@@ -58,15 +59,15 @@ impl Depacketizer for NoBox {
         _out: &mut Vec<u8>,
         _codec_extra: &mut CodecExtra,
     ) -> Result<(), PacketError> {
-        match *self {}
+        Ok(())
     }
 
     fn is_partition_head(&self, _packet: &[u8]) -> bool {
-        match *self {}
+        false
     }
 
     fn is_partition_tail(&self, _marker: bool, _packet: &[u8]) -> bool {
-        match *self {}
+        false
     }
 }
 
