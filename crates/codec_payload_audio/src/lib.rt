@@ -4,6 +4,4 @@
 pub mod amr_wb;
 pub mod plain;
 pub mod tele;
-#[cfg(test)]
-mod tests;
 mod whole;

@@ -13,8 +13,6 @@ mod packetizer;
 mod payload;
 mod payload_writer;
 mod piece;
-#[cfg(test)]
-mod tests;
 
 pub use codec_payload_base::interface::Av1CodecExtra;
 pub use depacketizer::Av1Depacketizer;

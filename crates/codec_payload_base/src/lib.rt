@@ -7,6 +7,4 @@ pub mod described;
 pub mod error;
 pub mod interface;
 pub mod picture_id;
-#[cfg(test)]
-mod tests;
 pub mod wire;

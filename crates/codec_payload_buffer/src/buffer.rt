@@ -15,8 +15,6 @@ mod held_packet;
 mod packets;
 mod rows;
 mod search;
-#[cfg(test)]
-mod tests;
 mod unit;
 
 use crate::codec::{CodecDepacketizer, Depacketizer, NoBox};

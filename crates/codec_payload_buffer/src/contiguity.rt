@@ -4,9 +4,6 @@ ghost use Rattle.std.specs.Prelude.{◌≡◌};
 ghost use Rattle.codec_payload_buffer.specs.ContiguityTable.{no_ids, verdict, vp8_verdict, vp9_verdict, checked, contiguity_for, Advances};
 ghost use Rattle.codec_payload_buffer.specs.Depack.{depack_of, kind_of_depack};
 
-#[cfg(test)]
-mod tests;
-
 use crate::codec::{CodecDepacketizer, CodecExtra, Vp8CodecExtra, Vp9CodecExtra};
 use std::marker::Model;
 

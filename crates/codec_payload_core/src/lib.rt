@@ -11,5 +11,3 @@ pub use codec_payload_vp9::vp9;
 
 pub mod payload;
 pub mod schedule;
-#[cfg(test)]
-mod tests;

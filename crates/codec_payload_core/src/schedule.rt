@@ -12,9 +12,6 @@ ghost use Rattle.codec_payload_core.specs.Sending.{sample_of};
 ghost use Rattle.codec_payload_buffer.specs.Steps.{State, Pops};
 ghost use Rattle.codec_payload_core.specs.declared.schedule.Sent.{Sent as Entry};
 
-#[cfg(test)]
-mod tests;
-
 use crate::buffer::{Depacketized, DepacketizingBuffer, RtpMeta};
 use crate::codec::{CodecDepacketizer, Depacketizer, Packetizer, Vp9PacketizerMode};
 use crate::error::PacketError;

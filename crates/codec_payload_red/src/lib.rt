@@ -2,5 +2,3 @@
 #![tactic(auto)]
 
 pub mod red;
-#[cfg(test)]
-mod tests;

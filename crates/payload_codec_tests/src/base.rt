@@ -1,0 +1,245 @@
+//! What no clause says: texts of faults, defaults, and the worked examples of bits and numbers.
+
+use codec_payload_base::bits::{BitRead, BitReader};
+use codec_payload_base::error::PacketError;
+use codec_payload_base::interface::Vp9PacketizerMode;
+use codec_payload_base::wire::{
+    AbsCaptureTime, ExtensionValues, Frequency, MediaKind, MediaTime, MediaType, Pt,
+    VideoLayersAllocation, VideoTiming, encode_leb_u63,
+};
+use std::collections::HashMap;
+use std::test::Fail;
+
+#[test]
+fn bits_reads_and_refusals(rt: HostRuntime) {
+    let mut reader = BitReader::at(&[0xac, 0x50], 4);
+    assert_eq!(rt; reader.get_bits(6), Some(49));
+    assert_eq!(rt; reader.get_bits(3), Some(2));
+    assert_eq!(rt; reader.get_bits(9), None);
+    assert_eq!(rt; reader.get_bits(4), None);
+    assert_eq!(rt; reader.get_bits(3), Some(0));
+    assert_eq!(rt; reader.get_bits(0), Some(0));
+}
+
+#[test]
+fn leb128_high_bits_lost(rt: HostRuntime) {
+    let bytes = [0xff, 0xff, 0xff, 0xff, 0xff, 0xff, 0xff, 0xff, 0xff, 0x7f];
+    assert_eq!(rt; BitReader::new(&bytes).get_leb128(), Some(u64::MAX));
+}
+
+#[test]
+fn leb128_ten_ff_none(rt: HostRuntime) {
+    let mut reader = BitReader::new(&[0xff; 11]);
+    assert_eq!(rt; reader.get_leb128(), None);
+    assert_eq!(rt; reader.byte_offset(), 10);
+}
+
+/// The sum of two bytes, by whatever reads bits.
+fn sum_of_two<'a, R: BitRead<'a>>(reader: &mut R) -> Option<u16> {
+    let first = reader.get_u8()?;
+    let second = reader.get_u8()?;
+    Some(u16::from(first) + u16::from(second))
+}
+
+#[test]
+fn any_reader_serves(rt: HostRuntime) {
+    assert_eq!(rt; sum_of_two(&mut BitReader::new(&[1, 2])), Some(3));
+    assert_eq!(rt; BitReader::new(&[1, 2]).get_u16(), Some(0x0102));
+}
+
+#[test]
+fn lent_bytes_outlive_the_next_read(rt: HostRuntime) -> Result<(), Fail> {
+    let bytes = [1, 2, 3, 4, 5];
+    let mut reader = BitReader::at(&bytes, 11);
+    let two = reader.get_bytes(2).ok_or("two bytes")?;
+    reader.skip_bytes(1);
+    let rest = reader.get_remaining();
+    assert_eq!(rt; two, [2u8, 3].as_slice());
+    assert_eq!(rt; rest, [5u8].as_slice());
+    assert_eq!(rt; reader.remaining_bits(), 0);
+    assert_eq!(rt; reader.remaining_bytes(), 0);
+    Ok(())
+}
+
+#[test]
+fn texts_of_faults(rt: HostRuntime) -> Result<(), Fail> {
+    let alloc = rt.alloc();
+    let faults = [
+        (PacketError::ErrShortPacket, "Packet is too short"),
+        (PacketError::ErrPayloadTooLarge, "Payload exceeds the MTU"),
+        (
+            PacketError::ErrTooManySpatialLayers,
+            "Too many spatial layers",
+        ),
+        (PacketError::ErrTooManyPDiff, "Too many P-Diff"),
+        (PacketError::ErrH265CorruptedPacket, "H265 corrupted packet"),
+        (PacketError::ErrH266CorruptedPacket, "H266 corrupted packet"),
+        (
+            PacketError::ErrInvalidH265PacketType,
+            "H265 invalid packet type",
+        ),
+        (
+            PacketError::ErrH265PACIPHESTooLong,
+            "H265 PACI PHES field exceeds maximum size of 31 bytes",
+        ),
+        (
+            PacketError::StapASizeLargerThanBuffer(5, 4),
+            "H264 StapA size larger than buffer: 5 > 4",
+        ),
+        (
+            PacketError::NaluTypeIsNotHandled(25),
+            "H264 NALU type is not handled: 25",
+        ),
+        (PacketError::ErrVP8CorruptedPacket, "VP8 corrupted packet"),
+        (PacketError::ErrVP9CorruptedPacket, "VP9 corrupted packet"),
+        (PacketError::ErrAv1CorruptedPacket, "AV1 corrupted packet"),
+        (PacketError::ErrRedCorruptedPacket, "RED corrupted packet"),
+        (
+            PacketError::InvalidTelephoneEvent("why"),
+            "Invalid telephone event: why",
+        ),
+        (
+            PacketError::ErrAmrWbCorruptedPacket,
+            "AMR-WB corrupted packet",
+        ),
+        (PacketError::OutOfMemory, "Out of memory"),
+    ];
+    for (index, (fault, text)) in faults.iter().enumerate() {
+        let shown = format!(in alloc; "{fault}")?;
+        assert_eq!(rt; shown.as_str(), *text);
+        assert_eq!(rt; usize::from(fault.number()), index + 1);
+    }
+    Ok(())
+}
+
+#[test]
+fn times_and_defaults(rt: HostRuntime) -> Result<(), Fail> {
+    let second = MediaTime::new(8_000, Frequency::EIGHT_KHZ);
+    assert_eq!(rt; second.rebase(Frequency::FORTY_EIGHT_KHZ).numer(), 48_000);
+    assert!(rt; second != second.rebase(Frequency::FORTY_EIGHT_KHZ));
+    assert_eq!(rt; MediaTime::from_90khz(5).frequency(), Frequency::NINETY_KHZ);
+    assert!(rt; Frequency::make(0).is_none());
+    let greatest = Frequency::make(u32::MAX).ok_or("a rate")?;
+    let low_bits = MediaTime::new(u64::MAX, Frequency::make(1).ok_or("a rate")?).rebase(greatest);
+    assert_eq!(rt; low_bits.numer(), 0xffff_ffff_0000_0001);
+    assert!(rt; Pt::new_with_value(95) < Pt::new_with_value(96));
+    assert_eq!(rt;
+        Vp9PacketizerMode::default(),
+        Vp9PacketizerMode::NonFlexible
+    );
+    Ok(())
+}
+
+#[test]
+fn leb_at_the_front(rt: HostRuntime) {
+    let mut short = [0xee; 3];
+    assert_eq!(rt; encode_leb_u63(300, &mut short), 2);
+    assert_eq!(rt; short.as_slice(), [0xacu8, 0x02, 0xee].as_slice());
+    let mut long = [0xee; 9];
+    assert_eq!(rt; encode_leb_u63(0x7fff_ffff_ffff_ffff, &mut long), 9);
+    assert_eq!(rt;
+        long.as_slice(),
+        [0xffu8, 0xff, 0xff, 0xff, 0xff, 0xff, 0xff, 0xff, 0x7f].as_slice()
+    );
+}
+
+#[test]
+fn layers_allocation_255_bytes(rt: HostRuntime) -> Result<(), Fail> {
+    let bytes = [7; 256];
+    assert!(rt; VideoLayersAllocation::new(&bytes).is_none());
+    let longest = VideoLayersAllocation::new(&bytes[..255]).ok_or("255 bytes")?;
+    assert_eq!(rt; longest.bytes(), &bytes[..255]);
+    let empty = VideoLayersAllocation::new(&[]).ok_or("no bytes")?;
+    assert_eq!(rt; empty.bytes().len(), 0);
+    Ok(())
+}
+
+#[test]
+fn layers_allocations_are_their_bytes(rt: HostRuntime) -> Result<(), Fail> {
+    let two = VideoLayersAllocation::new(&[1, 0]).ok_or("two bytes")?;
+    let same = VideoLayersAllocation::new(&[1, 0]).ok_or("two bytes")?;
+    let shorter = VideoLayersAllocation::new(&[1]).ok_or("one byte")?;
+    let other = VideoLayersAllocation::new(&[1, 2]).ok_or("two bytes")?;
+    assert!(rt; two == same);
+    assert!(rt; two != shorter);
+    assert!(rt; two != other);
+    Ok(())
+}
+
+#[test]
+fn extension_values_differ_in_each_field(rt: HostRuntime) {
+    let none = ExtensionValues::default();
+    let timing = VideoTiming {
+        flags: 1,
+        encode_start: 2,
+        encode_finish: 3,
+        packetize_complete: 4,
+        last_left_pacer: 5,
+        network_1: 6,
+        network_2: 7,
+    };
+    let captured = AbsCaptureTime {
+        capture_time: 1,
+        clock_offset: Some(-1),
+    };
+    let mut captured_only = none;
+    captured_only.abs_capture_time = Some(captured);
+    let mut turned_only = none;
+    turned_only.video_orientation = Some(0);
+    let mut screen_only = none;
+    screen_only.video_content_type = Some(0);
+    let mut timed_only = none;
+    timed_only.video_timing = Some(timing);
+    let mut layers_only = none;
+    layers_only.layers_allocation = VideoLayersAllocation::new(&[]);
+    let mut level_only = none;
+    level_only.audio_level = Some(0);
+    let mut voice_only = none;
+    voice_only.voice_activity = Some(false);
+    for some in [
+        captured_only,
+        turned_only,
+        screen_only,
+        timed_only,
+        layers_only,
+        level_only,
+        voice_only,
+    ] {
+        assert!(rt; some != none);
+        assert!(rt; some == some);
+    }
+}
+
+#[test]
+fn media_kind_application_none(rt: HostRuntime) {
+    assert_eq!(rt; MediaKind::from_media_type(MediaType::Application), None);
+    assert_eq!(rt; MediaKind::from_media_type(MediaType::Unknown), None);
+    let audio = MediaKind::from_media_type(MediaType::Audio);
+    assert_eq!(rt; audio, Some(MediaKind::Audio));
+    let video = MediaKind::from_media_type(MediaType::Video);
+    assert_eq!(rt; video, Some(MediaKind::Video));
+}
+
+#[test]
+fn media_kinds_are_keys(rt: HostRuntime) -> Result<(), Fail> {
+    let mut names = HashMap::new(rt.alloc());
+    names.insert(MediaKind::Audio, "audio")?;
+    names.insert(MediaKind::Video, "video")?;
+    assert_eq!(rt; names.len(), 2);
+    assert_eq!(rt; names.get(&MediaKind::Video).copied(), Some("video"));
+    Ok(())
+}
+
+#[test]
+fn media_kinds_are_printed(rt: HostRuntime) -> Result<(), Fail> {
+    let alloc = rt.alloc();
+    for (kind, text) in [(MediaKind::Audio, "audio"), (MediaKind::Video, "video")] {
+        let shown = format!(in alloc; "{kind}")?;
+        assert_eq!(rt; shown.as_str(), text);
+    }
+    assert!(rt; MediaKind::Audio.is_audio());
+    assert!(rt; !MediaKind::Audio.is_video());
+    assert!(rt; MediaKind::Video.is_video());
+    assert!(rt; !MediaKind::Video.is_audio());
+    Ok(())
+}

@@ -1,0 +1,19 @@
+//! The worked examples of the parts, of the codecs and of RED, as tests over what these crates make public.
+#![tactic(auto)]
+
+#[cfg(test)]
+mod audio;
+#[cfg(test)]
+mod av1;
+#[cfg(test)]
+mod base;
+#[cfg(test)]
+mod red;
+#[cfg(test)]
+mod vp8;
+#[cfg(test)]
+mod vp8_table;
+#[cfg(test)]
+mod vp9;
+#[cfg(test)]
+mod vp9_table;

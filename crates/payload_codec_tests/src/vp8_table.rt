@@ -1,0 +1,548 @@
+//! The descriptor of RFC 7741, section 4.2, in all its forms, cut off at each byte.
+
+use codec_payload_base::error::PacketError;
+use codec_payload_base::interface::{CodecExtra, Depacketizer};
+use codec_payload_vp8::vp8::{
+    Vp8CodecExtra, Vp8Depacketizer, Vp8Descriptor, Vp8DescriptorError, detect_vp8_keyframe,
+};
+use std::alloc::Global;
+use std::process::Abort;
+use std::test::Fail;
+
+/// The fields that a descriptor has.
+struct Fields {
+    picture_id: Option<u16>,
+    tl0_pic_idx: Option<u8>,
+    /// TID and Y.
+    temporal: Option<(u8, bool)>,
+    key_idx: Option<u8>,
+}
+
+/// A payload of a keyframe, and what RFC 7741 says of it.
+struct Row {
+    payload: &'static [u8],
+    /// The length of its descriptor in bytes.
+    descriptor: usize,
+    /// `None` where TL0PICIDX stands without a temporal layer.
+    fields: Option<Fields>,
+}
+
+/// All combinations of X, I, M, L, T and K: in order the bytes X R N S R PID, I L T K, the picture id, TL0PICIDX 0x55, and
+/// TID 2, Y 1, KEYIDX 7; then the first byte of a keyframe.
+const DESCRIPTORS: [Row; 25] = [
+    // X=0: nothing is extended, and the frame follows at once
+    Row {
+        payload: &[0x10, 0x00],
+        descriptor: 1,
+        fields: Some(Fields {
+            picture_id: None,
+            tl0_pic_idx: None,
+            temporal: None,
+            key_idx: None,
+        }),
+    },
+    // X alone
+    Row {
+        payload: &[0x90, 0x00, 0x00],
+        descriptor: 2,
+        fields: Some(Fields {
+            picture_id: None,
+            tl0_pic_idx: None,
+            temporal: None,
+            key_idx: None,
+        }),
+    },
+    // X K
+    Row {
+        payload: &[0x90, 0x10, 0xa7, 0x00],
+        descriptor: 3,
+        fields: Some(Fields {
+            picture_id: None,
+            tl0_pic_idx: None,
+            temporal: None,
+            key_idx: Some(7),
+        }),
+    },
+    // X T
+    Row {
+        payload: &[0x90, 0x20, 0xa7, 0x00],
+        descriptor: 3,
+        fields: Some(Fields {
+            picture_id: None,
+            tl0_pic_idx: None,
+            temporal: Some((2, true)),
+            key_idx: None,
+        }),
+    },
+    // X T K
+    Row {
+        payload: &[0x90, 0x30, 0xa7, 0x00],
+        descriptor: 3,
+        fields: Some(Fields {
+            picture_id: None,
+            tl0_pic_idx: None,
+            temporal: Some((2, true)),
+            key_idx: Some(7),
+        }),
+    },
+    // X L: TL0PICIDX without a temporal layer
+    Row {
+        payload: &[0x90, 0x40, 0x55, 0x00],
+        descriptor: 3,
+        fields: None,
+    },
+    // X L K: TL0PICIDX without a temporal layer
+    Row {
+        payload: &[0x90, 0x50, 0x55, 0xa7, 0x00],
+        descriptor: 4,
+        fields: None,
+    },
+    // X L T
+    Row {
+        payload: &[0x90, 0x60, 0x55, 0xa7, 0x00],
+        descriptor: 4,
+        fields: Some(Fields {
+            picture_id: None,
+            tl0_pic_idx: Some(0x55),
+            temporal: Some((2, true)),
+            key_idx: None,
+        }),
+    },
+    // X L T K
+    Row {
+        payload: &[0x90, 0x70, 0x55, 0xa7, 0x00],
+        descriptor: 4,
+        fields: Some(Fields {
+            picture_id: None,
+            tl0_pic_idx: Some(0x55),
+            temporal: Some((2, true)),
+            key_idx: Some(7),
+        }),
+    },
+    // X I, an id of 7 bits
+    Row {
+        payload: &[0x90, 0x80, 0x11, 0x00],
+        descriptor: 3,
+        fields: Some(Fields {
+            picture_id: Some(0x11),
+            tl0_pic_idx: None,
+            temporal: None,
+            key_idx: None,
+        }),
+    },
+    // X I, M: an id of 15 bits
+    Row {
+        payload: &[0x90, 0x80, 0x92, 0x34, 0x00],
+        descriptor: 4,
+        fields: Some(Fields {
+            picture_id: Some(0x1234),
+            tl0_pic_idx: None,
+            temporal: None,
+            key_idx: None,
+        }),
+    },
+    // X I K, an id of 7 bits
+    Row {
+        payload: &[0x90, 0x90, 0x11, 0xa7, 0x00],
+        descriptor: 4,
+        fields: Some(Fields {
+            picture_id: Some(0x11),
+            tl0_pic_idx: None,
+            temporal: None,
+            key_idx: Some(7),
+        }),
+    },
+    // X I K, M: an id of 15 bits
+    Row {
+        payload: &[0x90, 0x90, 0x92, 0x34, 0xa7, 0x00],
+        descriptor: 5,
+        fields: Some(Fields {
+            picture_id: Some(0x1234),
+            tl0_pic_idx: None,
+            temporal: None,
+            key_idx: Some(7),
+        }),
+    },
+    // X I T, an id of 7 bits
+    Row {
+        payload: &[0x90, 0xa0, 0x11, 0xa7, 0x00],
+        descriptor: 4,
+        fields: Some(Fields {
+            picture_id: Some(0x11),
+            tl0_pic_idx: None,
+            temporal: Some((2, true)),
+            key_idx: None,
+        }),
+    },
+    // X I T, M: an id of 15 bits
+    Row {
+        payload: &[0x90, 0xa0, 0x92, 0x34, 0xa7, 0x00],
+        descriptor: 5,
+        fields: Some(Fields {
+            picture_id: Some(0x1234),
+            tl0_pic_idx: None,
+            temporal: Some((2, true)),
+            key_idx: None,
+        }),
+    },
+    // X I T K, an id of 7 bits
+    Row {
+        payload: &[0x90, 0xb0, 0x11, 0xa7, 0x00],
+        descriptor: 4,
+        fields: Some(Fields {
+            picture_id: Some(0x11),
+            tl0_pic_idx: None,
+            temporal: Some((2, true)),
+            key_idx: Some(7),
+        }),
+    },
+    // X I T K, M: an id of 15 bits
+    Row {
+        payload: &[0x90, 0xb0, 0x92, 0x34, 0xa7, 0x00],
+        descriptor: 5,
+        fields: Some(Fields {
+            picture_id: Some(0x1234),
+            tl0_pic_idx: None,
+            temporal: Some((2, true)),
+            key_idx: Some(7),
+        }),
+    },
+    // X I L, an id of 7 bits: TL0PICIDX without a temporal layer
+    Row {
+        payload: &[0x90, 0xc0, 0x11, 0x55, 0x00],
+        descriptor: 4,
+        fields: None,
+    },
+    // X I L, M: an id of 15 bits: TL0PICIDX without a temporal layer
+    Row {
+        payload: &[0x90, 0xc0, 0x92, 0x34, 0x55, 0x00],
+        descriptor: 5,
+        fields: None,
+    },
+    // X I L K, an id of 7 bits: TL0PICIDX without a temporal layer
+    Row {
+        payload: &[0x90, 0xd0, 0x11, 0x55, 0xa7, 0x00],
+        descriptor: 5,
+        fields: None,
+    },
+    // X I L K, M: an id of 15 bits: TL0PICIDX without a temporal layer
+    Row {
+        payload: &[0x90, 0xd0, 0x92, 0x34, 0x55, 0xa7, 0x00],
+        descriptor: 6,
+        fields: None,
+    },
+    // X I L T, an id of 7 bits
+    Row {
+        payload: &[0x90, 0xe0, 0x11, 0x55, 0xa7, 0x00],
+        descriptor: 5,
+        fields: Some(Fields {
+            picture_id: Some(0x11),
+            tl0_pic_idx: Some(0x55),
+            temporal: Some((2, true)),
+            key_idx: None,
+        }),
+    },
+    // X I L T, M: an id of 15 bits
+    Row {
+        payload: &[0x90, 0xe0, 0x92, 0x34, 0x55, 0xa7, 0x00],
+        descriptor: 6,
+        fields: Some(Fields {
+            picture_id: Some(0x1234),
+            tl0_pic_idx: Some(0x55),
+            temporal: Some((2, true)),
+            key_idx: None,
+        }),
+    },
+    // X I L T K, an id of 7 bits
+    Row {
+        payload: &[0x90, 0xf0, 0x11, 0x55, 0xa7, 0x00],
+        descriptor: 5,
+        fields: Some(Fields {
+            picture_id: Some(0x11),
+            tl0_pic_idx: Some(0x55),
+            temporal: Some((2, true)),
+            key_idx: Some(7),
+        }),
+    },
+    // X I L T K, M: an id of 15 bits
+    Row {
+        payload: &[0x90, 0xf0, 0x92, 0x34, 0x55, 0xa7, 0x00],
+        descriptor: 6,
+        fields: Some(Fields {
+            picture_id: Some(0x1234),
+            tl0_pic_idx: Some(0x55),
+            temporal: Some((2, true)),
+            key_idx: Some(7),
+        }),
+    },
+];
+
+/// A payload of the worked examples.
+#[derive(Drop)]
+struct Worked {
+    payload: &'static [u8],
+    /// The length of its descriptor in bytes, whichever fields stand together.
+    descriptor: usize,
+    /// Whether TL0PICIDX stands without a temporal layer.
+    malformed: bool,
+    /// Whether a keyframe starts there: S is set, the partition is the first, and P of the frame's first byte is clear.
+    keyframe: bool,
+}
+
+const PAYLOADS: [Worked; 21] = [
+    Worked {
+        payload: &[0x10, 0x90, 0x90, 0x90],
+        descriptor: 1,
+        malformed: false,
+        keyframe: true,
+    },
+    Worked {
+        payload: &[0x00],
+        descriptor: 1,
+        malformed: false,
+        keyframe: false,
+    },
+    Worked {
+        payload: &[0x80, 0x40, 0x00, 0x00],
+        descriptor: 3,
+        malformed: true,
+        keyframe: false,
+    },
+    Worked {
+        payload: &[0x90, 0x80, 0x20, 0x90, 0x90],
+        descriptor: 3,
+        malformed: false,
+        keyframe: true,
+    },
+    Worked {
+        payload: &[0x80, 0x80, 0x20, 0x90],
+        descriptor: 3,
+        malformed: false,
+        keyframe: false,
+    },
+    Worked {
+        payload: &[0x90, 0x80, 0x21, 0x91, 0x91],
+        descriptor: 3,
+        malformed: false,
+        keyframe: false,
+    },
+    Worked {
+        payload: &[0x90, 0x80, 0x7f, 0x90, 0x90],
+        descriptor: 3,
+        malformed: false,
+        keyframe: true,
+    },
+    Worked {
+        payload: &[0x90, 0x80, 0x80, 0x80, 0x91],
+        descriptor: 4,
+        malformed: false,
+        keyframe: false,
+    },
+    Worked {
+        payload: &[0x90, 0x80, 0xff, 0xff, 0x90],
+        descriptor: 4,
+        malformed: false,
+        keyframe: true,
+    },
+    Worked {
+        payload: &[0x90, 0x80, 0x00, 0x90],
+        descriptor: 3,
+        malformed: false,
+        keyframe: true,
+    },
+    Worked {
+        payload: &[0x90, 0x80, 0x81, 0x20, 0x90, 0x90],
+        descriptor: 4,
+        malformed: false,
+        keyframe: true,
+    },
+    Worked {
+        payload: &[0x80, 0x80, 0x81, 0x20, 0x90],
+        descriptor: 4,
+        malformed: false,
+        keyframe: false,
+    },
+    Worked {
+        payload: &[0x90, 0xf0, 0x92, 0x34, 0x55, 0xa7, 0x00],
+        descriptor: 6,
+        malformed: false,
+        keyframe: true,
+    },
+    Worked {
+        payload: &[0x90, 0xf0, 0x82, 0x34, 0xab, 0xbf, 0x00],
+        descriptor: 6,
+        malformed: false,
+        keyframe: true,
+    },
+    Worked {
+        payload: &[0x00, 0x90],
+        descriptor: 1,
+        malformed: false,
+        keyframe: false,
+    },
+    Worked {
+        payload: &[0x90, 0x40, 0x01, 0x00],
+        descriptor: 3,
+        malformed: true,
+        keyframe: true,
+    },
+    Worked {
+        payload: &[0x90, 0xff, 0xff, 0xff],
+        descriptor: 6,
+        malformed: false,
+        keyframe: false,
+    },
+    Worked {
+        payload: &[0x90, 0x80, 0x80, 0x00, 0x01],
+        descriptor: 4,
+        malformed: false,
+        keyframe: false,
+    },
+    Worked {
+        payload: &[0x90, 0xe0, 0x0a, 0x05, 0x00, 0x01],
+        descriptor: 5,
+        malformed: false,
+        keyframe: false,
+    },
+    Worked {
+        payload: &[0x90, 0xe0, 0x09, 0x05, 0x00, 0x01],
+        descriptor: 5,
+        malformed: false,
+        keyframe: false,
+    },
+    Worked {
+        payload: &[0x90, 0xe0, 0x0b, 0x06, 0x00, 0x01],
+        descriptor: 5,
+        malformed: false,
+        keyframe: false,
+    },
+];
+
+/// What `parse` refuses, or nothing.
+fn refused(payload: &[u8]) -> Option<Vp8DescriptorError> {
+    Vp8Descriptor::parse(payload).err()
+}
+
+/// What the depacketizer says of a payload, and that a refusal leaves `out` and the extra.
+fn taken(
+    rt: &impl Abort,
+    alloc: Global,
+    depacketizer: &mut Vp8Depacketizer,
+    payload: &[u8],
+    rest: &[u8],
+) -> Result<Option<PacketError>, Fail> {
+    let mut out = Vec::from_slice(alloc, &[7])?;
+    let mut extra = CodecExtra::None;
+    match depacketizer.depacketize(payload, &mut out, &mut extra) {
+        Ok(()) => {
+            assert_eq!(rt; out.get(1..), Some(rest));
+            Ok(None)
+        }
+        Err(fault) => {
+            assert_eq!(rt; out.as_slice(), [7u8].as_slice());
+            assert_eq!(rt; extra, CodecExtra::None);
+            Ok(Some(fault))
+        }
+    }
+}
+
+/// A beginning of a payload is too short up to its descriptor's last byte, unless its second byte made it malformed.
+fn expected(len: usize, descriptor: usize, malformed: bool) -> Option<Vp8DescriptorError> {
+    if malformed && 2 <= len {
+        Some(Vp8DescriptorError::MalformedDescriptor)
+    } else if len <= descriptor {
+        Some(Vp8DescriptorError::ShortPayload)
+    } else {
+        None
+    }
+}
+
+fn fault_of(error: Vp8DescriptorError) -> PacketError {
+    match error {
+        Vp8DescriptorError::ShortPayload => PacketError::ErrShortPacket,
+        Vp8DescriptorError::MalformedDescriptor => PacketError::ErrVP8CorruptedPacket,
+    }
+}
+
+/// Every beginning of a payload through `parse`, the depacketizer and the detector.
+fn cut_off(rt: &impl Abort, alloc: Global, worked: &Worked) -> Result<(), Fail> {
+    for len in 0..worked.payload.len() {
+        let (beginning, _) = worked.payload.split_at(len);
+        cut(rt, alloc, beginning, worked)?;
+    }
+    cut(rt, alloc, worked.payload, worked)
+}
+
+fn cut(rt: &impl Abort, alloc: Global, payload: &[u8], worked: &Worked) -> Result<(), Fail> {
+    let wanted = expected(payload.len(), worked.descriptor, worked.malformed);
+    assert_eq!(rt; refused(payload), wanted);
+    let rest = payload.get(worked.descriptor..).unwrap_or(&[]);
+    let fault = taken(rt, alloc, &mut Vp8Depacketizer::default(), payload, rest)?;
+    assert_eq!(rt; fault, wanted.map(fault_of));
+    let keyframe = worked.keyframe && worked.descriptor < payload.len();
+    assert_eq!(rt; detect_vp8_keyframe(payload), keyframe);
+    if let Ok(descriptor) = Vp8Descriptor::parse(payload) {
+        assert_eq!(rt; descriptor.starts_keyframe(payload), keyframe);
+    }
+    Ok(())
+}
+
+/// The fields of a descriptor, as `parse` and the depacketizer tell them.
+fn told(rt: &impl Abort, alloc: Global, payload: &[u8], fields: &Fields) -> Result<(), Fail> {
+    let descriptor = Vp8Descriptor::parse(payload)?;
+    assert_eq!(rt; descriptor.picture_id(), fields.picture_id);
+    assert_eq!(rt; descriptor.tl0_pic_idx(), fields.tl0_pic_idx);
+    assert_eq!(rt; descriptor.key_idx(), fields.key_idx);
+    let mut depacketizer = Vp8Depacketizer::default();
+    let mut out = Vec::new(alloc);
+    let mut extra = CodecExtra::None;
+    depacketizer.depacketize(payload, &mut out, &mut extra)?;
+    assert_eq!(rt; depacketizer.i, u8::from(fields.picture_id.is_some()));
+    assert_eq!(rt; depacketizer.l, u8::from(fields.tl0_pic_idx.is_some()));
+    assert_eq!(rt; depacketizer.t, u8::from(fields.temporal.is_some()));
+    assert_eq!(rt; depacketizer.k, u8::from(fields.key_idx.is_some()));
+    let (tid, y) = fields.temporal.unwrap_or((0, false));
+    let told = Vp8CodecExtra {
+        discardable: false,
+        sync: y,
+        layer_index: tid,
+        picture_id: fields.picture_id.map(|id| u64::from(id)),
+        tl0_picture_id: fields.tl0_pic_idx.map(|index| u64::from(index)),
+        is_keyframe: true,
+    };
+    assert_eq!(rt; extra, CodecExtra::Vp8(told));
+    assert_eq!(rt; depacketizer.key_idx, fields.key_idx.unwrap_or(0));
+    Ok(())
+}
+
+#[test]
+fn every_beginning_of_the_worked_payloads(rt: HostRuntime) -> Result<(), Fail> {
+    for worked in &PAYLOADS {
+        cut_off(&rt, rt.alloc(), worked)?;
+    }
+    Ok(())
+}
+
+#[test]
+fn every_descriptor_cut_off_at_each_byte(rt: HostRuntime) -> Result<(), Fail> {
+    for row in &DESCRIPTORS {
+        let worked = Worked {
+            payload: row.payload,
+            descriptor: row.descriptor,
+            malformed: row.fields.is_none(),
+            keyframe: true,
+        };
+        cut_off(&rt, rt.alloc(), &worked)?;
+    }
+    Ok(())
+}
+
+#[test]
+fn every_field_of_every_descriptor(rt: HostRuntime) -> Result<(), Fail> {
+    for row in &DESCRIPTORS {
+        if let Some(fields) = &row.fields {
+            told(&rt, rt.alloc(), row.payload, fields)?;
+        }
+    }
+    Ok(())
+}

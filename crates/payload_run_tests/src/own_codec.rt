@@ -1,0 +1,70 @@
+//! A codec of a caller's own, as the README has it.
+
+ghost use Rattle.std.specs.Prelude.{[], ⊤};
+
+use crate::runs::sample;
+use codec_payload_core::codec::{BoxedPacketizer, CodecPacketizer, Packetizer};
+use codec_payload_core::error::PacketError;
+use codec_payload_core::payload::{MemorySink, Payloader};
+use codec_payload_core::wire::{Frequency, ToPayload};
+use std::alloc::Global;
+use std::test::Fail;
+
+/// Sends each byte of a frame in a packet of its own.
+#[derive(Debug, Drop)]
+pub(super) struct EachByte {}
+
+impl Packetizer for EachByte {
+    // What callers may rely on is the author's choice. These promise nothing, and owe no proof.
+    ghost state = { λ _. [] };
+
+    ghost packetize_step = { λ _ _ _ _ _. ⊤ };
+
+    ghost marker_step = { λ _ _ _ _ _ _. ⊤ };
+
+    ghost may_mark = { λ _. ⊤ };
+
+    ghost may_do_without = { λ _. ⊤ };
+
+    fn packetize(
+        &mut self,
+        alloc: Global,
+        _mtu: usize,
+        b: &[u8],
+    ) -> Result<Vec<Vec<u8>>, PacketError> {
+        let mut packets = Vec::new(alloc);
+        for byte in b {
+            packets.push(Vec::from_slice(alloc, &[*byte])?)?;
+        }
+        Ok(packets)
+    }
+
+    fn is_marker(&mut self, _data: &[u8], _previous: Option<&[u8]>, last: bool) -> bool {
+        last
+    }
+}
+
+/// Sends a sample twice: by its codec's type, and by a box whose contents are known when the program runs.
+fn send_twice(alloc: Global, sample: &ToPayload, sink: &mut MemorySink) -> Result<(), PacketError> {
+    let own = CodecPacketizer::Boxed(EachByte {});
+    let mut payloader = Payloader::with_packetizer(own, Frequency::EIGHT_KHZ);
+    payloader.push_sample(alloc, sample, 1_200, sink)?;
+
+    let boxed = CodecPacketizer::Boxed(BoxedPacketizer(Box::new(alloc, EachByte {})?));
+    let mut payloader = Payloader::with_packetizer(boxed, Frequency::EIGHT_KHZ);
+    payloader.push_sample(alloc, sample, 1_200, sink)
+}
+
+#[test]
+fn a_codec_of_ones_own(rt: HostRuntime) -> Result<(), Fail> {
+    let alloc = rt.alloc();
+    let mut sink = MemorySink::new(alloc, 1);
+    send_twice(alloc, &sample(alloc, 960, &[1, 2])?, &mut sink)?;
+    let mut sent = Vec::new(alloc);
+    for packet in sink.packets() {
+        sent.extend_from_slice(&packet.payload)?;
+        sent.push(u8::from(packet.marker))?;
+    }
+    assert_eq!(rt; sent.as_slice(), [1u8, 0, 2, 1, 1, 0, 2, 1].as_slice());
+    Ok(())
+}

@@ -1,0 +1,89 @@
+//! The example of the README.
+
+use crate::runs::sample;
+use codec_payload_core::buffer::{Depacketized, DepacketizingBuffer, RtpMeta};
+use codec_payload_core::codec::{CodecDepacketizer, Vp9PacketizerMode};
+use codec_payload_core::error::PacketError;
+use codec_payload_core::payload::{MemorySink, OutgoingPacket, Payloader};
+use codec_payload_core::wire::{
+    Codec, CodecSpec, Frequency, MediaTime, RtpHeader, Ticks, ToPayload,
+};
+use std::alloc::Global;
+use std::test::Fail;
+
+/// What is known of a packet that came as it was sent.
+fn received(packet: &OutgoingPacket, clock_rate: Frequency) -> RtpMeta {
+    RtpMeta {
+        received: Ticks(0),
+        time: MediaTime::new(u64::from(packet.rtp_time), clock_rate),
+        seq_no: packet.seq_no,
+        header: RtpHeader {
+            payload_type: packet.pt,
+            sequence_number: (packet.seq_no.0 % (1 << 16)) as u16,
+            timestamp: packet.rtp_time,
+            ssrc: 0,
+            marker: packet.marker,
+            ext_vals: packet.ext_vals,
+        },
+        last_sender_info: None,
+    }
+}
+
+/// Sends samples and receives their packets. There are no units of a codec that has no payloads of its own.
+fn send_and_receive(
+    alloc: Global,
+    spec: CodecSpec,
+    samples: &[ToPayload],
+) -> Result<Vec<Depacketized>, PacketError> {
+    let mut units = Vec::new(alloc);
+
+    // A sender cuts samples into packets of at most 1,200 bytes, which go to a sink: yours implements `PacketSink`.
+    let Some(mut payloader) = Payloader::new(spec, Vp9PacketizerMode::NonFlexible, 0) else {
+        return Ok(units);
+    };
+    let mut sink = MemorySink::new(alloc, 1);
+    for sample in samples {
+        payloader.push_sample(alloc, sample, 1_200, &mut sink)?;
+    }
+
+    // A receiver of the same specification pushes packets as they come, in any order, and takes the units that are ready.
+    let Some(mut depacketizer) = CodecDepacketizer::from_codec(alloc, spec.codec) else {
+        return Ok(units);
+    };
+    depacketizer.configure_for(&spec);
+    let mut buffer = DepacketizingBuffer::new(alloc, depacketizer, 30);
+    for packet in sink.packets() {
+        let payload = Vec::from_slice(alloc, &packet.payload)?;
+        buffer.push(received(packet, spec.clock_rate), payload)?;
+    }
+    while let Some(unit) = buffer.pop() {
+        units.push(unit?)?;
+    }
+    Ok(units)
+}
+
+/// Speech of AMR-WB in octet-aligned payloads: receivers of the other layout would refuse it.
+#[test]
+fn what_is_sent_is_received(rt: HostRuntime) -> Result<(), Fail> {
+    let alloc = rt.alloc();
+    let spec = CodecSpec {
+        codec: Codec::AmrWb,
+        clock_rate: Frequency::make(16_000).ok_or("a rate")?,
+        octet_align: true,
+    };
+    let mut samples = Vec::new(alloc);
+    samples.push(sample(alloc, 960, &[0x74])?)?;
+    samples.push(sample(alloc, 1_920, &[0x4c, 1, 2, 3, 4, 0x50])?)?;
+    let units = send_and_receive(alloc, spec, &samples)?;
+    assert_eq!(rt; units.len(), samples.len());
+    for (unit, sample) in units.iter().zip(&samples) {
+        assert_eq!(rt; unit.bytes.as_slice(), sample.bytes.as_slice());
+        assert!(rt; unit.contiguous);
+    }
+    let red = CodecSpec {
+        codec: Codec::Red,
+        ..spec
+    };
+    assert!(rt; send_and_receive(alloc, red, &samples)?.is_empty());
+    Ok(())
+}
