@@ -17,7 +17,7 @@ use Rattle.codec_payload_base.specs.declared.wire.Codec.TheVariants as codecs
 use Rattle.codec_payload_buffer.specs.declared.codec.CodecDepacketizer.{CodecDepacketizer}
 use Rattle.codec_payload_buffer.specs.declared.codec.CodecDepacketizer.TheVariants as variants
 
--- a depacketizer of each codec, with what it holds; of one that a caller brings in a box nothing is known
+-- a depacketizer of each codec, with what it holds; of one that a caller brings nothing is known
 pub data Depack : Type 0 where
   G711Depack : Depack
   OpusDepack : Depack
@@ -67,7 +67,7 @@ kind_of_depack (Av1Depack pending) = Av1Payloads
 kind_of_depack (AmrWbDepack octet) = AmrWbPayloads octet
 kind_of_depack BoxedDepack = BoxedPayloads
 
--- whether the payloads are those of a codec, and not of a depacketizer in a box
+-- whether the payloads are those of a codec, and not of a depacketizer that a caller brings
 abbrev pub is_codec : DepackKind → Bool
 is_codec BoxedPayloads = false
 is_codec kind = true
@@ -129,7 +129,7 @@ configured_depack octet rate (AmrWbDepack before) = AmrWbDepack octet
 configured_depack octet rate NullDepack = NullDepack
 configured_depack octet rate BoxedDepack = BoxedDepack
 
--- the depacketizer, the payload, the bytes and the extra before; the answer; the three afterwards. One in a box may answer
+-- the depacketizer, the payload, the bytes and the extra before; the answer; the three afterwards. One that a caller brings may answer
 -- anything
 abbrev pub DepackStep : Depack → List ℕ → List ℕ → CodecExtra → Result ⊤ PacketError → Depack → List ℕ → CodecExtra → Type 0
 DepackStep G711Depack payload out extra answer after out' extra' = Appends payload out extra answer out' extra' × (after ≡ G711Depack)
@@ -160,7 +160,7 @@ numbers_of_depack BoxedDepack = []
 abbrev pub DepackStepTo : Depack → List ℕ → List ℕ → CodecExtra → Result ⊤ PacketError → List ℕ → List ℕ → CodecExtra → Type 0
 DepackStepTo d payload out extra answer after out' extra' = (next : Depack) × DepackStep d payload out extra answer next out' extra' × (after ≡ numbers_of_depack next)
 
--- whether a payload begins a unit. Of a depacketizer in a box this is not known: nothing stands on the values that it has
+-- whether a payload begins a unit. Of a depacketizer that a caller brings this is not known: nothing stands on the values that it has
 -- here, and in the two below
 abbrev pub head_in : DepackKind → List ℕ → Bool
 head_in G711Payloads payload = true

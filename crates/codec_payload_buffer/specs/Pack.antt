@@ -13,7 +13,7 @@ use Rattle.codec_payload_base.specs.declared.wire.Codec.TheVariants as codecs
 use Rattle.codec_payload_buffer.specs.declared.codec.CodecPacketizer.{CodecPacketizer}
 use Rattle.codec_payload_buffer.specs.declared.codec.CodecPacketizer.TheVariants as variants
 
--- a packetizer of each codec, with what it holds; of one that a caller brings in a box nothing is known
+-- a packetizer of each codec, with what it holds; of one that a caller brings nothing is known
 pub data Pack : Type 0 where
   G711Pack : Pack
   G722Pack : Pack
@@ -40,7 +40,7 @@ pack_of (variants.Av1 _) = Av1Pack
 pack_of (variants.AmrWb p) = AmrWbPack p.octet_align
 pack_of (variants.Boxed _) = BoxedPack
 
--- whether the packetizer is that of a codec, and not in a box
+-- whether the packetizer is that of a codec, and not one that a caller brings
 abbrev pub is_built_in : Pack → Bool
 is_built_in BoxedPack = false
 is_built_in pack = true
@@ -79,7 +79,7 @@ configured octet (AmrWbPack before) = AmrWbPack octet
 configured octet NullPack = NullPack
 configured octet BoxedPack = BoxedPack
 
--- the packetizer, the MTU and the frame; the answer and the packetizer afterwards. One in a box may answer anything
+-- the packetizer, the MTU and the frame; the answer and the packetizer afterwards. One that a caller brings may answer anything
 abbrev pub PackStep : Pack → ℕ → List ℕ → Result (List (List ℕ)) PacketError → Pack → Type 0
 PackStep G711Pack mtu frame answer after = AnswersPieces mtu frame answer × (after ≡ G711Pack)
 PackStep G722Pack mtu frame answer after = AnswersPieces mtu frame answer × (after ≡ G722Pack)
@@ -111,7 +111,7 @@ numbers_of_pack BoxedPack = []
 abbrev pub PackStepTo : Pack → ℕ → List ℕ → Result (List (List ℕ)) PacketError → List ℕ → Type 0
 PackStepTo pack mtu frame answer after = (next : Pack) × PackStep pack mtu frame answer next × (after ≡ numbers_of_pack next)
 
--- whether a packet is marked; the last argument says that it is the last of its frame. Of one in a box this is not known:
+-- whether a packet is marked; the last argument says that it is the last of its frame. Of one that a caller brings this is not known:
 -- nothing stands on the values that it has here, and in the two below
 abbrev pub marker_of : Pack → Bool → Bool
 marker_of G711Pack last = false

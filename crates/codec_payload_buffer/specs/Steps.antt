@@ -5,8 +5,8 @@ use Rattle.codec_payload_base.specs.declared.error.PacketError.{PacketError}
 use Rattle.codec_payload_base.specs.declared.error.PacketError.TheVariants as faults
 use Rattle.codec_payload_base.specs.declared.interface.CodecExtra.{CodecExtra}
 use Rattle.codec_payload_base.specs.declared.interface.CodecExtra.TheVariants as extras
-use Rattle.codec_payload_buffer.specs.ContiguityTable.{checked}
-use Rattle.codec_payload_buffer.specs.Depack.{Depack, DepackStep, is_built_in_depack, head_of, tail_of}
+use Rattle.codec_payload_buffer.specs.ContiguityTable.{checked, contiguity_for}
+use Rattle.codec_payload_buffer.specs.Depack.{Depack, DepackStep, kind_of_depack, is_built_in_depack, head_of, tail_of}
 use Rattle.codec_payload_buffer.specs.Held.{Held, number_of, has_number, placed, between, above, Rises, IsAboveCutoff}
 use Rattle.codec_payload_buffer.specs.Frames.{frames}
 use Rattle.codec_payload_buffer.specs.Release.{Release}
@@ -26,6 +26,18 @@ pub record State : Type 0 where
   pub hold_back : ℕ
   pub limit : ℕ
 
+-- an empty buffer over that depacketizer
+abbrev pub empty_buffer : ℕ → ℕ → Depack → State
+empty_buffer hold_back limit depack = record {
+  held = [];
+  cutoff = None;
+  mark = false;
+  contiguity = contiguity_for (kind_of_depack depack);
+  depack = depack;
+  hold_back = hold_back;
+  limit = limit;
+}
+
 -- what every buffer keeps: the numbers rise, all lie above the cutoff, and there are at most as many as the limit
 pub record IsSound (s : State) : Type 0 where
   pub rises : Rises s.held
@@ -36,7 +48,7 @@ pub record IsSound (s : State) : Type 0 where
 abbrev pub arrived : Depack → RtpMeta → List ℕ → Held
 arrived depack meta bytes = record { meta = meta; bytes = bytes; head = head_of depack bytes; tail = tail_of depack meta.header.marker bytes }
 
--- the same of any depacketizer: one in a box may tell anything
+-- the same of any depacketizer: one that a caller brings may tell anything
 abbrev pub IsArrived : Depack → RtpMeta → List ℕ → Held → Type 0
 IsArrived depack meta bytes p = (p.meta ≡ meta) × (p.bytes ≡ bytes) × (is_built_in_depack depack ≡ true → p ≡ arrived depack meta bytes)
 

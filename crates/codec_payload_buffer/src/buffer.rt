@@ -2,12 +2,11 @@
 
 ghost use Rattle.std.specs.Prelude.{◌≡◌, ◌≤◌, ◌<◌, IsTrue, IsOk, false, OnOk, OnErr, IfErr, length, Option, Result, [], ◌↔◌};
 ghost use Rattle.codec_payload_base.specs.declared.error.PacketError.TheVariants.{OutOfMemory};
-ghost use Rattle.codec_payload_buffer.specs.ContiguityTable.{contiguity_for};
-ghost use Rattle.codec_payload_buffer.specs.Depack.{depack_of, kind_of_depack};
+ghost use Rattle.codec_payload_buffer.specs.Depack.{depack_of};
 ghost use Rattle.codec_payload_buffer.specs.Held.{Held, Rises, above};
 ghost use Rattle.codec_payload_buffer.specs.Frames.{frames, AreFramesOfSet, AreInOrder, AreApart, AreOnlyList, BothSaySame};
 ghost use Rattle.codec_payload_buffer.specs.Scan.{end_of};
-ghost use Rattle.codec_payload_buffer.specs.Steps.{IsSound, IsArrived, pushed, is_dropped, due_of, TriesFrame, Pops, HasTaken};
+ghost use Rattle.codec_payload_buffer.specs.Steps.{empty_buffer, IsSound, IsArrived, pushed, is_dropped, due_of, TriesFrame, Pops, HasTaken};
 ghost use Rattle.codec_payload_buffer.specs.Stretches.{LeavesNumbers, OrderIsFree};
 
 pub mod frames;
@@ -73,15 +72,7 @@ impl<B: Depacketizer> DepacketizingBuffer<B> {
     /// An empty buffer over that depacketizer, with room for 4,096 packets. A frame that does not start right after the
     /// cutoff is held back until more than `hold_back` complete frames are there. Takes no memory.
     pub fn new(alloc: Global, depack: CodecDepacketizer<B>, hold_back: usize) -> Self
-        ensures { result ≡ record {
-          held = [];
-          cutoff = Option.None;
-          mark = false;
-          contiguity = contiguity_for (kind_of_depack (depack_of depack));
-          depack = depack_of depack;
-          hold_back = hold_back;
-          limit = 4096;
-        } }
+        ensures { result ≡ empty_buffer hold_back 4096 (depack_of depack) }
     {
         DepacketizingBuffer::with_limit(alloc, depack, hold_back, HELD_LIMIT)
     }
@@ -96,15 +87,7 @@ impl<B: Depacketizer> DepacketizingBuffer<B> {
     ) -> Self
         requires least { 1 ≤ limit }
         requires most { limit ≤ 65536 }
-        ensures { result ≡ record {
-          held = [];
-          cutoff = Option.None;
-          mark = false;
-          contiguity = contiguity_for (kind_of_depack (depack_of depack));
-          depack = depack_of depack;
-          hold_back = hold_back;
-          limit = limit;
-        } }
+        ensures { result ≡ empty_buffer hold_back limit (depack_of depack) }
     {
         DepacketizingBuffer {
             packets: VecDeque::new(alloc),

@@ -9,10 +9,10 @@ use Rattle.codec_payload_buffer.specs.Pack.{Pack, pack_for, configured, is_built
 use Rattle.codec_payload_core.specs.Headline.{IsUnused}
 use Rattle.codec_payload_core.specs.Packets.{SentPackets}
 use Rattle.codec_payload_core.specs.RunPromises.{KeepsPromises, ran}
-use Rattle.codec_payload_core.specs.RunStream.{empty_buffer, fresh, RunsStream}
+use Rattle.codec_payload_core.specs.RunStream.{fresh, RunsStream}
 use Rattle.codec_payload_core.specs.Schedule.{RunState, run_state}
 use Rattle.codec_payload_core.specs.Sending.{Payloading}
-use Rattle.codec_payload_buffer.specs.Steps.{State}
+use Rattle.codec_payload_buffer.specs.Steps.{State, empty_buffer}
 use Rattle.codec_payload_core.specs.ToldIds.{read_by}
 use Rattle.codec_payload_core.specs.Units.{payloads_by}
 use Rattle.codec_payload_core.specs.declared.schedule.Run.{Run}

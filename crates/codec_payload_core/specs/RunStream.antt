@@ -1,30 +1,17 @@
 -- A run of a stream: samples sent by a fresh payloader of a specification, and received by a fresh buffer of the same.
-use Rattle.std.specs.Prelude.{◌≡◌, ℕ, false, List, [], Some, None, option_map, map}
+use Rattle.std.specs.Prelude.{◌≡◌, List, [], Some, option_map, map}
 use Rattle.codec_payload_base.specs.declared.wire.ToPayload.{ToPayload}
-use Rattle.codec_payload_buffer.specs.ContiguityTable.{contiguity_for}
-use Rattle.codec_payload_buffer.specs.Depack.{Depack, depack_for, configured_depack, kind_of_depack}
+use Rattle.codec_payload_buffer.specs.Depack.{Depack, depack_for, configured_depack}
 use Rattle.codec_payload_buffer.specs.Pack.{Pack, pack_for, configured}
 use Rattle.codec_payload_core.specs.Exact.{ReleasesUnits}
 use Rattle.codec_payload_core.specs.RunPromises.{KeepsPromises, ran}
 use Rattle.codec_payload_core.specs.Schedule.{RunState, run_state}
 use Rattle.codec_payload_core.specs.Sending.{sample_of}
 use Rattle.codec_payload_core.specs.SentStream.{AreReadable}
-use Rattle.codec_payload_buffer.specs.Steps.{State}
+use Rattle.codec_payload_buffer.specs.Steps.{empty_buffer}
 use Rattle.codec_payload_core.specs.declared.schedule.Run.{Run}
 use Rattle.codec_payload_core.specs.declared.schedule.Step.{Step}
 use Rattle.codec_payload_core.specs.declared.schedule.Stream.{Stream}
-
--- an empty buffer over that depacketizer
-abbrev pub empty_buffer : ℕ → ℕ → Depack → State
-empty_buffer hold_back limit depack = record {
-  held = [];
-  cutoff = None;
-  mark = false;
-  contiguity = contiguity_for (kind_of_depack depack);
-  depack = depack;
-  hold_back = hold_back;
-  limit = limit;
-}
 
 -- the payloader, the buffer and the sink of a stream before anything is sent
 abbrev pub fresh : Stream → Pack → Depack → RunState

@@ -64,7 +64,7 @@ packets_from pack sample rtp_time number place (payload ∷ payloads) =
 abbrev pub packets_for : Pack → Sample → ℕ → ℕ → List (List ℕ) → List Packet
 packets_for pack sample rtp_time number payloads = packets_from pack sample rtp_time number 0 payloads
 
--- the packet is q where the packetizer is built in; one in a box tells the marker, and whether the packet may be asked for
+-- the packet is q where the packetizer is built in; one that a caller brings tells the marker, and whether the packet may be asked for
 -- again, as it likes
 abbrev pub IsAs : Bool → Packet → Packet → Type 0
 IsAs true p q = p ≡ q

@@ -9,6 +9,7 @@ ghost use Rattle.codec_payload_core.specs.Sending.{sample_of, packet_for, IsAs, 
 ghost use Rattle.codec_payload_core.specs.StrippedValues.{kept_if, stripped};
 
 mod red_sink;
+
 use crate::codec::{CodecPacketizer, NoBox, Packetizer, Vp9PacketizerMode};
 use crate::error::PacketError;
 use crate::wire::{CodecSpec, ExtensionValues, Frequency, Pt, SeqNo, Ticks, ToPayload};

@@ -6,8 +6,6 @@ mod buffers;
 mod codecs;
 mod report;
 mod senders;
-#[cfg(test)]
-mod tests;
 
 use codec_payload_core::error::PacketError;
 use report::report;

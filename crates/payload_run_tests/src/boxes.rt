@@ -72,14 +72,10 @@ impl Packetizer for MarksRepeats {
     fn packetize(
         &mut self,
         alloc: Global,
-        _mtu: usize,
+        mtu: usize,
         b: &[u8],
     ) -> Result<Vec<Vec<u8>>, PacketError> {
-        let mut packets = Vec::new(alloc);
-        for byte in b {
-            packets.push(Vec::from_slice(alloc, &[*byte])?)?;
-        }
-        Ok(packets)
+        EachByte {}.packetize(alloc, mtu, b)
     }
 
     fn is_marker(&mut self, data: &[u8], previous: Option<&[u8]>, _last: bool) -> bool {

@@ -1,5 +1,5 @@
-//! The worked examples of the buffer, of payloaders and of whole runs, as tests over `codec_payload_core` alone, and the
-//! programs of README.md.
+//! The worked examples of the buffer, of payloaders and of whole runs, the programs of README.md, and hostile input, as tests
+//! over `codec_payload_core` alone.
 #![tactic(auto)]
 
 #[cfg(test)]
@@ -10,6 +10,10 @@ mod buffer;
 mod contiguity;
 #[cfg(test)]
 mod extensions;
+#[cfg(test)]
+mod gateway;
+#[cfg(test)]
+mod hostile;
 #[cfg(test)]
 mod own_codec;
 #[cfg(test)]

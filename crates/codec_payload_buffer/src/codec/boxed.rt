@@ -1,4 +1,4 @@
-//! Codecs that a caller brings in a box, and the lack of any.
+//! Codecs that a caller brings, in a box, and the lack of any.
 
 ghost use Rattle.std.specs.Prelude.{◌≡◌, [], false, Option, Result};
 

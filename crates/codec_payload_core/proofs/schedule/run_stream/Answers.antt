@@ -1,7 +1,7 @@
 use Rattle.std.proofs.Common.{◌∙◌, sym, ap, option_map}
 use Rattle.codec_payload_buffer.specs.Depack.{depack_of}
 use Rattle.codec_payload_core.proofs.StreamStart.{runs_stream}
-use Rattle.codec_payload_core.specs.RunStream.{empty_buffer}
+use Rattle.codec_payload_buffer.specs.Steps.{empty_buffer}
 use Rattle.codec_payload_core.specs.Schedule.{run_state}
 use Rattle.codec_payload_core.proofs.schedule.run_stream.Goals as goal
 

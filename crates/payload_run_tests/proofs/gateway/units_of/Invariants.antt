@@ -1,0 +1,6 @@
+use Rattle.std.proofs.Common.{length}
+use Rattle.payload_run_tests.proofs.gateway.units_of.Given as goal
+
+-- each unit takes a packet with it
+abbrev pub decreases-loop-unit : goal.decreases-loop-unit
+decreases-loop-unit l = length l.buffer.held
