@@ -12,6 +12,7 @@ mod packer;
 mod packetizer;
 mod payload;
 mod payload_writer;
+mod pending;
 mod piece;
 #[cfg(test)]
 mod tests;
