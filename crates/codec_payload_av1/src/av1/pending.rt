@@ -88,7 +88,8 @@ impl Pending {
     }
 
     /// Appends the unit of the OBU that is pending and ends in these bytes, where it has no size of its own; then nothing is
-    /// pending. Else nothing changes. Where what comes before its payload fills the room, what is pending becomes `out`.
+    /// pending. Else nothing changes. Where the OBU is most of what `out` has room for, and what comes before its payload
+    /// fills the room, what is pending becomes `out`.
     pub fn complete(&mut self, out: &mut Vec<u8>, end: &[u8]) -> Result<bool, AllocError>
         ensures added { IfOk result (λ is_whole. is_whole ≡ true → (added : List ℕ) × (unit_of (self.old ++ end.now) ≡ Some added) × (out.new.items ≡ out.old.items ++ added) × (self.new ≡ [])) }
         ensures same { IfOk result (λ is_whole. is_whole ≡ false → (out.new.items ≡ out.old.items) × (self.new ≡ self.old)) }
@@ -103,7 +104,8 @@ impl Pending {
         if is_kept(begun.header) {
             let size = begun.payload.len() as u64 + end.len() as u64;
             put_front(out, begun.header, begun.extension, size)?;
-            if begun.payload.len() + out.len() == self.bytes.len() {
+            let is_most = size > out.capacity() as u64 / 2;
+            if is_most && begun.payload.len() + out.len() == self.bytes.len() {
                 self.bytes.extend_from_slice(end)?;
                 self.room = 0;
                 swap_behind(&mut self.bytes, out);

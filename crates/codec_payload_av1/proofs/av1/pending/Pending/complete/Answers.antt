@@ -6,7 +6,7 @@ use Rattle.codec_payload_base.specs.Leb.{leb}
 use Rattle.codec_payload_av1.specs.Av1Obu.{Obu, canonical, has_size, is_kept_type, view}
 use Rattle.codec_payload_av1.proofs.Av1GoingOn.{going_on, unit_going_on, bare_parts, behind_room, canonical_parts}
 use Rattle.codec_payload_av1.proofs.av1.pending.Pending.complete.Goals as goal
-use Rattle.codec_payload_av1.proofs.av1.pending.Pending.complete.Goals.{Then-is_kept, In_ok-put_front, then-is_kept+in_ok-put_front+then-begun-len+in_ok-extend_from_slice, then-is_kept+in_ok-put_front+else-begun-len+in_ok-extend_from_slice-2+in_ok-extend_from_slice-3, else-is_kept}
+use Rattle.codec_payload_av1.proofs.av1.pending.Pending.complete.Goals.{Then-is_kept, In_ok-put_front, then-is_kept+in_ok-put_front+then-is_most+then-begun-len+in_ok-extend_from_slice, then-is_kept+in_ok-put_front+else-is_most+in_ok-extend_from_slice-2+in_ok-extend_from_slice-3, else-is_kept}
 
 payload_within : (c : Then-is_kept) → length c.in-Some.begun.payload.now ≤ length c.self.inside.bytes.items
 payload_within c =
@@ -47,10 +47,10 @@ returns-clause-added c = λ _.
     let end = c.args.end.now in
     let made : c.if-is_kept.out.items ≡ out ++ cond (is_kept_type o.header) (canonical (going_on o end)) [] =
     elim c.if-is_kept.branch [
-      | then-is_kept+in_ok-put_front+then-begun-len+in_ok-extend_from_slice w ↦ rw (sym c.is_kept.ensures ∙ w.if-is_kept.true) (ap (λ (v : Vec ℕ). v.items) w.out-is
-          ∙ placed out c.self.inside.bytes.items end o c.self.inside.room w.put_front.new.out.items w.extend_from_slice.new.self.items w.swap_behind.new.out.items parts w.in_ok-put_front.ensures.written (omega (arith, w.if-begun-len.true, w.len.ensures, w.len-then-is_kept.ensures, c.self.inside.bytes.ok.0, w.put_front.new.out.ok.0)) w.in_ok-extend_from_slice.ensures.items w.swap_behind.ensures)
-      | then-is_kept+in_ok-put_front+else-begun-len+in_ok-extend_from_slice-2+in_ok-extend_from_slice-3 w ↦ rw (sym c.is_kept.ensures ∙ w.if-is_kept.true) (ap (λ (v : Vec ℕ). v.items) w.out-is
-          ∙ copied out end o w.put_front.new.out.items w.extend_from_slice-else-begun-len.new.self.items w.extend_from_slice-else-begun-len-2.new.self.items w.in_ok-put_front.ensures.written w.in_ok-extend_from_slice-2.ensures.items w.in_ok-extend_from_slice-3.ensures.items)
+      | then-is_kept+in_ok-put_front+then-is_most+then-begun-len+in_ok-extend_from_slice w ↦ rw (sym c.is_kept.ensures ∙ w.if-is_kept.true) (ap (λ (v : Vec ℕ). v.items) w.out-is
+          ∙ placed out c.self.inside.bytes.items end o c.self.inside.room w.put_front.new.out.items w.extend_from_slice.new.self.items w.swap_behind.new.out.items parts w.in_ok-put_front.ensures.written (omega (arith, w.if-begun-len.true, w.len.ensures, w.len-then-is_most.ensures, c.self.inside.bytes.ok.0, w.put_front.new.out.ok.0)) w.in_ok-extend_from_slice.ensures.items w.swap_behind.ensures)
+      | then-is_kept+in_ok-put_front+else-is_most+in_ok-extend_from_slice-2+in_ok-extend_from_slice-3 w ↦ rw (sym c.is_kept.ensures ∙ w.if-is_kept.true) (ap (λ (v : Vec ℕ). v.items) w.out-is
+          ∙ copied out end o w.put_front.new.out.items w.extend_from_slice-else-is_most.new.self.items w.extend_from_slice-else-is_most-2.new.self.items w.in_ok-put_front.ensures.written w.in_ok-extend_from_slice-2.ensures.items w.in_ok-extend_from_slice-3.ensures.items)
       | else-is_kept w ↦ rw (sym c.is_kept.ensures ∙ w.if-is_kept.false) (ap (λ (v : Vec ℕ). v.items) w.out-is ∙ sym (append-nil out))
     ] in
     (cond (is_kept_type o.header) (canonical (going_on o end)) [], unit_going_on c.args.self.now end c.in-Some.field-0-1.now o read none, made, c.clear.ensures)
