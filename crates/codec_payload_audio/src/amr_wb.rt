@@ -38,18 +38,22 @@ fn speech_bits(frame_type: u8) -> Option<usize>
     requires { frame_type < 16 }
     ensures { result ≡ speech_size frame_type }
 {
-    match frame_type {
-        0 => Some(132),
-        1 => Some(177),
-        2 => Some(253),
-        3 => Some(285),
-        4 => Some(317),
-        5 => Some(365),
-        6 => Some(397),
-        7 => Some(461),
-        8 => Some(477),
-        9 => Some(40),
-        10..=13 => None,
-        _ => Some(0),
+    let bits = match frame_type {
+        0 => 132,
+        1 => 177,
+        2 => 253,
+        3 => 285,
+        4 => 317,
+        5 => 365,
+        6 => 397,
+        7 => 461,
+        8 => 477,
+        9 => 40,
+        _ => 0,
+    };
+    if (10..14).contains(&frame_type) {
+        None
+    } else {
+        Some(bits)
     }
 }
