@@ -256,7 +256,7 @@ fn append_unit(out: &mut Vec<u8>, element: &[u8]) -> Result<(), PacketError>
 }
 
 /// Adds what the pending bytes and an element behind them give, which have to be exactly one OBU. Nothing is pending then.
-/// An OBU with a size of its own is copied twice, and no other.
+/// The element is copied once, but for an OBU with a size of its own.
 fn append_joined(
     pending: &mut Pending,
     out: &mut Vec<u8>,

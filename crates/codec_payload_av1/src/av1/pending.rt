@@ -9,7 +9,7 @@ use std::alloc::{AllocError, Global};
 use std::marker::Model;
 use std::mem::swap;
 
-/// So many bytes of a unit at most are copied once more for an OBU behind them not to be.
+/// How many bytes a unit may hold for these to be copied rather than the OBU behind them.
 pub const MOST_BEFORE: usize = 64;
 
 /// The beginning of an OBU whose end is still to come. Room may stand before it, for what the unit holds before the OBU and
