@@ -32,31 +32,28 @@ pub fn payloads_follow_the_grammar()
     ensures sent { SentIsSpelled }
 {}
 
-/// How many speech bits each frame type has; `None` for a reserved one. Types 14 and 15 stand for a lost frame and for a
+/// How many speech bits a frame type has; `None` for a reserved one. Types 14 and 15 stand for a lost frame and for a
 /// frame without data (3GPP TS 26.201, table 1a).
-const SPEECH_BITS: [Option<usize>; 16] = [
-    Some(132),
-    Some(177),
-    Some(253),
-    Some(285),
-    Some(317),
-    Some(365),
-    Some(397),
-    Some(461),
-    Some(477),
-    Some(40),
-    None,
-    None,
-    None,
-    None,
-    Some(0),
-    Some(0),
-];
-
-/// How many speech bits a frame type has.
 fn speech_bits(frame_type: u8) -> Option<usize>
     requires { frame_type < 16 }
     ensures { result ≡ speech_size frame_type }
 {
-    SPEECH_BITS[usize::from(frame_type)]
+    let bits = match frame_type {
+        0 => 132,
+        1 => 177,
+        2 => 253,
+        3 => 285,
+        4 => 317,
+        5 => 365,
+        6 => 397,
+        7 => 461,
+        8 => 477,
+        9 => 40,
+        _ => 0,
+    };
+    if (10..14).contains(&frame_type) {
+        None
+    } else {
+        Some(bits)
+    }
 }

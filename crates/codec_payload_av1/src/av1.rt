@@ -12,6 +12,7 @@ mod packer;
 mod packetizer;
 mod payload;
 mod payload_writer;
+mod pending;
 mod piece;
 
 pub use codec_payload_base::interface::Av1CodecExtra;

@@ -165,7 +165,7 @@ impl<'a> BitRead<'a> for BitReader<'a> {
     }
 
     fn get_bits(&mut self, count: usize) -> Option<u8> {
-        if count > 8 || count > self.remaining_bits() {
+        if count > 8 || (self.bit + count).div_ceil(8) > self.source.len() - self.byte {
             return None;
         }
         if count == 0 {

@@ -9,8 +9,10 @@ ghost use Rattle.codec_payload_av1.specs.Av1Outcome.{Appends, Takes};
 ghost use Rattle.codec_payload_av1.specs.Av1Steps.{Av1Step, TakesPayload, extra_of};
 
 use crate::av1::detect_av1_keyframe;
+use crate::av1::leb::number_len;
 use crate::av1::obu::{has_size_bit, is_kept, is_one_obu, obu_of, put_canonical};
 use crate::av1::payload::{INNER_HEADER, next_element, w_after_one};
+use crate::av1::pending::{MOST_BEFORE, Pending};
 use codec_payload_base::error::PacketError;
 use codec_payload_base::interface::{Av1CodecExtra, CodecExtra, Depacketizer};
 use std::alloc::{AllocError, Global};
@@ -20,13 +22,13 @@ use std::marker::Model;
 /// the beginning of an OBU whose end is still to come.
 #[derive(Debug, Drop)]
 pub struct Av1Depacketizer {
-    pending: Vec<u8>,
+    pending: Pending,
 }
 
 impl Model for Av1Depacketizer {
     ghost Value = { List ℕ };
 
-    ghost view = { λ d. d.pending.items };
+    ghost view = { λ d. d.pending };
 }
 
 impl Av1Depacketizer {
@@ -35,7 +37,7 @@ impl Av1Depacketizer {
         ensures { result ≡ [] }
     {
         Av1Depacketizer {
-            pending: Vec::new(alloc),
+            pending: Pending::new(alloc),
         }
     }
 
@@ -49,11 +51,11 @@ impl Av1Depacketizer {
         ensures taken { TakesPayload result self.old (header ∷ bytes.now) out.old.items out.new.items self.new }
         ensures kept { take (length out.old.items) out.new.items ≡ out.old.items }
     {
-        if header == INNER_HEADER && !self.pending.is_empty() {
-            self.pending.extend_from_slice(bytes)?;
+        if header == INNER_HEADER && !self.pending.as_slice().is_empty() {
+            self.pending.extend(bytes)?;
             return Ok(());
         }
-        if !is_readable(&self.pending, header, bytes) {
+        if !is_readable(self.pending.as_slice(), header, bytes) {
             return Err(PacketError::ErrAv1CorruptedPacket);
         }
         self.take_elements_of(header, bytes, out)
@@ -70,6 +72,7 @@ impl Av1Depacketizer {
         ensures kept { take (length out.old.items) out.new.items ≡ out.old.items }
     {
         keep_begun(&mut self.pending, header);
+        reserve_for_first(out, bytes.len())?;
         take_elements(&mut self.pending, out, header, bytes)
     }
 }
@@ -163,9 +166,20 @@ fn begun_of(header: u8, pending: &[u8]) -> &[u8]
     }
 }
 
+/// Makes room for what a payload of so many bytes adds to a unit that has just begun: no more than these and one size.
+/// Packets can be shorter than the unit that they give, and room for twice as much is not asked for then.
+fn reserve_for_first(out: &mut Vec<u8>, count: usize) -> Result<(), AllocError>
+    ensures { out.new.items ≡ out.old.items }
+{
+    if out.len() <= MOST_BEFORE {
+        out.reserve_exact(count.saturating_add(number_len(count as u64)))?;
+    }
+    Ok(())
+}
+
 /// Lets go of what is pending where it does not go on in the payload of this aggregation header.
-fn keep_begun(pending: &mut Vec<u8>, header: u8)
-    ensures { pending.new.items ≡ begun_at header pending.old.items }
+fn keep_begun(pending: &mut Pending, header: u8)
+    ensures { pending.new ≡ begun_at header pending.old }
 {
     if !continues_pending(header) {
         pending.clear();
@@ -235,26 +249,8 @@ fn append_unit(out: &mut Vec<u8>, element: &[u8]) -> Result<(), PacketError>
         if has_size_bit(obu.header) {
             out.extend_from_slice(element)?;
         } else {
-            put_canonical(out, obu.header, obu.extension, obu.payload, &[])?;
+            put_canonical(out, &obu)?;
         }
-    }
-    Ok(())
-}
-
-/// Adds what an OBU gives whose payload is in two parts: nothing where it is not kept.
-#[tactic(auto, using(crate::proofs::Av1FrontKept::kept_same))]
-fn append_in_parts(
-    out: &mut Vec<u8>,
-    header: u8,
-    extension: &[u8],
-    front: &[u8],
-    back: &[u8],
-) -> Result<(), AllocError>
-    ensures added { OnOk result (out.new.items ≡ out.old.items ++ (if is_kept_type header then canonical (record { header = header; extension = extension.now; payload = front.now ++ back.now }) else [])) }
-    ensures kept { take (length out.old.items) out.new.items ≡ out.old.items }
-{
-    if is_kept(header) {
-        put_canonical(out, header, extension, front, back)?;
     }
     Ok(())
 }
@@ -262,26 +258,22 @@ fn append_in_parts(
 /// Adds what the pending bytes and an element behind them give, which have to be exactly one OBU. Nothing is pending then.
 /// The element is copied once, but for an OBU with a size of its own.
 fn append_joined(
-    pending: &mut Vec<u8>,
+    pending: &mut Pending,
     out: &mut Vec<u8>,
     element: &[u8],
 ) -> Result<(), PacketError>
-    ensures added { Appends result out.old.items out.new.items (unit_of (pending.old.items ++ element.now)) }
+    ensures added { Appends result out.old.items out.new.items (unit_of (pending.old ++ element.now)) }
     ensures kept { take (length out.old.items) out.new.items ≡ out.old.items }
-    ensures emptied { OnOk result (pending.new.items ≡ []) }
+    ensures emptied { OnOk result (pending.new ≡ []) }
 {
-    if pending.is_empty() {
+    if pending.as_slice().is_empty() {
         return append_unit(out, element);
     }
-    if let Some((begun, _)) = obu_of(pending) {
-        if !has_size_bit(begun.header) {
-            append_in_parts(out, begun.header, begun.extension, begun.payload, element)?;
-            pending.clear();
-            return Ok(());
-        }
+    if pending.complete(out, element)? {
+        return Ok(());
     }
-    pending.extend_from_slice(element)?;
-    append_unit(out, pending)?;
+    pending.extend(element)?;
+    append_unit(out, pending.as_slice())?;
     pending.clear();
     Ok(())
 }
@@ -289,15 +281,15 @@ fn append_joined(
 /// Takes an element that ends here: joins it to what is pending, and adds what both give, or drops it where it goes on from
 /// bytes that never came. Nothing is pending then.
 fn take_element(
-    pending: &mut Vec<u8>,
+    pending: &mut Pending,
     out: &mut Vec<u8>,
     is_orphan: bool,
     element: &[u8],
 ) -> Result<(), PacketError>
-    requires { is_orphan ≡ true → pending.old.items ≡ [] }
-    ensures added { Appends result out.old.items out.new.items (if is_orphan then Some [] else unit_of (pending.old.items ++ element.now)) }
+    requires { is_orphan ≡ true → pending.old ≡ [] }
+    ensures added { Appends result out.old.items out.new.items (if is_orphan then Some [] else unit_of (pending.old ++ element.now)) }
     ensures kept { take (length out.old.items) out.new.items ≡ out.old.items }
-    ensures emptied { OnOk result (pending.new.items ≡ []) }
+    ensures emptied { OnOk result (pending.new ≡ []) }
 {
     if is_orphan {
         return Ok(());
@@ -315,17 +307,17 @@ fn stays_open(is_orphan: bool, may_go_on: bool, w: u8, rest: &[u8]) -> bool
 /// Takes the elements behind an aggregation header one after another, as they are read; the last one of a packet that goes
 /// on stays pending.
 fn take_elements(
-    pending: &mut Vec<u8>,
+    pending: &mut Pending,
     out: &mut Vec<u8>,
     header: u8,
     bytes: &[u8],
 ) -> Result<(), PacketError>
-    requires { begun_at header pending.old.items ≡ pending.old.items }
-    ensures taken { Takes result out.old.items out.new.items pending.new.items (received pending.old.items (header ∷ bytes.now)) }
+    requires { begun_at header pending.old ≡ pending.old }
+    ensures taken { Takes result out.old.items out.new.items pending.new (received pending.old (header ∷ bytes.now)) }
     ensures kept { take (length out.old.items) out.new.items ≡ out.old.items }
 {
     let may_go_on = header & 64 != 0;
-    let mut is_orphan = has_orphan(header, pending);
+    let mut is_orphan = has_orphan(header, pending.as_slice());
     let mut w = (header & 0x30) / 16;
     let mut rest = bytes;
     while !rest.is_empty() {
@@ -333,7 +325,7 @@ fn take_elements(
             return Err(PacketError::ErrAv1CorruptedPacket);
         };
         if stays_open(is_orphan, may_go_on, w, after) {
-            pending.extend_from_slice(element)?;
+            pending.extend_behind(out, element)?;
             return Ok(());
         }
         take_element(pending, out, is_orphan, element)?;

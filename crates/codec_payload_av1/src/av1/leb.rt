@@ -24,12 +24,18 @@ fn number_front(more: u32, bytes: &[u8]) -> Option<(u64, &[u8])>
 }
 
 /// The number at the front, of at most ten bytes and modulo 2^64, and what follows it. `None` where no byte below 0x80
-/// ends it.
+/// ends it. Numbers of one or two bytes, as most are, are read without a loop.
 #[tactic(auto, unfolding(codec_payload_base::specs::Leb::leb_at))]
 pub fn number_at(bytes: &[u8]) -> Option<(u64, &[u8])>
     ensures { Finds (λ x. (x.0, x.1.now)) result (leb_at bytes.now) }
 {
-    number_front(9, bytes)
+    match bytes {
+        [low, rest @ ..] if *low < 128 => Some((u64::from(*low), rest)),
+        [low, high, rest @ ..] if *high < 128 => {
+            Some((u64::from(*low % 128) + 128 * u64::from(*high), rest))
+        }
+        _ => number_front(9, bytes),
+    }
 }
 
 /// The number at the front of two slices that follow each other, of at most `more` + 1 bytes and modulo 2^64, and how many

@@ -1,9 +1,10 @@
 //! OBUs (AV1 bitstream specification, section 5.3).
 
-ghost use Rattle.std.specs.Prelude.{◌≡◌, ◌++◌, OnOk, length, take};
+ghost use Rattle.std.specs.Prelude.{◌≡◌, ◌∷◌, ◌++◌, OnOk, length, take, bit_or};
 ghost use Rattle.std.specs.Option.{option_map};
 ghost use Rattle.codec_payload_av1.specs.Av1Obu.{obu_at, extension_at, sized_at, canonical, has_size, is_kept_type, is_one, view};
 ghost use Rattle.codec_payload_base.specs.Answers.{Finds};
+ghost use Rattle.codec_payload_base.specs.Leb.{leb};
 
 use crate::av1::leb::{joined_number, number_at, put_number};
 use std::alloc::AllocError;
@@ -140,23 +141,31 @@ pub fn put_if_any(out: &mut Vec<u8>, bytes: &[u8]) -> Result<(), AllocError>
     Ok(())
 }
 
-/// Writes the canonical form of an OBU at the end: the size bit set, and the size in as few bytes as it takes. Its payload is
-/// in two parts.
+/// Writes at the end what stands before the payload in the canonical form of an OBU: the header with the size bit set, the
+/// extension byte where there is one, and the size in as few bytes as it takes.
 #[tactic(auto, using(crate::proofs::Av1FrontKept::kept_more, crate::proofs::Av1FrontKept::kept_same, crate::proofs::Av1FrontKept::kept_trans))]
-pub fn put_canonical(
+pub fn put_front(
     out: &mut Vec<u8>,
     header: u8,
     extension: &[u8],
-    front: &[u8],
-    back: &[u8],
+    size: u64,
 ) -> Result<(), AllocError>
-    ensures written { OnOk result (out.new.items ≡ out.old.items ++ canonical (record { header = header; extension = extension.now; payload = front.now ++ back.now })) }
+    ensures written { OnOk result (out.new.items ≡ out.old.items ++ (bit_or header 2 ∷ (extension.now ++ leb size))) }
     ensures kept { take (length out.old.items) out.new.items ≡ out.old.items }
 {
     out.push(header | 2)?;
     put_if_any(out, extension)?;
-    put_number(out, front.len() as u64 + back.len() as u64)?;
-    out.extend_from_slice(front)?;
-    put_if_any(out, back)?;
+    put_number(out, size)?;
+    Ok(())
+}
+
+/// Writes the canonical form of an OBU at the end.
+#[tactic(auto, using(crate::proofs::Av1FrontKept::kept_more, crate::proofs::Av1FrontKept::kept_trans), unfolding(crate::specs::Av1Obu::canonical))]
+pub fn put_canonical(out: &mut Vec<u8>, obu: &ObuSlices<'_>) -> Result<(), AllocError>
+    ensures written { OnOk result (out.new.items ≡ out.old.items ++ canonical (view obu.now)) }
+    ensures kept { take (length out.old.items) out.new.items ≡ out.old.items }
+{
+    put_front(out, obu.header, obu.extension, obu.payload.len() as u64)?;
+    out.extend_from_slice(obu.payload)?;
     Ok(())
 }
