@@ -71,6 +71,7 @@ fn run_frames(
         &mut sink,
         &samples,
         steps,
+        None,
     )?;
     Ok((sink, run, buffer.held()))
 }
