@@ -37,21 +37,29 @@ abbrev pub after_push : ℕ → ℕ → Option Packet → State → State
 after_push place clock_rate None s = s
 after_push place clock_rate (Some p) s = pushed s (arrived s.depack (meta_of_push place clock_rate p) p.payload)
 
+-- the buffer after step `place`, which names the packet of index k, pushed what that holds
+abbrev pub Pushing : Type 0
+Pushing = ℕ → ℕ → RunState → State
+
+-- the packet itself is pushed
+abbrev pub plainly : Pushing
+plainly place k s = after_push place s.payloading.clock_rate (slice_get s.sink.packets k) s.buffer
+
 -- one step, at its place: the entry of a `Send` and the answer of a `Pop`, if it is one
-abbrev pub DoesStep : List Sample → ℕ → Step → RunState → List Sent → List Answer → RunState → Type 0
-DoesStep samples place (steps.Send i mtu) s sends pops t =
+abbrev pub DoesStep : Pushing → List Sample → ℕ → Step → RunState → List Sent → List Answer → RunState → Type 0
+DoesStep pushing samples place (steps.Send i mtu) s sends pops t =
     (pops ≡ []) × MatchOption (slice_get samples i) ((sends ≡ []) × (t ≡ s)) (λ sample. (entry : Sent) × (sends ≡ entry ∷ []) × SendsIt place mtu sample s entry t)
-DoesStep samples place (steps.Push k) s sends pops t =
-    (sends ≡ []) × (pops ≡ []) × (t ≡ record s { buffer = after_push place s.payloading.clock_rate (slice_get s.sink.packets k) s.buffer })
-DoesStep samples place steps.Pop s sends pops t =
+DoesStep pushing samples place (steps.Push k) s sends pops t =
+    (sends ≡ []) × (pops ≡ []) × (t ≡ record s { buffer = pushing place k s })
+DoesStep pushing samples place steps.Pop s sends pops t =
     (sends ≡ []) × (answer : Answer) × (buffer : State) × (pops ≡ answer ∷ []) × (answer ≢ Some (Err faults.OutOfMemory)) × Pops s.buffer answer buffer × (t ≡ record s { buffer = buffer })
 
 -- the steps from place `place` on, in order
-abbrev pub Runs : List Sample → ℕ → List Step → RunState → List Sent → List Answer → RunState → Type 0
-Runs samples place [] s sends pops t = (sends ≡ []) × (pops ≡ []) × (t ≡ s)
-Runs samples place (step ∷ later) s sends pops t =
+abbrev pub Runs : Pushing → List Sample → ℕ → List Step → RunState → List Sent → List Answer → RunState → Type 0
+Runs pushing samples place [] s sends pops t = (sends ≡ []) × (pops ≡ []) × (t ≡ s)
+Runs pushing samples place (step ∷ later) s sends pops t =
     (send : List Sent) × (sends_later : List Sent) × (pop : List Answer) × (pops_later : List Answer) × (mid : RunState)
-    × (sends ≡ send ++ sends_later) × (pops ≡ pop ++ pops_later) × DoesStep samples place step s send pop mid × Runs samples (place + 1) later mid sends_later pops_later t
+    × (sends ≡ send ++ sends_later) × (pops ≡ pop ++ pops_later) × DoesStep pushing samples place step s send pop mid × Runs pushing samples (place + 1) later mid sends_later pops_later t
 
 -- a packetizer stays built in
 pack_stays : (p : Pack) (mtu : ℕ) (frame : List ℕ) (answer : Result (List (List ℕ)) PacketError) (q : Pack) → PackStep p mtu frame answer q → is_built_in q ≡ is_built_in p
@@ -159,7 +167,7 @@ pushes_exactly place clock_rate (Some p) s t built_in pushes =
 
 -- so the steps of such a run are told exactly
 pub runs_exactly : (samples : List Sample) (place : ℕ) (later : List Step) (s : RunState) (sends : List Sent) (pops : List Answer) (t : RunState)
-    → is_built_in s.payloading.pack ≡ true → IsOfCodec s.buffer → any.Runs samples place later s sends pops t → Runs samples place later s sends pops t
+    → is_built_in s.payloading.pack ≡ true → IsOfCodec s.buffer → any.Runs samples place later s sends pops t → Runs plainly samples place later s sends pops t
 runs_exactly samples place [] s sends pops t pack depack run = run
 runs_exactly samples place (steps.Send i mtu ∷ later) s sends pops t pack depack run =
     let one = at (slice_get samples i) run.7.1 in
@@ -216,6 +224,6 @@ codec_payloads BoxedPack e = e
 
 -- an unused run is of a codec on both sides
 pub unused_exactly : (samples : List Sample) (all_steps : List Step) (s : RunState) (sends : List Sent) (pops : List Answer) (t : RunState)
-    → IsUnused s → any.Runs samples 0 all_steps s sends pops t → Runs samples 0 all_steps s sends pops t
+    → IsUnused s → any.Runs samples 0 all_steps s sends pops t → Runs plainly samples 0 all_steps s sends pops t
 unused_exactly samples all_steps s sends pops t unused run =
     runs_exactly samples 0 all_steps s sends pops t unused.built_in (ap is_codec unused.alike ∙ codec_payloads s.payloading.pack unused.built_in) run
