@@ -45,17 +45,17 @@ use Rattle.codec_payload_core.specs.declared.schedule.Step.{Step}
 use Rattle.codec_payload_core.specs.declared.schedule.Step.TheVariants as steps
 
 -- what was sent by then was sent
-slice_taken : (packets : List Packet) (n k : ℕ) (q : Packet) → slice_get (take n packets) k ≡ Some q → slice_get packets k ≡ Some q
+pub slice_taken : (packets : List Packet) (n k : ℕ) (q : Packet) → slice_get (take n packets) k ≡ Some q → slice_get packets k ≡ Some q
 slice_taken packets n k q h = subst (λ (ps : List Packet). slice_get ps k ≡ Some q) (take-append-drop n packets) (slice_append (take n packets) (drop n packets) k q h)
 
 -- and what was sent was sent by some time
-slice_take : (packets : List Packet) (n k : ℕ) → k < n → slice_get (take n packets) k ≡ slice_get packets k
+pub slice_take : (packets : List Packet) (n k : ℕ) → k < n → slice_get (take n packets) k ≡ slice_get packets k
 slice_take packets zero k l = absurd (omega (arith, l))
 slice_take [] (suc n) k l = refl
 slice_take (p ∷ ps) (suc n) zero l = refl
 slice_take (p ∷ ps) (suc n) (suc k) l = slice_take ps n k (omega (arith, l))
 
-slice_there : (packets : List Packet) (k : ℕ) → k < length packets → (q : Packet) × (slice_get packets k ≡ Some q)
+pub slice_there : (packets : List Packet) (k : ℕ) → k < length packets → (q : Packet) × (slice_get packets k ≡ Some q)
 slice_there [] k l = absurd (omega (arith, l))
 slice_there (p ∷ ps) zero l = (p, refl)
 slice_there (p ∷ ps) (suc k) l = slice_there ps k (omega (arith, l))
