@@ -23,7 +23,7 @@ use Rattle.codec_payload_red.specs.RedRun.{sender_after, sender_at}
 
 -- ---- what the sink holds in truth
 
-after_append : (s : Sender) (xs ys : List Entry) → sender_after s (xs ++ ys) ≡ sender_after (sender_after s xs) ys
+pub after_append : (s : Sender) (xs ys : List Entry) → sender_after s (xs ++ ys) ≡ sender_after (sender_after s xs) ys
 after_append s [] ys = refl
 after_append s (x ∷ xs) ys = after_append (recorded s x.bytes x.time) xs ys
 

@@ -94,6 +94,11 @@ PushesAll place clock_rate pt carrier [] s t = t ≡ s
 PushesAll place clock_rate pt carrier (x ∷ xs) s t =
     (held : Held) × IsArrived s.depack (meta_of_recovered place clock_rate pt carrier x) x.bytes held × PushesAll place clock_rate pt carrier xs (pushed s held) t
 
+-- memory was refused to one of them, once those before it were pushed
+abbrev pub StopsAmong : ℕ → ℕ → ℕ → Packet → List RecoveredPacket → State → State → Type 0
+StopsAmong place clock_rate pt carrier xs s t =
+    (begun : List RecoveredPacket) × (refused : RecoveredPacket) × (left : List RecoveredPacket) × (xs ≡ begun ++ refused ∷ left) × PushesAll place clock_rate pt carrier begun s t
+
 -- what is recovered from that packet, if there is one
 abbrev pub RedPushes : ℕ → ℕ → Receiver → Option Packet → State → State → Type 0
 RedPushes place clock_rate receiver None s t = t ≡ s
@@ -130,19 +135,15 @@ StopsSendingInRed budget mtu sample s t = (pack : Pack) × (
       sender = sender_after s.sender (all_remembered kept);
     })))
 
--- memory was refused while what a packet holds was pushed: before the first, or to one of them, once those before it were
--- pushed
-abbrev pub StopsPushing : ℕ → Receiver → Packet → RedState → RedState → Type 0
-StopsPushing place receiver packet s t =
-    (t ≡ s)
-    ⊎ ((begun : List RecoveredPacket) × (refused : RecoveredPacket) × (left : List RecoveredPacket) × (recovered_in receiver packet ≡ begun ++ refused ∷ left)
-    × (buffer : State) × PushesAll place s.plain.payloading.clock_rate receiver.primary_pt packet begun s.plain.buffer buffer
-    × (t ≡ record s { plain = record s.plain { buffer = buffer } }))
+-- memory was refused while what a packet holds was pushed: before the first of it, or to one, once those before were pushed
+abbrev pub StopsPushing : ℕ → ℕ → Receiver → Packet → State → State → Type 0
+StopsPushing place clock_rate receiver p s t = (t ≡ s) ⊎ StopsAmong place clock_rate receiver.primary_pt p (recovered_in receiver p) s t
 
 -- memory was refused to a step: before it began, or as the refused call leaves things
 abbrev pub StopsAtInRed : Protection → List Sample → ℕ → Step → RedState → RedState → Type 0
 StopsAtInRed w samples place (steps.Send i mtu) s t = (sample : Sample) × (slice_get samples i ≡ Some sample) × ((t ≡ s) ⊎ StopsSendingInRed w.budget mtu sample s t)
-StopsAtInRed w samples place (steps.Push k) s t = (packet : Packet) × (slice_get s.images k ≡ Some packet) × StopsPushing place w.receiver packet s t
+StopsAtInRed w samples place (steps.Push k) s t = (packet : Packet) × (slice_get s.images k ≡ Some packet) × (buffer : State)
+    × StopsPushing place s.plain.payloading.clock_rate w.receiver packet s.plain.buffer buffer × (t ≡ record s { plain = record s.plain { buffer = buffer } })
 StopsAtInRed w samples place steps.Pop s t =
     (t ≡ s) ⊎ ((buffer : State) × Pops s.plain.buffer (Some (Err faults.OutOfMemory)) buffer × (t ≡ record s { plain = record s.plain { buffer = buffer } }))
 
