@@ -20,6 +20,7 @@ use Rattle.codec_payload_core.specs.Schedule.{Answer}
 use Rattle.codec_payload_core.specs.Sending.{Sample, sample_of}
 use Rattle.codec_payload_core.specs.SentStream.{AreReadable, SentUnit, packets_of, AllEndWithTail, units_of_run}
 use Rattle.codec_payload_core.specs.Units.{payloads_by, may_split}
+use Rattle.codec_payload_core.specs.declared.schedule.RedRun.{RedRun}
 use Rattle.codec_payload_core.specs.declared.schedule.Run.{Run}
 use Rattle.codec_payload_core.specs.declared.schedule.Sent.{Sent}
 use Rattle.codec_payload_core.specs.declared.schedule.Step.{Step}
@@ -40,6 +41,10 @@ pub record RedRan : Type 0 where
 
 abbrev pub ran_in_red : Protection → List ToPayload → List Step → RedState → Run → RedState → RedRan
 ran_in_red with samples steps before run after = record { with = with; samples = map sample_of samples; steps = steps; before = before; sends = run.sends.items; pops = run.pops.items; after = after }
+
+-- what a run is told of RED, besides the sender
+abbrev pub protection_of : RedRun → Protection
+protection_of red = record { budget = red.budget; receiver = red.receiver.now }
 
 -- the packets that were sent, as they were before they were put in RED
 abbrev pub sent_in : RedRan → List Packet

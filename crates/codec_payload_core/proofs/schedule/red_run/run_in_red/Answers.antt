@@ -41,3 +41,11 @@ returns-clause-promises g c =
     let ran = ran_in_red (record { budget = c.args.budget; receiver = c.args.receiver.now }) c.args.samples.now c.args.steps.now (red_state c.args.payloader.now c.args.buffer.now c.args.sink.now c.args.sink.now.packets c.args.red.now) c.loop-place.run after in
     let runs : RunsAsRedSteps ran = simp append-nil at whole in
     (before.now, red_promises ran runs)
+
+pub returns-in_err-do_red_step-clause-stops : goal.returns-in_err-do_red_step-clause-stops
+returns-in_err-do_red_step-clause-stops g c =
+    let before = c.loop-place.invariant in
+    let inside : c.loop-place.place < length c.args.steps.now = search rules in
+    let stopped = c.in_err-do_red_step.ensures.err before.now before.long in
+    let after = red_state c.do_red_step.new.payloader c.do_red_step.new.buffer c.do_red_step.new.sink stopped.0 c.do_red_step.new.red in
+    on_err c.from_residual.result (stopped.0, before.stops after (rw (drop_more c.args.steps.now c.loop-place.place (steps.Send 0 0) inside) (inl stopped.2)))
