@@ -80,13 +80,12 @@ module _ (known : ℕ → Packet → RtpMeta → Type 0) (clock_rate : ℕ) (kin
       (number, omega (arith, number, l), faithful.time k x p.meta e.0 ∙ ap held_time times.0, tail_is known clock_rate kind faithful k x p e.0 e.1 ∙ ends)
   run_of_exact k n time (x ∷ []) (p ∷ q ∷ ps) ends times numbers e last l = absurd e.2
   run_of_exact k n time (x ∷ y ∷ xs) (p ∷ []) ends times numbers e last l = absurd e.2
-  run_of_exact k n time (x ∷ y ∷ xs) (p ∷ q ∷ ps) ends times numbers e last l =
-      (
-        faithful.number k x p.meta e.0 ∙ numbers.0,
-        faithful.time k x p.meta e.0 ∙ ap held_time times.0,
-        tail_is known clock_rate kind faithful k x p e.0 e.1 ∙ ends.0,
-        run_of_exact (k + 1) (n + 1) time (y ∷ xs) (q ∷ ps) ends.1 times.1 numbers.1 e.2 last (omega (arith, l)),
-      )
+  run_of_exact k n time (x ∷ y ∷ xs) (p ∷ q ∷ ps) ends times numbers e last l = (
+    faithful.number k x p.meta e.0 ∙ numbers.0,
+    faithful.time k x p.meta e.0 ∙ ap held_time times.0,
+    tail_is known clock_rate kind faithful k x p e.0 e.1 ∙ ends.0,
+    run_of_exact (k + 1) (n + 1) time (y ∷ xs) (q ∷ ps) ends.1 times.1 numbers.1 e.2 last (omega (arith, l)),
+  )
 
   pub begins_of_exact : (k : ℕ) (xs : List Packet) (ps : List Held) → StartsWithHead kind xs → Exact known clock_rate kind faithful k xs ps → BeginsWithHead ps
   begins_of_exact k [] ps s e = absurd s

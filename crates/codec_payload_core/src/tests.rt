@@ -5,6 +5,7 @@ ghost use Rattle.std.specs.Prelude.{◌≤◌};
 mod boxes;
 mod extensions;
 mod own_codec;
+mod red_run;
 mod use_it;
 
 use crate::buffer::{Depacketized, DepacketizingBuffer};
