@@ -1,8 +1,11 @@
 //! Whole runs: samples are sent, some of their packets are pushed, in any order, and units are popped.
 
-ghost use Rattle.std.specs.Prelude.{◌≡◌, ◌≢◌, ◌++◌, List, ◌≤◌, ◌^◌, ◌↔◌, map, IfOk, IfErr, IfSome, OnOk, OnErr, Option, Result};
+ghost use Rattle.std.specs.Prelude.{◌≡◌, ◌≢◌, ◌++◌, List, ◌≤◌, ◌^◌, ◌↔◌, map, IfOk, IfErr, IfSome, IsNone, OnOk, OnErr, Option, Result};
 ghost use Rattle.codec_payload_base.specs.declared.error.PacketError.TheVariants.{OutOfMemory};
-ghost use Rattle.codec_payload_core.specs.Packets.{packet_of};
+ghost use Rattle.codec_payload_core.specs.Packets.{Packet, packet_of};
+ghost use Rattle.codec_payload_core.specs.RedPromises.{KeepsRedPromises, ran_in_red, protection_of};
+ghost use Rattle.codec_payload_core.specs.RedSchedule.{red_state, StopsInRed};
+ghost use Rattle.codec_payload_red.specs.RedLevels.{Sender};
 ghost use Rattle.codec_payload_buffer.specs.Pack.{pack_for};
 ghost use Rattle.codec_payload_core.specs.RunOrder.{OnlySetsCount};
 ghost use Rattle.codec_payload_core.specs.RunPromises.{KeepsPromises, ran};
@@ -16,8 +19,14 @@ use crate::buffer::{Depacketized, DepacketizingBuffer, RtpMeta};
 use crate::codec::{CodecDepacketizer, Depacketizer, Packetizer, Vp9PacketizerMode};
 use crate::error::PacketError;
 use crate::payload::{MemorySink, OutgoingPacket, Payloader};
+use crate::red::{RedReceiver, RedSender};
+use crate::schedule::red_run::run_in_red;
 use crate::wire::{CodecSpec, Frequency, MediaTime, RtpHeader, Ticks, ToPayload};
 use std::alloc::Global;
+
+mod red_run;
+#[cfg(test)]
+mod tests;
 
 /// One step of a run.
 #[derive(Clone, Copy, Debug, PartialEq, Eq)]
@@ -52,6 +61,17 @@ pub struct Sent {
     pub fault: Option<PacketError>,
 }
 
+/// How a run uses RED (RFC 2198).
+#[derive(Drop)]
+pub struct RedRun<'a> {
+    /// Puts the packets in RED that are sent.
+    pub sender: &'a mut RedSender,
+    /// The most bytes that a payload in RED may have: see [`RedSender::wrap`].
+    pub budget: usize,
+    /// Finds what the pushed packets hold.
+    pub receiver: &'a RedReceiver,
+}
+
 /// Does the steps in order: sends samples into the sink, pushes packets that the sink holds into the buffer, and pops.
 ///
 /// A `Send` whose sample the packetizer refuses is noted with the fault, and the run goes on. Want of memory ends the run:
@@ -59,6 +79,12 @@ pub struct Sent {
 /// up with the entries. Room for an entry is found before its step begins, so no unit is popped that cannot be answered.
 ///
 /// Each pushed packet is a copy. The cost is that of the calls, one after another.
+///
+/// With `red`, a `Send` goes through a [`RedSink`](crate::payload::RedSink), and a `Push` pushes each packet that the
+/// receiver recovers from the payload of the packet it names, in payload order, instead of that packet. Each is told with
+/// its own number and RTP time under the receiver's payload type; the packet itself, which comes last, with its marker and
+/// its values of header extensions, those that were sent before it without. A payload that is no RED (fault 14) is passed
+/// over. On want of memory the packets before the refused one stay pushed.
 pub fn run_schedule<P: Packetizer, D: Depacketizer>(
     alloc: Global,
     payloader: &mut Payloader<P>,
@@ -66,22 +92,32 @@ pub fn run_schedule<P: Packetizer, D: Depacketizer>(
     sink: &mut MemorySink,
     samples: &[ToPayload],
     steps: &[Step],
+    mut red: Option<RedRun<'_>>,
 ) -> Result<Run, PacketError>
-    // Run as steps, both halves of the theorem, order, contiguous, no silent loss, beginning: see `specs/RunPromises.antt`.
-    ensures promises { IfOk result (λ run. KeepsPromises (ran samples.now steps.now (run_state payloader.old buffer.old sink.old) run (run_state payloader.new buffer.new sink.new))) }
+    // Without RED: run as steps, both halves of the theorem, order, contiguous, no silent loss, beginning: see
+    // `specs/RunPromises.antt`.
+    ensures promises { IsNone red.entry → IfOk result (λ run. KeepsPromises (ran samples.now steps.now (run_state payloader.old buffer.old sink.old) run (run_state payloader.new buffer.new sink.new))) }
     ensures limit { buffer.new.limit ≡ buffer.old.limit }
     ensures fault { IfErr result (λ fault. fault ≡ OutOfMemory) }
-    ensures stops { OnErr result (Stops (map sample_of samples.now) 0 steps.now (run_state payloader.old buffer.old sink.old)
+    ensures stops { IsNone red.entry → OnErr result (Stops (map sample_of samples.now) 0 steps.now (run_state payloader.old buffer.old sink.old)
         (run_state payloader.new buffer.new sink.new)) }
+    // With RED: run as steps, and the same promises with what is recovered as further pushes: see `specs/RedPromises.antt`.
+    // Some packets make them true: those that were sent, as they were before they were put in RED.
+    ensures red_promises { IfSome red.entry (λ red. IfOk result (λ run. (sent : List Packet) × (sender : Sender) × KeepsRedPromises (ran_in_red (protection_of red) samples.now steps.now
+        (red_state payloader.old buffer.old sink.old sink.old.packets red.sender.now) run (red_state payloader.new buffer.new sink.new sent sender)))) }
+    ensures red_stops { IfSome red.entry (λ red. OnErr result ((sent : List Packet) × (sender : Sender) × StopsInRed (protection_of red) (map sample_of samples.now) 0 steps.now
+        (red_state payloader.old buffer.old sink.old sink.old.packets red.sender.now) (red_state payloader.new buffer.new sink.new sent sender))) }
 {
-    let mut run = Run {
-        sends: Vec::new(alloc),
-        pops: Vec::new(alloc),
-    };
-    for (place, step) in steps.iter().enumerate() {
-        do_step(payloader, buffer, sink, samples, place, *step, &mut run)?;
+    match &mut red {
+        None => run_plain(alloc, payloader, buffer, sink, samples, steps),
+        Some(red) => {
+            let budget = red.budget;
+            let receiver = red.receiver;
+            run_in_red(
+                alloc, payloader, buffer, sink, red.sender, budget, receiver, samples, steps,
+            )
+        }
     }
-    Ok(run)
 }
 
 /// How a stream is sent and received.
@@ -133,8 +169,34 @@ pub fn run_stream(
         &mut sink,
         samples,
         steps,
+        None,
     )?;
     Ok(Some(run))
+}
+
+/// Does the steps in order, without RED.
+fn run_plain<P: Packetizer, D: Depacketizer>(
+    alloc: Global,
+    payloader: &mut Payloader<P>,
+    buffer: &mut DepacketizingBuffer<D>,
+    sink: &mut MemorySink,
+    samples: &[ToPayload],
+    steps: &[Step],
+) -> Result<Run, PacketError>
+    ensures promises { IfOk result (λ run. KeepsPromises (ran samples.now steps.now (run_state payloader.old buffer.old sink.old) run (run_state payloader.new buffer.new sink.new))) }
+    ensures limit { buffer.new.limit ≡ buffer.old.limit }
+    ensures fault { IfErr result (λ fault. fault ≡ OutOfMemory) }
+    ensures stops { OnErr result (Stops (map sample_of samples.now) 0 steps.now (run_state payloader.old buffer.old sink.old)
+        (run_state payloader.new buffer.new sink.new)) }
+{
+    let mut run = Run {
+        sends: Vec::new(alloc),
+        pops: Vec::new(alloc),
+    };
+    for (place, step) in steps.iter().enumerate() {
+        do_step(payloader, buffer, sink, samples, place, *step, &mut run)?;
+    }
+    Ok(run)
 }
 
 /// Does one step, and notes what came of it.
@@ -242,7 +304,7 @@ fn push_step<D: Depacketizer>(
 }
 
 /// Pops. Want of memory is no answer.
-fn pop_step<D: Depacketizer>(
+pub(crate) fn pop_step<D: Depacketizer>(
     buffer: &mut DepacketizingBuffer<D>,
 ) -> Result<Option<Result<Depacketized, PacketError>>, PacketError>
     ensures ok { IfOk result (λ answer. Pops buffer.old answer buffer.new × (answer ≢ Option.Some (Result.Err OutOfMemory))) }

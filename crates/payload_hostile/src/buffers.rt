@@ -188,6 +188,7 @@ pub fn runs(alloc: Global, text: &mut String) -> Result<(), PacketError> {
         &mut sink,
         &samples,
         &steps,
+        None,
     ) {
         Ok(run) => {
             for popped in &run.pops {

@@ -213,6 +213,7 @@ fn box_run_two_units(rt: HostRuntime) -> Result<(), Fail> {
         &mut sink,
         &samples,
         &steps,
+        None,
     )?;
     let mut counts = Vec::new(alloc);
     for entry in &run.sends {

@@ -40,6 +40,7 @@ fn send_frame(
         &mut sink,
         &samples,
         &STEPS,
+        None,
     )?;
     let mut on_packets = Vec::new(alloc);
     for packet in sink.packets() {

@@ -17,6 +17,8 @@ mod hostile;
 #[cfg(test)]
 mod own_codec;
 #[cfg(test)]
+mod red_runs;
+#[cfg(test)]
 mod red_sink;
 #[cfg(test)]
 mod runs;

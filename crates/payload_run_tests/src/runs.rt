@@ -70,6 +70,7 @@ fn run_frames(
         &mut sink,
         &samples,
         steps,
+        None,
     )?;
     Ok((sink, run, buffer.held()))
 }

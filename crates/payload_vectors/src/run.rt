@@ -183,6 +183,7 @@ fn output_of(alloc: Global, script: &Script) -> Result<String, ProgramFault>
         &mut sink,
         &script.samples,
         &script.steps,
+        None,
     );
     let Ok(run) = run else {
         return Err(ProgramFault::OutOfMemory);

@@ -1,0 +1,236 @@
+//! Runs with RED: samples are sent in RED, and a push pushes what a receiver finds in a packet (RFC 2198).
+
+ghost use Rattle.std.specs.Prelude.{◌≡◌, ◌≢◌, ◌++◌, ◌⊎◌, List, map, length, IfOk, IfErr, OnOk, OnErr, Option, Result};
+ghost use Rattle.codec_payload_base.specs.declared.error.PacketError.TheVariants.{OutOfMemory};
+ghost use Rattle.codec_payload_buffer.specs.Held.{Held};
+ghost use Rattle.codec_payload_buffer.specs.Steps.{State, IsArrived, pushed};
+ghost use Rattle.codec_payload_core.specs.Packets.{Packet, packet_of};
+ghost use Rattle.codec_payload_core.specs.RedPromises.{KeepsRedPromises, ran_in_red};
+ghost use Rattle.codec_payload_core.specs.RedSchedule.{red_state, meta_of_recovered, PushesAll, RedPushes, StopsAmong, StopsPushing, SendsInRed, DoesRedStep, StopsSendingInRed, StopsAtInRed, StopsInRed};
+ghost use Rattle.codec_payload_core.specs.Schedule.{Answer, run_state, SendsIt};
+ghost use Rattle.codec_payload_core.specs.Sending.{sample_of};
+ghost use Rattle.codec_payload_core.specs.declared.schedule.Sent.{Sent as Entry};
+ghost use Rattle.codec_payload_red.specs.RedRecovery.{packet_of as recovered_of};
+
+use crate::buffer::{DepacketizingBuffer, RtpMeta};
+use crate::codec::{Depacketizer, Packetizer};
+use crate::error::PacketError;
+use crate::payload::{MemorySink, OutgoingPacket, Payloader, RedSink};
+use crate::red::{Recovered, RedReceiver, RedSender};
+use crate::schedule::{Run, Sent, Step, pop_step};
+use crate::wire::{ExtensionValues, Frequency, MediaTime, Pt, RtpHeader, Ticks, ToPayload};
+use std::alloc::Global;
+
+/// Pushes a copy of a packet that was recovered from `packet`.
+fn push_recovered<D: Depacketizer>(
+    alloc: Global,
+    clock_rate: Frequency,
+    buffer: &mut DepacketizingBuffer<D>,
+    packet: &OutgoingPacket,
+    recovered: &Recovered<'_>,
+    pt: u8,
+    place: usize,
+) -> Result<(), PacketError>
+    ensures ok { OnOk result ((held : Held) × IsArrived buffer.old.depack (meta_of_recovered place clock_rate pt (packet_of packet.now) (recovered_of recovered.now)) recovered.now.payload.now held
+        × (buffer.new ≡ pushed buffer.old held)) }
+    ensures limit { buffer.new.limit ≡ buffer.old.limit }
+    ensures fault { IfErr result (λ fault. fault ≡ OutOfMemory) }
+    ensures err { OnErr result (buffer.new ≡ buffer.old) }
+{
+    let payload = Vec::from_slice(alloc, recovered.payload)?;
+    let ext_vals = if recovered.is_primary {
+        packet.ext_vals
+    } else {
+        ExtensionValues::default()
+    };
+    let meta = RtpMeta {
+        received: Ticks(place as u64),
+        time: MediaTime::new(u64::from(recovered.rtp_time), clock_rate),
+        seq_no: recovered.seq_no,
+        header: RtpHeader {
+            payload_type: Pt::new_with_value(pt),
+            sequence_number: (recovered.seq_no.0 % (1 << 16)) as u16,
+            timestamp: recovered.rtp_time,
+            ssrc: 0,
+            marker: recovered.is_primary && packet.marker,
+            ext_vals,
+        },
+        last_sender_info: None,
+    };
+    buffer.push(meta, payload)
+}
+
+/// Pushes packets that were recovered from `packet`, in order.
+fn push_all_recovered<D: Depacketizer>(
+    alloc: Global,
+    clock_rate: Frequency,
+    buffer: &mut DepacketizingBuffer<D>,
+    packet: &OutgoingPacket,
+    recovered: &[Recovered<'_>],
+    pt: u8,
+    place: usize,
+) -> Result<(), PacketError>
+    ensures ok { OnOk result (PushesAll place clock_rate pt (packet_of packet.now) (map recovered_of recovered.now) buffer.old buffer.new) }
+    ensures limit { buffer.new.limit ≡ buffer.old.limit }
+    ensures fault { IfErr result (λ fault. fault ≡ OutOfMemory) }
+    ensures err { OnErr result (StopsAmong place clock_rate pt (packet_of packet.now) (map recovered_of recovered.now) buffer.old buffer.new) }
+{
+    let Some((first, others)) = recovered.split_first() else {
+        return Ok(());
+    };
+    push_recovered(alloc, clock_rate, buffer, packet, first, pt, place)?;
+    push_all_recovered(alloc, clock_rate, buffer, packet, others, pt, place)
+}
+
+/// Pushes what the receiver finds in a packet. A payload that is no RED is passed over.
+fn red_push_step<D: Depacketizer>(
+    alloc: Global,
+    clock_rate: Frequency,
+    buffer: &mut DepacketizingBuffer<D>,
+    packet: &OutgoingPacket,
+    receiver: &RedReceiver,
+    place: usize,
+) -> Result<(), PacketError>
+    ensures ok { OnOk result (RedPushes place clock_rate receiver.now (Option.Some (packet_of packet.now)) buffer.old buffer.new) }
+    ensures limit { buffer.new.limit ≡ buffer.old.limit }
+    ensures fault { IfErr result (λ fault. fault ≡ OutOfMemory) }
+    ensures err { OnErr result (StopsPushing place clock_rate receiver.now (packet_of packet.now) buffer.old buffer.new) }
+{
+    match receiver.recover(alloc, packet.seq_no, packet.rtp_time, &packet.payload) {
+        Ok(recovered) => {
+            let pt = receiver.primary_pt();
+            push_all_recovered(alloc, clock_rate, buffer, packet, &recovered, pt, place)
+        }
+        Err(PacketError::OutOfMemory) => Err(PacketError::OutOfMemory),
+        Err(_) => Ok(()),
+    }
+}
+
+/// Sends a sample in RED.
+fn red_send_step<P: Packetizer>(
+    alloc: Global,
+    payloader: &mut Payloader<P>,
+    sink: &mut MemorySink,
+    red: &mut RedSender,
+    budget: usize,
+    sample: &ToPayload,
+    mtu: usize,
+    place: usize,
+) -> Result<Sent, PacketError>
+    ensures ok { IfOk result (λ entry. (buffer : State) → (sent : List Packet) → length sent ≡ length sink.old.packets
+        → (now : List Packet) × (length now ≡ length sink.new.packets)
+        × SendsIt place mtu (sample_of sample.now) (run_state payloader.old buffer (record sink.old { packets = sent })) entry (run_state payloader.new buffer (record sink.new { packets = now }))
+        × SendsInRed budget (red_state payloader.old buffer sink.old sent red.old) (red_state payloader.new buffer sink.new now red.new)) }
+    ensures fault { IfErr result (λ fault. fault ≡ OutOfMemory) }
+    ensures err { OnErr result ((buffer : State) → (sent : List Packet) → length sent ≡ length sink.old.packets
+        → (now : List Packet) × (length now ≡ length sink.new.packets)
+        × StopsSendingInRed budget mtu (sample_of sample.now) (red_state payloader.old buffer sink.old sent red.old) (red_state payloader.new buffer sink.new now red.new)) }
+{
+    let first = sink.packets().len();
+    let mut in_red = RedSink::new(sink, red, budget);
+    let answer = payloader.push_sample(alloc, sample, mtu, &mut in_red);
+    match answer {
+        Ok(()) => Ok(Sent {
+            step: place,
+            first,
+            count: sink.packets().len() - first,
+            fault: None,
+        }),
+        Err(PacketError::OutOfMemory) => Err(PacketError::OutOfMemory),
+        Err(fault) => Ok(Sent {
+            step: place,
+            first,
+            count: 0,
+            fault: Some(fault),
+        }),
+    }
+}
+
+/// Does one step, and notes what came of it.
+fn do_red_step<P: Packetizer, D: Depacketizer>(
+    payloader: &mut Payloader<P>,
+    buffer: &mut DepacketizingBuffer<D>,
+    sink: &mut MemorySink,
+    red: &mut RedSender,
+    budget: usize,
+    receiver: &RedReceiver,
+    samples: &[ToPayload],
+    place: usize,
+    step: Step,
+    run: &mut Run,
+) -> Result<(), PacketError>
+    ensures ok { OnOk result ((sent : List Packet) → length sent ≡ length sink.old.packets
+        → (now : List Packet) × (sends : List Entry) × (pops : List Answer) × (length now ≡ length sink.new.packets)
+        × (run.new.sends.items ≡ run.old.sends.items ++ sends) × (run.new.pops.items ≡ run.old.pops.items ++ pops)
+        × DoesRedStep (record { budget = budget; receiver = receiver.now }) (map sample_of samples.now) place step
+        (red_state payloader.old buffer.old sink.old sent red.old) sends pops (red_state payloader.new buffer.new sink.new now red.new)) }
+    ensures limit { buffer.new.limit ≡ buffer.old.limit }
+    ensures fault { IfErr result (λ fault. fault ≡ OutOfMemory) }
+    ensures err { OnErr result ((sent : List Packet) → length sent ≡ length sink.old.packets
+        → (now : List Packet) × (length now ≡ length sink.new.packets)
+        × StopsAtInRed (record { budget = budget; receiver = receiver.now }) (map sample_of samples.now) place step
+        (red_state payloader.old buffer.old sink.old sent red.old) (red_state payloader.new buffer.new sink.new now red.new)) }
+{
+    let alloc = *run.sends.allocator();
+    match step {
+        Step::Send { sample, mtu } => {
+            let Some(sample) = samples.get(sample) else {
+                return Ok(());
+            };
+            run.sends.reserve(1)?;
+            let entry = red_send_step(alloc, payloader, sink, red, budget, sample, mtu, place)?;
+            run.sends.push(entry).unwrap();
+            Ok(())
+        }
+        Step::Push(k) => {
+            let Some(packet) = sink.packets().get(k) else {
+                return Ok(());
+            };
+            red_push_step(
+                alloc,
+                payloader.clock_rate(),
+                buffer,
+                packet,
+                receiver,
+                place,
+            )
+        }
+        Step::Pop => {
+            run.pops.reserve(1)?;
+            let answer = pop_step(buffer)?;
+            run.pops.push(answer).unwrap();
+            Ok(())
+        }
+    }
+}
+
+/// Does the steps in order, with RED.
+pub(crate) fn run_in_red<P: Packetizer, D: Depacketizer>(
+    alloc: Global,
+    payloader: &mut Payloader<P>,
+    buffer: &mut DepacketizingBuffer<D>,
+    sink: &mut MemorySink,
+    red: &mut RedSender,
+    budget: usize,
+    receiver: &RedReceiver,
+    samples: &[ToPayload],
+    steps: &[Step],
+) -> Result<Run, PacketError>
+    ensures promises { IfOk result (λ run. (sent : List Packet) × KeepsRedPromises (ran_in_red (record { budget = budget; receiver = receiver.now }) samples.now steps.now
+        (red_state payloader.old buffer.old sink.old sink.old.packets red.old) run (red_state payloader.new buffer.new sink.new sent red.new))) }
+    ensures limit { buffer.new.limit ≡ buffer.old.limit }
+    ensures fault { IfErr result (λ fault. fault ≡ OutOfMemory) }
+    ensures stops { OnErr result ((sent : List Packet) × StopsInRed (record { budget = budget; receiver = receiver.now }) (map sample_of samples.now) 0 steps.now
+        (red_state payloader.old buffer.old sink.old sink.old.packets red.old) (red_state payloader.new buffer.new sink.new sent red.new)) }
+{
+    let mut run = Run {
+        sends: Vec::new(alloc),
+        pops: Vec::new(alloc),
+    };
+    for (place, step) in steps.iter().enumerate() {
+        do_red_step(
+            payloader, buffer, sink, red, budget, receiver, samples, place, *step, &mut run,
+        )?;
+    }
+    Ok(run)
+}
