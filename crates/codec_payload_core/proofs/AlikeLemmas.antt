@@ -5,14 +5,14 @@ use Rattle.codec_payload_core.proofs.BuiltInRuns.{IsOfCodec, passed_stays}
 use Rattle.codec_payload_core.proofs.BareLemmas.{bare, bare_state, due_bare, bare_releases, releases_same, bare_passes, passes_same, one_way, bare_has}
 use Rattle.codec_payload_buffer.proofs.PopLemmas.{above_rises}
 use Rattle.codec_payload_core.proofs.SafetyLemmas.{number_of_sent}
-use Rattle.codec_payload_core.proofs.TurnLemmas.{Setting, IsPush, ArePushes, count, IsSpan, IsPop, waits, releases, Chain, IsReady, span_left, span_ready, ready_pops, left_ready}
+use Rattle.codec_payload_core.proofs.TurnLemmas.{Setting, by_steps, IsPush, ArePushes, count, IsSpan, IsPop, waits, releases, Chain, IsReady, span_left, span_ready, ready_pops, left_ready}
 use Rattle.codec_payload_core.proofs.UnitRows.{held_as}
 use Rattle.codec_payload_buffer.specs.Depack.{is_codec}
 use Rattle.codec_payload_buffer.specs.Held.{Held, number_of, has_number, Rises, AllAbove}
 use Rattle.codec_payload_core.specs.Log.{Stretch, Turn}
 use Rattle.codec_payload_core.specs.Packets.{Packet}
 use Rattle.codec_payload_buffer.specs.Release.{Release}
-use Rattle.codec_payload_core.specs.RunOrder.{numbers_in, bare_release, bare_answer, PushTheSame}
+use Rattle.codec_payload_core.specs.RunOrder.{numbers_in, bare_meta, bare_release, bare_answer, PushTheSame}
 use Rattle.codec_payload_core.specs.Schedule.{Answer, meta_of_push}
 use Rattle.codec_payload_core.specs.SentStream.{packets_of}
 use Rattle.codec_payload_buffer.specs.Steps.{State, Releases, Passes, PassesOver, none, one_more, due_of}
@@ -85,17 +85,21 @@ goes_of c s t passed None (waits passes nothing) = goes_after s t t passed None 
 goes_of c s t passed (Some (Ok r)) (releases mid passes out) = goes_after s mid t passed (Some (Ok r)) passes (gives out)
 goes_of c s t passed (Some (Err fault)) pop = elim pop [ ]
 
-module _ (c : Setting) (others : List Step) where
+-- all that is known of a push, but when it was received, is told by the packet
+abbrev pub IsBarePush : Setting → Type 0
+IsBarePush c = (k : ℕ) (q : Packet) (m : RtpMeta) → c.known k q m → bare_meta m ≡ bare_meta (meta_of_push 0 c.clock_rate q)
+
+module _ (c : Setting) (told : IsBarePush c) (others : List Step) where
   -- the same packets, pushed by other steps
   abbrev other : Setting
-  other = record c { all_steps = others }
+  other = by_steps c others
 
   bare_sent : (p : Held) (i : IsPush c p) → bare p ≡ bare (held_as c.kind (meta_of_push 0 c.clock_rate i.1) i.1.payload)
-  bare_sent p i = ap bare i.4 ∙ ap (λ (m : RtpMeta). bare (held_as c.kind m i.1.payload)) i.3.2
+  bare_sent p i = ap bare i.4 ∙ ap (λ (m : RtpMeta). held_as c.kind m i.1.payload) (told i.0 i.1 p.meta i.3)
 
   bare_one : (p q : Held) → IsPush c p → IsPush other q → number_of p ≡ number_of q → bare p ≡ bare q
   bare_one p q i j e =
-      let k : i.0 ≡ j.0 = omega (arith, e, number_of_sent c.all_steps c.clock_rate c.first c.kind c.splits c.units c.lawful c.numbered p i, number_of_sent others c.clock_rate c.first c.kind c.splits c.units c.lawful c.numbered q j) in
+      let k : i.0 ≡ j.0 = omega (arith, e, number_of_sent c.known c.clock_rate c.first c.kind c.faithful c.splits c.units c.lawful c.numbered p i, number_of_sent other.known c.clock_rate c.first c.kind other.faithful c.splits c.units c.lawful c.numbered q j) in
       let at : slice_get (packets_of c.units) j.0 ≡ Some i.1 = subst (λ (n : ℕ). slice_get (packets_of c.units) n ≡ Some i.1) k i.2 in
       let x : i.1 ≡ j.1 = packet_same i.1 j.1 (sym at ∙ j.2) in
       bare_sent p i ∙ ap (λ (z : Packet). bare (held_as c.kind (meta_of_push 0 c.clock_rate z) z.payload)) x ∙ sym (ap bare j.4 ∙ ap (λ (m : RtpMeta). bare (held_as c.kind m j.1.payload)) j.3.2)

@@ -15,7 +15,7 @@ use Rattle.codec_payload_core.proofs.WholeLemmas.{some_packets}
 use Rattle.codec_payload_buffer.specs.ContiguityTable.{checked}
 use Rattle.codec_payload_buffer.specs.Depack.{Depack}
 use Rattle.codec_payload_buffer.specs.Frames.{frames}
-use Rattle.codec_payload_core.specs.Headline.{packets_before, ArePushesOf}
+use Rattle.codec_payload_core.specs.Headline.{packets_before, ArePushesBy}
 use Rattle.codec_payload_core.specs.Log.{Stretch, Turn}
 use Rattle.codec_payload_core.specs.Packets.{Packet}
 use Rattle.codec_payload_buffer.specs.Release.{Release}
@@ -50,9 +50,9 @@ starts_at c n (Some d) e h = let same : d ≡ c = cc in grind (arith, nat_tests,
 
 module _ (c : Setting) where
   -- the first number of pushes
-  first_pushed : (k : ℕ) (p : Packet) (ps : List Packet) (ms : List RtpMeta) → slice_get (packets_of c.units) k ≡ Some p → ArePushesOf c.all_steps c.clock_rate k (p ∷ ps) ms → first_number ms ≡ c.first + k
+  first_pushed : (k : ℕ) (p : Packet) (ps : List Packet) (ms : List RtpMeta) → slice_get (packets_of c.units) k ≡ Some p → ArePushesBy c.known k (p ∷ ps) ms → first_number ms ≡ c.first + k
   first_pushed k p ps [] at are = absurd are
-  first_pushed k p ps (m ∷ ms) at are = ap (λ (x : RtpMeta). x.seq_no.0) are.0.2 ∙ number_at (packets_of c.units) c.first k p c.numbered at
+  first_pushed k p ps (m ∷ ms) at are = c.faithful.number k p m are.0 ∙ number_at (packets_of c.units) c.first k p c.numbered at
 
   -- the latest released unit is the one before place n
   abbrev IsAt : ℕ → State → Type 0
@@ -97,7 +97,7 @@ module _ (c : Setting) where
   Taken n s = Follows c n s.depack s.contiguity
 
   record IsReleased (n : ℕ) (t : State) (r : Release) : Type 0 where
-    whole : IsWholeAt c.all_steps c.clock_rate c.splits c.units n r
+    whole : IsWholeAt c.known c.splits c.units n r
     ready : IsReady c (n + 1) t
     at : IsAt (n + 1) t
     taken : Taken (n + 1) t
@@ -116,7 +116,7 @@ module _ (c : Setting) where
       }
 
   abbrev NextIs : ℕ → Answer → Type 0
-  NextIs n a = IsNext c.all_steps c.clock_rate c.splits c.units n a
+  NextIs n a = IsNext c.known c.splits c.units n a
 
   record IsStep (n : ℕ) (a : Answer) (t : State) : Type 0 where
     next : NextIs n a
@@ -140,18 +140,18 @@ module _ (c : Setting) where
   next_at n s t over (Some (Err fault)) ready at taken patient pop = elim pop [ ]
 
   abbrev StartsWhole : List Answer → Type 0
-  StartsWhole answers = FirstIsWhole c.all_steps c.clock_rate c.splits c.units answers
+  StartsWhole answers = FirstIsWhole c.known c.splits c.units answers
 
   -- where the first release is the first unit, whole, its frame starts with the first packet
-  first_starts : (s t : State) (r : Release) → Beyond c 0 s → (out : Releases s r t) → IsWholeAt c.all_steps c.clock_rate c.splits c.units 0 r → out.frame.first ≡ c.first + packets_before 0 c.units
+  first_starts : (s t : State) (r : Release) → Beyond c 0 s → (out : Releases s r t) → IsWholeAt c.known c.splits c.units 0 r → out.frame.first ≡ c.first + packets_before 0 c.units
   first_starts s t r beyond out whole =
       let is = whole.0 in
       let rest : is.rest ≡ is.sent.packets = subst (λ (ms : List Packet). ms ++ is.rest ≡ is.sent.packets) whole.1 is.whole in
       let some = some_packets c is.sent.packets (lawful_at c.kind c.splits c.units 0 is.sent c.lawful is.at_place).ends in
       sym (numbers_of s t r beyond.rises beyond.beyond out).first ∙ first_of is.sent.packets c.units is.at_place refl refl some
-      (subst (λ (ps : List Packet). ArePushesOf c.all_steps c.clock_rate 0 ps r.metas) rest (subst (λ (ms : List Packet). ArePushesOf c.all_steps c.clock_rate (packets_before 0 c.units + length ms) is.rest r.metas) whole.1 is.metas))
+      (subst (λ (ps : List Packet). ArePushesBy c.known 0 ps r.metas) rest (subst (λ (ms : List Packet). ArePushesBy c.known (packets_before 0 c.units + length ms) is.rest r.metas) whole.1 is.metas))
     where
-      first_of : (ps : List Packet) (units : List SentUnit) → slice_get units 0 ≡ Some whole.0.sent → units ≡ c.units → ps ≡ whole.0.sent.packets → 0 < length ps → ArePushesOf c.all_steps c.clock_rate 0 ps r.metas → first_number r.metas ≡ c.first + 0
+      first_of : (ps : List Packet) (units : List SentUnit) → slice_get units 0 ≡ Some whole.0.sent → units ≡ c.units → ps ≡ whole.0.sent.packets → 0 < length ps → ArePushesBy c.known 0 ps r.metas → first_number r.metas ≡ c.first + 0
       first_of [] units at is same some are = absurd (omega (arith, some))
       first_of (p ∷ ps) [] at is same some are = absurd (cc)
       first_of (p ∷ ps) (u ∷ us) at is same some are =
@@ -192,7 +192,7 @@ module _ (c : Setting) where
   answers_of turns = map (λ (turn : Turn). turn.answer) turns
 
   abbrev NextAre : ℕ → List Turn → Type 0
-  NextAre n turns = AreNext c.all_steps c.clock_rate c.splits c.units n (answers_of turns)
+  NextAre n turns = AreNext c.known c.splits c.units n (answers_of turns)
 
   next_from : (n : ℕ) (s : State) (turns : List Turn) (end : Stretch) → IsReady c n s → IsAt n s → Taken n s → Chain c s turns end → NoneEvicted c.first (count c) turns → IsPatient c.first c.units n turns → NextAre n turns
   next_from n s [] end ready at taken chain nothing patient = tt

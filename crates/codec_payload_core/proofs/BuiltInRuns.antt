@@ -37,21 +37,29 @@ abbrev pub after_push : ℕ → ℕ → Option Packet → State → State
 after_push place clock_rate None s = s
 after_push place clock_rate (Some p) s = pushed s (arrived s.depack (meta_of_push place clock_rate p) p.payload)
 
+-- the buffer after step `place`, which names the packet of index k, pushed what that holds
+abbrev pub Pushing : Type 0
+Pushing = ℕ → ℕ → RunState → State
+
+-- the packet itself is pushed
+abbrev pub plainly : Pushing
+plainly place k s = after_push place s.payloading.clock_rate (slice_get s.sink.packets k) s.buffer
+
 -- one step, at its place: the entry of a `Send` and the answer of a `Pop`, if it is one
-abbrev pub DoesStep : List Sample → ℕ → Step → RunState → List Sent → List Answer → RunState → Type 0
-DoesStep samples place (steps.Send i mtu) s sends pops t =
+abbrev pub DoesStep : Pushing → List Sample → ℕ → Step → RunState → List Sent → List Answer → RunState → Type 0
+DoesStep pushing samples place (steps.Send i mtu) s sends pops t =
     (pops ≡ []) × MatchOption (slice_get samples i) ((sends ≡ []) × (t ≡ s)) (λ sample. (entry : Sent) × (sends ≡ entry ∷ []) × SendsIt place mtu sample s entry t)
-DoesStep samples place (steps.Push k) s sends pops t =
-    (sends ≡ []) × (pops ≡ []) × (t ≡ record s { buffer = after_push place s.payloading.clock_rate (slice_get s.sink.packets k) s.buffer })
-DoesStep samples place steps.Pop s sends pops t =
+DoesStep pushing samples place (steps.Push k) s sends pops t =
+    (sends ≡ []) × (pops ≡ []) × (t ≡ record s { buffer = pushing place k s })
+DoesStep pushing samples place steps.Pop s sends pops t =
     (sends ≡ []) × (answer : Answer) × (buffer : State) × (pops ≡ answer ∷ []) × (answer ≢ Some (Err faults.OutOfMemory)) × Pops s.buffer answer buffer × (t ≡ record s { buffer = buffer })
 
 -- the steps from place `place` on, in order
-abbrev pub Runs : List Sample → ℕ → List Step → RunState → List Sent → List Answer → RunState → Type 0
-Runs samples place [] s sends pops t = (sends ≡ []) × (pops ≡ []) × (t ≡ s)
-Runs samples place (step ∷ later) s sends pops t =
+abbrev pub Runs : Pushing → List Sample → ℕ → List Step → RunState → List Sent → List Answer → RunState → Type 0
+Runs pushing samples place [] s sends pops t = (sends ≡ []) × (pops ≡ []) × (t ≡ s)
+Runs pushing samples place (step ∷ later) s sends pops t =
     (send : List Sent) × (sends_later : List Sent) × (pop : List Answer) × (pops_later : List Answer) × (mid : RunState)
-    × (sends ≡ send ++ sends_later) × (pops ≡ pop ++ pops_later) × DoesStep samples place step s send pop mid × Runs samples (place + 1) later mid sends_later pops_later t
+    × (sends ≡ send ++ sends_later) × (pops ≡ pop ++ pops_later) × DoesStep pushing samples place step s send pop mid × Runs pushing samples (place + 1) later mid sends_later pops_later t
 
 -- a packetizer stays built in
 pack_stays : (p : Pack) (mtu : ℕ) (frame : List ℕ) (answer : Result (List (List ℕ)) PacketError) (q : Pack) → PackStep p mtu frame answer q → is_built_in q ≡ is_built_in p
@@ -143,7 +151,7 @@ lowest_keeps : (s : State) (ps : List Held) → (without_lowest s ps).depack ≡
 lowest_keeps s [] = refl
 lowest_keeps s (p ∷ ps) = refl
 
-push_keeps : (s : State) (p : Held) → (pushed s p).depack ≡ s.depack
+pub push_keeps : (s : State) (p : Held) → (pushed s p).depack ≡ s.depack
 push_keeps s p =
     let more = record s { held = placed p s.held } in
     by_test (is_dropped s (number_of p)) (λ b. (cond b s (kept_to_limit more)).depack ≡ s.depack) (λ e. refl)
@@ -157,21 +165,36 @@ pushes_exactly place clock_rate (Some p) s t built_in pushes =
     let left = pushes.2 ∙ ap (pushed s) held in
     (left, ap (λ (x : State). is_built_in_depack x.depack) left ∙ (ap is_built_in_depack (push_keeps s _) ∙ built_in))
 
+-- a step that sends, of a packetizer that is built in
+pub send_exactly : (samples : List Sample) (place i mtu : ℕ) (s t : RunState) (sends : List Sent) (pops : List Answer) → is_built_in s.payloading.pack ≡ true → IsOfCodec s.buffer → any.DoesStep samples place (steps.Send i mtu) s sends pops t
+    → DoesStep plainly samples place (steps.Send i mtu) s sends pops t × (is_built_in t.payloading.pack ≡ true) × IsOfCodec t.buffer
+send_exactly samples place i mtu s t sends pops pack depack step =
+    let one = at (slice_get samples i) step.1 in
+    ((step.0, one.0), one.1, one.2)
+  where
+    at : (o : Option Sample) → MatchOption o ((sends ≡ []) × (t ≡ s)) (λ sample. (entry : Sent) × (sends ≡ entry ∷ []) × any.SendsIt place mtu sample s entry t)
+        → MatchOption o ((sends ≡ []) × (t ≡ s)) (λ sample. (entry : Sent) × (sends ≡ entry ∷ []) × SendsIt place mtu sample s entry t)
+        × (is_built_in t.payloading.pack ≡ true) × IsOfCodec t.buffer
+    at None here = (here, ap (λ (x : RunState). is_built_in x.payloading.pack) here.1 ∙ pack, ap (λ (x : RunState). is_built_in_depack x.buffer.depack) here.1 ∙ depack)
+    at (Some sample) done =
+        let sent = sends_exactly place mtu sample s done.0 t pack done.2 in
+        ((done.0, done.1, sent.0), sent.1, ap (λ (x : RunState). is_built_in_depack x.buffer.depack) done.2.left ∙ depack)
+
+-- a step that pops leaves both built in
+pub pop_exactly : (samples : List Sample) (place : ℕ) (s t : RunState) (sends : List Sent) (pops : List Answer) → is_built_in s.payloading.pack ≡ true → IsOfCodec s.buffer → any.DoesStep samples place steps.Pop s sends pops t
+    → (is_built_in t.payloading.pack ≡ true) × IsOfCodec t.buffer
+pop_exactly samples place s t sends pops pack depack step = (
+  ap (λ (x : RunState). is_built_in x.payloading.pack) step.6 ∙ pack,
+  ap (λ (x : RunState). is_built_in_depack x.buffer.depack) step.6 ∙ (pops_stay s.buffer step.2 step.1 step.5 ∙ depack),
+)
+
 -- so the steps of such a run are told exactly
 pub runs_exactly : (samples : List Sample) (place : ℕ) (later : List Step) (s : RunState) (sends : List Sent) (pops : List Answer) (t : RunState)
-    → is_built_in s.payloading.pack ≡ true → IsOfCodec s.buffer → any.Runs samples place later s sends pops t → Runs samples place later s sends pops t
+    → is_built_in s.payloading.pack ≡ true → IsOfCodec s.buffer → any.Runs samples place later s sends pops t → Runs plainly samples place later s sends pops t
 runs_exactly samples place [] s sends pops t pack depack run = run
 runs_exactly samples place (steps.Send i mtu ∷ later) s sends pops t pack depack run =
-    let one = at (slice_get samples i) run.7.1 in
-    (run.0, run.1, run.2, run.3, run.4, run.5, run.6, (run.7.0, one.0), runs_exactly samples (place + 1) later run.4 run.1 run.3 t one.1 one.2 run.8)
-  where
-    at : (o : Option Sample) → MatchOption o ((run.0 ≡ []) × (run.4 ≡ s)) (λ sample. (entry : Sent) × (run.0 ≡ entry ∷ []) × any.SendsIt place mtu sample s entry run.4)
-        → MatchOption o ((run.0 ≡ []) × (run.4 ≡ s)) (λ sample. (entry : Sent) × (run.0 ≡ entry ∷ []) × SendsIt place mtu sample s entry run.4)
-        × (is_built_in run.4.payloading.pack ≡ true) × IsOfCodec run.4.buffer
-    at None step = (step, ap (λ (x : RunState). is_built_in x.payloading.pack) step.1 ∙ pack, ap (λ (x : RunState). is_built_in_depack x.buffer.depack) step.1 ∙ depack)
-    at (Some sample) step =
-        let sent = sends_exactly place mtu sample s step.0 run.4 pack step.2 in
-        ((step.0, step.1, sent.0), sent.1, ap (λ (x : RunState). is_built_in_depack x.buffer.depack) step.2.left ∙ depack)
+    let one = send_exactly samples place i mtu s run.4 run.0 run.2 pack depack run.7 in
+    (run.0, run.1, run.2, run.3, run.4, run.5, run.6, one.0, runs_exactly samples (place + 1) later run.4 run.1 run.3 t one.1 one.2 run.8)
 runs_exactly samples place (steps.Push k ∷ later) s sends pops t pack depack run =
     let step = run.7 in
     let one = pushes_exactly place s.payloading.clock_rate (slice_get s.sink.packets k) s.buffer step.2 depack step.3 in (
@@ -187,18 +210,8 @@ runs_exactly samples place (steps.Push k ∷ later) s sends pops t pack depack r
           (ap (λ (x : RunState). is_built_in_depack x.buffer.depack) step.4 ∙ one.1) run.8,
     )
 runs_exactly samples place (steps.Pop ∷ later) s sends pops t pack depack run =
-    let step = run.7 in (
-      run.0,
-      run.1,
-      run.2,
-      run.3,
-      run.4,
-      run.5,
-      run.6,
-      step,
-      runs_exactly samples (place + 1) later run.4 run.1 run.3 t (ap (λ (x : RunState). is_built_in x.payloading.pack) step.6 ∙ pack)
-          (ap (λ (x : RunState). is_built_in_depack x.buffer.depack) step.6 ∙ (pops_stay s.buffer step.2 step.1 step.5 ∙ depack)) run.8,
-    )
+    let one = pop_exactly samples place s run.4 run.0 run.2 pack depack run.7 in
+    (run.0, run.1, run.2, run.3, run.4, run.5, run.6, run.7, runs_exactly samples (place + 1) later run.4 run.1 run.3 t one.0 one.1 run.8)
 
 -- a packetizer that is built in makes payloads of a codec
 pub codec_payloads : (p : Pack) → is_built_in p ≡ true → is_codec (payloads_by p) ≡ true
@@ -216,6 +229,6 @@ codec_payloads BoxedPack e = e
 
 -- an unused run is of a codec on both sides
 pub unused_exactly : (samples : List Sample) (all_steps : List Step) (s : RunState) (sends : List Sent) (pops : List Answer) (t : RunState)
-    → IsUnused s → any.Runs samples 0 all_steps s sends pops t → Runs samples 0 all_steps s sends pops t
+    → IsUnused s → any.Runs samples 0 all_steps s sends pops t → Runs plainly samples 0 all_steps s sends pops t
 unused_exactly samples all_steps s sends pops t unused run =
     runs_exactly samples 0 all_steps s sends pops t unused.built_in (ap is_codec unused.alike ∙ codec_payloads s.payloading.pack unused.built_in) run

@@ -6,6 +6,7 @@ use Rattle.codec_payload_buffer.specs.Pack.{is_built_in}
 use Rattle.codec_payload_core.proofs.ScheduleLemmas.{length-packets_for}
 use Rattle.codec_payload_core.proofs.SendLemmas.{as_many}
 use Rattle.codec_payload_core.specs.Packets.{Packet}
+use Rattle.codec_payload_core.specs.RedSchedule.{Protection, RedState, DoesRedStep, RunsInRed}
 use Rattle.codec_payload_core.specs.RunCounts.{IsCounted, sends_in, pops_in, one_of, packets_counted}
 use Rattle.codec_payload_core.specs.Schedule.{Answer, RunState, Runs, DoesStep, SendsIt, payloads_of}
 use Rattle.codec_payload_core.specs.Sending.{Sample, rtp_time_at}
@@ -72,15 +73,32 @@ pops_of_first (steps.Send i mtu) later = omega arith
 pops_of_first (steps.Push k) later = omega arith
 pops_of_first steps.Pop later = omega arith
 
+-- the steps that are left count behind one
+counts_on : (samples : List Sample) (step : Step) (later : List Step) (s mid t : RunState) (sends send sends_later : List Sent) (pops pop pops_later : List Answer) → sends ≡ send ++ sends_later → pops ≡ pop ++ pops_later
+    → StepCounts samples step s send pop mid → IsCounted samples later mid sends_later pops_later t → IsCounted samples (step ∷ later) s sends pops t
+counts_on samples step later s mid t sends send sends_later pops pop pops_later all_sends all_pops here rest = record {
+  entries = ap length all_sends ∙ length-append send sends_later ∙ omega (arith, here.entries, rest.entries) ∙ sym (sends_of_first samples step later);
+  answers = ap length all_pops ∙ length-append pop pops_later ∙ omega (arith, here.answers, rest.answers) ∙ sym (pops_of_first step later);
+  gained = here.gained ++ rest.gained;
+  sink = rest.sink ∙ ap (λ (ps : List Packet). ps ++ rest.gained) here.sink ∙ append_assoc s.sink.packets here.gained rest.gained;
+  packets = length-append here.gained rest.gained ∙ omega (arith, here.packets, rest.packets) ∙ sym (ap packets_counted all_sends ∙ counted_append send sends_later);
+}
+
 pub run_counts : (samples : List Sample) (place : ℕ) (all_steps : List Step) (s : RunState) (sends : List Sent) (pops : List Answer) (t : RunState) → Runs samples place all_steps s sends pops t → IsCounted samples all_steps s sends pops t
 run_counts samples place [] s sends pops t run = nothing_counted samples [] s t sends pops run.0 run.1 (ap (λ (x : RunState). x.sink.packets) run.2) refl refl
 run_counts samples place (step ∷ later) s sends pops t run =
-    let here = step_counts samples place step s run.0 run.2 run.4 run.7 in
-    let rest = run_counts samples (place + 1) later run.4 run.1 run.3 t run.8 in
-    record {
-      entries = ap length run.5 ∙ length-append run.0 run.1 ∙ omega (arith, here.entries, rest.entries) ∙ sym (sends_of_first samples step later);
-      answers = ap length run.6 ∙ length-append run.2 run.3 ∙ omega (arith, here.answers, rest.answers) ∙ sym (pops_of_first step later);
-      gained = here.gained ++ rest.gained;
-      sink = rest.sink ∙ ap (λ (ps : List Packet). ps ++ rest.gained) here.sink ∙ append_assoc s.sink.packets here.gained rest.gained;
-      packets = length-append here.gained rest.gained ∙ omega (arith, here.packets, rest.packets) ∙ sym (ap packets_counted run.5 ∙ counted_append run.0 run.1);
-    }
+    counts_on samples step later s run.4 t sends run.0 run.1 pops run.2 run.3 run.5 run.6 (step_counts samples place step s run.0 run.2 run.4 run.7)
+    (run_counts samples (place + 1) later run.4 run.1 run.3 t run.8)
+
+-- the same with RED
+red_step_counts : (w : Protection) (samples : List Sample) (place : ℕ) (step : Step) (s : RedState) (sends : List Sent) (pops : List Answer) (t : RedState) → DoesRedStep w samples place step s sends pops t → StepCounts samples step s.plain sends pops t.plain
+red_step_counts w samples place (steps.Send i mtu) s sends pops t done = step_counts samples place (steps.Send i mtu) s.plain sends pops t.plain done.0
+red_step_counts w samples place (steps.Push k) s sends pops t done = nothing_counted samples (steps.Push k ∷ []) s.plain t.plain sends pops done.0 done.1 (ap (λ (x : RedState). x.plain.sink.packets) done.4) refl refl
+red_step_counts w samples place steps.Pop s sends pops t done = step_counts samples place steps.Pop s.plain sends pops t.plain done.0
+
+pub red_counts : (w : Protection) (samples : List Sample) (place : ℕ) (all_steps : List Step) (s : RedState) (sends : List Sent) (pops : List Answer) (t : RedState) → RunsInRed w samples place all_steps s sends pops t
+    → IsCounted samples all_steps s.plain sends pops t.plain
+red_counts w samples place [] s sends pops t run = nothing_counted samples [] s.plain t.plain sends pops run.0 run.1 (ap (λ (x : RedState). x.plain.sink.packets) run.2) refl refl
+red_counts w samples place (step ∷ later) s sends pops t run =
+    counts_on samples step later s.plain run.4.plain t.plain sends run.0 run.1 pops run.2 run.3 run.5 run.6 (red_step_counts w samples place step s run.0 run.2 run.4 run.7)
+    (red_counts w samples (place + 1) later run.4 run.1 run.3 t run.8)

@@ -13,16 +13,15 @@ use Rattle.codec_payload_core.proofs.FollowsLemmas.{Follows, goes_on}
 use Rattle.codec_payload_core.proofs.FullLemmas.{none_passed, numbered_front, numbered_back, exact_split, held_time, run_of_exact, next_due, pop_releases}
 use Rattle.codec_payload_buffer.proofs.PopLemmas.{above_rises}
 use Rattle.codec_payload_buffer.proofs.RowLemmas.{part_between}
-use Rattle.codec_payload_core.proofs.SafetyLemmas.{next_after, number_at, send_keeps}
+use Rattle.codec_payload_core.proofs.SafetyLemmas.{next_after}
 use Rattle.codec_payload_core.proofs.SendsUnits.{CarryIds}
-use Rattle.codec_payload_core.proofs.StreamLemmas.{streams}
-use Rattle.codec_payload_core.proofs.UnitRows.{slice_append, Exact, exact_payloads, exact_metas}
+use Rattle.codec_payload_core.proofs.UnitRows.{IsFaithful, Exact, exact_payloads, exact_metas}
 use Rattle.codec_payload_core.proofs.UnitTimes.{AllOneTime}
 use Rattle.codec_payload_buffer.specs.ContiguityTable.{checked, contiguity_for}
 use Rattle.codec_payload_buffer.specs.Depack.{Depack, DepackKind, Vp9Payloads, kind_of_depack}
 use Rattle.codec_payload_core.specs.Exact.{IsWhole, AnswersAll}
 use Rattle.codec_payload_buffer.specs.Frames.{frames}
-use Rattle.codec_payload_core.specs.Headline.{ArePushesOf}
+use Rattle.codec_payload_core.specs.Headline.{ArePushesBy}
 use Rattle.codec_payload_buffer.specs.Held.{Held, Rises, has_number, between, above}
 use Rattle.codec_payload_buffer.specs.Pack.{Pack, Vp9Pack}
 use Rattle.codec_payload_core.specs.Packets.{Packet, AreNumbered}
@@ -30,7 +29,6 @@ use Rattle.codec_payload_base.specs.declared.interface.Vp9PacketizerMode.{Vp9Pac
 use Rattle.codec_payload_base.specs.declared.interface.Vp9PacketizerMode.TheVariants.{Flexible, NonFlexible}
 use Rattle.codec_payload_core.specs.ToldIds.{ReadId, Tells, id_in, id_later, next_id, read_by}
 use Rattle.codec_payload_buffer.specs.Release.{Release}
-use Rattle.codec_payload_core.proofs.BuiltInRuns.{Runs, after_push}
 use Rattle.codec_payload_core.specs.Schedule.{Answer, RunState}
 use Rattle.codec_payload_core.specs.Sending.{Sample}
 use Rattle.codec_payload_core.specs.LawfulUnits.{payloads_held, payloads_sent, AllLawful}
@@ -89,10 +87,10 @@ or_true : (b : Bool) → (b || true) ≡ true
 or_true true = refl
 or_true false = refl
 
-module _ (all_steps : List Step) (clock_rate first : ℕ) (kind : DepackKind) (splits : Bool) (all : List SentUnit) where
+module _ (known : ℕ → Packet → RtpMeta → Type 0) (clock_rate first : ℕ) (kind : DepackKind) (faithful : IsFaithful known clock_rate kind) (splits : Bool) (all : List SentUnit) where
   -- what holds from the first pop on: exactly the packets of `rest` are held, which have the indices from k on
   pub record IsExactly (k : ℕ) (rest : List SentUnit) (s : State) : Type 0 where
-    pub row : Exact all_steps clock_rate kind k (packets_of rest) s.held
+    pub row : Exact known clock_rate kind faithful k (packets_of rest) s.held
     pub rises : Rises s.held
     pub next : next_after first s.cutoff ≡ first + k
     pub count : k + length (packets_of rest) ≡ length (packets_of all)
@@ -107,7 +105,7 @@ module _ (all_steps : List Step) (clock_rate first : ℕ) (kind : DepackKind) (s
   below_cutoff (Some c) n k e l = grind (arith, nat_tests, e, l)
 
   -- each number of the row is held
-  row_has : (k j : ℕ) (rest : List Packet) (ps : List Held) → AreNumbered (first + k) rest → Exact all_steps clock_rate kind k rest ps → k ≤ j → j < k + length rest → has_number (first + j) ps ≡ true
+  row_has : (k j : ℕ) (rest : List Packet) (ps : List Held) → AreNumbered (first + k) rest → Exact known clock_rate kind faithful k rest ps → k ≤ j → j < k + length rest → has_number (first + j) ps ≡ true
   row_has k j [] [] numbers row le l = absurd (omega (arith, le, l))
   row_has k j [] (p ∷ ps) numbers row le l = absurd row
   row_has k j (q ∷ qs) [] numbers row le l = absurd row
@@ -117,26 +115,18 @@ module _ (all_steps : List Step) (clock_rate first : ℕ) (kind : DepackKind) (s
         let rest = row_has (k + 1) j qs ps (subst (λ (m : ℕ). AreNumbered m qs) n numbers.1) row.2 (omega (arith, lt)) (omega (arith, l)) in
         grind (arith, nat_tests, rest)
     | inr ge ↦
-        let number : p.meta.seq_no.0 ≡ first + k = ap (λ (m : RtpMeta). m.seq_no.0) row.0.2 ∙ numbers.0 in
+        let number : p.meta.seq_no.0 ≡ first + k = faithful.number k q p.meta row.0 ∙ numbers.0 in
         grind (arith, nat_tests, number, ge, le)
   ]
 
   -- so each further push is dropped
-  dropped : (k j : ℕ) (rest : List SentUnit) (s : State) → IsExactly k rest s → j < length (packets_of all) → is_dropped s (first + j) ≡ true
+  pub dropped : (k j : ℕ) (rest : List SentUnit) (s : State) → IsExactly k rest s → j < length (packets_of all) → is_dropped s (first + j) ≡ true
   dropped k j rest s exactly l = elim (cases_lt j k) [
     | inl gone ↦ let e = below_cutoff s.cutoff j k exactly.next gone in rw e refl
     | inr le ↦ let e = row_has k j (packets_of rest) s.held exactly.numbered exactly.row le (omega (arith, l, exactly.count)) in rw e (or_true (is_at_most s.cutoff (first + j)))
   ]
 
-  push_nothing : (k : ℕ) (rest : List SentUnit) (s : State) (place j : ℕ) (sent more : List Packet) → AreNumbered first (packets_of all) → sent ++ more ≡ packets_of all → IsExactly k rest s → (o : Option Packet) → slice_get sent j ≡ o → after_push place clock_rate o s ≡ s
-  push_nothing k rest s place j sent more numbers whole exactly None is = refl
-  push_nothing k rest s place j sent more numbers whole exactly (Some q) is =
-      let found : slice_get (packets_of all) j ≡ Some q = subst (λ (ps : List Packet). slice_get ps j ≡ Some q) whole (slice_append sent more j q is) in
-      let number : q.number ≡ first + j = number_at (packets_of all) first j q numbers found in
-      let e : is_dropped s q.number ≡ true = subst (λ (n : ℕ). is_dropped s n ≡ true) (sym number) (dropped k j rest s exactly (slice_get_within (packets_of all) j q found)) in
-      rw e refl
-
-  nothing_held : (k : ℕ) (hs : List Held) → Exact all_steps clock_rate kind k [] hs → hs ≡ []
+  nothing_held : (k : ℕ) (hs : List Held) → Exact known clock_rate kind faithful k [] hs → hs ≡ []
   nothing_held k [] row = refl
   nothing_held k (p ∷ ps) row = absurd row
 
@@ -170,8 +160,8 @@ module _ (all_steps : List Step) (clock_rate first : ℕ) (kind : DepackKind) (s
     pub after : List Held
     pub taken : packets_of_frame s frame ≡ packets
     pub left : above frame.last s.held ≡ after
-    pub of_unit : Exact all_steps clock_rate kind k u.packets packets
-    pub of_rest : Exact all_steps clock_rate kind (k + length u.packets) (packets_of us) after
+    pub of_unit : Exact known clock_rate kind faithful k u.packets packets
+    pub of_rest : Exact known clock_rate kind faithful (k + length u.packets) (packets_of us) after
 
   front : (k : ℕ) (u : SentUnit) (us : List SentUnit) (s : State) → IsExactly k (u ∷ us) s → IsFront k u us s
   front k u us s exactly =
@@ -179,12 +169,12 @@ module _ (all_steps : List Step) (clock_rate first : ℕ) (kind : DepackKind) (s
       let time = exactly.one_time.0.0 in
       let times = exactly.one_time.0.1 in
       let numbers = numbered_front (first + k) u.packets (packets_of us) exactly.numbered in
-      let next = next_due all_steps clock_rate kind s first k time u (packets_of us) law.ends law.starts times numbers exactly.row exactly.next in
+      let next = next_due known clock_rate kind faithful s first k time u (packets_of us) law.ends law.starts times numbers exactly.row exactly.next in
       let f = next.0 in
-      let split = exact_split all_steps clock_rate kind k u.packets (packets_of us) s.held exactly.row in
-      let at = held_time all_steps clock_rate kind time in
+      let split = exact_split known clock_rate kind faithful k u.packets (packets_of us) s.held exactly.row in
+      let at = held_time known clock_rate kind faithful time in
       let run : IsRun f.first f.last at split.front =
-      subst (λ (n : ℕ). IsRun n f.last at split.front) (sym next.2) (run_of_exact all_steps clock_rate kind k (first + k) time u.packets split.front law.ends times numbers split.of_front f.last next.3) in
+      subst (λ (n : ℕ). IsRun n f.last at split.front) (sym next.2) (run_of_exact known clock_rate kind faithful k (first + k) time u.packets split.front law.ends times numbers split.of_front f.last next.3) in
       let parts = part_between [] split.front split.back f.first f.last at run (subst Rises split.whole exactly.rises) in
       record {
         frame = f;
@@ -202,7 +192,7 @@ module _ (all_steps : List Step) (clock_rate first : ℕ) (kind : DepackKind) (s
   pub record IsNext (k : ℕ) (u : SentUnit) (us : List SentUnit) (a : Answer) (t : State) : Type 0 where
     pub release : Release
     pub is : a ≡ Some (Ok release)
-    pub whole : IsWhole all_steps clock_rate k u release
+    pub whole : IsWhole known k u release
     pub left : IsExactly (k + length u.packets) us t
 
   pop_next : (k : ℕ) (u : SentUnit) (us : List SentUnit) (s t : State) (a : Answer) → IsExactly k (u ∷ us) s → a ≢ Some (Err faults.OutOfMemory) → Pops s a t → IsNext k u us a t
@@ -222,10 +212,10 @@ module _ (all_steps : List Step) (clock_rate first : ℕ) (kind : DepackKind) (s
         is = out.1;
         whole = record {
           bytes = whole_of splits u r.bytes answer.1;
-          metas = subst (ArePushesOf all_steps clock_rate k u.packets) (sym (releases.metas ∙ ap metas_of (taken releases.frame releases.is_due))) (exact_metas all_steps clock_rate kind k u.packets unit.packets unit.of_unit);
+          metas = subst (ArePushesBy known k u.packets) (sym (releases.metas ∙ ap metas_of (taken releases.frame releases.is_due))) (exact_metas known clock_rate kind faithful k u.packets unit.packets unit.of_unit);
         };
         left = subst (IsExactly (k + length u.packets) us) (sym releases.left) (record {
-          row = subst (Exact all_steps clock_rate kind (k + length u.packets) (packets_of us)) (sym after) unit.of_rest;
+          row = subst (Exact known clock_rate kind faithful (k + length u.packets) (packets_of us)) (sym after) unit.of_rest;
           rises = above_rises releases.frame.last s.held exactly.rises;
           next = omega (arith, end, unit.end);
           count = omega (arith, exactly.count, length-append u.packets (packets_of us));
@@ -241,7 +231,7 @@ module _ (all_steps : List Step) (clock_rate first : ℕ) (kind : DepackKind) (s
       unit = front k u us s exactly
 
       same_payloads : payloads_held unit.packets ≡ payloads_sent u.packets
-      same_payloads = exact_payloads all_steps clock_rate kind k u.packets unit.packets unit.of_unit
+      same_payloads = exact_payloads known clock_rate kind faithful k u.packets unit.packets unit.of_unit
 
       same_frame : (f : Segment) → due_of s ≡ Some f → f ≡ unit.frame
       same_frame f due = let is = unit.is_due in cc
@@ -267,34 +257,11 @@ module _ (all_steps : List Step) (clock_rate first : ℕ) (kind : DepackKind) (s
       sound fault r refusal = refusal.not_memory (given (Err fault) refusal.depack (gives_unit refusal.frame refusal.is_due (Err fault) refusal.depack refusal.gives)).1
 
   -- what a pop answers, and what the later ones do
-  pop_answers : (k : ℕ) (rest : List SentUnit) (s t : State) (a : Answer) (answers : List Answer) → IsExactly k rest s → a ≢ Some (Err faults.OutOfMemory) → Pops s a t
-      → ((n : ℕ) (left : List SentUnit) → IsExactly n left t → AnswersAll all_steps clock_rate n left answers) → AnswersAll all_steps clock_rate k rest (a ∷ answers)
+  pub pop_answers : (k : ℕ) (rest : List SentUnit) (s t : State) (a : Answer) (answers : List Answer) → IsExactly k rest s → a ≢ Some (Err faults.OutOfMemory) → Pops s a t
+      → ((n : ℕ) (left : List SentUnit) → IsExactly n left t → AnswersAll known n left answers) → AnswersAll known k rest (a ∷ answers)
   pop_answers k [] s t a answers exactly memory pop later =
       let out = pop_none k s t a exactly pop in
       (out.0, later k [] (subst (IsExactly k []) (sym out.1) exactly))
   pop_answers k (u ∷ us) s t a answers exactly memory pop later =
       let out = pop_next k u us s t a exactly memory pop in
       (out.release, out.is, out.whole, later (k + length u.packets) us out.left)
-
-  -- from the first pop on
-  pub answers_from : (samples : List Sample) (later : List Step) (place k : ℕ) (rest : List SentUnit) (s t : RunState) (sends : List Sent) (pops : List Answer)
-      → AreNumbered first (packets_of all) → Runs samples place later s sends pops t → t.sink.packets ≡ packets_of all → s.payloading.clock_rate ≡ clock_rate
-      → IsExactly k rest s.buffer → AnswersAll all_steps clock_rate k rest pops
-  answers_from samples [] place k rest s t sends pops numbers run whole clock exactly = subst (AnswersAll all_steps clock_rate k rest) (sym run.1) tt
-  answers_from samples (steps.Send i mtu ∷ later) place k rest s t sends pops numbers run whole clock exactly =
-      let same = send_keeps samples place i mtu s run.4 run.0 run.2 run.7 in
-      let answers = answers_from samples later (place + 1) k rest run.4 t run.1 run.3 numbers run.8 whole (same.1 ∙ clock) (subst (IsExactly k rest) (sym same.0) exactly) in
-      subst (AnswersAll all_steps clock_rate k rest) (sym (run.6 ∙ ap (λ (ps : List Answer). ps ++ run.3) run.7.0)) answers
-  answers_from samples (steps.Push j ∷ later) place k rest s t sends pops numbers run whole clock exactly =
-      let stream = streams samples place (steps.Push j ∷ later) s t sends pops run in
-      let nothing = push_nothing k rest s.buffer place j s.sink.packets (packets_of stream.units) numbers (sym stream.gained ∙ whole) exactly (slice_get s.sink.packets j) refl in
-      let same : run.4.buffer ≡ s.buffer =
-      ap (λ (x : RunState). x.buffer) run.7.2 ∙ ap (λ (rate : ℕ). after_push place rate (slice_get s.sink.packets j) s.buffer) clock ∙ nothing in
-      let answers = answers_from samples later (place + 1) k rest run.4 t run.1 run.3 numbers run.8 whole (ap (λ (x : RunState). x.payloading.clock_rate) run.7.2 ∙ clock) (subst (IsExactly k rest) (sym same) exactly) in
-      subst (AnswersAll all_steps clock_rate k rest) (sym (run.6 ∙ ap (λ (ps : List Answer). ps ++ run.3) run.7.1)) answers
-  answers_from samples (steps.Pop ∷ later) place k rest s t sends pops numbers run whole clock exactly =
-      let buffer : run.4.buffer ≡ run.7.2 = ap (λ (x : RunState). x.buffer) run.7.6 in
-      let all_answers : run.7.1 ∷ run.3 ≡ pops = sym (run.6 ∙ ap (λ (ps : List Answer). ps ++ run.3) run.7.3) in
-      subst (AnswersAll all_steps clock_rate k rest) all_answers
-      (pop_answers k rest s.buffer run.7.2 run.7.1 run.3 exactly run.7.4 run.7.5
-      (λ n left there. answers_from samples later (place + 1) n left run.4 t run.1 run.3 numbers run.8 whole (ap (λ (x : RunState). x.payloading.clock_rate) run.7.6 ∙ clock) (subst (IsExactly n left) (sym buffer) there)))

@@ -9,15 +9,14 @@ use Rattle.codec_payload_buffer.proofs.CaseLemmas.{by_test}
 use Rattle.codec_payload_buffer.proofs.PlaceLemmas.{above_lower, not_below}
 use Rattle.codec_payload_core.proofs.SafetyLemmas.{IsSent, AllSent, IsBeyond, number_of_sent, beyond_placed}
 use Rattle.codec_payload_buffer.proofs.StretchLemmas.{has_placed}
-use Rattle.codec_payload_core.proofs.UnitRows.{held_as, drop_next, Exact}
+use Rattle.codec_payload_core.proofs.UnitRows.{IsFaithful, held_as, drop_next, Exact}
 use Rattle.codec_payload_buffer.specs.Depack.{DepackKind}
-use Rattle.codec_payload_core.specs.Headline.{IsPushOf}
 use Rattle.codec_payload_buffer.specs.Held.{Held, Rises, AllAbove, placed, has_number}
 use Rattle.codec_payload_core.specs.Packets.{Packet, AreNumbered}
 use Rattle.codec_payload_core.specs.LawfulUnits.{AllLawful}
 use Rattle.codec_payload_core.specs.SentStream.{SentUnit, packets_of}
 use Rattle.codec_payload_buffer.specs.Steps.{State, pushed, kept_to_limit, is_dropped, is_at_most}
-use Rattle.codec_payload_core.specs.declared.schedule.Step.{Step}
+use Rattle.codec_payload_buffer.specs.declared.buffer.unit.RtpMeta.{RtpMeta}
 
 -- all numbers are at least n
 abbrev pub AllFrom : ℕ → List Held → Type 0
@@ -50,15 +49,15 @@ dropped_has : (cutoff : Option ℕ) (n : ℕ) (b : Bool) → cutoff ≡ None →
 dropped_has None n b none h = h
 dropped_has (Some c) n b none h = absurd (cc)
 
-module _ (all_steps : List Step) (clock_rate first : ℕ) (kind : DepackKind) (splits : Bool) (all : List SentUnit) (lawful : AllLawful kind splits all) (numbered : AreNumbered first (packets_of all)) where
+module _ (known : ℕ → Packet → RtpMeta → Type 0) (clock_rate first : ℕ) (kind : DepackKind) (faithful : IsFaithful known clock_rate kind) (splits : Bool) (all : List SentUnit) (lawful : AllLawful kind splits all) (numbered : AreNumbered first (packets_of all)) where
   abbrev IsPush : Held → Type 0
-  IsPush = IsSent all_steps clock_rate first kind splits all lawful numbered
+  IsPush = IsSent known clock_rate first kind faithful splits all lawful numbered
 
   abbrev AllPushes : List Held → Type 0
-  AllPushes = AllSent all_steps clock_rate first kind splits all lawful numbered
+  AllPushes = AllSent known clock_rate first kind faithful splits all lawful numbered
 
   number_of_push : (p : Held) (i : IsPush p) → p.meta.seq_no.0 ≡ first + i.0
-  number_of_push p i = number_of_sent all_steps clock_rate first kind splits all lawful numbered p i
+  number_of_push p i = number_of_sent known clock_rate first kind faithful splits all lawful numbered p i
 
   within_sent : (p : Held) (i : IsPush p) → i.0 < length (packets_of all)
   within_sent p i = slice_get_within (packets_of all) i.0 i.1 i.2
@@ -78,7 +77,7 @@ module _ (all_steps : List Step) (clock_rate first : ℕ) (kind : DepackKind) (s
 
   -- with each number there, they are the packets that were sent
   row_of_all : (k : ℕ) (rest : List Packet) (hs : List Held) → drop k (packets_of all) ≡ rest → AllFrom (first + k) hs → Rises hs → AllPushes hs
-      → ((j : ℕ) → k ≤ j → j < length (packets_of all) → has_number (first + j) hs ≡ true) → Exact all_steps clock_rate kind k rest hs
+      → ((j : ℕ) → k ≤ j → j < length (packets_of all) → has_number (first + j) hs ≡ true) → Exact known clock_rate kind faithful k rest hs
   row_of_all k [] [] is over rises sent there = tt
   row_of_all k [] (p ∷ ps) is over rises sent there =
       let number = number_of_push p sent.0 in
@@ -97,7 +96,7 @@ module _ (all_steps : List Step) (clock_rate first : ℕ) (kind : DepackKind) (s
       let found : slice_get (packets_of all) k ≡ Some i.1 = subst (λ (n : ℕ). slice_get (packets_of all) n ≡ Some i.1) same i.2 in
       let here : slice_get (packets_of all) k ≡ Some q = next.0 in
       let packet : i.1 ≡ q = cc in
-      let push : IsPushOf all_steps clock_rate k q p.meta = subst (λ (z : Packet). IsPushOf all_steps clock_rate k z p.meta) packet (subst (λ (n : ℕ). IsPushOf all_steps clock_rate n i.1 p.meta) same i.3) in
+      let push : known k q p.meta = subst (λ (z : Packet). known k z p.meta) packet (subst (λ (n : ℕ). known n i.1 p.meta) same i.3) in
       let held : p ≡ held_as kind p.meta q.payload = i.4 ∙ ap (λ (z : Packet). held_as kind p.meta z.payload) packet in (
         push,
         held,
@@ -107,7 +106,7 @@ module _ (all_steps : List Step) (clock_rate first : ℕ) (kind : DepackKind) (s
 
   -- what holds while an unused buffer, `start`, is filled
   pub record IsFilling (start s : State) : Type 0 where
-    pub beyond : IsBeyond all_steps clock_rate first kind splits all lawful numbered 0 s
+    pub beyond : IsBeyond known clock_rate first kind faithful splits all lawful numbered 0 s
     pub no_cutoff : s.cutoff ≡ None
     pub room : length (packets_of all) ≤ s.limit
     pub depack : s.depack ≡ start.depack
@@ -126,8 +125,8 @@ module _ (all_steps : List Step) (clock_rate first : ℕ) (kind : DepackKind) (s
       (λ e. record { filling = filling; has = dropped_has s.cutoff p.meta.seq_no.0 (has_number p.meta.seq_no.0 s.held) filling.no_cutoff e; still = λ m h. h })
       (λ e.
       let t : State = record s { held = placed p s.held } in
-      let beyond : IsBeyond all_steps clock_rate first kind splits all lawful numbered 0 t =
-      beyond_placed all_steps clock_rate first kind splits all lawful numbered 0 s p i (grind (arith, e)) (grind (arith, e)) filling.beyond in
+      let beyond : IsBeyond known clock_rate first kind faithful splits all lawful numbered 0 t =
+      beyond_placed known clock_rate first kind faithful splits all lawful numbered 0 s p i (grind (arith, e)) (grind (arith, e)) filling.beyond in
       let few = few_sent first t.held (from_sent t.held beyond.sent) beyond.rises beyond.sent in
       let fits : ltb s.limit (length (placed p s.held)) ≡ false = grind (arith, nat_tests, few, filling.room) in
       rw fits (record {
@@ -137,7 +136,7 @@ module _ (all_steps : List Step) (clock_rate first : ℕ) (kind : DepackKind) (s
       }))
 
   -- with all of them there, exactly the packets that were sent are held
-  pub full_row : (start s : State) → IsFilling start s → ((k : ℕ) → k < length (packets_of all) → has_number (first + k) s.held ≡ true) → Exact all_steps clock_rate kind 0 (packets_of all) s.held
+  pub full_row : (start s : State) → IsFilling start s → ((k : ℕ) → k < length (packets_of all) → has_number (first + k) s.held ≡ true) → Exact known clock_rate kind faithful 0 (packets_of all) s.held
   full_row start s filling there =
       let z : first ≡ first + 0 = omega arith in
       row_of_all 0 (packets_of all) s.held refl (subst (λ (n : ℕ). AllFrom n s.held) z (from_sent s.held filling.beyond.sent)) filling.beyond.rises filling.beyond.sent (λ j le l. there j l)

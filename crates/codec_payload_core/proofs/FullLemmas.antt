@@ -7,7 +7,7 @@ use Rattle.codec_payload_base.specs.declared.error.PacketError.TheVariants as fa
 use Rattle.codec_payload_buffer.proofs.FrameParts.{IsRun, BeginsWithHead}
 use Rattle.codec_payload_buffer.proofs.FrontLemmas.{due_front}
 use Rattle.codec_payload_core.proofs.SafetyLemmas.{next_after}
-use Rattle.codec_payload_core.proofs.UnitRows.{Exact, tail_is}
+use Rattle.codec_payload_core.proofs.UnitRows.{IsFaithful, Exact, tail_is}
 use Rattle.codec_payload_core.proofs.UnitTimes.{HasTime}
 use Rattle.codec_payload_buffer.specs.Depack.{DepackKind}
 use Rattle.codec_payload_buffer.specs.Held.{Held}
@@ -42,19 +42,19 @@ not_empty : (kind : DepackKind) (xs : List Packet) → EndsWithTail kind xs → 
 not_empty kind [] ends = absurd ends
 not_empty kind (x ∷ xs) ends = omega arith
 
-module _ (all_steps : List Step) (clock_rate : ℕ) (kind : DepackKind) where
+module _ (known : ℕ → Packet → RtpMeta → Type 0) (clock_rate : ℕ) (kind : DepackKind) (faithful : IsFaithful known clock_rate kind) where
   -- pushes of two lists of packets, one after the other
   pub record IsSplit (k : ℕ) (xs ys : List Packet) (ps : List Held) : Type 0 where
     pub front : List Held
     pub back : List Held
     pub whole : ps ≡ front ++ back
-    pub of_front : Exact all_steps clock_rate kind k xs front
-    pub of_back : Exact all_steps clock_rate kind (k + length xs) ys back
+    pub of_front : Exact known clock_rate kind faithful k xs front
+    pub of_back : Exact known clock_rate kind faithful (k + length xs) ys back
 
-  pub exact_split : (k : ℕ) (xs ys : List Packet) (ps : List Held) → Exact all_steps clock_rate kind k (xs ++ ys) ps → IsSplit k xs ys ps
+  pub exact_split : (k : ℕ) (xs ys : List Packet) (ps : List Held) → Exact known clock_rate kind faithful k (xs ++ ys) ps → IsSplit k xs ys ps
   exact_split k [] ys ps e =
       let z : k ≡ k + 0 = omega arith in
-      record { front = []; back = ps; whole = refl; of_front = tt; of_back = subst (λ (n : ℕ). Exact all_steps clock_rate kind n ys ps) z e }
+      record { front = []; back = ps; whole = refl; of_front = tt; of_back = subst (λ (n : ℕ). Exact known clock_rate kind faithful n ys ps) z e }
   exact_split k (x ∷ xs) ys [] e = absurd e
   exact_split k (x ∷ xs) ys (p ∷ ps) e =
       let rest = exact_split (k + 1) xs ys ps e.2 in
@@ -64,7 +64,7 @@ module _ (all_steps : List Step) (clock_rate : ℕ) (kind : DepackKind) where
         back = rest.back;
         whole = ap (λ (zs : List Held). p ∷ zs) rest.whole;
         of_front = (e.0, e.1, rest.of_front);
-        of_back = subst (λ (m : ℕ). Exact all_steps clock_rate kind m ys rest.back) n rest.of_back;
+        of_back = subst (λ (m : ℕ). Exact known clock_rate kind faithful m ys rest.back) n rest.of_back;
       }
 
   -- the time of a held packet, by the clock of the run
@@ -72,31 +72,30 @@ module _ (all_steps : List Step) (clock_rate : ℕ) (kind : DepackKind) where
   held_time time = record { numer = time; rate = clock_rate }
 
   -- pushes of exactly a unit's packets are a run
-  pub run_of_exact : (k n time : ℕ) (xs : List Packet) (ps : List Held) → EndsWithTail kind xs → HasTime time xs → AreNumbered n xs → Exact all_steps clock_rate kind k xs ps → (last : ℕ) → last + 1 ≡ n + length xs → IsRun n last (held_time time) ps
+  pub run_of_exact : (k n time : ℕ) (xs : List Packet) (ps : List Held) → EndsWithTail kind xs → HasTime time xs → AreNumbered n xs → Exact known clock_rate kind faithful k xs ps → (last : ℕ) → last + 1 ≡ n + length xs → IsRun n last (held_time time) ps
   run_of_exact k n time [] ps ends times numbers e last l = absurd ends
   run_of_exact k n time (x ∷ xs) [] ends times numbers e last l = absurd e
   run_of_exact k n time (x ∷ []) (p ∷ []) ends times numbers e last l =
-      let meta = e.0.2 in
-      let number : p.meta.seq_no.0 ≡ n = ap (λ (m : RtpMeta). m.seq_no.0) meta ∙ numbers.0 in
-      (number, omega (arith, number, l), ap (λ (m : RtpMeta). m.time) meta ∙ ap held_time times.0, tail_is all_steps clock_rate kind k x p e.0 e.1 ∙ ends)
+      let number : p.meta.seq_no.0 ≡ n = faithful.number k x p.meta e.0 ∙ numbers.0 in
+      (number, omega (arith, number, l), faithful.time k x p.meta e.0 ∙ ap held_time times.0, tail_is known clock_rate kind faithful k x p e.0 e.1 ∙ ends)
   run_of_exact k n time (x ∷ []) (p ∷ q ∷ ps) ends times numbers e last l = absurd e.2
   run_of_exact k n time (x ∷ y ∷ xs) (p ∷ []) ends times numbers e last l = absurd e.2
   run_of_exact k n time (x ∷ y ∷ xs) (p ∷ q ∷ ps) ends times numbers e last l =
-      let meta = e.0.2 in (
-        ap (λ (m : RtpMeta). m.seq_no.0) meta ∙ numbers.0,
-        ap (λ (m : RtpMeta). m.time) meta ∙ ap held_time times.0,
-        tail_is all_steps clock_rate kind k x p e.0 e.1 ∙ ends.0,
+      (
+        faithful.number k x p.meta e.0 ∙ numbers.0,
+        faithful.time k x p.meta e.0 ∙ ap held_time times.0,
+        tail_is known clock_rate kind faithful k x p e.0 e.1 ∙ ends.0,
         run_of_exact (k + 1) (n + 1) time (y ∷ xs) (q ∷ ps) ends.1 times.1 numbers.1 e.2 last (omega (arith, l)),
       )
 
-  pub begins_of_exact : (k : ℕ) (xs : List Packet) (ps : List Held) → StartsWithHead kind xs → Exact all_steps clock_rate kind k xs ps → BeginsWithHead ps
+  pub begins_of_exact : (k : ℕ) (xs : List Packet) (ps : List Held) → StartsWithHead kind xs → Exact known clock_rate kind faithful k xs ps → BeginsWithHead ps
   begins_of_exact k [] ps s e = absurd s
   begins_of_exact k (x ∷ xs) [] s e = absurd e
   begins_of_exact k (x ∷ xs) (p ∷ ps) s e = ap (λ (h : Held). h.head) e.1 ∙ s
 
   -- the next unit is due
   pub next_due : (s : State) (first k time : ℕ) (u : SentUnit) (rest : List Packet) → EndsWithTail kind u.packets → StartsWithHead kind u.packets → HasTime time u.packets → AreNumbered (first + k) u.packets
-      → Exact all_steps clock_rate kind k (u.packets ++ rest) s.held → next_after first s.cutoff ≡ first + k
+      → Exact known clock_rate kind faithful k (u.packets ++ rest) s.held → next_after first s.cutoff ≡ first + k
       → (f : Segment) × (due_of s ≡ Some f) × (f.first ≡ first + k) × (f.last + 1 ≡ first + k + length u.packets)
   next_due s first k time u rest ends starts times numbers e next =
       let split = exact_split k u.packets rest s.held e in

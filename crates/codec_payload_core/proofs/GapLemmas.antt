@@ -53,11 +53,11 @@ module _ (c : Setting) where
   over_beyond : (n : ℕ) (s t : State) (beyond : Beyond c n s) (p : PassesOver s t) → Beyond c ((frame_due c n s p.frame beyond p.is_due).place + 1) t
   over_beyond n s t beyond p =
       let frame = frame_due c n s p.frame beyond p.is_due in
-      let reads = (given c.all_steps c.clock_rate c.first c.kind c.splits c.units c.lawful c.numbered n s p.frame beyond p.is_due (Ok p.unpacked) p.depack p.gives).0 in
-      subst (Beyond c (frame.place + 1)) (sym p.left) (beyond_without c.all_steps c.clock_rate c.first c.kind c.splits c.units c.lawful c.numbered n s p.frame beyond p.is_due (frame.place + 1) (omega (arith, frame.stop)) p.depack reads _ s.mark)
+      let reads = (given c.known c.clock_rate c.first c.kind c.faithful c.splits c.units c.lawful c.numbered n s p.frame beyond p.is_due (Ok p.unpacked) p.depack p.gives).0 in
+      subst (Beyond c (frame.place + 1)) (sym p.left) (beyond_without c.known c.clock_rate c.first c.kind c.faithful c.splits c.units c.lawful c.numbered n s p.frame beyond p.is_due (frame.place + 1) (omega (arith, frame.stop)) p.depack reads _ s.mark)
 
   released_beyond : (n : ℕ) (s t : State) (r : Release) (beyond : Beyond c n s) (out : Releases s r t) → Beyond c ((frame_due c n s out.frame beyond out.is_due).place + 1) t
-  released_beyond n s t r beyond out = (released_at c.all_steps c.clock_rate c.first c.kind c.splits c.units c.lawful c.numbered n s t r beyond out).2
+  released_beyond n s t r beyond out = (released_at c.known c.clock_rate c.first c.kind c.faithful c.splits c.units c.lawful c.numbered n s t r beyond out).2
 
   release_ends : (n : ℕ) (s t : State) (r : Release) (beyond : Beyond c n s) (out : Releases s r t) (P : ℕ → Type 0) → P out.frame.last → AnswerEnds P (Some (Ok r))
   release_ends n s t r beyond out P is = subst P (sym (numbers_of s t r beyond.rises beyond.beyond out).last) is

@@ -3,17 +3,20 @@ use Rattle.std.proofs.Common.{◌≡◌, ◌∙◌, refl, sym, ap, ℕ, subst, L
 use Rattle.std.specs.Prelude.{slice_get, MatchOption}
 use Rattle.std.proofs.lemmas.Bool.Decides.{nat_tests}
 use Rattle.std.proofs.lemmas.List.{take_at}
-use Rattle.codec_payload_core.proofs.AllPushedLemmas.{entry_of, made_from}
-use Rattle.codec_payload_buffer.proofs.MemberLemmas.{IsIn}
+use Rattle.codec_payload_core.proofs.EntryLemmas.{entry_of, entry_made, made_from}
+use Rattle.codec_payload_buffer.proofs.MemberLemmas.{IsIn, in_append}
 use Rattle.codec_payload_core.proofs.SafetyLemmas.{send_keeps}
 use Rattle.codec_payload_core.proofs.StreamLemmas.{streams}
-use Rattle.codec_payload_core.specs.Log.{Stretch, Turn, begun, sent_before, packet_named, after_naming, IsLog}
+use Rattle.codec_payload_core.specs.Log.{Stretch, Turn, begun, with_pushes, sent_before, packet_named, held_of, IsLogBy}
 use Rattle.codec_payload_core.specs.Packets.{Packet}
-use Rattle.codec_payload_core.proofs.BuiltInRuns.{Runs, DoesStep, SendsIt, after_push}
+use Rattle.codec_payload_core.proofs.BuiltInRuns.{Pushing, Runs, DoesStep, SendsIt, after_push, plainly}
 use Rattle.codec_payload_core.specs.Schedule.{Answer, RunState}
 use Rattle.codec_payload_core.specs.Sending.{Sample}
 use Rattle.codec_payload_core.specs.SentStream.{packets_of}
+use Rattle.codec_payload_buffer.specs.Depack.{Depack}
+use Rattle.codec_payload_buffer.specs.Held.{Held}
 use Rattle.codec_payload_buffer.specs.Steps.{State, PopsOver}
+use Rattle.codec_payload_buffer.specs.Stretches.{after_pushes}
 use Rattle.codec_payload_core.specs.declared.schedule.Sent.{Sent}
 use Rattle.codec_payload_core.specs.declared.schedule.Step.{Step}
 use Rattle.codec_payload_core.specs.declared.schedule.Step.TheVariants as steps
@@ -37,7 +40,7 @@ none_before place (x ∷ xs) later =
     omega (arith, here, rest)
 
 -- the entry of a step counts what the sink gained
-gains : (samples : List Sample) (place i mtu : ℕ) (s mid : RunState) (sends : List Sent) (pops : List Answer) → DoesStep samples place (steps.Send i mtu) s sends pops mid
+gains : (samples : List Sample) (place i mtu : ℕ) (s mid : RunState) (sends : List Sent) (pops : List Answer) → DoesStep plainly samples place (steps.Send i mtu) s sends pops mid
     → (n : ℕ) → place < n → length s.sink.packets + sent_before n sends ≡ length mid.sink.packets
 gains samples place i mtu s mid sends pops step n l = at (slice_get samples i) step.1
   where
@@ -54,31 +57,52 @@ gains samples place i mtu s mid sends pops step n l = at (slice_get samples i) s
 take_front : (xs more : List Packet) (n : ℕ) → n ≡ length xs → take n (xs ++ more) ≡ xs
 take_front xs more n e = take_at xs more n (sym e)
 
-now_after : (place clock_rate : ℕ) (o : Option Packet) (w : Stretch) → (after_naming place clock_rate o w).now ≡ after_push place clock_rate o w.now
-now_after place clock_rate None w = refl
-now_after place clock_rate (Some p) w = refl
+-- the packets of an entry were sent before each step after its own
+pub entry_before : (pushing : Pushing) (samples : List Sample) (place : ℕ) (later : List Step) (s t : RunState) (sends : List Sent) (pops : List Answer) → Runs pushing samples place later s sends pops t
+    → (entry : Sent) → IsIn entry sends → (n : ℕ) → entry.step < n → entry.first + entry.count ≤ length s.sink.packets + sent_before n sends
+entry_before pushing samples place [] s t sends pops run entry is n l = absurd (subst (IsIn entry) run.0 is)
+entry_before pushing samples place (steps.Send i mtu ∷ later) s t sends pops run entry is n l =
+    let split : sent_before n sends ≡ sent_before n run.0 + sent_before n run.1 = ap (sent_before n) run.5 ∙ before_append n run.0 run.1 in
+    elim (in_append entry run.0 run.1 (subst (IsIn entry) run.5 is)) [
+      | inl here ↦
+          let made = entry_made samples place i mtu s run.4 run.0 run.2 entry run.7 here in
+          omega (arith, split, made.reach, gains samples place i mtu s run.4 run.0 run.2 run.7 n (omega (arith, made.at, l)))
+      | inr there ↦
+          let after = made_from pushing samples (place + 1) later run.4 t run.1 run.3 entry run.8 there in
+          omega (arith, split, entry_before pushing samples (place + 1) later run.4 t run.1 run.3 run.8 entry there n l, gains samples place i mtu s run.4 run.0 run.2 run.7 n (omega (arith, after, l)))
+    ]
+entry_before pushing samples place (steps.Push k ∷ later) s t sends pops run entry is n l =
+    let same : sends ≡ run.1 = run.5 ∙ ap (λ (es : List Sent). es ++ run.1) run.7.0 in
+    omega (arith, entry_before pushing samples (place + 1) later run.4 t run.1 run.3 run.8 entry (subst (IsIn entry) same is) n l, ap (sent_before n) same, ap (λ (x : RunState). length x.sink.packets) run.7.2)
+entry_before pushing samples place (steps.Pop ∷ later) s t sends pops run entry is n l =
+    let same : sends ≡ run.1 = run.5 ∙ ap (λ (es : List Sent). es ++ run.1) run.7.0 in
+    omega (arith, entry_before pushing samples (place + 1) later run.4 t run.1 run.3 run.8 entry (subst (IsIn entry) same is) n l, ap (sent_before n) same, ap (λ (x : RunState). length x.sink.packets) run.7.6)
 
 -- the steps that are left have their part of the log
-pub record Logs (packets : List Packet) (clock_rate : ℕ) (sends : List Sent) (place : ℕ) (later : List Step) (w : Stretch) (pops : List Answer) (after : State) : Type 0 where
+pub record Logs (named : ℕ → ℕ → Depack → List Held) (place : ℕ) (later : List Step) (w : Stretch) (pops : List Answer) (after : State) : Type 0 where
   pub turns : List Turn
   pub end : Stretch
-  pub is_log : IsLog packets clock_rate sends place later w turns end
+  pub is_log : IsLogBy named place later w turns end
   pub answers : map (λ (turn : Turn). turn.answer) turns ≡ pops
   pub left : end.now ≡ after
 
-module _ (packets : List Packet) (clock_rate : ℕ) (all : List Sent) (samples : List Sample) where
-  -- what was sent before a place is what the sink holds there
-  named : (place : ℕ) (later : List Step) (s t : RunState) (sends before : List Sent) (pops : List Answer) → Runs samples place later s sends pops t → t.sink.packets ≡ packets → all ≡ before ++ sends
-      → ((n : ℕ) → place ≤ n → sent_before n before ≡ length s.sink.packets) → (k : ℕ) → packet_named packets all place k ≡ slice_get s.sink.packets k
-  named place later s t sends before pops run whole entries sent k =
-      let stream = streams samples place later s t sends pops run in
-      let count : sent_before place all ≡ length s.sink.packets =
-      omega (arith, ap (sent_before place) entries, before_append place before sends, sent place (omega arith), none_before place sends (λ entry is. made_from samples place later s t sends pops entry run is)) in
-      let is : take (sent_before place all) packets ≡ s.sink.packets = ap (take (sent_before place all)) (sym whole ∙ stream.gained) ∙ take_front s.sink.packets (packets_of stream.units) (sent_before place all) count in
-      ap (λ (ps : List Packet). slice_get ps k) is
+-- where the sink holds what was sent before the step, pushing what it names does what the step does
+abbrev pub DoesAsNamed : Pushing → (ℕ → ℕ → Depack → List Held) → List Packet → ℕ → List Sent → Type 0
+DoesAsNamed pushing named packets clock_rate all =
+    (place k : ℕ) (s : RunState) → take (sent_before place all) packets ≡ s.sink.packets → s.payloading.clock_rate ≡ clock_rate → after_pushes s.buffer (named place k s.buffer.depack) ≡ pushing place k s
 
-  pub log_from : (later : List Step) (place : ℕ) (s t : RunState) (sends before : List Sent) (pops : List Answer) (w : Stretch) → Runs samples place later s sends pops t → t.sink.packets ≡ packets → s.payloading.clock_rate ≡ clock_rate → all ≡ before ++ sends
-      → ((n : ℕ) → place ≤ n → sent_before n before ≡ length s.sink.packets) → w.now ≡ s.buffer → Logs packets clock_rate all place later w pops t.buffer
+module _ (pushing : Pushing) (named : ℕ → ℕ → Depack → List Held) (packets : List Packet) (clock_rate : ℕ) (all : List Sent) (samples : List Sample) (does : DoesAsNamed pushing named packets clock_rate all) where
+  -- what was sent before a place is what the sink holds there
+  sent_by : (place : ℕ) (later : List Step) (s t : RunState) (sends before : List Sent) (pops : List Answer) → Runs pushing samples place later s sends pops t → t.sink.packets ≡ packets → all ≡ before ++ sends
+      → ((n : ℕ) → place ≤ n → sent_before n before ≡ length s.sink.packets) → take (sent_before place all) packets ≡ s.sink.packets
+  sent_by place later s t sends before pops run whole entries sent =
+      let stream = streams pushing samples place later s t sends pops run in
+      let count : sent_before place all ≡ length s.sink.packets =
+      omega (arith, ap (sent_before place) entries, before_append place before sends, sent place (omega arith), none_before place sends (λ entry is. made_from pushing samples place later s t sends pops entry run is)) in
+      ap (take (sent_before place all)) (sym whole ∙ stream.gained) ∙ take_front s.sink.packets (packets_of stream.units) (sent_before place all) count
+
+  pub log_from : (later : List Step) (place : ℕ) (s t : RunState) (sends before : List Sent) (pops : List Answer) (w : Stretch) → Runs pushing samples place later s sends pops t → t.sink.packets ≡ packets → s.payloading.clock_rate ≡ clock_rate → all ≡ before ++ sends
+      → ((n : ℕ) → place ≤ n → sent_before n before ≡ length s.sink.packets) → w.now ≡ s.buffer → Logs named place later w pops t.buffer
   log_from [] place s t sends before pops w run whole clock entries sent now = record { turns = []; end = w; is_log = refl; answers = sym run.1; left = now ∙ ap (λ (x : RunState). x.buffer) (sym run.2) }
   log_from (steps.Send i mtu ∷ later) place s t sends before pops w run whole clock entries sent now =
       let mid = run.4 in
@@ -90,20 +114,13 @@ module _ (packets : List Packet) (clock_rate : ℕ) (all : List Sent) (samples :
       record { turns = rest.turns; end = rest.end; is_log = rest.is_log; answers = rest.answers ∙ sym (run.6 ∙ ap (λ (ps : List Answer). ps ++ run.3) run.7.0); left = rest.left }
   log_from (steps.Push k ∷ later) place s t sends before pops w run whole clock entries sent now =
       let mid = run.4 in
-      let o = slice_get s.sink.packets k in
-      let named_is = named place (steps.Push k ∷ later) s t sends before pops run whole entries sent k in
+      let taken = sent_by place (steps.Push k ∷ later) s t sends before pops run whole entries sent in
       let sink : mid.sink ≡ s.sink = ap (λ (x : RunState). x.sink) run.7.2 in
-      let rest = log_from later (place + 1) mid t run.1 (before ++ run.0) run.3 (after_naming place clock_rate o w) run.8 whole (ap (λ (x : RunState). x.payloading.clock_rate) run.7.2 ∙ clock)
+      let rest = log_from later (place + 1) mid t run.1 (before ++ run.0) run.3 (with_pushes w (named place k w.now.depack)) run.8 whole (ap (λ (x : RunState). x.payloading.clock_rate) run.7.2 ∙ clock)
       (entries ∙ ap (λ (es : List Sent). before ++ es) run.5 ∙ sym (append_assoc before run.0 run.1))
       (λ n l. before_append n before run.0 ∙ omega (arith, sent n (omega (arith, l)), ap (sent_before n) run.7.0, ap (λ x. length x.packets) sink))
-      (now_after place clock_rate o w ∙ ap (after_push place clock_rate o) now ∙ sym (ap (λ (x : RunState). x.buffer) run.7.2 ∙ ap (λ (rate : ℕ). after_push place rate o s.buffer) clock)) in
-      record {
-        turns = rest.turns;
-        end = rest.end;
-        is_log = subst (λ (z : Option Packet). IsLog packets clock_rate all (place + 1) later (after_naming place clock_rate z w) rest.turns rest.end) (sym named_is) rest.is_log;
-        answers = rest.answers ∙ sym (run.6 ∙ ap (λ (ps : List Answer). ps ++ run.3) run.7.1);
-        left = rest.left;
-      }
+      (ap (λ (b : State). after_pushes b (named place k b.depack)) now ∙ does place k s taken clock ∙ sym (ap (λ (x : RunState). x.buffer) run.7.2)) in
+      record { turns = rest.turns; end = rest.end; is_log = rest.is_log; answers = rest.answers ∙ sym (run.6 ∙ ap (λ (ps : List Answer). ps ++ run.3) run.7.1); left = rest.left }
   log_from (steps.Pop ∷ later) place s t sends before pops w run whole clock entries sent now =
       let mid = run.4 in
       let sink : mid.sink ≡ s.sink = ap (λ (x : RunState). x.sink) run.7.6 in
@@ -119,3 +136,14 @@ module _ (packets : List Packet) (clock_rate : ℕ) (all : List Sent) (samples :
         answers = ap (λ (as' : List Answer). run.7.1 ∷ as') rest.answers ∙ sym (run.6 ∙ ap (λ (ps : List Answer). ps ++ run.3) run.7.3);
         left = rest.left;
       }
+
+-- a packet that is pushed as it is
+plain_is : (place clock_rate : ℕ) (o : Option Packet) (s : State) → after_pushes s (held_of place clock_rate o s.depack) ≡ after_push place clock_rate o s
+plain_is place clock_rate None s = refl
+plain_is place clock_rate (Some p) s = refl
+
+pub plain_as_named : (packets : List Packet) (clock_rate : ℕ) (all : List Sent) → DoesAsNamed plainly (λ place k. held_of place clock_rate (packet_named packets all place k)) packets clock_rate all
+plain_as_named packets clock_rate all place k s taken clock =
+    ap (λ (ps : List Packet). after_pushes s.buffer (held_of place clock_rate (slice_get ps k) s.buffer.depack)) taken
+    ∙ plain_is place clock_rate (slice_get s.sink.packets k) s.buffer
+    ∙ ap (λ (rate : ℕ). after_push place rate (slice_get s.sink.packets k) s.buffer) (sym clock)

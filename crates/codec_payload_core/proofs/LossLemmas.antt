@@ -88,7 +88,7 @@ module _ (c : Setting) where
 
   -- a release of a unit, whole
   pub record IsWholeRelease (place : ℕ) (t : State) (r : Release) (last : ℕ) : Type 0 where
-    pub whole : IsWholeAt c.all_steps c.clock_rate c.splits c.units place r
+    pub whole : IsWholeAt c.known c.splits c.units place r
     pub next : Beyond c (place + 1) t
     pub end : last + 1 ≡ c.first + packets_before (place + 1) c.units
 
@@ -96,7 +96,7 @@ module _ (c : Setting) where
       frame.place ≡ place → frame.missing ≡ [] → IsWholeRelease place t r out.frame.last
   whole_release from s t r place beyond out same nothing =
       let frame = frame_due c from s out.frame beyond out.is_due in
-      let is = released_at c.all_steps c.clock_rate c.first c.kind c.splits c.units c.lawful c.numbered from s t r beyond out in
+      let is = released_at c.known c.clock_rate c.first c.kind c.faithful c.splits c.units c.lawful c.numbered from s t r beyond out in
       subst (λ (p : ℕ). IsWholeRelease p t r out.frame.last) same (record { whole = (is.0, is.1 ∙ nothing); next = is.2; end = frame.stop })
 
   -- the frame and all below it have left: a unit above stays
@@ -128,7 +128,7 @@ module _ (c : Setting) where
 
   -- a pop
   at_pop : (from : ℕ) (s t : State) (over : List Segment) (a : Answer) (place : ℕ) (u : SentUnit) → Beyond c from s → IsPop c s t over a → slice_get c.units place ≡ Some u → Whole place s
-      → ReleasesWhole c.all_steps c.clock_rate c.splits c.units place a ⊎ (IsAmong c.first c.units place over ⊎ Whole place t)
+      → ReleasesWhole c.known c.splits c.units place a ⊎ (IsAmong c.first c.units place over ⊎ Whole place t)
   at_pop from s t over None place u beyond (waits passes nothing) at whole = inr (pass_keeps from s t over place u beyond passes at whole)
   at_pop from s t over (Some (Err fault)) place u beyond pop at whole = elim pop [ ]
   at_pop from s t over (Some (Ok r)) place u beyond (releases mid passes out) at whole = elim (pass_keeps from s mid over place u beyond passes at whole) [
@@ -165,7 +165,7 @@ module _ (c : Setting) where
 
   -- what becomes of a unit that is held whole after a pop
   abbrev FateIn : ℕ → List Turn → List Turn → Stretch → Type 0
-  FateIn place turns later end = Fate c.all_steps c.clock_rate c.first c.splits c.units place turns later end
+  FateIn place turns later end = Fate c.known c.first c.splits c.units place turns later end
 
   more : (place : ℕ) (turn : Turn) (turns : List Turn) (end : Stretch) → FateIn place turns turns end → FateIn place (turn ∷ turns) turns end
   more place turn turns end (released is) = released (inr is)
@@ -200,7 +200,7 @@ module _ (c : Setting) where
         ])
       ]
 
-  pub none_is_lost : (from : ℕ) (s : State) (turns : List Turn) (end : Stretch) → IsReady c from s → Chain c s turns end → NoneIsLost c.all_steps c.clock_rate c.first c.splits c.units turns end
+  pub none_is_lost : (from : ℕ) (s : State) (turns : List Turn) (end : Stretch) → IsReady c from s → Chain c s turns end → NoneIsLost c.known c.first c.splits c.units turns end
   none_is_lost from s [] end ready chain = tt
   none_is_lost from s (turn ∷ turns) end ready chain =
       let left = left_ready c from s turn.stretch chain.0 ready in

@@ -11,14 +11,14 @@ use Rattle.codec_payload_buffer.proofs.FrameParts.{IsRun}
 use Rattle.codec_payload_buffer.proofs.PlaceLemmas.{placed_rises, placed_above_cutoff}
 use Rattle.codec_payload_buffer.proofs.PopLemmas.{part_due, above_rises, above_is_above}
 use Rattle.codec_payload_buffer.proofs.RowLemmas.{above_all, first_above, part_between, first_le_last, run_first, run_length}
-use Rattle.codec_payload_core.proofs.StreamLemmas.{Streams, streams}
-use Rattle.codec_payload_core.proofs.UnitRows.{held_as, slice_append, drop_at, drop_next, RowOf, Exact, unit_of_row, exact_length, exact_payloads, exact_metas, exact_starts}
+use Rattle.codec_payload_core.proofs.StreamLemmas.{Streams}
+use Rattle.codec_payload_core.proofs.UnitRows.{IsFaithful, held_as, slice_append, drop_at, drop_next, RowOf, Exact, unit_of_row, exact_length, exact_payloads, exact_metas, exact_starts}
 use Rattle.codec_payload_buffer.specs.Depack.{Depack, DepackKind, kind_of_depack}
-use Rattle.codec_payload_core.specs.Headline.{IsPushOf, ArePushesOf, packets_before, IsUnitAt, InOrder, IsUnused, ReleasesInOrder}
+use Rattle.codec_payload_core.specs.Headline.{IsPushOf, ArePushesBy, packets_before, IsUnitAt, InOrder, IsUnused, ReleasesInOrder}
 use Rattle.codec_payload_buffer.specs.Held.{Held, Rises, IsAboveCutoff, placed, above, between, has_number}
 use Rattle.codec_payload_core.specs.Packets.{Packet, AreNumbered}
 use Rattle.codec_payload_buffer.specs.Release.{Release}
-use Rattle.codec_payload_core.proofs.BuiltInRuns.{Runs, DoesStep, SendsIt, after_push}
+use Rattle.codec_payload_core.proofs.BuiltInRuns.{DoesStep, SendsIt, plainly}
 use Rattle.codec_payload_core.specs.Schedule.{Answer, RunState, meta_of_push}
 use Rattle.codec_payload_core.specs.Sending.{Sample}
 use Rattle.codec_payload_core.specs.LawfulUnits.{StartsWithHead, IsLawful, AllLawful}
@@ -59,7 +59,7 @@ number_at (p ∷ ps) n zero q a h = let e : p ≡ q = cc in omega (arith, a.0, a
 number_at (p ∷ ps) n (suc k) q a h = omega (arith, number_at ps (n + 1) k q a.1 h)
 
 -- a step that sends leaves the buffer and the clock as they were
-pub send_keeps : (samples : List Sample) (place i mtu : ℕ) (s mid : RunState) (sends : List Sent) (pops : List Answer) → DoesStep samples place (steps.Send i mtu) s sends pops mid
+pub send_keeps : (samples : List Sample) (place i mtu : ℕ) (s mid : RunState) (sends : List Sent) (pops : List Answer) → DoesStep plainly samples place (steps.Send i mtu) s sends pops mid
     → (mid.buffer ≡ s.buffer) × (mid.payloading.clock_rate ≡ s.payloading.clock_rate)
 send_keeps samples place i mtu s mid sends pops step = at (slice_get samples i) step.1
   where
@@ -68,10 +68,10 @@ send_keeps samples place i mtu s mid sends pops step = at (slice_get samples i) 
     at None step = (ap (λ (x : RunState). x.buffer) step.1, ap (λ (x : RunState). x.payloading.clock_rate) step.1)
     at (Some sample) step = (ap (λ (x : RunState). x.buffer) step.2.left, ap (λ (x : RunState). x.payloading.clock_rate) step.2.left)
 
-module _ (all_steps : List Step) (clock_rate first : ℕ) (kind : DepackKind) (splits : Bool) (all : List SentUnit) (lawful : AllLawful kind splits all) (numbered : AreNumbered first (packets_of all)) where
+module _ (known : ℕ → Packet → RtpMeta → Type 0) (clock_rate first : ℕ) (kind : DepackKind) (faithful : IsFaithful known clock_rate kind) (splits : Bool) (all : List SentUnit) (lawful : AllLawful kind splits all) (numbered : AreNumbered first (packets_of all)) where
   -- a push of a packet that was sent
   abbrev pub IsSent : Held → Type 0
-  IsSent p = (k : ℕ) × (q : Packet) × (slice_get (packets_of all) k ≡ Some q) × IsPushOf all_steps clock_rate k q p.meta × (p ≡ held_as kind p.meta q.payload)
+  IsSent p = (k : ℕ) × (q : Packet) × (slice_get (packets_of all) k ≡ Some q) × known k q p.meta × (p ≡ held_as kind p.meta q.payload)
 
   abbrev pub AllSent : List Held → Type 0
   AllSent [] = Unit {0}
@@ -99,10 +99,10 @@ module _ (all_steps : List Step) (clock_rate first : ℕ) (kind : DepackKind) (s
   sent_placed p (q ∷ qs) i a = by_test (ltb q.meta.seq_no.0 p.meta.seq_no.0) (λ b. AllSent (cond b (q ∷ placed p qs) (p ∷ q ∷ qs))) (λ e. (a.0, sent_placed p qs i a.1)) (λ e. (i, a))
 
   pub number_of_sent : (p : Held) (s : IsSent p) → p.meta.seq_no.0 ≡ first + s.0
-  number_of_sent p s = ap (λ (m : RtpMeta). m.seq_no.0) s.3.2 ∙ number_at (packets_of all) first s.0 s.1 numbered s.2
+  number_of_sent p s = faithful.number s.0 s.1 p.meta s.3 ∙ number_at (packets_of all) first s.0 s.1 numbered s.2
 
   -- a run of sent packets is a row of them
-  row_of_run : (k last : ℕ) (time : Time) (ps : List Held) → IsRun (first + k) last time ps → AllSent ps → RowOf all_steps clock_rate kind k (drop k (packets_of all)) ps
+  row_of_run : (k last : ℕ) (time : Time) (ps : List Held) → IsRun (first + k) last time ps → AllSent ps → RowOf known clock_rate kind faithful k (drop k (packets_of all)) ps
   row_of_run k last time [] run sent = absurd run
   row_of_run k last time (p ∷ []) run sent =
       let i = sent.0 in
@@ -129,7 +129,7 @@ module _ (all_steps : List Step) (clock_rate first : ℕ) (kind : DepackKind) (s
     pub missing : List Packet
     pub rest : List Packet
     pub whole : missing ++ rest ≡ sent.packets
-    pub exact : Exact all_steps clock_rate kind (packets_before place all + length missing) rest packets
+    pub exact : Exact known clock_rate kind faithful (packets_before place all + length missing) rest packets
     pub starts : StartsWithHead kind rest
     pub start : f.first ≡ first + (packets_before place all + length missing)
     pub stop : f.last + 1 ≡ first + packets_before (place + 1) all
@@ -155,12 +155,12 @@ module _ (all_steps : List Step) (clock_rate first : ℕ) (kind : DepackKind) (s
       let k = begin.0 in
       let run : IsRun (first + k) f.last part.time packets = subst (λ (n : ℕ). IsRun n f.last part.time packets) begin.1 part.run in
       let zero : 0 + k ≡ k = omega arith in
-      let row : RowOf all_steps clock_rate kind k (drop k (packets_of all)) packets = row_of_run k f.last part.time packets run (sent_front packets after sent) in
-      let end = unit_of_row all_steps clock_rate kind splits all k 0 (first + k) f.last part.time packets lawful run (subst (λ (n : ℕ). RowOf all_steps clock_rate kind n (drop k (packets_of all)) packets) (sym zero) row) in
-      let exact : Exact all_steps clock_rate kind (packets_before end.place all + length end.missing) end.rest packets = subst (λ (n : ℕ). Exact all_steps clock_rate kind n end.rest packets) (zero ∙ end.index) end.exact in
+      let row : RowOf known clock_rate kind faithful k (drop k (packets_of all)) packets = row_of_run k f.last part.time packets run (sent_front packets after sent) in
+      let end = unit_of_row known clock_rate kind faithful splits all k 0 (first + k) f.last part.time packets lawful run (subst (λ (n : ℕ). RowOf known clock_rate kind faithful n (drop k (packets_of all)) packets) (sym zero) row) in
+      let exact : Exact known clock_rate kind faithful (packets_before end.place all + length end.missing) end.rest packets = subst (λ (n : ℕ). Exact known clock_rate kind faithful n end.rest packets) (zero ∙ end.index) end.exact in
       let low = above_next s.cutoff part.before packets after k f.first f.last part.time begin.1 part.run (rw part.whole at sound.beyond) in
       let long = run_length packets f.first f.last part.time part.run in
-      let full = exact_length all_steps clock_rate kind (packets_before end.place all + length end.missing) end.rest packets exact in
+      let full = exact_length known clock_rate kind faithful (packets_before end.place all + length end.missing) end.rest packets exact in
       let sizes : length end.sent.packets ≡ length end.missing + length end.rest = ap length (sym end.whole) ∙ length-append end.missing end.rest in
       let some = first_le_last packets f.first f.last part.time part.run in
       let ordered : from ≤ end.place = elim (cases_lt end.place from) [
@@ -181,7 +181,7 @@ module _ (all_steps : List Step) (clock_rate first : ℕ) (kind : DepackKind) (s
         rest = end.rest;
         whole = end.whole;
         exact = exact;
-        starts = exact_starts all_steps clock_rate kind (packets_before end.place all + length end.missing) end.rest packets exact part.begins;
+        starts = exact_starts known clock_rate kind faithful (packets_before end.place all + length end.missing) end.rest packets exact part.begins;
         start = omega (arith, begin.1, end.index);
         stop = omega (arith, before_next all end.place end.sent end.at_place, begin.1, end.index, sizes, long, full);
         higher = omega (arith, low, some);
@@ -232,7 +232,7 @@ module _ (all_steps : List Step) (clock_rate first : ℕ) (kind : DepackKind) (s
       let frame = frame_of from s f sound due in
       let law = lawful_at kind splits all frame.place frame.sent lawful frame.at_place in
       law.gives frame.missing frame.rest frame.whole frame.starts frame.packets
-      (exact_payloads all_steps clock_rate kind (packets_before frame.place all + length frame.missing) frame.rest frame.packets frame.exact)
+      (exact_payloads known clock_rate kind faithful (packets_before frame.place all + length frame.missing) frame.rest frame.packets frame.exact)
       s.depack answer e sound.reads (subst (λ (ps : List Held). Unpacks s.depack ps nothing_unpacked answer e) frame.are gives)
 
   beyond_over : (from : ℕ) (s t : State) → IsBeyond from s → PassesOver s t → IsBeyond from t
@@ -247,7 +247,7 @@ module _ (all_steps : List Step) (clock_rate first : ℕ) (kind : DepackKind) (s
 
   -- a release is that of the unit whose frame is due
   pub released_at : (from : ℕ) (s t : State) (r : Release) (sound : IsBeyond from s) (out : Releases s r t) → let frame = frame_of from s out.frame sound out.is_due in
-      (is : IsUnitAt all_steps clock_rate splits all frame.place r) × (is.missing ≡ frame.missing) × IsBeyond (frame.place + 1) t
+      (is : IsUnitAt known splits all frame.place r) × (is.missing ≡ frame.missing) × IsBeyond (frame.place + 1) t
   released_at from s t r sound out =
       let frame = frame_of from s out.frame sound out.is_due in
       let answer = given from s out.frame sound out.is_due (Ok (record { bytes = r.bytes; extra = r.codec_extra })) out.depack out.gives in
@@ -259,14 +259,14 @@ module _ (all_steps : List Step) (clock_rate first : ℕ) (kind : DepackKind) (s
           rest = frame.rest;
           whole = frame.whole;
           bytes = answer.1;
-          metas = subst (ArePushesOf all_steps clock_rate (packets_before frame.place all + length frame.missing) frame.rest) (sym metas) (exact_metas all_steps clock_rate kind (packets_before frame.place all + length frame.missing) frame.rest frame.packets frame.exact);
+          metas = subst (ArePushesBy known (packets_before frame.place all + length frame.missing) frame.rest) (sym metas) (exact_metas known clock_rate kind faithful (packets_before frame.place all + length frame.missing) frame.rest frame.packets frame.exact);
         },
         refl,
         subst (IsBeyond (frame.place + 1)) (sym out.left) (beyond_without from s out.frame sound out.is_due (frame.place + 1) (omega (arith, frame.stop)) out.depack answer.0 _ false),
       )
 
   -- which lies further on
-  released : (from : ℕ) (s t : State) (r : Release) → IsBeyond from s → Releases s r t → (place : ℕ) × (from ≤ place) × IsUnitAt all_steps clock_rate splits all place r × IsBeyond (place + 1) t
+  pub released : (from : ℕ) (s t : State) (r : Release) → IsBeyond from s → Releases s r t → (place : ℕ) × (from ≤ place) × IsUnitAt known splits all place r × IsBeyond (place + 1) t
   released from s t r sound out =
       let frame = frame_of from s out.frame sound out.is_due in
       let is = released_at from s t r sound out in
@@ -277,67 +277,15 @@ module _ (all_steps : List Step) (clock_rate first : ℕ) (kind : DepackKind) (s
   not_refused from s t fault sound refusal =
       refusal.not_memory (given from s refusal.frame sound refusal.is_due (Err fault) refusal.depack refusal.gives).1
 
-  -- the packet that a push names
-  push_beyond : (from : ℕ) (s : State) (place k : ℕ) (sent more : List Packet) → sent ++ more ≡ packets_of all → slice_get all_steps place ≡ Some (steps.Push k) → (o : Option Packet) → slice_get sent k ≡ o → IsBeyond from s → IsBeyond from (after_push place clock_rate o s)
-  push_beyond from s place k sent more whole at None is sound = sound
-  push_beyond from s place k sent more whole at (Some q) is sound =
-      let meta = meta_of_push place clock_rate q in
-      let found : slice_get (packets_of all) k ≡ Some q = subst (λ (ps : List Packet). slice_get ps k ≡ Some q) whole (slice_append sent more k q is) in
-      let held : arrived s.depack meta q.payload ≡ held_as kind meta q.payload = ap (λ (x : DepackKind). held_as x meta q.payload) sound.reads in
-      beyond_pushed from s (arrived s.depack meta q.payload) (k, q, found, (place, at, refl), held) sound
-
-  -- what a pop answers
-  pop_in_order : (from : ℕ) (s t : State) (answer : Answer) (answers : List Answer) → IsBeyond from s → Pops s answer t → answer ≢ Some (Err faults.OutOfMemory)
-      → ((n : ℕ) → IsBeyond n t → InOrder all_steps clock_rate splits all n answers) → InOrder all_steps clock_rate splits all from (answer ∷ answers)
-  pop_in_order from s t None answers sound pops found later = later from (beyond_passes from s t pops.0 sound pops.1.0)
-  pop_in_order from s t (Some (Ok r)) answers sound pops found later =
-      let out = released from pops.1.0 t r (beyond_passes from s pops.1.0 pops.0 sound pops.1.1) pops.1.2 in
-      (out.0, out.1, out.2, later (out.0 + 1) out.3)
-  pop_in_order from s t (Some (Err fault)) answers sound pops found later = elim pops.1.2 [
-    | inl memory ↦ absurd (found (ap (λ (f : PacketError). Some (Err f)) memory.0))
-    | inr refusal ↦ absurd (not_refused from pops.1.0 t fault (beyond_passes from s pops.1.0 pops.0 sound pops.1.1) refusal)
-  ]
-
-  pub safe_from : (samples : List Sample) (later : List Step) (place from : ℕ) (s t : RunState) (sends : List Sent) (pops : List Answer)
-      → drop place all_steps ≡ later → Runs samples place later s sends pops t → t.sink.packets ≡ packets_of all → s.payloading.clock_rate ≡ clock_rate
-      → IsBeyond from s.buffer → InOrder all_steps clock_rate splits all from pops
-  safe_from samples [] place from s t sends pops at run whole clock sound = subst (InOrder all_steps clock_rate splits all from) (sym run.1) tt
-  safe_from samples (steps.Send i mtu ∷ later) place from s t sends pops at run whole clock sound =
-      let next = drop_next all_steps place (steps.Send i mtu) later at in
-      let mid = run.4 in
-      let same = send_keeps samples place i mtu s mid run.0 run.2 run.7 in
-      let rest = safe_from samples later (place + 1) from mid t run.1 run.3 next.1 run.8 whole (same.1 ∙ clock) (subst (IsBeyond from) (sym same.0) sound) in
-      subst (InOrder all_steps clock_rate splits all from) (sym (run.6 ∙ ap (λ (ps : List Answer). ps ++ run.3) run.7.0)) rest
-  safe_from samples (steps.Push k ∷ later) place from s t sends pops at run whole clock sound =
-      let next = drop_next all_steps place (steps.Push k) later at in
-      let mid = run.4 in
-      let stream = streams samples place (steps.Push k ∷ later) s t sends pops run in
-      let held : IsBeyond from (after_push place clock_rate (slice_get s.sink.packets k) s.buffer) =
-      push_beyond from s.buffer place k s.sink.packets (packets_of stream.units) (sym stream.gained ∙ whole) next.0 (slice_get s.sink.packets k) refl sound in
-      let buffer : mid.buffer ≡ after_push place clock_rate (slice_get s.sink.packets k) s.buffer =
-      ap (λ (x : RunState). x.buffer) run.7.2 ∙ ap (λ (rate : ℕ). after_push place rate (slice_get s.sink.packets k) s.buffer) clock in
-      let rest = safe_from samples later (place + 1) from mid t run.1 run.3 next.1 run.8 whole (ap (λ (x : RunState). x.payloading.clock_rate) run.7.2 ∙ clock) (subst (IsBeyond from) (sym buffer) held) in
-      subst (InOrder all_steps clock_rate splits all from) (sym (run.6 ∙ ap (λ (ps : List Answer). ps ++ run.3) run.7.1)) rest
-  safe_from samples (steps.Pop ∷ later) place from s t sends pops at run whole clock sound =
-      let next = drop_next all_steps place steps.Pop later at in
-      let mid = run.4 in
-      let answer = run.7.1 in
-      let buffer : mid.buffer ≡ run.7.2 = ap (λ (x : RunState). x.buffer) run.7.6 in
-      let all_answers : answer ∷ run.3 ≡ pops = sym (run.6 ∙ ap (λ (ps : List Answer). ps ++ run.3) run.7.3) in
-      subst (InOrder all_steps clock_rate splits all from) all_answers
-      (pop_in_order from s.buffer run.7.2 answer run.3 sound run.7.5 run.7.4
-      (λ n beyond. safe_from samples later (place + 1) n mid t run.1 run.3 next.1 run.8 whole (ap (λ (x : RunState). x.payloading.clock_rate) run.7.6 ∙ clock) (subst (IsBeyond n) (sym buffer) beyond)))
-
--- before the first step nothing is held and nothing done with
-pub fresh : (all_steps : List Step) (s : RunState) (units : List SentUnit) (lawful : AllLawful (payloads_by s.payloading.pack) (may_split s.payloading.pack) units) (numbered : AreNumbered s.sink.first (packets_of units)) → IsUnused s
-    → IsBeyond all_steps s.payloading.clock_rate s.sink.first (payloads_by s.payloading.pack) (may_split s.payloading.pack) units lawful numbered 0 s.buffer
-fresh all_steps s units lawful numbered unused = record {
-  rises = subst Rises (sym unused.nothing_held) tt;
-  beyond = subst (λ (o : Option ℕ). IsAboveCutoff o s.buffer.held) (sym unused.no_cutoff) tt;
-  sent = subst (AllSent all_steps s.payloading.clock_rate s.sink.first (payloads_by s.payloading.pack) (may_split s.payloading.pack) units lawful numbered) (sym unused.nothing_held) tt;
-  floor = rw unused.no_cutoff (omega arith);
-  reads = unused.alike;
-}
+  -- an unused buffer holds nothing and is done with nothing
+  pub fresh_beyond : (s : State) → s.held ≡ [] → s.cutoff ≡ None → kind_of_depack s.depack ≡ kind → IsBeyond 0 s
+  fresh_beyond s nothing_held no_cutoff reads = record {
+    rises = subst Rises (sym nothing_held) tt;
+    beyond = subst (λ (o : Option ℕ). IsAboveCutoff o s.held) (sym no_cutoff) tt;
+    sent = subst AllSent (sym nothing_held) tt;
+    floor = rw no_cutoff (omega arith);
+    reads = reads;
+  }
 
 -- what an unused sink holds after the run
 pub record SendsAll (s t : RunState) (units : List SentUnit) : Type 0 where
@@ -355,22 +303,3 @@ sends_all samples all_steps s t unused stream =
 pub all_end : (kind : DepackKind) (splits : Bool) (units : List SentUnit) → AllLawful kind splits units → AllEndWithTail kind units
 all_end kind splits [] lawful = tt
 all_end kind splits (u ∷ us) lawful = (lawful.0.ends, all_end kind splits us lawful.1)
-
--- a run over an unused sink and an unused buffer releases the units that it sends in order, each at most once
-pub safe_stream : (samples : List Sample) (all_steps : List Step) (s t : RunState) (sends : List Sent) (pops : List Answer) → Runs samples 0 all_steps s sends pops t → IsUnused s → AreReadable s.payloading.pack samples
-    → (stream : Streams samples all_steps s t) → (released : ReleasesInOrder samples all_steps s pops t) × (released.units ≡ stream.units)
-safe_stream samples all_steps s t sends pops run unused readable stream =
-    let sent = sends_all samples all_steps s t unused stream in
-    let lawful = stream.lawful readable in
-    let released : ReleasesInOrder samples all_steps s pops t = record {
-      units = stream.units;
-      canonical = stream.canonical;
-      packets = sym sent.whole;
-      ends = all_end (payloads_by s.payloading.pack) (may_split s.payloading.pack) stream.units lawful;
-      in_order = safe_from all_steps s.payloading.clock_rate s.sink.first (payloads_by s.payloading.pack) (may_split s.payloading.pack) stream.units lawful sent.numbered samples all_steps 0 0 s t sends pops refl run sent.whole refl
-          (fresh all_steps s stream.units lawful sent.numbered unused);
-    } in
-    (released, refl)
-
-pub safe : (samples : List Sample) (all_steps : List Step) (s t : RunState) (sends : List Sent) (pops : List Answer) → Runs samples 0 all_steps s sends pops t → IsUnused s → AreReadable s.payloading.pack samples → ReleasesInOrder samples all_steps s pops t
-safe samples all_steps s t sends pops run unused readable = (safe_stream samples all_steps s t sends pops run unused readable (streams samples 0 all_steps s t sends pops run)).0

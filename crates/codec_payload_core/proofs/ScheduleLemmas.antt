@@ -32,7 +32,7 @@ abbrev pub Stays : SentPackets → Packet → PacketError → SentPackets → Ty
 Stays before packet fault after = (fault ≡ faults.OutOfMemory) × (after ≡ before)
 
 -- the states after a sample went through a packetizer
-left_by : (p p' : Payloading) (b : State) (sink sink' : SentPackets) (packets : List Packet) → p'.clock_rate ≡ p.clock_rate
+pub left_by : (p p' : Payloading) (b : State) (sink sink' : SentPackets) (packets : List Packet) → p'.clock_rate ≡ p.clock_rate
     → sink' ≡ record sink { packets = sink.packets ++ packets } → run_state p' b sink' ≡ after_send (run_state p b sink) p'.pack packets
 left_by p p' b sink sink' packets clock gained =
     ap (λ (c : ℕ). run_state (record { pack = p'.pack; clock_rate = c }) b sink') clock

@@ -25,7 +25,7 @@ use Rattle.codec_payload_buffer.specs.Pack.{Pack, G711Pack, G722Pack, OpusPack, 
 use Rattle.codec_payload_core.specs.Packets.{Packet, SentPackets, AreNumbered}
 use Rattle.codec_payload_core.specs.ToldIds.{next_id}
 use Rattle.codec_payload_core.specs.Sending.{Sample, packets_for, packets_from, rtp_time_at}
-use Rattle.codec_payload_core.proofs.BuiltInRuns.{Runs, SendsIt}
+use Rattle.codec_payload_core.proofs.BuiltInRuns.{Pushing, Runs, SendsIt}
 use Rattle.codec_payload_core.specs.Schedule.{payloads_of, RunState, Answer, packets_sent}
 use Rattle.codec_payload_core.specs.LawfulUnits.{AllLawful}
 use Rattle.codec_payload_core.specs.SentStream.{SentUnit, packets_of, AreReadable, units_of_run, units_of_sample, pack_after_sample}
@@ -294,18 +294,18 @@ sends_stream samples later i mtu place sample entry s mid t there sent rest =
           (subst (λ (p : Pack). AllCarry (values_of_run p samples later) rest.units) pack (rest.values (ap is_video pack ∙ (same_video s.payloading.pack mtu sample.bytes ∙ video)))));
     }
 
-pub streams : (samples : List Sample) (place : ℕ) (later : List Step) (s t : RunState) (sends : List Sent) (pops : List Answer) → Runs samples place later s sends pops t → Streams samples later s t
-streams samples place [] s t sends pops run = no_stream samples s t run.2
-streams samples place (steps.Push k ∷ later) s t sends pops run =
+pub streams : (pushing : Pushing) (samples : List Sample) (place : ℕ) (later : List Step) (s t : RunState) (sends : List Sent) (pops : List Answer) → Runs pushing samples place later s sends pops t → Streams samples later s t
+streams pushing samples place [] s t sends pops run = no_stream samples s t run.2
+streams pushing samples place (steps.Push k ∷ later) s t sends pops run =
     let mid = run.4 in
-    let rest = streams samples (place + 1) later mid t run.1 run.3 run.8 in
+    let rest = streams pushing samples (place + 1) later mid t run.1 run.3 run.8 in
     keeps_stream samples later (steps.Push k ∷ later) s mid t (ap (λ (x : RunState). x.payloading.pack) run.7.2) (ap (λ (x : RunState). x.sink) run.7.2) refl refl rest
-streams samples place (steps.Pop ∷ later) s t sends pops run =
+streams pushing samples place (steps.Pop ∷ later) s t sends pops run =
     let mid = run.4 in
-    let rest = streams samples (place + 1) later mid t run.1 run.3 run.8 in
+    let rest = streams pushing samples (place + 1) later mid t run.1 run.3 run.8 in
     keeps_stream samples later (steps.Pop ∷ later) s mid t (ap (λ (x : RunState). x.payloading.pack) run.7.6) (ap (λ (x : RunState). x.sink) run.7.6) refl refl rest
-streams samples place (steps.Send i mtu ∷ later) s t sends pops run =
-    let rest = streams samples (place + 1) later run.4 t run.1 run.3 run.8 in
+streams pushing samples place (steps.Send i mtu ∷ later) s t sends pops run =
+    let rest = streams pushing samples (place + 1) later run.4 t run.1 run.3 run.8 in
     by_sample (slice_get samples i) refl run.7.1 rest
   where
     by_sample : (o : Option Sample) → slice_get samples i ≡ o

@@ -43,7 +43,7 @@ module _ (c : Setting) where
       let frame = frame_due c n s f beyond due in
       let told = told_at c.kind c.start frame.place c.units frame.sent c.told frame.at_place in
       told frame.missing frame.rest frame.whole frame.starts frame.packets
-      (exact_payloads c.all_steps c.clock_rate c.kind (packets_before frame.place c.units + length frame.missing) frame.rest frame.packets frame.exact)
+      (exact_payloads c.known c.clock_rate c.kind c.faithful (packets_before frame.place c.units + length frame.missing) frame.rest frame.packets frame.exact)
       s.depack unpacked e beyond.reads (subst (λ (ps : List Held). Unpacks s.depack ps nothing_unpacked (Ok unpacked) e) frame.are gives)
 
   -- the unit whose frame is due may go out, where it is near

@@ -1,39 +1,41 @@
 -- The turns of a run follow one another, and each stretch leaves what the set of its pushes says.
-use Rattle.std.proofs.Common.{◌≡◌, ◌≢◌, ◌∙◌, refl, sym, ap, ℕ, subst, List, [], Option, Some, None, Ok, Err, Bool, true, false, ◌++◌, ◌+◌, ◌-◌, ◌^◌, ◌∷◌, ◌<◌, ◌≤◌, inl, inr, ◌⊎◌, ◌||◌, ◌&&◌, not, eqb, arith, length, take, drop}
+use Rattle.std.proofs.Common.{◌≡◌, ◌≢◌, ◌∙◌, refl, sym, ap, ℕ, subst, List, [], Option, Some, None, Ok, Err, Bool, true, false, ◌++◌, ◌+◌, ◌-◌, ◌^◌, ◌∷◌, ◌<◌, ◌≤◌, inl, inr, ◌⊎◌, ◌||◌, ◌&&◌, not, eqb, arith, length, drop, map}
 use Rattle.std.specs.Prelude.{slice_get}
 use Rattle.std.proofs.lemmas.Bool.Decides.{nat_tests}
-use Rattle.std.proofs.lemmas.List.{take-append-drop, length-map, length-drop}
+use Rattle.std.proofs.lemmas.List.{length-map, length-drop}
 use Rattle.std.proofs.lemmas.Option.{slice_get_within}
 use Rattle.codec_payload_base.specs.declared.error.PacketError.TheVariants as faults
 use Rattle.codec_payload_buffer.proofs.MemberLemmas.{IsIn, in_contains}
 use Rattle.codec_payload_buffer.proofs.PopLemmas.{above_shorter}
-use Rattle.codec_payload_core.proofs.SafetyLemmas.{IsSent, AllSent, IsBeyond, IsFrameOf, frame_of, number_of_sent, beyond_pushed, beyond_passes, released_at, not_refused}
+use Rattle.codec_payload_core.proofs.SafetyLemmas.{IsSent, AllSent, IsBeyond, IsFrameOf, frame_of, number_of_sent, beyond_pushed, beyond_passes, released, released_at, not_refused}
 use Rattle.codec_payload_buffer.proofs.StretchLemmas.{leaves_numbers}
 use Rattle.codec_payload_core.proofs.UnitIds.{TellInTurn}
-use Rattle.codec_payload_core.proofs.UnitRows.{held_as, slice_append, drop_next}
+use Rattle.codec_payload_core.proofs.UnitRows.{IsFaithful, push_faithful, drop_next}
 use Rattle.codec_payload_core.proofs.UnitTimes.{AllOneTime}
-use Rattle.codec_payload_buffer.specs.Depack.{DepackKind, is_codec}
+use Rattle.codec_payload_buffer.specs.Depack.{Depack, DepackKind, is_codec, kind_of_depack}
+use Rattle.codec_payload_core.specs.Headline.{IsPushOf, InOrder}
 use Rattle.codec_payload_buffer.specs.Held.{Held, number_of, has_number, above}
-use Rattle.codec_payload_core.specs.Log.{Stretch, Turn, begun, with_push, packet_named, after_naming, IsLog}
+use Rattle.codec_payload_core.specs.Log.{Stretch, Turn, begun, with_pushes, IsLogBy}
 use Rattle.codec_payload_core.specs.Packets.{Packet, AreNumbered}
 use Rattle.codec_payload_buffer.specs.Release.{Release}
 use Rattle.codec_payload_core.specs.RunOrder.{numbers_in, IsSentPacket, IsStretch, AreStretches}
-use Rattle.codec_payload_core.specs.Schedule.{Answer, meta_of_push}
+use Rattle.codec_payload_core.specs.Schedule.{Answer}
 use Rattle.codec_payload_core.specs.LawfulUnits.{AllLawful}
 use Rattle.codec_payload_core.specs.SentStream.{SentUnit, packets_of}
-use Rattle.codec_payload_buffer.specs.Steps.{State, IsSound, arrived, pushed, is_at_most, due_of, Passes, none, one_more, PopsOver, Releases}
+use Rattle.codec_payload_buffer.specs.Steps.{State, IsSound, pushed, is_at_most, due_of, Passes, none, one_more, PopsOver, Releases}
 use Rattle.codec_payload_buffer.specs.Stretches.{after_pushes, kept, IsLeft, IsInRange}
 use Rattle.codec_payload_buffer.specs.declared.buffer.frames.Segment.{Segment}
-use Rattle.codec_payload_core.specs.declared.schedule.Sent.{Sent}
+use Rattle.codec_payload_buffer.specs.declared.buffer.unit.RtpMeta.{RtpMeta}
 use Rattle.codec_payload_core.specs.declared.schedule.Step.{Step}
 use Rattle.codec_payload_core.specs.declared.schedule.Step.TheVariants as steps
 
--- what a run sends, and by which steps; `start` is the picture id of the first unit, where units carry them
-pub record Setting : Type 0 where
-  pub all_steps : List Step
+-- what a run sends, and what is known of its pushes; `start` is the picture id of the first unit, where units carry them
+pub record Setting : Type 1 where
+  pub known : ℕ → Packet → RtpMeta → Type 0
   pub clock_rate : ℕ
   pub first : ℕ
   pub kind : DepackKind
+  pub faithful : IsFaithful known clock_rate kind
   pub codec : is_codec kind ≡ true
   pub splits : Bool
   pub units : List SentUnit
@@ -44,10 +46,6 @@ pub record Setting : Type 0 where
   pub told : TellInTurn kind start 0 units
   pub short : length units < 2 ^ 63
 
-by_packet : (o : Option Packet) (P : Option Packet → Type 0) → (o ≡ None → P None) → ((q : Packet) → o ≡ Some q → P (Some q)) → P o
-by_packet None P n s = n refl
-by_packet (Some q) P n s = s q refl
-
 pub or_cases : (a b : Bool) → (a || b) ≡ true → (a ≡ true) ⊎ (b ≡ true)
 or_cases true b h = inl refl
 or_cases false b h = inr h
@@ -56,33 +54,37 @@ and_right : (a b : Bool) → (a && b) ≡ true → b ≡ true
 and_right true b h = h
 and_right false b h = absurd (cc)
 
-after_one_more : (s : State) (ps : List Held) (p : Held) → after_pushes s (ps ++ p ∷ []) ≡ pushed (after_pushes s ps) p
-after_one_more s [] p = refl
-after_one_more s (q ∷ ps) p = after_one_more (pushed s q) ps p
-
--- what was sent by then was sent
-slice_taken : (packets : List Packet) (n k : ℕ) (q : Packet) → slice_get (take n packets) k ≡ Some q → slice_get packets k ≡ Some q
-slice_taken packets n k q h = subst (λ (ps : List Packet). slice_get ps k ≡ Some q) (take-append-drop n packets) (slice_append (take n packets) (drop n packets) k q h)
+after_more : (s : State) (ps qs : List Held) → after_pushes s (ps ++ qs) ≡ after_pushes (after_pushes s ps) qs
+after_more s [] qs = refl
+after_more s (p ∷ ps) qs = after_more (pushed s p) ps qs
 
 kept_few : (s : State) (ns : List ℕ) → length (kept s ns) ≤ s.limit
 kept_few s ns = omega (arith, length-drop (length ns - s.limit) ns)
 
+-- the same, of packets that these steps push as they are
+abbrev pub by_steps : Setting → List Step → Setting
+by_steps c all_steps = record c { known = IsPushOf all_steps c.clock_rate; faithful = push_faithful all_steps c.clock_rate c.kind }
+
+-- what the pops of these turns answer
+abbrev pub answers_of : List Turn → List Answer
+answers_of turns = map (λ (turn : Turn). turn.answer) turns
+
 module _ (c : Setting) where
   -- pushes of packets that the run sends
   abbrev pub IsPush : Held → Type 0
-  IsPush p = IsSent c.all_steps c.clock_rate c.first c.kind c.splits c.units c.lawful c.numbered p
+  IsPush p = IsSent c.known c.clock_rate c.first c.kind c.faithful c.splits c.units c.lawful c.numbered p
 
   abbrev pub ArePushes : List Held → Type 0
-  ArePushes ps = AllSent c.all_steps c.clock_rate c.first c.kind c.splits c.units c.lawful c.numbered ps
+  ArePushes ps = AllSent c.known c.clock_rate c.first c.kind c.faithful c.splits c.units c.lawful c.numbered ps
 
   abbrev pub Beyond : ℕ → State → Type 0
-  Beyond from s = IsBeyond c.all_steps c.clock_rate c.first c.kind c.splits c.units c.lawful c.numbered from s
+  Beyond from s = IsBeyond c.known c.clock_rate c.first c.kind c.faithful c.splits c.units c.lawful c.numbered from s
 
   abbrev pub FrameOf : ℕ → State → Segment → Type 0
-  FrameOf from s f = IsFrameOf c.all_steps c.clock_rate c.first c.kind c.splits c.units c.lawful c.numbered from s f
+  FrameOf from s f = IsFrameOf c.known c.clock_rate c.first c.kind c.faithful c.splits c.units c.lawful c.numbered from s f
 
   abbrev pub frame_due : (from : ℕ) (s : State) (f : Segment) → Beyond from s → due_of s ≡ Some f → FrameOf from s f
-  frame_due from s f beyond due = frame_of c.all_steps c.clock_rate c.first c.kind c.splits c.units c.lawful c.numbered from s f beyond due
+  frame_due from s f beyond due = frame_of c.known c.clock_rate c.first c.kind c.faithful c.splits c.units c.lawful c.numbered from s f beyond due
 
   abbrev pub count : ℕ
   count = length (packets_of c.units)
@@ -102,19 +104,26 @@ module _ (c : Setting) where
   Chain s [] end = (end.left ≡ s) × IsSpan end
   Chain s (turn ∷ turns) end = (turn.stretch.left ≡ s) × IsSpan turn.stretch × IsPop turn.stretch.now turn.after turn.passed turn.answer × Chain turn.after turns end
 
-  sent_one_more : (ps : List Held) (p : Held) → ArePushes ps → IsPush p → ArePushes (ps ++ p ∷ [])
-  sent_one_more [] p a i = (i, tt)
-  sent_one_more (q ∷ ps) p a i = (a.0, sent_one_more ps p a.1 i)
+  sent_more : (ps qs : List Held) → ArePushes ps → ArePushes qs → ArePushes (ps ++ qs)
+  sent_more [] qs a b = b
+  sent_more (p ∷ ps) qs a b = (a.0, sent_more ps qs a.1 b)
+
+  beyond_pushes : (from : ℕ) (s : State) (ps : List Held) → Beyond from s → ArePushes ps → Beyond from (after_pushes s ps)
+  beyond_pushes from s [] beyond sent = beyond
+  beyond_pushes from s (p ∷ ps) beyond sent = beyond_pushes from (pushed s p) ps (beyond_pushed c.known c.clock_rate c.first c.kind c.faithful c.splits c.units c.lawful c.numbered from s p sent.0 beyond) sent.1
+
+  pub span_beyond : (from : ℕ) (w : Stretch) → Beyond from w.left → IsSpan w → Beyond from w.now
+  span_beyond from w beyond is = subst (Beyond from) (sym is.now) (beyond_pushes from w.left w.pushes beyond is.sent)
 
   pub passed_beyond : (from : ℕ) (s t : State) (over : List Segment) → Beyond from s → Passes s over t → Beyond from t
-  passed_beyond from s t over beyond passes = beyond_passes c.all_steps c.clock_rate c.first c.kind c.splits c.units c.lawful c.numbered from s t over beyond passes
+  passed_beyond from s t over beyond passes = beyond_passes c.known c.clock_rate c.first c.kind c.faithful c.splits c.units c.lawful c.numbered from s t over beyond passes
 
   pop_is : (from : ℕ) (s t : State) (over : List Segment) (a : Answer) → Beyond from s → PopsOver s over a t → a ≢ Some (Err faults.OutOfMemory) → IsPop s t over a
   pop_is from s t over None beyond pop found = waits pop.0 pop.1
   pop_is from s t over (Some (Ok r)) beyond pop found = releases pop.0 pop.1 pop.2
   pop_is from s t over (Some (Err fault)) beyond pop found = elim pop.2 [
     | inl memory ↦ absurd (found (ap (λ f. Some (Err f)) memory.0))
-    | inr refusal ↦ absurd (not_refused c.all_steps c.clock_rate c.first c.kind c.splits c.units c.lawful c.numbered from pop.0 t fault (passed_beyond from s pop.0 over beyond pop.1) refusal)
+    | inr refusal ↦ absurd (not_refused c.known c.clock_rate c.first c.kind c.faithful c.splits c.units c.lawful c.numbered from pop.0 t fault (passed_beyond from s pop.0 over beyond pop.1) refusal)
   ]
 
   popped_beyond : (from : ℕ) (s t : State) (over : List Segment) (a : Answer) → Beyond from s → IsPop s t over a → (next : ℕ) × Beyond next t
@@ -122,33 +131,41 @@ module _ (c : Setting) where
   popped_beyond from s t over (Some (Ok r)) beyond (releases mid passes out) =
       let there = passed_beyond from s mid over beyond passes in
       let frame = frame_due from mid out.frame there out.is_due in
-      (frame.place + 1, (released_at c.all_steps c.clock_rate c.first c.kind c.splits c.units c.lawful c.numbered from mid t r there out).2)
+      (frame.place + 1, (released_at c.known c.clock_rate c.first c.kind c.faithful c.splits c.units c.lawful c.numbered from mid t r there out).2)
   popped_beyond from s t over (Some (Err fault)) beyond pop = elim pop [ ]
 
-  module _ (sends : List Sent) where
-    pub chain_of : (later : List Step) (place : ℕ) (w : Stretch) (turns : List Turn) (end : Stretch) → drop place c.all_steps ≡ later → (from : ℕ) → Beyond from w.now → IsSpan w
-        → IsLog (packets_of c.units) c.clock_rate sends place later w turns end → Chain w.left turns end
+  pop_in_order : (from : ℕ) (s t : State) (over : List Segment) (a : Answer) (answers : List Answer) → Beyond from s → IsPop s t over a → ((n : ℕ) → Beyond n t → InOrder c.known c.splits c.units n answers) → InOrder c.known c.splits c.units from (a ∷ answers)
+  pop_in_order from s t over None answers beyond (waits passes nothing) later = later from (passed_beyond from s t over beyond passes)
+  pop_in_order from s t over (Some (Ok r)) answers beyond (releases mid passes out) later =
+      let is = released c.known c.clock_rate c.first c.kind c.faithful c.splits c.units c.lawful c.numbered from mid t r (passed_beyond from s mid over beyond passes) out in
+      (is.0, is.1, is.2, later (is.0 + 1) is.3)
+  pop_in_order from s t over (Some (Err fault)) answers beyond pop later = elim pop [ ]
+
+  -- units are released in order, each at most once
+  pub chain_in_order : (from : ℕ) (s : State) (turns : List Turn) (end : Stretch) → Beyond from s → Chain s turns end → InOrder c.known c.splits c.units from (answers_of turns)
+  chain_in_order from s [] end beyond chain = tt
+  chain_in_order from s (turn ∷ turns) end beyond chain =
+      let now = span_beyond from turn.stretch (subst (Beyond from) (sym chain.0) beyond) chain.1 in
+      pop_in_order from turn.stretch.now turn.after turn.passed turn.answer (answers_of turns) now chain.2 (λ n after. chain_in_order n turn.after turns end after chain.3)
+
+  -- where all that is named was sent, a log is a chain
+  module _ (all_steps : List Step) (named : ℕ → ℕ → Depack → List Held) (sent : (place k : ℕ) (d : Depack) → slice_get all_steps place ≡ Some (steps.Push k) → kind_of_depack d ≡ c.kind → ArePushes (named place k d)) where
+    pub chain_of : (later : List Step) (place : ℕ) (w : Stretch) (turns : List Turn) (end : Stretch) → drop place all_steps ≡ later → (from : ℕ) → Beyond from w.now → IsSpan w
+        → IsLogBy named place later w turns end → Chain w.left turns end
     chain_of [] place w [] end at from beyond is log = (ap (λ (x : Stretch). x.left) log, subst IsSpan (sym log) is)
     chain_of [] place w (turn ∷ turns) end at from beyond is log = absurd log
     chain_of (steps.Send i mtu ∷ later) place w turns end at from beyond is log =
-        let next = drop_next c.all_steps place (steps.Send i mtu) later at in
+        let next = drop_next all_steps place (steps.Send i mtu) later at in
         chain_of later (place + 1) w turns end next.1 from beyond is log
     chain_of (steps.Push k ∷ later) place w turns end at from beyond is log =
-        let next = drop_next c.all_steps place (steps.Push k) later at in
-        by_packet (packet_named (packets_of c.units) sends place k) (λ o. IsLog (packets_of c.units) c.clock_rate sends (place + 1) later (after_naming place c.clock_rate o w) turns end → Chain w.left turns end)
-        (λ none log. chain_of later (place + 1) w turns end next.1 from beyond is log)
-        (λ q some log.
-        let meta = meta_of_push place c.clock_rate q in
-        let p = arrived w.now.depack meta q.payload in
-        let found = slice_taken (packets_of c.units) _ k q some in
-        let held : p ≡ held_as c.kind meta q.payload = ap (λ (x : DepackKind). held_as x meta q.payload) beyond.reads in
-        let push : IsPush p = (k, q, found, (place, next.0, refl), held) in
-        chain_of later (place + 1) (with_push w p) turns end next.1 from (beyond_pushed c.all_steps c.clock_rate c.first c.kind c.splits c.units c.lawful c.numbered from w.now p push beyond)
-        (record { sent = sent_one_more w.pushes p is.sent push; now = ap (λ (s : State). pushed s p) is.now ∙ sym (after_one_more w.left w.pushes p) }) log)
-        log
+        let next = drop_next all_steps place (steps.Push k) later at in
+        let ps = named place k w.now.depack in
+        let more = sent place k w.now.depack next.0 beyond.reads in
+        chain_of later (place + 1) (with_pushes w ps) turns end next.1 from (beyond_pushes from w.now ps beyond more)
+        (record { sent = sent_more w.pushes ps is.sent more; now = ap (λ (s : State). after_pushes s ps) is.now ∙ sym (after_more w.left w.pushes ps) }) log
     chain_of (steps.Pop ∷ later) place w [] end at from beyond is log = absurd log
     chain_of (steps.Pop ∷ later) place w (turn ∷ turns) end at from beyond is log =
-        let next = drop_next c.all_steps place steps.Pop later at in
+        let next = drop_next all_steps place steps.Pop later at in
         let pop = pop_is from w.now turn.after turn.passed turn.answer beyond log.1 log.2 in
         let after = popped_beyond from w.now turn.after turn.passed turn.answer beyond pop in (
           ap (λ (x : Stretch). x.left) log.0,
@@ -171,7 +188,7 @@ module _ (c : Setting) where
   sent_within n (p ∷ ps) sent h = elim (or_cases (eqb (number_of p) n) (has_number n ps) h) [
     | inl here ↦
         let i = sent.0 in
-        let number = number_of_sent c.all_steps c.clock_rate c.first c.kind c.splits c.units c.lawful c.numbered p i in
+        let number = number_of_sent c.known c.clock_rate c.first c.kind c.faithful c.splits c.units c.lawful c.numbered p i in
         let l = slice_get_within (packets_of c.units) i.0 i.1 i.2 in
         let same : number_of p ≡ n = grind (arith, nat_tests, here) in
         (omega (arith, number, same), omega (arith, number, same, l))
@@ -188,15 +205,11 @@ module _ (c : Setting) where
   span_left from w ready is =
       subst (IsLeft w.left (numbers_in c.first count w)) (sym is.now) (leaves_numbers w.left w.pushes c.first count (is_sound from w.left ready) (span_within from w ready is))
 
-  beyond_pushes : (from : ℕ) (s : State) (ps : List Held) → Beyond from s → ArePushes ps → Beyond from (after_pushes s ps)
-  beyond_pushes from s [] beyond sent = beyond
-  beyond_pushes from s (p ∷ ps) beyond sent = beyond_pushes from (pushed s p) ps (beyond_pushed c.all_steps c.clock_rate c.first c.kind c.splits c.units c.lawful c.numbered from s p sent.0 beyond) sent.1
-
   pub span_ready : (from : ℕ) (w : Stretch) → IsReady from w.left → IsSpan w → IsReady from w.now
   span_ready from w ready is =
       let left = span_left from w ready is in
       record {
-        beyond = subst (Beyond from) (sym is.now) (beyond_pushes from w.left w.pushes ready.beyond is.sent);
+        beyond = span_beyond from w ready.beyond is;
         few = omega (arith, ap length left.held, length-map w.now.held number_of, kept_few w.left (numbers_in c.first count w), left.limit);
       }
 
@@ -225,20 +238,20 @@ module _ (c : Setting) where
   left_ready from s w at ready = subst (IsReady from) (sym at) ready
 
   -- each held packet is a push of its own
-  sent_in : (hs : List Held) → ArePushes hs → (p : Held) → IsIn p hs → IsSentPacket c.all_steps c.clock_rate (packets_of c.units) p
+  sent_in : (hs : List Held) → ArePushes hs → (p : Held) → IsIn p hs → IsSentPacket c.known (packets_of c.units) p
   sent_in [] sent p is = absurd is
   sent_in (q ∷ qs) sent p (inl same) =
       let i = sent.0 in
-      subst (λ (h : Held). IsSentPacket c.all_steps c.clock_rate (packets_of c.units) h) (sym same) (i.0, i.1, i.2, i.3, ap (λ (h : Held). h.bytes) i.4)
+      subst (λ (h : Held). IsSentPacket c.known (packets_of c.units) h) (sym same) (i.0, i.1, i.2, i.3, ap (λ (h : Held). h.bytes) i.4)
   sent_in (q ∷ qs) sent p (inr later) = sent_in qs sent.1 p later
 
-  stretch_of : (from : ℕ) (w : Stretch) → IsReady from w.left → IsSpan w → IsStretch c.all_steps c.clock_rate c.first (packets_of c.units) w
+  stretch_of : (from : ℕ) (w : Stretch) → IsReady from w.left → IsSpan w → IsStretch c.known c.first (packets_of c.units) w
   stretch_of from w ready is = record {
     numbers = span_left from w ready is;
     each = λ p there. sent_in w.now.held (span_ready from w ready is).beyond.sent p (in_contains p w.now.held there);
   }
 
-  pub are_stretches : (from : ℕ) (s : State) (turns : List Turn) (end : Stretch) → IsReady from s → Chain s turns end → AreStretches c.all_steps c.clock_rate c.first (packets_of c.units) turns end
+  pub are_stretches : (from : ℕ) (s : State) (turns : List Turn) (end : Stretch) → IsReady from s → Chain s turns end → AreStretches c.known c.first (packets_of c.units) turns end
   are_stretches from s [] end ready chain = stretch_of from end (left_ready from s end chain.0 ready) chain.1
   are_stretches from s (turn ∷ turns) end ready chain =
       let left = left_ready from s turn.stretch chain.0 ready in

@@ -7,7 +7,7 @@ use Rattle.std.proofs.Math.Seq.{drop-append-add}
 use Rattle.codec_payload_base.specs.Time.{Time}
 use Rattle.codec_payload_buffer.proofs.FrameParts.{IsRun, BeginsWithHead}
 use Rattle.codec_payload_buffer.specs.Depack.{DepackKind, head_in, tail_in}
-use Rattle.codec_payload_core.specs.Headline.{IsPushOf, ArePushesOf}
+use Rattle.codec_payload_core.specs.Headline.{IsPushOf, ArePushesBy}
 use Rattle.codec_payload_buffer.specs.Held.{Held}
 use Rattle.codec_payload_core.specs.Packets.{Packet}
 use Rattle.codec_payload_core.specs.LawfulUnits.{StartsWithHead, payloads_held, payloads_sent, AllLawful}
@@ -45,22 +45,36 @@ ends_drop kind (suc k) [] e l = absurd e
 ends_drop kind (suc k) (p ∷ []) e l = absurd (omega arith)
 ends_drop kind (suc k) (p ∷ q ∷ ps) e l = ends_drop kind k (q ∷ ps) e.1 (omega arith)
 
-module _ (all_steps : List Step) (clock_rate : ℕ) (kind : DepackKind) where
+-- what a push tells of a packet is its number, its time by the clock of the run, and what makes it a tail
+pub record IsFaithful (known : ℕ → Packet → RtpMeta → Type 0) (clock_rate : ℕ) (kind : DepackKind) : Type 0 where
+  pub number : (k : ℕ) (q : Packet) (m : RtpMeta) → known k q m → m.seq_no.0 ≡ q.number
+  pub time : (k : ℕ) (q : Packet) (m : RtpMeta) → known k q m → m.time ≡ record { numer = q.rtp_time; rate = clock_rate }
+  pub tail : (k : ℕ) (q : Packet) (m : RtpMeta) → known k q m → tail_in kind m.header.marker q.payload ≡ tail_in kind q.marker q.payload
+
+-- a push of the packet itself tells all this
+pub push_faithful : (all_steps : List Step) (clock_rate : ℕ) (kind : DepackKind) → IsFaithful (IsPushOf all_steps clock_rate) clock_rate kind
+push_faithful all_steps clock_rate kind = record {
+  number = λ k q m push. ap (λ (x : RtpMeta). x.seq_no.0) push.2;
+  time = λ k q m push. ap (λ (x : RtpMeta). x.time) push.2;
+  tail = λ k q m push. ap (λ (x : RtpMeta). tail_in kind x.header.marker q.payload) push.2;
+}
+
+module _ (known : ℕ → Packet → RtpMeta → Type 0) (clock_rate : ℕ) (kind : DepackKind) (faithful : IsFaithful known clock_rate kind) where
   -- the held packets are pushes of a beginning of these packets, from index k on
   abbrev pub RowOf : ℕ → List Packet → List Held → Type 0
   RowOf k qs [] = Unit {0}
   RowOf k [] (p ∷ ps) = ⊥
-  RowOf k (q ∷ qs) (p ∷ ps) = IsPushOf all_steps clock_rate k q p.meta × (p ≡ held_as kind p.meta q.payload) × RowOf (k + 1) qs ps
+  RowOf k (q ∷ qs) (p ∷ ps) = known k q p.meta × (p ≡ held_as kind p.meta q.payload) × RowOf (k + 1) qs ps
 
   -- and of exactly these
   abbrev pub Exact : ℕ → List Packet → List Held → Type 0
   Exact k [] [] = Unit {0}
   Exact k [] (p ∷ ps) = ⊥
   Exact k (q ∷ qs) [] = ⊥
-  Exact k (q ∷ qs) (p ∷ ps) = IsPushOf all_steps clock_rate k q p.meta × (p ≡ held_as kind p.meta q.payload) × Exact (k + 1) qs ps
+  Exact k (q ∷ qs) (p ∷ ps) = known k q p.meta × (p ≡ held_as kind p.meta q.payload) × Exact (k + 1) qs ps
 
-  pub tail_is : (k : ℕ) (q : Packet) (p : Held) → IsPushOf all_steps clock_rate k q p.meta → p ≡ held_as kind p.meta q.payload → p.tail ≡ tail_in kind q.marker q.payload
-  tail_is k q p push is = ap (λ (h : Held). h.tail) is ∙ ap (λ (m : RtpMeta). tail_in kind m.header.marker q.payload) push.2
+  pub tail_is : (k : ℕ) (q : Packet) (p : Held) → known k q p.meta → p ≡ held_as kind p.meta q.payload → p.tail ≡ tail_in kind q.marker q.payload
+  tail_is k q p push is = ap (λ (h : Held). h.tail) is ∙ faithful.tail k q p.meta push
 
   row_exact : (k f last : ℕ) (time : Time) (back rest : List Packet) (ps : List Held) → EndsWithTail kind back → IsRun f last time ps → RowOf k (back ++ rest) ps → Exact k back ps
   row_exact k f last time [] rest ps ends run row = absurd ends
@@ -127,7 +141,7 @@ module _ (all_steps : List Step) (clock_rate : ℕ) (kind : DepackKind) where
   exact_payloads k (q ∷ qs) [] e = absurd e
   exact_payloads k (q ∷ qs) (p ∷ ps) e = let b : p.bytes ≡ q.payload = ap (λ (h : Held). h.bytes) e.1 in let r = exact_payloads (k + 1) qs ps e.2 in cc
 
-  pub exact_metas : (k : ℕ) (rest : List Packet) (ps : List Held) → Exact k rest ps → ArePushesOf all_steps clock_rate k rest (metas_of ps)
+  pub exact_metas : (k : ℕ) (rest : List Packet) (ps : List Held) → Exact k rest ps → ArePushesBy known k rest (metas_of ps)
   exact_metas k [] [] e = tt
   exact_metas k [] (p ∷ ps) e = absurd e
   exact_metas k (q ∷ qs) [] e = absurd e

@@ -11,7 +11,7 @@ use Rattle.codec_payload_buffer.proofs.CaseLemmas.{by_test}
 use Rattle.codec_payload_buffer.specs.Pack.{Pack, Vp8Pack, Vp9Pack, Av1Pack}
 use Rattle.codec_payload_buffer.specs.Release.{AreValues, merged}
 use Rattle.codec_payload_buffer.specs.declared.buffer.unit.RtpMeta.{RtpMeta}
-use Rattle.codec_payload_core.specs.Headline.{ArePushesOf}
+use Rattle.codec_payload_core.specs.Headline.{IsPushOf, ArePushesBy}
 use Rattle.codec_payload_core.specs.Packets.{Packet}
 use Rattle.codec_payload_core.specs.RunValues.{is_video}
 use Rattle.codec_payload_core.specs.Sending.{Sample, packets_from, packets_for}
@@ -113,7 +113,7 @@ merged_stripped values m i =
     }
 
 module _ (all_steps : List Step) (clock_rate : ℕ) (values : ExtensionValues) where
-  last_meta : (k i n : ℕ) (p : Packet) (ps : List Packet) (metas : List RtpMeta) → ArePushesOf all_steps clock_rate k (p ∷ ps) metas → AreStripped values i n (p ∷ ps)
+  last_meta : (k i n : ℕ) (p : Packet) (ps : List Packet) (metas : List RtpMeta) → ArePushesBy (IsPushOf all_steps clock_rate) k (p ∷ ps) metas → AreStripped values i n (p ∷ ps)
       → (m : RtpMeta) × (slice_get metas (length metas - 1) ≡ Some m) × (m.header.ext_vals ≡ stripped values (i + length ps) n)
   last_meta k i n p ps [] pushes carry = absurd pushes
   last_meta k i n p [] (m ∷ []) pushes carry =
@@ -128,7 +128,7 @@ module _ (all_steps : List Step) (clock_rate : ℕ) (values : ExtensionValues) w
       (rest.0, ap (slice_get (m ∷ l ∷ ms)) (sym at) ∙ rest.1, rest.2 ∙ ap (λ (j : ℕ). stripped values j n) e)
 
   -- what is known of one push each of all these packets tells the values
-  pub told_by_all : (k : ℕ) (p : Packet) (ps : List Packet) (metas : List RtpMeta) → ArePushesOf all_steps clock_rate k (p ∷ ps) metas → AreStripped values 0 (length (p ∷ ps)) (p ∷ ps) → AreValues metas values
+  pub told_by_all : (k : ℕ) (p : Packet) (ps : List Packet) (metas : List RtpMeta) → ArePushesBy (IsPushOf all_steps clock_rate) k (p ∷ ps) metas → AreStripped values 0 (length (p ∷ ps)) (p ∷ ps) → AreValues metas values
   told_by_all k p ps [] pushes carry = absurd pushes
   told_by_all k p ps (m ∷ ms) pushes carry =
       let last = last_meta k 0 (length (p ∷ ps)) p ps (m ∷ ms) pushes carry in

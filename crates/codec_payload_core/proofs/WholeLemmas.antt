@@ -144,14 +144,14 @@ some_packets c (p ∷ ps) e = omega arith
 
 module _ (c : Setting) where
   abbrev Row : ℕ → List Packet → List Held → Type 0
-  Row k xs row = Exact c.all_steps c.clock_rate c.kind k xs row
+  Row k xs row = Exact c.known c.clock_rate c.kind c.faithful k xs row
 
-  sent_as : (k : ℕ) (x : Packet) (h : Held) → IsPush c h → number_of h ≡ c.first + k → slice_get (packets_of c.units) k ≡ Some x → IsPushOf c.all_steps c.clock_rate k x h.meta × (h ≡ held_as c.kind h.meta x.payload)
+  sent_as : (k : ℕ) (x : Packet) (h : Held) → IsPush c h → number_of h ≡ c.first + k → slice_get (packets_of c.units) k ≡ Some x → c.known k x h.meta × (h ≡ held_as c.kind h.meta x.payload)
   sent_as k x h i number at =
-      let same : i.0 ≡ k = omega (arith, number_of_sent c.all_steps c.clock_rate c.first c.kind c.splits c.units c.lawful c.numbered h i, number) in
+      let same : i.0 ≡ k = omega (arith, number_of_sent c.known c.clock_rate c.first c.kind c.faithful c.splits c.units c.lawful c.numbered h i, number) in
       let found : slice_get (packets_of c.units) k ≡ Some i.1 = subst (λ (j : ℕ). slice_get (packets_of c.units) j ≡ Some i.1) same i.2 in
       let e : i.1 ≡ x = cc in
-      (subst (λ (q : Packet). IsPushOf c.all_steps c.clock_rate k q h.meta) e (subst (λ (j : ℕ). IsPushOf c.all_steps c.clock_rate j i.1 h.meta) same i.3), subst (λ (q : Packet). h ≡ held_as c.kind h.meta q.payload) e i.4)
+      (subst (λ (q : Packet). c.known k q h.meta) e (subst (λ (j : ℕ). c.known j i.1 h.meta) same i.3), subst (λ (q : Packet). h ≡ held_as c.kind h.meta q.payload) e i.4)
 
   -- the packets of n indices from k on are held
   abbrev HoldsAll : ℕ → ℕ → List Held → Type 0
@@ -231,7 +231,7 @@ module _ (c : Setting) where
         row = found.row;
         rest = found.rest;
         whole = found.whole;
-        time = held_time c.all_steps c.clock_rate c.kind times.0;
-        run = run_of_exact c.all_steps c.clock_rate c.kind k (c.first + k) times.0 u.packets found.row law.ends times.1 numbers found.exact last (omega (arith, l, size));
-        begins = begins_of_exact c.all_steps c.clock_rate c.kind k u.packets found.row law.starts found.exact;
+        time = held_time c.known c.clock_rate c.kind c.faithful times.0;
+        run = run_of_exact c.known c.clock_rate c.kind c.faithful k (c.first + k) times.0 u.packets found.row law.ends times.1 numbers found.exact last (omega (arith, l, size));
+        begins = begins_of_exact c.known c.clock_rate c.kind c.faithful k u.packets found.row law.starts found.exact;
       }

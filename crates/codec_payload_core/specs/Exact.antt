@@ -1,8 +1,10 @@
 -- Where everything was pushed before the first pop, a buffer releases exactly the units of a run.
 use Rattle.std.specs.Prelude.{◌≡◌, ◌≢◌, ℕ, ◌+◌, ◌<◌, ◌≤◌, List, [], ◌∷◌, Some, None, Ok, Contains, length, slice_get}
 use Rattle.codec_payload_base.specs.Pieces.{joined}
-use Rattle.codec_payload_core.specs.Headline.{ArePushesOf, ReleasesInOrder}
+use Rattle.codec_payload_core.specs.Headline.{IsPushOf, ArePushesBy, ReleasesInOrder}
 use Rattle.codec_payload_buffer.specs.Release.{Release}
+use Rattle.codec_payload_buffer.specs.declared.buffer.unit.RtpMeta.{RtpMeta}
+use Rattle.codec_payload_core.specs.Packets.{Packet}
 use Rattle.codec_payload_core.specs.Schedule.{Answer, RunState}
 use Rattle.codec_payload_core.specs.Sending.{Sample}
 use Rattle.codec_payload_core.specs.SentStream.{SentUnit}
@@ -28,18 +30,18 @@ pub record IsAllPushed (all_steps : List Step) (sends : List Sent) (s t : RunSta
 
 -- the release is this unit with nothing missing: the bytes of all its parts, and what is known of one push each of
 -- exactly its packets, whose indices go from k on
-pub record IsWhole (all_steps : List Step) (clock_rate k : ℕ) (u : SentUnit) (r : Release) : Type 0 where
+pub record IsWhole (known : ℕ → Packet → RtpMeta → Type 0) (k : ℕ) (u : SentUnit) (r : Release) : Type 0 where
   pub bytes : r.bytes ≡ joined u.parts
-  pub metas : ArePushesOf all_steps clock_rate k u.packets r.metas
+  pub metas : ArePushesBy known k u.packets r.metas
 
 -- the pops answer each of these units in turn, whole, and then None for ever; their packets have the indices from k on
-abbrev pub AnswersAll : List Step → ℕ → ℕ → List SentUnit → List Answer → Type 0
-AnswersAll all_steps clock_rate k units [] = Unit {0}
-AnswersAll all_steps clock_rate k [] (answer ∷ answers) = (answer ≡ None) × AnswersAll all_steps clock_rate k [] answers
-AnswersAll all_steps clock_rate k (u ∷ us) (answer ∷ answers) =
-    (r : Release) × (answer ≡ Some (Ok r)) × IsWhole all_steps clock_rate k u r × AnswersAll all_steps clock_rate (k + length u.packets) us answers
+abbrev pub AnswersAll : (ℕ → Packet → RtpMeta → Type 0) → ℕ → List SentUnit → List Answer → Type 0
+AnswersAll known k units [] = Unit {0}
+AnswersAll known k [] (answer ∷ answers) = (answer ≡ None) × AnswersAll known k [] answers
+AnswersAll known k (u ∷ us) (answer ∷ answers) =
+    (r : Release) × (answer ≡ Some (Ok r)) × IsWhole known k u r × AnswersAll known (k + length u.packets) us answers
 
 -- units are released in order, each at most once; and where all packets are pushed first, exactly all of them
 pub record ReleasesUnits (samples : List Sample) (all_steps : List Step) (s : RunState) (sends : List Sent) (pops : List Answer) (t : RunState) : Type 0 where
   pub in_order : ReleasesInOrder samples all_steps s pops t
-  pub exactly : IsAllPushed all_steps sends s t → AnswersAll all_steps s.payloading.clock_rate 0 in_order.units pops
+  pub exactly : IsAllPushed all_steps sends s t → AnswersAll (IsPushOf all_steps s.payloading.clock_rate) 0 in_order.units pops

@@ -18,12 +18,13 @@ use Rattle.codec_payload_core.specs.declared.schedule.Step.TheVariants as steps
 abbrev pub IsPushOf : List Step → ℕ → ℕ → Packet → RtpMeta → Type 0
 IsPushOf all_steps clock_rate k p meta = (place : ℕ) × (slice_get all_steps place ≡ Some (steps.Push k)) × (meta ≡ meta_of_push place clock_rate p)
 
--- what is known of one push each of exactly these packets, in order, from index k on
-abbrev pub ArePushesOf : List Step → ℕ → ℕ → List Packet → List RtpMeta → Type 0
-ArePushesOf all_steps clock_rate k [] [] = Unit {0}
-ArePushesOf all_steps clock_rate k (p ∷ ps) (m ∷ ms) = IsPushOf all_steps clock_rate k p m × ArePushesOf all_steps clock_rate (k + 1) ps ms
-ArePushesOf all_steps clock_rate k [] (m ∷ ms) = ⊥
-ArePushesOf all_steps clock_rate k (p ∷ ps) [] = ⊥
+-- what is known of one push each of exactly these packets, in order, from index k on; `known` says what may be known of a
+-- push of the packet of an index
+abbrev pub ArePushesBy : (ℕ → Packet → RtpMeta → Type 0) → ℕ → List Packet → List RtpMeta → Type 0
+ArePushesBy known k [] [] = Unit {0}
+ArePushesBy known k (p ∷ ps) (m ∷ ms) = known k p m × ArePushesBy known (k + 1) ps ms
+ArePushesBy known k [] (m ∷ ms) = ⊥
+ArePushesBy known k (p ∷ ps) [] = ⊥
 
 -- how many packets the first n units have
 abbrev pub packets_before : ℕ → List SentUnit → ℕ
@@ -31,22 +32,22 @@ packets_before n units = length (packets_of (take n units))
 
 -- the release is that of the unit at a place: whole, or, where units may be split and packets are missing, its last
 -- parts; and what is known of its packets is what is known of one push each of exactly those packets
-pub record IsUnitAt (all_steps : List Step) (clock_rate : ℕ) (splits : Bool) (units : List SentUnit) (place : ℕ) (r : Release) : Type 0 where
+pub record IsUnitAt (known : ℕ → Packet → RtpMeta → Type 0) (splits : Bool) (units : List SentUnit) (place : ℕ) (r : Release) : Type 0 where
   pub sent : SentUnit
   pub at_place : slice_get units place ≡ Some sent
   pub missing : List Packet
   pub rest : List Packet
   pub whole : missing ++ rest ≡ sent.packets
   pub bytes : IsReleaseOf splits sent missing r.bytes
-  pub metas : ArePushesOf all_steps clock_rate (packets_before place units + length missing) rest r.metas
+  pub metas : ArePushesBy known (packets_before place units + length missing) rest r.metas
 
 -- the answers of the pops: no fault, and units at strictly rising places, from `from` on
-abbrev pub InOrder : List Step → ℕ → Bool → List SentUnit → ℕ → List Answer → Type 0
-InOrder all_steps clock_rate splits units from [] = Unit {0}
-InOrder all_steps clock_rate splits units from (None ∷ answers) = InOrder all_steps clock_rate splits units from answers
-InOrder all_steps clock_rate splits units from (Some (Err fault) ∷ answers) = ⊥
-InOrder all_steps clock_rate splits units from (Some (Ok r) ∷ answers) =
-    (place : ℕ) × (from ≤ place) × IsUnitAt all_steps clock_rate splits units place r × InOrder all_steps clock_rate splits units (place + 1) answers
+abbrev pub InOrder : (ℕ → Packet → RtpMeta → Type 0) → Bool → List SentUnit → ℕ → List Answer → Type 0
+InOrder known splits units from [] = Unit {0}
+InOrder known splits units from (None ∷ answers) = InOrder known splits units from answers
+InOrder known splits units from (Some (Err fault) ∷ answers) = ⊥
+InOrder known splits units from (Some (Ok r) ∷ answers) =
+    (place : ℕ) × (from ≤ place) × IsUnitAt known splits units place r × InOrder known splits units (place + 1) answers
 
 -- the packetizer is that of a codec, the sink and the buffer are unused, and the buffer's depacketizer reads what the
 -- payloader's packetizer makes, and has extended no picture ids
@@ -67,4 +68,4 @@ pub record ReleasesInOrder (samples : List Sample) (all_steps : List Step) (s : 
   pub canonical : map (λ (u : SentUnit). u.parts) units ≡ units_of_run s.payloading.pack samples all_steps
   pub packets : packets_of units ≡ t.sink.packets
   pub ends : AllEndWithTail (payloads_by s.payloading.pack) units
-  pub in_order : InOrder all_steps s.payloading.clock_rate (may_split s.payloading.pack) units 0 pops
+  pub in_order : InOrder (IsPushOf all_steps s.payloading.clock_rate) (may_split s.payloading.pack) units 0 pops

@@ -66,6 +66,8 @@ pub mod LawfulUnits
 pub mod Log
 pub mod Packets
 pub mod RedPackets
+pub mod RedPromises
+pub mod RedSchedule
 pub mod RunCounts
 pub mod RunOrder
 pub mod RunPromises

@@ -1,13 +1,15 @@
 -- A run told pop by pop: what was pushed before each, what it answered, and what the buffer was.
 use Rattle.std.specs.Prelude.{◌≡◌, ◌≢◌, ℕ, ◌+◌, List, [], ◌∷◌, ◌++◌, Option, Some, None, Err, map, take, slice_get, nat_lt, if◌then◌else◌, refl}
 use Rattle.codec_payload_base.specs.declared.error.PacketError.TheVariants as faults
+use Rattle.codec_payload_buffer.specs.Depack.{Depack}
 use Rattle.codec_payload_core.specs.Headline.{ReleasesInOrder}
 use Rattle.codec_payload_buffer.specs.Held.{Held}
 use Rattle.codec_payload_core.specs.LawfulUnits.{AllLawful}
 use Rattle.codec_payload_core.specs.Packets.{Packet}
 use Rattle.codec_payload_core.specs.Schedule.{Answer, RunState, meta_of_push}
 use Rattle.codec_payload_core.specs.Sending.{Sample}
-use Rattle.codec_payload_buffer.specs.Steps.{State, arrived, pushed, PopsOver}
+use Rattle.codec_payload_buffer.specs.Steps.{State, arrived, PopsOver}
+use Rattle.codec_payload_buffer.specs.Stretches.{after_pushes}
 use Rattle.codec_payload_buffer.specs.declared.buffer.frames.Segment.{Segment}
 use Rattle.codec_payload_core.specs.Units.{payloads_by, may_split}
 use Rattle.codec_payload_core.specs.declared.schedule.Sent.{Sent}
@@ -33,9 +35,9 @@ pub record Turn : Type 0 where
 abbrev pub begun : State → Stretch
 begun s = record { left = s; pushes = []; now = s }
 
--- a stretch with one more push
-abbrev pub with_push : Stretch → Held → Stretch
-with_push w p = record w { pushes = w.pushes ++ p ∷ []; now = pushed w.now p }
+-- a stretch with these pushes besides
+abbrev pub with_pushes : Stretch → List Held → Stretch
+with_pushes w ps = record w { pushes = w.pushes ++ ps; now = after_pushes w.now ps }
 
 -- how many packets were sent before step `place`, as the entries tell
 abbrev pub sent_before : ℕ → List Sent → ℕ
@@ -46,23 +48,26 @@ sent_before place (entry ∷ sends) = (if nat_lt entry.step place then entry.cou
 abbrev pub packet_named : List Packet → List Sent → ℕ → ℕ → Option Packet
 packet_named packets sends place k = slice_get (take (sent_before place sends) packets) k
 
--- the stretch after step `place` pushed that packet, if there is one
-abbrev pub after_naming : ℕ → ℕ → Option Packet → Stretch → Stretch
-after_naming place clock_rate None w = w
-after_naming place clock_rate (Some p) w = with_push w (arrived w.now.depack (meta_of_push place clock_rate p) p.payload)
+-- what step `place` pushes of that packet, if there is one
+abbrev pub held_of : ℕ → ℕ → Option Packet → Depack → List Held
+held_of place clock_rate None depack = []
+held_of place clock_rate (Some p) depack = arrived depack (meta_of_push place clock_rate p) p.payload ∷ []
 
 -- the steps from place `place` on, with the stretch so far: each pop has its turn, and what comes after the last of them
--- is the stretch at the end
-abbrev pub IsLog : List Packet → ℕ → List Sent → ℕ → List Step → Stretch → List Turn → Stretch → Type 0
-IsLog packets clock_rate sends place [] w [] end = end ≡ w
-IsLog packets clock_rate sends place [] w (turn ∷ turns) end = ⊥
-IsLog packets clock_rate sends place (steps.Send i mtu ∷ later) w turns end = IsLog packets clock_rate sends (place + 1) later w turns end
-IsLog packets clock_rate sends place (steps.Push k ∷ later) w turns end =
-    IsLog packets clock_rate sends (place + 1) later (after_naming place clock_rate (packet_named packets sends place k) w) turns end
-IsLog packets clock_rate sends place (steps.Pop ∷ later) w [] end = ⊥
-IsLog packets clock_rate sends place (steps.Pop ∷ later) w (turn ∷ turns) end =
+-- is the stretch at the end; `named` says what a step pushes, by its place, the index that it names, and the depacketizer
+abbrev pub IsLogBy : (ℕ → ℕ → Depack → List Held) → ℕ → List Step → Stretch → List Turn → Stretch → Type 0
+IsLogBy named place [] w [] end = end ≡ w
+IsLogBy named place [] w (turn ∷ turns) end = ⊥
+IsLogBy named place (steps.Send i mtu ∷ later) w turns end = IsLogBy named (place + 1) later w turns end
+IsLogBy named place (steps.Push k ∷ later) w turns end = IsLogBy named (place + 1) later (with_pushes w (named place k w.now.depack)) turns end
+IsLogBy named place (steps.Pop ∷ later) w [] end = ⊥
+IsLogBy named place (steps.Pop ∷ later) w (turn ∷ turns) end =
     (turn.stretch ≡ w) × PopsOver w.now turn.passed turn.answer turn.after × (turn.answer ≢ Some (Err faults.OutOfMemory))
-    × IsLog packets clock_rate sends (place + 1) later (begun turn.after) turns end
+    × IsLogBy named (place + 1) later (begun turn.after) turns end
+
+-- a step pushes the packet that it names
+abbrev pub IsLog : List Packet → ℕ → List Sent → ℕ → List Step → Stretch → List Turn → Stretch → Type 0
+IsLog packets clock_rate sends = IsLogBy (λ place k. held_of place clock_rate (packet_named packets sends place k))
 
 -- a run told pop by pop, with the units that it sends, for each of which the codec keeps what it owes; `end` is what comes after the last pop
 pub record RunLog (samples : List Sample) (all_steps : List Step) (s : RunState) (sends : List Sent) (pops : List Answer) (t : RunState) : Type 0 where

@@ -24,23 +24,23 @@ abbrev pub evicted_in : ℕ → ℕ → Stretch → List ℕ
 evicted_in first count w = left_out w.left (numbers_in first count w)
 
 -- a push of the packet of that number, in bytes and metadata
-abbrev pub IsSentPacket : List Step → ℕ → List Packet → Held → Type 0
-IsSentPacket all_steps clock_rate packets p = (k : ℕ) × (q : Packet) × (slice_get packets k ≡ Some q) × IsPushOf all_steps clock_rate k q p.meta × (p.bytes ≡ q.payload)
+abbrev pub IsSentPacket : (ℕ → Packet → RtpMeta → Type 0) → List Packet → Held → Type 0
+IsSentPacket known packets p = (k : ℕ) × (q : Packet) × (slice_get packets k ≡ Some q) × known k q p.meta × (p.bytes ≡ q.payload)
 
 -- at the end of a stretch the greatest numbers that count are held, each with its packet
-pub record IsStretch (all_steps : List Step) (clock_rate first : ℕ) (packets : List Packet) (w : Stretch) : Type 0 where
+pub record IsStretch (known : ℕ → Packet → RtpMeta → Type 0) (first : ℕ) (packets : List Packet) (w : Stretch) : Type 0 where
   pub numbers : IsLeft w.left (numbers_in first (length packets) w) w.now
-  pub each : (p : Held) → Contains w.now.held p → IsSentPacket all_steps clock_rate packets p
+  pub each : (p : Held) → Contains w.now.held p → IsSentPacket known packets p
 
 -- so does each stretch of a run, also the one after the last pop
-abbrev pub AreStretches : List Step → ℕ → ℕ → List Packet → List Turn → Stretch → Type 0
-AreStretches all_steps clock_rate first packets [] end = IsStretch all_steps clock_rate first packets end
-AreStretches all_steps clock_rate first packets (turn ∷ turns) end =
-    IsStretch all_steps clock_rate first packets turn.stretch × AreStretches all_steps clock_rate first packets turns end
+abbrev pub AreStretches : (ℕ → Packet → RtpMeta → Type 0) → ℕ → List Packet → List Turn → Stretch → Type 0
+AreStretches known first packets [] end = IsStretch known first packets end
+AreStretches known first packets (turn ∷ turns) end =
+    IsStretch known first packets turn.stretch × AreStretches known first packets turns end
 
 -- Order independence, the first sentence
 abbrev pub IsOrderFree : {samples : List Sample} {all_steps : List Step} {s : RunState} {sends : List Sent} {pops : List Answer} {t : RunState} → RunLog samples all_steps s sends pops t → Type 0
-IsOrderFree {all_steps = all_steps} {s = s} {t = t} log = AreStretches all_steps s.payloading.clock_rate s.sink.first t.sink.packets log.turns log.end
+IsOrderFree {all_steps = all_steps} {s = s} {t = t} log = AreStretches (IsPushOf all_steps s.payloading.clock_rate) s.sink.first t.sink.packets log.turns log.end
 
 -- the number of the first packet of a unit, and that of the last
 abbrev pub first_number : List RtpMeta → ℕ

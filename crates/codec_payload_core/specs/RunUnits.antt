@@ -1,10 +1,11 @@
 -- What becomes of units that are held whole, and when the released units are a beginning of those that were sent.
 use Rattle.std.specs.Prelude.{◌≡◌, ℕ, ◌+◌, ◌<◌, ◌≤◌, ◌⊎◌, Bool, true, List, [], ◌∷◌, Some, None, Ok, Err, Contains, length, slice_get}
 use Rattle.codec_payload_buffer.specs.Frames.{frames}
-use Rattle.codec_payload_core.specs.Headline.{packets_before, IsUnitAt}
+use Rattle.codec_payload_core.specs.Headline.{IsPushOf, packets_before, IsUnitAt}
 use Rattle.codec_payload_buffer.specs.Held.{has_number}
 use Rattle.codec_payload_core.specs.Log.{Stretch, Turn, RunLog}
 use Rattle.codec_payload_buffer.specs.Release.{Release}
+use Rattle.codec_payload_core.specs.Packets.{Packet}
 use Rattle.codec_payload_core.specs.RunOrder.{evicted_in, last_number}
 use Rattle.codec_payload_core.specs.Schedule.{Answer, RunState}
 use Rattle.codec_payload_core.specs.Sending.{Sample}
@@ -13,6 +14,7 @@ use Rattle.codec_payload_buffer.specs.Steps.{State}
 use Rattle.codec_payload_core.specs.ToldIds.{next_id}
 use Rattle.codec_payload_core.specs.Units.{may_split}
 use Rattle.codec_payload_buffer.specs.declared.buffer.frames.Segment.{Segment}
+use Rattle.codec_payload_buffer.specs.declared.buffer.unit.RtpMeta.{RtpMeta}
 use Rattle.codec_payload_core.specs.declared.schedule.Sent.{Sent}
 use Rattle.codec_payload_core.specs.declared.schedule.Step.{Step}
 
@@ -26,20 +28,20 @@ abbrev pub IsHeldWhole : ℕ → List SentUnit → ℕ → State → Type 0
 IsHeldWhole first units place s = (n : ℕ) → IsNumberIn first units place n → has_number n s.held ≡ true
 
 -- the release is that of the unit at that place, with nothing missing
-abbrev pub IsWholeAt : List Step → ℕ → Bool → List SentUnit → ℕ → Release → Type 0
-IsWholeAt all_steps clock_rate splits units place r = (is : IsUnitAt all_steps clock_rate splits units place r) × (is.missing ≡ [])
+abbrev pub IsWholeAt : (ℕ → Packet → RtpMeta → Type 0) → Bool → List SentUnit → ℕ → Release → Type 0
+IsWholeAt known splits units place r = (is : IsUnitAt known splits units place r) × (is.missing ≡ [])
 
 -- the answer is that release
-abbrev pub ReleasesWhole : List Step → ℕ → Bool → List SentUnit → ℕ → Answer → Type 0
-ReleasesWhole all_steps clock_rate splits units place None = ⊥
-ReleasesWhole all_steps clock_rate splits units place (Some (Err fault)) = ⊥
-ReleasesWhole all_steps clock_rate splits units place (Some (Ok r)) = IsWholeAt all_steps clock_rate splits units place r
+abbrev pub ReleasesWhole : (ℕ → Packet → RtpMeta → Type 0) → Bool → List SentUnit → ℕ → Answer → Type 0
+ReleasesWhole known splits units place None = ⊥
+ReleasesWhole known splits units place (Some (Err fault)) = ⊥
+ReleasesWhole known splits units place (Some (Ok r)) = IsWholeAt known splits units place r
 
 -- one of these pops releases the unit
-abbrev pub IsReleasedIn : List Step → ℕ → Bool → List SentUnit → ℕ → List Turn → Type 0
-IsReleasedIn all_steps clock_rate splits units place [] = ⊥
-IsReleasedIn all_steps clock_rate splits units place (turn ∷ turns) =
-    ReleasesWhole all_steps clock_rate splits units place turn.answer ⊎ IsReleasedIn all_steps clock_rate splits units place turns
+abbrev pub IsReleasedIn : (ℕ → Packet → RtpMeta → Type 0) → Bool → List SentUnit → ℕ → List Turn → Type 0
+IsReleasedIn known splits units place [] = ⊥
+IsReleasedIn known splits units place (turn ∷ turns) =
+    ReleasesWhole known splits units place turn.answer ⊎ IsReleasedIn known splits units place turns
 
 -- one of these frames is that of the whole unit
 abbrev pub IsAmong : ℕ → List SentUnit → ℕ → List Segment → Type 0
@@ -61,23 +63,23 @@ abbrev pub LosesPacketIn : ℕ → List SentUnit → ℕ → List Turn → Stret
 LosesPacketIn first units place turns end = (n : ℕ) × IsNumberIn first units place n × IsEvictedIn first (length (packets_of units)) n turns end
 
 -- what may become of a unit that is held whole before the first of these pops; `later` has those after the first
-pub data Fate (all_steps : List Step) (clock_rate first : ℕ) (splits : Bool) (units : List SentUnit) (place : ℕ) (turns later : List Turn) (end : Stretch) : Type 0 where
-  released : IsReleasedIn all_steps clock_rate splits units place turns → Fate all_steps clock_rate first splits units place turns later end
-  passed_over : IsPassedOverIn first units place turns → Fate all_steps clock_rate first splits units place turns later end
-  held : IsHeldWhole first units place end.now → Fate all_steps clock_rate first splits units place turns later end
-  evicted : LosesPacketIn first units place later end → Fate all_steps clock_rate first splits units place turns later end
+pub data Fate (known : ℕ → Packet → RtpMeta → Type 0) (first : ℕ) (splits : Bool) (units : List SentUnit) (place : ℕ) (turns later : List Turn) (end : Stretch) : Type 0 where
+  released : IsReleasedIn known splits units place turns → Fate known first splits units place turns later end
+  passed_over : IsPassedOverIn first units place turns → Fate known first splits units place turns later end
+  held : IsHeldWhole first units place end.now → Fate known first splits units place turns later end
+  evicted : LosesPacketIn first units place later end → Fate known first splits units place turns later end
 
 -- no unit that is held whole before one of these pops is lost silently
-abbrev pub NoneIsLost : List Step → ℕ → ℕ → Bool → List SentUnit → List Turn → Stretch → Type 0
-NoneIsLost all_steps clock_rate first splits units [] end = Unit {0}
-NoneIsLost all_steps clock_rate first splits units (turn ∷ turns) end =
-    ((place : ℕ) (u : SentUnit) → slice_get units place ≡ Some u → IsHeldWhole first units place turn.stretch.now → Fate all_steps clock_rate first splits units place (turn ∷ turns) turns end)
-    × NoneIsLost all_steps clock_rate first splits units turns end
+abbrev pub NoneIsLost : (ℕ → Packet → RtpMeta → Type 0) → ℕ → Bool → List SentUnit → List Turn → Stretch → Type 0
+NoneIsLost known first splits units [] end = Unit {0}
+NoneIsLost known first splits units (turn ∷ turns) end =
+    ((place : ℕ) (u : SentUnit) → slice_get units place ≡ Some u → IsHeldWhole first units place turn.stretch.now → Fate known first splits units place (turn ∷ turns) turns end)
+    × NoneIsLost known first splits units turns end
 
 -- No silent loss
 abbrev pub LosesNoneSilently : {samples : List Sample} {all_steps : List Step} {s : RunState} {sends : List Sent} {pops : List Answer} {t : RunState} → RunLog samples all_steps s sends pops t → Type 0
 LosesNoneSilently {all_steps = all_steps} {s = s} log =
-    NoneIsLost all_steps s.payloading.clock_rate s.sink.first (may_split s.payloading.pack) log.released.units log.turns log.end
+    NoneIsLost (IsPushOf all_steps s.payloading.clock_rate) s.sink.first (may_split s.payloading.pack) log.released.units log.turns log.end
 
 -- no pop passes a frame over
 abbrev pub NonePassedOver : List Turn → Type 0
@@ -135,23 +137,23 @@ count_after n (Some (Err fault)) = n
 count_after n (Some (Ok r)) = n + 1
 
 -- if this is a release, it is the unit at place n, whole
-abbrev pub IsNext : List Step → ℕ → Bool → List SentUnit → ℕ → Answer → Type 0
-IsNext all_steps clock_rate splits units n None = Unit {0}
-IsNext all_steps clock_rate splits units n (Some (Err fault)) = Unit {0}
-IsNext all_steps clock_rate splits units n (Some (Ok r)) = IsWholeAt all_steps clock_rate splits units n r
+abbrev pub IsNext : (ℕ → Packet → RtpMeta → Type 0) → Bool → List SentUnit → ℕ → Answer → Type 0
+IsNext known splits units n None = Unit {0}
+IsNext known splits units n (Some (Err fault)) = Unit {0}
+IsNext known splits units n (Some (Ok r)) = IsWholeAt known splits units n r
 
 -- the releases are the units from place n on, each whole
-abbrev pub AreNext : List Step → ℕ → Bool → List SentUnit → ℕ → List Answer → Type 0
-AreNext all_steps clock_rate splits units n [] = Unit {0}
-AreNext all_steps clock_rate splits units n (answer ∷ answers) =
-    IsNext all_steps clock_rate splits units n answer × AreNext all_steps clock_rate splits units (count_after n answer) answers
+abbrev pub AreNext : (ℕ → Packet → RtpMeta → Type 0) → Bool → List SentUnit → ℕ → List Answer → Type 0
+AreNext known splits units n [] = Unit {0}
+AreNext known splits units n (answer ∷ answers) =
+    IsNext known splits units n answer × AreNext known splits units (count_after n answer) answers
 
 -- the first release is the first unit, whole
-abbrev pub FirstIsWhole : List Step → ℕ → Bool → List SentUnit → List Answer → Type 0
-FirstIsWhole all_steps clock_rate splits units [] = Unit {0}
-FirstIsWhole all_steps clock_rate splits units (None ∷ answers) = FirstIsWhole all_steps clock_rate splits units answers
-FirstIsWhole all_steps clock_rate splits units (Some (Err fault) ∷ answers) = FirstIsWhole all_steps clock_rate splits units answers
-FirstIsWhole all_steps clock_rate splits units (Some (Ok r) ∷ answers) = IsWholeAt all_steps clock_rate splits units 0 r
+abbrev pub FirstIsWhole : (ℕ → Packet → RtpMeta → Type 0) → Bool → List SentUnit → List Answer → Type 0
+FirstIsWhole known splits units [] = Unit {0}
+FirstIsWhole known splits units (None ∷ answers) = FirstIsWhole known splits units answers
+FirstIsWhole known splits units (Some (Err fault) ∷ answers) = FirstIsWhole known splits units answers
+FirstIsWhole known splits units (Some (Ok r) ∷ answers) = IsWholeAt known splits units 0 r
 
 -- no push before the last pop evicts a packet
 abbrev pub NoneEvicted : ℕ → ℕ → List Turn → Type 0
@@ -168,7 +170,7 @@ IsPatient first units n (turn ∷ turns) =
 -- Beginning
 abbrev pub BeginsAsSent : {samples : List Sample} {all_steps : List Step} {s : RunState} {sends : List Sent} {pops : List Answer} {t : RunState} → RunLog samples all_steps s sends pops t → Type 0
 BeginsAsSent {all_steps = all_steps} {s = s} {pops = pops} {t = t} log =
-    FirstIsWhole all_steps s.payloading.clock_rate (may_split s.payloading.pack) log.released.units pops
+    FirstIsWhole (IsPushOf all_steps s.payloading.clock_rate) (may_split s.payloading.pack) log.released.units pops
     → NoneEvicted s.sink.first (length t.sink.packets) log.turns
     → IsPatient s.sink.first log.released.units 0 log.turns
-    → AreNext all_steps s.payloading.clock_rate (may_split s.payloading.pack) log.released.units 0 pops
+    → AreNext (IsPushOf all_steps s.payloading.clock_rate) (may_split s.payloading.pack) log.released.units 0 pops

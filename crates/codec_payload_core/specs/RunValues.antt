@@ -3,7 +3,7 @@ use Rattle.std.specs.Prelude.{◌≡◌, ℕ, Bool, true, false, List, [], ◌�
 use Rattle.codec_payload_base.specs.declared.wire.extension.ExtensionValues.{ExtensionValues}
 use Rattle.codec_payload_buffer.specs.Pack.{Pack, Vp8Pack, Vp9Pack, Av1Pack}
 use Rattle.codec_payload_buffer.specs.Release.{Release, AreValues}
-use Rattle.codec_payload_core.specs.Headline.{ReleasesInOrder}
+use Rattle.codec_payload_core.specs.Headline.{IsPushOf, ReleasesInOrder}
 use Rattle.codec_payload_core.specs.RunUnits.{IsWholeAt}
 use Rattle.codec_payload_core.specs.Schedule.{Answer, RunState}
 use Rattle.codec_payload_core.specs.Sending.{Sample}
@@ -35,5 +35,5 @@ values_of_run pack samples (steps.Pop ∷ later) = values_of_run pack samples la
 -- each release that is a unit of video, whole, has the values of the sample of that unit
 abbrev pub HaveValuesOfSamples : {samples : List Sample} {all_steps : List Step} {s : RunState} {pops : List Answer} {t : RunState} → ReleasesInOrder samples all_steps s pops t → Type 0
 HaveValuesOfSamples {samples} {all_steps} {s} {pops} {t} released =
-    is_video s.payloading.pack ≡ true → (place : ℕ) (r : Release) → IsWholeAt all_steps s.payloading.clock_rate (may_split s.payloading.pack) released.units place r
+    is_video s.payloading.pack ≡ true → (place : ℕ) (r : Release) → IsWholeAt (IsPushOf all_steps s.payloading.clock_rate) (may_split s.payloading.pack) released.units place r
     → (values : ExtensionValues) × (slice_get (values_of_run s.payloading.pack samples all_steps) place ≡ Some values) × AreValues r.metas values

@@ -2,7 +2,10 @@
 
 ghost use Rattle.std.specs.Prelude.{◌≡◌, ◌≢◌, ◌++◌, List, ◌≤◌, ◌^◌, ◌↔◌, map, IfOk, IfErr, IfSome, IsNone, OnOk, OnErr, Option, Result};
 ghost use Rattle.codec_payload_base.specs.declared.error.PacketError.TheVariants.{OutOfMemory};
-ghost use Rattle.codec_payload_core.specs.Packets.{packet_of};
+ghost use Rattle.codec_payload_core.specs.Packets.{Packet, packet_of};
+ghost use Rattle.codec_payload_core.specs.RedPromises.{KeepsRedPromises, ran_in_red, protection_of};
+ghost use Rattle.codec_payload_core.specs.RedSchedule.{red_state, StopsInRed};
+ghost use Rattle.codec_payload_red.specs.RedLevels.{Sender};
 ghost use Rattle.codec_payload_buffer.specs.Pack.{pack_for};
 ghost use Rattle.codec_payload_core.specs.RunOrder.{OnlySetsCount};
 ghost use Rattle.codec_payload_core.specs.RunPromises.{KeepsPromises, ran};
@@ -91,12 +94,19 @@ pub fn run_schedule<P: Packetizer, D: Depacketizer>(
     steps: &[Step],
     mut red: Option<RedRun<'_>>,
 ) -> Result<Run, PacketError>
-    // Run as steps, both halves of the theorem, order, contiguous, no silent loss, beginning: see `specs/RunPromises.antt`.
+    // Without RED: run as steps, both halves of the theorem, order, contiguous, no silent loss, beginning: see
+    // `specs/RunPromises.antt`.
     ensures promises { IsNone red.entry → IfOk result (λ run. KeepsPromises (ran samples.now steps.now (run_state payloader.old buffer.old sink.old) run (run_state payloader.new buffer.new sink.new))) }
     ensures limit { buffer.new.limit ≡ buffer.old.limit }
     ensures fault { IfErr result (λ fault. fault ≡ OutOfMemory) }
     ensures stops { IsNone red.entry → OnErr result (Stops (map sample_of samples.now) 0 steps.now (run_state payloader.old buffer.old sink.old)
         (run_state payloader.new buffer.new sink.new)) }
+    // With RED: run as steps, and the same promises with what is recovered as further pushes: see `specs/RedPromises.antt`.
+    // Some packets make them true: those that were sent, as they were before they were put in RED.
+    ensures red_promises { IfSome red.entry (λ red. IfOk result (λ run. (sent : List Packet) × (sender : Sender) × KeepsRedPromises (ran_in_red (protection_of red) samples.now steps.now
+        (red_state payloader.old buffer.old sink.old sink.old.packets red.sender.now) run (red_state payloader.new buffer.new sink.new sent sender)))) }
+    ensures red_stops { IfSome red.entry (λ red. OnErr result ((sent : List Packet) × (sender : Sender) × StopsInRed (protection_of red) (map sample_of samples.now) 0 steps.now
+        (red_state payloader.old buffer.old sink.old sink.old.packets red.sender.now) (red_state payloader.new buffer.new sink.new sent sender))) }
 {
     match &mut red {
         None => run_plain(alloc, payloader, buffer, sink, samples, steps),

@@ -25,7 +25,7 @@ same_primary : (s : Sender) (es : List Entry) → (sender_after s es).primary_pt
 same_primary s [] = refl
 same_primary s (e ∷ es) = same_primary (recorded s e.bytes e.time) es
 
-same_distances : (s : Sender) (es : List Entry) → (sender_after s es).distances ≡ s.distances
+pub same_distances : (s : Sender) (es : List Entry) → (sender_after s es).distances ≡ s.distances
 same_distances s [] = refl
 same_distances s (e ∷ es) = same_distances (recorded s e.bytes e.time) es
 
@@ -410,10 +410,10 @@ module _ (s : Sender) (r : Receiver) (budget first time : ℕ) (sent : List Entr
       same_distance k e b d here one_of h is_kept = refl
 
 -- what goes out is read again as what was wrapped
-output_reads : (s : Sender) (payload : List ℕ) (time budget : ℕ) → is_accepted s.distances ≡ true → length payload < budget → red_at (output s payload time budget) ≡ Some (wrapped s payload time budget)
+pub output_reads : (s : Sender) (payload : List ℕ) (time budget : ℕ) → is_accepted s.distances ≡ true → length payload < budget → red_at (output s payload time budget) ≡ Some (wrapped s payload time budget)
 output_reads s payload time budget ok room = reads_spelled (output s payload time budget) (wrapped s payload time budget) (output_is_red s payload time budget (output s payload time budget) ok refl room)
 
-fits_at : (budget : ℕ) (sent : List Entry) (k : ℕ) (e : Entry) → AllByRecursion (λ e. length e.bytes < budget) sent → slice_get sent k ≡ Some e → length e.bytes < budget
+pub fits_at : (budget : ℕ) (sent : List Entry) (k : ℕ) (e : Entry) → AllByRecursion (λ e. length e.bytes < budget) sent → slice_get sent k ≡ Some e → length e.bytes < budget
 fits_at budget [] k e all here = absurd (cc)
 fits_at budget (x ∷ sent) zero e all here =
     let same : x ≡ e = cc in

@@ -1,5 +1,17 @@
 //! Runs with RED: samples are sent in RED, and a push pushes what a receiver finds in a packet (RFC 2198).
 
+ghost use Rattle.std.specs.Prelude.{◌≡◌, ◌≢◌, ◌++◌, ◌⊎◌, List, map, length, IfOk, IfErr, OnOk, OnErr, Option, Result};
+ghost use Rattle.codec_payload_base.specs.declared.error.PacketError.TheVariants.{OutOfMemory};
+ghost use Rattle.codec_payload_buffer.specs.Held.{Held};
+ghost use Rattle.codec_payload_buffer.specs.Steps.{State, IsArrived, pushed};
+ghost use Rattle.codec_payload_core.specs.Packets.{Packet, packet_of};
+ghost use Rattle.codec_payload_core.specs.RedPromises.{KeepsRedPromises, ran_in_red};
+ghost use Rattle.codec_payload_core.specs.RedSchedule.{red_state, meta_of_recovered, PushesAll, RedPushes, StopsAmong, StopsPushing, SendsInRed, DoesRedStep, StopsSendingInRed, StopsAtInRed, StopsInRed};
+ghost use Rattle.codec_payload_core.specs.Schedule.{Answer, run_state, SendsIt};
+ghost use Rattle.codec_payload_core.specs.Sending.{sample_of};
+ghost use Rattle.codec_payload_core.specs.declared.schedule.Sent.{Sent as Entry};
+ghost use Rattle.codec_payload_red.specs.RedRecovery.{packet_of as recovered_of};
+
 use crate::buffer::{DepacketizingBuffer, RtpMeta};
 use crate::codec::{Depacketizer, Packetizer};
 use crate::error::PacketError;
@@ -18,7 +30,13 @@ fn push_recovered<D: Depacketizer>(
     recovered: &Recovered<'_>,
     pt: u8,
     place: usize,
-) -> Result<(), PacketError> {
+) -> Result<(), PacketError>
+    ensures ok { OnOk result ((held : Held) × IsArrived buffer.old.depack (meta_of_recovered place clock_rate pt (packet_of packet.now) (recovered_of recovered.now)) recovered.now.payload.now held
+        × (buffer.new ≡ pushed buffer.old held)) }
+    ensures limit { buffer.new.limit ≡ buffer.old.limit }
+    ensures fault { IfErr result (λ fault. fault ≡ OutOfMemory) }
+    ensures err { OnErr result (buffer.new ≡ buffer.old) }
+{
     let payload = Vec::from_slice(alloc, recovered.payload)?;
     let ext_vals = if recovered.is_primary {
         packet.ext_vals
@@ -51,7 +69,12 @@ fn push_all_recovered<D: Depacketizer>(
     recovered: &[Recovered<'_>],
     pt: u8,
     place: usize,
-) -> Result<(), PacketError> {
+) -> Result<(), PacketError>
+    ensures ok { OnOk result (PushesAll place clock_rate pt (packet_of packet.now) (map recovered_of recovered.now) buffer.old buffer.new) }
+    ensures limit { buffer.new.limit ≡ buffer.old.limit }
+    ensures fault { IfErr result (λ fault. fault ≡ OutOfMemory) }
+    ensures err { OnErr result (StopsAmong place clock_rate pt (packet_of packet.now) (map recovered_of recovered.now) buffer.old buffer.new) }
+{
     let Some((first, others)) = recovered.split_first() else {
         return Ok(());
     };
@@ -67,7 +90,12 @@ fn red_push_step<D: Depacketizer>(
     packet: &OutgoingPacket,
     receiver: &RedReceiver,
     place: usize,
-) -> Result<(), PacketError> {
+) -> Result<(), PacketError>
+    ensures ok { OnOk result (RedPushes place clock_rate receiver.now (Option.Some (packet_of packet.now)) buffer.old buffer.new) }
+    ensures limit { buffer.new.limit ≡ buffer.old.limit }
+    ensures fault { IfErr result (λ fault. fault ≡ OutOfMemory) }
+    ensures err { OnErr result (StopsPushing place clock_rate receiver.now (packet_of packet.now) buffer.old buffer.new) }
+{
     match receiver.recover(alloc, packet.seq_no, packet.rtp_time, &packet.payload) {
         Ok(recovered) => {
             let pt = receiver.primary_pt();
@@ -88,7 +116,16 @@ fn red_send_step<P: Packetizer>(
     sample: &ToPayload,
     mtu: usize,
     place: usize,
-) -> Result<Sent, PacketError> {
+) -> Result<Sent, PacketError>
+    ensures ok { IfOk result (λ entry. (buffer : State) → (sent : List Packet) → length sent ≡ length sink.old.packets
+        → (now : List Packet) × (length now ≡ length sink.new.packets)
+        × SendsIt place mtu (sample_of sample.now) (run_state payloader.old buffer (record sink.old { packets = sent })) entry (run_state payloader.new buffer (record sink.new { packets = now }))
+        × SendsInRed budget (red_state payloader.old buffer sink.old sent red.old) (red_state payloader.new buffer sink.new now red.new)) }
+    ensures fault { IfErr result (λ fault. fault ≡ OutOfMemory) }
+    ensures err { OnErr result ((buffer : State) → (sent : List Packet) → length sent ≡ length sink.old.packets
+        → (now : List Packet) × (length now ≡ length sink.new.packets)
+        × StopsSendingInRed budget mtu (sample_of sample.now) (red_state payloader.old buffer sink.old sent red.old) (red_state payloader.new buffer sink.new now red.new)) }
+{
     let first = sink.packets().len();
     let mut in_red = RedSink::new(sink, red, budget);
     let answer = payloader.push_sample(alloc, sample, mtu, &mut in_red);
@@ -121,7 +158,19 @@ fn do_red_step<P: Packetizer, D: Depacketizer>(
     place: usize,
     step: Step,
     run: &mut Run,
-) -> Result<(), PacketError> {
+) -> Result<(), PacketError>
+    ensures ok { OnOk result ((sent : List Packet) → length sent ≡ length sink.old.packets
+        → (now : List Packet) × (sends : List Entry) × (pops : List Answer) × (length now ≡ length sink.new.packets)
+        × (run.new.sends.items ≡ run.old.sends.items ++ sends) × (run.new.pops.items ≡ run.old.pops.items ++ pops)
+        × DoesRedStep (record { budget = budget; receiver = receiver.now }) (map sample_of samples.now) place step
+        (red_state payloader.old buffer.old sink.old sent red.old) sends pops (red_state payloader.new buffer.new sink.new now red.new)) }
+    ensures limit { buffer.new.limit ≡ buffer.old.limit }
+    ensures fault { IfErr result (λ fault. fault ≡ OutOfMemory) }
+    ensures err { OnErr result ((sent : List Packet) → length sent ≡ length sink.old.packets
+        → (now : List Packet) × (length now ≡ length sink.new.packets)
+        × StopsAtInRed (record { budget = budget; receiver = receiver.now }) (map sample_of samples.now) place step
+        (red_state payloader.old buffer.old sink.old sent red.old) (red_state payloader.new buffer.new sink.new now red.new)) }
+{
     let alloc = *run.sends.allocator();
     match step {
         Step::Send { sample, mtu } => {
@@ -166,7 +215,14 @@ pub(crate) fn run_in_red<P: Packetizer, D: Depacketizer>(
     receiver: &RedReceiver,
     samples: &[ToPayload],
     steps: &[Step],
-) -> Result<Run, PacketError> {
+) -> Result<Run, PacketError>
+    ensures promises { IfOk result (λ run. (sent : List Packet) × KeepsRedPromises (ran_in_red (record { budget = budget; receiver = receiver.now }) samples.now steps.now
+        (red_state payloader.old buffer.old sink.old sink.old.packets red.old) run (red_state payloader.new buffer.new sink.new sent red.new))) }
+    ensures limit { buffer.new.limit ≡ buffer.old.limit }
+    ensures fault { IfErr result (λ fault. fault ≡ OutOfMemory) }
+    ensures stops { OnErr result ((sent : List Packet) × StopsInRed (record { budget = budget; receiver = receiver.now }) (map sample_of samples.now) 0 steps.now
+        (red_state payloader.old buffer.old sink.old sink.old.packets red.old) (red_state payloader.new buffer.new sink.new sent red.new)) }
+{
     let mut run = Run {
         sends: Vec::new(alloc),
         pops: Vec::new(alloc),
