@@ -2,3 +2,4 @@ pub mod Fields
 pub mod HexField
 pub mod Line
 pub mod Program
+pub mod RedFields

@@ -8,6 +8,7 @@ ghost use Rattle.payload_vectors.specs.Fields.{AreSetup, IsLimitField};
 
 use crate::digits::hex_field;
 use crate::fields::{codec_named, count, decimal, has_vp8_ids, is_octet_aligned, truth, vp9_mode};
+use crate::red_line::RedSetup;
 use codec_payload_core::codec::Vp9PacketizerMode;
 use codec_payload_core::schedule::Step;
 use codec_payload_core::wire::{Codec, Frequency};
@@ -104,6 +105,7 @@ impl Limit {
 pub enum Line {
     Codec(Setup),
     Limit(Limit),
+    Red(RedSetup),
     Sample {
         time: u64,
         talk_spurt: bool,
@@ -114,7 +116,7 @@ pub enum Line {
 
 impl Line {
     ghost use Rattle.codec_payload_core.specs.declared.schedule.Step.TheVariants.{Pop};
-    ghost use Rattle.payload_vectors.specs.Line.{HasForm, IsCodec, IsLimit, IsPush, IsSample, IsSend, Says, fields_of};
+    ghost use Rattle.payload_vectors.specs.Line.{HasForm, IsCodec, IsLimit, IsPush, IsRed, IsSample, IsSend, Says, fields_of};
     ghost use Rattle.payload_vectors.specs.declared.line.Line.TheVariants as lines;
 
     /// The line that a text spells, whose fields have one space between them. `Ok(None)` for any other text.
@@ -138,6 +140,8 @@ impl Line {
         ensures sample { (time talk_spurt hex : List ℕ)
             → map (λ field. field.now) fields.now ≡ codes "sample" ∷ time ∷ talk_spurt ∷ hex ∷ []
             → IfOk result (IsSample time talk_spurt hex) }
+        ensures red { (step budget distances : List ℕ) → map (λ field. field.now) fields.now ≡ codes "red" ∷ step ∷ budget ∷ distances ∷ []
+            → IfOk result (IsRed step budget distances) }
         ensures codec { (name rate hold_back number id : List ℕ)
             → map (λ field. field.now) fields.now ≡ codes "codec" ∷ name ∷ rate ∷ hold_back ∷ number ∷ id ∷ []
             → IfOk result (IsCodec name rate hold_back number id) }
@@ -148,6 +152,7 @@ impl Line {
             ["codec", name, rate, hold_back, number, id] => {
                 Ok(Setup::from_fields(name, rate, hold_back, number, id).map(Line::Codec))
             }
+            ["red", step, budget, distances] => Line::red(alloc, step, budget, distances),
             ["send", sample, mtu] => Ok(Line::send(sample, mtu)),
             ["push", packet] => Ok(count(packet).map(|k| Line::Step(Step::Push(k)))),
             ["limit", packets] => Ok(Limit::from_field(packets).map(Line::Limit)),
@@ -175,6 +180,17 @@ impl Line {
             talk_spurt,
             bytes,
         }))
+    }
+
+    fn red(
+        alloc: Global,
+        step: &str,
+        budget: &str,
+        distances: &str,
+    ) -> Result<Option<Line>, AllocError>
+        ensures { IfOk result (IsRed step.now budget.now distances.now) }
+    {
+        Ok(RedSetup::from_fields(alloc, step, budget, distances)?.map(Line::Red))
     }
 
     fn send(sample: &str, mtu: &str) -> Option<Line>

@@ -6,6 +6,7 @@ mod digits;
 mod fields;
 mod line;
 mod print;
+mod red_line;
 mod run;
 mod script;
 #[cfg(test)]

@@ -8,13 +8,16 @@ ghost use Rattle.payload_vectors.specs.declared.run.ProgramFault.TheVariants.{Ba
 
 use crate::line::{Limit, Setup};
 use crate::print::printed;
-use crate::script::Script;
+use crate::red_line::RedSetup;
+use crate::script::{PAYLOAD_TYPE, Script};
 use codec_payload_core::buffer::DepacketizingBuffer;
 use codec_payload_core::codec::{CodecDepacketizer, CodecPacketizer};
+use codec_payload_core::error::PacketError;
 use codec_payload_core::payload::{MemorySink, Payloader};
-use codec_payload_core::schedule::run_schedule;
+use codec_payload_core::red::{RedReceiver, RedSender};
+use codec_payload_core::schedule::{RedRun, Run, run_schedule};
 use codec_payload_core::vp8::Vp8Packetizer;
-use codec_payload_core::wire::CodecSpec;
+use codec_payload_core::wire::{CodecSpec, Pt};
 use std::alloc::{AllocError, AllocFailed, Global};
 use std::io;
 use std::io::{ErrorKind, Read, Write};
@@ -22,6 +25,9 @@ use thiserror::Error;
 
 /// The greatest length of the input, in bytes.
 const INPUT_LIMIT: usize = 1_048_576;
+
+/// The payload type of packets in RED.
+const RED_PAYLOAD_TYPE: u8 = 63;
 
 /// Why the program gives up. Each text is one line.
 #[derive(Debug, PartialEq, Eq, Drop, Error)]
@@ -168,24 +174,67 @@ fn buffer(alloc: Global, setup: &Setup, limit: Limit) -> DepacketizingBuffer
     DepacketizingBuffer::with_limit(alloc, depack, setup.hold_back, limit.packets)
 }
 
+/// A sender in RED that has sent nothing.
+fn red_sender(alloc: Global, red: &RedSetup) -> RedSender
+    ensures { result ≡ record { red_pt = 63; primary_pt = 96; distances = red.now.distances.items; history = [] } }
+{
+    RedSender::new(
+        alloc,
+        Pt::new_with_value(RED_PAYLOAD_TYPE),
+        Pt::new_with_value(PAYLOAD_TYPE),
+        &red.distances,
+    )
+}
+
+/// The receiver of what that sender sends.
+fn red_receiver(red: &RedSetup) -> RedReceiver
+    ensures { result ≡ record { primary_pt = 96; step = red.now.step } }
+{
+    RedReceiver::new(PAYLOAD_TYPE, red.step).unwrap()
+}
+
+/// Does the script's steps.
+fn run_of(alloc: Global, script: &Script, sink: &mut MemorySink) -> Result<Run, PacketError> {
+    let setup = script.setup;
+    let mut payloader = payloader(&setup);
+    let mut buffer = buffer(alloc, &setup, script.limit);
+    let samples = script.samples.as_slice();
+    let steps = script.steps.as_slice();
+    let Some(red) = &script.red else {
+        return run_schedule(
+            alloc,
+            &mut payloader,
+            &mut buffer,
+            sink,
+            samples,
+            steps,
+            None,
+        );
+    };
+    let mut sender = red_sender(alloc, red);
+    let receiver = red_receiver(red);
+    let red = RedRun {
+        sender: &mut sender,
+        budget: red.budget,
+        receiver: &receiver,
+    };
+    run_schedule(
+        alloc,
+        &mut payloader,
+        &mut buffer,
+        sink,
+        samples,
+        steps,
+        Some(red),
+    )
+}
+
 /// What the script's run prints.
 fn output_of(alloc: Global, script: &Script) -> Result<String, ProgramFault>
     ensures { IfErr result (λ fault. fault ≡ OutOfMemory) }
 {
-    let setup = script.setup;
-    let mut payloader = payloader(&setup);
-    let mut buffer = buffer(alloc, &setup, script.limit);
-    let mut sink = MemorySink::new(alloc, setup.first_number);
-    let run = run_schedule(
-        alloc,
-        &mut payloader,
-        &mut buffer,
-        &mut sink,
-        &script.samples,
-        &script.steps,
-        None,
-    );
-    let Ok(run) = run else {
+    let mut sink = MemorySink::new(alloc, script.setup.first_number);
+    let Ok(run) = run_of(alloc, script, &mut sink) else {
         return Err(ProgramFault::OutOfMemory);
     };
     Ok(printed(alloc, &run, sink.packets())?)

@@ -4,37 +4,42 @@ ghost use Rattle.std.specs.Prelude.{◌≡◌, IfErr};
 ghost use Rattle.payload_vectors.specs.Program.{IsLineFault};
 
 use crate::line::{Limit, Line, Setup};
+use crate::red_line::RedSetup;
 use crate::run::ProgramFault;
 use codec_payload_core::schedule::Step;
 use codec_payload_core::wire::{ExtensionValues, MediaTime, Pt, Ticks, ToPayload};
 use std::alloc::{AllocError, Global};
 
 /// The payload type of the samples.
-const PAYLOAD_TYPE: u8 = 96;
+pub const PAYLOAD_TYPE: u8 = 96;
 
 /// What the lines of an input say.
 #[derive(Drop)]
 pub struct Script {
     pub setup: Setup,
     pub limit: Limit,
+    /// How it is sent in RED, if it is.
+    pub red: Option<RedSetup>,
     pub samples: Vec<ToPayload>,
     pub steps: Vec<Step>,
 }
 
 impl Script {
     /// The script whose lines are all of `input`. The first line sets up the run, and no other does; at most one of the
-    /// others sets the limit of the buffer.
+    /// others sets the limit of the buffer, and at most one has it run in RED.
     pub fn read(alloc: Global, input: &[u8]) -> Result<Script, ProgramFault>
         ensures { IfErr result IsLineFault }
     {
         let mut setup = None;
         let mut limit = None;
+        let mut red = None;
         let mut samples = Vec::new(alloc);
         let mut steps = Vec::new(alloc);
         for (index, bytes) in input.split_inclusive(|byte| *byte == b'\n').enumerate() {
             match (parse_line(alloc, bytes)?, setup, limit) {
                 (Some(Line::Codec(read)), None, _) => setup = Some(read),
                 (Some(Line::Limit(read)), Some(_), None) => limit = Some(read),
+                (Some(Line::Red(read)), Some(_), _) if red.is_none() => red = Some(read),
                 (
                     Some(
                         Line::Sample {
@@ -56,6 +61,7 @@ impl Script {
         Ok(Script {
             setup,
             limit: limit.unwrap_or(Limit::DEFAULT),
+            red,
             samples,
             steps,
         })

@@ -357,6 +357,77 @@ fn limit_of_the_buffer(rt: HostRuntime) -> Result<(), Fail> {
     Ok(())
 }
 
+/// The second of three packets repeats the first, which is lost.
+#[test]
+fn program_red_run(rt: HostRuntime) -> Result<(), Fail> {
+    let input =
+        "codec opus 48000 0 10 0\nred 960 1200 1\nsample 960 0 0102\nsample 1920 0 0304\nsample 2880 0 05\nsend 0 1200\nsend 1 1200\nsend 2 1200\npush 1\npush 2\npop\npop\npop\npop\n";
+    let printed = output_for(rt.alloc(), input)?;
+    assert_eq!(rt;
+        printed.as_str(),
+        "sent 1\npacket 10 0 600102\nsent 1\npacket 11 0 e00f00026001020304\nsent 1\npacket 12 0 e00f000260030405\nunit 10 10 1 0102\nunit 11 11 1 0304\nunit 12 12 1 05\nnone\n"
+    );
+    Ok(())
+}
+
+/// Two packets of three and two bytes, 960 ticks apart, of which the second comes: with the first in it, it has 10 bytes. The
+/// number of the first is told by the step.
+#[test]
+fn red_as_it_is_set(rt: HostRuntime) -> Result<(), Fail> {
+    let alloc = rt.alloc();
+    let steps =
+        "sample 0 0 010203\nsample 960 0 0405\nsend 0 1200\nsend 1 1200\npush 1\npop\npop\n";
+    for (line, units) in [
+        ("red 960 10 1", "unit 7 7 1 010203\nunit 8 8 1 0405\n"),
+        ("red 960 9 1", "unit 8 8 1 0405\nnone\n"),
+        ("red 960 1200 -", "unit 8 8 1 0405\nnone\n"),
+        ("red 480 1200 1", "unit 6 6 1 010203\nunit 8 8 0 0405\n"),
+        ("red 961 1200 1", "unit 8 8 1 0405\nnone\n"),
+        ("red 960 1200 2", "unit 8 8 1 0405\nnone\n"),
+        (
+            "red 00960 1200 1,3,8",
+            "unit 7 7 1 010203\nunit 8 8 1 0405\n",
+        ),
+    ] {
+        let input = format!(in alloc; "codec opus 48000 0 7 0\n{steps}{line}\n")?;
+        let printed = output_for(alloc, &input)?;
+        assert!(rt; printed.as_str().ends_with(units), "for {line}: {printed}");
+    }
+    Ok(())
+}
+
+#[test]
+fn red_out_of_range(rt: HostRuntime) -> Result<(), Fail> {
+    for line in [
+        "red 0 1200 1",
+        "red 16384 1200 1",
+        "red -1 1200 1",
+        "red 960 1200 0",
+        "red 960 1200 9",
+        "red 960 1200 2,1",
+        "red 960 1200 1,1",
+        "red 960 1200 1,",
+        "red 960 1200 ,1",
+        "red 960 1200 ",
+        "red 960 1200 -,1",
+        "red 960 1200 4294967297",
+        "red 960 1200",
+        "red 960 x 1",
+        "red 960 1200 1\nred 960 1200 1",
+    ] {
+        let input = format!(in rt.alloc(); "{SETUP}{line}\n")?;
+        let mut output = Vec::new(rt.alloc());
+        let answer = run_lines(rt.alloc(), &mut input.as_bytes(), &mut output);
+        let number = if line.contains('\n') { 3 } else { 2 };
+        assert_eq!(rt; answer, Err(ProgramFault::BadLine(number)), "{line}");
+    }
+    let mut output = Vec::new(rt.alloc());
+    let first = "red 960 1200 1\ncodec opus 48000 0 10 0\n";
+    let answer = run_lines(rt.alloc(), &mut first.as_bytes(), &mut output);
+    assert_eq!(rt; answer, Err(ProgramFault::BadLine(1)));
+    Ok(())
+}
+
 #[test]
 fn a_byte_that_is_no_text(rt: HostRuntime) -> Result<(), Fail> {
     let alloc = rt.alloc();
