@@ -25,8 +25,6 @@ use crate::wire::{CodecSpec, Frequency, MediaTime, RtpHeader, Ticks, ToPayload};
 use std::alloc::Global;
 
 mod red_run;
-#[cfg(test)]
-mod tests;
 
 /// One step of a run.
 #[derive(Clone, Copy, Debug, PartialEq, Eq)]

@@ -9,7 +9,9 @@ use codec_payload_core::codec::{CodecDepacketizer, Vp9PacketizerMode};
 use codec_payload_core::payload::{MemorySink, Payloader};
 use codec_payload_core::red::{RedReceiver, RedSender};
 use codec_payload_core::schedule::{RedRun, Run, Step, run_schedule};
-use codec_payload_core::wire::{Codec, CodecSpec, ExtensionValues, Frequency, Pt, Ticks, ToPayload};
+use codec_payload_core::wire::{
+    Codec, CodecSpec, ExtensionValues, Frequency, Pt, Ticks, ToPayload,
+};
 use std::alloc::Global;
 use std::process::Abort;
 use std::test::Fail;
