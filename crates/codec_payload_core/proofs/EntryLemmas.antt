@@ -1,5 +1,5 @@
 -- What the entries of a run tell of its sink, and that its premises can be met.
-use Rattle.std.proofs.Common.{◌≡◌, ◌≢◌, ◌∙◌, refl, sym, ap, ℕ, zero, suc, subst, List, [], Option, Some, None, ◌++◌, ◌+◌, ◌∷◌, ◌<◌, ◌≤◌, inl, inr, arith, length}
+use Rattle.std.proofs.Common.{◌≡◌, ◌≢◌, ◌∙◌, refl, sym, ap, ℕ, zero, suc, subst, List, [], Option, Some, None, ◌+◌, ◌∷◌, ◌<◌, ◌≤◌, inl, inr, arith, length}
 use Rattle.std.specs.Prelude.{slice_get, MatchOption}
 use Rattle.std.proofs.lemmas.List.{length-append}
 use Rattle.codec_payload_buffer.proofs.MemberLemmas.{IsIn, in_append}

@@ -1,10 +1,9 @@
 -- Where everything was pushed before the first pop, the pops answer each unit in turn, whole, and then None for ever.
-use Rattle.std.proofs.Common.{◌≡◌, ◌≢◌, ◌∙◌, refl, sym, ap, ℕ, suc, ◌^◌, subst, List, [], Option, Some, None, Result, Ok, Err, Bool, true, false, ◌++◌, ◌+◌, ◌∷◌, ◌<◌, ◌≤◌, inl, inr, arith, length, ◌||◌}
-use Rattle.std.specs.Prelude.{slice_get, MatchResult}
+use Rattle.std.proofs.Common.{◌≡◌, ◌≢◌, ◌∙◌, refl, sym, ap, ℕ, suc, ◌^◌, subst, List, [], Option, Some, None, Result, Ok, Err, Bool, true, false, ◌+◌, ◌∷◌, ◌<◌, ◌≤◌, inl, inr, arith, length, ◌||◌}
+use Rattle.std.specs.Prelude.{MatchResult}
 use Rattle.std.proofs.lemmas.Bool.{cases_lt}
 use Rattle.std.proofs.lemmas.Bool.Decides.{nat_tests}
 use Rattle.std.proofs.lemmas.List.{length-append}
-use Rattle.std.proofs.lemmas.Option.{slice_get_within}
 use Rattle.codec_payload_base.specs.Pieces.{joined}
 use Rattle.codec_payload_base.specs.declared.error.PacketError.{PacketError}
 use Rattle.codec_payload_base.specs.declared.error.PacketError.TheVariants as faults
@@ -29,17 +28,13 @@ use Rattle.codec_payload_base.specs.declared.interface.Vp9PacketizerMode.{Vp9Pac
 use Rattle.codec_payload_base.specs.declared.interface.Vp9PacketizerMode.TheVariants.{Flexible, NonFlexible}
 use Rattle.codec_payload_core.specs.ToldIds.{ReadId, Tells, id_in, id_later, next_id, read_by}
 use Rattle.codec_payload_buffer.specs.Release.{Release}
-use Rattle.codec_payload_core.specs.Schedule.{Answer, RunState}
-use Rattle.codec_payload_core.specs.Sending.{Sample}
+use Rattle.codec_payload_core.specs.Schedule.{Answer}
 use Rattle.codec_payload_core.specs.LawfulUnits.{payloads_held, payloads_sent, AllLawful}
 use Rattle.codec_payload_core.specs.SentStream.{SentUnit, packets_of, EndsWithTail, IsReleaseOf}
 use Rattle.codec_payload_buffer.specs.Steps.{State, is_dropped, is_at_most, due_of, due_among, follows, metas_of, packets_of_frame, Unpacked, Unpacks, nothing_unpacked, Gives, Pops, PassesOver, Refuses}
 use Rattle.codec_payload_buffer.specs.declared.buffer.frames.Segment.{Segment}
 use Rattle.codec_payload_buffer.specs.declared.buffer.unit.RtpMeta.{RtpMeta}
 use Rattle.codec_payload_buffer.specs.declared.contiguity.Contiguity.{Contiguity}
-use Rattle.codec_payload_core.specs.declared.schedule.Sent.{Sent}
-use Rattle.codec_payload_core.specs.declared.schedule.Step.{Step}
-use Rattle.codec_payload_core.specs.declared.schedule.Step.TheVariants as steps
 use Rattle.codec_payload_core.specs.Units.{payloads_by}
 
 -- taken whole and in order from there, each unit may go out

@@ -19,7 +19,6 @@ use Rattle.codec_payload_core.specs.SentStream.{SentUnit, EndsWithTail}
 use Rattle.codec_payload_buffer.specs.Steps.{State, due_of, starts_right_after, Pops, Passes, none, one_more, PassesOver, Releases, Refuses}
 use Rattle.codec_payload_buffer.specs.declared.buffer.frames.Segment.{Segment}
 use Rattle.codec_payload_buffer.specs.declared.buffer.unit.RtpMeta.{RtpMeta}
-use Rattle.codec_payload_core.specs.declared.schedule.Step.{Step}
 
 -- no frame is passed over from s: so none in any number of steps
 pub none_passed : (s t : State) (over : List Segment) → ((r : State) → PassesOver s r → ⊥) → Passes s over t → t ≡ s

@@ -1,7 +1,7 @@
 -- What is promised of whole runs with RED, from their logs.
 use Rattle.std.specs.Prelude.{slice_get, option_map}
 use Rattle.std.specs.List.{AllByRecursion}
-use Rattle.std.proofs.Common.{◌≡◌, ◌∙◌, refl, sym, ap, subst, List, [], Option, None, Some, Bool, false, true, ℕ, zero, suc, ◌+◌, ◌==◌, ◌++◌, ◌∷◌, ◌≤◌, ◌<◌, inl, inr, arith, length, map, take}
+use Rattle.std.proofs.Common.{◌≡◌, ◌∙◌, refl, sym, ap, subst, List, [], Option, None, Some, Bool, false, true, ℕ, zero, suc, ◌+◌, ◌==◌, ◌++◌, ◌∷◌, ◌<◌, inl, inr, arith, length, map, take}
 use Rattle.std.proofs.lemmas.Bool.Decides.{nat_tests}
 use Rattle.std.proofs.lemmas.List.{length-map}
 use Rattle.std.proofs.lemmas.Option.{slice_get-map, slice_get_within}
@@ -19,12 +19,12 @@ use Rattle.codec_payload_core.proofs.RunSettings.{may_go, setting, fresh, ready,
 use Rattle.codec_payload_core.proofs.SafetyLemmas.{SendsAll, all_end, number_at, sends_all}
 use Rattle.codec_payload_core.proofs.StreamLemmas.{Streams, streams}
 use Rattle.codec_payload_core.proofs.TakenLemmas.{none_is_passed}
-use Rattle.codec_payload_core.proofs.TurnLemmas.{Setting, Beyond, ArePushes, Chain, IsReady, chain_of, chain_in_order, are_stretches}
+use Rattle.codec_payload_core.proofs.TurnLemmas.{Setting, ArePushes, Chain, IsReady, chain_of, chain_in_order, are_stretches}
 use Rattle.codec_payload_core.proofs.UnitRows.{IsFaithful, held_as}
 use Rattle.codec_payload_buffer.specs.Depack.{Depack, DepackKind, kind_of_depack, is_codec, tail_in}
-use Rattle.codec_payload_buffer.specs.Held.{Held, has_number}
-use Rattle.codec_payload_buffer.specs.Pack.{Pack, G711Pack, G722Pack, OpusPack, ComfortNoisePack, TelePack, Vp8Pack, Vp9Pack, Av1Pack, AmrWbPack, NullPack, BoxedPack, is_built_in}
-use Rattle.codec_payload_buffer.specs.Steps.{State, arrived}
+use Rattle.codec_payload_buffer.specs.Held.{has_number}
+use Rattle.codec_payload_buffer.specs.Pack.{Pack, G711Pack, G722Pack, OpusPack, ComfortNoisePack, TelePack, Vp8Pack, Vp9Pack, Av1Pack, AmrWbPack, NullPack, BoxedPack}
+use Rattle.codec_payload_buffer.specs.Steps.{arrived}
 use Rattle.codec_payload_buffer.specs.Stretches.{after_pushes}
 use Rattle.codec_payload_buffer.specs.declared.buffer.unit.RtpMeta.{RtpMeta}
 use Rattle.codec_payload_core.specs.Exact.{IsPushedFirst, AnswersAll}
@@ -32,25 +32,21 @@ use Rattle.codec_payload_core.specs.Headline.{InOrder}
 use Rattle.codec_payload_core.specs.LawfulUnits.{AllLawful}
 use Rattle.codec_payload_core.specs.Log.{Stretch, Turn, begun, sent_before, packet_named, IsLogBy}
 use Rattle.codec_payload_core.specs.Packets.{Packet}
-use Rattle.codec_payload_core.specs.RedPromises.{RedRan, sent_in, IsRedFresh, IsIn as IsInPacket, IsRedPushOf, WasSent, ReleasesRecovered, IsAllThere, RecoversUnits, recovered_held, pushes_of, RedLog, RunsAsRedSteps, KeepsRedPromises}
+use Rattle.codec_payload_core.specs.RedPromises.{RedRan, sent_in, IsRedFresh, IsIn as IsInPacket, IsRedPushOf, WasSent, ReleasesRecovered, RecoversUnits, recovered_held, pushes_of, RedLog, RunsAsRedSteps, KeepsRedPromises}
 use Rattle.codec_payload_core.specs.RedSchedule.{remembered, all_remembered, all_in_red, meta_of_block, meta_of_recovered, recovered_of, recovered_in}
 use Rattle.codec_payload_core.specs.RunOrder.{AreStretches, AllFollowAsSaid}
 use Rattle.codec_payload_core.specs.RunUnits.{NoneIsLost, NonePassedOver, FirstIsWhole, NoneEvicted, IsPatient, AreNext}
 use Rattle.codec_payload_core.specs.RunValues.{is_video}
-use Rattle.codec_payload_core.specs.Schedule.{Answer, RunState}
-use Rattle.codec_payload_core.specs.Sending.{Sample}
+use Rattle.codec_payload_core.specs.Schedule.{RunState}
 use Rattle.codec_payload_core.specs.SentStream.{SentUnit, packets_of}
 use Rattle.codec_payload_core.specs.ToldIds.{next_id}
 use Rattle.codec_payload_core.specs.Units.{payloads_by, may_split}
-use Rattle.codec_payload_core.specs.declared.schedule.Sent.{Sent}
-use Rattle.codec_payload_core.specs.declared.schedule.Step.{Step}
 use Rattle.codec_payload_core.specs.declared.schedule.Step.TheVariants as steps
 use Rattle.codec_payload_red.proofs.RedRunLemmas.{recovers_sent, output_reads, same_distances}
-use Rattle.codec_payload_red.specs.RedLevels.{Entry, Sender, is_accepted, output, wrapped}
-use Rattle.codec_payload_red.specs.RedPayload.{Red}
+use Rattle.codec_payload_red.specs.RedLevels.{Entry, Sender, is_accepted, wrapped}
 use Rattle.codec_payload_red.specs.RedReading.{red_at}
-use Rattle.codec_payload_red.specs.RedRecovery.{Receiver, RecoveredPacket, recovered}
-use Rattle.codec_payload_red.specs.RedRun.{sender_after, sender_at, IsRecoverable, IsKeptIn, IsPacketAt, IsCarried, AreOfSent}
+use Rattle.codec_payload_red.specs.RedRecovery.{RecoveredPacket, recovered}
+use Rattle.codec_payload_red.specs.RedRun.{sender_after, sender_at, IsCarried, AreOfSent}
 
 -- no codec but those of video asks the marker where a unit ends
 marker_free : (pack : Pack) → is_video pack ≡ false → (a b : Bool) (payload : List ℕ) → tail_in (payloads_by pack) a payload ≡ tail_in (payloads_by pack) b payload

@@ -1,5 +1,5 @@
 -- The premises of a run with RED can be met: three packets are sent, the first is lost, and stands in the second.
-use Rattle.std.proofs.Common.{◌≡◌, ◌≢◌, refl, ℕ, zero, suc, ◌<◌, List, [], ◌∷◌, Some, None, false, inl, inr, arith}
+use Rattle.std.proofs.Common.{◌≢◌, refl, ℕ, zero, suc, ◌<◌, List, [], ◌∷◌, Some, None, false, inl, inr, arith}
 use Rattle.std.specs.Prelude.{slice_get}
 use Rattle.codec_payload_base.specs.Extensions.{no_values}
 use Rattle.codec_payload_buffer.specs.Depack.{OpusDepack}

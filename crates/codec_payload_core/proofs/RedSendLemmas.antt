@@ -1,12 +1,12 @@
 -- What a sample that was sent in RED leaves, as a step of a run.
-use Rattle.std.proofs.Common.{◌≡◌, ◌≢◌, ◌∙◌, sym, ap, refl, subst, ℕ, ◌+◌, ◌-◌, ◌<◌, ◌%◌, ◌^◌, ◌⊎◌, inl, inr, List, [], ◌∷◌, ◌++◌, length, map, arith, append_assoc, length-append, Option, Some, None, Ok, Err}
+use Rattle.std.proofs.Common.{◌≡◌, ◌≢◌, ◌∙◌, sym, ap, refl, subst, ℕ, ◌+◌, ◌-◌, ◌<◌, ◌%◌, ◌^◌, ◌⊎◌, inl, inr, List, [], ◌∷◌, ◌++◌, length, arith, append_assoc, length-append, Option, Some, None, Err}
 use Rattle.std.proofs.lemmas.List.{append-nil, map-append}
 use Rattle.codec_payload_base.specs.declared.error.PacketError.{PacketError}
 use Rattle.codec_payload_base.specs.declared.error.PacketError.TheVariants as faults
-use Rattle.codec_payload_buffer.specs.Pack.{Pack, PackStep, is_built_in}
+use Rattle.codec_payload_buffer.specs.Pack.{PackStep, is_built_in}
 use Rattle.codec_payload_buffer.specs.Steps.{State}
 use Rattle.codec_payload_core.proofs.RedRuns.{after_append, length_in_red}
-use Rattle.codec_payload_core.proofs.ScheduleLemmas.{next_number, kept_packets, Stays, sent_it, refused_it, left_by}
+use Rattle.codec_payload_core.proofs.ScheduleLemmas.{next_number, kept_packets, sent_it, refused_it, left_by}
 use Rattle.codec_payload_core.proofs.SendLemmas.{Keeps}
 use Rattle.codec_payload_core.specs.Packets.{Packet, SentPackets}
 use Rattle.codec_payload_core.specs.RedPackets.{stream_of, sender_of, budget_of, handed_on, Remembers, FindsNoMemory}

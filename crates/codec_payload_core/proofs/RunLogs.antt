@@ -1,6 +1,6 @@
 -- What is promised of whole runs, from their logs.
 use Rattle.std.specs.Prelude.{slice_get}
-use Rattle.std.proofs.Common.{◌≡◌, ◌∙◌, refl, sym, ap, subst, List, [], Option, None, Some, Bool, false, true, ℕ, zero, suc, ◌+◌, ◌++◌, ◌∷◌, ◌≤◌, ◌<◌, inl, arith, length, map, take, drop}
+use Rattle.std.proofs.Common.{◌≡◌, ◌∙◌, refl, sym, ap, subst, List, [], Option, None, Some, false, ℕ, zero, suc, ◌+◌, ◌++◌, ◌∷◌, ◌<◌, inl, arith, length, map, take, drop}
 use Rattle.std.proofs.lemmas.Bool.Decides.{nat_tests}
 use Rattle.std.proofs.lemmas.List.{take-append-drop}
 use Rattle.codec_payload_buffer.proofs.MemberLemmas.{in_contains}

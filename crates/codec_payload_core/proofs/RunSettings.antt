@@ -1,5 +1,5 @@
 -- What a run from unused parts is to the lemmas on its turns.
-use Rattle.std.proofs.Common.{◌≡◌, ◌∙◌, refl, sym, ap, subst, List, [], Option, None, Bool, false, ℕ, suc, ◌++◌, ◌∷◌, ◌≤◌, ◌<◌, ◌^◌, arith, length}
+use Rattle.std.proofs.Common.{◌≡◌, ◌∙◌, refl, sym, ap, subst, List, [], Option, None, Bool, false, ℕ, suc, ◌∷◌, ◌≤◌, ◌<◌, ◌^◌, arith, length}
 use Rattle.codec_payload_core.proofs.BuiltInRuns.{codec_payloads}
 use Rattle.codec_payload_core.proofs.ChainLemmas.{Filling}
 use Rattle.codec_payload_core.proofs.ContiguousLemmas.{IsTracked}

@@ -1,5 +1,5 @@
 -- Whatever is lost, repeated and reordered, units are released in order, each at most once.
-use Rattle.std.proofs.Common.{◌≡◌, ◌≢◌, ℕ, zero, suc, ◌<◌, ◌≤◌, ◌+◌, [], ◌∷◌, ◌++◌, List, length, take, drop, refl, ap, sym, ◌∙◌, subst, arith, Bool, false, cond, Option, Some, None, Result, Ok, Err, add-one, inl, inr, ltb}
+use Rattle.std.proofs.Common.{◌≡◌, ℕ, zero, suc, ◌<◌, ◌≤◌, ◌+◌, [], ◌∷◌, ◌++◌, List, length, take, drop, refl, ap, sym, ◌∙◌, subst, arith, Bool, false, cond, Option, Some, None, Result, Ok, Err, add-one, inl, inr, ltb}
 use Rattle.std.specs.Prelude.{slice_get, MatchResult, MatchOption}
 use Rattle.std.proofs.lemmas.Bool.{cases_lt}
 use Rattle.std.proofs.lemmas.List.{length-append}
@@ -12,19 +12,18 @@ use Rattle.codec_payload_buffer.proofs.PlaceLemmas.{placed_rises, placed_above_c
 use Rattle.codec_payload_buffer.proofs.PopLemmas.{part_due, above_rises, above_is_above}
 use Rattle.codec_payload_buffer.proofs.RowLemmas.{above_all, first_above, part_between, first_le_last, run_first, run_length}
 use Rattle.codec_payload_core.proofs.StreamLemmas.{Streams}
-use Rattle.codec_payload_core.proofs.UnitRows.{IsFaithful, held_as, slice_append, drop_at, drop_next, RowOf, Exact, unit_of_row, exact_length, exact_payloads, exact_metas, exact_starts}
+use Rattle.codec_payload_core.proofs.UnitRows.{IsFaithful, held_as, drop_at, RowOf, Exact, unit_of_row, exact_length, exact_payloads, exact_metas, exact_starts}
 use Rattle.codec_payload_buffer.specs.Depack.{Depack, DepackKind, kind_of_depack}
-use Rattle.codec_payload_core.specs.Headline.{IsPushOf, ArePushesBy, packets_before, IsUnitAt, InOrder, IsUnused, ReleasesInOrder}
+use Rattle.codec_payload_core.specs.Headline.{ArePushesBy, packets_before, IsUnitAt, IsUnused}
 use Rattle.codec_payload_buffer.specs.Held.{Held, Rises, IsAboveCutoff, placed, above, between, has_number}
 use Rattle.codec_payload_core.specs.Packets.{Packet, AreNumbered}
 use Rattle.codec_payload_buffer.specs.Release.{Release}
 use Rattle.codec_payload_core.proofs.BuiltInRuns.{DoesStep, SendsIt, plainly}
-use Rattle.codec_payload_core.specs.Schedule.{Answer, RunState, meta_of_push}
+use Rattle.codec_payload_core.specs.Schedule.{Answer, RunState}
 use Rattle.codec_payload_core.specs.Sending.{Sample}
 use Rattle.codec_payload_core.specs.LawfulUnits.{StartsWithHead, IsLawful, AllLawful}
-use Rattle.codec_payload_core.specs.SentStream.{AreReadable, SentUnit, packets_of, AllEndWithTail, IsReleaseOf}
-use Rattle.codec_payload_buffer.specs.Steps.{State, arrived, pushed, kept_to_limit, without_lowest, is_dropped, is_at_most, without, metas_of, due_of, packets_of_frame, Unpacked, Unpacks, nothing_unpacked, Gives, Passes, none, one_more, PassesOver, Releases, Refuses, Pops}
-use Rattle.codec_payload_core.specs.Units.{payloads_by, may_split}
+use Rattle.codec_payload_core.specs.SentStream.{SentUnit, packets_of, AllEndWithTail, IsReleaseOf}
+use Rattle.codec_payload_buffer.specs.Steps.{State, pushed, kept_to_limit, without_lowest, is_dropped, is_at_most, without, metas_of, due_of, packets_of_frame, Unpacked, Unpacks, nothing_unpacked, Gives, Passes, none, one_more, PassesOver, Releases, Refuses}
 use Rattle.codec_payload_buffer.specs.declared.buffer.frames.Segment.{Segment}
 use Rattle.codec_payload_buffer.specs.declared.buffer.unit.RtpMeta.{RtpMeta}
 use Rattle.codec_payload_buffer.specs.declared.contiguity.Contiguity.{Contiguity}

@@ -17,7 +17,7 @@ use Rattle.codec_payload_core.proofs.TurnLemmas.{Setting, IsPush, ArePushes}
 use Rattle.codec_payload_core.proofs.UnitRows.{Exact, held_as, drop_next}
 use Rattle.codec_payload_core.proofs.UnitTimes.{HasTime, AllOneTime}
 use Rattle.codec_payload_buffer.specs.Frames.{frames, frames_after, frame_at, ended_at, lowest_head, row_before, leads_to, start_or_here}
-use Rattle.codec_payload_core.specs.Headline.{IsPushOf, packets_before}
+use Rattle.codec_payload_core.specs.Headline.{packets_before}
 use Rattle.codec_payload_buffer.specs.Held.{Held, number_of, has_number, Rises, above}
 use Rattle.codec_payload_core.specs.Packets.{Packet, AreNumbered}
 use Rattle.codec_payload_core.specs.RunUnits.{IsHeldWhole}

@@ -1,9 +1,9 @@
-use Rattle.std.proofs.Common.{rules, ◌≡◌, ◌∙◌, ap, subst, refl, [], ◌∷◌, ◌++◌, map}
+use Rattle.std.proofs.Common.{rules, ◌≡◌, ◌∙◌, ap, subst, [], ◌∷◌, map}
 use Rattle.codec_payload_buffer.specs.Steps.{State}
 use Rattle.codec_payload_core.proofs.ScheduleLemmas.{from_err, on_err}
 use Rattle.codec_payload_core.specs.Packets.{packet_of}
 use Rattle.codec_payload_core.specs.RedSchedule.{PushesAll}
-use Rattle.codec_payload_red.specs.RedRecovery.{RecoveredPacket, packet_of as recovered_of}
+use Rattle.codec_payload_red.specs.RedRecovery.{packet_of as recovered_of}
 use Rattle.codec_payload_core.proofs.schedule.red_run.+push_all_recovered.Goals as goal
 
 pub returns-in_err-push_recovered-clause-err : goal.returns-in_err-push_recovered-clause-err

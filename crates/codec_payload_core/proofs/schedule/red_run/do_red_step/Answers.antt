@@ -1,12 +1,11 @@
-use Rattle.std.proofs.Common.{rules, subst, ◌≡◌, ◌∙◌, sym, ap, refl, ℕ, List, [], ◌∷◌, length, option_map, Some, None, inl, inr}
+use Rattle.std.proofs.Common.{rules, subst, ◌∙◌, sym, ap, refl, ℕ, [], ◌∷◌, length, option_map, Some, inl, inr}
 use Rattle.std.specs.Prelude.{slice_get}
 use Rattle.std.proofs.lemmas.List.{append-nil}
 use Rattle.std.proofs.lemmas.Option.{slice_get-map, slice_get_past, slice_get_read}
-use Rattle.codec_payload_buffer.specs.Steps.{State}
 use Rattle.codec_payload_core.proofs.RedSendLemmas.{sends_nothing}
 use Rattle.codec_payload_core.proofs.ScheduleLemmas.{from_err, on_err, on_ok}
-use Rattle.codec_payload_core.specs.Packets.{Packet, packet_of}
-use Rattle.codec_payload_core.specs.RedSchedule.{RedState, red_state, RedPushes, StopsPushing}
+use Rattle.codec_payload_core.specs.Packets.{packet_of}
+use Rattle.codec_payload_core.specs.RedSchedule.{red_state, RedPushes, StopsPushing}
 use Rattle.codec_payload_core.specs.Sending.{sample_of}
 use Rattle.codec_payload_core.proofs.schedule.red_run.do_red_step.Goals as goal
 

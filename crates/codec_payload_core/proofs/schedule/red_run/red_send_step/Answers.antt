@@ -1,4 +1,4 @@
-use Rattle.std.proofs.Common.{rules, arith, ◌≡◌, ◌≢◌, ◌∙◌, ap, sym, subst, length, refl, Some, None, ℕ, ◌<◌, ◌^◌}
+use Rattle.std.proofs.Common.{rules, ◌≡◌, ◌≢◌, ◌∙◌, ap, sym, subst, length, refl, Some, None, ◌<◌, ◌^◌}
 use Rattle.std.proofs.lemmas.List.{length-map}
 use Rattle.codec_payload_base.specs.declared.error.PacketError.TheVariants.{OutOfMemory}
 use Rattle.codec_payload_core.specs.Packets.{SentPackets}

@@ -1,10 +1,9 @@
-use Rattle.std.proofs.Common.{rules, ◌<◌, ◌≤◌, ◌∙◌, [], ◌++◌, map, length, refl, append_assoc, inl, inr}
+use Rattle.std.proofs.Common.{rules, ◌<◌, ◌≤◌, ◌∙◌, [], ◌++◌, length, refl, append_assoc, inl, inr}
 use Rattle.std.proofs.lemmas.List.{append-nil, drop_all, drop_more}
 use Rattle.codec_payload_core.proofs.RedLogs.{red_promises}
 use Rattle.codec_payload_core.proofs.ScheduleLemmas.{on_err}
 use Rattle.codec_payload_core.specs.RedPromises.{RunsAsRedSteps, ran_in_red}
 use Rattle.codec_payload_core.specs.RedSchedule.{red_state}
-use Rattle.codec_payload_core.specs.Sending.{sample_of}
 use Rattle.codec_payload_core.specs.declared.schedule.Step.TheVariants as steps
 use Rattle.codec_payload_core.proofs.schedule.red_run.run_in_red.Goals as goal
 
