@@ -69,6 +69,7 @@ pub fn joined_number(front: &[u8], back: &[u8]) -> Option<(u64, usize)>
 }
 
 /// Writes a number at the end, in as few bytes as it takes.
+#[inline(always)]
 #[tactic(auto, using(crate::proofs::Av1FrontKept::kept_more, crate::proofs::Av1FrontKept::kept_same))]
 pub fn put_number(out: &mut Vec<u8>, number: u64) -> Result<(), AllocError>
     ensures written { OnOk result (out.new.items ≡ out.old.items ++ leb number) }

@@ -160,6 +160,7 @@ pub fn put_front(
 }
 
 /// Writes the canonical form of an OBU at the end.
+#[inline(always)]
 #[tactic(auto, using(crate::proofs::Av1FrontKept::kept_more, crate::proofs::Av1FrontKept::kept_trans), unfolding(crate::specs::Av1Obu::canonical))]
 pub fn put_canonical(out: &mut Vec<u8>, obu: &ObuSlices<'_>) -> Result<(), AllocError>
     ensures written { OnOk result (out.new.items ≡ out.old.items ++ canonical (view obu.now)) }

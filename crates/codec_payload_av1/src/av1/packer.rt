@@ -64,6 +64,7 @@ impl<'a> OpenPayload<'a> {
     }
 
     /// Adds an element for which there is room.
+    #[inline(always)]
     fn add(&mut self, element: &Piece<'a>) -> Result<(), AllocError>
         requires { packet_size leb_len (lengths self.old.elements ++ length (piece_bytes element.now) ∷ []) ≤ self.old.mtu }
         ensures ok { OnOk result (self.new ≡ record self.old { elements = self.old.elements ++ piece_bytes element.now ∷ [] }) }
