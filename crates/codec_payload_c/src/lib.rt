@@ -1,0 +1,12 @@
+//! The library as C calls it. Each call answers a status: `status.rt` has the numbers.
+#![tactic(auto)]
+
+mod buffer;
+mod bytes;
+mod extra;
+mod handle;
+mod loose;
+mod object;
+mod packetizer;
+mod settings;
+mod status;
