@@ -32,6 +32,8 @@ pub record IsNew (spec : Spec) (depack : Option Depack) (hold_back limit : ℕ) 
 abbrev pub IsReceiverOf : Spec → Option Depack → ℕ → ℕ → Object → Type 0
 IsReceiverOf spec depack hold_back limit (objects.Receiver r) = IsNew spec depack hold_back limit r
 IsReceiverOf spec depack hold_back limit (objects.Sender _) = ⊥
+IsReceiverOf spec depack hold_back limit (objects.Assembler _) = ⊥
+IsReceiverOf spec depack hold_back limit (objects.RedSender _) = ⊥
 
 -- what the buffer is told of a packet
 pub record IsToldBy (packet : Received) (rate : ℕ) (meta : RtpMeta) : Type 0 where

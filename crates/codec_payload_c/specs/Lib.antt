@@ -1,7 +1,9 @@
+pub mod Assemblers
 pub mod Buffers
 pub mod Bytes
 pub mod Extras
 pub mod Kinds
 pub mod Owned
+pub mod Reds
 pub mod Senders
 pub mod Settings

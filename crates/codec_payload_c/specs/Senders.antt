@@ -16,7 +16,9 @@ packets_in r = map (λ p. p.items) r.packets.items
 -- a sender with that packetizer and no packets
 abbrev pub IsSenderOf : Option Pack → Object → Type 0
 IsSenderOf pack (objects.Sender s) = (Some (pack_of s.pack) ≡ pack) × (packets_in s ≡ []) × (s.taken ≡ 0)
+IsSenderOf pack (objects.Assembler _) = ⊥
 IsSenderOf pack (objects.Receiver _) = ⊥
+IsSenderOf pack (objects.RedSender _) = ⊥
 
 -- A frame is cut: its packets are there to take, from the first, and those of the frame before are given up. A fault leaves
 -- the packets as they were.

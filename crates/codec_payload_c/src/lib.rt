@@ -3,10 +3,12 @@
 
 mod buffer;
 mod bytes;
+mod depacketizer;
 mod extra;
 mod handle;
 mod loose;
 mod object;
 mod packetizer;
+mod red;
 mod settings;
 mod status;

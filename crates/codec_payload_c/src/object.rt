@@ -1,7 +1,8 @@
 //! What a handle can hold.
 
 use codec_payload_core::buffer::{Depacketized, DepacketizingBuffer};
-use codec_payload_core::codec::CodecPacketizer;
+use codec_payload_core::codec::{CodecDepacketizer, CodecExtra, CodecPacketizer};
+use codec_payload_core::red::RedSender;
 use codec_payload_core::wire::Frequency;
 
 /// A packetizer, and the packets of its latest frame.
@@ -13,6 +14,14 @@ pub struct Sender {
     pub(crate) taken: usize,
     /// Whether the packets are marked as those that start a talk spurt.
     pub(crate) marked: bool,
+}
+
+/// A depacketizer, and what was put together so far.
+#[derive(Drop)]
+pub struct Assembler {
+    pub(crate) depack: CodecDepacketizer,
+    pub(crate) bytes: Vec<u8>,
+    pub(crate) extra: CodecExtra,
 }
 
 /// A buffer, and the unit that it gave and the caller had no room for.
@@ -27,5 +36,7 @@ pub struct Receiver {
 #[derive(Drop)]
 pub enum Object {
     Sender(Sender),
+    Assembler(Assembler),
     Receiver(Receiver),
+    RedSender(RedSender),
 }
