@@ -1,5 +1,5 @@
 -- What payloads told, as C has it.
-use Rattle.std.specs.Prelude.{ℕ, Bool, true, false, List, [], ◌∷◌, Option, Some, None, is_some}
+use Rattle.std.specs.Prelude.{ℕ, true, false, List, [], ◌∷◌, Option, Some, None, is_some}
 use Rattle.codec_payload_core.specs.declared.interface.CodecExtra.{CodecExtra}
 use Rattle.codec_payload_core.specs.declared.interface.CodecExtra.TheVariants as extras
 use Rattle.codec_payload_core.specs.declared.interface.TelephoneEvent.{TelephoneEvent}

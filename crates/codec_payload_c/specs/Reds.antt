@@ -1,5 +1,5 @@
 -- What the calls on a RED sender do.
-use Rattle.std.specs.Prelude.{◌≡◌, ◌≢◌, ◌⊎◌, ℕ, ◌<◌, ◌≤◌, ◌==◌, max, if◌then◌else◌, List, [], ◌++◌, drop, length}
+use Rattle.std.specs.Prelude.{◌≡◌, ◌≢◌, ◌⊎◌, ℕ, ◌<◌, max, if◌then◌else◌, List, [], ◌++◌, drop, length}
 use Rattle.codec_payload_core.specs.RedLevels.{Sender, is_accepted, output, recorded, synced}
 use Rattle.codec_payload_c.specs.declared.object.Object.{Object}
 use Rattle.codec_payload_c.specs.declared.object.Object.TheVariants as objects

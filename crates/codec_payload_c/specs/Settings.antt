@@ -33,7 +33,7 @@ abbrev pub pack_set : Spec → Option Pack
 pack_set s =
     if nat_lt 0 s.rate && nat_lt s.first_id 32768
     then if s.vp8_ids && (s.codec == 9) then Some (Vp8Pack (Some s.first_id))
-        else option_map (configured s.octet_align) (pack_for (mode_set s.vp9_flexible) s.first_id (codec_numbered s.codec))
+    else option_map (configured s.octet_align) (pack_for (mode_set s.vp9_flexible) s.first_id (codec_numbered s.codec))
     else None
 
 -- the depacketizer that is made, if one is

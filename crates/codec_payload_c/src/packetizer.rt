@@ -31,18 +31,18 @@ impl Sender {
         &mut self,
         alloc: Global,
         mtu: usize,
-        starts: bool,
+        starts_talk_spurt: bool,
         frame: &[u8],
         count: &mut usize,
     ) -> u32
-        ensures { CutsFrame self.old mtu starts frame.now result count.new self.new }
+        ensures { CutsFrame self.old mtu starts_talk_spurt frame.now result count.new self.new }
     {
         match self.pack.packetize(alloc, mtu, frame) {
             Ok(packets) => {
                 *count = packets.len();
                 self.packets = packets;
                 self.taken = 0;
-                self.marked = starts && self.pack.marks_talkspurt();
+                self.marked = starts_talk_spurt && self.pack.marks_talkspurt();
                 status::OK
             }
             Err(fault) => u32::from(fault.number()),
@@ -105,18 +105,18 @@ pub extern "C" fn cpl_packetize(
     alloc: Global,
     handle: &mut Handle,
     mtu: usize,
-    starts: bool,
+    starts_talk_spurt: bool,
     frame: &[u8],
     count: &mut usize,
 ) -> u32
-    ensures cuts { OnSender handle.old.place.value (λ r s. CutsFrame r mtu starts frame.now result count.new s) handle.new.place.value }
+    ensures cuts { OnSender handle.old.place.value (λ r s. CutsFrame r mtu starts_talk_spurt frame.now result count.new s) handle.new.place.value }
     ensures refused { Refuses is_sender handle.old.place.value result handle.new.place.value }
 {
     let Some(mut object) = handle.take(alloc) else {
         return status::EMPTY;
     };
     let answer = match &mut *object {
-        Object::Sender(sender) => sender.packetize(alloc, mtu, starts, frame, count),
+        Object::Sender(sender) => sender.packetize(alloc, mtu, starts_talk_spurt, frame, count),
         _ => status::OTHER_KIND,
     };
     handle.put(object);
