@@ -11,7 +11,7 @@ use Rattle.codec_payload_core.specs.declared.buffer.RtpMeta.{RtpMeta}
 use Rattle.codec_payload_core.specs.declared.error.PacketError.{PacketError}
 use Rattle.codec_payload_c.specs.Bytes.{filled}
 use Rattle.codec_payload_c.specs.Extras.{extra_told}
-use Rattle.codec_payload_c.specs.declared.buffer.BufferCounts.{BufferCounts}
+use Rattle.codec_payload_c.specs.declared.buffer.BufferCountsInfo.{BufferCountsInfo}
 use Rattle.codec_payload_c.specs.declared.buffer.Received.{Received}
 use Rattle.codec_payload_c.specs.declared.buffer.Unit.{Unit as CUnit}
 use Rattle.codec_payload_c.specs.declared.object.Object.{Object}
@@ -113,7 +113,7 @@ pub record AnswersPop (r : Receiver) (status : ℕ) (unit_before unit : CUnit) (
   pub rate : s.rate ≡ r.rate
 
 -- how much is held
-pub record Counts (r : Receiver) (counts : BufferCounts) : Type 0 where
+pub record Counts (r : Receiver) (counts : BufferCountsInfo) : Type 0 where
   pub held : counts.held ≡ length r.buffer.held
   pub ready : counts.ready ≡ length (frames r.buffer.held)
   pub limit : counts.limit ≡ r.buffer.limit

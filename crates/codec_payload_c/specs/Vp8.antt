@@ -10,7 +10,7 @@ use Rattle.codec_payload_core.specs.declared.vp8.Vp8PatchError.{Vp8PatchError}
 use Rattle.codec_payload_core.specs.declared.vp8.Vp8PatchError.TheVariants as unpatched
 use Rattle.codec_payload_c.specs.Extras.{or_zero}
 use Rattle.codec_payload_c.specs.Looks.{given_if}
-use Rattle.codec_payload_c.specs.declared.vp8.Vp8Fields.{Vp8Fields}
+use Rattle.codec_payload_c.specs.declared.vp8.Vp8FieldsInfo.{Vp8FieldsInfo}
 
 -- 1 where a byte is missing, 11 where TL0PICIDX has no temporal layer beside it
 abbrev pub descriptor_status : Vp8DescriptorError → ℕ
@@ -26,7 +26,7 @@ patch_status unpatched.KeyIdxMissing = 32
 patch_status unpatched.KeyIdxTooLarge = 37
 
 -- the fields of a descriptor
-abbrev pub fields_told : Descriptor → Vp8Fields
+abbrev pub fields_told : Descriptor → Vp8FieldsInfo
 fields_told d = record {
   picture_id = or_zero (option_map id_value d.picture_id);
   tl0_pic_idx = or_zero d.tl0_pic_idx;
@@ -36,12 +36,12 @@ fields_told d = record {
   has_key_idx = is_some (key_index d);
 }
 
-abbrev pub ReadsTo : Result Descriptor Vp8DescriptorError → List ℕ → ℕ → Vp8Fields → Bool → Type 0
+abbrev pub ReadsTo : Result Descriptor Vp8DescriptorError → List ℕ → ℕ → Vp8FieldsInfo → Bool → Type 0
 ReadsTo (Ok d) payload status fields starts = (status ≡ 0) × (fields ≡ fields_told d) × (starts ≡ is_keyframe payload)
 ReadsTo (Err error) payload status fields starts = status ≡ descriptor_status error
 
 -- the values that are asked for
-abbrev pub builder_of : Descriptor → Vp8Fields → Builder
+abbrev pub builder_of : Descriptor → Vp8FieldsInfo → Builder
 builder_of d v = record {
   descriptor = d;
   picture_id = given_if v.has_picture_id v.picture_id;
@@ -61,6 +61,6 @@ abbrev pub PatchesBy : Builder → Result Patch Vp8PatchError → ℕ → List �
 PatchesBy b (Ok p) status before after = IsPatchedBy b p status before after
 PatchesBy b (Err error) status before after = (status ≡ patch_status error) × (after ≡ before)
 
-abbrev pub PatchesTo : Result Descriptor Vp8DescriptorError → Vp8Fields → ℕ → List ℕ → List ℕ → Type 0
+abbrev pub PatchesTo : Result Descriptor Vp8DescriptorError → Vp8FieldsInfo → ℕ → List ℕ → List ℕ → Type 0
 PatchesTo (Ok d) values status before after = PatchesBy (builder_of d values) (patch_for (builder_of d values)) status before after
 PatchesTo (Err error) values status before after = (status ≡ descriptor_status error) × (after ≡ before)

@@ -60,7 +60,7 @@ pub struct Unit {
 /// How much a buffer holds.
 #[repr(C)]
 #[derive(Drop)]
-pub struct BufferCounts {
+pub struct BufferCountsInfo {
     /// How many packets are held.
     pub held: usize,
     /// How many complete frames are held.
@@ -146,10 +146,10 @@ impl Receiver {
     }
 
     /// How much is held.
-    fn counts(&self) -> BufferCounts
+    fn counts(&self) -> BufferCountsInfo
         ensures { Counts self.now result }
     {
-        BufferCounts {
+        BufferCountsInfo {
             held: self.buffer.held(),
             ready: self.buffer.ready(),
             limit: self.buffer.limit(),
@@ -244,7 +244,7 @@ pub extern "C" fn cpl_buffer_pop(
 pub extern "C" fn cpl_buffer_counts(
     alloc: Global,
     handle: &mut Handle,
-    counts: &mut BufferCounts,
+    counts: &mut BufferCountsInfo,
 ) -> u32
     ensures counts { OnReceiver handle.old.place.value (λ r s. (result ≡ 0) × (s ≡ r) × Counts r counts.new) handle.new.place.value }
     ensures refused { Refuses is_receiver handle.old.place.value result handle.new.place.value }

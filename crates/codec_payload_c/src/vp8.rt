@@ -22,7 +22,7 @@ const LONGEST: usize = 6;
 /// Fields of a descriptor: those that are there, or those that are to have a new value.
 #[repr(C)]
 #[derive(Clone, Copy)]
-pub struct Vp8Fields {
+pub struct Vp8FieldsInfo {
     pub picture_id: u16,
     pub tl0_pic_idx: u8,
     pub key_idx: u8,
@@ -54,7 +54,7 @@ fn status_of_patch(error: Vp8PatchError) -> u32
 }
 
 /// The descriptor with these values asked for.
-fn builder(descriptor: &Vp8Descriptor, values: &Vp8Fields) -> Vp8PatchBuilder
+fn builder(descriptor: &Vp8Descriptor, values: &Vp8FieldsInfo) -> Vp8PatchBuilder
     ensures { result ≡ builder_of descriptor.now values.now }
 {
     let mut builder = descriptor.patch();
@@ -72,7 +72,7 @@ fn builder(descriptor: &Vp8Descriptor, values: &Vp8Fields) -> Vp8PatchBuilder
 
 /// The patch to these values.
 #[tactic(auto, using(crate::proofs::PatchFront::reaches_front))]
-fn patch_to(descriptor: &Vp8Descriptor, values: &Vp8Fields) -> Result<Vp8Patch, Vp8PatchError>
+fn patch_to(descriptor: &Vp8Descriptor, values: &Vp8FieldsInfo) -> Result<Vp8Patch, Vp8PatchError>
     ensures value { result ≡ patch_for (builder_of descriptor.now values.now) }
     ensures patches { IfOk result (Patches (builder_of descriptor.now values.now)) }
     ensures front { IfOk result (λ p. Reaches p 6) }
@@ -96,7 +96,7 @@ fn patch_front(patch: &Vp8Patch, payload: &mut [u8])
 #[unsafe(no_mangle)]
 pub extern "C" fn cpl_vp8_fields(
     payload: &[u8],
-    fields: &mut Vp8Fields,
+    fields: &mut Vp8FieldsInfo,
     starts_keyframe: &mut bool,
 ) -> u32
     ensures { ReadsTo (parsed payload.now) payload.now result fields.new starts_keyframe.new }
@@ -105,7 +105,7 @@ pub extern "C" fn cpl_vp8_fields(
         Ok(descriptor) => descriptor,
         Err(error) => return status_of_descriptor(error),
     };
-    *fields = Vp8Fields {
+    *fields = Vp8FieldsInfo {
         picture_id: descriptor.picture_id().unwrap_or(0),
         tl0_pic_idx: descriptor.tl0_pic_idx().unwrap_or(0),
         key_idx: descriptor.key_idx().unwrap_or(0),
@@ -120,7 +120,7 @@ pub extern "C" fn cpl_vp8_fields(
 /// Gives fields of a payload's descriptor new values, in place.
 #[tactic(auto, using(crate::proofs::PatchFront::reaches_payload, crate::proofs::PatchFront::is_patched))]
 #[unsafe(no_mangle)]
-pub extern "C" fn cpl_vp8_patch(payload: &mut [u8], values: &Vp8Fields) -> u32
+pub extern "C" fn cpl_vp8_patch(payload: &mut [u8], values: &Vp8FieldsInfo) -> u32
     ensures { PatchesTo (parsed payload.old) values.now result payload.old payload.new }
 {
     let descriptor = match Vp8Descriptor::parse(payload) {
