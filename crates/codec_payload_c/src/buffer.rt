@@ -1,6 +1,6 @@
 //! Received packets put in order and together.
 
-ghost use Rattle.std.specs.Prelude.{◌≡◌, ◌&&◌, is_some, nat_le};
+ghost use Rattle.std.specs.Prelude.{◌≡◌, ◌≢◌, ◌&&◌, is_some, nat_le};
 ghost use Rattle.codec_payload_c.specs.Buffers.{AnswersPop, AnswersPush, Counts, IsReceiverOf, IsToldBy, TellsUnit};
 ghost use Rattle.codec_payload_c.specs.Kinds.{Makes, OnReceiver, Refuses, is_receiver};
 ghost use Rattle.codec_payload_c.specs.Settings.{depack_set};
@@ -227,6 +227,7 @@ pub extern "C" fn cpl_buffer_pop(
 ) -> u32
     ensures pops { OnReceiver handle.old.place.value (λ r s. AnswersPop r result unit.old unit.new bytes.old bytes.new s) handle.new.place.value }
     ensures refused { Refuses is_receiver handle.old.place.value result handle.new.place.value }
+    ensures untouched { result ≢ 0 → bytes.new ≡ bytes.old }
 {
     let Some(mut object) = handle.take(alloc) else {
         return status::EMPTY;

@@ -1,6 +1,6 @@
 //! Payloads put together by a depacketizer alone, for callers that order packets themselves.
 
-ghost use Rattle.std.specs.Prelude.{◌≡◌, is_some};
+ghost use Rattle.std.specs.Prelude.{◌≡◌, ◌≢◌, is_some};
 ghost use Rattle.codec_payload_c.specs.Assemblers.{IsAssemblerOf, Takes, Unpacks};
 ghost use Rattle.codec_payload_c.specs.Kinds.{Makes, OnAssembler, Refuses, is_assembler};
 ghost use Rattle.codec_payload_c.specs.Settings.{depack_set};
@@ -97,6 +97,7 @@ pub extern "C" fn cpl_depacketized(
 ) -> u32
     ensures takes { OnAssembler handle.old.place.value (λ r s. Takes r result size.new extra.new bytes.old bytes.new s) handle.new.place.value }
     ensures refused { Refuses is_assembler handle.old.place.value result handle.new.place.value }
+    ensures untouched { result ≢ 0 → bytes.new ≡ bytes.old }
 {
     let Some(mut object) = handle.take(alloc) else {
         return status::EMPTY;

@@ -1,6 +1,6 @@
 //! Frames cut into packets.
 
-ghost use Rattle.std.specs.Prelude.{◌≡◌, ◌≤◌, is_some, length};
+ghost use Rattle.std.specs.Prelude.{◌≡◌, ◌≢◌, ◌≤◌, is_some, length};
 ghost use Rattle.codec_payload_c.specs.Kinds.{Makes, OnSender, Refuses, is_sender};
 ghost use Rattle.codec_payload_c.specs.Senders.{CutsFrame, GivesPacket, IsSenderOf};
 ghost use Rattle.codec_payload_c.specs.Settings.{pack_set};
@@ -133,6 +133,7 @@ pub extern "C" fn cpl_packet(
 ) -> u32
     ensures gives { OnSender handle.old.place.value (λ r s. GivesPacket r result info.new bytes.old bytes.new s) handle.new.place.value }
     ensures refused { Refuses is_sender handle.old.place.value result handle.new.place.value }
+    ensures untouched { result ≢ 0 → bytes.new ≡ bytes.old }
 {
     let Some(mut object) = handle.take(alloc) else {
         return status::EMPTY;

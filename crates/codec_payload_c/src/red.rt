@@ -1,6 +1,6 @@
 //! RED with a history: payloads sent together with those before them (RFC 2198).
 
-ghost use Rattle.std.specs.Prelude.{◌≡◌};
+ghost use Rattle.std.specs.Prelude.{◌≡◌, ◌≢◌};
 ghost use Rattle.codec_payload_core.specs.RedLevels.{is_accepted};
 ghost use Rattle.codec_payload_c.specs.Kinds.{Makes, OnRedSender, Refuses, is_red_sender};
 ghost use Rattle.codec_payload_c.specs.Reds.{IsRedSenderOf, Syncs, Wraps};
@@ -127,6 +127,7 @@ pub extern "C" fn cpl_red_wrap(
 ) -> u32
     ensures wraps { OnRedSender handle.old.place.value (λ r s. Wraps r rtp_time budget payload.now result bytes.old bytes.new size.new s) handle.new.place.value }
     ensures refused { Refuses is_red_sender handle.old.place.value result handle.new.place.value }
+    ensures untouched { result ≢ 0 → bytes.new ≡ bytes.old }
 {
     let Some(mut object) = handle.take(alloc) else {
         return status::EMPTY;

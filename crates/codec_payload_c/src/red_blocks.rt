@@ -1,6 +1,6 @@
 //! RED payloads written and read, and lost packets recovered from them (RFC 2198).
 
-ghost use Rattle.std.specs.Prelude.{◌≡◌, ◌⊎◌, All, IfErr, IfOk, IfSome, IsNone, map, slice_get};
+ghost use Rattle.std.specs.Prelude.{◌≡◌, ◌≢◌, ◌⊎◌, All, IfErr, IfOk, IfSome, IsNone, map, slice_get};
 ghost use Rattle.codec_payload_core.specs.RedBlocks.{blocks_of, redundant_of};
 ghost use Rattle.codec_payload_c.specs.RedCoding.{GivesBlock, IsWithin, ReadsBlock, Recovers, WritesBlocks, cut_from};
 
@@ -95,7 +95,8 @@ pub extern "C" fn cpl_red_encode(
     bytes: &mut [u8],
     size: &mut usize,
 ) -> u32
-    ensures { WritesBlocks primary_pt primary.now older.now media.now result bytes.old bytes.new size.new }
+    ensures writes { WritesBlocks primary_pt primary.now older.now media.now result bytes.old bytes.new size.new }
+    ensures untouched { result ≢ 0 → bytes.new ≡ bytes.old }
 {
     let blocks = match blocks_from(alloc, media, older) {
         Ok(blocks) => blocks,
@@ -141,7 +142,8 @@ pub extern "C" fn cpl_red_block(
     info: &mut RedBlockInfo,
     bytes: &mut [u8],
 ) -> u32
-    ensures { ReadsBlock payload.now index result info.new bytes.old bytes.new }
+    ensures reads { ReadsBlock payload.now index result info.new bytes.old bytes.new }
+    ensures untouched { result ≢ 0 → bytes.new ≡ bytes.old }
 {
     match RedDecoder::decode(alloc, payload) {
         Ok(blocks) => give_block(&blocks, index, info, bytes),
@@ -162,7 +164,8 @@ pub extern "C" fn cpl_red_recover(
     info: &mut RecoveredInfo,
     bytes: &mut [u8],
 ) -> u32
-    ensures { Recovers primary_pt step number rtp_time payload.now index result info.new bytes.old bytes.new }
+    ensures recovers { Recovers primary_pt step number rtp_time payload.now index result info.new bytes.old bytes.new }
+    ensures untouched { result ≢ 0 → bytes.new ≡ bytes.old }
 {
     let Some(receiver) = RedReceiver::new(primary_pt, step) else {
         return status::INVALID;

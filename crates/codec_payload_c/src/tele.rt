@@ -1,6 +1,6 @@
 //! Reports on telephone events (RFC 4733, section 2.3).
 
-ghost use Rattle.std.specs.Prelude.{◌≡◌, slice_get};
+ghost use Rattle.std.specs.Prelude.{◌≡◌, ◌≢◌, slice_get};
 ghost use Rattle.codec_payload_c.specs.Tele.{ReadsReport, WritesReport};
 
 use crate::bytes::fill;
@@ -45,7 +45,8 @@ pub extern "C" fn cpl_tele_read(
 /// The four bytes of a report.
 #[unsafe(no_mangle)]
 pub extern "C" fn cpl_tele_write(event: &TeleEvent, rate: u32, bytes: &mut [u8]) -> u32
-    ensures { WritesReport event.now rate result bytes.old bytes.new }
+    ensures writes { WritesReport event.now rate result bytes.old bytes.new }
+    ensures untouched { result ≢ 0 → bytes.new ≡ bytes.old }
 {
     let Some(rate) = Frequency::make(rate) else {
         return status::INVALID;
