@@ -121,7 +121,7 @@ def raw_rust():
         return NUMBERS.get(kind.strip()) or c_name(kind.strip())
 
     functions, structs = {}, {}
-    for found in re.finditer(r"fn (cpl_\w+)\((.*?)\)(?: -> (\w+))?;", text, re.S):
+    for found in re.finditer(r"fn (cpl_\w+)\((.*?)\)\s*(?:-> (\w+))?;", text, re.S):
         params = [it.split(":", 1) for it in split(found[2])]
         functions[found[1]] = (named(found[3]) if found[3] else "void", [(named(kind), name.strip()) for name, kind in params])
     for found in re.finditer(r"#\[repr\(C\)\]\s*(?:#\[[^\n]*\]\s*)*pub(?:\(crate\))? struct (\w+) \{(.*?)\n\}", text, re.S):
