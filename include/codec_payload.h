@@ -29,8 +29,9 @@
  * written overlap with no other argument. What a pointer points to has a value before the call, also where it is written:
  * begin structs with {0}. A bool is true or false, never another byte.
  *
- * THREADS. A handle stays on the thread that filled it. Different handles share nothing. No call is made from a signal
- * handler, or in the forked child of a process with threads. No call blocks, prints, ends the process or reads a clock.
+ * THREADS. One call at a time uses a handle. It may go from thread to thread, where what one did comes before what the next
+ * does, as by a mutex or by a thread's start or end. Different handles share nothing. No call is made from a signal handler,
+ * or in the forked child of a process with threads. No call blocks, prints, ends the process or reads a clock.
  *
  * AN EXAMPLE, which is bindings/c/example.c, in full: */
 #if 0

@@ -3,8 +3,11 @@
 use crate::raw::{self, Place, cpl_free};
 use std::ptr;
 
-/// One handle, never copied. Its pointer makes it neither `Send` nor `Sync`.
+/// One handle, never copied. A call uses it by `&mut`, so one call at a time.
 pub(crate) struct Handle(raw::Handle);
+
+// SAFETY: that it may go to another thread is proved of the library's handle, with all that it can hold.
+unsafe impl Send for Handle {}
 
 impl Handle {
     pub(crate) fn empty() -> Handle {

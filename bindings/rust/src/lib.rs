@@ -4,12 +4,7 @@
 //! whole units back, in order; it is an [`Iterator`] over those that are ready. [`red`] has RFC 2198, [`vp8`] descriptors of
 //! VP8 payloads, [`telephone`] reports on telephone events.
 //!
-//! What holds a value of the library stays on its thread: nothing is proved of it on another, so none of these is `Send`.
-//!
-//! ```compile_fail
-//! fn to_another_thread<T: Send>(_: T) {}
-//! to_another_thread(codec_payload::Buffer::new(&codec_payload::Settings::new(codec_payload::Codec::Opus, 48_000), 0, 1));
-//! ```
+//! Each of them may go to another thread (`Send`), and is used by one at a time.
 
 mod error;
 mod extra;

@@ -240,3 +240,20 @@ fn refusals() {
         Err(Error::Av1Corrupted)
     );
 }
+
+/// A buffer that is filled on one thread gives its units on another.
+#[test]
+fn another_thread() -> Result<(), Error> {
+    let settings = Settings::new(Codec::Null, 8_000);
+    let mut buffer = Buffer::new(&settings, 0, 8)?;
+    for number in 0..4 {
+        buffer.push(&received(number, 0, false), &[number as u8; 300])?;
+    }
+    let units = std::thread::spawn(move || {
+        buffer
+            .map(|unit| unit.map(|unit| unit.bytes[299]))
+            .collect::<Vec<_>>()
+    });
+    assert_eq!(units.join().unwrap(), [Ok(0), Ok(1), Ok(2), Ok(3)]);
+    Ok(())
+}
