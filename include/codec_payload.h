@@ -7,7 +7,7 @@
  *
  * STATUSES. A call answers a status, but for the few that answer a bool or a number. 0 is success, 1 to 17 are faults of
  * payloads and of memory, 32 to 37 are the library's own; the enum below has them all, with names. On every status but 0
- * and CPL_TOO_SMALL the caller's bytes stay as they are.
+ * the caller's bytes stay as they are.
  *
  * HANDLES. A packetizer, a depacketizer, a buffer and a RED sender live behind a cpl_handle, which is the caller's own
  * memory: zero it (CPL_HANDLE_INIT), make something in it by a call named *_new, and end with cpl_free, which empties it.
@@ -227,7 +227,8 @@ typedef struct {
 } cpl_unit;
 
 /* The next unit whose turn has come, or CPL_NONE. With CPL_TOO_SMALL *unit is told, and the unit waits for the next call. A
- * fault from 1 to 16 is the depacketizer's: its frame has left, and the next call goes on. [m] */
+ * fault from 1 to 16 is the depacketizer's: its frame has left, and the next call goes on. With CPL_OUT_OF_MEMORY the frame
+ * stays, and the next call tries it again. [m] */
 uint32_t cpl_buffer_pop(cpl_handle *handle, cpl_unit *unit, uint8_t *bytes, size_t bytes_len);
 
 typedef struct {

@@ -12,8 +12,11 @@ import sys
 
 ROOT = os.path.dirname(os.path.dirname(os.path.realpath(__file__)))
 NUMBERS = {"u8": "uint8_t", "u16": "uint16_t", "u32": "uint32_t", "u64": "uint64_t", "usize": "size_t", "bool": "bool"}
-# Where a struct has the name of a call, the header's has an `_info` behind it, as in Rattle; the others are the same words.
+# The one pointer that stands in a struct, which C sees as one to nothing that it knows.
 FLAT = {"*mut u8": "void *"}
+EXPORT = re.compile(
+    r'#\[unsafe\(no_mangle\)\]\s*pub extern "C" fn (\w+)\((.*?)\)(?: -> (\w+))?\s*(?:requires|ensures|\{)', re.S
+)
 
 
 def read(path):
@@ -62,7 +65,7 @@ def rattle():
     folder = f"{ROOT}/crates/codec_payload_c/src"
     for file in sorted(os.listdir(folder)):
         text = re.sub(r"//[^\n]*", "", read(f"crates/codec_payload_c/src/{file}"))
-        for found in re.finditer(r'#\[unsafe\(no_mangle\)\]\s*pub extern "C" fn (\w+)\((.*?)\)(?: -> (\w+))?\s*(?:requires|ensures|\{)', text, re.S):
+        for found in EXPORT.finditer(text):
             params = [it.split(":", 1) for it in split(found[2])]
             flat = [one for name, kind in params for one in c_params(name.strip(), kind.strip())]
             functions[found[1]] = (c_type(found[3]) if found[3] else "void", flat)
@@ -144,19 +147,21 @@ def main():
     functions, structs, statuses, codecs = rattle()
     of_header, its_structs, numbers = header()
     of_rust, rust_structs = raw_rust()
+    in_c = {f"CPL_{name.replace('amrwb', 'amr_wb')}".upper(): value for name, value in codecs.items()}
+    in_c |= {f"CPL_{name}": value for name, value in statuses.items()}
     wrong = [
         *differences("header: function", functions, of_header),
         *differences("header: struct", structs, its_structs),
         *differences("bindings/rust: function", functions, of_rust),
         *differences("bindings/rust: struct", structs, rust_structs),
-        *(f"header: CPL_{name} is not {value}" for name, value in statuses.items() if numbers.get(f"CPL_{name}") != value),
-        *(f"header: the codec {name} is not {value}" for name, value in codecs.items() if numbers.get(f"CPL_{name.replace('amrwb', 'amr_wb')}".upper()) != value),
+        *(f"header: {name} is not {value}" for name, value in in_c.items() if numbers.get(name) != value),
     ]
     if f"#if 0\n{read('bindings/c/example.c')}#endif\n" not in read("include/codec_payload.h"):
         wrong.append("header: the example is not that of bindings/c/example.c")
     if not functions or not structs:
         wrong.append("no function, or no struct, was found")
-    print("\n".join([*wrong, f"{len(functions)} functions and {len(structs)} structs: {'all the same' if not wrong else 'NOT the same'}"]))
+    counts = f"{len(functions)} functions and {len(structs)} structs"
+    print("\n".join([*wrong, f"{counts}: {'NOT the same' if wrong else 'all the same'}"]))
     return 1 if wrong else 0
 
 

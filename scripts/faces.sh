@@ -19,6 +19,7 @@ root=$(cd "$(dirname "$0")/.." && pwd)
 kit=$(dirname "$(rt doc)")
 out=$root/bindings/out
 compiler=${CC:-cc}
+warnings="-pedantic -Wall -Wextra -Werror"
 work=$(mktemp -d)
 trap 'rm -rf "$work"' EXIT
 mkdir -p "$out"
@@ -44,8 +45,8 @@ build_library() {
 compile() {
     name=$1
     shift
-    "$compiler" -std=c99 -pedantic -Wall -Wextra -Werror -O1 -g "$@" -I"$root/include" "$root/bindings/c/$name.c" \
-        "$out/libcodec_payload.a" -o "$work/$name" || fail "bindings/c/$name.c does not build"
+    "$compiler" -std=c99 $warnings -O1 -g "$@" -I"$root/include" "$root/bindings/c/$name.c" "$out/libcodec_payload.a" \
+        -o "$work/$name" || fail "bindings/c/$name.c does not build"
 }
 
 # Runs every script through the library and through the program; both answer the same bytes and the same status.
@@ -56,10 +57,11 @@ compare_scripts() {
         "$root/crates/payload_vectors/out/payload_vectors" <"$script" >"$work/wanted" 2>"$work/wanted-messages" || status=$?
         found=0
         "$work/vectors" <"$script" >"$work/found" 2>"$work/found-messages" || found=$?
-        if [ "$status" -ne "$found" ] || ! cmp -s "$work/wanted" "$work/found" || ! cmp -s "$work/wanted-messages" "$work/found-messages"; then
+        [ "$status" -eq "$found" ] && cmp -s "$work/wanted" "$work/found" &&
+            cmp -s "$work/wanted-messages" "$work/found-messages" || {
             cp "$script" "$out/differs"
             fail "C answers another output or status to $(basename "$script"), which is kept as bindings/out/differs"
-        fi
+        }
         count=$((count + 1))
     done
 }
@@ -96,10 +98,11 @@ all) ;;
 esac
 
 "$root/scripts/face_header.py" || fail "the header, the Rust crate and the library differ"
-"$compiler" -std=c99 -pedantic -Wall -Wextra -Werror -fsyntax-only -x c "$root/include/codec_payload.h" || fail "the header is no C99"
+header=$root/include/codec_payload.h
+"$compiler" -std=c99 $warnings -fsyntax-only -x c "$header" || fail "the header is no C99"
 plus=${CXX:-c++}
 if command -v "$plus" >/dev/null; then
-    "$plus" -std=c++11 -pedantic -Wall -Wextra -Werror -fsyntax-only -x c++ "$root/include/codec_payload.h" || fail "the header is no C++11"
+    "$plus" -std=c++11 $warnings -fsyntax-only -x c++ "$header" || fail "the header is no C++11"
 fi
 (cd "$root/crates/payload_vectors" && rt run <stdin) >"$work/run.log" 2>&1 || {
     cat "$work/run.log" >&2
@@ -111,4 +114,5 @@ run_c -fsanitize=address,undefined -fno-sanitize-recover=all
 command -v cargo >/dev/null || fail "there is no cargo; all but the Rust crate passed"
 (cd "$root/bindings/rust" && CODEC_PAYLOAD_DIR=$out cargo test --offline --quiet) || fail "the Rust crate's tests failed"
 
-echo "faces: the header, the example, the checks, $count scripts and the refused allocations, with and without sanitizers, and the Rust crate: all passed"
+echo "faces: the header, the example, the checks, $count scripts and the refused allocations, with and without" \
+    "sanitizers, and the Rust crate: all passed"

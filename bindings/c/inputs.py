@@ -35,7 +35,8 @@ def stored():
         parts = {name: ast.literal_eval(value) for name, value in re.findall(r'let (\w+) =\s*("(?:[^"\\]|\\.)*");', test)}
         tables = [literals(it) for it in re.findall(r"\(\s*((?:\"(?:[^\"\\]|\\.)*\"[,\s]*)+)\)", test)]
         for one in literals(test):
-            if not one.startswith(("codec ", "sample ", "pop\n", "limit ", "\n")) or one.startswith("sample ") and "codec" not in one:
+            begins = one.startswith(("codec ", "sample ", "pop\n", "limit ", "\n"))
+            if not begins or one.startswith("sample ") and "codec" not in one:
                 continue
             if "{hold_back}" in one:
                 for hold_back in "01":
@@ -99,7 +100,9 @@ def generated(seed):
     for place in range(count):
         time = 960 * place if numbers.below(8) else 2**64 - 1 - numbers.below(2000)
         lines.append(f"sample {time} {numbers.below(2)} {frame_of(codec, numbers).hex() or '-'}")
-    sends = [f"send {place if numbers.below(10) else numbers.below(count + 2)} {numbers.one_of([0, 1, 3, 9, 20, 60, 100, 1200])}" for place in range(count)]
+    mtus = [0, 1, 3, 9, 20, 60, 100, 1200]
+    samples = [place if numbers.below(10) else numbers.below(count + 2) for place in range(count)]
+    sends = [f"send {sample} {numbers.one_of(mtus)}" for sample in samples]
     rest = [f"push {numbers.below(30)}" for _ in range(40)] + [f"push {place}" for place in range(24)] + ["pop"] * 12
     for place in range(len(rest) - 1, 0, -1):
         other = place - numbers.below(min(place + 1, 1 + numbers.below(20)))

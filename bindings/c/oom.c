@@ -113,7 +113,10 @@ static int red(int *met) {
         AGAIN(status, cpl_red_recover(111, 960, 10, 2880, bytes, size, i, &packet, found, 64));
         if (status || found[0] != 1 + i || packet.number != 8 + i) return 5;
     }
-    cpl_red_older older[2] = {{.start = 0, .bytes = 1, .offset = 1920, .payload_type = 111}, {.start = 1, .bytes = 1, .offset = 960, .payload_type = 111}};
+    cpl_red_older older[2] = {
+        {.start = 0, .bytes = 1, .offset = 1920, .payload_type = 111},
+        {.start = 1, .bytes = 1, .offset = 960, .payload_type = 111},
+    };
     AGAIN(status, cpl_red_encode(111, (const uint8_t *)"\3", 1, older, 2, (const uint8_t *)"\1\2", 2, found, 64, &size));
     if (status || size != 12 || memcmp(bytes, found, 12)) return 6;
     cpl_free(&sender);

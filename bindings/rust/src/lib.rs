@@ -4,6 +4,30 @@
 //! whole units back, in order; it is an [`Iterator`] over those that are ready. [`red`] has RFC 2198, [`vp8`] descriptors of
 //! VP8 payloads, [`telephone`] reports on telephone events.
 //!
+//! ```
+//! use codec_payload::{Buffer, Codec, Error, Packetizer, Received, Settings};
+//!
+//! # fn main() -> Result<(), Error> {
+//! let settings = Settings::new(Codec::Vp8, 90_000);
+//! let mut packetizer = Packetizer::new(&settings)?;
+//! let mut buffer = Buffer::new(&settings, 30, 4_096)?;
+//! for (packet, number) in packetizer.packetize(1_200, false, &[0; 3_000])?.iter().zip(0..) {
+//!     // A sender puts the payload behind an RTP header here, and a receiver has read this:
+//!     let received = Received {
+//!         number,
+//!         rtp_time: 3_000,
+//!         payload_type: 96,
+//!         marker: packet.marker,
+//!         ..Received::default()
+//!     };
+//!     buffer.push(&received, &packet.payload)?;
+//! }
+//! let unit = buffer.next().unwrap()?;
+//! assert_eq!((unit.first, unit.last, unit.bytes.len()), (0, 2, 3_000));
+//! # Ok(())
+//! # }
+//! ```
+//!
 //! Each of them may go to another thread (`Send`), and is used by one at a time.
 
 mod error;
