@@ -1,0 +1,147 @@
+/* One session, of each kind of handle, again and again, and each time one allocation more gets its memory: the next one is
+ * refused. The call that asked for it answers 17 and nothing else, is made once more, and the session then ends as it does
+ * with all memory. Linked with -Wl,--wrap=malloc,--wrap=realloc. Nothing may leak. */
+#include "codec_payload.h"
+
+#include <stdio.h>
+#include <stdlib.h>
+#include <string.h>
+
+static long refuse_at, asked;
+static bool refused;
+
+void *__real_malloc(size_t size);
+void *__real_realloc(void *at, size_t size);
+void *__wrap_malloc(size_t size);
+void *__wrap_realloc(void *at, size_t size);
+
+static bool refuses(void) {
+    if (++asked != refuse_at) return false;
+    return refused = true;
+}
+
+void *__wrap_malloc(size_t size) { return refuses() ? NULL : __real_malloc(size); }
+void *__wrap_realloc(void *at, size_t size) { return refuses() ? NULL : __real_realloc(at, size); }
+
+/* The status of a call; where it is 17, that of the same call once more. */
+#define AGAIN(status, call) \
+    do { \
+        refused = false; \
+        (status) = (call); \
+        if (refused && (status) != CPL_OUT_OF_MEMORY && (status) != CPL_OK) return -1; \
+        if (!refused && (status) == CPL_OUT_OF_MEMORY) return -2; \
+        if ((status) == CPL_OUT_OF_MEMORY) { \
+            (*met)++; \
+            (status) = (call); \
+        } \
+    } while (0)
+
+enum { FRAMES = 4, FRAME = 300, MTU = 100 };
+
+/* 0 where all came as it should; *met counts the answers of 17. */
+static int video(uint32_t codec, int *met) {
+    cpl_handle sender = CPL_HANDLE_INIT, buffer = CPL_HANDLE_INIT, pieces = CPL_HANDLE_INIT;
+    cpl_spec spec = {.codec = codec, .rate = 90000, .vp8_ids = true, .first_id = 126};
+    static uint8_t frame[FRAME], bytes[FRAME];
+    uint32_t status;
+    uint64_t number = 5;
+    for (size_t i = 0; i < FRAME; i++) frame[i] = (uint8_t)(i * 7);
+    if (codec == CPL_AV1) memcpy(frame, "\x32\xa9\x02", 3); /* the header of an OBU, and its length, 297 */
+    AGAIN(status, cpl_packetizer_new(&sender, &spec));
+    if (status) return 1;
+    AGAIN(status, cpl_buffer_new(&buffer, &spec, 0, 64));
+    if (status) return 2;
+    AGAIN(status, cpl_depacketizer_new(&pieces, &spec));
+    if (status) return 3;
+    for (uint32_t i = 0; i < FRAMES; i++) {
+        size_t count = 0, size = 0;
+        cpl_packet_info packet = {0};
+        cpl_unit unit = {0};
+        cpl_extra extra = {0};
+        AGAIN(status, cpl_packetize(&sender, MTU, false, frame, FRAME, &count));
+        if (status) return 4;
+        for (size_t k = 0; k < count; k++) {
+            if (cpl_packet(&sender, &packet, bytes, 1) != CPL_TOO_SMALL) return 5;
+            if (cpl_packet(&sender, &packet, bytes, FRAME) != CPL_OK) return 6;
+            cpl_received received = {.number = number++, .rtp_time = 3000 * i, .payload_type = 96, .marker = packet.marker};
+            AGAIN(status, cpl_buffer_push(&buffer, &received, bytes, packet.bytes));
+            if (status) return 7;
+            refused = false;
+            status = cpl_depacketize(&pieces, bytes, packet.bytes);
+            if (status == CPL_OUT_OF_MEMORY) {
+                /* What was read of a frame may be gone, so this one is given up. */
+                (*met)++;
+                if (!refused) return 8;
+                cpl_free(&pieces);
+                if (cpl_depacketizer_new(&pieces, &spec)) return 9;
+            } else if (status && *met == 0) {
+                return 10;
+            }
+        }
+        AGAIN(status, cpl_buffer_pop(&buffer, &unit, bytes, 1));
+        if (status != CPL_TOO_SMALL || unit.bytes != FRAME) return 11;
+        if (cpl_buffer_pop(&buffer, &unit, bytes, FRAME) != CPL_OK || memcmp(bytes, frame, FRAME)) return 12;
+        if (cpl_buffer_pop(&buffer, &unit, bytes, FRAME) != CPL_NONE) return 13;
+        memset(bytes, 0, FRAME);
+        if (cpl_depacketized(&pieces, &size, &extra, bytes, FRAME) != CPL_OK) return 14;
+        if (*met == 0 && (size != FRAME || memcmp(bytes, frame, FRAME))) return 15;
+    }
+    cpl_free(&sender);
+    cpl_free(&buffer);
+    cpl_free(&pieces);
+    return 0;
+}
+
+static int red(int *met) {
+    cpl_handle sender = CPL_HANDLE_INIT;
+    static const uint32_t distances[2] = {1, 2};
+    uint8_t bytes[64] = {0}, found[64] = {0};
+    uint32_t status;
+    size_t size = 0;
+    AGAIN(status, cpl_red_sender_new(&sender, 63, 111, distances, 2));
+    if (status) return 1;
+    for (uint8_t i = 0; i < 4; i++) {
+        AGAIN(status, cpl_red_wrap(&sender, 960u * i, 64, &i, 1, bytes, 64, &size));
+        if (status) return 2;
+    }
+    if (size != 2 * 4 + 1 + 3 || bytes[9] != 1 || bytes[10] != 2 || bytes[11] != 3) return 3;
+    for (size_t i = 0; i < 3; i++) {
+        cpl_red_block_info block = {0};
+        cpl_recovered_info packet = {0};
+        AGAIN(status, cpl_red_block(bytes, size, i, &block, found, 64));
+        if (status || found[0] != 1 + i) return 4;
+        AGAIN(status, cpl_red_recover(111, 960, 10, 2880, bytes, size, i, &packet, found, 64));
+        if (status || found[0] != 1 + i || packet.number != 8 + i) return 5;
+    }
+    cpl_red_older older[2] = {
+        {.start = 0, .bytes = 1, .offset = 1920, .payload_type = 111},
+        {.start = 1, .bytes = 1, .offset = 960, .payload_type = 111},
+    };
+    AGAIN(status, cpl_red_encode(111, (const uint8_t *)"\3", 1, older, 2, (const uint8_t *)"\1\2", 2, found, 64, &size));
+    if (status || size != 12 || memcmp(bytes, found, 12)) return 6;
+    cpl_free(&sender);
+    return 0;
+}
+
+static int session(int *met) {
+    static const uint32_t codecs[4] = {CPL_VP8, CPL_VP9, CPL_AV1, CPL_NULL};
+    for (size_t i = 0; i < 4; i++) {
+        int ended = video(codecs[i], met);
+        if (ended) return 100 * (int)codecs[i] + ended;
+    }
+    return red(met);
+}
+
+int main(void) {
+    int met = 0, bad = 0, ended = session(&met);
+    long all = asked;
+    if (ended || met) printf("with all memory: ended %d, met %d\n", ended, met), bad++;
+    for (refuse_at = 1; refuse_at <= all; refuse_at++) {
+        asked = met = 0;
+        ended = session(&met);
+        /* Std may ask for more room than it needs, and ask again for less. */
+        if (ended || met > 1) printf("at allocation %ld: ended %d, met %d\n", refuse_at, ended, met), bad++;
+    }
+    printf("%ld allocations refused in turn, %d went wrong\n", all, bad);
+    return bad ? EXIT_FAILURE : EXIT_SUCCESS;
+}

@@ -1,0 +1,306 @@
+/* Runs the scripts of the program payload_vectors through the library, and prints what the program prints, with the same
+ * status. docs/FORMATS.md, "The program's lines", has both. Each packet and each unit is first asked for with no room. */
+#include "codec_payload.h"
+
+#include <inttypes.h>
+#include <stdarg.h>
+#include <stdio.h>
+#include <stdlib.h>
+#include <string.h>
+
+enum { INPUT_LIMIT = 1048576, MOST_FIELDS = 6 };
+
+typedef struct {
+    const char *at;
+    size_t len;
+} text;
+
+typedef struct {
+    uint64_t time;
+    bool starts;
+    uint8_t *bytes;
+    size_t size;
+} sample;
+
+typedef struct {
+    cpl_received head;
+    uint8_t *bytes;
+    size_t size;
+} packet;
+
+typedef struct {
+    char what; /* 's'end, 'p'ush, 'o' for pop */
+    uint64_t first, second;
+} step;
+
+typedef struct {
+    char *at;
+    size_t len, room;
+} output;
+
+static struct {
+    bool is_set, has_limit;
+    cpl_spec spec;
+    uint64_t hold_back, first_number, limit;
+    sample *samples;
+    size_t n_samples;
+    step *steps;
+    size_t n_steps;
+    packet *packets;
+    size_t n_packets;
+} run;
+
+static void stop(int status, const char *message) {
+    fprintf(stderr, "%s\n", message);
+    exit(status);
+}
+
+/* Room for one more entry in a list that grows by doubling. */
+static void *grown(void *list, size_t count, size_t size) {
+    if (count & (count + 1)) return list;
+    list = realloc(list, (2 * count + 1) * size);
+    if (!list) stop(1, "out of memory");
+    return list;
+}
+
+static void print(output *to, const char *format, ...) {
+    va_list args, again;
+    va_start(args, format);
+    va_copy(again, args);
+    size_t len = (size_t)vsnprintf(NULL, 0, format, args);
+    if (to->len + len + 1 > to->room) {
+        to->room = 2 * (to->len + len + 1);
+        to->at = realloc(to->at, to->room);
+        if (!to->at) stop(1, "out of memory");
+    }
+    to->len += (size_t)vsnprintf(to->at + to->len, len + 1, format, again);
+    va_end(again);
+    va_end(args);
+}
+
+static void print_bytes(output *to, const uint8_t *bytes, size_t count) {
+    if (count == 0) print(to, "-");
+    for (size_t i = 0; i < count; i++) print(to, "%02x", bytes[i]);
+    print(to, "\n");
+}
+
+/* ---- Lines ---- */
+
+static bool is(text field, const char *word) { return field.len == strlen(word) && !memcmp(field.at, word, field.len); }
+
+static bool number(text field, uint64_t most, uint64_t *value) {
+    *value = 0;
+    if (field.len == 0) return false;
+    for (size_t i = 0; i < field.len; i++) {
+        if (field.at[i] < '0' || field.at[i] > '9') return false;
+        uint64_t digit = (uint64_t)(field.at[i] - '0');
+        if (*value > (most - digit) / 10 || digit > most) return false;
+        *value = 10 * *value + digit;
+    }
+    return true;
+}
+
+static int digit_of(char c) {
+    if (c >= '0' && c <= '9') return c - '0';
+    if (c >= 'a' && c <= 'f') return c - 'a' + 10;
+    if (c >= 'A' && c <= 'F') return c - 'A' + 10;
+    return -1;
+}
+
+static bool bytes_of(text field, sample *to) {
+    to->size = is(field, "-") ? 0 : field.len / 2;
+    if (!is(field, "-") && (field.len == 0 || field.len % 2 != 0)) return false;
+    to->bytes = malloc(to->size + 1);
+    if (!to->bytes) stop(1, "out of memory");
+    for (size_t i = 0; i < to->size; i++) {
+        int high = digit_of(field.at[2 * i]), low = digit_of(field.at[2 * i + 1]);
+        if (high < 0 || low < 0) return false;
+        to->bytes[i] = (uint8_t)(16 * high + low);
+    }
+    return true;
+}
+
+static bool codec_line(const text *fields) {
+    static const struct {
+        const char *name;
+        cpl_spec spec;
+    } names[] = {
+        {"opus", {.codec = CPL_OPUS}},
+        {"pcmu", {.codec = CPL_PCMU}},
+        {"pcma", {.codec = CPL_PCMA}},
+        {"g722", {.codec = CPL_G722}},
+        {"cn", {.codec = CPL_CN}},
+        {"amrwb", {.codec = CPL_AMR_WB}},
+        {"amrwb-octet", {.codec = CPL_AMR_WB, .octet_align = true}},
+        {"vp8", {.codec = CPL_VP8}},
+        {"vp8-id", {.codec = CPL_VP8, .vp8_ids = true}},
+        {"vp9", {.codec = CPL_VP9}},
+        {"vp9-flex", {.codec = CPL_VP9, .vp9_flexible = true}},
+        {"av1", {.codec = CPL_AV1}},
+        {"tele", {.codec = CPL_TELE}},
+        {"null", {.codec = CPL_NULL}},
+    };
+    uint64_t rate, id;
+    for (size_t i = 0; i < sizeof names / sizeof names[0]; i++) {
+        if (!is(fields[1], names[i].name)) continue;
+        if (!number(fields[2], UINT32_MAX, &rate) || rate == 0 || !number(fields[3], SIZE_MAX, &run.hold_back)) return false;
+        if (!number(fields[4], (uint64_t)1 << 62, &run.first_number) || !number(fields[5], 32767, &id)) return false;
+        run.spec = names[i].spec;
+        run.spec.rate = (uint32_t)rate;
+        run.spec.first_id = (uint16_t)id;
+        return true;
+    }
+    return false;
+}
+
+static bool sample_line(const text *fields) {
+    sample *to = (run.samples = grown(run.samples, run.n_samples, sizeof(sample))) + run.n_samples;
+    to->starts = is(fields[2], "1");
+    if (!number(fields[1], UINT64_MAX, &to->time) || (!to->starts && !is(fields[2], "0")) || !bytes_of(fields[3], to)) return false;
+    run.n_samples++;
+    return true;
+}
+
+static bool step_line(char what, const text *first, const text *second) {
+    step *to = (run.steps = grown(run.steps, run.n_steps, sizeof(step))) + run.n_steps;
+    to->what = what;
+    if (first && !number(*first, SIZE_MAX, &to->first)) return false;
+    if (second && !number(*second, SIZE_MAX, &to->second)) return false;
+    run.n_steps++;
+    return true;
+}
+
+static bool limit_line(text field) {
+    if (run.has_limit || !number(field, 65536, &run.limit) || run.limit == 0) return false;
+    run.has_limit = true;
+    return true;
+}
+
+/* A line without its newline. The first sets up the run, and no other does. */
+static bool read_line(const char *line, size_t len) {
+    text fields[MOST_FIELDS];
+    size_t count = 0;
+    for (const char *at = line; count < MOST_FIELDS; count++) {
+        const char *space = memchr(at, ' ', (size_t)(line + len - at));
+        fields[count].at = at;
+        fields[count].len = (size_t)((space ? space : line + len) - at);
+        if (!space) break;
+        at = space + 1;
+        if (count + 1 == MOST_FIELDS) return false;
+    }
+    count++;
+    if (!run.is_set) return run.is_set = count == 6 && is(fields[0], "codec") && codec_line(fields);
+    if (count == 4 && is(fields[0], "sample")) return sample_line(fields);
+    if (count == 3 && is(fields[0], "send")) return step_line('s', &fields[1], &fields[2]);
+    if (count == 2 && is(fields[0], "push")) return step_line('p', &fields[1], NULL);
+    if (count == 2 && is(fields[0], "limit")) return limit_line(fields[1]);
+    return count == 1 && is(fields[0], "pop") && step_line('o', NULL, NULL);
+}
+
+static void read_script(void) {
+    static char input[INPUT_LIMIT + 1];
+    size_t len = fread(input, 1, sizeof input, stdin), lines = 0, at = 0;
+    if (ferror(stdin)) stop(1, "input or output failed");
+    if (len > INPUT_LIMIT) stop(2, "input too long");
+    do {
+        const char *end = memchr(input + at, '\n', len - at);
+        lines++;
+        if (!end || !read_line(input + at, (size_t)(end - input) - at)) {
+            fprintf(stderr, "bad line %zu\n", lines);
+            exit(2);
+        }
+        at = (size_t)(end - input) + 1;
+    } while (at < len);
+}
+
+/* ---- Steps ---- */
+
+static void check(uint32_t status) {
+    if (status == CPL_OUT_OF_MEMORY) stop(1, "out of memory");
+    if (status) {
+        fprintf(stderr, "unexpected status: %s\n", cpl_status_text(status));
+        exit(3);
+    }
+}
+
+static void take_packet(cpl_handle *sender, const sample *from, output *to) {
+    cpl_packet_info info = {0};
+    uint8_t none[1];
+    if (cpl_packet(sender, &info, none, 0) == CPL_TOO_SMALL && info.bytes == 0) stop(3, "no room is too small for nothing");
+    packet *p = (run.packets = grown(run.packets, run.n_packets, sizeof(packet))) + run.n_packets;
+    p->size = info.bytes;
+    p->bytes = malloc(info.bytes + 1);
+    if (!p->bytes) stop(1, "out of memory");
+    if (info.bytes) check(cpl_packet(sender, &info, p->bytes, p->size));
+    p->head = (cpl_received){.number = run.first_number + run.n_packets, .payload_type = 96, .marker = info.marker};
+    p->head.rtp_time = (uint32_t)from->time;
+    print(to, "packet %" PRIu64 " %d ", p->head.number, info.marker);
+    print_bytes(to, p->bytes, p->size);
+    run.n_packets++;
+}
+
+static void send(cpl_handle *sender, const step *by, output *to) {
+    size_t count = 0;
+    if (by->first >= run.n_samples) return;
+    const sample *from = &run.samples[by->first];
+    uint32_t status = cpl_packetize(sender, (size_t)by->second, from->starts, from->bytes, from->size, &count);
+    if (status && status != CPL_OUT_OF_MEMORY && status < CPL_NONE) {
+        print(to, "refused %u\n", (unsigned)status);
+        return;
+    }
+    check(status);
+    print(to, "sent %zu\n", count);
+    for (size_t i = 0; i < count; i++) take_packet(sender, from, to);
+}
+
+static void pop(cpl_handle *buffer, output *to) {
+    cpl_unit unit = {0};
+    uint8_t none[1], *bytes = none;
+    uint32_t status = cpl_buffer_pop(buffer, &unit, none, 0);
+    if (status == CPL_TOO_SMALL) {
+        bytes = malloc(unit.bytes);
+        if (!bytes) stop(1, "out of memory");
+        status = cpl_buffer_pop(buffer, &unit, bytes, unit.bytes);
+    }
+    if (status == CPL_NONE) {
+        print(to, "none\n");
+    } else if (status && status != CPL_OUT_OF_MEMORY && status < CPL_NONE) {
+        print(to, "fault %u\n", (unsigned)status);
+    } else {
+        check(status);
+        print(to, "unit %" PRIu64 " %" PRIu64 " %d ", unit.first, unit.last, unit.contiguous);
+        print_bytes(to, bytes, unit.bytes);
+    }
+    if (bytes != none) free(bytes);
+}
+
+int main(void) {
+    cpl_handle sender = CPL_HANDLE_INIT, buffer = CPL_HANDLE_INIT;
+    output sent = {0}, popped = {0};
+    read_script();
+    check(cpl_packetizer_new(&sender, &run.spec));
+    check(cpl_buffer_new(&buffer, &run.spec, (size_t)run.hold_back, run.has_limit ? (size_t)run.limit : 4096));
+    for (size_t i = 0; i < run.n_steps; i++) {
+        const step *by = &run.steps[i];
+        if (by->what == 's') {
+            send(&sender, by, &sent);
+        } else if (by->what == 'o') {
+            pop(&buffer, &popped);
+        } else if (by->first < run.n_packets) {
+            const packet *p = &run.packets[by->first];
+            check(cpl_buffer_push(&buffer, &p->head, p->bytes, p->size));
+        }
+    }
+    cpl_free(&sender);
+    cpl_free(&buffer);
+    if (sent.len) fwrite(sent.at, 1, sent.len, stdout);
+    if (popped.len) fwrite(popped.at, 1, popped.len, stdout);
+    for (size_t i = 0; i < run.n_samples; i++) free(run.samples[i].bytes);
+    for (size_t i = 0; i < run.n_packets; i++) free(run.packets[i].bytes);
+    free(run.samples);
+    free(run.packets);
+    free(run.steps);
+    free(sent.at);
+    free(popped.at);
+    return ferror(stdout) || fflush(stdout) ? 1 : 0;
+}

@@ -1,0 +1,90 @@
+//! Why a call was refused.
+
+use std::{error, fmt};
+
+/// A fault of a payload format or of memory, or an argument that a call does not take.
+#[derive(Clone, Copy, Debug, PartialEq, Eq)]
+#[non_exhaustive]
+pub enum Error {
+    /// A payload ends before all is there that its format asks for.
+    ShortPacket,
+    /// A frame that goes into one packet is longer than the MTU.
+    PayloadTooLarge,
+    /// A VP9 payload tells of too many spatial layers.
+    TooManyLayers,
+    /// A VP9 payload refers to too many frames.
+    TooManyReferences,
+    Vp8Corrupted,
+    Vp9Corrupted,
+    /// A frame is no sequence of OBUs, or a payload no elements.
+    Av1Corrupted,
+    /// The bytes are no RED payload.
+    RedCorrupted,
+    /// The payload is not one or more whole reports.
+    TelephoneInvalid,
+    AmrWbCorrupted,
+    /// Memory was refused. Things are as they were, so the call can be made again.
+    OutOfMemory,
+    /// There is no such field.
+    Missing,
+    /// An argument is none that the call takes.
+    Invalid,
+    /// A status that this crate does not know.
+    Unknown(u32),
+}
+
+pub(crate) const NONE: u32 = 32;
+pub(crate) const TOO_SMALL: u32 = 33;
+
+impl Error {
+    fn of(status: u32) -> Error {
+        match status {
+            1 => Error::ShortPacket,
+            2 => Error::PayloadTooLarge,
+            3 => Error::TooManyLayers,
+            4 => Error::TooManyReferences,
+            11 => Error::Vp8Corrupted,
+            12 => Error::Vp9Corrupted,
+            13 => Error::Av1Corrupted,
+            14 => Error::RedCorrupted,
+            15 => Error::TelephoneInvalid,
+            16 => Error::AmrWbCorrupted,
+            17 => Error::OutOfMemory,
+            NONE => Error::Missing,
+            37 => Error::Invalid,
+            status => Error::Unknown(status),
+        }
+    }
+}
+
+/// What a status says.
+pub(crate) fn told(status: u32) -> Result<(), Error> {
+    if status == 0 {
+        Ok(())
+    } else {
+        Err(Error::of(status))
+    }
+}
+
+impl fmt::Display for Error {
+    fn fmt(&self, f: &mut fmt::Formatter<'_>) -> fmt::Result {
+        match self {
+            Error::ShortPacket => f.write_str("the packet is too short"),
+            Error::PayloadTooLarge => f.write_str("the payload exceeds the MTU"),
+            Error::TooManyLayers => f.write_str("too many spatial layers"),
+            Error::TooManyReferences => f.write_str("too many references"),
+            Error::Vp8Corrupted => f.write_str("the VP8 packet is corrupted"),
+            Error::Vp9Corrupted => f.write_str("the VP9 packet is corrupted"),
+            Error::Av1Corrupted => f.write_str("the AV1 packet or frame is corrupted"),
+            Error::RedCorrupted => f.write_str("the RED packet is corrupted"),
+            Error::TelephoneInvalid => f.write_str("the payload is not whole telephone reports"),
+            Error::AmrWbCorrupted => f.write_str("the AMR-WB packet or frame is corrupted"),
+            Error::OutOfMemory => f.write_str("out of memory"),
+            Error::Missing => f.write_str("there is no such field"),
+            Error::Invalid => f.write_str("an argument is none that the call takes"),
+            Error::Unknown(status) => write!(f, "unknown status {status}"),
+        }
+    }
+}
+
+impl error::Error for Error {}

@@ -1,0 +1,32 @@
+//! The handle under which a value of the library lives.
+
+use crate::raw::{self, Place, cpl_free};
+use std::ptr;
+
+/// One handle, never copied. A call uses it by `&mut`, so one call at a time.
+pub(crate) struct Handle(raw::Handle);
+
+// SAFETY: that it may go to another thread is proved of the library's handle, with all that it can hold.
+unsafe impl Send for Handle {}
+
+impl Handle {
+    pub(crate) fn empty() -> Handle {
+        Handle(raw::Handle {
+            full: false,
+            place: Place {
+                at: ptr::null_mut(),
+            },
+        })
+    }
+
+    pub(crate) fn raw(&mut self) -> *mut raw::Handle {
+        &mut self.0
+    }
+}
+
+impl Drop for Handle {
+    fn drop(&mut self) {
+        // SAFETY: the library alone writes the handle, which is not looked at again.
+        unsafe { cpl_free(&mut self.0) }
+    }
+}

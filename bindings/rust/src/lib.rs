@@ -1,0 +1,349 @@
+//! RTP payloads of media frames: safe Rust over the proved static library.
+//!
+//! A [`Packetizer`] cuts frames into payloads that keep an MTU. A [`Buffer`] takes received packets in any order and gives
+//! whole units back, in order; it is an [`Iterator`] over those that are ready. [`red`] has RFC 2198, [`vp8`] descriptors of
+//! VP8 payloads, [`telephone`] reports on telephone events.
+//!
+//! ```
+//! use codec_payload::{Buffer, Codec, Error, Packetizer, Received, Settings};
+//!
+//! # fn main() -> Result<(), Error> {
+//! let settings = Settings::new(Codec::Vp8, 90_000);
+//! let mut packetizer = Packetizer::new(&settings)?;
+//! let mut buffer = Buffer::new(&settings, 30, 4_096)?;
+//! for (packet, number) in packetizer.packetize(1_200, false, &[0; 3_000])?.iter().zip(0..) {
+//!     // A sender puts the payload behind an RTP header here, and a receiver has read this:
+//!     let received = Received {
+//!         number,
+//!         rtp_time: 3_000,
+//!         payload_type: 96,
+//!         marker: packet.marker,
+//!         ..Received::default()
+//!     };
+//!     buffer.push(&received, &packet.payload)?;
+//! }
+//! let unit = buffer.next().unwrap()?;
+//! assert_eq!((unit.first, unit.last, unit.bytes.len()), (0, 2, 3_000));
+//! # Ok(())
+//! # }
+//! ```
+//!
+//! Each of them may go to another thread (`Send`), and is used by one at a time.
+
+mod error;
+mod extra;
+mod handle;
+mod looks;
+mod raw;
+pub mod red;
+pub mod telephone;
+pub mod vp8;
+
+pub use error::Error;
+use error::{NONE, TOO_SMALL, told};
+pub use extra::{Extra, TelephoneEvent, Vp8Extra, Vp9Extra, Vp9Layer};
+use handle::Handle;
+pub use looks::{
+    extend_number, is_av1_keyframe, is_head, is_tail, is_vp9_frame_keyframe, is_vp9_keyframe,
+};
+use raw::*;
+
+/// A payload format.
+#[derive(Clone, Copy, Debug, PartialEq, Eq)]
+#[repr(u32)]
+pub enum Codec {
+    Opus = 0,
+    Pcmu = 1,
+    Pcma = 2,
+    G722 = 3,
+    /// RFC 3389.
+    ComfortNoise = 4,
+    AmrWb = 5,
+    Vp8 = 9,
+    Vp9 = 10,
+    Av1 = 11,
+    /// Payloads that carry whatever they are given.
+    Null = 12,
+    /// Telephone events (RFC 4733).
+    Telephone = 13,
+}
+
+/// A codec with its settings.
+#[derive(Clone, Copy, Debug, PartialEq, Eq)]
+pub struct Settings {
+    pub codec: Codec,
+    /// The rate of the RTP clock in hertz, above 0.
+    pub rate: u32,
+    /// The first picture id that is sent, at most 32,767: of VP9, and of VP8 with `vp8_ids`.
+    pub first_id: u16,
+    /// AMR-WB payloads are octet-aligned (RFC 4867, section 4.4).
+    pub octet_align: bool,
+    /// VP8 is sent with picture ids.
+    pub vp8_ids: bool,
+    /// VP9 is sent in the flexible mode.
+    pub vp9_flexible: bool,
+}
+
+impl Settings {
+    /// The codec at that rate, with no picture ids of VP8, VP9 in the non-flexible mode from id 0 on, and AMR-WB in its
+    /// bandwidth-efficient layout.
+    pub fn new(codec: Codec, rate: u32) -> Settings {
+        Settings {
+            codec,
+            rate,
+            first_id: 0,
+            octet_align: false,
+            vp8_ids: false,
+            vp9_flexible: false,
+        }
+    }
+
+    fn raw(&self) -> Spec {
+        Spec {
+            codec: self.codec as u32,
+            rate: self.rate,
+            first_id: self.first_id,
+            octet_align: self.octet_align,
+            vp8_ids: self.vp8_ids,
+            vp9_flexible: self.vp9_flexible,
+        }
+    }
+}
+
+/// A packet of a frame.
+#[derive(Clone, Debug, PartialEq, Eq)]
+pub struct Packet {
+    pub payload: Vec<u8>,
+    /// The marker of its RTP header.
+    pub marker: bool,
+    /// A receiver may ask for it again (RFC 4585, section 6.2.1).
+    pub nackable: bool,
+}
+
+/// Cuts frames into packets.
+pub struct Packetizer(Handle);
+
+impl Packetizer {
+    /// `Error::Invalid` for a rate of 0 or a first id above 32,767.
+    pub fn new(settings: &Settings) -> Result<Packetizer, Error> {
+        let mut handle = Handle::empty();
+        // SAFETY: an empty handle, and a struct that is borrowed for the call.
+        told(unsafe { cpl_packetizer_new(handle.raw(), &settings.raw()) })?;
+        Ok(Packetizer(handle))
+    }
+
+    /// The packets of a frame, of at most `mtu` bytes each. Of audio, those of a frame that starts a talk spurt are marked.
+    pub fn packetize(
+        &mut self,
+        mtu: usize,
+        starts_talk_spurt: bool,
+        frame: &[u8],
+    ) -> Result<Vec<Packet>, Error> {
+        let mut count = 0;
+        // SAFETY: the pointer and the length are those of one slice, and all is borrowed for the call.
+        told(unsafe {
+            cpl_packetize(
+                self.0.raw(),
+                mtu,
+                starts_talk_spurt,
+                frame.as_ptr(),
+                frame.len(),
+                &mut count,
+            )
+        })?;
+        (0..count).map(|_| self.packet()).collect()
+    }
+
+    /// The next packet, whose size is asked for first.
+    fn packet(&mut self) -> Result<Packet, Error> {
+        let mut info = PacketInfo::default();
+        let mut payload = Vec::new();
+        loop {
+            // SAFETY: as in `packetize`.
+            let status =
+                unsafe { cpl_packet(self.0.raw(), &mut info, payload.as_mut_ptr(), payload.len()) };
+            if status != TOO_SMALL {
+                told(status)?;
+                return Ok(Packet {
+                    payload,
+                    marker: info.marker,
+                    nackable: info.nackable,
+                });
+            }
+            payload.resize(info.bytes, 0);
+        }
+    }
+}
+
+/// What is known of a received packet.
+#[derive(Clone, Copy, Debug, Default, PartialEq, Eq)]
+pub struct Received {
+    /// The sequence number without wrapping, as [`extend_number`] gives it.
+    pub number: u64,
+    /// When it was received, by a clock of the caller's.
+    pub received: u64,
+    /// The timestamp of its RTP header.
+    pub rtp_time: u32,
+    pub ssrc: u32,
+    pub payload_type: u8,
+    pub marker: bool,
+}
+
+/// A unit that was put together.
+#[derive(Clone, Debug, PartialEq, Eq)]
+pub struct Unit {
+    /// The number of its first packet.
+    pub first: u64,
+    /// The number of its last packet.
+    pub last: u64,
+    pub rtp_time: u64,
+    /// When the first of its packets to come was received.
+    pub received: u64,
+    /// It follows the unit before it.
+    pub contiguous: bool,
+    /// Its first packet has the marker, which audio sets where a talk spurt starts.
+    pub starts_talk_spurt: bool,
+    /// What its payloads told besides.
+    pub extra: Extra,
+    pub bytes: Vec<u8>,
+}
+
+/// How much a buffer holds.
+#[derive(Clone, Copy, Debug, PartialEq, Eq)]
+pub struct Counts {
+    pub packets: usize,
+    /// Complete frames, whether they may be taken yet or not.
+    pub ready: usize,
+    /// How many packets are held at most.
+    pub limit: usize,
+}
+
+/// Puts received packets in order and together.
+///
+/// It is an iterator over the units whose turn has come, which goes on after a push.
+pub struct Buffer(Handle);
+
+impl Buffer {
+    /// A buffer of at most `limit` packets, 1 to 65,536. A frame behind missing packets waits until more than `hold_back`
+    /// complete frames are there. `Error::Invalid` for a rate of 0 or another limit.
+    pub fn new(settings: &Settings, hold_back: usize, limit: usize) -> Result<Buffer, Error> {
+        let mut handle = Handle::empty();
+        // SAFETY: an empty handle, and a struct that is borrowed for the call.
+        told(unsafe { cpl_buffer_new(handle.raw(), &settings.raw(), hold_back, limit) })?;
+        Ok(Buffer(handle))
+    }
+
+    /// Puts a packet in. One that is held already, or comes too late, is dropped.
+    pub fn push(&mut self, packet: &Received, payload: &[u8]) -> Result<(), Error> {
+        let packet = raw::Received {
+            number: packet.number,
+            received: packet.received,
+            rtp_time: packet.rtp_time,
+            ssrc: packet.ssrc,
+            payload_type: packet.payload_type,
+            marker: packet.marker,
+        };
+        // SAFETY: the pointer and the length are those of one slice, and all is borrowed for the call.
+        told(unsafe { cpl_buffer_push(self.0.raw(), &packet, payload.as_ptr(), payload.len()) })
+    }
+
+    /// The next unit, if its turn has come. After an `Err` the next call goes on.
+    pub fn pop(&mut self) -> Option<Result<Unit, Error>> {
+        let mut told_unit = raw::Unit::default();
+        let mut bytes = Vec::new();
+        loop {
+            // SAFETY: as in `push`.
+            let status = unsafe {
+                cpl_buffer_pop(
+                    self.0.raw(),
+                    &mut told_unit,
+                    bytes.as_mut_ptr(),
+                    bytes.len(),
+                )
+            };
+            match status {
+                NONE => return None,
+                TOO_SMALL => bytes.resize(told_unit.bytes, 0),
+                status => return Some(told(status).map(|()| Unit::of(&told_unit, bytes))),
+            }
+        }
+    }
+
+    /// How much is held.
+    pub fn counts(&mut self) -> Result<Counts, Error> {
+        let mut counts = BufferCountsInfo::default();
+        // SAFETY: as in `push`.
+        told(unsafe { cpl_buffer_counts(self.0.raw(), &mut counts) })?;
+        Ok(Counts {
+            packets: counts.held,
+            ready: counts.ready,
+            limit: counts.limit,
+        })
+    }
+}
+
+impl Unit {
+    fn of(told: &raw::Unit, bytes: Vec<u8>) -> Unit {
+        Unit {
+            first: told.first,
+            last: told.last,
+            rtp_time: told.rtp_time,
+            received: told.received,
+            contiguous: told.contiguous,
+            starts_talk_spurt: told.starts_talk_spurt,
+            extra: Extra::of(&told.extra),
+            bytes,
+        }
+    }
+}
+
+impl Iterator for Buffer {
+    type Item = Result<Unit, Error>;
+
+    fn next(&mut self) -> Option<Self::Item> {
+        self.pop()
+    }
+}
+
+/// Puts payloads together that the caller has put in order.
+pub struct Depacketizer(Handle);
+
+impl Depacketizer {
+    /// `Error::Invalid` for a rate of 0.
+    pub fn new(settings: &Settings) -> Result<Depacketizer, Error> {
+        let mut handle = Handle::empty();
+        // SAFETY: an empty handle, and a struct that is borrowed for the call.
+        told(unsafe { cpl_depacketizer_new(handle.raw(), &settings.raw()) })?;
+        Ok(Depacketizer(handle))
+    }
+
+    /// Reads a payload, and appends what it carries.
+    pub fn depacketize(&mut self, payload: &[u8]) -> Result<(), Error> {
+        // SAFETY: the pointer and the length are those of one slice, and all is borrowed for the call.
+        told(unsafe { cpl_depacketize(self.0.raw(), payload.as_ptr(), payload.len()) })
+    }
+
+    /// What the payloads since the last such call gave, and told.
+    pub fn take(&mut self) -> Result<(Vec<u8>, Extra), Error> {
+        let mut size = 0;
+        let mut extra = raw::Extra::default();
+        let mut bytes = Vec::new();
+        loop {
+            // SAFETY: as in `depacketize`.
+            let status = unsafe {
+                cpl_depacketized(
+                    self.0.raw(),
+                    &mut size,
+                    &mut extra,
+                    bytes.as_mut_ptr(),
+                    bytes.len(),
+                )
+            };
+            if status != TOO_SMALL {
+                told(status)?;
+                return Ok((bytes, Extra::of(&extra)));
+            }
+            bytes.resize(size, 0);
+        }
+    }
+}

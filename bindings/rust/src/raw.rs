@@ -1,0 +1,284 @@
+//! The library's calls as C has them. `include/codec_payload.h` says what each does and asks for;
+//! `scripts/face_header.py` compares this file with the library.
+
+use std::ffi::c_void;
+
+#[repr(C)]
+pub struct Place {
+    pub at: *mut c_void,
+}
+
+#[repr(C)]
+pub struct Handle {
+    pub full: bool,
+    pub place: Place,
+}
+
+#[repr(C)]
+#[derive(Clone, Copy, Debug, Default)]
+pub struct Spec {
+    pub codec: u32,
+    pub rate: u32,
+    pub first_id: u16,
+    pub octet_align: bool,
+    pub vp8_ids: bool,
+    pub vp9_flexible: bool,
+}
+
+#[repr(C)]
+#[derive(Clone, Copy, Debug, Default)]
+pub struct PacketInfo {
+    pub bytes: usize,
+    pub marker: bool,
+    pub nackable: bool,
+}
+
+#[repr(C)]
+#[derive(Clone, Copy, Debug, Default)]
+pub struct TeleEvent {
+    pub duration: u64,
+    pub event: u8,
+    pub volume: u8,
+    pub end: bool,
+}
+
+#[repr(C)]
+#[derive(Clone, Copy, Debug, Default)]
+pub struct Vp9Layer {
+    pub end: usize,
+    pub width: u16,
+    pub height: u16,
+    pub has_end: bool,
+    pub has_width: bool,
+    pub has_height: bool,
+}
+
+#[repr(C)]
+#[derive(Clone, Copy, Debug, Default)]
+pub struct Extra {
+    pub picture_id: u64,
+    pub tl0_picture_id: u64,
+    pub kind: u32,
+    pub has_picture_id: bool,
+    pub has_tl0_picture_id: bool,
+    pub has_temporal_layer: bool,
+    pub temporal_layer: u8,
+    pub is_keyframe: bool,
+    pub discardable: bool,
+    pub sync: bool,
+    pub event: TeleEvent,
+    pub layers: [Vp9Layer; 3],
+}
+
+#[repr(C)]
+#[derive(Clone, Copy, Debug, Default)]
+pub struct Received {
+    pub number: u64,
+    pub received: u64,
+    pub rtp_time: u32,
+    pub ssrc: u32,
+    pub payload_type: u8,
+    pub marker: bool,
+}
+
+#[repr(C)]
+#[derive(Clone, Copy, Debug, Default)]
+pub struct Unit {
+    pub first: u64,
+    pub last: u64,
+    pub rtp_time: u64,
+    pub received: u64,
+    pub bytes: usize,
+    pub contiguous: bool,
+    pub starts_talk_spurt: bool,
+    pub extra: Extra,
+}
+
+#[repr(C)]
+#[derive(Clone, Copy, Debug, Default)]
+pub struct BufferCountsInfo {
+    pub held: usize,
+    pub ready: usize,
+    pub limit: usize,
+    pub waiting: bool,
+}
+
+#[repr(C)]
+#[derive(Clone, Copy, Debug, Default)]
+pub struct RedOlder {
+    pub start: usize,
+    pub bytes: usize,
+    pub offset: u32,
+    pub payload_type: u8,
+}
+
+#[repr(C)]
+#[derive(Clone, Copy, Debug, Default)]
+pub struct RedBlockInfo {
+    pub bytes: usize,
+    pub offset: u32,
+    pub payload_type: u8,
+    pub is_primary: bool,
+}
+
+#[repr(C)]
+#[derive(Clone, Copy, Debug, Default)]
+pub struct RecoveredInfo {
+    pub number: u64,
+    pub bytes: usize,
+    pub rtp_time: u32,
+    pub is_primary: bool,
+}
+
+#[repr(C)]
+#[derive(Clone, Copy, Debug, Default)]
+pub struct Vp8FieldsInfo {
+    pub picture_id: u16,
+    pub tl0_pic_idx: u8,
+    pub key_idx: u8,
+    pub has_picture_id: bool,
+    pub has_tl0_pic_idx: bool,
+    pub has_key_idx: bool,
+}
+
+unsafe extern "C" {
+    pub fn cpl_buffer_new(
+        handle: *mut Handle,
+        spec: *const Spec,
+        hold_back: usize,
+        limit: usize,
+    ) -> u32;
+    pub fn cpl_buffer_push(
+        handle: *mut Handle,
+        packet: *const Received,
+        payload: *const u8,
+        payload_len: usize,
+    ) -> u32;
+    pub fn cpl_buffer_pop(
+        handle: *mut Handle,
+        unit: *mut Unit,
+        bytes: *mut u8,
+        bytes_len: usize,
+    ) -> u32;
+    pub fn cpl_buffer_counts(handle: *mut Handle, counts: *mut BufferCountsInfo) -> u32;
+    pub fn cpl_depacketizer_new(handle: *mut Handle, spec: *const Spec) -> u32;
+    pub fn cpl_depacketize(handle: *mut Handle, payload: *const u8, payload_len: usize) -> u32;
+    pub fn cpl_depacketized(
+        handle: *mut Handle,
+        size: *mut usize,
+        extra: *mut Extra,
+        bytes: *mut u8,
+        bytes_len: usize,
+    ) -> u32;
+    pub fn cpl_free(handle: *mut Handle);
+    pub fn cpl_vp8_is_keyframe(payload: *const u8, payload_len: usize) -> bool;
+    pub fn cpl_vp9_is_keyframe(payload: *const u8, payload_len: usize) -> bool;
+    pub fn cpl_vp9_frame_is_keyframe(frame: *const u8, frame_len: usize) -> bool;
+    pub fn cpl_av1_is_keyframe(payload: *const u8, payload_len: usize) -> bool;
+    pub fn cpl_is_head(
+        codec: u32,
+        payload: *const u8,
+        payload_len: usize,
+        is_head: *mut bool,
+    ) -> u32;
+    pub fn cpl_is_tail(
+        codec: u32,
+        marker: bool,
+        payload: *const u8,
+        payload_len: usize,
+        is_tail: *mut bool,
+    ) -> u32;
+    pub fn cpl_extend_number(previous: u64, has_previous: bool, number: u16) -> u64;
+    pub fn cpl_packetizer_new(handle: *mut Handle, spec: *const Spec) -> u32;
+    pub fn cpl_packetize(
+        handle: *mut Handle,
+        mtu: usize,
+        starts_talk_spurt: bool,
+        frame: *const u8,
+        frame_len: usize,
+        count: *mut usize,
+    ) -> u32;
+    pub fn cpl_packet(
+        handle: *mut Handle,
+        info: *mut PacketInfo,
+        bytes: *mut u8,
+        bytes_len: usize,
+    ) -> u32;
+    pub fn cpl_red_sender_new(
+        handle: *mut Handle,
+        red_pt: u8,
+        primary_pt: u8,
+        distances: *const u32,
+        distances_len: usize,
+    ) -> u32;
+    pub fn cpl_red_sync(
+        handle: *mut Handle,
+        red_pt: u8,
+        primary_pt: u8,
+        distances: *const u32,
+        distances_len: usize,
+    ) -> u32;
+    pub fn cpl_red_wrap(
+        handle: *mut Handle,
+        rtp_time: u32,
+        budget: usize,
+        payload: *const u8,
+        payload_len: usize,
+        bytes: *mut u8,
+        bytes_len: usize,
+        size: *mut usize,
+    ) -> u32;
+    pub fn cpl_red_encode(
+        primary_pt: u8,
+        primary: *const u8,
+        primary_len: usize,
+        older: *const RedOlder,
+        older_len: usize,
+        media: *const u8,
+        media_len: usize,
+        bytes: *mut u8,
+        bytes_len: usize,
+        size: *mut usize,
+    ) -> u32;
+    pub fn cpl_red_block(
+        payload: *const u8,
+        payload_len: usize,
+        index: usize,
+        info: *mut RedBlockInfo,
+        bytes: *mut u8,
+        bytes_len: usize,
+    ) -> u32;
+    pub fn cpl_red_recover(
+        primary_pt: u8,
+        step: u32,
+        number: u64,
+        rtp_time: u32,
+        payload: *const u8,
+        payload_len: usize,
+        index: usize,
+        info: *mut RecoveredInfo,
+        bytes: *mut u8,
+        bytes_len: usize,
+    ) -> u32;
+    pub fn cpl_tele_read(
+        payload: *const u8,
+        payload_len: usize,
+        rate: u32,
+        index: usize,
+        event: *mut TeleEvent,
+    ) -> u32;
+    pub fn cpl_tele_write(
+        event: *const TeleEvent,
+        rate: u32,
+        bytes: *mut u8,
+        bytes_len: usize,
+    ) -> u32;
+    pub fn cpl_vp8_fields(
+        payload: *const u8,
+        payload_len: usize,
+        fields: *mut Vp8FieldsInfo,
+        starts_keyframe: *mut bool,
+    ) -> u32;
+    pub fn cpl_vp8_patch(payload: *mut u8, payload_len: usize, values: *const Vp8FieldsInfo)
+    -> u32;
+}

@@ -1,0 +1,203 @@
+//! Redundant audio (RFC 2198).
+
+use crate::error::{Error, NONE, TOO_SMALL, told};
+use crate::handle::Handle;
+use crate::raw::*;
+
+/// More bytes than eight redundant blocks can have with their headers, and the primary header.
+const MOST_REDUNDANT: usize = 8 * (4 + 1_023) + 1;
+
+/// Sends each payload together with some of those before it.
+pub struct Sender(Handle);
+
+impl Sender {
+    /// `red_pt` is the payload type of the packets, `primary_pt` that of the media. Each distance is how many payloads back to
+    /// repeat: they rise strictly, from 1 to 8, or `Error::Invalid` comes.
+    pub fn new(red_pt: u8, primary_pt: u8, distances: &[u32]) -> Result<Sender, Error> {
+        let mut handle = Handle::empty();
+        // SAFETY: an empty handle; the pointer and the length are those of one slice.
+        told(unsafe {
+            cpl_red_sender_new(
+                handle.raw(),
+                red_pt,
+                primary_pt,
+                distances.as_ptr(),
+                distances.len(),
+            )
+        })?;
+        Ok(Sender(handle))
+    }
+
+    /// Takes over new types and distances.
+    pub fn sync(&mut self, red_pt: u8, primary_pt: u8, distances: &[u32]) -> Result<(), Error> {
+        // SAFETY: as in `new`.
+        told(unsafe {
+            cpl_red_sync(
+                self.0.raw(),
+                red_pt,
+                primary_pt,
+                distances.as_ptr(),
+                distances.len(),
+            )
+        })
+    }
+
+    /// The RED payload of a media payload, in at most `budget` bytes. The payload is then remembered. One of `budget` bytes or
+    /// more comes back as it is, and is no RED.
+    pub fn wrap(&mut self, rtp_time: u32, budget: usize, payload: &[u8]) -> Result<Vec<u8>, Error> {
+        // No answer is longer than this, so a greater budget changes nothing.
+        let budget = budget.min(payload.len() + MOST_REDUNDANT);
+        let mut bytes = vec![0; budget.max(payload.len())];
+        let mut size = 0;
+        // SAFETY: each pointer and length are those of one slice, and all is borrowed for the call.
+        told(unsafe {
+            cpl_red_wrap(
+                self.0.raw(),
+                rtp_time,
+                budget,
+                payload.as_ptr(),
+                payload.len(),
+                bytes.as_mut_ptr(),
+                bytes.len(),
+                &mut size,
+            )
+        })?;
+        bytes.truncate(size);
+        Ok(bytes)
+    }
+}
+
+/// A block of a payload.
+#[derive(Clone, Debug, PartialEq, Eq)]
+pub struct Block {
+    pub payload_type: u8,
+    /// How much older than the primary block it is, in ticks of the RTP clock.
+    pub offset: u32,
+    /// This is the packet's own media.
+    pub is_primary: bool,
+    pub payload: Vec<u8>,
+}
+
+/// A packet that a payload holds.
+#[derive(Clone, Debug, PartialEq, Eq)]
+pub struct Recovered {
+    pub number: u64,
+    pub rtp_time: u32,
+    /// This is the packet itself whose payload was read.
+    pub is_primary: bool,
+    pub payload: Vec<u8>,
+}
+
+/// The blocks of a payload in order, the primary one last.
+pub fn blocks(payload: &[u8]) -> Result<Vec<Block>, Error> {
+    let mut found = Vec::new();
+    let mut bytes = vec![0; payload.len()];
+    loop {
+        let mut info = RedBlockInfo::default();
+        // SAFETY: each pointer and length are those of one slice, and all is borrowed for the call.
+        let status = unsafe {
+            cpl_red_block(
+                payload.as_ptr(),
+                payload.len(),
+                found.len(),
+                &mut info,
+                bytes.as_mut_ptr(),
+                bytes.len(),
+            )
+        };
+        if status == NONE {
+            return Ok(found);
+        }
+        told(status)?;
+        found.push(Block {
+            payload_type: info.payload_type,
+            offset: info.offset,
+            is_primary: info.is_primary,
+            payload: bytes[..info.bytes].to_vec(),
+        });
+    }
+}
+
+/// The packets that the payload of the packet with this number and time holds, that packet last. Packets of the stream are
+/// `step` ticks apart, 1 to 16,383.
+pub fn recover(
+    primary_pt: u8,
+    step: u32,
+    number: u64,
+    rtp_time: u32,
+    payload: &[u8],
+) -> Result<Vec<Recovered>, Error> {
+    let mut found = Vec::new();
+    let mut bytes = vec![0; payload.len()];
+    loop {
+        let mut info = RecoveredInfo::default();
+        // SAFETY: as in `blocks`.
+        let status = unsafe {
+            cpl_red_recover(
+                primary_pt,
+                step,
+                number,
+                rtp_time,
+                payload.as_ptr(),
+                payload.len(),
+                found.len(),
+                &mut info,
+                bytes.as_mut_ptr(),
+                bytes.len(),
+            )
+        };
+        if status == NONE {
+            return Ok(found);
+        }
+        told(status)?;
+        found.push(Recovered {
+            number: info.number,
+            rtp_time: info.rtp_time,
+            is_primary: info.is_primary,
+            payload: bytes[..info.bytes].to_vec(),
+        });
+    }
+}
+
+/// A payload of the first 32 older blocks that fit, each with its type, offset and bytes, and of the primary one.
+pub fn encode(
+    primary_pt: u8,
+    primary: &[u8],
+    older: &[(u8, u32, &[u8])],
+) -> Result<Vec<u8>, Error> {
+    let mut media = Vec::new();
+    let mut parts = Vec::new();
+    for &(payload_type, offset, payload) in older {
+        parts.push(RedOlder {
+            start: media.len(),
+            bytes: payload.len(),
+            offset,
+            payload_type,
+        });
+        media.extend_from_slice(payload);
+    }
+    let mut bytes = Vec::new();
+    let mut size = 0;
+    loop {
+        // SAFETY: as in `blocks`.
+        let status = unsafe {
+            cpl_red_encode(
+                primary_pt,
+                primary.as_ptr(),
+                primary.len(),
+                parts.as_ptr(),
+                parts.len(),
+                media.as_ptr(),
+                media.len(),
+                bytes.as_mut_ptr(),
+                bytes.len(),
+                &mut size,
+            )
+        };
+        if status != TOO_SMALL {
+            told(status)?;
+            return Ok(bytes);
+        }
+        bytes.resize(size, 0);
+    }
+}

@@ -1,0 +1,259 @@
+//! The rows that the repository's README and its program's tests have, through the crate.
+
+use codec_payload::{
+    Buffer, Codec, Depacketizer, Error, Extra, Packet, Packetizer, Received, Settings, Unit,
+    extend_number, is_av1_keyframe, is_head, is_tail, is_vp9_frame_keyframe, is_vp9_keyframe, red,
+    telephone, vp8,
+};
+
+/// What is known of a packet of that number.
+fn received(number: u64, rtp_time: u32, marker: bool) -> Received {
+    Received {
+        number,
+        rtp_time,
+        payload_type: 96,
+        marker,
+        ..Received::default()
+    }
+}
+
+/// The numbers, whether it is contiguous, and the bytes.
+fn row(unit: &Unit) -> (u64, u64, bool, &[u8]) {
+    (unit.first, unit.last, unit.contiguous, &unit.bytes)
+}
+
+fn payloads(packets: &[Packet]) -> Vec<(bool, &[u8])> {
+    packets
+        .iter()
+        .map(|packet| (packet.marker, packet.payload.as_slice()))
+        .collect()
+}
+
+/// One Opus sample of three bytes, cut at an MTU of 2 into packets 10 and 11: the first run of the README.
+#[test]
+fn first_run() -> Result<(), Error> {
+    let settings = Settings::new(Codec::Opus, 48_000);
+    let packets = Packetizer::new(&settings)?.packetize(2, false, &[0x90; 3])?;
+    assert_eq!(
+        payloads(&packets),
+        [(false, &[0x90, 0x90][..]), (false, &[0x90])]
+    );
+    let mut buffer = Buffer::new(&settings, 0, 4_096)?;
+    for (packet, number) in packets.iter().zip(10..) {
+        buffer.push(&received(number, 960, packet.marker), &packet.payload)?;
+    }
+    let units = buffer.by_ref().collect::<Result<Vec<_>, _>>()?;
+    assert_eq!(
+        units.iter().map(row).collect::<Vec<_>>(),
+        [(10, 10, true, &[0x90, 0x90][..]), (11, 11, true, &[0x90])]
+    );
+    assert_eq!(buffer.pop(), None);
+    Ok(())
+}
+
+/// Packet 11 is missing: with a hold-back of 1, packet 12 waits for packet 13, and packet 11 then comes too late.
+#[test]
+fn hold_back() -> Result<(), Error> {
+    let mut buffer = Buffer::new(&Settings::new(Codec::Opus, 48_000), 1, 4_096)?;
+    buffer.push(&received(10, 0, false), &[0x0a])?;
+    assert_eq!(row(&buffer.pop().unwrap()?), (10, 10, true, &[0x0a][..]));
+    buffer.push(&received(12, 1920, false), &[0x0c])?;
+    assert_eq!(buffer.pop(), None);
+    assert_eq!(buffer.counts()?.ready, 1);
+    buffer.push(&received(13, 2880, false), &[0x0d])?;
+    assert_eq!(row(&buffer.pop().unwrap()?), (12, 12, false, &[0x0c][..]));
+    buffer.push(&received(11, 960, false), &[0x0b])?;
+    assert_eq!(row(&buffer.pop().unwrap()?), (13, 13, true, &[0x0d][..]));
+    assert_eq!(buffer.counts()?.packets, 0);
+    Ok(())
+}
+
+/// VP8 and VP9 with picture ids, in both modes.
+#[test]
+fn picture_ids() -> Result<(), Error> {
+    let mut vp8 = Settings::new(Codec::Vp8, 90_000);
+    vp8.vp8_ids = true;
+    vp8.first_id = 32;
+    let packets = Packetizer::new(&vp8)?.packetize(5, false, &[0x90; 3])?;
+    assert_eq!(
+        payloads(&packets),
+        [
+            (false, &[0x90, 0x80, 0x20, 0x90, 0x90][..]),
+            (true, &[0x80, 0x80, 0x20, 0x90])
+        ]
+    );
+    let mut buffer = Buffer::new(&vp8, 0, 2)?;
+    buffer.push(&received(2, 0, true), &packets[1].payload)?;
+    buffer.push(&received(1, 0, false), &packets[0].payload)?;
+    let unit = buffer.pop().unwrap()?;
+    assert_eq!(row(&unit), (1, 2, true, &[0x90, 0x90, 0x90][..]));
+    let Extra::Vp8(extra) = unit.extra else {
+        panic!("{:?}", unit.extra)
+    };
+    assert_eq!(
+        (extra.picture_id, extra.tl0_picture_id, extra.is_keyframe),
+        (Some(32), None, true)
+    );
+
+    let mut vp9 = Settings::new(Codec::Vp9, 90_000);
+    vp9.first_id = 4_660;
+    let frame = [0x82, 0x49, 0x83];
+    let packets = Packetizer::new(&vp9)?.packetize(10, false, &frame)?;
+    assert_eq!(
+        packets[0].payload,
+        [0xaa, 0x92, 0x34, 0x10, 0x01, 0x00, 0x82, 0x49]
+    );
+    assert_eq!(packets[1].payload, [0xa4, 0x92, 0x34, 0x10, 0x01, 0x83]);
+    vp9.vp9_flexible = true;
+    let packets = Packetizer::new(&vp9)?.packetize(5, false, &frame)?;
+    assert_eq!(packets[0].payload, [0x98, 0x92, 0x34, 0x82, 0x49]);
+    let mut depacketizer = Depacketizer::new(&vp9)?;
+    for packet in &packets {
+        depacketizer.depacketize(&packet.payload)?;
+    }
+    let (bytes, extra) = depacketizer.take()?;
+    let Extra::Vp9(extra) = extra else {
+        panic!("{extra:?}")
+    };
+    assert_eq!(
+        (bytes.as_slice(), extra.picture_id),
+        (&frame[..], Some(4_660))
+    );
+    assert_eq!(depacketizer.take()?, (Vec::new(), Extra::None));
+    Ok(())
+}
+
+/// AMR-WB of type 14 in either layout, comfort noise, and a telephone event that is too long and then too short.
+#[test]
+fn audio() -> Result<(), Error> {
+    let mut amr_wb = Settings::new(Codec::AmrWb, 16_000);
+    let packets = Packetizer::new(&amr_wb)?.packetize(1_200, true, &[0x74])?;
+    assert_eq!(payloads(&packets), [(true, &[0xf7, 0x40][..])]);
+    amr_wb.octet_align = true;
+    let packets = Packetizer::new(&amr_wb)?.packetize(1_200, false, &[0x74])?;
+    assert_eq!(payloads(&packets), [(false, &[0xf0, 0x74][..])]);
+
+    let noise = Settings::new(Codec::ComfortNoise, 8_000);
+    let packets = Packetizer::new(&noise)?.packetize(1_200, true, &[0x2a, 0x80, 0x40])?;
+    assert_eq!(payloads(&packets), [(false, &[0x2a, 0x80, 0x40][..])]);
+
+    let events = Settings::new(Codec::Telephone, 8_000);
+    let reports = [5, 0x8a, 3, 0x20, 6, 0x0a, 1, 0x40];
+    assert_eq!(
+        Packetizer::new(&events)?.packetize(7, true, &reports),
+        Err(Error::PayloadTooLarge)
+    );
+    let mut buffer = Buffer::new(&events, 0, 1)?;
+    buffer.push(&received(1, 0, false), &reports[..5])?;
+    assert_eq!(buffer.pop(), Some(Err(Error::TelephoneInvalid)));
+    buffer.push(&received(2, 0, true), &reports)?;
+    let unit = buffer.pop().unwrap()?;
+    assert_eq!(row(&unit), (2, 2, true, &reports[..4]));
+    assert!(unit.starts_talk_spurt);
+    let read = telephone::read(&reports, 8_000)?;
+    assert_eq!(unit.extra, Extra::Telephone(read[0]));
+    assert_eq!((read.len(), read[0].duration), (2, 100_000_000));
+    assert_eq!(telephone::write(&read[1], 8_000)?, reports[4..]);
+    assert_eq!(
+        telephone::read(&reports[..5], 8_000),
+        Err(Error::TelephoneInvalid)
+    );
+    Ok(())
+}
+
+/// RFC 2198: a block 960 ticks older, and the primary one.
+#[test]
+fn redundancy() -> Result<(), Error> {
+    let wanted = [0xef, 0x0f, 0x00, 0x02, 0x6f, 1, 2, 3];
+    let mut sender = red::Sender::new(63, 111, &[1])?;
+    assert_eq!(sender.wrap(0, usize::MAX, &[1, 2])?, [0x6f, 1, 2]);
+    let wrapped = sender.wrap(960, 16, &[3])?;
+    assert_eq!(wrapped, wanted);
+    let packets = red::recover(111, 960, 7, 960, &wrapped)?;
+    assert_eq!(
+        (packets.len(), packets[0].number, packets[0].rtp_time),
+        (2, 6, 0)
+    );
+    assert_eq!(
+        (packets[0].payload.as_slice(), packets[1].payload.as_slice()),
+        (&[1, 2][..], &[3][..])
+    );
+    let blocks = red::blocks(&wrapped)?;
+    assert_eq!(
+        (blocks.len(), blocks[0].offset, blocks[1].is_primary),
+        (2, 960, true)
+    );
+    assert_eq!(red::encode(111, &[3], &[(111, 960, &[1, 2])])?, wanted);
+    assert_eq!(red::blocks(&wanted[..3]), Err(Error::RedCorrupted));
+    assert_eq!(
+        red::Sender::new(63, 111, &[2, 1]).err(),
+        Some(Error::Invalid)
+    );
+    assert_eq!(sender.sync(63, 111, &[9]), Err(Error::Invalid));
+    assert_eq!(sender.sync(63, 111, &[]), Ok(()));
+    Ok(())
+}
+
+#[test]
+fn descriptors_and_looks() -> Result<(), Error> {
+    let mut payload = [0x90, 0x80, 0x20, 0x90];
+    assert_eq!(vp8::fields(&payload)?.picture_id, Some(32));
+    let mut values = vp8::Fields {
+        picture_id: Some(33),
+        ..vp8::Fields::default()
+    };
+    vp8::patch(&mut payload, &values)?;
+    assert_eq!(payload, [0x90, 0x80, 0x21, 0x90]);
+    values.picture_id = Some(128);
+    assert_eq!(vp8::patch(&mut payload, &values), Err(Error::Invalid));
+    values.key_idx = Some(1);
+    values.picture_id = None;
+    assert_eq!(vp8::patch(&mut payload, &values), Err(Error::Missing));
+    assert_eq!(vp8::fields(&payload[..3]), Err(Error::ShortPacket));
+    assert!(vp8::is_keyframe(&payload) && is_head(Codec::Vp8, &payload)?);
+    assert!(!is_tail(Codec::Vp8, false, &payload)? && is_tail(Codec::Vp8, true, &payload)?);
+    assert!(is_vp9_frame_keyframe(&[0x82, 0x49, 0x83]) && !is_vp9_keyframe(&[0x48]));
+    assert!(is_av1_keyframe(&[0x18, 0x0a]));
+    assert_eq!(extend_number(Some(65_535), 0), 65_536);
+    assert_eq!(extend_number(None, 5), 5);
+    Ok(())
+}
+
+/// Settings that are refused, and an error's text.
+#[test]
+fn refusals() {
+    assert_eq!(
+        Packetizer::new(&Settings::new(Codec::Null, 0)).err(),
+        Some(Error::Invalid)
+    );
+    let settings = Settings::new(Codec::Null, 8_000);
+    assert_eq!(Buffer::new(&settings, 0, 0).err(), Some(Error::Invalid));
+    assert_eq!(
+        Buffer::new(&settings, 0, 65_537).err(),
+        Some(Error::Invalid)
+    );
+    let error: Box<dyn std::error::Error> = Box::new(Error::Av1Corrupted);
+    assert_eq!(error.to_string(), "the AV1 packet or frame is corrupted");
+    let mut av1 = Packetizer::new(&Settings::new(Codec::Av1, 90_000)).unwrap();
+    assert_eq!(
+        av1.packetize(1_200, false, &[0x12]),
+        Err(Error::Av1Corrupted)
+    );
+}
+
+/// A buffer that is filled on one thread gives its units on another.
+#[test]
+fn another_thread() -> Result<(), Error> {
+    let settings = Settings::new(Codec::Null, 8_000);
+    let mut buffer = Buffer::new(&settings, 0, 8)?;
+    for number in 0..4 {
+        buffer.push(&received(number, 0, false), &[number as u8; 300])?;
+    }
+    let units = std::thread::spawn(move || {
+        buffer
+            .map(|unit| unit.map(|unit| unit.bytes[299]))
+            .collect::<Vec<_>>()
+    });
+    assert_eq!(units.join().unwrap(), [Ok(0), Ok(1), Ok(2), Ok(3)]);
+    Ok(())
+}

@@ -1,0 +1,13 @@
+pub mod Assemblers
+pub mod Buffers
+pub mod Bytes
+pub mod Extras
+pub mod Kinds
+pub mod Looks
+pub mod Owned
+pub mod RedCoding
+pub mod Reds
+pub mod Senders
+pub mod Settings
+pub mod Tele
+pub mod Vp8

@@ -1,0 +1,57 @@
+-- What the calls on a packetizer do.
+use Rattle.std.specs.Prelude.{◌≡◌, ◌≢◌, ℕ, ◌+◌, ◌==◌, ◌&&◌, ◌||◌, Bool, nat_le, if◌then◌else◌, List, [], Option, Some, None, Ok, Err, IfSome, length, map, slice_get}
+use Rattle.codec_payload_core.specs.Faults.{fault_number}
+use Rattle.codec_payload_core.specs.Pack.{Pack, PackStep, pack_of, is_built_in, marker_of, talkspurt_of, nackable_of}
+use Rattle.codec_payload_core.specs.declared.error.PacketError.{PacketError}
+use Rattle.codec_payload_c.specs.Bytes.{filled}
+use Rattle.codec_payload_c.specs.declared.object.Object.{Object}
+use Rattle.codec_payload_c.specs.declared.object.Object.TheVariants as objects
+use Rattle.codec_payload_c.specs.declared.object.Sender.{Sender}
+use Rattle.codec_payload_c.specs.declared.packetizer.PacketInfo.{PacketInfo}
+
+-- the packets of the latest frame
+abbrev pub packets_in : Sender → List (List ℕ)
+packets_in r = map (λ p. p.items) r.packets.items
+
+-- a sender with that packetizer and no packets
+abbrev pub IsSenderOf : Option Pack → Object → Type 0
+IsSenderOf pack (objects.Sender s) = (Some (pack_of s.pack) ≡ pack) × (packets_in s ≡ []) × (s.taken ≡ 0)
+IsSenderOf pack (objects.Assembler _) = ⊥
+IsSenderOf pack (objects.Receiver _) = ⊥
+IsSenderOf pack (objects.RedSender _) = ⊥
+
+-- A frame is cut: its packets are there to take, from the first, and those of the frame before are given up. A fault leaves
+-- the packets as they were.
+pub record CutsFrame (r : Sender) (mtu : ℕ) (starts : Bool) (frame : List ℕ) (status count : ℕ) (s : Sender) : Type 0 where
+  pub ok : status ≡ 0 → PackStep (pack_of r.pack) mtu frame (Ok (packets_in s)) (pack_of s.pack)
+  pub counted : status ≡ 0 → count ≡ length (packets_in s)
+  pub none_taken : status ≡ 0 → s.taken ≡ 0
+  pub marked : status ≡ 0 → is_built_in (pack_of s.pack) ≡ Bool.true → s.marked ≡ (starts && talkspurt_of (pack_of s.pack))
+  pub fault : status ≢ 0 → (e : PacketError) × (status ≡ fault_number e) × PackStep (pack_of r.pack) mtu frame (Err e) (pack_of s.pack)
+  pub stays : status ≢ 0 → (s.packets ≡ r.packets) × (s.taken ≡ r.taken) × (s.marked ≡ r.marked)
+
+-- the next packet to take
+abbrev pub next_in : Sender → Option (List ℕ)
+next_in r = slice_get (packets_in r) r.taken
+
+-- 0 where there is one for which the caller has room, 33 where the room is too small, 32 where there is none
+abbrev pub packet_status : Option (List ℕ) → ℕ → ℕ
+packet_status None room = 32
+packet_status (Some p) room = if nat_le (length p) room then 0 else 33
+
+-- what is told of the next packet
+pub record TellsPacket (r : Sender) (p : List ℕ) (info : PacketInfo) : Type 0 where
+  pub bytes : info.bytes ≡ length p
+  pub marker : is_built_in (pack_of r.pack) ≡ Bool.true → info.marker ≡ (r.marked || marker_of (pack_of r.pack) (r.taken + 1 == length (packets_in r)))
+  pub nackable : is_built_in (pack_of r.pack) ≡ Bool.true → info.nackable ≡ nackable_of (pack_of r.pack)
+
+-- The next packet is taken, or stays where the caller's bytes are too few.
+pub record GivesPacket (r : Sender) (status : ℕ) (info : PacketInfo) (before bytes : List ℕ) (s : Sender) : Type 0 where
+  pub answers : status ≡ packet_status (next_in r) (length before)
+  pub tells : IfSome (next_in r) (λ p. TellsPacket r p info)
+  pub writes : IfSome (next_in r) (λ p. bytes ≡ filled p before)
+  pub untouched : next_in r ≡ None → bytes ≡ before
+  pub takes : s.taken ≡ (if status == 0 then r.taken + 1 else r.taken)
+  pub packets : s.packets ≡ r.packets
+  pub pack : pack_of s.pack ≡ pack_of r.pack
+  pub marked : s.marked ≡ r.marked

@@ -1,0 +1,265 @@
+//! Received packets put in order and together.
+
+ghost use Rattle.std.specs.Prelude.{◌≡◌, ◌≢◌, ◌&&◌, is_some, nat_le};
+ghost use Rattle.codec_payload_c.specs.Buffers.{AnswersPop, AnswersPush, Counts, IsReceiverOf, IsToldBy, TellsUnit};
+ghost use Rattle.codec_payload_c.specs.Kinds.{Makes, OnReceiver, Refuses, is_receiver};
+ghost use Rattle.codec_payload_c.specs.Settings.{depack_set};
+
+use crate::bytes::fill;
+use crate::extra::{Extra, extra_of};
+use crate::handle::Handle;
+use crate::object::{Object, Receiver};
+use crate::settings::{Spec, depacketizer_of};
+use crate::status;
+use codec_payload_core::buffer::{Depacketized, DepacketizingBuffer, RtpMeta};
+use codec_payload_core::wire::{
+    ExtensionValues, Frequency, MediaTime, Pt, RtpHeader, SeqNo, Ticks,
+};
+use std::alloc::Global;
+
+/// How many packets a buffer holds at most.
+const MAX_LIMIT: usize = 65_536;
+
+/// What is known of a received packet.
+#[repr(C)]
+#[derive(Drop)]
+pub struct Received {
+    /// The sequence number without wrapping; its low 16 bits are those of the RTP header.
+    pub number: u64,
+    /// When it was received, by the caller's clock.
+    pub received: u64,
+    /// In ticks of the RTP clock, modulo 2^32.
+    pub rtp_time: u32,
+    pub ssrc: u32,
+    pub payload_type: u8,
+    pub marker: bool,
+}
+
+/// What is known of a unit.
+#[repr(C)]
+#[derive(Drop)]
+pub struct Unit {
+    /// The number of its first packet.
+    pub first: u64,
+    /// The number of its last packet.
+    pub last: u64,
+    /// In ticks of the RTP clock, modulo 2^32.
+    pub rtp_time: u64,
+    /// When the first of its packets was received, by the caller's clock.
+    pub received: u64,
+    /// How many bytes it has.
+    pub bytes: usize,
+    /// Whether it follows the unit before it.
+    pub contiguous: bool,
+    /// Whether its first packet has the marker, which audio sets where a talk spurt starts.
+    pub starts_talk_spurt: bool,
+    /// What its payloads told besides.
+    pub extra: Extra,
+}
+
+/// How much a buffer holds.
+#[repr(C)]
+#[derive(Drop)]
+pub struct BufferCountsInfo {
+    /// How many packets are held.
+    pub held: usize,
+    /// How many complete frames are held.
+    pub ready: usize,
+    /// How many packets are held at most.
+    pub limit: usize,
+    /// Whether a unit waits for enough of the caller's bytes.
+    pub waiting: bool,
+}
+
+/// What is known of a packet, as the buffer has it.
+fn meta_of(packet: &Received, rate: Frequency) -> RtpMeta
+    ensures { IsToldBy packet.now rate result }
+{
+    RtpMeta {
+        received: Ticks(packet.received),
+        time: MediaTime::new(u64::from(packet.rtp_time), rate),
+        seq_no: SeqNo(packet.number),
+        header: RtpHeader {
+            payload_type: Pt::new_with_value(packet.payload_type),
+            sequence_number: (packet.number % 65_536) as u16,
+            timestamp: packet.rtp_time,
+            ssrc: packet.ssrc,
+            marker: packet.marker,
+            ext_vals: ExtensionValues::default(),
+        },
+        last_sender_info: None,
+    }
+}
+
+/// What is known of a unit, as C has it.
+fn unit_of(unit: &Depacketized) -> Unit
+    ensures { TellsUnit unit.now result }
+{
+    let numbers = unit.seq_range();
+    Unit {
+        first: numbers.start().0,
+        last: numbers.end().0,
+        rtp_time: unit.time.numer(),
+        received: unit.first_network_time().0,
+        bytes: unit.bytes.len(),
+        contiguous: unit.contiguous,
+        starts_talk_spurt: unit.start_of_talkspurt(),
+        extra: extra_of(&unit.codec_extra),
+    }
+}
+
+impl Receiver {
+    /// A packet goes in.
+    fn push(&mut self, alloc: Global, packet: &Received, payload: &[u8]) -> u32
+        ensures { AnswersPush self.old packet.now payload.now result self.new }
+    {
+        let meta = meta_of(packet, self.rate);
+        let Ok(data) = Vec::from_slice(alloc, payload) else {
+            return status::OUT_OF_MEMORY;
+        };
+        match self.buffer.push(meta, data) {
+            Ok(()) => status::OK,
+            Err(fault) => u32::from(fault.number()),
+        }
+    }
+
+    /// The next unit, from the buffer or from the call before, into the caller's bytes.
+    fn pop(&mut self, unit: &mut Unit, bytes: &mut [u8]) -> u32
+        ensures { AnswersPop self.old result unit.old unit.new bytes.old bytes.new self.new }
+    {
+        if self.waiting.is_none() {
+            match self.buffer.pop() {
+                None => return status::NONE,
+                Some(Err(fault)) => return u32::from(fault.number()),
+                Some(Ok(next)) => self.waiting = Some(next),
+            }
+        }
+        let Some(next) = &self.waiting else {
+            return status::NONE;
+        };
+        *unit = unit_of(next);
+        if !fill(bytes, &next.bytes) {
+            return status::TOO_SMALL;
+        }
+        self.waiting = None;
+        status::OK
+    }
+
+    /// How much is held.
+    fn counts(&self) -> BufferCountsInfo
+        ensures { Counts self.now result }
+    {
+        BufferCountsInfo {
+            held: self.buffer.held(),
+            ready: self.buffer.ready(),
+            limit: self.buffer.limit(),
+            waiting: self.waiting.is_some(),
+        }
+    }
+}
+
+/// A buffer with these settings, in an empty handle.
+#[unsafe(no_mangle)]
+pub extern "C" fn cpl_buffer_new(
+    alloc: Global,
+    handle: &mut Handle,
+    spec: &Spec,
+    hold_back: usize,
+    limit: usize,
+) -> u32
+    ensures { Makes (IsReceiverOf spec.now (depack_set spec.now) hold_back limit)
+        (is_some (depack_set spec.now) && nat_le 1 limit && nat_le limit 65536) handle.old.place.value result handle.new.place.value }
+{
+    if let Some(object) = handle.take(alloc) {
+        handle.put(object);
+        return status::FULL;
+    }
+    let (Some(depack), Some(rate)) = (depacketizer_of(alloc, spec), Frequency::make(spec.rate))
+    else {
+        return status::INVALID;
+    };
+    if limit == 0 || limit > MAX_LIMIT {
+        return status::INVALID;
+    }
+    let receiver = Receiver {
+        buffer: DepacketizingBuffer::with_limit(alloc, depack, hold_back, limit),
+        waiting: None,
+        rate,
+    };
+    match Box::new(alloc, Object::Receiver(receiver)) {
+        Ok(object) => {
+            handle.put(object);
+            status::OK
+        }
+        Err(_) => status::OUT_OF_MEMORY,
+    }
+}
+
+/// A received packet goes in. Its payload is copied.
+#[unsafe(no_mangle)]
+pub extern "C" fn cpl_buffer_push(
+    alloc: Global,
+    handle: &mut Handle,
+    packet: &Received,
+    payload: &[u8],
+) -> u32
+    ensures pushes { OnReceiver handle.old.place.value (λ r s. AnswersPush r packet.now payload.now result s) handle.new.place.value }
+    ensures refused { Refuses is_receiver handle.old.place.value result handle.new.place.value }
+{
+    let Some(mut object) = handle.take(alloc) else {
+        return status::EMPTY;
+    };
+    let answer = match &mut *object {
+        Object::Receiver(receiver) => receiver.push(alloc, packet, payload),
+        _ => status::OTHER_KIND,
+    };
+    handle.put(object);
+    answer
+}
+
+/// The next unit, if its turn has come.
+#[unsafe(no_mangle)]
+pub extern "C" fn cpl_buffer_pop(
+    alloc: Global,
+    handle: &mut Handle,
+    unit: &mut Unit,
+    bytes: &mut [u8],
+) -> u32
+    ensures pops { OnReceiver handle.old.place.value (λ r s. AnswersPop r result unit.old unit.new bytes.old bytes.new s) handle.new.place.value }
+    ensures refused { Refuses is_receiver handle.old.place.value result handle.new.place.value }
+    ensures untouched { result ≢ 0 → bytes.new ≡ bytes.old }
+{
+    let Some(mut object) = handle.take(alloc) else {
+        return status::EMPTY;
+    };
+    let answer = match &mut *object {
+        Object::Receiver(receiver) => receiver.pop(unit, bytes),
+        _ => status::OTHER_KIND,
+    };
+    handle.put(object);
+    answer
+}
+
+/// How much a buffer holds.
+#[unsafe(no_mangle)]
+pub extern "C" fn cpl_buffer_counts(
+    alloc: Global,
+    handle: &mut Handle,
+    counts: &mut BufferCountsInfo,
+) -> u32
+    ensures counts { OnReceiver handle.old.place.value (λ r s. (result ≡ 0) × (s ≡ r) × Counts r counts.new) handle.new.place.value }
+    ensures refused { Refuses is_receiver handle.old.place.value result handle.new.place.value }
+{
+    let Some(mut object) = handle.take(alloc) else {
+        return status::EMPTY;
+    };
+    let answer = match &mut *object {
+        Object::Receiver(receiver) => {
+            *counts = receiver.counts();
+            status::OK
+        }
+        _ => status::OTHER_KIND,
+    };
+    handle.put(object);
+    answer
+}

@@ -1,0 +1,147 @@
+//! Frames cut into packets.
+
+ghost use Rattle.std.specs.Prelude.{◌≡◌, ◌≢◌, ◌≤◌, is_some, length};
+ghost use Rattle.codec_payload_c.specs.Kinds.{Makes, OnSender, Refuses, is_sender};
+ghost use Rattle.codec_payload_c.specs.Senders.{CutsFrame, GivesPacket, IsSenderOf};
+ghost use Rattle.codec_payload_c.specs.Settings.{pack_set};
+
+use crate::bytes::fill;
+use crate::handle::Handle;
+use crate::object::{Object, Sender};
+use crate::settings::{Spec, packetizer_of};
+use crate::status;
+use codec_payload_core::codec::Packetizer;
+use std::alloc::Global;
+
+/// What is known of a packet besides its bytes.
+#[repr(C)]
+#[derive(Drop)]
+pub struct PacketInfo {
+    /// How many bytes it has.
+    pub bytes: usize,
+    /// Whether it gets the marker of the RTP header.
+    pub marker: bool,
+    /// Whether a receiver may ask for it again.
+    pub nackable: bool,
+}
+
+impl Sender {
+    /// Cuts a frame. Packets of the frame before that were not taken are given up.
+    fn packetize(
+        &mut self,
+        alloc: Global,
+        mtu: usize,
+        starts_talk_spurt: bool,
+        frame: &[u8],
+        count: &mut usize,
+    ) -> u32
+        ensures { CutsFrame self.old mtu starts_talk_spurt frame.now result count.new self.new }
+    {
+        match self.pack.packetize(alloc, mtu, frame) {
+            Ok(packets) => {
+                *count = packets.len();
+                self.packets = packets;
+                self.taken = 0;
+                self.marked = starts_talk_spurt && self.pack.marks_talkspurt();
+                status::OK
+            }
+            Err(fault) => u32::from(fault.number()),
+        }
+    }
+
+    /// The next packet.
+    fn packet(&mut self, info: &mut PacketInfo, bytes: &mut [u8]) -> u32
+        ensures { GivesPacket self.old result info.new bytes.old bytes.new self.new }
+    {
+        let Some(payload) = self.packets.get(self.taken) else {
+            return status::NONE;
+        };
+        let last = self.packets.len() - self.taken == 1;
+        let previous = match self.taken.checked_sub(1) {
+            Some(before) => Some(self.packets[before].as_slice()),
+            None => None,
+        };
+        info.bytes = payload.len();
+        info.marker = self.pack.is_marker(payload, previous, last) || self.marked;
+        info.nackable = self.pack.nackable();
+        if !fill(bytes, payload) {
+            return status::TOO_SMALL;
+        }
+        self.taken += 1;
+        status::OK
+    }
+}
+
+/// A packetizer with these settings, in an empty handle.
+#[unsafe(no_mangle)]
+pub extern "C" fn cpl_packetizer_new(alloc: Global, handle: &mut Handle, spec: &Spec) -> u32
+    ensures { Makes (IsSenderOf (pack_set spec.now)) (is_some (pack_set spec.now)) handle.old.place.value result handle.new.place.value }
+{
+    if let Some(object) = handle.take(alloc) {
+        handle.put(object);
+        return status::FULL;
+    }
+    let Some(pack) = packetizer_of(spec) else {
+        return status::INVALID;
+    };
+    let sender = Sender {
+        pack,
+        packets: Vec::new(alloc),
+        taken: 0,
+        marked: false,
+    };
+    match Box::new(alloc, Object::Sender(sender)) {
+        Ok(object) => {
+            handle.put(object);
+            status::OK
+        }
+        Err(_) => status::OUT_OF_MEMORY,
+    }
+}
+
+/// Cuts a frame, and says how many packets there are to take.
+#[unsafe(no_mangle)]
+pub extern "C" fn cpl_packetize(
+    alloc: Global,
+    handle: &mut Handle,
+    mtu: usize,
+    starts_talk_spurt: bool,
+    frame: &[u8],
+    count: &mut usize,
+) -> u32
+    ensures cuts { OnSender handle.old.place.value (λ r s. CutsFrame r mtu starts_talk_spurt frame.now result count.new s) handle.new.place.value }
+    ensures refused { Refuses is_sender handle.old.place.value result handle.new.place.value }
+{
+    let Some(mut object) = handle.take(alloc) else {
+        return status::EMPTY;
+    };
+    let answer = match &mut *object {
+        Object::Sender(sender) => sender.packetize(alloc, mtu, starts_talk_spurt, frame, count),
+        _ => status::OTHER_KIND,
+    };
+    handle.put(object);
+    answer
+}
+
+/// Takes the next packet.
+#[unsafe(no_mangle)]
+pub extern "C" fn cpl_packet(
+    alloc: Global,
+    handle: &mut Handle,
+    info: &mut PacketInfo,
+    bytes: &mut [u8],
+) -> u32
+    ensures gives { OnSender handle.old.place.value (λ r s. GivesPacket r result info.new bytes.old bytes.new s) handle.new.place.value }
+    ensures refused { Refuses is_sender handle.old.place.value result handle.new.place.value }
+    ensures untouched { result ≢ 0 → bytes.new ≡ bytes.old }
+{
+    let Some(mut object) = handle.take(alloc) else {
+        return status::EMPTY;
+    };
+    let answer = match &mut *object {
+        Object::Sender(sender) => sender.packet(info, bytes),
+        _ => status::OTHER_KIND,
+    };
+    handle.put(object);
+    answer
+}

@@ -1,0 +1,141 @@
+//! RED with a history: payloads sent together with those before them (RFC 2198).
+
+ghost use Rattle.std.specs.Prelude.{◌≡◌, ◌≢◌};
+ghost use Rattle.codec_payload_core.specs.RedLevels.{is_accepted};
+ghost use Rattle.codec_payload_c.specs.Kinds.{Makes, OnRedSender, Refuses, is_red_sender};
+ghost use Rattle.codec_payload_c.specs.Reds.{IsRedSenderOf, Syncs, Wraps};
+
+use crate::bytes::fill;
+use crate::handle::Handle;
+use crate::object::Object;
+use crate::status;
+use codec_payload_core::red::RedSender;
+use codec_payload_core::wire::Pt;
+use std::alloc::Global;
+
+/// Takes over payload types and distances, where these are accepted.
+fn sync(sender: &mut RedSender, red_pt: u8, primary_pt: u8, distances: &[u32]) -> u32
+    ensures { Syncs sender.old red_pt primary_pt distances.now result sender.new }
+{
+    if !RedSender::accepts(distances) {
+        return status::INVALID;
+    }
+    sender.sync(
+        Pt::new_with_value(red_pt),
+        Pt::new_with_value(primary_pt),
+        distances,
+    );
+    status::OK
+}
+
+/// Wraps a payload into the caller's bytes, of which there are as many as any answer may need.
+fn wrap(
+    sender: &mut RedSender,
+    alloc: Global,
+    rtp_time: u32,
+    budget: usize,
+    payload: &[u8],
+    bytes: &mut [u8],
+    size: &mut usize,
+) -> u32
+    ensures { Wraps sender.old rtp_time budget payload.now result bytes.old bytes.new size.new sender.new }
+{
+    let room = budget.max(payload.len());
+    *size = room;
+    if bytes.len() < room {
+        return status::TOO_SMALL;
+    }
+    let Ok(media) = Vec::from_slice(alloc, payload) else {
+        return status::OUT_OF_MEMORY;
+    };
+    match sender.wrap(media, rtp_time, budget) {
+        Ok(wrapped) => {
+            *size = wrapped.len();
+            fill(bytes, &wrapped);
+            status::OK
+        }
+        Err(_) => status::OUT_OF_MEMORY,
+    }
+}
+
+/// A RED sender that has sent nothing, in an empty handle.
+#[unsafe(no_mangle)]
+pub extern "C" fn cpl_red_sender_new(
+    alloc: Global,
+    handle: &mut Handle,
+    red_pt: u8,
+    primary_pt: u8,
+    distances: &[u32],
+) -> u32
+    ensures { Makes (IsRedSenderOf red_pt primary_pt distances.now) (is_accepted distances.now) handle.old.place.value result handle.new.place.value }
+{
+    if let Some(object) = handle.take(alloc) {
+        handle.put(object);
+        return status::FULL;
+    }
+    if !RedSender::accepts(distances) {
+        return status::INVALID;
+    }
+    let sender = RedSender::new(
+        alloc,
+        Pt::new_with_value(red_pt),
+        Pt::new_with_value(primary_pt),
+        distances,
+    );
+    match Box::new(alloc, Object::RedSender(sender)) {
+        Ok(object) => {
+            handle.put(object);
+            status::OK
+        }
+        Err(_) => status::OUT_OF_MEMORY,
+    }
+}
+
+/// Takes over new payload types and distances.
+#[unsafe(no_mangle)]
+pub extern "C" fn cpl_red_sync(
+    alloc: Global,
+    handle: &mut Handle,
+    red_pt: u8,
+    primary_pt: u8,
+    distances: &[u32],
+) -> u32
+    ensures syncs { OnRedSender handle.old.place.value (λ r s. Syncs r red_pt primary_pt distances.now result s) handle.new.place.value }
+    ensures refused { Refuses is_red_sender handle.old.place.value result handle.new.place.value }
+{
+    let Some(mut object) = handle.take(alloc) else {
+        return status::EMPTY;
+    };
+    let answer = match &mut *object {
+        Object::RedSender(sender) => sync(sender, red_pt, primary_pt, distances),
+        _ => status::OTHER_KIND,
+    };
+    handle.put(object);
+    answer
+}
+
+/// The RED payload of a media payload, which is then remembered.
+#[unsafe(no_mangle)]
+pub extern "C" fn cpl_red_wrap(
+    alloc: Global,
+    handle: &mut Handle,
+    rtp_time: u32,
+    budget: usize,
+    payload: &[u8],
+    bytes: &mut [u8],
+    size: &mut usize,
+) -> u32
+    ensures wraps { OnRedSender handle.old.place.value (λ r s. Wraps r rtp_time budget payload.now result bytes.old bytes.new size.new s) handle.new.place.value }
+    ensures refused { Refuses is_red_sender handle.old.place.value result handle.new.place.value }
+    ensures untouched { result ≢ 0 → bytes.new ≡ bytes.old }
+{
+    let Some(mut object) = handle.take(alloc) else {
+        return status::EMPTY;
+    };
+    let answer = match &mut *object {
+        Object::RedSender(sender) => wrap(sender, alloc, rtp_time, budget, payload, bytes, size),
+        _ => status::OTHER_KIND,
+    };
+    handle.put(object);
+    answer
+}

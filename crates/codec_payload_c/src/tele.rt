@@ -1,0 +1,68 @@
+//! Reports on telephone events (RFC 4733, section 2.3).
+
+ghost use Rattle.std.specs.Prelude.{◌≡◌, ◌≢◌, slice_get};
+ghost use Rattle.codec_payload_c.specs.Tele.{ReadsReport, WritesReport};
+
+use crate::bytes::fill;
+use crate::extra::{TeleEvent, event_of};
+use crate::status;
+use codec_payload_core::tele::{TelephoneEvent, TelephoneEvents};
+use codec_payload_core::wire::Frequency;
+
+/// The fault of that number: the payload is not one or more whole reports.
+const NO_REPORTS: u32 = 15;
+
+/// The report of that index, if there is one.
+fn report_at(reports: &mut TelephoneEvents, index: usize) -> Option<TelephoneEvent>
+    ensures { result ≡ slice_get reports.old index }
+{
+    reports.nth(index)
+}
+
+/// The report of that index, from 0, in a payload of reports.
+#[unsafe(no_mangle)]
+pub extern "C" fn cpl_tele_read(
+    payload: &[u8],
+    rate: u32,
+    index: usize,
+    event: &mut TeleEvent,
+) -> u32
+    ensures { ReadsReport payload.now rate index result event.old event.new }
+{
+    let Some(rate) = Frequency::make(rate) else {
+        return status::INVALID;
+    };
+    let Some(mut reports) = TelephoneEvent::parse_all(payload, rate) else {
+        return NO_REPORTS;
+    };
+    let Some(report) = report_at(&mut reports, index) else {
+        return status::NONE;
+    };
+    *event = event_of(report);
+    status::OK
+}
+
+/// The four bytes of a report.
+#[unsafe(no_mangle)]
+pub extern "C" fn cpl_tele_write(event: &TeleEvent, rate: u32, bytes: &mut [u8]) -> u32
+    ensures writes { WritesReport event.now rate result bytes.old bytes.new }
+    ensures untouched { result ≢ 0 → bytes.new ≡ bytes.old }
+{
+    let Some(rate) = Frequency::make(rate) else {
+        return status::INVALID;
+    };
+    let report = TelephoneEvent {
+        event: event.event,
+        end: event.end,
+        volume: event.volume,
+        duration: event.duration,
+    };
+    let Some(written) = report.to_bytes(rate) else {
+        return status::INVALID;
+    };
+    if fill(bytes, &written) {
+        status::OK
+    } else {
+        status::TOO_SMALL
+    }
+}

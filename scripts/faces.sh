@@ -1,0 +1,118 @@
+#!/bin/sh
+# Builds the library for C and Rust, and tests both.
+#
+#   scripts/faces.sh            all that stands below
+#   scripts/faces.sh library    proves and builds the library, and prints the folder of libcodec_payload.a
+#   scripts/faces.sh example    builds the library, and builds and runs the example of the header
+#
+# The tests: the header and the Rust crate's declarations against the library; the header as C99 and, where there is a C++
+# compiler, as C++11; what each call answers (bindings/c/checks.c); scripts of payload_vectors through the library, compared
+# byte for byte with the program (bindings/c/vectors.c, inputs.py); each allocation of a session refused in turn
+# (bindings/c/oom.c); all of these also with the address and undefined-behaviour sanitizers; and the Rust crate's tests.
+#
+# Needs rt, a C compiler ($CC or cc) with its sanitizers, ar and Python 3; for the Rust crate cargo of 1.85 or later. No network.
+# On a fresh clone rt first proves the library and the program, some ten minutes on four cores; later runs take one minute.
+# The last line says what passed; the status is 0 where all did.
+set -eu
+
+root=$(cd "$(dirname "$0")/.." && pwd)
+kit=$(dirname "$(rt doc)")
+out=$root/bindings/out
+compiler=${CC:-cc}
+warnings="-pedantic -Wall -Wextra -Werror"
+work=$(mktemp -d)
+trap 'rm -rf "$work"' EXIT
+mkdir -p "$out"
+
+fail() {
+    echo "$1" >&2
+    exit 1
+}
+
+# One archive of the library and of the three functions by which it calls malloc, realloc and free.
+build_library() {
+    (cd "$root/crates/codec_payload_c" && rt lib) >"$work/lib.log" 2>&1 || {
+        cat "$work/lib.log" >&2
+        fail "the library is not proved"
+    }
+    rm -f "$out/libcodec_payload.a"
+    (cd "$work" && cp "$root/crates/codec_payload_c/out/libcodec_payload_c.a" "$kit/c/liblibc_c.a" . &&
+        printf 'CREATE all.a\nADDLIB libcodec_payload_c.a\nADDLIB liblibc_c.a\nSAVE\nEND\n' | ar -M &&
+        mv all.a "$out/libcodec_payload.a")
+}
+
+# compile NAME FLAGS..: builds bindings/c/NAME.c
+compile() {
+    name=$1
+    shift
+    "$compiler" -std=c99 $warnings -O1 -g "$@" -I"$root/include" "$root/bindings/c/$name.c" "$out/libcodec_payload.a" \
+        -o "$work/$name" || fail "bindings/c/$name.c does not build"
+}
+
+# Runs every script through the library and through the program; both answer the same bytes and the same status.
+compare_scripts() {
+    count=0
+    for script in "$work/scripts"/*; do
+        status=0
+        "$root/crates/payload_vectors/out/payload_vectors" <"$script" >"$work/wanted" 2>"$work/wanted-messages" || status=$?
+        found=0
+        "$work/vectors" <"$script" >"$work/found" 2>"$work/found-messages" || found=$?
+        [ "$status" -eq "$found" ] && cmp -s "$work/wanted" "$work/found" &&
+            cmp -s "$work/wanted-messages" "$work/found-messages" || {
+            cp "$script" "$out/differs"
+            fail "C answers another output or status to $(basename "$script"), which is kept as bindings/out/differs"
+        }
+        count=$((count + 1))
+    done
+}
+
+# run_c FLAGS..: all C tests, built with these flags
+run_c() {
+    compile example "$@"
+    "$work/example" >"$work/example-out" || fail "the example did not end well"
+    [ "$(head -n 1 "$work/example-out")" = "packets 0 to 2: a frame of 3000 bytes" ] || fail "the example printed something else"
+    compile checks "$@"
+    "$work/checks" || fail "bindings/c/checks.c failed"
+    compile vectors "$@"
+    compare_scripts
+    compile oom "$@" -Wl,--wrap=malloc,--wrap=realloc
+    "$work/oom" || fail "bindings/c/oom.c failed"
+}
+
+command -v rt >/dev/null || fail "rt is not there"
+command -v "$compiler" >/dev/null || fail "there is no C compiler; set CC"
+build_library
+
+case ${1:-all} in
+library)
+    echo "$out"
+    exit 0
+    ;;
+example)
+    compile example
+    "$work/example"
+    exit 0
+    ;;
+all) ;;
+*) fail "usage: scripts/faces.sh [library|example]" ;;
+esac
+
+"$root/scripts/face_header.py" || fail "the header, the Rust crate and the library differ"
+header=$root/include/codec_payload.h
+"$compiler" -std=c99 $warnings -fsyntax-only -x c "$header" || fail "the header is no C99"
+plus=${CXX:-c++}
+if command -v "$plus" >/dev/null; then
+    "$plus" -std=c++11 $warnings -fsyntax-only -x c++ "$header" || fail "the header is no C++11"
+fi
+(cd "$root/crates/payload_vectors" && rt run <stdin) >"$work/run.log" 2>&1 || {
+    cat "$work/run.log" >&2
+    fail "payload_vectors is not proved"
+}
+"$root/bindings/c/inputs.py" "$work/scripts" >/dev/null
+run_c
+run_c -fsanitize=address,undefined -fno-sanitize-recover=all
+command -v cargo >/dev/null || fail "there is no cargo; all but the Rust crate passed"
+(cd "$root/bindings/rust" && CODEC_PAYLOAD_DIR=$out cargo test --offline --quiet) || fail "the Rust crate's tests failed"
+
+echo "faces: the header, the example, the checks, $count scripts and the refused allocations, with and without" \
+    "sanitizers, and the Rust crate: all passed"
