@@ -35,6 +35,8 @@ def stored():
         parts = {name: ast.literal_eval(value) for name, value in re.findall(r'let (\w+) =\s*("(?:[^"\\]|\\.)*");', test)}
         tables = [literals(it) for it in re.findall(r"\(\s*((?:\"(?:[^\"\\]|\\.)*\"[,\s]*)+)\)", test)]
         for one in literals(test):
+            if one.startswith("red "):
+                yield f"codec opus 48000 0 10 0\n{one}\n"
             begins = one.startswith(("codec ", "sample ", "pop\n", "limit ", "\n"))
             if not begins or one.startswith("sample ") and "codec" not in one:
                 continue
@@ -44,6 +46,9 @@ def stored():
             elif "{before}" in one:
                 for before, behind, *_ in tables:
                     yield one.format(before=before, behind=behind, **parts)
+            elif "{line}" in one:
+                for line, *_ in tables:
+                    yield one.format(line=line, **parts)
             else:
                 yield one
     yield ""
@@ -96,6 +101,9 @@ def generated(seed):
     lines = [f"codec {codec} {rate} {numbers.below(4)} {first} {numbers.one_of([0, 126, 32766, numbers.below(32768)])}"]
     if numbers.below(3) == 0:
         lines.append(f"limit {1 + numbers.below(12)}")
+    if numbers.below(3) == 0:
+        budget = numbers.one_of([0, 40, 300, 1200, 2**64 - 1])
+        lines.append(f"red {numbers.one_of([960, 960, 960, 480, 700])} {budget} {numbers.one_of(['-', '1', '1,3', '2,5,8'])}")
     count = 2 + numbers.below(9)
     for place in range(count):
         time = 960 * place if numbers.below(8) else 2**64 - 1 - numbers.below(2000)

@@ -8,7 +8,7 @@
 #include <stdlib.h>
 #include <string.h>
 
-enum { INPUT_LIMIT = 1048576, MOST_FIELDS = 6 };
+enum { INPUT_LIMIT = 1048576, MOST_FIELDS = 6, MEDIA_TYPE = 96, RED_TYPE = 63, MOST_DISTANCES = 8, MOST_REPEATED = 1023 };
 
 typedef struct {
     const char *at;
@@ -39,9 +39,11 @@ typedef struct {
 } output;
 
 static struct {
-    bool is_set, has_limit;
+    bool is_set, has_limit, has_red;
     cpl_spec spec;
-    uint64_t hold_back, first_number, limit;
+    uint64_t hold_back, first_number, limit, red_step, red_budget;
+    uint32_t distances[MOST_DISTANCES];
+    size_t n_distances;
     sample *samples;
     size_t n_samples;
     step *steps;
@@ -176,6 +178,25 @@ static bool limit_line(text field) {
     return true;
 }
 
+static bool distances_of(text field) {
+    uint64_t last = 0, value;
+    if (is(field, "-")) return true;
+    for (const char *at = field.at, *end = field.at + field.len; at <= end;) {
+        const char *comma = memchr(at, ',', (size_t)(end - at));
+        text one = {at, (size_t)((comma ? comma : end) - at)};
+        if (!number(one, MOST_DISTANCES, &value) || value <= last) return false;
+        run.distances[run.n_distances++] = (uint32_t)(last = value);
+        at += one.len + 1;
+    }
+    return true;
+}
+
+static bool red_line(const text *fields) {
+    if (run.has_red || !number(fields[1], 16383, &run.red_step) || run.red_step == 0) return false;
+    run.has_red = true;
+    return number(fields[2], SIZE_MAX, &run.red_budget) && distances_of(fields[3]);
+}
+
 /* A line without its newline. The first sets up the run, and no other does. */
 static bool read_line(const char *line, size_t len) {
     text fields[MOST_FIELDS];
@@ -191,6 +212,7 @@ static bool read_line(const char *line, size_t len) {
     count++;
     if (!run.is_set) return run.is_set = count == 6 && is(fields[0], "codec") && codec_line(fields);
     if (count == 4 && is(fields[0], "sample")) return sample_line(fields);
+    if (count == 4 && is(fields[0], "red")) return red_line(fields);
     if (count == 3 && is(fields[0], "send")) return step_line('s', &fields[1], &fields[2]);
     if (count == 2 && is(fields[0], "push")) return step_line('p', &fields[1], NULL);
     if (count == 2 && is(fields[0], "limit")) return limit_line(fields[1]);
@@ -223,7 +245,19 @@ static void check(uint32_t status) {
     }
 }
 
-static void take_packet(cpl_handle *sender, const sample *from, output *to) {
+/* Puts a packet in RED. A payload never gets longer than by all that can be repeated, so a greater budget is no other. */
+static void protect(cpl_handle *red, packet *p) {
+    size_t most = p->size + 1 + MOST_DISTANCES * (4 + MOST_REPEATED), size = 0;
+    size_t budget = run.red_budget < most ? (size_t)run.red_budget : most;
+    uint8_t *bytes = malloc(most);
+    if (!bytes) stop(1, "out of memory");
+    check(cpl_red_wrap(red, p->head.rtp_time, budget, p->bytes, p->size, bytes, most, &size));
+    free(p->bytes);
+    p->bytes = bytes;
+    p->size = size;
+}
+
+static void take_packet(cpl_handle *sender, cpl_handle *red, const sample *from, output *to) {
     cpl_packet_info info = {0};
     uint8_t none[1];
     if (cpl_packet(sender, &info, none, 0) == CPL_TOO_SMALL && info.bytes == 0) stop(3, "no room is too small for nothing");
@@ -232,14 +266,15 @@ static void take_packet(cpl_handle *sender, const sample *from, output *to) {
     p->bytes = malloc(info.bytes + 1);
     if (!p->bytes) stop(1, "out of memory");
     if (info.bytes) check(cpl_packet(sender, &info, p->bytes, p->size));
-    p->head = (cpl_received){.number = run.first_number + run.n_packets, .payload_type = 96, .marker = info.marker};
+    p->head = (cpl_received){.number = run.first_number + run.n_packets, .payload_type = MEDIA_TYPE, .marker = info.marker};
     p->head.rtp_time = (uint32_t)from->time;
+    if (run.has_red) protect(red, p);
     print(to, "packet %" PRIu64 " %d ", p->head.number, info.marker);
     print_bytes(to, p->bytes, p->size);
     run.n_packets++;
 }
 
-static void send(cpl_handle *sender, const step *by, output *to) {
+static void send(cpl_handle *sender, cpl_handle *red, const step *by, output *to) {
     size_t count = 0;
     if (by->first >= run.n_samples) return;
     const sample *from = &run.samples[by->first];
@@ -250,7 +285,28 @@ static void send(cpl_handle *sender, const step *by, output *to) {
     }
     check(status);
     print(to, "sent %zu\n", count);
-    for (size_t i = 0; i < count; i++) take_packet(sender, from, to);
+    for (size_t i = 0; i < count; i++) take_packet(sender, red, from, to);
+}
+
+/* Pushes a packet, or, in RED, all that it holds. What is no RED payload is passed over. */
+static void push(cpl_handle *buffer, const packet *p) {
+    if (!run.has_red) {
+        check(cpl_buffer_push(buffer, &p->head, p->bytes, p->size));
+        return;
+    }
+    uint8_t *bytes = malloc(p->size + 1);
+    if (!bytes) stop(1, "out of memory");
+    for (size_t i = 0;; i++) {
+        cpl_recovered_info info = {0};
+        uint32_t status = cpl_red_recover(MEDIA_TYPE, (uint32_t)run.red_step, p->head.number, p->head.rtp_time, p->bytes,
+                                          p->size, i, &info, bytes, p->size + 1);
+        if (status == CPL_NONE || status == CPL_RED_CORRUPTED) break;
+        check(status);
+        cpl_received head = {.number = info.number, .payload_type = MEDIA_TYPE, .marker = info.is_primary && p->head.marker};
+        head.rtp_time = info.rtp_time;
+        check(cpl_buffer_push(buffer, &head, bytes, info.bytes));
+    }
+    free(bytes);
 }
 
 static void pop(cpl_handle *buffer, output *to) {
@@ -275,23 +331,24 @@ static void pop(cpl_handle *buffer, output *to) {
 }
 
 int main(void) {
-    cpl_handle sender = CPL_HANDLE_INIT, buffer = CPL_HANDLE_INIT;
+    cpl_handle sender = CPL_HANDLE_INIT, buffer = CPL_HANDLE_INIT, red = CPL_HANDLE_INIT;
     output sent = {0}, popped = {0};
     read_script();
     check(cpl_packetizer_new(&sender, &run.spec));
+    if (run.has_red) check(cpl_red_sender_new(&red, RED_TYPE, MEDIA_TYPE, run.distances, run.n_distances));
     check(cpl_buffer_new(&buffer, &run.spec, (size_t)run.hold_back, run.has_limit ? (size_t)run.limit : 4096));
     for (size_t i = 0; i < run.n_steps; i++) {
         const step *by = &run.steps[i];
         if (by->what == 's') {
-            send(&sender, by, &sent);
+            send(&sender, &red, by, &sent);
         } else if (by->what == 'o') {
             pop(&buffer, &popped);
         } else if (by->first < run.n_packets) {
-            const packet *p = &run.packets[by->first];
-            check(cpl_buffer_push(&buffer, &p->head, p->bytes, p->size));
+            push(&buffer, &run.packets[by->first]);
         }
     }
     cpl_free(&sender);
+    cpl_free(&red);
     cpl_free(&buffer);
     if (sent.len) fwrite(sent.at, 1, sent.len, stdout);
     if (popped.len) fwrite(popped.at, 1, popped.len, stdout);

@@ -8,7 +8,7 @@ use Rattle.codec_payload_core.specs.Exact.{IsPushedFirst}
 use Rattle.codec_payload_core.specs.Packets.{Packet}
 use Rattle.codec_payload_core.specs.RedPromises.{RedRan, IsRedFresh, IsIn, IsAllThere}
 use Rattle.codec_payload_core.specs.RedSchedule.{RedState, all_in_red}
-use Rattle.codec_payload_core.specs.RunStream.{empty_buffer}
+use Rattle.codec_payload_buffer.specs.Steps.{empty_buffer}
 use Rattle.codec_payload_core.specs.Schedule.{run_state}
 use Rattle.codec_payload_core.specs.declared.schedule.Sent.{Sent}
 use Rattle.codec_payload_core.specs.declared.schedule.Step.{Step}
