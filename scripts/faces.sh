@@ -16,7 +16,6 @@
 set -eu
 
 root=$(cd "$(dirname "$0")/.." && pwd)
-kit=$(dirname "$(rt doc)")
 out=$root/bindings/out
 compiler=${CC:-cc}
 warnings="-pedantic -Wall -Wextra -Werror"
@@ -80,6 +79,7 @@ run_c() {
 }
 
 command -v rt >/dev/null || fail "rt is not there"
+kit=$(dirname "$(rt doc)")
 command -v "$compiler" >/dev/null || fail "there is no C compiler; set CC"
 build_library
 
