@@ -1,7 +1,7 @@
 #!/bin/sh
 # Refuses each allocation of the library's calls in turn, and checks what then comes. Two programs are run:
 #
-# - `payload_vectors`, on its stored input and on one input of each other codec: it gives the whole output with status 0, or
+# - `payload_vectors`, on its stored input, on one input of each other codec, and on one with RED: it gives the whole output with status 0, or
 #   nothing but the line `out of memory` on standard error, with status 1.
 # - `payload_hostile`, once for each call that takes memory: it prints the full right answer, or fault 17, and how things
 #   stand after it, which the table below has for both. Where memory is refused to it before or after the call, it prints
@@ -205,6 +205,25 @@ refuse_codec vp9 824983 10 1
 refuse_codec vp9-flex 824983 5 1
 refuse_codec av1 12000a01aa3202bbcc 3 2
 refuse_codec null 909090 0 0
+
+# Two packets of Opus in RED, of which only the second comes, which repeats the first.
+cat >"$work/input" <<'END'
+codec opus 8000 0 1 0
+red 160 1200 1
+sample 0 1 9090
+sample 160 0 91
+send 0 1200
+send 1 1200
+push 1
+pop
+pop
+END
+"$vectors/out/payload_vectors" <"$work/input" >"$work/whole"
+grep -q '^unit 1 1 1 9090$' "$work/whole" || {
+    echo "opus in RED: the first unit is not recovered"
+    exit 1
+}
+refuse_each "$work/input" "$work/whole" "opus in RED"
 
 # Each call, what it prints with all memory, and what it may print after fault 17. `packetize` cuts a frame twice, and
 # `depacketize` reads a payload twice, behind those before it; each of the others is told in the program's sources. Of what
