@@ -1,8 +1,8 @@
 #!/bin/sh
 # Refuses each allocation of the library's calls in turn, and checks what then comes. Two programs are run:
 #
-# - `payload_vectors`, on its stored input, on one input of each other codec, and on one with RED: it gives the whole output with status 0, or
-#   nothing but the line `out of memory` on standard error, with status 1.
+# - `payload_vectors`, on its stored input, on one input of each other codec, and on one with RED: it gives the whole output
+#   with status 0, or nothing but the line `out of memory` on standard error, with status 1.
 # - `payload_hostile`, once for each call that takes memory: it prints the full right answer, or fault 17, and how things
 #   stand after it, which the table below has for both. Where memory is refused to it before or after the call, it prints
 #   nothing, with status 3.
@@ -275,11 +275,13 @@ push|push ok held 5 ready 1, then unit 1 5 1 9091919192|push fault 17 held 4 rea
 push-evicting|push ok held 4 ready 4, then unit 2 2 0 90 unit 3 3 1 90 unit 4 4 1 90 unit 5 5 1 91|push fault 17 held 4 ready 4, then unit 1 1 1 90 unit 2 2 1 90 unit 3 3 1 90 unit 4 4 1 90
 encode|encode e00f0002600909010203|encode fault 17
 decode|decode 96 960 0909 96 0 010203|decode fault 17
+recover|recover 11 1920 0909 12 2880 010203|recover fault 17
 wrap|wrap ef2d0001ef0f00016f01032a, then ef2d0001ef0f00016f022a2b|wrap fault 17, then ef3c0001ef1e00016f01032b
 memory-sink-send|send ok 1: 0102, next 2|send fault 17, next 1
 red-sink-send|send ok, then 1: 6f0102 2: ef0f00026f010203|send fault 17, then 1: 6f03|send fault 17, then 1: ef0f00026f010203
 push-sample|push_sample ok 1: 90802090 2: 80802091 3: 80802092 4: 80802093 5: 80802094, then 1: 90802090 2: 80802091 3: 80802092 4: 80802093 5: 80802094 6: 90802195|push_sample fault 17, then 1: 90802095|push_sample fault 17, then 1: 90802195|push_sample fault 17 1: 90802090, then 1: 90802090 2: 90802195|push_sample fault 17 1: 90802090 2: 80802091, then 1: 90802090 2: 80802091 3: 90802195|push_sample fault 17 1: 90802090 2: 80802091 3: 80802092, then 1: 90802090 2: 80802091 3: 80802092 4: 90802195|push_sample fault 17 1: 90802090 2: 80802091 3: 80802092 4: 80802093, then 1: 90802090 2: 80802091 3: 80802092 4: 80802093 5: 90802195
 run-schedule|run unit 10 10 1 9090 unit 11 11 1 91 none 10: 9090 11: 91 held 0 ready 0, then|run fault 17 held 0 ready 0, then|run fault 17 10: 9090 held 0 ready 0, then|run fault 17 10: 9090 11: 91 held 0 ready 0, then|run fault 17 10: 9090 11: 91 held 1 ready 1, then unit 10 10 1 9090|run fault 17 10: 9090 11: 91 held 2 ready 2, then unit 10 10 1 9090 unit 11 11 1 91|run fault 17 10: 9090 11: 91 held 1 ready 1, then unit 11 11 1 91
+run-schedule-red|run unit 10 10 1 9090 10: 609090 11: e002800260909091 held 1 ready 1, wraps e0028001609192, then unit 11 11 1 91|run fault 17 held 0 ready 0, wraps 6092, then|run fault 17 held 0 ready 0, wraps e005000260909092, then|run fault 17 10: 609090 held 0 ready 0, wraps e005000260909092, then|run fault 17 10: 609090 held 0 ready 0, wraps e0028001609192, then|run fault 17 10: 609090 11: e002800260909091 held 0 ready 0, wraps e0028001609192, then|run fault 17 10: 609090 11: e002800260909091 held 1 ready 1, wraps e0028001609192, then unit 10 10 1 9090|run fault 17 10: 609090 11: e002800260909091 held 2 ready 2, wraps e0028001609192, then unit 10 10 1 9090 unit 11 11 1 91
 END
 
 echo "$tried refusals tried, $promised as promised"

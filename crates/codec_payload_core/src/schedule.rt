@@ -15,16 +15,16 @@ ghost use Rattle.codec_payload_core.specs.Sending.{sample_of};
 ghost use Rattle.codec_payload_buffer.specs.Steps.{State, Pops};
 ghost use Rattle.codec_payload_core.specs.declared.schedule.Sent.{Sent as Entry};
 
+mod red_run;
+
 use crate::buffer::{Depacketized, DepacketizingBuffer, RtpMeta};
 use crate::codec::{CodecDepacketizer, Depacketizer, Packetizer, Vp9PacketizerMode};
 use crate::error::PacketError;
 use crate::payload::{MemorySink, OutgoingPacket, Payloader};
 use crate::red::{RedReceiver, RedSender};
-use crate::schedule::red_run::run_in_red;
 use crate::wire::{CodecSpec, Frequency, MediaTime, RtpHeader, Ticks, ToPayload};
+pub use red_run::run_in_red;
 use std::alloc::Global;
-
-mod red_run;
 
 /// One step of a run.
 #[derive(Clone, Copy, Debug, PartialEq, Eq)]

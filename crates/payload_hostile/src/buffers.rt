@@ -7,7 +7,8 @@ use codec_payload_core::buffer::{Depacketized, DepacketizingBuffer, RtpMeta};
 use codec_payload_core::codec::{CodecDepacketizer, Vp9PacketizerMode};
 use codec_payload_core::error::PacketError;
 use codec_payload_core::payload::{MemorySink, Payloader};
-use codec_payload_core::schedule::{Step, run_schedule};
+use codec_payload_core::red::{RedReceiver, RedSender};
+use codec_payload_core::schedule::{RedRun, Run, Step, run_schedule};
 use codec_payload_core::wire::{
     Codec, CodecSpec, ExtensionValues, Frequency, MediaTime, Pt, RtpHeader, SeqNo, Ticks,
 };
@@ -155,17 +156,39 @@ pub fn pushes_and_evicts(alloc: Global, text: &mut String) -> Result<(), PacketE
     put_all_popped(text, &mut buffer)
 }
 
+/// The specification of Opus at 8 kHz.
+const OPUS: CodecSpec = CodecSpec {
+    codec: Codec::Opus,
+    clock_rate: Frequency::EIGHT_KHZ,
+    octet_align: false,
+};
+
+/// The units that a run popped, or its fault; the packets that the sink holds, and what the buffer holds.
+fn put_run(
+    text: &mut String,
+    run: &Result<Run, PacketError>,
+    sink: &MemorySink,
+    buffer: &DepacketizingBuffer,
+) -> Result<(), AllocError> {
+    text.push_str("run")?;
+    match run {
+        Ok(run) => {
+            for popped in &run.pops {
+                put_popped(text, popped)?;
+            }
+        }
+        Err(fault) => put_fault(text, fault)?,
+    }
+    put_sink(text, sink)?;
+    put_held(text, buffer)
+}
+
 /// Runs one sample of Opus through all, and then pops what is left.
 pub fn runs(alloc: Global, text: &mut String) -> Result<(), PacketError> {
-    let spec = CodecSpec {
-        codec: Codec::Opus,
-        clock_rate: Frequency::EIGHT_KHZ,
-        octet_align: false,
-    };
-    let Some(mut payloader) = Payloader::new(spec, Vp9PacketizerMode::NonFlexible, 0) else {
+    let Some(mut payloader) = Payloader::new(OPUS, Vp9PacketizerMode::NonFlexible, 0) else {
         return Ok(());
     };
-    let Some(depacketizer) = CodecDepacketizer::from_codec(alloc, Codec::Opus) else {
+    let Some(depacketizer) = CodecDepacketizer::from_codec(alloc, OPUS.codec) else {
         return Ok(());
     };
     let mut buffer = DepacketizingBuffer::new(alloc, depacketizer, 0);
@@ -180,8 +203,7 @@ pub fn runs(alloc: Global, text: &mut String) -> Result<(), PacketError> {
         Step::Pop,
         Step::Pop,
     ];
-    text.push_str("run")?;
-    match run_schedule(
+    let run = run_schedule(
         alloc,
         &mut payloader,
         &mut buffer,
@@ -189,15 +211,58 @@ pub fn runs(alloc: Global, text: &mut String) -> Result<(), PacketError> {
         &samples,
         &steps,
         None,
-    ) {
-        Ok(run) => {
-            for popped in &run.pops {
-                put_popped(text, popped)?;
-            }
-        }
-        Err(fault) => put_fault(text, &fault)?,
-    }
-    put_sink(text, &sink)?;
-    put_held(text, &buffer)?;
+    );
+    put_run(text, &run, &sink, &buffer)?;
+    put_all_popped(text, &mut buffer)
+}
+
+/// Runs two samples of Opus in RED, of whose packets the second alone is pushed, and pops the first. Then the next payload is
+/// wrapped, which shows what the sender has remembered, and the buffer gives what is left.
+pub fn runs_in_red(alloc: Global, text: &mut String) -> Result<(), PacketError> {
+    let Some(mut payloader) = Payloader::new(OPUS, Vp9PacketizerMode::NonFlexible, 0) else {
+        return Ok(());
+    };
+    let Some(depacketizer) = CodecDepacketizer::from_codec(alloc, OPUS.codec) else {
+        return Ok(());
+    };
+    let Some(receiver) = RedReceiver::new(96, 160) else {
+        return Ok(());
+    };
+    let mut sender = RedSender::new(alloc, Pt::new_with_value(63), Pt::new_with_value(96), &[1]);
+    let mut buffer = DepacketizingBuffer::new(alloc, depacketizer, 0);
+    let mut sink = MemorySink::new(alloc, 10);
+    let mut samples = Vec::new(alloc);
+    samples.push(sample(alloc, 0, &[0x90, 0x90])?)?;
+    samples.push(sample(alloc, 160, &[0x91])?)?;
+    let steps = [
+        Step::Send {
+            sample: 0,
+            mtu: 1_199,
+        },
+        Step::Send {
+            sample: 1,
+            mtu: 1_199,
+        },
+        Step::Push(1),
+        Step::Pop,
+    ];
+    let red = RedRun {
+        sender: &mut sender,
+        budget: 1_200,
+        receiver: &receiver,
+    };
+    let run = run_schedule(
+        alloc,
+        &mut payloader,
+        &mut buffer,
+        &mut sink,
+        &samples,
+        &steps,
+        Some(red),
+    );
+    put_run(text, &run, &sink, &buffer)?;
+    text.push_str(", wraps")?;
+    let next = sender.wrap(Vec::from_slice(alloc, &[0x92])?, 320, 1_200)?;
+    put_bytes(text, &next)?;
     put_all_popped(text, &mut buffer)
 }

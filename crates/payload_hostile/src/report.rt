@@ -1,8 +1,10 @@
 //! The calls by name, and how answers are printed.
 
-use crate::buffers::{pops, pops_after_passing_over, pushes, pushes_and_evicts, runs};
+use crate::buffers::{pops, pops_after_passing_over, pushes, pushes_and_evicts, runs, runs_in_red};
 use crate::codecs::{depacketizes, example_of, packetizes};
-use crate::senders::{decodes, encodes, pushes_a_sample, sends_in_red, sends_to_memory, wraps};
+use crate::senders::{
+    decodes, encodes, pushes_a_sample, recovers, sends_in_red, sends_to_memory, wraps,
+};
 use codec_payload_core::error::PacketError;
 use std::alloc::{AllocError, Global};
 use std::fmt::Write;
@@ -15,6 +17,7 @@ pub fn report(alloc: Global, name: &str) -> Result<Option<String>, PacketError> 
         "encode" => encodes(alloc, &mut text)?,
         "decode" => decodes(alloc, &mut text)?,
         "wrap" => wraps(alloc, &mut text)?,
+        "recover" => recovers(alloc, &mut text)?,
         "memory-sink-send" => sends_to_memory(alloc, &mut text)?,
         "red-sink-send" => sends_in_red(alloc, &mut text)?,
         "push-sample" => pushes_a_sample(alloc, &mut text)?,
@@ -22,6 +25,7 @@ pub fn report(alloc: Global, name: &str) -> Result<Option<String>, PacketError> 
         "push-evicting" => pushes_and_evicts(alloc, &mut text)?,
         "pop-passing-over" => pops_after_passing_over(alloc, &mut text)?,
         "run-schedule" => runs(alloc, &mut text)?,
+        "run-schedule-red" => runs_in_red(alloc, &mut text)?,
         _ => {
             let Some((call, codec)) = name.split_once(' ') else {
                 return Ok(None);

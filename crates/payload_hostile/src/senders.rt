@@ -4,7 +4,7 @@ use crate::report::{put_answer, put_bytes, put_fault};
 use codec_payload_core::codec::CodecPacketizer;
 use codec_payload_core::error::PacketError;
 use codec_payload_core::payload::{MemorySink, OutgoingPacket, PacketSink, Payloader, RedSink};
-use codec_payload_core::red::{RedDecoder, RedEncoder, RedSender, RedundantBlock};
+use codec_payload_core::red::{RedDecoder, RedEncoder, RedReceiver, RedSender, RedundantBlock};
 use codec_payload_core::vp8::Vp8Packetizer;
 use codec_payload_core::wire::{
     ExtensionValues, Frequency, MediaTime, Pt, SeqNo, Ticks, ToPayload,
@@ -70,6 +70,26 @@ pub fn decodes(alloc: Global, text: &mut String) -> Result<(), PacketError> {
             for block in &blocks {
                 write!(text, " {} {}", block.pt, block.timestamp_offset)?;
                 put_bytes(text, block.payload)?;
+            }
+        }
+        Err(fault) => put_fault(text, &fault)?,
+    }
+    text.push_str("\n")?;
+    Ok(())
+}
+
+/// Recovers two packets from a payload, that of number 11 and that of number 12 itself.
+pub fn recovers(alloc: Global, text: &mut String) -> Result<(), PacketError> {
+    let payload = [0xe0u8, 0x0f, 0x00, 0x02, 0x60, 9, 9, 1, 2, 3];
+    let Some(receiver) = RedReceiver::new(96, 960) else {
+        return Ok(());
+    };
+    text.push_str("recover")?;
+    match receiver.recover(alloc, SeqNo(12), 2_880, &payload) {
+        Ok(packets) => {
+            for packet in &packets {
+                write!(text, " {} {}", packet.seq_no.0, packet.rtp_time)?;
+                put_bytes(text, packet.payload)?;
             }
         }
         Err(fault) => put_fault(text, &fault)?,

@@ -204,8 +204,9 @@ fn do_red_step<P: Packetizer, D: Depacketizer>(
     }
 }
 
-/// Does the steps in order, with RED.
-pub(crate) fn run_in_red<P: Packetizer, D: Depacketizer>(
+/// Does what [`run_schedule`](crate::schedule::run_schedule) does with a [`RedRun`](crate::schedule::RedRun) of this sender,
+/// budget and receiver. The sender is an argument of its own here, so the contract says how it is left.
+pub fn run_in_red<P: Packetizer, D: Depacketizer>(
     alloc: Global,
     payloader: &mut Payloader<P>,
     buffer: &mut DepacketizingBuffer<D>,
