@@ -11,7 +11,7 @@
 # (bindings/c/oom.c); all of these also with the address and undefined-behaviour sanitizers; and the Rust crate's tests.
 #
 # Needs rt, a C compiler ($CC or cc) with its sanitizers, ar and Python 3; for the Rust crate cargo of 1.85 or later. No network.
-# On a fresh clone rt first proves the library and the program, some ten minutes on four cores; later runs take one minute.
+# On a fresh clone rt first proves the library and the program.
 # The last line says what passed; the status is 0 where all did.
 set -eu
 
