@@ -2,7 +2,7 @@
 
 ghost use Rattle.std.specs.Prelude.{◌≡◌, ◌+◌, ◌*◌, ◌/◌, ◌%◌, ◌<◌, ◌≤◌, length, min, None};
 ghost use Rattle.std.specs.Option.{option_map};
-ghost use Rattle.codec_payload_base.specs.Bits.{Reader, ReadsBits, ReadsLeb128, LendsBytes, ReadsLebAtFront, Skips, left, here, at_end};
+ghost use Rattle.codec_payload_base.specs.Bits.{Reader, ReadsBits, ReadsLeb128, LendsBytes, ReadsLebAtFront, Skips, left, here, moved, at_end};
 ghost use Rattle.codec_payload_base.specs.Leb.{WritesLeb, WritesShortest, TakesNine, FindsLeb};
 
 use std::marker::Model;
@@ -123,6 +123,17 @@ impl<'a> BitReader<'a> {
         &self.source[self.byte..]
     }
 
+    /// Moves the place on by `count` bits, which are left.
+    #[tactic(auto, using(crate::proofs::BitLemmas::length_left))]
+    pub fn skip_bits(&mut self, count: usize)
+        requires { count ≤ length (left self.old) }
+        ensures { self.new ≡ moved self.old count }
+    {
+        let place = self.bit + count % 8;
+        self.byte += count / 8 + place / 8;
+        self.bit = place % 8;
+    }
+
     /// How many bits lie between the start of that byte in which the place stands and the place, from 0 to 7.
     pub fn bits_behind_byte(&self) -> usize
         ensures { result ≡ self.now.place % 8 }
@@ -165,7 +176,9 @@ impl<'a> BitRead<'a> for BitReader<'a> {
     }
 
     fn get_bits(&mut self, count: usize) -> Option<u8> {
-        if count > 8 || (self.bit + count).div_ceil(8) > self.source.len() - self.byte {
+        let bytes = self.source.len() - self.byte;
+        // Two bytes hold what is asked for, wherever the place stands in the first of them.
+        if count > 8 || (bytes < 2 && self.bit + count > 8 * bytes) {
             return None;
         }
         if count == 0 {

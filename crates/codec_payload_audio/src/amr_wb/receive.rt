@@ -213,18 +213,9 @@ fn skip_frame<'a>(
     if reader.remaining_bits() < count {
         return Err(PacketError::ErrShortPacket);
     }
-    skip_bits(reader, count);
+    reader.skip_bits(count);
     skip_padding(reader, count, octet_align);
     Ok(count)
-}
-
-/// Goes over `count` bits.
-fn skip_bits<'a>(reader: &mut BitReader<'a>, count: usize)
-    requires { count ≤ length (left reader.old) }
-    ensures { reader.new ≡ moved reader.old count }
-{
-    reader.skip_bytes(count / 8);
-    let _ = reader.get_bits(count % 8);
 }
 
 /// Appends the frames of a table of contents.

@@ -9,4 +9,4 @@ returns-clause-read c =
     let size : speech_size c.args.entry.frame_type ≡ Some c.in-Some.count = sym c.speech_bits.ensures ∙ c.in-Some.is in
     let within : c.in-Some.count ≤ length (left c.args.reader.now) = omega (arith, c.remaining_bits.ensures) in
     frame_there c.args.octet_align c.args.entry c.in-Some.count (left c.args.reader.now) (left c.skip_padding.new.reader) size within
-    (frame_rest c.args.octet_align c.args.reader.now c.skip_bits.new.reader c.skip_padding.new.reader c.in-Some.count c.skip_bits.ensures c.skip_padding.ensures)
+    (frame_rest c.args.octet_align c.args.reader.now c.skip_bits.new.self c.skip_padding.new.reader c.in-Some.count c.skip_bits.ensures c.skip_padding.ensures)
