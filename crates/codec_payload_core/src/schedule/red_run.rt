@@ -17,7 +17,7 @@ use crate::codec::{Depacketizer, Packetizer};
 use crate::error::PacketError;
 use crate::payload::{MemorySink, OutgoingPacket, Payloader, RedSink};
 use crate::red::{Recovered, RedReceiver, RedSender};
-use crate::schedule::{Run, Sent, Step, pop_step};
+use crate::schedule::{Run, Sent, Step, pop_step, refusal};
 use crate::wire::{ExtensionValues, Frequency, MediaTime, Pt, RtpHeader, Ticks, ToPayload};
 use std::alloc::Global;
 
@@ -128,22 +128,13 @@ fn red_send_step<P: Packetizer>(
 {
     let first = sink.packets().len();
     let mut in_red = RedSink::new(sink, red, budget);
-    let answer = payloader.push_sample(alloc, sample, mtu, &mut in_red);
-    match answer {
-        Ok(()) => Ok(Sent {
-            step: place,
-            first,
-            count: sink.packets().len() - first,
-            fault: None,
-        }),
-        Err(PacketError::OutOfMemory) => Err(PacketError::OutOfMemory),
-        Err(fault) => Ok(Sent {
-            step: place,
-            first,
-            count: 0,
-            fault: Some(fault),
-        }),
-    }
+    let fault = refusal(payloader.push_sample(alloc, sample, mtu, &mut in_red))?;
+    Ok(Sent {
+        step: place,
+        first,
+        count: sink.packets().len() - first,
+        fault,
+    })
 }
 
 /// Does one step, and notes what came of it.
@@ -195,12 +186,7 @@ fn do_red_step<P: Packetizer, D: Depacketizer>(
                 place,
             )
         }
-        Step::Pop => {
-            run.pops.reserve(1)?;
-            let answer = pop_step(buffer)?;
-            run.pops.push(answer).unwrap();
-            Ok(())
-        }
+        Step::Pop => pop_step(buffer, run),
     }
 }
 
