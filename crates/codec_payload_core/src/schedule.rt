@@ -109,13 +109,7 @@ pub fn run_schedule<P: Packetizer, D: Depacketizer>(
 {
     match &mut red {
         None => run_plain(alloc, payloader, buffer, sink, samples, steps),
-        Some(red) => {
-            let budget = red.budget;
-            let receiver = red.receiver;
-            run_in_red(
-                alloc, payloader, buffer, sink, red.sender, budget, receiver, samples, steps,
-            )
-        }
+        Some(red) => run_in_red(alloc, payloader, buffer, sink, red, samples, steps),
     }
 }
 

@@ -5,7 +5,7 @@ ghost use Rattle.codec_payload_base.specs.declared.error.PacketError.TheVariants
 ghost use Rattle.codec_payload_buffer.specs.Held.{Held};
 ghost use Rattle.codec_payload_buffer.specs.Steps.{State, IsArrived, pushed};
 ghost use Rattle.codec_payload_core.specs.Packets.{Packet, packet_of};
-ghost use Rattle.codec_payload_core.specs.RedPromises.{KeepsRedPromises, ran_in_red};
+ghost use Rattle.codec_payload_core.specs.RedPromises.{KeepsRedPromises, ran_in_red, protection_of};
 ghost use Rattle.codec_payload_core.specs.RedSchedule.{red_state, meta_of_recovered, PushesAll, RedPushes, StopsAmong, StopsPushing, SendsInRed, DoesRedStep, StopsSendingInRed, StopsAtInRed, StopsInRed};
 ghost use Rattle.codec_payload_core.specs.Schedule.{Answer, run_state, SendsIt};
 ghost use Rattle.codec_payload_core.specs.Sending.{sample_of};
@@ -17,7 +17,7 @@ use crate::codec::{Depacketizer, Packetizer};
 use crate::error::PacketError;
 use crate::payload::{MemorySink, OutgoingPacket, Payloader, RedSink};
 use crate::red::{Recovered, RedReceiver, RedSender};
-use crate::schedule::{Run, Sent, Step, pop_step, refusal};
+use crate::schedule::{RedRun, Run, Sent, Step, pop_step, refusal};
 use crate::wire::{ExtensionValues, Frequency, MediaTime, Pt, RtpHeader, Ticks, ToPayload};
 use std::alloc::Global;
 
@@ -142,9 +142,7 @@ fn do_red_step<P: Packetizer, D: Depacketizer>(
     payloader: &mut Payloader<P>,
     buffer: &mut DepacketizingBuffer<D>,
     sink: &mut MemorySink,
-    red: &mut RedSender,
-    budget: usize,
-    receiver: &RedReceiver,
+    red: &mut RedRun<'_>,
     samples: &[ToPayload],
     place: usize,
     step: Step,
@@ -153,14 +151,16 @@ fn do_red_step<P: Packetizer, D: Depacketizer>(
     ensures ok { OnOk result ((sent : List Packet) → length sent ≡ length sink.old.packets
         → (now : List Packet) × (sends : List Entry) × (pops : List Answer) × (length now ≡ length sink.new.packets)
         × (run.new.sends.items ≡ run.old.sends.items ++ sends) × (run.new.pops.items ≡ run.old.pops.items ++ pops)
-        × DoesRedStep (record { budget = budget; receiver = receiver.now }) (map sample_of samples.now) place step
-        (red_state payloader.old buffer.old sink.old sent red.old) sends pops (red_state payloader.new buffer.new sink.new now red.new)) }
+        × DoesRedStep (protection_of red.old) (map sample_of samples.now) place step
+        (red_state payloader.old buffer.old sink.old sent red.old.sender.now) sends pops (red_state payloader.new buffer.new sink.new now red.new.sender.now)) }
     ensures limit { buffer.new.limit ≡ buffer.old.limit }
     ensures fault { IfErr result (λ fault. fault ≡ OutOfMemory) }
     ensures err { OnErr result ((sent : List Packet) → length sent ≡ length sink.old.packets
         → (now : List Packet) × (length now ≡ length sink.new.packets)
-        × StopsAtInRed (record { budget = budget; receiver = receiver.now }) (map sample_of samples.now) place step
-        (red_state payloader.old buffer.old sink.old sent red.old) (red_state payloader.new buffer.new sink.new now red.new)) }
+        × StopsAtInRed (protection_of red.old) (map sample_of samples.now) place step
+        (red_state payloader.old buffer.old sink.old sent red.old.sender.now) (red_state payloader.new buffer.new sink.new now red.new.sender.now)) }
+    ensures loan { red.new.sender.ghost_name ≡ red.old.sender.ghost_name }
+    ensures protection { protection_of red.new ≡ protection_of red.old }
 {
     let alloc = *run.sends.allocator();
     match step {
@@ -169,7 +169,9 @@ fn do_red_step<P: Packetizer, D: Depacketizer>(
                 return Ok(());
             };
             run.sends.reserve(1)?;
-            let entry = red_send_step(alloc, payloader, sink, red, budget, sample, mtu, place)?;
+            let entry = red_send_step(
+                alloc, payloader, sink, red.sender, red.budget, sample, mtu, place,
+            )?;
             run.sends.push(entry).unwrap();
             Ok(())
         }
@@ -177,38 +179,33 @@ fn do_red_step<P: Packetizer, D: Depacketizer>(
             let Some(packet) = sink.packets().get(k) else {
                 return Ok(());
             };
-            red_push_step(
-                alloc,
-                payloader.clock_rate(),
-                buffer,
-                packet,
-                receiver,
-                place,
-            )
+            let clock_rate = payloader.clock_rate();
+            red_push_step(alloc, clock_rate, buffer, packet, red.receiver, place)
         }
         Step::Pop => pop_step(buffer, run),
     }
 }
 
-/// Does what [`run_schedule`](crate::schedule::run_schedule) does with a [`RedRun`](crate::schedule::RedRun) of this sender,
-/// budget and receiver. The sender is an argument of its own here, so the contract says how it is left.
+/// Does what [`run_schedule`](crate::schedule::run_schedule) does with this [`RedRun`]. That is an argument behind a
+/// reference here, so the contract says how its sender is left. Its budget and its receiver stay.
 pub fn run_in_red<P: Packetizer, D: Depacketizer>(
     alloc: Global,
     payloader: &mut Payloader<P>,
     buffer: &mut DepacketizingBuffer<D>,
     sink: &mut MemorySink,
-    red: &mut RedSender,
-    budget: usize,
-    receiver: &RedReceiver,
+    red: &mut RedRun<'_>,
     samples: &[ToPayload],
     steps: &[Step],
 ) -> Result<Run, PacketError>
-    ensures promises { IfOk result (λ run. (sent : List Packet) × KeepsRedPromises (ran_in_red (record { budget = budget; receiver = receiver.now }) samples.now steps.now
-        (red_state payloader.old buffer.old sink.old sink.old.packets red.old) run (red_state payloader.new buffer.new sink.new sent red.new))) }
+    ensures promises { IfOk result (λ run. (sent : List Packet) × KeepsRedPromises (ran_in_red (protection_of red.old) samples.now steps.now
+        (red_state payloader.old buffer.old sink.old sink.old.packets red.old.sender.now) run (red_state payloader.new buffer.new sink.new sent red.new.sender.now))) }
     ensures limit { buffer.new.limit ≡ buffer.old.limit }
     ensures fault { IfErr result (λ fault. fault ≡ OutOfMemory) }
-    ensures stops { OnErr result ((sent : List Packet) × StopsInRed (record { budget = budget; receiver = receiver.now }) (map sample_of samples.now) 0 steps.now
-        (red_state payloader.old buffer.old sink.old sink.old.packets red.old) (red_state payloader.new buffer.new sink.new sent red.new)) }
+    ensures stops { OnErr result ((sent : List Packet) × StopsInRed (protection_of red.old) (map sample_of samples.now) 0 steps.now
+        (red_state payloader.old buffer.old sink.old sink.old.packets red.old.sender.now) (red_state payloader.new buffer.new sink.new sent red.new.sender.now)) }
+    // What it borrows, and budget and receiver.
+    ensures loan { red.new.sender.ghost_name ≡ red.old.sender.ghost_name }
+    ensures protection { protection_of red.new ≡ protection_of red.old }
 {
     let mut run = Run {
         sends: Vec::new(alloc),
@@ -216,7 +213,7 @@ pub fn run_in_red<P: Packetizer, D: Depacketizer>(
     };
     for (place, step) in steps.iter().enumerate() {
         do_red_step(
-            payloader, buffer, sink, red, budget, receiver, samples, place, *step, &mut run,
+            payloader, buffer, sink, red, samples, place, *step, &mut run,
         )?;
     }
     Ok(run)
