@@ -4,7 +4,7 @@ use Rattle.std.proofs.lemmas.List.{append-nil}
 use Rattle.std.specs.Result.{result_err}
 use Rattle.codec_payload_base.specs.declared.error.PacketError.{PacketError}
 use Rattle.codec_payload_base.specs.declared.error.PacketError.TheVariants as faults
-use Rattle.codec_payload_buffer.specs.Pack.{Pack, PackStep, is_built_in}
+use Rattle.codec_payload_buffer.specs.Pack.{Pack, is_built_in}
 use Rattle.codec_payload_core.specs.Packets.{Packet, SentPackets}
 use Rattle.codec_payload_core.specs.Sending.{Sample, Payloading, packets_for, packets_from, rtp_time_at, SendsSample, SendsBeginning, SendsNothing}
 use Rattle.codec_payload_core.specs.Schedule.{run_state, after_send, SendsIt, StopsSending}
