@@ -16,7 +16,7 @@ use crate::buffer::{DepacketizingBuffer, RtpMeta};
 use crate::codec::{Depacketizer, Packetizer};
 use crate::error::PacketError;
 use crate::payload::{MemorySink, OutgoingPacket, Payloader, RedSink};
-use crate::red::{Recovered, RedReceiver, RedSender};
+use crate::red::{Recovered, RedReceiver};
 use crate::schedule::{RedRun, Run, Sent, Step, pop_step, refusal};
 use crate::wire::{ExtensionValues, Frequency, MediaTime, Pt, RtpHeader, Ticks, ToPayload};
 use std::alloc::Global;
@@ -111,8 +111,7 @@ fn red_send_step<P: Packetizer>(
     alloc: Global,
     payloader: &mut Payloader<P>,
     sink: &mut MemorySink,
-    red: &mut RedSender,
-    budget: usize,
+    red: &mut RedRun<'_>,
     sample: &ToPayload,
     mtu: usize,
     place: usize,
@@ -120,14 +119,16 @@ fn red_send_step<P: Packetizer>(
     ensures ok { IfOk result (λ entry. (buffer : State) → (sent : List Packet) → length sent ≡ length sink.old.packets
         → (now : List Packet) × (length now ≡ length sink.new.packets)
         × SendsIt place mtu (sample_of sample.now) (run_state payloader.old buffer (record sink.old { packets = sent })) entry (run_state payloader.new buffer (record sink.new { packets = now }))
-        × SendsInRed budget (red_state payloader.old buffer sink.old sent red.old) (red_state payloader.new buffer sink.new now red.new)) }
+        × SendsInRed red.old.budget (red_state payloader.old buffer sink.old sent red.old.sender.now) (red_state payloader.new buffer sink.new now red.new.sender.now)) }
     ensures fault { IfErr result (λ fault. fault ≡ OutOfMemory) }
     ensures err { OnErr result ((buffer : State) → (sent : List Packet) → length sent ≡ length sink.old.packets
         → (now : List Packet) × (length now ≡ length sink.new.packets)
-        × StopsSendingInRed budget mtu (sample_of sample.now) (red_state payloader.old buffer sink.old sent red.old) (red_state payloader.new buffer sink.new now red.new)) }
+        × StopsSendingInRed red.old.budget mtu (sample_of sample.now) (red_state payloader.old buffer sink.old sent red.old.sender.now) (red_state payloader.new buffer sink.new now red.new.sender.now)) }
+    ensures loan { red.new.sender.ghost_name ≡ red.old.sender.ghost_name }
+    ensures protection { protection_of red.new ≡ protection_of red.old }
 {
     let first = sink.packets().len();
-    let mut in_red = RedSink::new(sink, red, budget);
+    let mut in_red = RedSink::new(sink, red.sender, red.budget);
     let fault = refusal(payloader.push_sample(alloc, sample, mtu, &mut in_red))?;
     Ok(Sent {
         step: place,
@@ -169,9 +170,7 @@ fn do_red_step<P: Packetizer, D: Depacketizer>(
                 return Ok(());
             };
             run.sends.reserve(1)?;
-            let entry = red_send_step(
-                alloc, payloader, sink, red.sender, red.budget, sample, mtu, place,
-            )?;
+            let entry = red_send_step(alloc, payloader, sink, red, sample, mtu, place)?;
             run.sends.push(entry).unwrap();
             Ok(())
         }
@@ -186,8 +185,8 @@ fn do_red_step<P: Packetizer, D: Depacketizer>(
     }
 }
 
-/// Does what [`run_schedule`](crate::schedule::run_schedule) does with this [`RedRun`]. That is an argument behind a
-/// reference here, so the contract says how its sender is left. Its budget and its receiver stay.
+/// Does what [`run_schedule`](crate::schedule::run_schedule) does with this [`RedRun`], which stands behind a reference here,
+/// so that the contract says how its sender is left. Its budget and its receiver stay.
 pub fn run_in_red<P: Packetizer, D: Depacketizer>(
     alloc: Global,
     payloader: &mut Payloader<P>,
