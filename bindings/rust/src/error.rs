@@ -66,6 +66,18 @@ pub(crate) fn told(status: u32) -> Result<(), Error> {
     }
 }
 
+/// What a call gives by index, from 0 until it says that there is none.
+pub(crate) fn each<T>(mut at: impl FnMut(usize) -> Result<T, Error>) -> Result<Vec<T>, Error> {
+    let mut found = Vec::new();
+    loop {
+        match at(found.len()) {
+            Ok(one) => found.push(one),
+            Err(Error::Missing) => return Ok(found),
+            Err(fault) => return Err(fault),
+        }
+    }
+}
+
 impl fmt::Display for Error {
     fn fmt(&self, f: &mut fmt::Formatter<'_>) -> fmt::Result {
         match self {

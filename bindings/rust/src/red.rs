@@ -1,6 +1,6 @@
 //! Redundant audio (RFC 2198).
 
-use crate::error::{Error, NONE, TOO_SMALL, told};
+use crate::error::{Error, TOO_SMALL, each, told};
 use crate::handle::Handle;
 use crate::raw::*;
 
@@ -90,32 +90,27 @@ pub struct Recovered {
 
 /// The blocks of a payload in order, the primary one last.
 pub fn blocks(payload: &[u8]) -> Result<Vec<Block>, Error> {
-    let mut found = Vec::new();
     let mut bytes = vec![0; payload.len()];
-    loop {
+    each(|index| {
         let mut info = RedBlockInfo::default();
         // SAFETY: each pointer and length are those of one slice, and all is borrowed for the call.
-        let status = unsafe {
+        told(unsafe {
             cpl_red_block(
                 payload.as_ptr(),
                 payload.len(),
-                found.len(),
+                index,
                 &mut info,
                 bytes.as_mut_ptr(),
                 bytes.len(),
             )
-        };
-        if status == NONE {
-            return Ok(found);
-        }
-        told(status)?;
-        found.push(Block {
+        })?;
+        Ok(Block {
             payload_type: info.payload_type,
             offset: info.offset,
             is_primary: info.is_primary,
             payload: bytes[..info.bytes].to_vec(),
-        });
-    }
+        })
+    })
 }
 
 /// The packets that the payload of the packet with this number and time holds, that packet last. Packets of the stream are
@@ -127,12 +122,11 @@ pub fn recover(
     rtp_time: u32,
     payload: &[u8],
 ) -> Result<Vec<Recovered>, Error> {
-    let mut found = Vec::new();
     let mut bytes = vec![0; payload.len()];
-    loop {
+    each(|index| {
         let mut info = RecoveredInfo::default();
         // SAFETY: as in `blocks`.
-        let status = unsafe {
+        told(unsafe {
             cpl_red_recover(
                 primary_pt,
                 step,
@@ -140,23 +134,19 @@ pub fn recover(
                 rtp_time,
                 payload.as_ptr(),
                 payload.len(),
-                found.len(),
+                index,
                 &mut info,
                 bytes.as_mut_ptr(),
                 bytes.len(),
             )
-        };
-        if status == NONE {
-            return Ok(found);
-        }
-        told(status)?;
-        found.push(Recovered {
+        })?;
+        Ok(Recovered {
             number: info.number,
             rtp_time: info.rtp_time,
             is_primary: info.is_primary,
             payload: bytes[..info.bytes].to_vec(),
-        });
-    }
+        })
+    })
 }
 
 /// A payload of the first 32 older blocks that fit, each with its type, offset and bytes, and of the primary one.

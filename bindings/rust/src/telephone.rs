@@ -1,30 +1,17 @@
 //! Reports on telephone events (RFC 4733, section 2.3).
 
 use crate::TelephoneEvent;
-use crate::error::{Error, NONE, told};
+use crate::error::{Error, each, told};
 use crate::raw::*;
 
 /// The reports of a payload, whose durations count a clock of that rate.
 pub fn read(payload: &[u8], rate: u32) -> Result<Vec<TelephoneEvent>, Error> {
-    let mut found = Vec::new();
-    loop {
+    each(|index| {
         let mut event = TeleEvent::default();
         // SAFETY: the pointer and the length are those of one slice, and all is borrowed for the call.
-        let status = unsafe {
-            cpl_tele_read(
-                payload.as_ptr(),
-                payload.len(),
-                rate,
-                found.len(),
-                &mut event,
-            )
-        };
-        if status == NONE {
-            return Ok(found);
-        }
-        told(status)?;
-        found.push(TelephoneEvent::of(&event));
-    }
+        told(unsafe { cpl_tele_read(payload.as_ptr(), payload.len(), rate, index, &mut event) })?;
+        Ok(TelephoneEvent::of(&event))
+    })
 }
 
 /// The four bytes of a report. `Error::Invalid` for a rate of 0, or a duration of more than 65,535 ticks.

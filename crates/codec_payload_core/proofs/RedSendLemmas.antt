@@ -1,9 +1,10 @@
 -- What a sample that was sent in RED leaves, as a step of a run.
-use Rattle.std.proofs.Common.{◌≡◌, ◌≢◌, ◌∙◌, sym, ap, refl, subst, ℕ, ◌+◌, ◌-◌, ◌<◌, ◌%◌, ◌^◌, ◌⊎◌, inl, inr, List, [], ◌∷◌, ◌++◌, length, arith, append_assoc, length-append, Option, Some, None, Err}
+use Rattle.std.proofs.Common.{◌≡◌, ◌≢◌, ◌∙◌, sym, ap, refl, subst, ℕ, ◌+◌, ◌-◌, ◌<◌, ◌%◌, ◌^◌, ◌⊎◌, inl, inr, List, [], ◌∷◌, ◌++◌, length, arith, append_assoc, length-append, Option, Some, None, Result, Ok, Err, OnOk, IfErr}
 use Rattle.std.proofs.lemmas.List.{append-nil, map-append}
+use Rattle.std.specs.Result.{result_err}
 use Rattle.codec_payload_base.specs.declared.error.PacketError.{PacketError}
 use Rattle.codec_payload_base.specs.declared.error.PacketError.TheVariants as faults
-use Rattle.codec_payload_buffer.specs.Pack.{PackStep, is_built_in}
+use Rattle.codec_payload_buffer.specs.Pack.{is_built_in}
 use Rattle.codec_payload_buffer.specs.Steps.{State}
 use Rattle.codec_payload_core.proofs.RedRuns.{after_append, length_in_red}
 use Rattle.codec_payload_core.proofs.ScheduleLemmas.{next_number, kept_packets, sent_it, refused_it, left_by}
@@ -115,7 +116,7 @@ pub record SentInRed (place mtu : ℕ) (sample : Sample) (p p' : Payloading) (b 
   pub plain : SendsIt place mtu sample (run_state p b (record sink { packets = sent })) (record { step = place; first = length sink.packets; count = count; fault = fault }) (run_state p' b (record sink' { packets = now }))
   pub in_red : SendsInRed budget (red_state p b sink sent sender) (red_state p' b sink' now sender')
 
-pub sent_in_red : (place mtu : ℕ) (sample : Sample) (p p' : Payloading) (b : State) (before after : RedSink SentPackets) (sent : List Packet) → length sent ≡ length (stream_of before).packets → p'.clock_rate ≡ p.clock_rate
+sent_in_red : (place mtu : ℕ) (sample : Sample) (p p' : Payloading) (b : State) (before after : RedSink SentPackets) (sent : List Packet) → length sent ≡ length (stream_of before).packets → p'.clock_rate ≡ p.clock_rate
     → length (stream_of after).packets < 2 ^ 63 → SendsSample KeepsInRed kept_in_red next_in_red mtu sample p before p' after
     → SentInRed place mtu sample p p' b (stream_of before) (stream_of after) (sender_of before) (sender_of after) (budget_of before) sent (length (stream_of after).packets - length (stream_of before).packets) None
 sent_in_red place mtu sample p p' b before after sent long clock few did =
@@ -138,17 +139,20 @@ sent_in_red place mtu sample p p' b before after sent long clock few did =
       };
     }
 
-pub refused_in_red : (place mtu : ℕ) (sample : Sample) (fault : PacketError) (p p' : Payloading) (b : State) (before after : RedSink SentPackets) (sent : List Packet) → length sent ≡ length (stream_of before).packets → p'.clock_rate ≡ p.clock_rate
+refused_in_red : (place mtu : ℕ) (sample : Sample) (fault : PacketError) (p p' : Payloading) (b : State) (before after : RedSink SentPackets) (sent : List Packet) → length sent ≡ length (stream_of before).packets → p'.clock_rate ≡ p.clock_rate
     → fault ≢ faults.OutOfMemory → length (stream_of before).packets < 2 ^ 63
     → (SendsNothing mtu sample fault p before p' after ⊎ SendsBeginning KeepsInRed RefusesInRed kept_in_red next_in_red mtu sample fault p before p' after)
-    → SentInRed place mtu sample p p' b (stream_of before) (stream_of after) (sender_of before) (sender_of after) (budget_of before) sent 0 (Some fault)
+    → SentInRed place mtu sample p p' b (stream_of before) (stream_of after) (sender_of before) (sender_of after) (budget_of before) sent (length (stream_of after).packets - length (stream_of before).packets) (Some fault)
 refused_in_red place mtu sample fault p p' b before after sent long clock other few (inl nothing) =
     let same : plain_sink after sent ≡ plain_sink before sent = ap (λ (x : RedSink SentPackets). plain_sink x sent) nothing.same in
+    let many = ap (λ (x : RedSink SentPackets). length (stream_of x).packets) nothing.same in
+    let count : length sent - length sent ≡ length (stream_of after).packets - length (stream_of before).packets = omega (arith, many) in
     record {
       now = sent;
-      long = long ∙ ap (λ (x : RedSink SentPackets). length (stream_of x).packets) (sym nothing.same);
-      plain = subst (λ (n : ℕ). SendsIt place mtu sample (run_state p b (plain_sink before sent)) (record { step = place; first = n; count = 0; fault = Some fault }) (run_state p' b (plain_sink after sent))) long
-          (refused_it place mtu sample fault p p' b (plain_sink before sent) (plain_sink after sent) clock other (omega (arith, few, long)) (inl (record { packetized = nothing.packetized; same = same })));
+      long = long ∙ sym many;
+      plain = subst (λ (n : ℕ). SendsIt place mtu sample (run_state p b (plain_sink before sent)) (record { step = place; first = length (stream_of before).packets; count = n; fault = Some fault }) (run_state p' b (plain_sink after sent))) count
+          (subst (λ (n : ℕ). SendsIt place mtu sample (run_state p b (plain_sink before sent)) (record { step = place; first = n; count = length sent - length sent; fault = Some fault }) (run_state p' b (plain_sink after sent))) long
+          (refused_it place mtu sample fault p p' b (plain_sink before sent) (plain_sink after sent) clock other (omega (arith, few, long)) (inl (record { packetized = nothing.packetized; same = same }))));
       in_red = record {
         packets = [];
         gained = sym (append-nil sent);
@@ -158,6 +162,17 @@ refused_in_red place mtu sample fault p p' b before after sent long clock other 
     }
 refused_in_red place mtu sample fault p p' b before after sent long clock other few (inr beginning) =
     absurd (other (elim beginning.refusal [ inl memory ↦ memory.0 | inr sink ↦ sink.0.0 ]))
+
+-- the entry of a sample that was sent or refused
+pub noted_in_red : {T : Type 0} (place mtu : ℕ) (sample : Sample) (answer : Result T PacketError) (fault : Option PacketError) (p p' : Payloading) (b : State) (before after : RedSink SentPackets) (sent : List Packet)
+    → length sent ≡ length (stream_of before).packets → p'.clock_rate ≡ p.clock_rate → fault ≡ result_err answer → fault ≢ Some faults.OutOfMemory
+    → length (stream_of before).packets < 2 ^ 63 → length (stream_of after).packets < 2 ^ 63
+    → OnOk answer (SendsSample KeepsInRed kept_in_red next_in_red mtu sample p before p' after)
+    → IfErr answer (λ refused. SendsNothing mtu sample refused p before p' after ⊎ SendsBeginning KeepsInRed RefusesInRed kept_in_red next_in_red mtu sample refused p before p' after)
+    → SentInRed place mtu sample p p' b (stream_of before) (stream_of after) (sender_of before) (sender_of after) (budget_of before) sent (length (stream_of after).packets - length (stream_of before).packets) fault
+noted_in_red place mtu sample (Ok x) fault p p' b before after sent long clock is other few few_after did refused = rw is (sent_in_red place mtu sample p p' b before after sent long clock few_after did)
+noted_in_red place mtu sample (Err e) fault p p' b before after sent long clock is other few few_after did refused =
+    rw is (refused_in_red place mtu sample e p p' b before after sent long clock (λ memory. other (is ∙ ap Some memory)) few refused)
 
 -- memory was refused to a sample, with the packets that a sink without RED would then hold
 pub record StoppedInRed (mtu : ℕ) (sample : Sample) (p p' : Payloading) (b : State) (sink sink' : SentPackets) (sender sender' : Sender) (budget : ℕ) (sent : List Packet) : Type 0 where
@@ -181,11 +196,10 @@ refused_kept before mid after begun refused fault sender (inr sink) =
     ap (sender_after (sender_of before)) (map-append remembered begun (refused ∷ [])) ∙ after_append (sender_of before) (all_remembered begun) (all_remembered (refused ∷ [])) in
     (begun ++ refused ∷ [], inr refl, more ∙ sym whole, sink.0.1)
 
-pub stopped_in_red : (mtu : ℕ) (sample : Sample) (fault : PacketError) (p p' : Payloading) (b : State) (before after : RedSink SentPackets) (sent : List Packet) → length sent ≡ length (stream_of before).packets → p'.clock_rate ≡ p.clock_rate
-    → fault ≡ faults.OutOfMemory
-    → (SendsNothing mtu sample fault p before p' after ⊎ SendsBeginning KeepsInRed RefusesInRed kept_in_red next_in_red mtu sample fault p before p' after)
+pub stopped_in_red : (mtu : ℕ) (sample : Sample) (p p' : Payloading) (b : State) (before after : RedSink SentPackets) (sent : List Packet) → length sent ≡ length (stream_of before).packets → p'.clock_rate ≡ p.clock_rate
+    → (SendsNothing mtu sample faults.OutOfMemory p before p' after ⊎ SendsBeginning KeepsInRed RefusesInRed kept_in_red next_in_red mtu sample faults.OutOfMemory p before p' after)
     → StoppedInRed mtu sample p p' b (stream_of before) (stream_of after) (sender_of before) (sender_of after) (budget_of before) sent
-stopped_in_red mtu sample fault p p' b before after sent long clock memory (inl nothing) =
+stopped_in_red mtu sample p p' b before after sent long clock (inl nothing) =
     let plain = left_by p p' b (plain_sink before sent) (plain_sink after (sent ++ [])) [] clock (ap (λ (x : RedSink SentPackets). plain_sink x (sent ++ [])) nothing.same) in
     record {
       now = sent ++ [];
@@ -193,15 +207,15 @@ stopped_in_red mtu sample fault p p' b before after sent long clock memory (inl 
       stops = (
         p'.pack,
         inl (
-          subst (λ (f : PacketError). PackStep p.pack mtu sample.bytes (Err f) p'.pack) memory nothing.packetized,
+          nothing.packetized,
           red_same plain (ap (λ (x : RedSink SentPackets). (stream_of x).packets) nothing.same) (ap (λ (x : RedSink SentPackets). sender_of x) nothing.same),
         ),
       );
     }
-stopped_in_red mtu sample fault p p' b before after sent long clock memory (inr beginning) =
+stopped_in_red mtu sample p p' b before after sent long clock (inr beginning) =
     let begun = beginning.begun in
     let kept = all_kept_in_red before begun beginning.images beginning.mid beginning.sends in
-    let refused = refused_kept before beginning.mid after begun beginning.refused fault kept.1 beginning.refusal in
+    let refused = refused_kept before beginning.mid after begun beginning.refused faults.OutOfMemory kept.1 beginning.refusal in
     let stream = refused.3 ∙ kept.0 in
     let now = sent ++ begun in
     let number : next_in_red before ≡ (stream_of before).first + length sent = ap (λ n. (stream_of before).first + n) (sym long) in

@@ -1,9 +1,10 @@
 -- What a sent sample leaves, as a step of a run.
-use Rattle.std.proofs.Common.{◌≡◌, ◌≢◌, ◌∙◌, sym, ap, refl, subst, ℕ, suc, ◌+◌, ◌-◌, ◌<◌, ◌%◌, ◌^◌, ◌⊎◌, inl, inr, List, [], ◌∷◌, ◌++◌, length, arith, length-append, Some, None, Result, Ok, Err, OnOk, OnErr, IfErr}
+use Rattle.std.proofs.Common.{◌≡◌, ◌≢◌, ◌∙◌, sym, ap, refl, subst, ℕ, suc, ◌+◌, ◌-◌, ◌<◌, ◌%◌, ◌^◌, ◌⊎◌, inl, inr, List, [], ◌∷◌, ◌++◌, length, arith, length-append, Option, Some, None, Result, Ok, Err, OnOk, OnErr, IfErr}
 use Rattle.std.proofs.lemmas.List.{append-nil}
+use Rattle.std.specs.Result.{result_err}
 use Rattle.codec_payload_base.specs.declared.error.PacketError.{PacketError}
 use Rattle.codec_payload_base.specs.declared.error.PacketError.TheVariants as faults
-use Rattle.codec_payload_buffer.specs.Pack.{Pack, PackStep, is_built_in}
+use Rattle.codec_payload_buffer.specs.Pack.{Pack, is_built_in}
 use Rattle.codec_payload_core.specs.Packets.{Packet, SentPackets}
 use Rattle.codec_payload_core.specs.Sending.{Sample, Payloading, packets_for, packets_from, rtp_time_at, SendsSample, SendsBeginning, SendsNothing}
 use Rattle.codec_payload_core.specs.Schedule.{run_state, after_send, SendsIt, StopsSending}
@@ -63,33 +64,45 @@ sent_it place mtu sample p p' b sink sink' clock sent few =
 
 pub refused_it : (place mtu : ℕ) (sample : Sample) (fault : PacketError) (p p' : Payloading) (b : State) (sink sink' : SentPackets) → p'.clock_rate ≡ p.clock_rate → fault ≢ faults.OutOfMemory → length sink.packets < 2 ^ 63
     → (SendsNothing mtu sample fault p sink p' sink' ⊎ SendsBeginning Keeps Stays kept_packets next_number mtu sample fault p sink p' sink')
-    → SendsIt place mtu sample (run_state p b sink) (record { step = place; first = length sink.packets; count = 0; fault = Some fault }) (run_state p' b sink')
+    → SendsIt place mtu sample (run_state p b sink) (record { step = place; first = length sink.packets; count = length sink'.packets - length sink.packets; fault = Some fault }) (run_state p' b sink')
 refused_it place mtu sample fault p p' b sink sink' clock other few (inl nothing) =
+    let many = ap (λ (s : SentPackets). length s.packets) nothing.same in
+    let count : length sink'.packets - length sink.packets ≡ 0 = omega (arith, many) in
     record {
       answer = Err fault;
       pack = p'.pack;
       packetized = nothing.packetized;
       not_memory = λ e. other (cc);
-      entry_is = refl;
+      entry_is = ap (λ (n : ℕ). record { step = place; first = length sink.packets; count = n; fault = Some fault }) count;
       packets = [];
       are = tt;
       numbered = tt;
-      few = omega (arith, few, ap (λ (s : SentPackets). length s.packets) nothing.same);
+      few = omega (arith, few, many);
       left = left_by p p' b sink sink' [] clock (nothing.same ∙ ap (λ (ps : List Packet). record sink { packets = ps }) (sym (append-nil sink.packets)));
     }
 refused_it place mtu sample fault p p' b sink sink' clock other few (inr beginning) = absurd (other beginning.refusal.0)
 
-pub stopped_it : (mtu : ℕ) (sample : Sample) (fault : PacketError) (p p' : Payloading) (b : State) (sink sink' : SentPackets) → p'.clock_rate ≡ p.clock_rate → fault ≡ faults.OutOfMemory
-    → (SendsNothing mtu sample fault p sink p' sink' ⊎ SendsBeginning Keeps Stays kept_packets next_number mtu sample fault p sink p' sink')
+-- the entry of a sample that was sent or refused
+pub noted_it : {T : Type 0} (place mtu : ℕ) (sample : Sample) (answer : Result T PacketError) (fault : Option PacketError) (p p' : Payloading) (b : State) (sink sink' : SentPackets) → p'.clock_rate ≡ p.clock_rate
+    → fault ≡ result_err answer → fault ≢ Some faults.OutOfMemory → length sink.packets < 2 ^ 63 → length sink'.packets < 2 ^ 63
+    → OnOk answer (SendsSample Keeps kept_packets next_number mtu sample p sink p' sink')
+    → IfErr answer (λ refused. SendsNothing mtu sample refused p sink p' sink' ⊎ SendsBeginning Keeps Stays kept_packets next_number mtu sample refused p sink p' sink')
+    → SendsIt place mtu sample (run_state p b sink) (record { step = place; first = length sink.packets; count = length sink'.packets - length sink.packets; fault = fault }) (run_state p' b sink')
+noted_it place mtu sample (Ok x) fault p p' b sink sink' clock is other few few_after sent refused = rw is (sent_it place mtu sample p p' b sink sink' clock sent few_after)
+noted_it place mtu sample (Err e) fault p p' b sink sink' clock is other few few_after sent refused =
+    rw is (refused_it place mtu sample e p p' b sink sink' clock (λ memory. other (is ∙ ap Some memory)) few refused)
+
+pub stopped_it : (mtu : ℕ) (sample : Sample) (p p' : Payloading) (b : State) (sink sink' : SentPackets) → p'.clock_rate ≡ p.clock_rate
+    → (SendsNothing mtu sample faults.OutOfMemory p sink p' sink' ⊎ SendsBeginning Keeps Stays kept_packets next_number mtu sample faults.OutOfMemory p sink p' sink')
     → StopsSending mtu sample (run_state p b sink) (run_state p' b sink')
-stopped_it mtu sample fault p p' b sink sink' clock memory (inl nothing) = (
+stopped_it mtu sample p p' b sink sink' clock (inl nothing) = (
   p'.pack,
   inl (
-    subst (λ (f : PacketError). PackStep p.pack mtu sample.bytes (Err f) p'.pack) memory nothing.packetized,
+    nothing.packetized,
     left_by p p' b sink sink' [] clock (nothing.same ∙ ap (λ (ps : List Packet). record sink { packets = ps }) (sym (append-nil sink.packets))),
   ),
 )
-stopped_it mtu sample fault p p' b sink sink' clock memory (inr beginning) =
+stopped_it mtu sample p p' b sink sink' clock (inr beginning) =
     let kept = kept_all sink beginning.begun beginning.images beginning.mid beginning.sends in (
       p'.pack,
       inr (

@@ -1,6 +1,7 @@
 //! Whole runs: samples are sent, some of their packets are pushed, in any order, and units are popped.
 
-ghost use Rattle.std.specs.Prelude.{◌≡◌, ◌≢◌, ◌++◌, List, ◌≤◌, ◌^◌, ◌↔◌, map, IfOk, IfErr, IfSome, IsNone, OnOk, OnErr, Option, Result};
+ghost use Rattle.std.specs.Prelude.{◌≡◌, ◌≢◌, ◌∷◌, ◌++◌, ◌⊎◌, [], List, ◌≤◌, ◌^◌, ◌↔◌, map, IfOk, IfErr, IfSome, IsNone, OnOk, OnErr, Option, Result};
+ghost use Rattle.std.specs.Result.{result_err};
 ghost use Rattle.codec_payload_base.specs.declared.error.PacketError.TheVariants.{OutOfMemory};
 ghost use Rattle.codec_payload_core.specs.Packets.{Packet, packet_of};
 ghost use Rattle.codec_payload_core.specs.RedPromises.{KeepsRedPromises, ran_in_red, protection_of};
@@ -108,13 +109,7 @@ pub fn run_schedule<P: Packetizer, D: Depacketizer>(
 {
     match &mut red {
         None => run_plain(alloc, payloader, buffer, sink, samples, steps),
-        Some(red) => {
-            let budget = red.budget;
-            let receiver = red.receiver;
-            run_in_red(
-                alloc, payloader, buffer, sink, red.sender, budget, receiver, samples, steps,
-            )
-        }
+        Some(red) => run_in_red(alloc, payloader, buffer, sink, red, samples, steps),
     }
 }
 
@@ -230,12 +225,7 @@ fn do_step<P: Packetizer, D: Depacketizer>(
             };
             push_step(alloc, payloader.clock_rate(), buffer, packet, place)
         }
-        Step::Pop => {
-            run.pops.reserve(1)?;
-            let answer = pop_step(buffer)?;
-            run.pops.push(answer).unwrap();
-            Ok(())
-        }
+        Step::Pop => pop_step(buffer, run),
     }
 }
 
@@ -253,20 +243,24 @@ fn send_step<P: Packetizer>(
     ensures err { OnErr result ((buffer : State) → StopsSending mtu (sample_of sample.now) (run_state payloader.old buffer sink.old) (run_state payloader.new buffer sink.new)) }
 {
     let first = sink.packets().len();
-    match payloader.push_sample(alloc, sample, mtu, sink) {
-        Ok(()) => Ok(Sent {
-            step: place,
-            first,
-            count: sink.packets().len() - first,
-            fault: None,
-        }),
-        Err(PacketError::OutOfMemory) => Err(PacketError::OutOfMemory),
-        Err(fault) => Ok(Sent {
-            step: place,
-            first,
-            count: 0,
-            fault: Some(fault),
-        }),
+    let fault = refusal(payloader.push_sample(alloc, sample, mtu, sink))?;
+    Ok(Sent {
+        step: place,
+        first,
+        count: sink.packets().len() - first,
+        fault,
+    })
+}
+
+/// Why the sample was refused, if it was. Want of memory is no refusal.
+pub(crate) fn refusal(answer: Result<(), PacketError>) -> Result<Option<PacketError>, PacketError>
+    ensures ok { IfOk result (λ fault. (fault ≡ result_err answer) × (fault ≢ Option.Some OutOfMemory)) }
+    ensures fault { IfErr result (λ fault. fault ≡ OutOfMemory) }
+    ensures err { OnErr result (answer ≡ Result.Err OutOfMemory) }
+{
+    match answer.err() {
+        Some(PacketError::OutOfMemory) => Err(PacketError::OutOfMemory),
+        fault => Ok(fault),
     }
 }
 
@@ -301,18 +295,24 @@ fn push_step<D: Depacketizer>(
     buffer.push(meta, payload)
 }
 
-/// Pops. Want of memory is no answer.
+/// Pops, and notes the answer, for which it finds room first. Want of memory is no answer.
 pub(crate) fn pop_step<D: Depacketizer>(
     buffer: &mut DepacketizingBuffer<D>,
-) -> Result<Option<Result<Depacketized, PacketError>>, PacketError>
-    ensures ok { IfOk result (λ answer. Pops buffer.old answer buffer.new × (answer ≢ Option.Some (Result.Err OutOfMemory))) }
+    run: &mut Run,
+) -> Result<(), PacketError>
+    ensures ok { OnOk result ((answer : Answer) × (run.new.sends.items ≡ run.old.sends.items) × (run.new.pops.items ≡ run.old.pops.items ++ answer ∷ [])
+        × (answer ≢ Option.Some (Result.Err OutOfMemory)) × Pops buffer.old answer buffer.new) }
     ensures limit { buffer.new.limit ≡ buffer.old.limit }
     ensures fault { IfErr result (λ fault. fault ≡ OutOfMemory) }
-    ensures err { OnErr result (Pops buffer.old (Option.Some (Result.Err OutOfMemory)) buffer.new) }
+    ensures err { OnErr result ((buffer.new ≡ buffer.old) ⊎ Pops buffer.old (Option.Some (Result.Err OutOfMemory)) buffer.new) }
 {
+    run.pops.reserve(1)?;
     match buffer.pop() {
         Some(Err(PacketError::OutOfMemory)) => Err(PacketError::OutOfMemory),
-        answer => Ok(answer),
+        answer => {
+            run.pops.push(answer).unwrap();
+            Ok(())
+        }
     }
 }
 

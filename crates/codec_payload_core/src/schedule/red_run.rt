@@ -5,7 +5,7 @@ ghost use Rattle.codec_payload_base.specs.declared.error.PacketError.TheVariants
 ghost use Rattle.codec_payload_buffer.specs.Held.{Held};
 ghost use Rattle.codec_payload_buffer.specs.Steps.{State, IsArrived, pushed};
 ghost use Rattle.codec_payload_core.specs.Packets.{Packet, packet_of};
-ghost use Rattle.codec_payload_core.specs.RedPromises.{KeepsRedPromises, ran_in_red};
+ghost use Rattle.codec_payload_core.specs.RedPromises.{KeepsRedPromises, ran_in_red, protection_of};
 ghost use Rattle.codec_payload_core.specs.RedSchedule.{red_state, meta_of_recovered, PushesAll, RedPushes, StopsAmong, StopsPushing, SendsInRed, DoesRedStep, StopsSendingInRed, StopsAtInRed, StopsInRed};
 ghost use Rattle.codec_payload_core.specs.Schedule.{Answer, run_state, SendsIt};
 ghost use Rattle.codec_payload_core.specs.Sending.{sample_of};
@@ -16,8 +16,8 @@ use crate::buffer::{DepacketizingBuffer, RtpMeta};
 use crate::codec::{Depacketizer, Packetizer};
 use crate::error::PacketError;
 use crate::payload::{MemorySink, OutgoingPacket, Payloader, RedSink};
-use crate::red::{Recovered, RedReceiver, RedSender};
-use crate::schedule::{Run, Sent, Step, pop_step};
+use crate::red::{Recovered, RedReceiver};
+use crate::schedule::{RedRun, Run, Sent, Step, pop_step, refusal};
 use crate::wire::{ExtensionValues, Frequency, MediaTime, Pt, RtpHeader, Ticks, ToPayload};
 use std::alloc::Global;
 
@@ -111,8 +111,7 @@ fn red_send_step<P: Packetizer>(
     alloc: Global,
     payloader: &mut Payloader<P>,
     sink: &mut MemorySink,
-    red: &mut RedSender,
-    budget: usize,
+    red: &mut RedRun<'_>,
     sample: &ToPayload,
     mtu: usize,
     place: usize,
@@ -120,30 +119,23 @@ fn red_send_step<P: Packetizer>(
     ensures ok { IfOk result (λ entry. (buffer : State) → (sent : List Packet) → length sent ≡ length sink.old.packets
         → (now : List Packet) × (length now ≡ length sink.new.packets)
         × SendsIt place mtu (sample_of sample.now) (run_state payloader.old buffer (record sink.old { packets = sent })) entry (run_state payloader.new buffer (record sink.new { packets = now }))
-        × SendsInRed budget (red_state payloader.old buffer sink.old sent red.old) (red_state payloader.new buffer sink.new now red.new)) }
+        × SendsInRed red.old.budget (red_state payloader.old buffer sink.old sent red.old.sender.now) (red_state payloader.new buffer sink.new now red.new.sender.now)) }
     ensures fault { IfErr result (λ fault. fault ≡ OutOfMemory) }
     ensures err { OnErr result ((buffer : State) → (sent : List Packet) → length sent ≡ length sink.old.packets
         → (now : List Packet) × (length now ≡ length sink.new.packets)
-        × StopsSendingInRed budget mtu (sample_of sample.now) (red_state payloader.old buffer sink.old sent red.old) (red_state payloader.new buffer sink.new now red.new)) }
+        × StopsSendingInRed red.old.budget mtu (sample_of sample.now) (red_state payloader.old buffer sink.old sent red.old.sender.now) (red_state payloader.new buffer sink.new now red.new.sender.now)) }
+    ensures loan { red.new.sender.ghost_name ≡ red.old.sender.ghost_name }
+    ensures protection { protection_of red.new ≡ protection_of red.old }
 {
     let first = sink.packets().len();
-    let mut in_red = RedSink::new(sink, red, budget);
-    let answer = payloader.push_sample(alloc, sample, mtu, &mut in_red);
-    match answer {
-        Ok(()) => Ok(Sent {
-            step: place,
-            first,
-            count: sink.packets().len() - first,
-            fault: None,
-        }),
-        Err(PacketError::OutOfMemory) => Err(PacketError::OutOfMemory),
-        Err(fault) => Ok(Sent {
-            step: place,
-            first,
-            count: 0,
-            fault: Some(fault),
-        }),
-    }
+    let mut in_red = RedSink::new(sink, red.sender, red.budget);
+    let fault = refusal(payloader.push_sample(alloc, sample, mtu, &mut in_red))?;
+    Ok(Sent {
+        step: place,
+        first,
+        count: sink.packets().len() - first,
+        fault,
+    })
 }
 
 /// Does one step, and notes what came of it.
@@ -151,9 +143,7 @@ fn do_red_step<P: Packetizer, D: Depacketizer>(
     payloader: &mut Payloader<P>,
     buffer: &mut DepacketizingBuffer<D>,
     sink: &mut MemorySink,
-    red: &mut RedSender,
-    budget: usize,
-    receiver: &RedReceiver,
+    red: &mut RedRun<'_>,
     samples: &[ToPayload],
     place: usize,
     step: Step,
@@ -162,14 +152,16 @@ fn do_red_step<P: Packetizer, D: Depacketizer>(
     ensures ok { OnOk result ((sent : List Packet) → length sent ≡ length sink.old.packets
         → (now : List Packet) × (sends : List Entry) × (pops : List Answer) × (length now ≡ length sink.new.packets)
         × (run.new.sends.items ≡ run.old.sends.items ++ sends) × (run.new.pops.items ≡ run.old.pops.items ++ pops)
-        × DoesRedStep (record { budget = budget; receiver = receiver.now }) (map sample_of samples.now) place step
-        (red_state payloader.old buffer.old sink.old sent red.old) sends pops (red_state payloader.new buffer.new sink.new now red.new)) }
+        × DoesRedStep (protection_of red.old) (map sample_of samples.now) place step
+        (red_state payloader.old buffer.old sink.old sent red.old.sender.now) sends pops (red_state payloader.new buffer.new sink.new now red.new.sender.now)) }
     ensures limit { buffer.new.limit ≡ buffer.old.limit }
     ensures fault { IfErr result (λ fault. fault ≡ OutOfMemory) }
     ensures err { OnErr result ((sent : List Packet) → length sent ≡ length sink.old.packets
         → (now : List Packet) × (length now ≡ length sink.new.packets)
-        × StopsAtInRed (record { budget = budget; receiver = receiver.now }) (map sample_of samples.now) place step
-        (red_state payloader.old buffer.old sink.old sent red.old) (red_state payloader.new buffer.new sink.new now red.new)) }
+        × StopsAtInRed (protection_of red.old) (map sample_of samples.now) place step
+        (red_state payloader.old buffer.old sink.old sent red.old.sender.now) (red_state payloader.new buffer.new sink.new now red.new.sender.now)) }
+    ensures loan { red.new.sender.ghost_name ≡ red.old.sender.ghost_name }
+    ensures protection { protection_of red.new ≡ protection_of red.old }
 {
     let alloc = *run.sends.allocator();
     match step {
@@ -178,7 +170,7 @@ fn do_red_step<P: Packetizer, D: Depacketizer>(
                 return Ok(());
             };
             run.sends.reserve(1)?;
-            let entry = red_send_step(alloc, payloader, sink, red, budget, sample, mtu, place)?;
+            let entry = red_send_step(alloc, payloader, sink, red, sample, mtu, place)?;
             run.sends.push(entry).unwrap();
             Ok(())
         }
@@ -186,43 +178,33 @@ fn do_red_step<P: Packetizer, D: Depacketizer>(
             let Some(packet) = sink.packets().get(k) else {
                 return Ok(());
             };
-            red_push_step(
-                alloc,
-                payloader.clock_rate(),
-                buffer,
-                packet,
-                receiver,
-                place,
-            )
+            let clock_rate = payloader.clock_rate();
+            red_push_step(alloc, clock_rate, buffer, packet, red.receiver, place)
         }
-        Step::Pop => {
-            run.pops.reserve(1)?;
-            let answer = pop_step(buffer)?;
-            run.pops.push(answer).unwrap();
-            Ok(())
-        }
+        Step::Pop => pop_step(buffer, run),
     }
 }
 
-/// Does what [`run_schedule`](crate::schedule::run_schedule) does with a [`RedRun`](crate::schedule::RedRun) of this sender,
-/// budget and receiver. The sender is an argument of its own here, so the contract says how it is left.
+/// Does what [`run_schedule`](crate::schedule::run_schedule) does with this [`RedRun`], which stands behind a reference here,
+/// so that the contract says how its sender is left. Its budget and its receiver stay.
 pub fn run_in_red<P: Packetizer, D: Depacketizer>(
     alloc: Global,
     payloader: &mut Payloader<P>,
     buffer: &mut DepacketizingBuffer<D>,
     sink: &mut MemorySink,
-    red: &mut RedSender,
-    budget: usize,
-    receiver: &RedReceiver,
+    red: &mut RedRun<'_>,
     samples: &[ToPayload],
     steps: &[Step],
 ) -> Result<Run, PacketError>
-    ensures promises { IfOk result (λ run. (sent : List Packet) × KeepsRedPromises (ran_in_red (record { budget = budget; receiver = receiver.now }) samples.now steps.now
-        (red_state payloader.old buffer.old sink.old sink.old.packets red.old) run (red_state payloader.new buffer.new sink.new sent red.new))) }
+    ensures promises { IfOk result (λ run. (sent : List Packet) × KeepsRedPromises (ran_in_red (protection_of red.old) samples.now steps.now
+        (red_state payloader.old buffer.old sink.old sink.old.packets red.old.sender.now) run (red_state payloader.new buffer.new sink.new sent red.new.sender.now))) }
     ensures limit { buffer.new.limit ≡ buffer.old.limit }
     ensures fault { IfErr result (λ fault. fault ≡ OutOfMemory) }
-    ensures stops { OnErr result ((sent : List Packet) × StopsInRed (record { budget = budget; receiver = receiver.now }) (map sample_of samples.now) 0 steps.now
-        (red_state payloader.old buffer.old sink.old sink.old.packets red.old) (red_state payloader.new buffer.new sink.new sent red.new)) }
+    ensures stops { OnErr result ((sent : List Packet) × StopsInRed (protection_of red.old) (map sample_of samples.now) 0 steps.now
+        (red_state payloader.old buffer.old sink.old sink.old.packets red.old.sender.now) (red_state payloader.new buffer.new sink.new sent red.new.sender.now)) }
+    // What it borrows, and budget and receiver.
+    ensures loan { red.new.sender.ghost_name ≡ red.old.sender.ghost_name }
+    ensures protection { protection_of red.new ≡ protection_of red.old }
 {
     let mut run = Run {
         sends: Vec::new(alloc),
@@ -230,7 +212,7 @@ pub fn run_in_red<P: Packetizer, D: Depacketizer>(
     };
     for (place, step) in steps.iter().enumerate() {
         do_red_step(
-            payloader, buffer, sink, red, budget, receiver, samples, place, *step, &mut run,
+            payloader, buffer, sink, red, samples, place, *step, &mut run,
         )?;
     }
     Ok(run)

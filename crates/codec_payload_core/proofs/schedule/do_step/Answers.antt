@@ -63,11 +63,19 @@ returns-in-Some-get-clause-err g c =
     let here = ap (λ ps. slice_get ps c.in-Push.k) (sym c.packets.ensures.value) ∙ (slice_get-map packet_of c.packets.result.now c.in-Push.k ∙ ap (λ o. option_map packet_of o) there) in
     from_err c.push_step.result (λ same. rw c.in-Push.is (packet_of c.in-Some-get.packet.now, here, ap (λ (b : State). run_state c.args.payloader.now b c.args.sink.now) same)) c.push_step.ensures.err
 
-pub returns-in_ok-answer-in-Pop-clause-ok : goal.returns-in_ok-answer-in-Pop-clause-ok
-returns-in_ok-answer-in-Pop-clause-ok g c = (
-  [],
-  c.in_ok-answer-in-Pop.answer ∷ [],
-  sym (append-nil _),
-  search rules,
-  rw c.in-Pop.is (refl, c.in_ok-answer-in-Pop.answer, c.pop_step.new.buffer, refl, c.in_ok-answer-in-Pop.ensures.ok.1, c.in_ok-answer-in-Pop.ensures.ok.0, refl),
-)
+pub returns-in-Pop-clause-ok : goal.returns-in-Pop-clause-ok
+returns-in-Pop-clause-ok g c =
+    on_ok c.pop_step.result (λ did. (
+      [],
+      did.0 ∷ [],
+      did.1 ∙ sym (append-nil _),
+      did.2,
+      rw c.in-Pop.is (refl, did.0, c.pop_step.new.buffer, refl, did.3, did.4, refl),
+    )) c.pop_step.ensures.ok
+
+pub returns-in-Pop-clause-err : goal.returns-in-Pop-clause-err
+returns-in-Pop-clause-err g c =
+    from_err c.pop_step.result (λ stopped. rw c.in-Pop.is (elim stopped [
+      | inl same ↦ inl (ap (λ (b : State). run_state c.args.payloader.now b c.args.sink.now) same)
+      | inr pops ↦ inr (c.pop_step.new.buffer, pops, refl)
+    ])) c.pop_step.ensures.err

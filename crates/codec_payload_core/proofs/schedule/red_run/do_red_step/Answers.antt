@@ -4,6 +4,7 @@ use Rattle.std.proofs.lemmas.List.{append-nil}
 use Rattle.std.proofs.lemmas.Option.{slice_get-map, slice_get_past, slice_get_read}
 use Rattle.codec_payload_core.proofs.RedSendLemmas.{sends_nothing}
 use Rattle.codec_payload_core.proofs.ScheduleLemmas.{from_err, on_err, on_ok}
+use Rattle.codec_payload_buffer.specs.Steps.{State}
 use Rattle.codec_payload_core.specs.Packets.{packet_of}
 use Rattle.codec_payload_core.specs.RedSchedule.{red_state, RedPushes, StopsPushing}
 use Rattle.codec_payload_core.specs.Sending.{sample_of}
@@ -13,7 +14,7 @@ pub returns-in_default-clause-ok : goal.returns-in_default-clause-ok
 returns-in_default-clause-ok g c = λ sent long.
     let none = slice_get_past c.args.samples.now c.in-Send.sample c.in_default.ensures.lookup.3 in
     let here = slice_get-map sample_of c.args.samples.now c.in-Send.sample ∙ ap (λ o. option_map sample_of o) none in
-    (sent, [], [], long, sym (append-nil _), sym (append-nil _), rw c.in-Send.is ((refl, rw here (refl, refl)), sends_nothing c.args.budget (red_state c.args.payloader.now c.args.buffer.now c.args.sink.now sent c.args.red.now)))
+    (sent, [], [], long, sym (append-nil _), sym (append-nil _), rw c.in-Send.is ((refl, rw here (refl, refl)), sends_nothing c.args.red.now.budget (red_state c.args.payloader.now c.args.buffer.now c.args.sink.now sent c.args.red.now.sender.now)))
 
 pub returns-in_err-reserve-in-Send-clause-err : goal.returns-in_err-reserve-in-Send-clause-err
 returns-in_err-reserve-in-Send-clause-err g c =
@@ -57,7 +58,7 @@ returns-in-Some-get-clause-ok g c =
         refl,
         refl,
         c.red_push_step.new.buffer,
-        rw here (subst (λ (rate : ℕ). RedPushes c.args.place rate c.args.receiver.now (Some (packet_of c.in-Some-get.packet.now)) c.args.buffer.now c.red_push_step.new.buffer) c.clock_rate.ensures pushed),
+        rw here (subst (λ (rate : ℕ). RedPushes c.args.place rate c.args.red.now.receiver.now (Some (packet_of c.in-Some-get.packet.now)) c.args.buffer.now c.red_push_step.new.buffer) c.clock_rate-clock_rate.ensures pushed),
         refl,
       ),
     )) c.red_push_step.ensures.ok
@@ -73,18 +74,30 @@ returns-in-Some-get-clause-err g c =
         packet_of c.in-Some-get.packet.now,
         here,
         c.red_push_step.new.buffer,
-        subst (λ (rate : ℕ). StopsPushing c.args.place rate c.args.receiver.now (packet_of c.in-Some-get.packet.now) c.args.buffer.now c.red_push_step.new.buffer) c.clock_rate.ensures stopped,
+        subst (λ (rate : ℕ). StopsPushing c.args.place rate c.args.red.now.receiver.now (packet_of c.in-Some-get.packet.now) c.args.buffer.now c.red_push_step.new.buffer) c.clock_rate-clock_rate.ensures stopped,
         refl,
       ),
     )) c.red_push_step.ensures.err
 
-pub returns-in_ok-answer-in-Pop-clause-ok : goal.returns-in_ok-answer-in-Pop-clause-ok
-returns-in_ok-answer-in-Pop-clause-ok g c = λ sent long. (
-  sent,
-  [],
-  c.in_ok-answer-in-Pop.answer ∷ [],
-  long,
-  sym (append-nil _),
-  search rules,
-  rw c.in-Pop.is ((refl, c.in_ok-answer-in-Pop.answer, c.pop_step.new.buffer, refl, c.in_ok-answer-in-Pop.ensures.ok.1, c.in_ok-answer-in-Pop.ensures.ok.0, refl), refl, refl),
-)
+pub returns-in-Pop-clause-ok : goal.returns-in-Pop-clause-ok
+returns-in-Pop-clause-ok g c =
+    on_ok c.pop_step.result (λ did. λ sent long. (
+      sent,
+      [],
+      did.0 ∷ [],
+      long,
+      did.1 ∙ sym (append-nil _),
+      did.2,
+      rw c.in-Pop.is ((refl, did.0, c.pop_step.new.buffer, refl, did.3, did.4, refl), refl, refl),
+    )) c.pop_step.ensures.ok
+
+pub returns-in-Pop-clause-err : goal.returns-in-Pop-clause-err
+returns-in-Pop-clause-err g c =
+    from_err c.pop_step.result (λ stopped. λ sent long. (
+      sent,
+      long,
+      rw c.in-Pop.is (elim stopped [
+        | inl same ↦ inl (ap (λ (b : State). red_state c.args.payloader.now b c.args.sink.now sent c.args.red.now.sender.now) same)
+        | inr pops ↦ inr (c.pop_step.new.buffer, pops, refl)
+      ]),
+    )) c.pop_step.ensures.err

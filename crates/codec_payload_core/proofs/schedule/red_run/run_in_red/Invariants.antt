@@ -1,6 +1,7 @@
 use Rattle.std.proofs.Common.{◌≡◌, List, ◌++◌, map, drop, length}
 use Rattle.codec_payload_core.specs.Packets.{Packet}
-use Rattle.codec_payload_core.specs.RedSchedule.{Protection, RedState, red_state, RunsInRed, StopsInRed}
+use Rattle.codec_payload_core.specs.RedPromises.{protection_of}
+use Rattle.codec_payload_core.specs.RedSchedule.{RedState, red_state, RunsInRed, StopsInRed}
 use Rattle.codec_payload_core.specs.Schedule.{Answer}
 use Rattle.codec_payload_core.specs.Sending.{sample_of}
 use Rattle.codec_payload_core.specs.declared.schedule.Sent.{Sent}
@@ -10,13 +11,15 @@ use Rattle.codec_payload_core.proofs.schedule.red_run.run_in_red.Given as goal
 abbrev pub invariant-loop-place : goal.invariant-loop-place
 invariant-loop-place g l =
     let samples = map sample_of l.samples in
-    let with : Protection = record { budget = l.budget; receiver = l.receiver } in
-    let before = red_state l.fn.payloader l.fn.buffer l.fn.sink l.fn.sink.packets l.fn.red in
+    let with = protection_of l.fn.red in
+    let before = red_state l.fn.payloader l.fn.buffer l.fn.sink l.fn.sink.packets l.fn.red.sender.now in
     record {
       now : List Packet;
       long : length now ≡ length l.sink.packets;
-      completes : (sends : List Sent) (pops : List Answer) (after : RedState) → RunsInRed with samples l.place (drop l.place l.steps) (red_state l.payloader l.buffer l.sink now l.red) sends pops after
+      completes : (sends : List Sent) (pops : List Answer) (after : RedState) → RunsInRed with samples l.place (drop l.place l.steps) (red_state l.payloader l.buffer l.sink now l.red.sender.now) sends pops after
           → RunsInRed with samples 0 l.steps before (l.run.sends.items ++ sends) (l.run.pops.items ++ pops) after;
       limit : l.buffer.limit ≡ l.fn.buffer.limit;
-      stops : (after : RedState) → StopsInRed with samples l.place (drop l.place l.steps) (red_state l.payloader l.buffer l.sink now l.red) after → StopsInRed with samples 0 l.steps before after;
+      stops : (after : RedState) → StopsInRed with samples l.place (drop l.place l.steps) (red_state l.payloader l.buffer l.sink now l.red.sender.now) after → StopsInRed with samples 0 l.steps before after;
+      loan : l.red.sender.ghost_name ≡ l.fn.red.sender.ghost_name;
+      protection : protection_of l.red ≡ with;
     }
