@@ -1,5 +1,6 @@
 //! The worked examples of the audio formats, and calls that take memory.
 
+use crate::tables::{Frame, assert_received, assert_sent};
 use codec_payload_audio::amr_wb::{AmrWbDepacketizer, AmrWbPacketizer};
 use codec_payload_audio::plain::{
     ComfortNoiseDepacketizer, ComfortNoisePacketizer, G7xxPacketizer, G711Depacketizer,
@@ -12,218 +13,415 @@ use codec_payload_base::error::PacketError;
 use codec_payload_base::interface::{CodecExtra, Depacketizer, Packetizer, TelephoneEvent};
 use codec_payload_base::wire::Frequency;
 use std::alloc::Global;
+use std::process::Abort;
 use std::test::Fail;
 
-/// The payloads of a frame, one after another, each behind its length.
-fn spelled<P: Packetizer>(
+/// Whose packetizer and depacketizer a row is of.
+#[derive(Clone, Copy)]
+enum Format {
+    AmrWb { octet_align: bool },
+    ComfortNoise,
+    Telephone,
+    Opus,
+    G711,
+    Null,
+}
+
+const BANDWIDTH_EFFICIENT: Format = Format::AmrWb { octet_align: false };
+
+const OCTET_ALIGNED: Format = Format::AmrWb { octet_align: true };
+
+/// What a new packetizer answers.
+fn sent(
     alloc: Global,
-    packetizer: &mut P,
+    format: Format,
     mtu: usize,
     frame: &[u8],
-) -> Result<Vec<u8>, Fail> {
-    let mut all = Vec::new(alloc);
-    for payload in packetizer.packetize(alloc, mtu, frame)? {
-        all.push((payload.len() % 256) as u8)?;
-        all.extend_from_slice(&payload)?;
+) -> Result<Vec<Vec<u8>>, PacketError> {
+    match format {
+        Format::AmrWb { octet_align } => AmrWbPacketizer { octet_align }.packetize(
+            alloc, mtu, frame,
+        ),
+        Format::ComfortNoise => ComfortNoisePacketizer {}.packetize(alloc, mtu, frame),
+        Format::Telephone => TelephoneEventPacketizer {}.packetize(alloc, mtu, frame),
+        Format::Opus => OpusPacketizer {}.packetize(alloc, mtu, frame),
+        Format::G711 => G7xxPacketizer::default().packetize(alloc, mtu, frame),
+        Format::Null => NullPacketizer {}.packetize(alloc, mtu, frame),
     }
-    Ok(all)
 }
 
-/// The one packet of a frame.
-fn sent<P: Packetizer>(
+/// What a new depacketizer makes of a payload behind the one byte 7.
+fn assert_received_as(
+    rt: &impl Abort,
     alloc: Global,
-    packetizer: &mut P,
-    mtu: usize,
-    frame: &[u8],
-) -> Result<Vec<u8>, Fail> {
-    let mut packets = packetizer.packetize(alloc, mtu, frame)?;
-    if packets.len() > 1 {
-        return Err(Fail::from("more than one packet"));
-    }
-    Ok(packets.pop().ok_or("a packet")?)
-}
-
-/// What a payload gives behind the one byte 7.
-fn received<D: Depacketizer>(
-    alloc: Global,
-    depacketizer: &mut D,
+    name: &str,
+    format: Format,
     payload: &[u8],
-) -> Result<Vec<u8>, Fail> {
-    let mut out = Vec::from_slice(alloc, &[7])?;
-    let mut extra = CodecExtra::None;
-    depacketizer.depacketize(payload, &mut out, &mut extra)?;
-    Ok(out)
-}
-
-/// The fault of a payload, where it leaves the one byte 7.
-fn refused<D: Depacketizer>(
-    alloc: Global,
-    depacketizer: &mut D,
-    payload: &[u8],
-) -> Result<Option<PacketError>, Fail> {
-    let mut out = Vec::from_slice(alloc, &[7])?;
-    let mut extra = CodecExtra::None;
-    let fault = depacketizer
-        .depacketize(payload, &mut out, &mut extra)
-        .err();
-    if out.as_slice() != [7].as_slice() || extra != CodecExtra::None {
-        return Err(Fail::from("something is left"));
+    wanted: &Result<&[u8], PacketError>,
+) -> Result<(), Fail> {
+    match format {
+        Format::AmrWb { octet_align } => {
+            let mut depacketizer = AmrWbDepacketizer { octet_align };
+            assert_received(rt, alloc, name, &mut depacketizer, payload, wanted)
+        }
+        Format::ComfortNoise => {
+            let mut depacketizer = ComfortNoiseDepacketizer {};
+            assert_received(rt, alloc, name, &mut depacketizer, payload, wanted)
+        }
+        Format::Telephone => {
+            let mut depacketizer = TelephoneEventDepacketizer::default();
+            assert_received(rt, alloc, name, &mut depacketizer, payload, wanted)
+        }
+        Format::Opus => {
+            let mut depacketizer = OpusDepacketizer::default();
+            assert_received(rt, alloc, name, &mut depacketizer, payload, wanted)
+        }
+        Format::G711 => {
+            let mut depacketizer = G711Depacketizer::default();
+            assert_received(rt, alloc, name, &mut depacketizer, payload, wanted)
+        }
+        Format::Null => {
+            let mut depacketizer = NullDepacketizer {};
+            assert_received(rt, alloc, name, &mut depacketizer, payload, wanted)
+        }
     }
-    Ok(fault)
 }
-
-const BANDWIDTH_EFFICIENT: bool = false;
-
-const OCTET_ALIGNED: bool = true;
 
 /// The frame of type 8 of 477 speech bits: 59 bytes `a5` and the bits 10100.
-fn frame_of_type_8(alloc: Global) -> Result<Vec<u8>, Fail> {
-    let mut frame = Vec::from_slice(alloc, &[0x44])?;
-    frame.resize(60, 0xa5)?;
-    frame.push(0xa0)?;
-    Ok(frame)
+const FRAME_OF_TYPE_8: [u8; 61] = [
+    0x44, 0xa5, 0xa5, 0xa5, 0xa5, 0xa5, 0xa5, 0xa5, 0xa5, 0xa5, 0xa5, 0xa5, 0xa5, 0xa5, 0xa5, 0xa5,
+    0xa5, 0xa5, 0xa5, 0xa5, 0xa5, 0xa5, 0xa5, 0xa5, 0xa5, 0xa5, 0xa5, 0xa5, 0xa5, 0xa5, 0xa5, 0xa5,
+    0xa5, 0xa5, 0xa5, 0xa5, 0xa5, 0xa5, 0xa5, 0xa5, 0xa5, 0xa5, 0xa5, 0xa5, 0xa5, 0xa5, 0xa5, 0xa5,
+    0xa5, 0xa5, 0xa5, 0xa5, 0xa5, 0xa5, 0xa5, 0xa5, 0xa5, 0xa5, 0xa5, 0xa5, 0xa0,
+];
+
+/// Its octet-aligned payload.
+const TYPE_8_OCTET_ALIGNED: [u8; 62] = [
+    0xf0, 0x44, 0xa5, 0xa5, 0xa5, 0xa5, 0xa5, 0xa5, 0xa5, 0xa5, 0xa5, 0xa5, 0xa5, 0xa5, 0xa5, 0xa5,
+    0xa5, 0xa5, 0xa5, 0xa5, 0xa5, 0xa5, 0xa5, 0xa5, 0xa5, 0xa5, 0xa5, 0xa5, 0xa5, 0xa5, 0xa5, 0xa5,
+    0xa5, 0xa5, 0xa5, 0xa5, 0xa5, 0xa5, 0xa5, 0xa5, 0xa5, 0xa5, 0xa5, 0xa5, 0xa5, 0xa5, 0xa5, 0xa5,
+    0xa5, 0xa5, 0xa5, 0xa5, 0xa5, 0xa5, 0xa5, 0xa5, 0xa5, 0xa5, 0xa5, 0xa5, 0xa5, 0xa0,
+];
+
+/// Its bandwidth-efficient payload.
+const TYPE_8_BANDWIDTH_EFFICIENT: [u8; 61] = [
+    0xf4, 0x69, 0x69, 0x69, 0x69, 0x69, 0x69, 0x69, 0x69, 0x69, 0x69, 0x69, 0x69, 0x69, 0x69, 0x69,
+    0x69, 0x69, 0x69, 0x69, 0x69, 0x69, 0x69, 0x69, 0x69, 0x69, 0x69, 0x69, 0x69, 0x69, 0x69, 0x69,
+    0x69, 0x69, 0x69, 0x69, 0x69, 0x69, 0x69, 0x69, 0x69, 0x69, 0x69, 0x69, 0x69, 0x69, 0x69, 0x69,
+    0x69, 0x69, 0x69, 0x69, 0x69, 0x69, 0x69, 0x69, 0x69, 0x69, 0x69, 0x69, 0x68,
+];
+
+/// Two reports on telephone events.
+const TWO_REPORTS: [u8; 8] = [0x05, 0x8a, 0x03, 0x20, 0x06, 0x0a, 0x01, 0x40];
+
+/// A comfort noise payload.
+const NOISE: [u8; 3] = [0x2a, 0x80, 0x40];
+
+/// A frame that a new packetizer of a format is given.
+struct SentRow {
+    name: &'static str,
+    format: Format,
+    frame: Frame,
 }
 
+const SENT: [SentRow; 16] = [
+    SentRow {
+        name: "amr-wb-type-14-sent, octet-aligned",
+        format: OCTET_ALIGNED,
+        frame: Frame {
+            mtu: 1_200,
+            bytes: &[0x74],
+            packets: Ok(&[&[0xf0, 0x74]]),
+        },
+    },
+    SentRow {
+        name: "amr-wb-type-14-sent, bandwidth-efficient",
+        format: BANDWIDTH_EFFICIENT,
+        frame: Frame {
+            mtu: 1_200,
+            bytes: &[0x74],
+            packets: Ok(&[&[0xf7, 0x40]]),
+        },
+    },
+    SentRow {
+        name: "amr-wb-type-8-octet-aligned",
+        format: OCTET_ALIGNED,
+        frame: Frame {
+            mtu: 62,
+            bytes: &FRAME_OF_TYPE_8,
+            packets: Ok(&[&TYPE_8_OCTET_ALIGNED]),
+        },
+    },
+    SentRow {
+        name: "amr-wb-type-8-bandwidth-efficient",
+        format: BANDWIDTH_EFFICIENT,
+        frame: Frame {
+            mtu: 61,
+            bytes: &FRAME_OF_TYPE_8,
+            packets: Ok(&[&TYPE_8_BANDWIDTH_EFFICIENT]),
+        },
+    },
+    SentRow {
+        name: "amr-wb-type-8-mtu-61-fault",
+        format: OCTET_ALIGNED,
+        frame: Frame {
+            mtu: 61,
+            bytes: &FRAME_OF_TYPE_8,
+            packets: Err(PacketError::ErrPayloadTooLarge),
+        },
+    },
+    SentRow {
+        name: "amr-wb-reserved-frame-fault",
+        format: BANDWIDTH_EFFICIENT,
+        frame: Frame {
+            mtu: 1_200,
+            bytes: &[0x50],
+            packets: Err(PacketError::ErrAmrWbCorruptedPacket),
+        },
+    },
+    SentRow {
+        name: "amr-wb-no-data-skipped",
+        format: BANDWIDTH_EFFICIENT,
+        frame: Frame {
+            mtu: 1_200,
+            bytes: &[0x7c],
+            packets: Ok(&[]),
+        },
+    },
+    SentRow {
+        name: "amr-wb-types-without-speech, not sent",
+        format: OCTET_ALIGNED,
+        frame: Frame {
+            mtu: 1_200,
+            bytes: &[0x7c],
+            packets: Ok(&[]),
+        },
+    },
+    SentRow {
+        name: "amr-wb-no-data-two-bytes-fault",
+        format: BANDWIDTH_EFFICIENT,
+        frame: Frame {
+            mtu: 1_200,
+            bytes: &[0x7c, 0x00],
+            packets: Err(PacketError::ErrAmrWbCorruptedPacket),
+        },
+    },
+    SentRow {
+        name: "cn-one-packet-no-marker",
+        format: Format::ComfortNoise,
+        frame: Frame {
+            mtu: 1_200,
+            bytes: &NOISE,
+            packets: Ok(&[&NOISE]),
+        },
+    },
+    SentRow {
+        name: "cn-mtu-2-fault",
+        format: Format::ComfortNoise,
+        frame: Frame {
+            mtu: 2,
+            bytes: &NOISE,
+            packets: Err(PacketError::ErrPayloadTooLarge),
+        },
+    },
+    SentRow {
+        name: "telephone-events-in-one-packet",
+        format: Format::Telephone,
+        frame: Frame {
+            mtu: 8,
+            bytes: &TWO_REPORTS,
+            packets: Ok(&[&TWO_REPORTS]),
+        },
+    },
+    SentRow {
+        name: "opus-two-pieces",
+        format: Format::Opus,
+        frame: Frame {
+            mtu: 2,
+            bytes: &[0x90, 0x90, 0x90],
+            packets: Ok(&[&[0x90, 0x90], &[0x90]]),
+        },
+    },
+    SentRow {
+        name: "opus-mtu-zero",
+        format: Format::Opus,
+        frame: Frame {
+            mtu: 0,
+            bytes: &[0x90, 0x90, 0x90],
+            packets: Ok(&[]),
+        },
+    },
+    SentRow {
+        name: "other-codecs-once, G.711",
+        format: Format::G711,
+        frame: Frame {
+            mtu: 2,
+            bytes: &[1, 2, 3],
+            packets: Ok(&[&[1, 2], &[3]]),
+        },
+    },
+    SentRow {
+        name: "other-codecs-once, Null",
+        format: Format::Null,
+        frame: Frame {
+            mtu: 2,
+            bytes: &[1, 2, 3],
+            packets: Ok(&[&[1, 2, 3]]),
+        },
+    },
+];
+
 #[test]
-fn amr_wb_type_14_sent(rt: HostRuntime) -> Result<(), Fail> {
+fn frames_are_sent(rt: HostRuntime) {
     let alloc = rt.alloc();
-    let octet_align = OCTET_ALIGNED;
-    let aligned = sent(alloc, &mut AmrWbPacketizer { octet_align }, 1200, &[0x74])?;
-    assert_eq!(rt; aligned.as_slice(), [0xf0u8, 0x74].as_slice());
-    let shifted = sent(alloc, &mut AmrWbPacketizer::default(), 1200, &[0x74])?;
-    assert_eq!(rt; shifted.as_slice(), [0xf7u8, 0x40].as_slice());
-    Ok(())
-}
-
-#[test]
-fn amr_wb_two_frames_received(rt: HostRuntime) -> Result<(), Fail> {
-    let payload = [0xff, 0x53, 0x5a, 0x5a, 0x5a, 0x5a, 0x5a];
-    let got = received(rt.alloc(), &mut AmrWbDepacketizer::default(), &payload)?;
-    let frames = [7u8, 0x74, 0x4c, 0x5a, 0x5a, 0x5a, 0x5a, 0x5a];
-    assert_eq!(rt; got.as_slice(), frames.as_slice());
-    Ok(())
-}
-
-#[test]
-fn amr_wb_reserved_entry_fault(rt: HostRuntime) -> Result<(), Fail> {
-    let octet_align = OCTET_ALIGNED;
-    let fault = refused(
-        rt.alloc(),
-        &mut AmrWbDepacketizer { octet_align },
-        &[0xf0, 0x50],
-    )?;
-    assert_eq!(rt; fault, Some(PacketError::ErrAmrWbCorruptedPacket));
-    Ok(())
-}
-
-#[test]
-fn amr_wb_no_entry_fault(rt: HostRuntime) -> Result<(), Fail> {
-    let fault = refused(rt.alloc(), &mut AmrWbDepacketizer::default(), &[0xf0])?;
-    assert_eq!(rt; fault, Some(PacketError::ErrShortPacket));
-    Ok(())
-}
-
-#[test]
-fn amr_wb_empty_payload(rt: HostRuntime) -> Result<(), Fail> {
-    let got = received(rt.alloc(), &mut AmrWbDepacketizer::default(), &[])?;
-    assert_eq!(rt; got.as_slice(), [7u8].as_slice());
-    Ok(())
-}
-
-#[test]
-fn amr_wb_type_8_octet_aligned(rt: HostRuntime) -> Result<(), Fail> {
-    let alloc = rt.alloc();
-    let frame = frame_of_type_8(alloc)?;
-    let octet_align = OCTET_ALIGNED;
-    let got = sent(alloc, &mut AmrWbPacketizer { octet_align }, 62, &frame)?;
-    assert_eq!(rt; got.len(), 62);
-    assert_eq!(rt; got[0], 0xf0);
-    assert_eq!(rt; &got[1..], frame.as_slice());
-    Ok(())
-}
-
-#[test]
-fn amr_wb_type_8_bandwidth_efficient(rt: HostRuntime) -> Result<(), Fail> {
-    let alloc = rt.alloc();
-    let frame = frame_of_type_8(alloc)?;
-    let got = sent(alloc, &mut AmrWbPacketizer::default(), 61, &frame)?;
-    let mut expected = Vec::from_slice(alloc, &[0xf4])?;
-    expected.resize(60, 0x69)?;
-    expected.push(0x68)?;
-    assert_eq!(rt; got.as_slice(), expected.as_slice());
-    Ok(())
-}
-
-#[test]
-fn amr_wb_type_8_mtu_61_fault(rt: HostRuntime) -> Result<(), Fail> {
-    let alloc = rt.alloc();
-    let frame = frame_of_type_8(alloc)?;
-    let octet_align = OCTET_ALIGNED;
-    let fault = AmrWbPacketizer { octet_align }
-        .packetize(alloc, 61, &frame)
-        .err();
-    assert_eq!(rt; fault, Some(PacketError::ErrPayloadTooLarge));
-    Ok(())
-}
-
-/// The fault of a frame in the bandwidth-efficient layout, or none where it gives no packets.
-fn not_sent(alloc: Global, frame: &[u8]) -> Result<Option<PacketError>, Fail> {
-    match AmrWbPacketizer::default().packetize(alloc, 1200, frame) {
-        Ok(packets) if packets.is_empty() => Ok(None),
-        Ok(_) => Err(Fail::from("packets")),
-        Err(fault) => Ok(Some(fault)),
+    for row in &SENT {
+        let answer = sent(alloc, row.format, row.frame.mtu, row.frame.bytes);
+        assert_sent(&rt, row.name, &answer, &row.frame.packets);
     }
 }
 
+/// A payload that a new depacketizer of a format is given, and what it makes of it behind the one byte 7.
+struct ReceivedRow {
+    name: &'static str,
+    format: Format,
+    payload: &'static [u8],
+    wanted: Result<&'static [u8], PacketError>,
+}
+
+const RECEIVED: [ReceivedRow; 14] = [
+    ReceivedRow {
+        name: "amr-wb-two-frames-received",
+        format: BANDWIDTH_EFFICIENT,
+        payload: &[0xff, 0x53, 0x5a, 0x5a, 0x5a, 0x5a, 0x5a],
+        wanted: Ok(&[7, 0x74, 0x4c, 0x5a, 0x5a, 0x5a, 0x5a, 0x5a]),
+    },
+    ReceivedRow {
+        name: "amr-wb-reserved-entry-fault",
+        format: OCTET_ALIGNED,
+        payload: &[0xf0, 0x50],
+        wanted: Err(PacketError::ErrAmrWbCorruptedPacket),
+    },
+    ReceivedRow {
+        name: "amr-wb-no-entry-fault",
+        format: BANDWIDTH_EFFICIENT,
+        payload: &[0xf0],
+        wanted: Err(PacketError::ErrShortPacket),
+    },
+    ReceivedRow {
+        name: "amr-wb-empty-payload",
+        format: BANDWIDTH_EFFICIENT,
+        payload: &[],
+        wanted: Ok(&[7]),
+    },
+    ReceivedRow {
+        name: "amr-wb-eight-ff-fault",
+        format: BANDWIDTH_EFFICIENT,
+        payload: &[0xff, 0xff, 0xff, 0xff, 0xff, 0xff, 0xff, 0xff],
+        wanted: Err(PacketError::ErrShortPacket),
+    },
+    // Section 4.3.1: type 14, lost speech, is an entry alone, and so is type 15, which is not sent: 1111, then 0 1110 1, and
+    // zeros; 1111, then 0 1111 1, and zeros.
+    ReceivedRow {
+        name: "amr-wb-types-without-speech, type 14",
+        format: BANDWIDTH_EFFICIENT,
+        payload: &[0xf7, 0x40],
+        wanted: Ok(&[7, 0x74]),
+    },
+    ReceivedRow {
+        name: "amr-wb-types-without-speech, type 15",
+        format: BANDWIDTH_EFFICIENT,
+        payload: &[0xf7, 0xc0],
+        wanted: Ok(&[7, 0x7c]),
+    },
+    ReceivedRow {
+        name: "amr-wb-types-without-speech, type 15, octet-aligned",
+        format: OCTET_ALIGNED,
+        payload: &[0xf0, 0x7c],
+        wanted: Ok(&[7, 0x7c]),
+    },
+    ReceivedRow {
+        name: "cn-one-packet-no-marker",
+        format: Format::ComfortNoise,
+        payload: &NOISE,
+        wanted: Ok(&[7, 0x2a, 0x80, 0x40]),
+    },
+    ReceivedRow {
+        name: "cn-empty-fault",
+        format: Format::ComfortNoise,
+        payload: &[],
+        wanted: Err(PacketError::ErrShortPacket),
+    },
+    ReceivedRow {
+        name: "tele-two-reports",
+        format: Format::Telephone,
+        payload: &TWO_REPORTS,
+        wanted: Ok(&[7, 0x05, 0x8a, 0x03, 0x20]),
+    },
+    ReceivedRow {
+        name: "other-codecs-once, Opus",
+        format: Format::Opus,
+        payload: &[1, 2],
+        wanted: Ok(&[7, 1, 2]),
+    },
+    ReceivedRow {
+        name: "other-codecs-once, G.711",
+        format: Format::G711,
+        payload: &[1, 2],
+        wanted: Ok(&[7, 1, 2]),
+    },
+    ReceivedRow {
+        name: "other-codecs-once, Null",
+        format: Format::Null,
+        payload: &[],
+        wanted: Ok(&[7]),
+    },
+];
+
 #[test]
-fn amr_wb_reserved_frame_fault(rt: HostRuntime) -> Result<(), Fail> {
-    let fault = not_sent(rt.alloc(), &[0x50])?;
-    assert_eq!(rt; fault, Some(PacketError::ErrAmrWbCorruptedPacket));
+fn payloads_are_received(rt: HostRuntime) -> Result<(), Fail> {
+    for row in &RECEIVED {
+        assert_received_as(
+            &rt,
+            rt.alloc(),
+            row.name,
+            row.format,
+            row.payload,
+            &row.wanted,
+        )?;
+    }
     Ok(())
 }
 
-#[test]
-fn amr_wb_no_data_skipped(rt: HostRuntime) -> Result<(), Fail> {
-    assert_eq!(rt; not_sent(rt.alloc(), &[0x7c])?, None);
-    Ok(())
-}
-
-#[test]
-fn amr_wb_no_data_two_bytes_fault(rt: HostRuntime) -> Result<(), Fail> {
-    let fault = not_sent(rt.alloc(), &[0x7c, 0x00])?;
-    assert_eq!(rt; fault, Some(PacketError::ErrAmrWbCorruptedPacket));
-    Ok(())
-}
-
-#[test]
-fn amr_wb_eight_ff_fault(rt: HostRuntime) -> Result<(), Fail> {
-    let fault = refused(rt.alloc(), &mut AmrWbDepacketizer::default(), &[0xff; 8])?;
-    assert_eq!(rt; fault, Some(PacketError::ErrShortPacket));
-    Ok(())
-}
-
+/// Type 0 without quality: 132 bits are 16 bytes and the bits 1010. The frame's bits 0x83 and its last four mean nothing, so
+/// the same comes back as for bits 0x00 and four zeros.
 #[test]
 fn amr_wb_bits_that_mean_nothing(rt: HostRuntime) -> Result<(), Fail> {
     let alloc = rt.alloc();
-    // Type 0 without quality: 132 bits are 16 bytes and the bits 1010. The frame's bits 0x83 and its last four mean
-    // nothing.
     let mut frame = Vec::from_slice(alloc, &[0x83])?;
     frame.resize(17, 0xa5)?;
     frame.push(0xaf)?;
-    let mut canonical = Vec::from_slice(alloc, &[0x00])?;
-    canonical.resize(17, 0xa5)?;
+    let mut canonical = Vec::from_slice(alloc, &[7, 0x00])?;
+    canonical.resize(18, 0xa5)?;
     canonical.push(0xa0)?;
-    for octet_align in [BANDWIDTH_EFFICIENT, OCTET_ALIGNED] {
-        let payload = sent(alloc, &mut AmrWbPacketizer { octet_align }, 1200, &frame)?;
-        let got = received(alloc, &mut AmrWbDepacketizer { octet_align }, &payload)?;
-        let (_, frames) = got.split_first().ok_or("a byte")?;
-        assert_eq!(rt; frames, canonical.as_slice());
+    for format in [BANDWIDTH_EFFICIENT, OCTET_ALIGNED] {
+        let packets = sent(alloc, format, 1_200, &frame)?;
+        assert_eq!(rt; packets.len(), 1);
+        let wanted = Ok(canonical.as_slice());
+        assert_received_as(
+            &rt,
+            alloc,
+            "bits-that-mean-nothing",
+            format,
+            &packets[0],
+            &wanted,
+        )?;
     }
     Ok(())
 }
 
 /// What one frame of AMR-WB is sent as.
 struct Vector {
+    name: &'static str,
     frame_type: u8,
     /// How many whole bytes `a5` the speech has.
     whole: usize,
@@ -247,6 +445,7 @@ struct Vector {
 /// none give `40`, 1 gives `60`, 1010 and 10100 give `68`.
 const VECTORS: [Vector; 10] = [
     Vector {
+        name: "amr-wb-every-speech-type, 0",
         frame_type: 0,
         whole: 16,
         rest: Some(0xa0),
@@ -255,6 +454,7 @@ const VECTORS: [Vector; 10] = [
         last: 0x68,
     },
     Vector {
+        name: "amr-wb-every-speech-type, 1",
         frame_type: 1,
         whole: 22,
         rest: Some(0x80),
@@ -263,6 +463,7 @@ const VECTORS: [Vector; 10] = [
         last: 0x60,
     },
     Vector {
+        name: "amr-wb-every-speech-type, 2",
         frame_type: 2,
         whole: 31,
         rest: Some(0xa0),
@@ -271,6 +472,7 @@ const VECTORS: [Vector; 10] = [
         last: 0x68,
     },
     Vector {
+        name: "amr-wb-every-speech-type, 3",
         frame_type: 3,
         whole: 35,
         rest: Some(0xa0),
@@ -279,6 +481,7 @@ const VECTORS: [Vector; 10] = [
         last: 0x68,
     },
     Vector {
+        name: "amr-wb-every-speech-type, 4",
         frame_type: 4,
         whole: 39,
         rest: Some(0xa0),
@@ -287,6 +490,7 @@ const VECTORS: [Vector; 10] = [
         last: 0x68,
     },
     Vector {
+        name: "amr-wb-every-speech-type, 5",
         frame_type: 5,
         whole: 45,
         rest: Some(0xa0),
@@ -295,6 +499,7 @@ const VECTORS: [Vector; 10] = [
         last: 0x68,
     },
     Vector {
+        name: "amr-wb-every-speech-type, 6",
         frame_type: 6,
         whole: 49,
         rest: Some(0xa0),
@@ -303,6 +508,7 @@ const VECTORS: [Vector; 10] = [
         last: 0x68,
     },
     Vector {
+        name: "amr-wb-every-speech-type, 7",
         frame_type: 7,
         whole: 57,
         rest: Some(0xa0),
@@ -311,6 +517,7 @@ const VECTORS: [Vector; 10] = [
         last: 0x68,
     },
     Vector {
+        name: "amr-wb-every-speech-type, 8",
         frame_type: 8,
         whole: 59,
         rest: Some(0xa0),
@@ -319,6 +526,7 @@ const VECTORS: [Vector; 10] = [
         last: 0x68,
     },
     Vector {
+        name: "amr-wb-every-speech-type, 9",
         frame_type: 9,
         whole: 5,
         rest: None,
@@ -327,6 +535,22 @@ const VECTORS: [Vector; 10] = [
         last: 0x40,
     },
 ];
+
+/// A frame in one layout is sent as this payload, and comes back.
+fn assert_both_ways(
+    rt: &impl Abort,
+    alloc: Global,
+    name: &str,
+    format: Format,
+    frame: &[u8],
+    payload: &[u8],
+) -> Result<(), Fail> {
+    let answer = sent(alloc, format, 1_200, frame);
+    assert_sent(rt, name, &answer, &Ok(&[payload]));
+    let mut wanted = Vec::from_slice(alloc, &[7])?;
+    wanted.extend_from_slice(frame)?;
+    assert_received_as(rt, alloc, name, format, payload, &Ok(wanted.as_slice()))
+}
 
 #[test]
 fn amr_wb_every_speech_type(rt: HostRuntime) -> Result<(), Fail> {
@@ -340,38 +564,18 @@ fn amr_wb_every_speech_type(rt: HostRuntime) -> Result<(), Fail> {
         let mut shifted = Vec::from_slice(alloc, &[vector.first, vector.second])?;
         shifted.resize(1 + vector.whole, 0x69)?;
         shifted.push(vector.last)?;
-        for (octet_align, expected) in [
-            (OCTET_ALIGNED, &aligned),
-            (BANDWIDTH_EFFICIENT, &shifted),
-        ] {
-            let got = sent(alloc, &mut AmrWbPacketizer { octet_align }, 1200, &frame)?;
-            assert_eq!(rt; got.as_slice(), expected.as_slice());
-            let again = received(alloc, &mut AmrWbDepacketizer { octet_align }, expected)?;
-            let (_, frames) = again.split_first().ok_or("a byte")?;
-            assert_eq!(rt; frames, frame.as_slice());
-        }
+        assert_both_ways(&rt, alloc, vector.name, OCTET_ALIGNED, &frame, &aligned)?;
+        assert_both_ways(
+            &rt,
+            alloc,
+            vector.name,
+            BANDWIDTH_EFFICIENT,
+            &frame,
+            &shifted,
+        )?;
     }
     Ok(())
 }
-
-/// Section 4.3.1: type 14, lost speech, is sent as an entry alone, and type 15 is not sent, but is received so.
-#[test]
-fn amr_wb_types_without_speech(rt: HostRuntime) -> Result<(), Fail> {
-    let alloc = rt.alloc();
-    // 1111, then 0 1110 1, and zeros; 1111, then 0 1111 1, and zeros.
-    let lost = received(alloc, &mut AmrWbDepacketizer::default(), &[0xf7, 0x40])?;
-    assert_eq!(rt; lost.as_slice(), [7u8, 0x74].as_slice());
-    let no_data = received(alloc, &mut AmrWbDepacketizer::default(), &[0xf7, 0xc0])?;
-    assert_eq!(rt; no_data.as_slice(), [7u8, 0x7c].as_slice());
-    let octet_align = OCTET_ALIGNED;
-    let aligned = received(alloc, &mut AmrWbDepacketizer { octet_align }, &[0xf0, 0x7c])?;
-    assert_eq!(rt; aligned.as_slice(), [7u8, 0x7c].as_slice());
-    let mut packetizer = AmrWbPacketizer { octet_align };
-    assert!(rt; packetizer.packetize(alloc, 1200, &[0x7c])?.is_empty());
-    Ok(())
-}
-
-const TWO_REPORTS: [u8; 8] = [0x05, 0x8a, 0x03, 0x20, 0x06, 0x0a, 0x01, 0x40];
 
 #[test]
 fn tele_two_reports(rt: HostRuntime) -> Result<(), Fail> {
@@ -401,12 +605,14 @@ fn tele_two_reports(rt: HostRuntime) -> Result<(), Fail> {
 #[test]
 fn tele_five_bytes_fault(rt: HostRuntime) -> Result<(), Fail> {
     let alloc = rt.alloc();
-    let fault = refused(
-        alloc,
-        &mut TelephoneEventDepacketizer::default(),
-        &TWO_REPORTS[..5],
-    )?
-    .ok_or("a fault")?;
+    let mut out = Vec::from_slice(alloc, &[7])?;
+    let mut extra = CodecExtra::None;
+    let fault = TelephoneEventDepacketizer::default()
+        .depacketize(&TWO_REPORTS[..5], &mut out, &mut extra)
+        .err()
+        .ok_or("a fault")?;
+    assert_eq!(rt; out.as_slice(), [7u8].as_slice());
+    assert_eq!(rt; extra, CodecExtra::None);
     assert_eq!(rt; fault.number(), 15);
     let text = format!(in alloc; "{fault}")?;
     let expected =
@@ -442,75 +648,10 @@ fn tele_three_seconds_none(rt: HostRuntime) {
     );
 }
 
-const NOISE: [u8; 3] = [0x2a, 0x80, 0x40];
-
+/// Comfort noise has no marker, and starts no talk spurt.
 #[test]
-fn cn_one_packet_no_marker(rt: HostRuntime) -> Result<(), Fail> {
-    let alloc = rt.alloc();
+fn cn_one_packet_no_marker(rt: HostRuntime) {
     let mut packetizer = ComfortNoisePacketizer {};
-    let payload = sent(alloc, &mut packetizer, 1200, &NOISE)?;
-    assert_eq!(rt; payload.as_slice(), NOISE.as_slice());
-    assert!(rt; !packetizer.is_marker(&payload, None, true));
+    assert!(rt; !packetizer.is_marker(&NOISE, None, true));
     assert!(rt; !packetizer.marks_talkspurt());
-    let unit = received(alloc, &mut ComfortNoiseDepacketizer {}, &payload)?;
-    assert_eq!(rt; unit.as_slice(), [7u8, 0x2a, 0x80, 0x40].as_slice());
-    Ok(())
-}
-
-#[test]
-fn cn_mtu_2_fault(rt: HostRuntime) -> Result<(), Fail> {
-    let fault = ComfortNoisePacketizer {}
-        .packetize(rt.alloc(), 2, &NOISE)
-        .err();
-    assert_eq!(rt; fault, Some(PacketError::ErrPayloadTooLarge));
-    Ok(())
-}
-
-#[test]
-fn cn_empty_fault(rt: HostRuntime) -> Result<(), Fail> {
-    let fault = refused(rt.alloc(), &mut ComfortNoiseDepacketizer {}, &[])?;
-    assert_eq!(rt; fault, Some(PacketError::ErrShortPacket));
-    Ok(())
-}
-
-#[test]
-fn telephone_events_in_one_packet(rt: HostRuntime) -> Result<(), Fail> {
-    let event = sent(
-        rt.alloc(),
-        &mut TelephoneEventPacketizer {},
-        8,
-        &TWO_REPORTS,
-    )?;
-    assert_eq!(rt; event.as_slice(), TWO_REPORTS.as_slice());
-    Ok(())
-}
-
-#[test]
-fn opus_two_pieces(rt: HostRuntime) -> Result<(), Fail> {
-    let got = spelled(rt.alloc(), &mut OpusPacketizer {}, 2, &[0x90, 0x90, 0x90])?;
-    assert_eq!(rt; got.as_slice(), [2u8, 0x90, 0x90, 1, 0x90].as_slice());
-    Ok(())
-}
-
-#[test]
-fn opus_mtu_zero(rt: HostRuntime) -> Result<(), Fail> {
-    let got = spelled(rt.alloc(), &mut OpusPacketizer {}, 0, &[0x90, 0x90, 0x90])?;
-    assert!(rt; got.is_empty());
-    Ok(())
-}
-
-#[test]
-fn other_codecs_once(rt: HostRuntime) -> Result<(), Fail> {
-    let alloc = rt.alloc();
-    let pieces = spelled(alloc, &mut G7xxPacketizer::default(), 2, &[1, 2, 3])?;
-    assert_eq!(rt; pieces.as_slice(), [2u8, 1, 2, 1, 3].as_slice());
-    let whole = spelled(alloc, &mut NullPacketizer {}, 2, &[1, 2, 3])?;
-    assert_eq!(rt; whole.as_slice(), [3u8, 1, 2, 3].as_slice());
-    let opus = received(alloc, &mut OpusDepacketizer::default(), &[1, 2])?;
-    assert_eq!(rt; opus.as_slice(), [7u8, 1, 2].as_slice());
-    let g711 = received(alloc, &mut G711Depacketizer::default(), &[1, 2])?;
-    assert_eq!(rt; g711.as_slice(), [7u8, 1, 2].as_slice());
-    let null = received(alloc, &mut NullDepacketizer {}, &[])?;
-    assert_eq!(rt; null.as_slice(), [7u8].as_slice());
-    Ok(())
 }

@@ -3,6 +3,7 @@
 mod plain;
 
 use crate::av1::plain::plain_packets;
+use crate::tables::{Frame, assert_received, assert_sent};
 use codec_payload_av1::av1::{Av1CodecExtra, Av1Depacketizer, Av1Packetizer};
 use codec_payload_base::error::PacketError;
 use codec_payload_base::interface::{CodecExtra, Depacketizer, Packetizer};
@@ -20,18 +21,19 @@ const FOUR_OBUS: [u8; 12] = [
     0x2a, 0x01, 0x11, 0x2a, 0x01, 0x22, 0x2a, 0x01, 0x33, 0x2a, 0x01, 0x44,
 ];
 
-/// Whether these are the packets, each of them whole.
-fn are(packets: &[Vec<u8>], expected: &[&[u8]]) -> bool {
-    if packets.len() != expected.len() {
-        return false;
-    }
-    for (packet, bytes) in packets.iter().zip(expected) {
-        if packet.as_slice() != *bytes {
-            return false;
-        }
-    }
-    true
-}
+/// The four in one packet.
+const FOUR_OBUS_PACKET: [u8; 13] = [
+    0x00, 0x02, 0x28, 0x11, 0x02, 0x28, 0x22, 0x02, 0x28, 0x33, 0x02, 0x28, 0x44,
+];
+
+/// The two in packets of two bytes.
+const PACKETS_OF_TWO: [&[u8]; 5] = [
+    &[0x58, 0x08],
+    &[0x90, 0xaa],
+    &[0x50, 0x30],
+    &[0xd0, 0xbb],
+    &[0x90, 0xcc],
+];
 
 fn sent(alloc: Global, mtu: usize, frame: &[u8]) -> Result<Vec<Vec<u8>>, PacketError> {
     Av1Packetizer::default().packetize(alloc, mtu, frame)
@@ -52,231 +54,314 @@ fn told(is_keyframe: bool) -> CodecExtra {
     CodecExtra::Av1(Av1CodecExtra { is_keyframe })
 }
 
-#[test]
-fn av1_two_obus_mtu_1200(rt: HostRuntime) -> Result<(), Fail> {
-    let packet: [u8; 7] = [0x28, 0x02, 0x08, 0xaa, 0x30, 0xbb, 0xcc];
-    let packets = sent(rt.alloc(), 1200, &TWO_OBUS)?;
-    assert!(rt; are(&packets, &[packet.as_slice()]));
-    let (unit, extra) = received(rt.alloc(), &[packet.as_slice()])?;
-    assert_eq!(rt; unit.as_slice(), TWO_OBUS_UNIT.as_slice());
-    assert_eq!(rt; extra, told(true));
-    Ok(())
+/// A frame that a new packetizer is given.
+struct SentRow {
+    name: &'static str,
+    frame: Frame,
 }
+
+const SENT: [SentRow; 10] = [
+    SentRow {
+        name: "av1-two-obus-mtu-1200",
+        frame: Frame {
+            mtu: 1_200,
+            bytes: &TWO_OBUS,
+            packets: Ok(&[&[0x28, 0x02, 0x08, 0xaa, 0x30, 0xbb, 0xcc]]),
+        },
+    },
+    SentRow {
+        name: "av1-two-obus-mtu-3",
+        frame: Frame {
+            mtu: 3,
+            bytes: &TWO_OBUS,
+            packets: Ok(&[&[0x18, 0x08, 0xaa], &[0x50, 0x30, 0xbb], &[0x90, 0xcc]]),
+        },
+    },
+    SentRow {
+        name: "av1-four-obus-mtu-1200",
+        frame: Frame {
+            mtu: 1_200,
+            bytes: &FOUR_OBUS,
+            packets: Ok(&[&FOUR_OBUS_PACKET]),
+        },
+    },
+    SentRow {
+        name: "av1-four-obus-mtu-9",
+        frame: Frame {
+            mtu: 9,
+            bytes: &FOUR_OBUS,
+            packets: Ok(&[
+                &[0x30, 0x02, 0x28, 0x11, 0x02, 0x28, 0x22, 0x28, 0x33],
+                &[0x10, 0x28, 0x44],
+            ]),
+        },
+    },
+    SentRow {
+        name: "av1-four-obus-mtu-12",
+        frame: Frame {
+            mtu: 12,
+            bytes: &FOUR_OBUS,
+            packets: Ok(&[
+                &[
+                    0x40, 0x02, 0x28, 0x11, 0x02, 0x28, 0x22, 0x02, 0x28, 0x33, 0x01, 0x28,
+                ],
+                &[0x90, 0x44],
+            ]),
+        },
+    },
+    SentRow {
+        name: "the-greatest-mtu",
+        frame: Frame {
+            mtu: usize::MAX,
+            bytes: &FOUR_OBUS,
+            packets: Ok(&[&FOUR_OBUS_PACKET]),
+        },
+    },
+    SentRow {
+        name: "av1-shortest-size",
+        frame: Frame {
+            mtu: 1_200,
+            bytes: &[0x0a, 0x81, 0x00, 0xaa],
+            packets: Ok(&[&[0x18, 0x08, 0xaa]]),
+        },
+    },
+    SentRow {
+        name: "av1-frame-size-past-end-fault",
+        frame: Frame {
+            mtu: 1_200,
+            bytes: &[0x0a, 0x05, 0xaa],
+            packets: Err(PacketError::ErrAv1CorruptedPacket),
+        },
+    },
+    SentRow {
+        name: "av1-mtu-looked-at-first",
+        frame: Frame {
+            mtu: 1,
+            bytes: &[0x12, 0x00, 0x0a, 0x05],
+            packets: Ok(&[]),
+        },
+    },
+    SentRow {
+        name: "av1-mtu-2-five-packets",
+        frame: Frame {
+            mtu: 2,
+            bytes: &TWO_OBUS_UNIT,
+            packets: Ok(&PACKETS_OF_TWO),
+        },
+    },
+];
 
 #[test]
-fn av1_two_obus_mtu_3(rt: HostRuntime) -> Result<(), Fail> {
-    let packets = sent(rt.alloc(), 3, &TWO_OBUS)?;
-    assert!(rt;
-        are(
-            &packets,
-            &[
-                [0x18u8, 0x08, 0xaa].as_slice(),
-                [0x50u8, 0x30, 0xbb].as_slice(),
-                [0x90u8, 0xcc].as_slice()
-            ]
-        )
-    );
-    Ok(())
-}
-
-#[test]
-fn av1_leading_obu_lost(rt: HostRuntime) -> Result<(), Fail> {
-    let packets = [[0x50u8, 0x30, 0xbb].as_slice(), [0x90u8, 0xcc].as_slice()];
-    let (unit, extra) = received(rt.alloc(), &packets)?;
-    assert_eq!(rt; unit.as_slice(), [0x32u8, 0x02, 0xbb, 0xcc].as_slice());
-    assert_eq!(rt; extra, told(false));
-    Ok(())
-}
-
-#[test]
-fn av1_four_obus_mtu_1200(rt: HostRuntime) -> Result<(), Fail> {
-    let packet: [u8; 13] = [
-        0x00, 0x02, 0x28, 0x11, 0x02, 0x28, 0x22, 0x02, 0x28, 0x33, 0x02, 0x28, 0x44,
-    ];
-    let packets = sent(rt.alloc(), 1200, &FOUR_OBUS)?;
-    assert!(rt; are(&packets, &[packet.as_slice()]));
-    Ok(())
-}
-
-#[test]
-fn av1_four_obus_mtu_9(rt: HostRuntime) -> Result<(), Fail> {
-    let first: [u8; 9] = [0x30, 0x02, 0x28, 0x11, 0x02, 0x28, 0x22, 0x28, 0x33];
-    let second: [u8; 3] = [0x10, 0x28, 0x44];
-    let packets = sent(rt.alloc(), 9, &FOUR_OBUS)?;
-    assert!(rt; are(&packets, &[first.as_slice(), second.as_slice()]));
-    Ok(())
-}
-
-#[test]
-fn av1_four_obus_mtu_12(rt: HostRuntime) -> Result<(), Fail> {
-    let first: [u8; 12] = [
-        0x40, 0x02, 0x28, 0x11, 0x02, 0x28, 0x22, 0x02, 0x28, 0x33, 0x01, 0x28,
-    ];
-    let second: [u8; 2] = [0x90, 0x44];
-    let packets = sent(rt.alloc(), 12, &FOUR_OBUS)?;
-    assert!(rt; are(&packets, &[first.as_slice(), second.as_slice()]));
-    Ok(())
-}
-
-#[test]
-fn av1_shortest_size(rt: HostRuntime) -> Result<(), Fail> {
-    let packet: [u8; 3] = [0x18, 0x08, 0xaa];
-    let packets = sent(rt.alloc(), 1200, &[0x0a, 0x81, 0x00, 0xaa])?;
-    assert!(rt; are(&packets, &[packet.as_slice()]));
-    let (unit, _) = received(rt.alloc(), &[packet.as_slice()])?;
-    assert_eq!(rt; unit.as_slice(), [0x0au8, 0x01, 0xaa].as_slice());
-    Ok(())
-}
-
-#[test]
-fn av1_frame_size_past_end_fault(rt: HostRuntime) {
-    let answer = sent(rt.alloc(), 1200, &[0x0a, 0x05, 0xaa]);
-    assert_eq!(rt; answer.err(), Some(PacketError::ErrAv1CorruptedPacket));
-}
-
-#[test]
-fn av1_mtu_looked_at_first(rt: HostRuntime) -> Result<(), Fail> {
-    let packets = sent(rt.alloc(), 1, &[0x12, 0x00, 0x0a, 0x05])?;
-    assert!(rt; packets.is_empty());
-    Ok(())
-}
-
-/// Whether the payload is corrupted, and what was put together before stays.
-fn is_corrupted(alloc: Global, payload: &[u8]) -> Result<bool, Fail> {
-    let mut depacketizer = Av1Depacketizer::new(alloc);
-    let mut out = Vec::from_slice(alloc, &[7])?;
-    let mut extra = CodecExtra::None;
-    let answer = depacketizer.depacketize(payload, &mut out, &mut extra);
-    Ok(
-        answer == Err(PacketError::ErrAv1CorruptedPacket)
-            && out.as_slice() == [7u8].as_slice()
-            && extra == CodecExtra::None,
-    )
-}
-
-#[test]
-fn av1_zero_length_fault(rt: HostRuntime) -> Result<(), Fail> {
-    assert!(rt; is_corrupted(rt.alloc(), &[0x00, 0x00])?);
-    Ok(())
-}
-
-#[test]
-fn av1_length_past_end_fault(rt: HostRuntime) -> Result<(), Fail> {
-    assert!(rt; is_corrupted(rt.alloc(), &[0x00, 0x05, 0x30])?);
-    Ok(())
-}
-
-#[test]
-fn av1_two_obus_in_element_fault(rt: HostRuntime) -> Result<(), Fail> {
-    assert!(rt; is_corrupted(rt.alloc(), &[0x10, 0x0a, 0x00, 0x0a, 0x00])?);
-    Ok(())
-}
-
-#[test]
-fn av1_huge_length_fault(rt: HostRuntime) -> Result<(), Fail> {
-    let payload: [u8; 11] = [
-        0x00, 0xff, 0xff, 0xff, 0xff, 0xff, 0xff, 0xff, 0xff, 0xff, 0x7f,
-    ];
-    assert!(rt; is_corrupted(rt.alloc(), &payload)?);
-    Ok(())
-}
-
-#[test]
-fn av1_mtu_2_five_packets(rt: HostRuntime) -> Result<(), Fail> {
-    let expected = [
-        [0x58u8, 0x08].as_slice(),
-        [0x90u8, 0xaa].as_slice(),
-        [0x50u8, 0x30].as_slice(),
-        [0xd0u8, 0xbb].as_slice(),
-        [0x90u8, 0xcc].as_slice(),
-    ];
-    let packets = sent(rt.alloc(), 2, &TWO_OBUS_UNIT)?;
-    assert!(rt; are(&packets, &expected));
-    let (unit, extra) = received(rt.alloc(), &expected)?;
-    assert_eq!(rt; unit.as_slice(), TWO_OBUS_UNIT.as_slice());
-    assert_eq!(rt; extra, told(true));
-    Ok(())
-}
-
-#[test]
-fn av1_mtu_2_first_lost(rt: HostRuntime) -> Result<(), Fail> {
-    let later = [
-        [0x90u8, 0xaa].as_slice(),
-        [0x50u8, 0x30].as_slice(),
-        [0xd0u8, 0xbb].as_slice(),
-        [0x90u8, 0xcc].as_slice(),
-    ];
-    let (unit, _) = received(rt.alloc(), &later)?;
-    assert_eq!(rt; unit.as_slice(), [0x32u8, 0x02, 0xbb, 0xcc].as_slice());
-    Ok(())
-}
-
-/// These bytes, and then a filling byte so many times.
-fn filled(alloc: Global, front: &[u8], count: usize) -> Result<Vec<u8>, AllocError> {
-    let mut bytes = Vec::from_slice(alloc, front)?;
-    for _ in 0..count {
-        bytes.push(0xbb)?;
+fn frames_are_sent(rt: HostRuntime) {
+    for row in &SENT {
+        let answer = sent(rt.alloc(), row.frame.mtu, row.frame.bytes);
+        assert_sent(&rt, row.name, &answer, &row.frame.packets);
     }
-    Ok(bytes)
 }
 
+/// Packets that a new depacketizer is given, the unit that it puts together, and whether the N bit was set.
+struct UnitRow {
+    name: &'static str,
+    packets: &'static [&'static [u8]],
+    unit: &'static [u8],
+    is_keyframe: bool,
+}
+
+const UNITS: [UnitRow; 5] = [
+    UnitRow {
+        name: "av1-two-obus-mtu-1200",
+        packets: &[&[0x28, 0x02, 0x08, 0xaa, 0x30, 0xbb, 0xcc]],
+        unit: &TWO_OBUS_UNIT,
+        is_keyframe: true,
+    },
+    UnitRow {
+        name: "av1-leading-obu-lost",
+        packets: &[&[0x50, 0x30, 0xbb], &[0x90, 0xcc]],
+        unit: &[0x32, 0x02, 0xbb, 0xcc],
+        is_keyframe: false,
+    },
+    UnitRow {
+        name: "av1-shortest-size",
+        packets: &[&[0x18, 0x08, 0xaa]],
+        unit: &[0x0a, 0x01, 0xaa],
+        is_keyframe: true,
+    },
+    UnitRow {
+        name: "av1-mtu-2-five-packets",
+        packets: &PACKETS_OF_TWO,
+        unit: &TWO_OBUS_UNIT,
+        is_keyframe: true,
+    },
+    UnitRow {
+        name: "av1-mtu-2-first-lost",
+        packets: &[&[0x90, 0xaa], &[0x50, 0x30], &[0xd0, 0xbb], &[0x90, 0xcc]],
+        unit: &[0x32, 0x02, 0xbb, 0xcc],
+        is_keyframe: false,
+    },
+];
+
 #[test]
-fn av1_largest_fragment_mtu_136(rt: HostRuntime) -> Result<(), Fail> {
-    let alloc = rt.alloc();
-    let front: [u8; 9] = [0x2a, 0x00, 0x2a, 0x00, 0x2a, 0x00, 0x32, 0xc7, 0x01];
-    let packet: [u8; 9] = [0x40, 0x01, 0x28, 0x01, 0x28, 0x01, 0x28, 0x7f, 0x30];
-    let frame = filled(alloc, &front, 199)?;
-    let first = filled(alloc, &packet, 126)?;
-    let second = filled(alloc, &[0x90], 73)?;
-    assert_eq!(rt; first.len(), 135);
-    let packets = sent(alloc, 136, &frame)?;
-    assert!(rt; are(&packets, &[first.as_slice(), second.as_slice()]));
+fn units_are_put_together(rt: HostRuntime) -> Result<(), Fail> {
+    for row in &UNITS {
+        match received(rt.alloc(), row.packets) {
+            Ok((unit, extra)) => {
+                assert_eq!(rt; unit.as_slice(), row.unit, "in {}", row.name);
+                assert_eq!(rt; extra, told(row.is_keyframe), "in {}", row.name);
+            }
+            Err(fault) => assert!(rt; false, "{} is refused: {fault}", row.name),
+        }
+    }
     Ok(())
 }
 
+/// Payloads that are corrupted, each by its name.
+const CORRUPTED: [(&str, &[u8]); 4] = [
+    ("av1-zero-length-fault", &[0x00, 0x00]),
+    ("av1-length-past-end-fault", &[0x00, 0x05, 0x30]),
+    (
+        "av1-two-obus-in-element-fault",
+        &[0x10, 0x0a, 0x00, 0x0a, 0x00],
+    ),
+    (
+        "av1-huge-length-fault",
+        &[
+            0x00, 0xff, 0xff, 0xff, 0xff, 0xff, 0xff, 0xff, 0xff, 0xff, 0x7f,
+        ],
+    ),
+];
+
 #[test]
-fn av1_three_bytes_unused_mtu_136(rt: HostRuntime) -> Result<(), Fail> {
+fn corrupted_payloads_are_refused(rt: HostRuntime) -> Result<(), Fail> {
     let alloc = rt.alloc();
-    let mut frame = filled(alloc, &[0x2a, 0x00, 0x2a, 0x00, 0x32, 0x7f], 127)?;
-    frame.extend_from_slice(&[0x2a, 0x00])?;
-    let first = filled(alloc, &[0x30, 0x01, 0x28, 0x01, 0x28, 0x30], 127)?;
-    let second: [u8; 2] = [0x10, 0x28];
-    assert_eq!(rt; first.len(), 133);
-    let packets = sent(alloc, 136, &frame)?;
-    assert!(rt; are(&packets, &[first.as_slice(), second.as_slice()]));
+    for (name, payload) in CORRUPTED {
+        let mut depacketizer = Av1Depacketizer::new(alloc);
+        let wanted = Err(PacketError::ErrAv1CorruptedPacket);
+        assert_received(&rt, alloc, name, &mut depacketizer, payload, &wanted)?;
+    }
     Ok(())
 }
 
-#[test]
-fn av1_two_full_packets_mtu_10(rt: HostRuntime) -> Result<(), Fail> {
-    let alloc = rt.alloc();
-    let frame = filled(alloc, &[0x32, 0x11], 17)?;
-    let first = filled(alloc, &[0x50, 0x30], 8)?;
-    let second = filled(alloc, &[0x90], 9)?;
-    let packets = sent(alloc, 10, &frame)?;
-    assert!(rt; are(&packets, &[first.as_slice(), second.as_slice()]));
-    Ok(())
+/// Bytes with a filling byte `bb`, so many times, in the middle.
+struct Filled {
+    front: &'static [u8],
+    count: usize,
+    back: &'static [u8],
 }
 
-#[test]
-fn av1_largest_fragment_mtu_16392(rt: HostRuntime) -> Result<(), Fail> {
-    let alloc = rt.alloc();
-    let front: [u8; 10] = [0x2a, 0x00, 0x2a, 0x00, 0x2a, 0x00, 0x32, 0x9f, 0x9c, 0x01];
-    let packet: [u8; 10] = [0x40, 0x01, 0x28, 0x01, 0x28, 0x01, 0x28, 0xff, 0x7f, 0x30];
-    let frame = filled(alloc, &front, 19_999)?;
-    let first = filled(alloc, &packet, 16_382)?;
-    let second = filled(alloc, &[0x90], 3_617)?;
-    assert_eq!(rt; first.len(), 16_392);
-    assert_eq!(rt; second.len(), 3_618);
-    let packets = sent(alloc, 16_392, &frame)?;
-    assert!(rt; are(&packets, &[first.as_slice(), second.as_slice()]));
-    Ok(())
+impl Filled {
+    fn bytes(&self, alloc: Global) -> Result<Vec<u8>, AllocError> {
+        let mut bytes = Vec::from_slice(alloc, self.front)?;
+        for _ in 0..self.count {
+            bytes.push(0xbb)?;
+        }
+        bytes.extend_from_slice(self.back)?;
+        Ok(bytes)
+    }
 }
 
+/// A frame of many bytes and its two packets, with the lengths of these.
+struct FilledRow {
+    name: &'static str,
+    mtu: usize,
+    frame: Filled,
+    first: Filled,
+    second: Filled,
+    lengths: [usize; 2],
+}
+
+const FILLED: [FilledRow; 4] = [
+    FilledRow {
+        name: "av1-largest-fragment-mtu-136",
+        mtu: 136,
+        frame: Filled {
+            front: &[0x2a, 0x00, 0x2a, 0x00, 0x2a, 0x00, 0x32, 0xc7, 0x01],
+            count: 199,
+            back: &[],
+        },
+        first: Filled {
+            front: &[0x40, 0x01, 0x28, 0x01, 0x28, 0x01, 0x28, 0x7f, 0x30],
+            count: 126,
+            back: &[],
+        },
+        second: Filled {
+            front: &[0x90],
+            count: 73,
+            back: &[],
+        },
+        lengths: [135, 74],
+    },
+    FilledRow {
+        name: "av1-three-bytes-unused-mtu-136",
+        mtu: 136,
+        frame: Filled {
+            front: &[0x2a, 0x00, 0x2a, 0x00, 0x32, 0x7f],
+            count: 127,
+            back: &[0x2a, 0x00],
+        },
+        first: Filled {
+            front: &[0x30, 0x01, 0x28, 0x01, 0x28, 0x30],
+            count: 127,
+            back: &[],
+        },
+        second: Filled {
+            front: &[0x10, 0x28],
+            count: 0,
+            back: &[],
+        },
+        lengths: [133, 2],
+    },
+    FilledRow {
+        name: "av1-two-full-packets-mtu-10",
+        mtu: 10,
+        frame: Filled {
+            front: &[0x32, 0x11],
+            count: 17,
+            back: &[],
+        },
+        first: Filled {
+            front: &[0x50, 0x30],
+            count: 8,
+            back: &[],
+        },
+        second: Filled {
+            front: &[0x90],
+            count: 9,
+            back: &[],
+        },
+        lengths: [10, 10],
+    },
+    FilledRow {
+        name: "av1-largest-fragment-mtu-16392",
+        mtu: 16_392,
+        frame: Filled {
+            front: &[0x2a, 0x00, 0x2a, 0x00, 0x2a, 0x00, 0x32, 0x9f, 0x9c, 0x01],
+            count: 19_999,
+            back: &[],
+        },
+        first: Filled {
+            front: &[0x40, 0x01, 0x28, 0x01, 0x28, 0x01, 0x28, 0xff, 0x7f, 0x30],
+            count: 16_382,
+            back: &[],
+        },
+        second: Filled {
+            front: &[0x90],
+            count: 3_617,
+            back: &[],
+        },
+        lengths: [16_392, 3_618],
+    },
+];
+
 #[test]
-fn the_greatest_mtu(rt: HostRuntime) -> Result<(), Fail> {
-    let packets = sent(rt.alloc(), usize::MAX, &FOUR_OBUS)?;
-    assert_eq!(rt; packets.len(), 1);
+fn filled_frames_are_sent(rt: HostRuntime) -> Result<(), Fail> {
+    let alloc = rt.alloc();
+    for row in &FILLED {
+        let first = row.first.bytes(alloc)?;
+        let second = row.second.bytes(alloc)?;
+        assert_eq!(rt; [first.len(), second.len()], row.lengths, "in {}", row.name);
+        let answer = sent(alloc, row.mtu, &row.frame.bytes(alloc)?);
+        assert_sent(&rt, row.name, &answer, &Ok(&[&first, &second]));
+    }
     Ok(())
 }
 
@@ -336,6 +421,16 @@ fn table_frame(alloc: Global, lengths: &[usize]) -> Result<(Vec<u8>, Vec<Vec<u8>
     Ok((frame, strings))
 }
 
+fn put_together(alloc: Global, packets: &[Vec<u8>]) -> Result<Vec<u8>, PacketError> {
+    let mut depacketizer = Av1Depacketizer::new(alloc);
+    let mut out = Vec::new(alloc);
+    let mut extra = CodecExtra::None;
+    for packet in packets {
+        depacketizer.depacketize(packet, &mut out, &mut extra)?;
+    }
+    Ok(out)
+}
+
 #[test]
 fn as_a_plain_packer(rt: HostRuntime) -> Result<(), Fail> {
     let alloc = rt.alloc();
@@ -343,14 +438,12 @@ fn as_a_plain_packer(rt: HostRuntime) -> Result<(), Fail> {
         let (frame, strings) = table_frame(alloc, lengths)?;
         for mtu in 2..=20usize {
             let packets = sent(alloc, mtu, &frame)?;
-            assert!(rt; packets == plain_packets(alloc, mtu, &strings)?);
-            let mut depacketizer = Av1Depacketizer::new(alloc);
-            let mut out = Vec::new(alloc);
-            let mut extra = CodecExtra::None;
-            for packet in &packets {
-                depacketizer.depacketize(packet, &mut out, &mut extra)?;
-            }
-            assert!(rt; out == frame);
+            assert!(rt;
+                packets == plain_packets(alloc, mtu, &strings)?,
+                "lengths {lengths:?}, MTU {mtu}"
+            );
+            let unit = put_together(alloc, &packets)?;
+            assert!(rt; unit == frame, "lengths {lengths:?}, MTU {mtu}");
         }
     }
     Ok(())

@@ -10,28 +10,69 @@ use codec_payload_base::wire::{
 use std::collections::HashMap;
 use std::test::Fail;
 
-#[test]
-fn bits_reads_and_refusals(rt: HostRuntime) {
-    let mut reader = BitReader::at(&[0xac, 0x50], 4);
-    assert_eq!(rt; reader.get_bits(6), Some(49));
-    assert_eq!(rt; reader.get_bits(3), Some(2));
-    assert_eq!(rt; reader.get_bits(9), None);
-    assert_eq!(rt; reader.get_bits(4), None);
-    assert_eq!(rt; reader.get_bits(3), Some(0));
-    assert_eq!(rt; reader.get_bits(0), Some(0));
+/// What is read, and the answer.
+enum Read {
+    /// So many bits.
+    Bits(usize, Option<u8>),
+    Leb128(Option<u64>),
+    ByteOffset(usize),
 }
 
-#[test]
-fn leb128_high_bits_lost(rt: HostRuntime) {
-    let bytes = [0xff, 0xff, 0xff, 0xff, 0xff, 0xff, 0xff, 0xff, 0xff, 0x7f];
-    assert_eq!(rt; BitReader::new(&bytes).get_leb128(), Some(u64::MAX));
+/// What a reader of these bytes, which starts at that bit, answers one after another.
+struct ReadRow {
+    name: &'static str,
+    bytes: &'static [u8],
+    place_in_bits: usize,
+    reads: &'static [Read],
 }
 
+const READS: [ReadRow; 3] = [
+    ReadRow {
+        name: "bits-reads-and-refusals",
+        bytes: &[0xac, 0x50],
+        place_in_bits: 4,
+        reads: &[
+            Read::Bits(6, Some(49)),
+            Read::Bits(3, Some(2)),
+            Read::Bits(9, None),
+            Read::Bits(4, None),
+            Read::Bits(3, Some(0)),
+            Read::Bits(0, Some(0)),
+        ],
+    },
+    ReadRow {
+        name: "leb128-high-bits-lost",
+        bytes: &[0xff, 0xff, 0xff, 0xff, 0xff, 0xff, 0xff, 0xff, 0xff, 0x7f],
+        place_in_bits: 0,
+        reads: &[Read::Leb128(Some(u64::MAX))],
+    },
+    ReadRow {
+        name: "leb128-ten-ff-none",
+        bytes: &[0xff; 11],
+        place_in_bits: 0,
+        reads: &[Read::Leb128(None), Read::ByteOffset(10)],
+    },
+];
+
 #[test]
-fn leb128_ten_ff_none(rt: HostRuntime) {
-    let mut reader = BitReader::new(&[0xff; 11]);
-    assert_eq!(rt; reader.get_leb128(), None);
-    assert_eq!(rt; reader.byte_offset(), 10);
+fn bits_are_read(rt: HostRuntime) {
+    for row in &READS {
+        let name = row.name;
+        let mut reader = BitReader::at(row.bytes, row.place_in_bits);
+        for read in row.reads {
+            match *read {
+                Read::Bits(count, value) => {
+                    assert_eq!(rt; reader.get_bits(count), value, "{count} bits in {name}");
+                }
+                Read::Leb128(value) => assert_eq!(rt; reader.get_leb128(), value, "in {name}"),
+                Read::ByteOffset(offset) => assert_eq!(rt;
+                    reader.byte_offset(),
+                    offset,
+                    "in {name}"
+                ),
+            }
+        }
+    }
 }
 
 /// The sum of two bytes, by whatever reads bits.
@@ -61,53 +102,55 @@ fn lent_bytes_outlive_the_next_read(rt: HostRuntime) -> Result<(), Fail> {
     Ok(())
 }
 
+/// All faults in the order of their numbers, each with its text.
+const TEXTS: [(PacketError, &str); 17] = [
+    (PacketError::ErrShortPacket, "Packet is too short"),
+    (PacketError::ErrPayloadTooLarge, "Payload exceeds the MTU"),
+    (
+        PacketError::ErrTooManySpatialLayers,
+        "Too many spatial layers",
+    ),
+    (PacketError::ErrTooManyPDiff, "Too many P-Diff"),
+    (PacketError::ErrH265CorruptedPacket, "H265 corrupted packet"),
+    (PacketError::ErrH266CorruptedPacket, "H266 corrupted packet"),
+    (
+        PacketError::ErrInvalidH265PacketType,
+        "H265 invalid packet type",
+    ),
+    (
+        PacketError::ErrH265PACIPHESTooLong,
+        "H265 PACI PHES field exceeds maximum size of 31 bytes",
+    ),
+    (
+        PacketError::StapASizeLargerThanBuffer(5, 4),
+        "H264 StapA size larger than buffer: 5 > 4",
+    ),
+    (
+        PacketError::NaluTypeIsNotHandled(25),
+        "H264 NALU type is not handled: 25",
+    ),
+    (PacketError::ErrVP8CorruptedPacket, "VP8 corrupted packet"),
+    (PacketError::ErrVP9CorruptedPacket, "VP9 corrupted packet"),
+    (PacketError::ErrAv1CorruptedPacket, "AV1 corrupted packet"),
+    (PacketError::ErrRedCorruptedPacket, "RED corrupted packet"),
+    (
+        PacketError::InvalidTelephoneEvent("why"),
+        "Invalid telephone event: why",
+    ),
+    (
+        PacketError::ErrAmrWbCorruptedPacket,
+        "AMR-WB corrupted packet",
+    ),
+    (PacketError::OutOfMemory, "Out of memory"),
+];
+
 #[test]
 fn texts_of_faults(rt: HostRuntime) -> Result<(), Fail> {
     let alloc = rt.alloc();
-    let faults = [
-        (PacketError::ErrShortPacket, "Packet is too short"),
-        (PacketError::ErrPayloadTooLarge, "Payload exceeds the MTU"),
-        (
-            PacketError::ErrTooManySpatialLayers,
-            "Too many spatial layers",
-        ),
-        (PacketError::ErrTooManyPDiff, "Too many P-Diff"),
-        (PacketError::ErrH265CorruptedPacket, "H265 corrupted packet"),
-        (PacketError::ErrH266CorruptedPacket, "H266 corrupted packet"),
-        (
-            PacketError::ErrInvalidH265PacketType,
-            "H265 invalid packet type",
-        ),
-        (
-            PacketError::ErrH265PACIPHESTooLong,
-            "H265 PACI PHES field exceeds maximum size of 31 bytes",
-        ),
-        (
-            PacketError::StapASizeLargerThanBuffer(5, 4),
-            "H264 StapA size larger than buffer: 5 > 4",
-        ),
-        (
-            PacketError::NaluTypeIsNotHandled(25),
-            "H264 NALU type is not handled: 25",
-        ),
-        (PacketError::ErrVP8CorruptedPacket, "VP8 corrupted packet"),
-        (PacketError::ErrVP9CorruptedPacket, "VP9 corrupted packet"),
-        (PacketError::ErrAv1CorruptedPacket, "AV1 corrupted packet"),
-        (PacketError::ErrRedCorruptedPacket, "RED corrupted packet"),
-        (
-            PacketError::InvalidTelephoneEvent("why"),
-            "Invalid telephone event: why",
-        ),
-        (
-            PacketError::ErrAmrWbCorruptedPacket,
-            "AMR-WB corrupted packet",
-        ),
-        (PacketError::OutOfMemory, "Out of memory"),
-    ];
-    for (index, (fault, text)) in faults.iter().enumerate() {
+    for (index, (fault, text)) in TEXTS.iter().enumerate() {
         let shown = format!(in alloc; "{fault}")?;
         assert_eq!(rt; shown.as_str(), *text);
-        assert_eq!(rt; usize::from(fault.number()), index + 1);
+        assert_eq!(rt; usize::from(fault.number()), index + 1, "of {text}");
     }
     Ok(())
 }

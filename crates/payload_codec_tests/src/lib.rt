@@ -10,6 +10,8 @@ mod base;
 #[cfg(test)]
 mod red;
 #[cfg(test)]
+mod tables;
+#[cfg(test)]
 mod vp8;
 #[cfg(test)]
 mod vp8_table;

@@ -44,6 +44,120 @@ fn sender_of_four(alloc: Global) -> Result<RedSender, PacketError> {
     Ok(sender)
 }
 
+/// A payload that is as long as the budget.
+const SEVENS: [u8; 1_200] = [7; 1_200];
+
+/// A payload at an RTP time, and what a sender makes of it at a budget of 1,200 bytes, where that is looked at.
+struct Payload {
+    payload: &'static [u8],
+    rtp_time: u32,
+    wanted: Option<&'static [u8]>,
+}
+
+/// What a new sender of these distances makes of payloads, one after another.
+struct SentRow {
+    name: &'static str,
+    distances: &'static [u32],
+    payloads: &'static [Payload],
+}
+
+const SENT: [SentRow; 3] = [
+    SentRow {
+        name: "red-unwrapped-is-recorded",
+        distances: &[1],
+        payloads: &[
+            Payload {
+                payload: &[1, 2, 3],
+                rtp_time: 1_000,
+                wanted: Some(&[0x6f, 1, 2, 3]),
+            },
+            Payload {
+                payload: &[4, 5],
+                rtp_time: 1_960,
+                wanted: Some(&[0xef, 0x0f, 0x00, 0x03, 0x6f, 1, 2, 3, 4, 5]),
+            },
+            Payload {
+                payload: &SEVENS,
+                rtp_time: 2_920,
+                wanted: Some(&SEVENS),
+            },
+            Payload {
+                payload: &[6],
+                rtp_time: 3_880,
+                wanted: Some(&[0x6f, 6]),
+            },
+        ],
+    },
+    SentRow {
+        name: "red-two-distances",
+        distances: &[1, 3],
+        payloads: &[
+            Payload {
+                payload: &[0],
+                rtp_time: 0,
+                wanted: None,
+            },
+            Payload {
+                payload: &[1],
+                rtp_time: 960,
+                wanted: None,
+            },
+            Payload {
+                payload: &[2],
+                rtp_time: 1_920,
+                wanted: None,
+            },
+            Payload {
+                payload: &[3],
+                rtp_time: 2_880,
+                wanted: None,
+            },
+            Payload {
+                payload: &[0x2a],
+                rtp_time: 3_840,
+                wanted: Some(&[
+                    0xef, 0x2d, 0x00, 0x01, 0xef, 0x0f, 0x00, 0x01, 0x6f, 0x01, 0x03, 0x2a,
+                ]),
+            },
+        ],
+    },
+    SentRow {
+        name: "red-offset-16384-left-out",
+        distances: &[1],
+        payloads: &[
+            Payload {
+                payload: &[1],
+                rtp_time: 0,
+                wanted: None,
+            },
+            Payload {
+                payload: &[2],
+                rtp_time: 16_384,
+                wanted: Some(&[0x6f, 2]),
+            },
+        ],
+    },
+];
+
+#[test]
+fn payloads_are_wrapped(rt: HostRuntime) {
+    let alloc = rt.alloc();
+    for row in &SENT {
+        assert!(rt; RedSender::accepts(row.distances), "in {}", row.name);
+        let mut sender = sender(alloc, row.distances);
+        for sent in row.payloads {
+            let name = row.name;
+            match wrapped(alloc, &mut sender, sent.payload, sent.rtp_time, 1_200) {
+                Ok(bytes) => {
+                    let wanted = sent.wanted.unwrap_or(&bytes);
+                    assert_eq!(rt; bytes.as_slice(), wanted, "in {name}, at {}", sent.rtp_time);
+                }
+                Err(fault) => assert!(rt; false, "{name} is refused: {fault}"),
+            }
+        }
+    }
+}
+
 /// So many headers of empty redundant blocks, and that of the primary block, of type 96.
 fn empty_blocks(alloc: Global, count: usize) -> Result<Vec<u8>, Fail> {
     let mut bytes = Vec::new(alloc);
@@ -54,29 +168,34 @@ fn empty_blocks(alloc: Global, count: usize) -> Result<Vec<u8>, Fail> {
     Ok(bytes)
 }
 
-#[test]
-fn red_unwrapped_is_recorded(rt: HostRuntime) -> Result<(), Fail> {
-    let alloc = rt.alloc();
-    let mut sender = sender(alloc, &[1]);
-    let first = wrapped(alloc, &mut sender, &[1, 2, 3], 1_000, 1_200)?;
-    assert_eq!(rt; first.as_slice(), [0x6fu8, 1, 2, 3].as_slice());
-    let second = wrapped(alloc, &mut sender, &[4, 5], 1_960, 1_200)?;
-    assert_eq!(rt;
-        second.as_slice(),
-        [0xefu8, 0x0f, 0x00, 0x03, 0x6f, 1, 2, 3, 4, 5].as_slice()
-    );
-    let media = vec![in alloc; 7u8; 1_200]?;
-    let long = wrapped(alloc, &mut sender, &media, 2_920, 1_200)?;
-    assert_eq!(rt; long.as_slice(), media.as_slice());
-    let last = wrapped(alloc, &mut sender, &[6], 3_880, 1_200)?;
-    assert_eq!(rt; last.as_slice(), [0x6fu8, 6].as_slice());
-    Ok(())
+/// Bytes that are no RED payload, each by its name.
+const CORRUPTED: [(&str, &[u8]); 3] = [
+    ("red-block-past-end-fault", &[0xe0, 0x00, 0x00, 0xc8, 0x60]),
+    ("red-end-in-headers-fault", &[0x80, 0x00]),
+    ("red-no-bytes-fault", &[]),
+];
+
+/// The fault of a payload, if there is one.
+fn refused(alloc: Global, payload: &[u8]) -> Option<PacketError> {
+    RedDecoder::decode(alloc, payload).err()
 }
 
 #[test]
-fn red_block_past_end_fault(rt: HostRuntime) -> Result<(), Fail> {
-    let fault = RedDecoder::decode(rt.alloc(), &[0xe0, 0x00, 0x00, 0xc8, 0x60]).err();
-    assert_eq!(rt; fault, Some(PacketError::ErrRedCorruptedPacket));
+fn corrupted_payloads_are_refused(rt: HostRuntime) -> Result<(), Fail> {
+    let alloc = rt.alloc();
+    for (name, payload) in CORRUPTED {
+        assert_eq!(rt;
+            refused(alloc, payload),
+            Some(PacketError::ErrRedCorruptedPacket),
+            "in {name}"
+        );
+    }
+    let bytes = empty_blocks(alloc, 33)?;
+    assert_eq!(rt;
+        refused(alloc, &bytes),
+        Some(PacketError::ErrRedCorruptedPacket),
+        "in red-33-blocks-fault"
+    );
     Ok(())
 }
 
@@ -84,46 +203,7 @@ fn red_block_past_end_fault(rt: HostRuntime) -> Result<(), Fail> {
 fn red_32_redundant_blocks(rt: HostRuntime) -> Result<(), Fail> {
     let alloc = rt.alloc();
     let bytes = empty_blocks(alloc, 32)?;
-    let blocks = RedDecoder::decode(alloc, &bytes)?;
-    assert_eq!(rt; blocks.len(), 33);
-    Ok(())
-}
-
-#[test]
-fn red_33_blocks_fault(rt: HostRuntime) -> Result<(), Fail> {
-    let alloc = rt.alloc();
-    let bytes = empty_blocks(alloc, 33)?;
-    let fault = RedDecoder::decode(alloc, &bytes).err();
-    assert_eq!(rt; fault, Some(PacketError::ErrRedCorruptedPacket));
-    Ok(())
-}
-
-#[test]
-fn red_end_in_headers_fault(rt: HostRuntime) -> Result<(), Fail> {
-    let fault = RedDecoder::decode(rt.alloc(), &[0x80, 0x00]).err();
-    assert_eq!(rt; fault, Some(PacketError::ErrRedCorruptedPacket));
-    Ok(())
-}
-
-#[test]
-fn red_no_bytes_fault(rt: HostRuntime) -> Result<(), Fail> {
-    let fault = RedDecoder::decode(rt.alloc(), &[]).err();
-    assert_eq!(rt; fault, Some(PacketError::ErrRedCorruptedPacket));
-    Ok(())
-}
-
-#[test]
-fn red_two_distances(rt: HostRuntime) -> Result<(), Fail> {
-    let alloc = rt.alloc();
-    let mut sender = sender_of_four(alloc)?;
-    let last = wrapped(alloc, &mut sender, &[0x2a], 3_840, 1_200)?;
-    assert_eq!(rt;
-        last.as_slice(),
-        [
-            0xefu8, 0x2d, 0x00, 0x01, 0xef, 0x0f, 0x00, 0x01, 0x6f, 0x01, 0x03, 0x2a
-        ]
-        .as_slice()
-    );
+    assert_eq!(rt; RedDecoder::decode(alloc, &bytes)?.len(), 33);
     Ok(())
 }
 
@@ -141,16 +221,6 @@ fn red_budget_300_shallowest(rt: HostRuntime) -> Result<(), Fail> {
     assert_eq!(rt; blocks[0].timestamp_offset, 960);
     assert_eq!(rt; blocks[0].payload, [2u8; 100].as_slice());
     assert_eq!(rt; blocks[1].payload, [3u8; 100].as_slice());
-    Ok(())
-}
-
-#[test]
-fn red_offset_16384_left_out(rt: HostRuntime) -> Result<(), Fail> {
-    let alloc = rt.alloc();
-    let mut sender = sender(alloc, &[1]);
-    wrapped(alloc, &mut sender, &[1], 0, 1_200)?;
-    let second = wrapped(alloc, &mut sender, &[2], 16_384, 1_200)?;
-    assert_eq!(rt; second.as_slice(), [0x6fu8, 2].as_slice());
     Ok(())
 }
 

@@ -1,28 +1,150 @@
 //! The worked examples, texts of errors, and copies.
 
+use crate::tables::{Frame, assert_frames};
 use codec_payload_base::error::PacketError;
 use codec_payload_base::interface::{CodecExtra, Depacketizer, Packetizer};
 use codec_payload_vp8::vp8::{
-    Vp8CodecExtra, Vp8Depacketizer, Vp8Descriptor, Vp8DescriptorError, Vp8Packetizer,
-    Vp8PatchError, detect_vp8_keyframe,
+    Vp8CodecExtra, Vp8Depacketizer, Vp8Descriptor, Vp8DescriptorError, Vp8Packetizer, Vp8Patch,
+    Vp8PatchError,
 };
 use std::alloc::Global;
 use std::process::Abort;
 use std::test::Fail;
 
-/// The payloads of a frame, one after another, each behind its length.
-fn spelled(
-    alloc: Global,
-    packetizer: &mut Vp8Packetizer,
-    mtu: usize,
-    frame: &[u8],
-) -> Result<Vec<u8>, Fail> {
-    let mut all = Vec::new(alloc);
-    for payload in packetizer.packetize(alloc, mtu, frame)? {
-        all.push((payload.len() % 256) as u8)?;
-        all.extend_from_slice(&payload)?;
+/// Frames that one packetizer is given one after another.
+struct SentRow {
+    name: &'static str,
+    /// The first picture id, where ids are sent.
+    first_id: Option<u16>,
+    frames: &'static [Frame],
+}
+
+const SENT: [SentRow; 8] = [
+    SentRow {
+        name: "vp8-no-ids-three-packets",
+        first_id: None,
+        frames: &[
+            Frame {
+                mtu: 2,
+                bytes: &[0x90, 0x90, 0x90],
+                packets: Ok(&[&[0x10, 0x90], &[0x00, 0x90], &[0x00, 0x90]]),
+            },
+            Frame {
+                mtu: 2,
+                bytes: &[0x91, 0x91],
+                packets: Ok(&[&[0x10, 0x91], &[0x00, 0x91]]),
+            },
+        ],
+    },
+    SentRow {
+        name: "vp8-mtu-max",
+        first_id: None,
+        frames: &[Frame {
+            mtu: usize::MAX,
+            bytes: &[0x90, 0x90, 0x90],
+            packets: Ok(&[&[0x10, 0x90, 0x90, 0x90]]),
+        }],
+    },
+    SentRow {
+        name: "vp8-mtu-max, with ids",
+        first_id: Some(0x7fff),
+        frames: &[Frame {
+            mtu: usize::MAX,
+            bytes: &[0x90, 0x90, 0x90],
+            packets: Ok(&[&[0x90, 0x80, 0xff, 0xff, 0x90, 0x90, 0x90]]),
+        }],
+    },
+    SentRow {
+        name: "vp8-id-two-frames",
+        first_id: Some(0x20),
+        frames: &[
+            Frame {
+                mtu: 5,
+                bytes: &[0x90, 0x90, 0x90],
+                packets: Ok(&[&[0x90, 0x80, 0x20, 0x90, 0x90], &[0x80, 0x80, 0x20, 0x90]]),
+            },
+            Frame {
+                mtu: 5,
+                bytes: &[0x91, 0x91],
+                packets: Ok(&[&[0x90, 0x80, 0x21, 0x91, 0x91]]),
+            },
+        ],
+    },
+    SentRow {
+        name: "vp8-id-mtu-3-skips",
+        first_id: Some(0x20),
+        frames: &[
+            Frame {
+                mtu: 3,
+                bytes: &[0x90, 0x90, 0x90],
+                packets: Ok(&[]),
+            },
+            Frame {
+                mtu: 5,
+                bytes: &[0x91, 0x91],
+                packets: Ok(&[&[0x90, 0x80, 0x20, 0x91, 0x91]]),
+            },
+        ],
+    },
+    SentRow {
+        name: "vp8-id-widens-at-128",
+        first_id: Some(0x7f),
+        frames: &[
+            Frame {
+                mtu: 5,
+                bytes: &[0x90, 0x90],
+                packets: Ok(&[&[0x90, 0x80, 0x7f, 0x90, 0x90]]),
+            },
+            Frame {
+                mtu: 5,
+                bytes: &[0x91],
+                packets: Ok(&[&[0x90, 0x80, 0x80, 0x80, 0x91]]),
+            },
+        ],
+    },
+    SentRow {
+        name: "vp8-id-wrap-15",
+        first_id: Some(0x7fff),
+        frames: &[
+            Frame {
+                mtu: 5,
+                bytes: &[0x90],
+                packets: Ok(&[&[0x90, 0x80, 0xff, 0xff, 0x90]]),
+            },
+            Frame {
+                mtu: 5,
+                bytes: &[0x90],
+                packets: Ok(&[&[0x90, 0x80, 0x00, 0x90]]),
+            },
+        ],
+    },
+    SentRow {
+        name: "vp8-id-two-bytes",
+        first_id: Some(0x120),
+        frames: &[Frame {
+            mtu: 6,
+            bytes: &[0x90, 0x90, 0x90],
+            packets: Ok(&[
+                &[0x90, 0x80, 0x81, 0x20, 0x90, 0x90],
+                &[0x80, 0x80, 0x81, 0x20, 0x90],
+            ]),
+        }],
+    },
+];
+
+#[test]
+fn frames_are_sent(rt: HostRuntime) {
+    let alloc = rt.alloc();
+    for row in &SENT {
+        let mut packetizer = match row.first_id {
+            Some(id) => {
+                assert!(rt; id < 0x8000);
+                Vp8Packetizer::with_picture_id(id)
+            }
+            None => Vp8Packetizer::default(),
+        };
+        assert_frames(&rt, alloc, row.name, &mut packetizer, row.frames);
     }
-    Ok(all)
 }
 
 /// The extended picture id that a payload tells.
@@ -30,7 +152,7 @@ fn told(
     alloc: Global,
     depacketizer: &mut Vp8Depacketizer,
     payload: &[u8],
-) -> Result<Option<u64>, Fail> {
+) -> Result<Option<u64>, PacketError> {
     let mut out = Vec::new(alloc);
     let mut extra = CodecExtra::None;
     depacketizer.depacketize(payload, &mut out, &mut extra)?;
@@ -40,176 +162,57 @@ fn told(
     }
 }
 
-#[test]
-fn vp8_no_ids_three_packets(rt: HostRuntime) -> Result<(), Fail> {
-    let mut packetizer = Vp8Packetizer::default();
-    let sent_0 = spelled(rt.alloc(), &mut packetizer, 2, &[0x90, 0x90, 0x90])?;
-    assert_eq!(rt;
-        sent_0.as_slice(),
-        [2u8, 0x10, 0x90, 2, 0x00, 0x90, 2, 0x00, 0x90].as_slice()
-    );
-    let sent_1 = spelled(rt.alloc(), &mut packetizer, 2, &[0x91, 0x91])?;
-    assert_eq!(rt;
-        sent_1.as_slice(),
-        [2u8, 0x10, 0x91, 2, 0x00, 0x91].as_slice()
-    );
-    Ok(())
+/// Payloads that one depacketizer is given one after another, each with the extended picture id that it tells.
+struct ToldRow {
+    name: &'static str,
+    /// The picture id before, and the extended one.
+    picture_id: u16,
+    extended_pid: Option<u64>,
+    payloads: &'static [(&'static [u8], u64)],
 }
 
-#[test]
-fn vp8_mtu_max(rt: HostRuntime) -> Result<(), Fail> {
-    let frame = [0x90, 0x90, 0x90];
-    let mut without = Vp8Packetizer::default();
-    let sent = spelled(rt.alloc(), &mut without, usize::MAX, &frame)?;
-    assert_eq!(rt; sent.as_slice(), [4u8, 0x10, 0x90, 0x90, 0x90].as_slice());
-    let mut with_ids = Vp8Packetizer::with_picture_id(0x7fff);
-    let sent = spelled(rt.alloc(), &mut with_ids, usize::MAX, &frame)?;
-    assert_eq!(rt;
-        sent.as_slice(),
-        [7u8, 0x90, 0x80, 0xff, 0xff, 0x90, 0x90, 0x90].as_slice()
-    );
-    Ok(())
-}
+const TOLD: [ToldRow; 3] = [
+    ToldRow {
+        name: "vp8-id-wrap-15",
+        picture_id: 0,
+        extended_pid: None,
+        payloads: &[
+            (&[0x90, 0x80, 0xff, 0xff, 0x90], 32_767),
+            (&[0x90, 0x80, 0x00, 0x90], 32_768),
+        ],
+    },
+    ToldRow {
+        name: "vp8-id-7-then-15-bits",
+        picture_id: 0,
+        extended_pid: None,
+        payloads: &[
+            (&[0x90, 0x80, 0x7e, 0x00], 126),
+            (&[0x90, 0x80, 0x7f, 0x00], 127),
+            (&[0x90, 0x80, 0x00, 0x00], 128),
+            (&[0x90, 0x80, 0x01, 0x00], 129),
+            (&[0x90, 0x80, 0x80, 0x02, 0x00], 130),
+        ],
+    },
+    ToldRow {
+        name: "vp8-extended-id-wraps-64",
+        picture_id: 0x7fff,
+        extended_pid: Some(u64::MAX),
+        payloads: &[(&[0x90, 0x80, 0x80, 0x00, 0x01], 0)],
+    },
+];
 
 #[test]
-fn vp8_id_two_frames(rt: HostRuntime) -> Result<(), Fail> {
-    let mut packetizer = Vp8Packetizer::with_picture_id(0x20);
-    let sent_0 = spelled(rt.alloc(), &mut packetizer, 5, &[0x90, 0x90, 0x90])?;
-    assert_eq!(rt;
-        sent_0.as_slice(),
-        [5u8, 0x90, 0x80, 0x20, 0x90, 0x90, 4, 0x80, 0x80, 0x20, 0x90].as_slice()
-    );
-    let sent_1 = spelled(rt.alloc(), &mut packetizer, 5, &[0x91, 0x91])?;
-    assert_eq!(rt;
-        sent_1.as_slice(),
-        [5u8, 0x90, 0x80, 0x21, 0x91, 0x91].as_slice()
-    );
-    Ok(())
-}
-
-#[test]
-fn vp8_id_mtu_3_skips(rt: HostRuntime) -> Result<(), Fail> {
-    let mut packetizer = Vp8Packetizer::with_picture_id(0x20);
-    let sent_0 = spelled(rt.alloc(), &mut packetizer, 3, &[0x90, 0x90, 0x90])?;
-    assert_eq!(rt; sent_0.as_slice(), [].as_slice());
-    let sent_1 = spelled(rt.alloc(), &mut packetizer, 5, &[0x91, 0x91])?;
-    assert_eq!(rt;
-        sent_1.as_slice(),
-        [5u8, 0x90, 0x80, 0x20, 0x91, 0x91].as_slice()
-    );
-    Ok(())
-}
-
-#[test]
-fn vp8_id_widens_at_128(rt: HostRuntime) -> Result<(), Fail> {
-    let mut packetizer = Vp8Packetizer::with_picture_id(0x7f);
-    let sent_0 = spelled(rt.alloc(), &mut packetizer, 5, &[0x90, 0x90])?;
-    assert_eq!(rt;
-        sent_0.as_slice(),
-        [5u8, 0x90, 0x80, 0x7f, 0x90, 0x90].as_slice()
-    );
-    let sent_1 = spelled(rt.alloc(), &mut packetizer, 5, &[0x91])?;
-    assert_eq!(rt;
-        sent_1.as_slice(),
-        [5u8, 0x90, 0x80, 0x80, 0x80, 0x91].as_slice()
-    );
-    Ok(())
-}
-
-#[test]
-fn vp8_id_wrap_15(rt: HostRuntime) -> Result<(), Fail> {
-    let mut packetizer = Vp8Packetizer::with_picture_id(0x7fff);
-    let sent_0 = spelled(rt.alloc(), &mut packetizer, 5, &[0x90])?;
-    assert_eq!(rt;
-        sent_0.as_slice(),
-        [5u8, 0x90, 0x80, 0xff, 0xff, 0x90].as_slice()
-    );
-    let sent_1 = spelled(rt.alloc(), &mut packetizer, 5, &[0x90])?;
-    assert_eq!(rt; sent_1.as_slice(), [4u8, 0x90, 0x80, 0x00, 0x90].as_slice());
-    let mut depacketizer = Vp8Depacketizer::default();
-    let first = told(
-        rt.alloc(),
-        &mut depacketizer,
-        &[0x90, 0x80, 0xff, 0xff, 0x90],
-    )?;
-    assert_eq!(rt; first, Some(32_767));
-    let next = told(rt.alloc(), &mut depacketizer, &[0x90, 0x80, 0x00, 0x90])?;
-    assert_eq!(rt; next, Some(32_768));
-    Ok(())
-}
-
-#[test]
-fn vp8_id_two_bytes(rt: HostRuntime) -> Result<(), Fail> {
-    let mut packetizer = Vp8Packetizer::with_picture_id(0x120);
-    let sent_0 = spelled(rt.alloc(), &mut packetizer, 6, &[0x90, 0x90, 0x90])?;
-    assert_eq!(rt;
-        sent_0.as_slice(),
-        [
-            6u8, 0x90, 0x80, 0x81, 0x20, 0x90, 0x90, 5, 0x80, 0x80, 0x81, 0x20, 0x90
-        ]
-        .as_slice()
-    );
-    Ok(())
-}
-
-#[test]
-fn vp8_id_7_then_15_bits(rt: HostRuntime) -> Result<(), Fail> {
-    let mut depacketizer = Vp8Depacketizer::default();
-    for (id, extended) in [(126u8, 126u64), (127, 127), (0, 128), (1, 129)] {
-        let got = told(rt.alloc(), &mut depacketizer, &[0x90, 0x80, id, 0])?;
-        assert_eq!(rt; got, Some(extended));
+fn picture_ids_are_told(rt: HostRuntime) -> Result<(), Fail> {
+    let alloc = rt.alloc();
+    for row in &TOLD {
+        let mut depacketizer = Vp8Depacketizer::default();
+        depacketizer.picture_id = row.picture_id;
+        depacketizer.extended_pid = row.extended_pid;
+        for (payload, id) in row.payloads {
+            let told = told(alloc, &mut depacketizer, payload);
+            assert_eq!(rt; told, Ok(Some(*id)), "in {}", row.name);
+        }
     }
-    let wide = told(rt.alloc(), &mut depacketizer, &[0x90, 0x80, 0x80, 2, 0])?;
-    assert_eq!(rt; wide, Some(130));
-    Ok(())
-}
-
-#[test]
-fn vp8_extended_id_wraps_64(rt: HostRuntime) -> Result<(), Fail> {
-    let mut depacketizer = Vp8Depacketizer::default();
-    depacketizer.picture_id = 0x7fff;
-    depacketizer.extended_pid = Some(u64::MAX);
-    let got = told(
-        rt.alloc(),
-        &mut depacketizer,
-        &[0x90, 0x80, 0x80, 0x00, 0x01],
-    )?;
-    assert_eq!(rt; got, Some(0));
-    Ok(())
-}
-
-/// The answer to a payload, with `out` and the extra as they were before.
-fn refused(rt: &impl Abort, alloc: Global, payload: &[u8]) -> Result<Option<PacketError>, Fail> {
-    let mut out = Vec::from_slice(alloc, &[7])?;
-    let mut extra = CodecExtra::None;
-    let answer = Vp8Depacketizer::default().depacketize(payload, &mut out, &mut extra);
-    assert_eq!(rt; out.as_slice(), [7u8].as_slice());
-    assert_eq!(rt; extra, CodecExtra::None);
-    Ok(answer.err())
-}
-
-#[test]
-fn vp8_nothing_follows_fault(rt: HostRuntime) -> Result<(), Fail> {
-    let fault = refused(&rt, rt.alloc(), &[0x00])?;
-    assert_eq!(rt; fault, Some(PacketError::ErrShortPacket));
-    Ok(())
-}
-
-#[test]
-fn vp8_l_without_t_fault(rt: HostRuntime) -> Result<(), Fail> {
-    let fault = refused(&rt, rt.alloc(), &[0x80, 0x40, 0x00, 0x00])?;
-    assert_eq!(rt; fault, Some(PacketError::ErrVP8CorruptedPacket));
-    Ok(())
-}
-
-#[test]
-fn vp8_malformed_yet_keyframe(rt: HostRuntime) -> Result<(), Fail> {
-    let payload = [0x90, 0x40, 0x01, 0x00];
-    assert!(rt; detect_vp8_keyframe(&payload));
-    let error = Vp8Descriptor::parse(&payload).err();
-    assert_eq!(rt; error, Some(Vp8DescriptorError::MalformedDescriptor));
-    let fault = refused(&rt, rt.alloc(), &payload)?;
-    assert_eq!(rt; fault, Some(PacketError::ErrVP8CorruptedPacket));
     Ok(())
 }
 
@@ -250,68 +253,150 @@ fn vp8_fields_read_so_far(rt: HostRuntime) -> Result<(), Fail> {
 /// A payload with the ids 0x1234 and 0x55 and the key index 7.
 const READ: [u8; 7] = [0x90, 0xf0, 0x92, 0x34, 0x55, 0xa7, 0x00];
 
-#[test]
-fn vp8_descriptor_read(rt: HostRuntime) -> Result<(), Fail> {
-    let descriptor = Vp8Descriptor::parse(&READ)?;
-    assert_eq!(rt; descriptor.picture_id(), Some(0x1234));
-    assert_eq!(rt; descriptor.tl0_pic_idx(), Some(0x55));
-    assert_eq!(rt; descriptor.key_idx(), Some(7));
-    Ok(())
+/// The same with the ids 0x0234 and 0xab and the key index 31.
+const PATCHED: [u8; 7] = [0x90, 0xf0, 0x82, 0x34, 0xab, 0xbf, 0x00];
+
+/// A payload with a picture id of 7 bits alone.
+const SHORT: [u8; 4] = [0x90, 0x80, 0x11, 0x00];
+
+/// What a patch of a payload's descriptor asks for, and the payload that it gives.
+struct PatchRow {
+    name: &'static str,
+    payload: &'static [u8],
+    picture_id: Option<u16>,
+    tl0_pic_idx: Option<u8>,
+    key_idx: Option<u8>,
+    wanted: Result<[u8; 7], Vp8PatchError>,
 }
 
-#[test]
-fn vp8_patch_and_back(rt: HostRuntime) -> Result<(), Fail> {
-    let patch = Vp8Descriptor::parse(&READ)?
-        .patch()
-        .picture_id(0x0234)
-        .tl0_pic_idx(0xab)
-        .key_idx(0x1f)
-        .build()?;
-    let mut patched = [0; 7];
-    patch.copy_to(&READ, &mut patched);
-    assert_eq!(rt; patched, [0x90, 0xf0, 0x82, 0x34, 0xab, 0xbf, 0x00]);
-    let back = Vp8Descriptor::parse(&patched)?
-        .patch()
-        .picture_id(0x1234)
-        .tl0_pic_idx(0x55)
-        .key_idx(7)
-        .build()?;
-    let mut restored = [0; 7];
-    back.copy_to(&patched, &mut restored);
-    assert_eq!(rt; restored, READ);
-    Ok(())
-}
+const PATCHES: [PatchRow; 11] = [
+    PatchRow {
+        name: "vp8-patch-and-back",
+        payload: &READ,
+        picture_id: Some(0x0234),
+        tl0_pic_idx: Some(0xab),
+        key_idx: Some(0x1f),
+        wanted: Ok(PATCHED),
+    },
+    PatchRow {
+        name: "vp8-patch-and-back, back",
+        payload: &PATCHED,
+        picture_id: Some(0x1234),
+        tl0_pic_idx: Some(0x55),
+        key_idx: Some(7),
+        wanted: Ok(READ),
+    },
+    PatchRow {
+        name: "vp8-patch-key-index-too-large",
+        payload: &READ,
+        picture_id: None,
+        tl0_pic_idx: None,
+        key_idx: Some(0x20),
+        wanted: Err(Vp8PatchError::KeyIdxTooLarge),
+    },
+    PatchRow {
+        name: "vp8-patch-id-missing, 0",
+        payload: &[0x00, 0x90],
+        picture_id: Some(0),
+        tl0_pic_idx: None,
+        key_idx: None,
+        wanted: Err(Vp8PatchError::PictureIdMissing),
+    },
+    PatchRow {
+        name: "vp8-patch-id-missing, 0x20",
+        payload: &[0x00, 0x90],
+        picture_id: Some(0x20),
+        tl0_pic_idx: None,
+        key_idx: None,
+        wanted: Err(Vp8PatchError::PictureIdMissing),
+    },
+    PatchRow {
+        name: "vp8-patch-id-missing, 0x7fff",
+        payload: &[0x00, 0x90],
+        picture_id: Some(0x7fff),
+        tl0_pic_idx: None,
+        key_idx: None,
+        wanted: Err(Vp8PatchError::PictureIdMissing),
+    },
+    PatchRow {
+        name: "vp8-patch-id-missing, 0xffff",
+        payload: &[0x00, 0x90],
+        picture_id: Some(0xffff),
+        tl0_pic_idx: None,
+        key_idx: None,
+        wanted: Err(Vp8PatchError::PictureIdMissing),
+    },
+    PatchRow {
+        name: "vp8-patches-are-refused-in-order, all",
+        payload: &SHORT,
+        picture_id: Some(0x80),
+        tl0_pic_idx: Some(1),
+        key_idx: Some(1),
+        wanted: Err(Vp8PatchError::PictureIdTooLarge),
+    },
+    PatchRow {
+        name: "vp8-patches-are-refused-in-order, two",
+        payload: &SHORT,
+        picture_id: Some(0x7f),
+        tl0_pic_idx: Some(1),
+        key_idx: Some(1),
+        wanted: Err(Vp8PatchError::Tl0PicIdxMissing),
+    },
+    PatchRow {
+        name: "vp8-patches-are-refused-in-order, one",
+        payload: &SHORT,
+        picture_id: Some(0x7f),
+        tl0_pic_idx: None,
+        key_idx: Some(0x20),
+        wanted: Err(Vp8PatchError::KeyIdxMissing),
+    },
+    PatchRow {
+        name: "vp8-patches-are-refused-in-order, wide",
+        payload: &READ,
+        picture_id: Some(0x8000),
+        tl0_pic_idx: None,
+        key_idx: None,
+        wanted: Err(Vp8PatchError::PictureIdTooLarge),
+    },
+];
 
-#[test]
-fn vp8_patch_key_index_too_large(rt: HostRuntime) -> Result<(), Fail> {
-    let patch = Vp8Descriptor::parse(&READ)?.patch().key_idx(0x20).build();
-    assert_eq!(rt; patch.err(), Some(Vp8PatchError::KeyIdxTooLarge));
-    Ok(())
-}
-
-#[test]
-fn vp8_patch_id_missing(rt: HostRuntime) -> Result<(), Fail> {
-    for id in [0, 0x20, 0x7fff, 0xffff] {
-        let patch = Vp8Descriptor::parse(&[0x00, 0x90])?
-            .patch()
-            .picture_id(id)
-            .build();
-        assert_eq!(rt; patch.err(), Some(Vp8PatchError::PictureIdMissing));
+fn patch_of(row: &PatchRow) -> Result<Result<Vp8Patch, Vp8PatchError>, Vp8DescriptorError> {
+    let mut builder = Vp8Descriptor::parse(row.payload)?.patch();
+    if let Some(id) = row.picture_id {
+        builder = builder.picture_id(id);
     }
-    Ok(())
+    if let Some(index) = row.tl0_pic_idx {
+        builder = builder.tl0_pic_idx(index);
+    }
+    if let Some(index) = row.key_idx {
+        builder = builder.key_idx(index);
+    }
+    Ok(builder.build())
+}
+
+/// The payload with the bytes of the patch in it.
+fn patched(alloc: Global, patch: &Vp8Patch, payload: &[u8]) -> Result<Vec<u8>, Fail> {
+    let mut copy = vec![in alloc; 0u8; payload.len()]?;
+    if !patch.reaches(payload.len()) {
+        return Err(Fail::from("the payload is too short for its patch"));
+    }
+    patch.copy_to(payload, &mut copy);
+    Ok(copy)
 }
 
 #[test]
-fn vp8_patches_are_refused_in_order(rt: HostRuntime) -> Result<(), Fail> {
-    let short = Vp8Descriptor::parse(&[0x90, 0x80, 0x11, 0x00])?;
-    let all = short.patch().picture_id(0x80).tl0_pic_idx(1).key_idx(1);
-    assert_eq!(rt; all.build().err(), Some(Vp8PatchError::PictureIdTooLarge));
-    let two = short.patch().picture_id(0x7f).tl0_pic_idx(1).key_idx(1);
-    assert_eq!(rt; two.build().err(), Some(Vp8PatchError::Tl0PicIdxMissing));
-    let one = short.patch().picture_id(0x7f).key_idx(0x20);
-    assert_eq!(rt; one.build().err(), Some(Vp8PatchError::KeyIdxMissing));
-    let wide = Vp8Descriptor::parse(&READ)?.patch().picture_id(0x8000);
-    assert_eq!(rt; wide.build().err(), Some(Vp8PatchError::PictureIdTooLarge));
+fn descriptors_are_patched(rt: HostRuntime) -> Result<(), Fail> {
+    let alloc = rt.alloc();
+    for row in &PATCHES {
+        match (patch_of(row).ok().ok_or(row.name)?, &row.wanted) {
+            (Ok(patch), Ok(wanted)) => {
+                let copy = patched(alloc, &patch, row.payload)?;
+                assert_eq!(rt; copy.as_slice(), wanted.as_slice(), "in {}", row.name);
+            }
+            (Err(error), Err(wanted)) => assert_eq!(rt; error, *wanted, "in {}", row.name),
+            (answer, _) => assert!(rt; false, "{}: {answer:?}", row.name),
+        }
+    }
     Ok(())
 }
 
@@ -364,8 +449,8 @@ fn vp8_error_texts(rt: HostRuntime) -> Result<(), Fail> {
 fn vp8_copies_are_equal(rt: HostRuntime) -> Result<(), Fail> {
     let mut sender = Vp8Packetizer::with_picture_id(0x7f);
     let mut copy = sender.clone()?;
-    let sent = spelled(rt.alloc(), &mut sender, 9, &[0x90])?;
-    let again = spelled(rt.alloc(), &mut copy, 9, &[0x90])?;
+    let sent = sender.packetize(rt.alloc(), 9, &[0x90])?;
+    let again = copy.packetize(rt.alloc(), 9, &[0x90])?;
     assert_eq!(rt; sent, again);
     let mut depacketizer = Vp8Depacketizer::default();
     assert_eq!(rt; told(rt.alloc(), &mut depacketizer, &READ)?, Some(0x1234));

@@ -20,6 +20,7 @@ struct Fields {
 
 /// A payload of a keyframe, and what RFC 7741 says of it.
 struct Row {
+    name: &'static str,
     payload: &'static [u8],
     /// The length of its descriptor in bytes.
     descriptor: usize,
@@ -30,8 +31,8 @@ struct Row {
 /// All combinations of X, I, M, L, T and K: in order the bytes X R N S R PID, I L T K, the picture id, TL0PICIDX 0x55, and
 /// TID 2, Y 1, KEYIDX 7; then the first byte of a keyframe.
 const DESCRIPTORS: [Row; 25] = [
-    // X=0: nothing is extended, and the frame follows at once
     Row {
+        name: "X=0",
         payload: &[0x10, 0x00],
         descriptor: 1,
         fields: Some(Fields {
@@ -41,8 +42,8 @@ const DESCRIPTORS: [Row; 25] = [
             key_idx: None,
         }),
     },
-    // X alone
     Row {
+        name: "X alone",
         payload: &[0x90, 0x00, 0x00],
         descriptor: 2,
         fields: Some(Fields {
@@ -52,8 +53,8 @@ const DESCRIPTORS: [Row; 25] = [
             key_idx: None,
         }),
     },
-    // X K
     Row {
+        name: "X K",
         payload: &[0x90, 0x10, 0xa7, 0x00],
         descriptor: 3,
         fields: Some(Fields {
@@ -63,8 +64,8 @@ const DESCRIPTORS: [Row; 25] = [
             key_idx: Some(7),
         }),
     },
-    // X T
     Row {
+        name: "X T",
         payload: &[0x90, 0x20, 0xa7, 0x00],
         descriptor: 3,
         fields: Some(Fields {
@@ -74,8 +75,8 @@ const DESCRIPTORS: [Row; 25] = [
             key_idx: None,
         }),
     },
-    // X T K
     Row {
+        name: "X T K",
         payload: &[0x90, 0x30, 0xa7, 0x00],
         descriptor: 3,
         fields: Some(Fields {
@@ -85,20 +86,20 @@ const DESCRIPTORS: [Row; 25] = [
             key_idx: Some(7),
         }),
     },
-    // X L: TL0PICIDX without a temporal layer
     Row {
+        name: "X L",
         payload: &[0x90, 0x40, 0x55, 0x00],
         descriptor: 3,
         fields: None,
     },
-    // X L K: TL0PICIDX without a temporal layer
     Row {
+        name: "X L K",
         payload: &[0x90, 0x50, 0x55, 0xa7, 0x00],
         descriptor: 4,
         fields: None,
     },
-    // X L T
     Row {
+        name: "X L T",
         payload: &[0x90, 0x60, 0x55, 0xa7, 0x00],
         descriptor: 4,
         fields: Some(Fields {
@@ -108,8 +109,8 @@ const DESCRIPTORS: [Row; 25] = [
             key_idx: None,
         }),
     },
-    // X L T K
     Row {
+        name: "X L T K",
         payload: &[0x90, 0x70, 0x55, 0xa7, 0x00],
         descriptor: 4,
         fields: Some(Fields {
@@ -119,8 +120,8 @@ const DESCRIPTORS: [Row; 25] = [
             key_idx: Some(7),
         }),
     },
-    // X I, an id of 7 bits
     Row {
+        name: "X I, an id of 7 bits",
         payload: &[0x90, 0x80, 0x11, 0x00],
         descriptor: 3,
         fields: Some(Fields {
@@ -130,8 +131,8 @@ const DESCRIPTORS: [Row; 25] = [
             key_idx: None,
         }),
     },
-    // X I, M: an id of 15 bits
     Row {
+        name: "X I, an id of 15 bits",
         payload: &[0x90, 0x80, 0x92, 0x34, 0x00],
         descriptor: 4,
         fields: Some(Fields {
@@ -141,8 +142,8 @@ const DESCRIPTORS: [Row; 25] = [
             key_idx: None,
         }),
     },
-    // X I K, an id of 7 bits
     Row {
+        name: "X I K, an id of 7 bits",
         payload: &[0x90, 0x90, 0x11, 0xa7, 0x00],
         descriptor: 4,
         fields: Some(Fields {
@@ -152,8 +153,8 @@ const DESCRIPTORS: [Row; 25] = [
             key_idx: Some(7),
         }),
     },
-    // X I K, M: an id of 15 bits
     Row {
+        name: "X I K, an id of 15 bits",
         payload: &[0x90, 0x90, 0x92, 0x34, 0xa7, 0x00],
         descriptor: 5,
         fields: Some(Fields {
@@ -163,8 +164,8 @@ const DESCRIPTORS: [Row; 25] = [
             key_idx: Some(7),
         }),
     },
-    // X I T, an id of 7 bits
     Row {
+        name: "X I T, an id of 7 bits",
         payload: &[0x90, 0xa0, 0x11, 0xa7, 0x00],
         descriptor: 4,
         fields: Some(Fields {
@@ -174,8 +175,8 @@ const DESCRIPTORS: [Row; 25] = [
             key_idx: None,
         }),
     },
-    // X I T, M: an id of 15 bits
     Row {
+        name: "X I T, an id of 15 bits",
         payload: &[0x90, 0xa0, 0x92, 0x34, 0xa7, 0x00],
         descriptor: 5,
         fields: Some(Fields {
@@ -185,8 +186,8 @@ const DESCRIPTORS: [Row; 25] = [
             key_idx: None,
         }),
     },
-    // X I T K, an id of 7 bits
     Row {
+        name: "X I T K, an id of 7 bits",
         payload: &[0x90, 0xb0, 0x11, 0xa7, 0x00],
         descriptor: 4,
         fields: Some(Fields {
@@ -196,8 +197,8 @@ const DESCRIPTORS: [Row; 25] = [
             key_idx: Some(7),
         }),
     },
-    // X I T K, M: an id of 15 bits
     Row {
+        name: "X I T K, an id of 15 bits",
         payload: &[0x90, 0xb0, 0x92, 0x34, 0xa7, 0x00],
         descriptor: 5,
         fields: Some(Fields {
@@ -207,32 +208,32 @@ const DESCRIPTORS: [Row; 25] = [
             key_idx: Some(7),
         }),
     },
-    // X I L, an id of 7 bits: TL0PICIDX without a temporal layer
     Row {
+        name: "X I L, an id of 7 bits",
         payload: &[0x90, 0xc0, 0x11, 0x55, 0x00],
         descriptor: 4,
         fields: None,
     },
-    // X I L, M: an id of 15 bits: TL0PICIDX without a temporal layer
     Row {
+        name: "X I L, an id of 15 bits",
         payload: &[0x90, 0xc0, 0x92, 0x34, 0x55, 0x00],
         descriptor: 5,
         fields: None,
     },
-    // X I L K, an id of 7 bits: TL0PICIDX without a temporal layer
     Row {
+        name: "X I L K, an id of 7 bits",
         payload: &[0x90, 0xd0, 0x11, 0x55, 0xa7, 0x00],
         descriptor: 5,
         fields: None,
     },
-    // X I L K, M: an id of 15 bits: TL0PICIDX without a temporal layer
     Row {
+        name: "X I L K, an id of 15 bits",
         payload: &[0x90, 0xd0, 0x92, 0x34, 0x55, 0xa7, 0x00],
         descriptor: 6,
         fields: None,
     },
-    // X I L T, an id of 7 bits
     Row {
+        name: "X I L T, an id of 7 bits",
         payload: &[0x90, 0xe0, 0x11, 0x55, 0xa7, 0x00],
         descriptor: 5,
         fields: Some(Fields {
@@ -242,8 +243,8 @@ const DESCRIPTORS: [Row; 25] = [
             key_idx: None,
         }),
     },
-    // X I L T, M: an id of 15 bits
     Row {
+        name: "X I L T, an id of 15 bits",
         payload: &[0x90, 0xe0, 0x92, 0x34, 0x55, 0xa7, 0x00],
         descriptor: 6,
         fields: Some(Fields {
@@ -253,8 +254,8 @@ const DESCRIPTORS: [Row; 25] = [
             key_idx: None,
         }),
     },
-    // X I L T K, an id of 7 bits
     Row {
+        name: "X I L T K, an id of 7 bits",
         payload: &[0x90, 0xf0, 0x11, 0x55, 0xa7, 0x00],
         descriptor: 5,
         fields: Some(Fields {
@@ -264,8 +265,8 @@ const DESCRIPTORS: [Row; 25] = [
             key_idx: Some(7),
         }),
     },
-    // X I L T K, M: an id of 15 bits
     Row {
+        name: "X I L T K, an id of 15 bits",
         payload: &[0x90, 0xf0, 0x92, 0x34, 0x55, 0xa7, 0x00],
         descriptor: 6,
         fields: Some(Fields {
@@ -280,6 +281,7 @@ const DESCRIPTORS: [Row; 25] = [
 /// A payload of the worked examples.
 #[derive(Drop)]
 struct Worked {
+    name: &'static str,
     payload: &'static [u8],
     /// The length of its descriptor in bytes, whichever fields stand together.
     descriptor: usize,
@@ -291,126 +293,147 @@ struct Worked {
 
 const PAYLOADS: [Worked; 21] = [
     Worked {
+        name: "vp8-mtu-max",
         payload: &[0x10, 0x90, 0x90, 0x90],
         descriptor: 1,
         malformed: false,
         keyframe: true,
     },
     Worked {
+        name: "vp8-nothing-follows-fault",
         payload: &[0x00],
         descriptor: 1,
         malformed: false,
         keyframe: false,
     },
     Worked {
+        name: "vp8-l-without-t-fault",
         payload: &[0x80, 0x40, 0x00, 0x00],
         descriptor: 3,
         malformed: true,
         keyframe: false,
     },
     Worked {
+        name: "vp8-id-two-frames, first packet",
         payload: &[0x90, 0x80, 0x20, 0x90, 0x90],
         descriptor: 3,
         malformed: false,
         keyframe: true,
     },
     Worked {
+        name: "vp8-id-two-frames, second packet",
         payload: &[0x80, 0x80, 0x20, 0x90],
         descriptor: 3,
         malformed: false,
         keyframe: false,
     },
     Worked {
+        name: "vp8-id-two-frames, third packet",
         payload: &[0x90, 0x80, 0x21, 0x91, 0x91],
         descriptor: 3,
         malformed: false,
         keyframe: false,
     },
     Worked {
+        name: "vp8-id-widens-at-128, first packet",
         payload: &[0x90, 0x80, 0x7f, 0x90, 0x90],
         descriptor: 3,
         malformed: false,
         keyframe: true,
     },
     Worked {
+        name: "vp8-id-widens-at-128, second packet",
         payload: &[0x90, 0x80, 0x80, 0x80, 0x91],
         descriptor: 4,
         malformed: false,
         keyframe: false,
     },
     Worked {
+        name: "vp8-id-wrap-15, first packet",
         payload: &[0x90, 0x80, 0xff, 0xff, 0x90],
         descriptor: 4,
         malformed: false,
         keyframe: true,
     },
     Worked {
+        name: "vp8-id-wrap-15, second packet",
         payload: &[0x90, 0x80, 0x00, 0x90],
         descriptor: 3,
         malformed: false,
         keyframe: true,
     },
     Worked {
+        name: "vp8-id-two-bytes, first packet",
         payload: &[0x90, 0x80, 0x81, 0x20, 0x90, 0x90],
         descriptor: 4,
         malformed: false,
         keyframe: true,
     },
     Worked {
+        name: "vp8-id-two-bytes, second packet",
         payload: &[0x80, 0x80, 0x81, 0x20, 0x90],
         descriptor: 4,
         malformed: false,
         keyframe: false,
     },
     Worked {
+        name: "vp8-descriptor-read",
         payload: &[0x90, 0xf0, 0x92, 0x34, 0x55, 0xa7, 0x00],
         descriptor: 6,
         malformed: false,
         keyframe: true,
     },
     Worked {
+        name: "vp8-patch-and-back",
         payload: &[0x90, 0xf0, 0x82, 0x34, 0xab, 0xbf, 0x00],
         descriptor: 6,
         malformed: false,
         keyframe: true,
     },
     Worked {
+        name: "vp8-patch-id-missing",
         payload: &[0x00, 0x90],
         descriptor: 1,
         malformed: false,
         keyframe: false,
     },
     Worked {
+        name: "vp8-malformed-yet-keyframe",
         payload: &[0x90, 0x40, 0x01, 0x00],
         descriptor: 3,
         malformed: true,
         keyframe: true,
     },
     Worked {
+        name: "vp8-fields-read-so-far",
         payload: &[0x90, 0xff, 0xff, 0xff],
         descriptor: 6,
         malformed: false,
         keyframe: false,
     },
     Worked {
+        name: "vp8-extended-id-wraps-64",
         payload: &[0x90, 0x80, 0x80, 0x00, 0x01],
         descriptor: 4,
         malformed: false,
         keyframe: false,
     },
     Worked {
+        name: "vp8-older-id-passed-over, first packet",
         payload: &[0x90, 0xe0, 0x0a, 0x05, 0x00, 0x01],
         descriptor: 5,
         malformed: false,
         keyframe: false,
     },
     Worked {
+        name: "vp8-older-id-passed-over, second packet",
         payload: &[0x90, 0xe0, 0x09, 0x05, 0x00, 0x01],
         descriptor: 5,
         malformed: false,
         keyframe: false,
     },
     Worked {
+        name: "vp8-older-id-passed-over, third packet",
         payload: &[0x90, 0xe0, 0x0b, 0x06, 0x00, 0x01],
         descriptor: 5,
         malformed: false,
@@ -427,20 +450,20 @@ fn refused(payload: &[u8]) -> Option<Vp8DescriptorError> {
 fn taken(
     rt: &impl Abort,
     alloc: Global,
-    depacketizer: &mut Vp8Depacketizer,
+    name: &str,
     payload: &[u8],
     rest: &[u8],
 ) -> Result<Option<PacketError>, Fail> {
     let mut out = Vec::from_slice(alloc, &[7])?;
     let mut extra = CodecExtra::None;
-    match depacketizer.depacketize(payload, &mut out, &mut extra) {
+    match Vp8Depacketizer::default().depacketize(payload, &mut out, &mut extra) {
         Ok(()) => {
-            assert_eq!(rt; out.get(1..), Some(rest));
+            assert_eq!(rt; out.get(1..), Some(rest), "in {name}");
             Ok(None)
         }
         Err(fault) => {
-            assert_eq!(rt; out.as_slice(), [7u8].as_slice());
-            assert_eq!(rt; extra, CodecExtra::None);
+            assert_eq!(rt; out.as_slice(), [7u8].as_slice(), "in {name}");
+            assert_eq!(rt; extra, CodecExtra::None, "in {name}");
             Ok(Some(fault))
         }
     }
@@ -466,41 +489,80 @@ fn fault_of(error: Vp8DescriptorError) -> PacketError {
 
 /// Every beginning of a payload through `parse`, the depacketizer and the detector.
 fn cut_off(rt: &impl Abort, alloc: Global, worked: &Worked) -> Result<(), Fail> {
-    for len in 0..worked.payload.len() {
+    for len in 0..=worked.payload.len() {
         let (beginning, _) = worked.payload.split_at(len);
         cut(rt, alloc, beginning, worked)?;
-    }
-    cut(rt, alloc, worked.payload, worked)
-}
-
-fn cut(rt: &impl Abort, alloc: Global, payload: &[u8], worked: &Worked) -> Result<(), Fail> {
-    let wanted = expected(payload.len(), worked.descriptor, worked.malformed);
-    assert_eq!(rt; refused(payload), wanted);
-    let rest = payload.get(worked.descriptor..).unwrap_or(&[]);
-    let fault = taken(rt, alloc, &mut Vp8Depacketizer::default(), payload, rest)?;
-    assert_eq!(rt; fault, wanted.map(fault_of));
-    let keyframe = worked.keyframe && worked.descriptor < payload.len();
-    assert_eq!(rt; detect_vp8_keyframe(payload), keyframe);
-    if let Ok(descriptor) = Vp8Descriptor::parse(payload) {
-        assert_eq!(rt; descriptor.starts_keyframe(payload), keyframe);
     }
     Ok(())
 }
 
-/// The fields of a descriptor, as `parse` and the depacketizer tell them.
-fn told(rt: &impl Abort, alloc: Global, payload: &[u8], fields: &Fields) -> Result<(), Fail> {
-    let descriptor = Vp8Descriptor::parse(payload)?;
-    assert_eq!(rt; descriptor.picture_id(), fields.picture_id);
-    assert_eq!(rt; descriptor.tl0_pic_idx(), fields.tl0_pic_idx);
-    assert_eq!(rt; descriptor.key_idx(), fields.key_idx);
+fn cut(rt: &impl Abort, alloc: Global, payload: &[u8], worked: &Worked) -> Result<(), Fail> {
+    let name = worked.name;
+    let wanted = expected(payload.len(), worked.descriptor, worked.malformed);
+    assert_eq!(rt; refused(payload), wanted, "in {name}");
+    let rest = payload.get(worked.descriptor..).unwrap_or(&[]);
+    let fault = taken(rt, alloc, name, payload, rest)?;
+    assert_eq!(rt; fault, wanted.map(fault_of), "in {name}");
+    let keyframe = worked.keyframe && worked.descriptor < payload.len();
+    assert_eq!(rt; detect_vp8_keyframe(payload), keyframe, "in {name}");
+    if let Ok(descriptor) = Vp8Descriptor::parse(payload) {
+        assert_eq!(rt; descriptor.starts_keyframe(payload), keyframe, "in {name}");
+    }
+    Ok(())
+}
+
+/// The fields of a descriptor, as `parse` tells them.
+fn parsed(rt: &impl Abort, row: &Row, fields: &Fields) -> Result<(), Fail> {
+    let descriptor = Vp8Descriptor::parse(row.payload).ok().ok_or(row.name)?;
+    assert_eq!(rt;
+        descriptor.picture_id(),
+        fields.picture_id,
+        "in {}",
+        row.name
+    );
+    assert_eq!(rt;
+        descriptor.tl0_pic_idx(),
+        fields.tl0_pic_idx,
+        "in {}",
+        row.name
+    );
+    assert_eq!(rt; descriptor.key_idx(), fields.key_idx, "in {}", row.name);
+    Ok(())
+}
+
+/// The fields of a descriptor, as the depacketizer tells them.
+fn told(rt: &impl Abort, alloc: Global, row: &Row, fields: &Fields) {
+    let name = row.name;
     let mut depacketizer = Vp8Depacketizer::default();
     let mut out = Vec::new(alloc);
     let mut extra = CodecExtra::None;
-    depacketizer.depacketize(payload, &mut out, &mut extra)?;
-    assert_eq!(rt; depacketizer.i, u8::from(fields.picture_id.is_some()));
-    assert_eq!(rt; depacketizer.l, u8::from(fields.tl0_pic_idx.is_some()));
-    assert_eq!(rt; depacketizer.t, u8::from(fields.temporal.is_some()));
-    assert_eq!(rt; depacketizer.k, u8::from(fields.key_idx.is_some()));
+    let answer = depacketizer.depacketize(row.payload, &mut out, &mut extra);
+    assert_eq!(rt; answer, Ok(()), "in {name}");
+    assert_eq!(rt;
+        depacketizer.i,
+        u8::from(fields.picture_id.is_some()),
+        "in {name}"
+    );
+    assert_eq!(rt;
+        depacketizer.l,
+        u8::from(fields.tl0_pic_idx.is_some()),
+        "in {name}"
+    );
+    assert_eq!(rt;
+        depacketizer.t,
+        u8::from(fields.temporal.is_some()),
+        "in {name}"
+    );
+    assert_eq!(rt;
+        depacketizer.k,
+        u8::from(fields.key_idx.is_some()),
+        "in {name}"
+    );
+    assert_eq!(rt;
+        depacketizer.key_idx,
+        fields.key_idx.unwrap_or(0),
+        "in {name}"
+    );
     let (tid, y) = fields.temporal.unwrap_or((0, false));
     let told = Vp8CodecExtra {
         discardable: false,
@@ -510,9 +572,7 @@ fn told(rt: &impl Abort, alloc: Global, payload: &[u8], fields: &Fields) -> Resu
         tl0_picture_id: fields.tl0_pic_idx.map(|index| u64::from(index)),
         is_keyframe: true,
     };
-    assert_eq!(rt; extra, CodecExtra::Vp8(told));
-    assert_eq!(rt; depacketizer.key_idx, fields.key_idx.unwrap_or(0));
-    Ok(())
+    assert_eq!(rt; extra, CodecExtra::Vp8(told), "in {name}");
 }
 
 #[test]
@@ -527,21 +587,16 @@ fn every_beginning_of_the_worked_payloads(rt: HostRuntime) -> Result<(), Fail> {
 fn every_descriptor_cut_off_at_each_byte(rt: HostRuntime) -> Result<(), Fail> {
     for row in &DESCRIPTORS {
         let worked = Worked {
+            name: row.name,
             payload: row.payload,
             descriptor: row.descriptor,
             malformed: row.fields.is_none(),
             keyframe: true,
         };
         cut_off(&rt, rt.alloc(), &worked)?;
-    }
-    Ok(())
-}
-
-#[test]
-fn every_field_of_every_descriptor(rt: HostRuntime) -> Result<(), Fail> {
-    for row in &DESCRIPTORS {
         if let Some(fields) = &row.fields {
-            told(&rt, rt.alloc(), row.payload, fields)?;
+            parsed(&rt, row, fields)?;
+            told(&rt, rt.alloc(), row, fields);
         }
     }
     Ok(())

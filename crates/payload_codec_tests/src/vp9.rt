@@ -1,5 +1,6 @@
 //! The worked examples, and copies.
 
+use crate::tables::{Frame, assert_frames, assert_received};
 use codec_payload_base::error::PacketError;
 use codec_payload_base::interface::{CodecExtra, Depacketizer, Packetizer};
 use codec_payload_vp9::vp9::{
@@ -10,117 +11,141 @@ use std::alloc::Global;
 use std::process::Abort;
 use std::test::Fail;
 
-/// The payloads of a frame, one after another, each behind its length.
-fn spelled(
-    alloc: Global,
-    packetizer: &mut Vp9Packetizer,
-    mtu: usize,
-    frame: &[u8],
-) -> Result<Vec<u8>, Fail> {
-    let mut all = Vec::new(alloc);
-    for payload in packetizer.packetize(alloc, mtu, frame)? {
-        all.push((payload.len() % 256) as u8)?;
-        all.extend_from_slice(&payload)?;
+/// Frames that one packetizer is given one after another.
+struct SentRow {
+    name: &'static str,
+    mode: Vp9PacketizerMode,
+    first_id: u16,
+    frames: &'static [Frame],
+}
+
+const SENT: [SentRow; 6] = [
+    SentRow {
+        name: "vp9-nonflex-two-packets",
+        mode: Vp9PacketizerMode::NonFlexible,
+        first_id: 0x1234,
+        frames: &[Frame {
+            mtu: 10,
+            bytes: &[0x82, 0x49, 0x83],
+            packets: Ok(&[
+                &[0xaa, 0x92, 0x34, 0x10, 0x01, 0x00, 0x82, 0x49],
+                &[0xa4, 0x92, 0x34, 0x10, 0x01, 0x83],
+            ]),
+        }],
+    },
+    SentRow {
+        name: "vp9-nonflex-mtu-8-skips",
+        mode: Vp9PacketizerMode::NonFlexible,
+        first_id: 0x1234,
+        frames: &[
+            Frame {
+                mtu: 8,
+                bytes: &[0x82, 0x49, 0x83],
+                packets: Ok(&[]),
+            },
+            Frame {
+                mtu: 10,
+                bytes: &[0x82, 0x49, 0x83],
+                packets: Ok(&[
+                    &[0xaa, 0x92, 0x34, 0x10, 0x02, 0x00, 0x82, 0x49],
+                    &[0xa4, 0x92, 0x34, 0x10, 0x02, 0x83],
+                ]),
+            },
+        ],
+    },
+    SentRow {
+        name: "vp9-flex-two-packets",
+        mode: Vp9PacketizerMode::Flexible,
+        first_id: 0x1234,
+        frames: &[Frame {
+            mtu: 5,
+            bytes: &[0x82, 0x49, 0x83],
+            packets: Ok(&[&[0x98, 0x92, 0x34, 0x82, 0x49], &[0x94, 0x92, 0x34, 0x83]]),
+        }],
+    },
+    SentRow {
+        name: "vp9-skipped-frame",
+        mode: Vp9PacketizerMode::NonFlexible,
+        first_id: 0,
+        frames: &[
+            Frame {
+                mtu: 1_200,
+                bytes: &[0x82, 0x49, 0x83],
+                packets: Ok(&[&[0xae, 0x80, 0x00, 0x10, 0x01, 0x00, 0x82, 0x49, 0x83]]),
+            },
+            Frame {
+                mtu: 8,
+                bytes: &[0x86, 0x00],
+                packets: Ok(&[]),
+            },
+            Frame {
+                mtu: 1_200,
+                bytes: &[0x86, 0x00],
+                packets: Ok(&[&[0xec, 0x80, 0x01, 0x10, 0x03, 0x86, 0x00]]),
+            },
+        ],
+    },
+    SentRow {
+        name: "vp9-profile-2-keyframe",
+        mode: Vp9PacketizerMode::NonFlexible,
+        first_id: 0,
+        frames: &[Frame {
+            mtu: 1_200,
+            bytes: &[0x92, 0x49, 0x83, 0x42, 0x00],
+            packets: Ok(&[&[
+                0xae, 0x80, 0x00, 0x10, 0x01, 0x00, 0x92, 0x49, 0x83, 0x42, 0x00,
+            ]]),
+        }],
+    },
+    SentRow {
+        name: "vp9-profile-2-keyframe, no keyframe",
+        mode: Vp9PacketizerMode::NonFlexible,
+        first_id: 0,
+        frames: &[Frame {
+            mtu: 1_200,
+            bytes: &[0x96, 0x49, 0x83, 0x42, 0x00],
+            packets: Ok(&[&[0xec, 0x80, 0x00, 0x10, 0x01, 0x96, 0x49, 0x83, 0x42, 0x00]]),
+        }],
+    },
+];
+
+#[test]
+fn frames_are_sent(rt: HostRuntime) {
+    let alloc = rt.alloc();
+    for row in &SENT {
+        assert!(rt; row.first_id < 0x8000);
+        let mut packetizer = Vp9Packetizer::with_mode(row.mode, row.first_id);
+        assert_frames(&rt, alloc, row.name, &mut packetizer, row.frames);
     }
-    Ok(all)
 }
+
+/// Payloads that are refused, each by its name and with its fault.
+const REFUSED: [(&str, &[u8], PacketError); 4] = [
+    ("vp9-empty-fault", &[], PacketError::ErrShortPacket),
+    (
+        "vp9-fourth-p-diff-fault",
+        &[0x50, 0x03, 0x03, 0x03],
+        PacketError::ErrTooManyPDiff,
+    ),
+    (
+        "vp9-spatial-layer-3-fault",
+        &[0x20, 0x06],
+        PacketError::ErrTooManySpatialLayers,
+    ),
+    (
+        "vp9-four-layers-fault",
+        &[0x02, 0x60],
+        PacketError::ErrVP9CorruptedPacket,
+    ),
+];
 
 #[test]
-fn vp9_nonflex_two_packets(rt: HostRuntime) -> Result<(), Fail> {
-    let mut packetizer = Vp9Packetizer::with_mode(Vp9PacketizerMode::NonFlexible, 0x1234);
-    let sent_0 = spelled(rt.alloc(), &mut packetizer, 10, &[0x82, 0x49, 0x83])?;
-    assert_eq!(rt;
-        sent_0.as_slice(),
-        [
-            8u8, 0xaa, 0x92, 0x34, 0x10, 0x01, 0x00, 0x82, 0x49, 6, 0xa4, 0x92, 0x34, 0x10, 0x01,
-            0x83
-        ]
-        .as_slice()
-    );
-    Ok(())
-}
-
-#[test]
-fn vp9_nonflex_mtu_8_skips(rt: HostRuntime) -> Result<(), Fail> {
-    let mut packetizer = Vp9Packetizer::with_mode(Vp9PacketizerMode::NonFlexible, 0x1234);
-    let sent_0 = spelled(rt.alloc(), &mut packetizer, 8, &[0x82, 0x49, 0x83])?;
-    assert_eq!(rt; sent_0.as_slice(), [].as_slice());
-    let sent_1 = spelled(rt.alloc(), &mut packetizer, 10, &[0x82, 0x49, 0x83])?;
-    assert_eq!(rt;
-        sent_1.as_slice(),
-        [
-            8u8, 0xaa, 0x92, 0x34, 0x10, 0x02, 0x00, 0x82, 0x49, 6, 0xa4, 0x92, 0x34, 0x10, 0x02,
-            0x83
-        ]
-        .as_slice()
-    );
-    Ok(())
-}
-
-#[test]
-fn vp9_flex_two_packets(rt: HostRuntime) -> Result<(), Fail> {
-    let mut packetizer = Vp9Packetizer::with_mode(Vp9PacketizerMode::Flexible, 0x1234);
-    let sent_0 = spelled(rt.alloc(), &mut packetizer, 5, &[0x82, 0x49, 0x83])?;
-    assert_eq!(rt;
-        sent_0.as_slice(),
-        [5u8, 0x98, 0x92, 0x34, 0x82, 0x49, 4, 0x94, 0x92, 0x34, 0x83].as_slice()
-    );
-    Ok(())
-}
-
-#[test]
-fn vp9_skipped_frame(rt: HostRuntime) -> Result<(), Fail> {
-    let mut packetizer = Vp9Packetizer::default();
-    let sent_0 = spelled(rt.alloc(), &mut packetizer, 1200, &[0x82, 0x49, 0x83])?;
-    assert_eq!(rt;
-        sent_0.as_slice(),
-        [9u8, 0xae, 0x80, 0x00, 0x10, 0x01, 0x00, 0x82, 0x49, 0x83].as_slice()
-    );
-    let sent_1 = spelled(rt.alloc(), &mut packetizer, 8, &[0x86, 0x00])?;
-    assert_eq!(rt; sent_1.as_slice(), [].as_slice());
-    let sent_2 = spelled(rt.alloc(), &mut packetizer, 1200, &[0x86, 0x00])?;
-    assert_eq!(rt;
-        sent_2.as_slice(),
-        [7u8, 0xec, 0x80, 0x01, 0x10, 0x03, 0x86, 0x00].as_slice()
-    );
-    Ok(())
-}
-
-/// The answer to a payload, with `out` and the extra as they were before.
-fn refused(rt: &impl Abort, alloc: Global, payload: &[u8]) -> Result<Option<PacketError>, Fail> {
-    let mut out = Vec::from_slice(alloc, &[7])?;
-    let mut extra = CodecExtra::None;
-    let answer = Vp9Depacketizer::new(alloc).depacketize(payload, &mut out, &mut extra);
-    assert_eq!(rt; out.as_slice(), [7u8].as_slice());
-    assert_eq!(rt; extra, CodecExtra::None);
-    Ok(answer.err())
-}
-
-#[test]
-fn vp9_empty_fault(rt: HostRuntime) -> Result<(), Fail> {
-    let fault = refused(&rt, rt.alloc(), &[])?;
-    assert_eq!(rt; fault, Some(PacketError::ErrShortPacket));
-    Ok(())
-}
-
-#[test]
-fn vp9_fourth_p_diff_fault(rt: HostRuntime) -> Result<(), Fail> {
-    let fault = refused(&rt, rt.alloc(), &[0x50, 0x03, 0x03, 0x03])?;
-    assert_eq!(rt; fault, Some(PacketError::ErrTooManyPDiff));
-    Ok(())
-}
-
-#[test]
-fn vp9_spatial_layer_3_fault(rt: HostRuntime) -> Result<(), Fail> {
-    let fault = refused(&rt, rt.alloc(), &[0x20, 0x06])?;
-    assert_eq!(rt; fault, Some(PacketError::ErrTooManySpatialLayers));
-    Ok(())
-}
-
-#[test]
-fn vp9_four_layers_fault(rt: HostRuntime) -> Result<(), Fail> {
-    let fault = refused(&rt, rt.alloc(), &[0x02, 0x60])?;
-    assert_eq!(rt; fault, Some(PacketError::ErrVP9CorruptedPacket));
+fn payloads_are_refused(rt: HostRuntime) -> Result<(), Fail> {
+    let alloc = rt.alloc();
+    for (name, payload, fault) in REFUSED {
+        let mut depacketizer = Vp9Depacketizer::new(alloc);
+        assert_received(&rt, alloc, name, &mut depacketizer, payload, &Err(fault))?;
+    }
     Ok(())
 }
 
@@ -174,24 +199,8 @@ fn comes_back_as_keyframe(rt: &impl Abort, alloc: Global, frame: &[u8]) -> Resul
 #[test]
 fn vp9_profile_2_keyframe(rt: HostRuntime) -> Result<(), Fail> {
     let key = [0x92, 0x49, 0x83, 0x42, 0x00];
-    let sent = spelled(rt.alloc(), &mut Vp9Packetizer::default(), 1_200, &key)?;
-    assert_eq!(rt;
-        sent.as_slice(),
-        [
-            11u8, 0xae, 0x80, 0x00, 0x10, 0x01, 0x00, 0x92, 0x49, 0x83, 0x42, 0x00
-        ]
-        .as_slice()
-    );
     assert!(rt; comes_back_as_keyframe(&rt, rt.alloc(), &key)?);
     let inter = [0x96, 0x49, 0x83, 0x42, 0x00];
-    let sent = spelled(rt.alloc(), &mut Vp9Packetizer::default(), 1_200, &inter)?;
-    assert_eq!(rt;
-        sent.as_slice(),
-        [
-            10u8, 0xec, 0x80, 0x00, 0x10, 0x01, 0x96, 0x49, 0x83, 0x42, 0x00
-        ]
-        .as_slice()
-    );
     assert!(rt; !comes_back_as_keyframe(&rt, rt.alloc(), &inter)?);
     Ok(())
 }
@@ -200,12 +209,12 @@ fn vp9_profile_2_keyframe(rt: HostRuntime) -> Result<(), Fail> {
 #[test]
 fn vp9_keyframes_of_each_profile(rt: HostRuntime) {
     for byte in [0x80, 0x83, 0x90, 0x92, 0xa0, 0xa2, 0xb0, 0xb1] {
-        assert!(rt; detect_vp9_keyframe_bitstream(&[byte]));
+        assert!(rt; detect_vp9_keyframe_bitstream(&[byte]), "of {byte}");
     }
     for byte in [
         0x84, 0x88, 0x94, 0x98, 0xa4, 0xa8, 0xb2, 0xb4, 0x00, 0x42, 0xc0, 0xff,
     ] {
-        assert!(rt; !detect_vp9_keyframe_bitstream(&[byte]));
+        assert!(rt; !detect_vp9_keyframe_bitstream(&[byte]), "of {byte}");
     }
     assert!(rt; !detect_vp9_keyframe_bitstream(&[]));
     assert!(rt; detect_vp9_keyframe(&[0x8c, 0x00]));
@@ -217,8 +226,8 @@ fn vp9_keyframes_of_each_profile(rt: HostRuntime) {
 fn vp9_copies_are_equal(rt: HostRuntime) -> Result<(), Fail> {
     let mut sender = Vp9Packetizer::with_mode(Vp9PacketizerMode::Flexible, 0x7fff);
     let mut copy = sender.clone()?;
-    let sent = spelled(rt.alloc(), &mut sender, 9, &[0x82])?;
-    let again = spelled(rt.alloc(), &mut copy, 9, &[0x82])?;
+    let sent = sender.packetize(rt.alloc(), 9, &[0x82])?;
+    let again = copy.packetize(rt.alloc(), 9, &[0x82])?;
     assert_eq!(rt; sent, again);
     let mut out = Vec::new(rt.alloc());
     let mut extra = CodecExtra::None;

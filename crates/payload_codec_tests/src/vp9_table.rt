@@ -413,72 +413,110 @@ fn told(layout: &Layout, begins: bool, end: usize) -> Vp9CodecExtra {
     }
 }
 
-/// The fields after a payload that was taken.
-fn has_fields(rt: &impl Abort, depacketizer: &Vp9Depacketizer, layout: &Layout) {
-    assert_eq!(rt; depacketizer.i, layout.picture_id.is_some());
-    assert_eq!(rt; depacketizer.picture_id, layout.picture_id.unwrap_or(0));
-    assert_eq!(rt; depacketizer.sid, u8::from(layout.layer));
-    assert_eq!(rt; depacketizer.u, layout.layer);
-    assert_eq!(rt; depacketizer.d, layout.layer);
-    assert_eq!(rt; depacketizer.tl0picidx, layout.tl0picidx.unwrap_or(0));
-    assert_eq!(rt; depacketizer.pdiff, layout.differences);
-    assert_eq!(rt; depacketizer.ns, u8::from(layout.structure));
-    if layout.structure {
-        assert_eq!(rt; depacketizer.ng, 2);
-        assert_eq!(rt; depacketizer.pgtid.as_slice(), [0u8, 2].as_slice());
-        assert_eq!(rt; depacketizer.pgu.as_slice(), [false, true].as_slice());
-        assert_eq!(rt; depacketizer.pgpdiff.len(), 2);
-        assert_eq!(rt; depacketizer.pgpdiff[0].as_slice(), [1u8].as_slice());
-        assert_eq!(rt; depacketizer.pgpdiff[1].len(), 0);
+/// The fields after a payload under these flags that was taken.
+fn has_fields(rt: &impl Abort, depacketizer: &Vp9Depacketizer, layout: &Layout, flags: u8) {
+    assert_eq!(rt;
+        depacketizer.i,
+        layout.picture_id.is_some(),
+        "under {flags}"
+    );
+    assert_eq!(rt;
+        depacketizer.picture_id,
+        layout.picture_id.unwrap_or(0),
+        "under {flags}"
+    );
+    assert_eq!(rt; depacketizer.sid, u8::from(layout.layer), "under {flags}");
+    assert_eq!(rt; depacketizer.u, layout.layer, "under {flags}");
+    assert_eq!(rt; depacketizer.d, layout.layer, "under {flags}");
+    assert_eq!(rt;
+        depacketizer.tl0picidx,
+        layout.tl0picidx.unwrap_or(0),
+        "under {flags}"
+    );
+    assert_eq!(rt; depacketizer.pdiff, layout.differences, "under {flags}");
+    assert_eq!(rt;
+        depacketizer.ns,
+        u8::from(layout.structure),
+        "under {flags}"
+    );
+}
+
+/// The groups of pictures after a payload under these flags that was taken.
+fn has_groups(rt: &impl Abort, depacketizer: &Vp9Depacketizer, structure: bool, flags: u8) {
+    if structure {
+        assert_eq!(rt; depacketizer.ng, 2, "under {flags}");
+        assert_eq!(rt;
+            depacketizer.pgtid.as_slice(),
+            [0u8, 2].as_slice(),
+            "under {flags}"
+        );
+        assert_eq!(rt;
+            depacketizer.pgu.as_slice(),
+            [false, true].as_slice(),
+            "under {flags}"
+        );
+        assert_eq!(rt; depacketizer.pgpdiff.len(), 2, "under {flags}");
+        assert_eq!(rt;
+            depacketizer.pgpdiff[0].as_slice(),
+            [1u8].as_slice(),
+            "under {flags}"
+        );
+        assert_eq!(rt; depacketizer.pgpdiff[1].len(), 0, "under {flags}");
     } else {
-        assert_eq!(rt; depacketizer.pgtid.len(), 0);
+        assert_eq!(rt; depacketizer.pgtid.len(), 0, "under {flags}");
     }
 }
 
-/// A payload, or a beginning of one: too short within the descriptor, and else taken.
+/// A payload under these flags, or a beginning of one: too short within the descriptor, and else taken.
 fn cut(
     rt: &impl Abort,
     alloc: Global,
     payload: &[u8],
     layout: &Layout,
-    begins: bool,
+    flags: u8,
 ) -> Result<(), Fail> {
     let mut out = Vec::from_slice(alloc, &[7])?;
     let mut extra = CodecExtra::None;
     let mut depacketizer = Vp9Depacketizer::new(alloc);
     let answer = depacketizer.depacketize(payload, &mut out, &mut extra);
     if payload.len() <= layout.tail.len() {
-        assert_eq!(rt; answer, Err(PacketError::ErrShortPacket));
-        assert_eq!(rt; out.as_slice(), [7u8].as_slice());
-        assert_eq!(rt; extra, CodecExtra::None);
+        assert_eq!(rt; answer, Err(PacketError::ErrShortPacket), "under {flags}");
+        assert_eq!(rt; out.as_slice(), [7u8].as_slice(), "under {flags}");
+        assert_eq!(rt; extra, CodecExtra::None, "under {flags}");
     } else {
-        assert_eq!(rt; answer, Ok(()));
-        assert_eq!(rt; out.get(1..), payload.get(layout.tail.len() + 1..));
-        assert_eq!(rt; extra, CodecExtra::Vp9(told(layout, begins, out.len())));
-        has_fields(rt, &depacketizer, layout);
+        assert_eq!(rt; answer, Ok(()), "under {flags}");
+        assert_eq!(rt;
+            out.get(1..),
+            payload.get(layout.tail.len() + 1..),
+            "under {flags}"
+        );
+        let told = told(layout, flags & 0x08 != 0, out.len());
+        assert_eq!(rt; extra, CodecExtra::Vp9(told), "under {flags}");
+        has_fields(rt, &depacketizer, layout, flags);
+        has_groups(rt, &depacketizer, layout.structure, flags);
     }
     let refers = !payload.is_empty() && layout.flags & 0x40 == 0;
-    assert_eq!(rt; detect_vp9_keyframe(payload), refers);
+    assert_eq!(rt; detect_vp9_keyframe(payload), refers, "under {flags}");
     Ok(())
 }
 
 /// A payload under these flags through each of its beginnings.
-fn cut_off(rt: &impl Abort, alloc: Global, layout: &Layout, bez: u8) -> Result<(), Fail> {
-    let mut payload = Vec::from_slice(alloc, &[layout.flags | bez])?;
+fn cut_off(rt: &impl Abort, alloc: Global, layout: &Layout, flags: u8) -> Result<(), Fail> {
+    let mut payload = Vec::from_slice(alloc, &[flags])?;
     payload.extend_from_slice(layout.tail)?;
     payload.extend_from_slice(&[0xaa, 0xbb])?;
-    for len in 0..payload.len() {
+    for len in 0..=payload.len() {
         let (beginning, _) = payload.split_at(len);
-        cut(rt, alloc, beginning, layout, bez & 0x08 != 0)?;
+        cut(rt, alloc, beginning, layout, flags)?;
     }
-    cut(rt, alloc, &payload, layout, bez & 0x08 != 0)
+    Ok(())
 }
 
 #[test]
 fn every_flag_byte_cut_off_at_each_byte(rt: HostRuntime) -> Result<(), Fail> {
     for layout in &LAYOUTS {
         for bez in [0x00, 0x01, 0x04, 0x05, 0x08, 0x09, 0x0c, 0x0d] {
-            cut_off(&rt, rt.alloc(), layout, bez)?;
+            cut_off(&rt, rt.alloc(), layout, layout.flags | bez)?;
         }
     }
     Ok(())
