@@ -143,6 +143,7 @@ pub fn put_if_any(out: &mut Vec<u8>, bytes: &[u8]) -> Result<(), AllocError>
 
 /// Writes at the end what stands before the payload in the canonical form of an OBU: the header with the size bit set, the
 /// extension byte where there is one, and the size in as few bytes as it takes.
+#[inline(always)]
 #[tactic(auto, using(crate::proofs::Av1FrontKept::kept_more, crate::proofs::Av1FrontKept::kept_same, crate::proofs::Av1FrontKept::kept_trans))]
 pub fn put_front(
     out: &mut Vec<u8>,
