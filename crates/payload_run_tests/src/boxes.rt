@@ -231,41 +231,32 @@ fn box_run_two_units(rt: HostRuntime) -> Result<(), Fail> {
     Ok(())
 }
 
+/// A box that refuses both of two packets, where each is told to begin a unit, and one that never comes to read, since none
+/// begins one: with how many faults there are, and how many packets are then held.
 #[test]
 fn box_refuses_everything(rt: HostRuntime) -> Result<(), Fail> {
     let alloc = rt.alloc();
-    let each_packet = EachPacket {
-        heads: true,
-        refuses: true,
-    };
-    let each_packet = BoxedDepacketizer(Box::new(alloc, each_packet)?);
-    let mut buffer = DepacketizingBuffer::new(alloc, CodecDepacketizer::Boxed(each_packet), 0);
-    buffer.push(meta(1), Vec::from_slice(alloc, &[1])?)?;
-    buffer.push(meta(2), Vec::from_slice(alloc, &[2])?)?;
-    for _ in 0..2 {
-        match buffer.pop() {
-            Some(Err(fault)) => assert_eq!(rt; fault.number(), 11),
-            _ => return Err("no fault".into()),
+    for (name, heads, faults, held) in [
+        ("box-refuses-everything", true, 2, 0),
+        ("box-heads-all-false", false, 0, 2),
+    ] {
+        let each_packet = EachPacket {
+            heads,
+            refuses: true,
+        };
+        let each_packet = BoxedDepacketizer(Box::new(alloc, each_packet)?);
+        let mut buffer = DepacketizingBuffer::new(alloc, CodecDepacketizer::Boxed(each_packet), 0);
+        buffer.push(meta(1), Vec::from_slice(alloc, &[1])?)?;
+        buffer.push(meta(2), Vec::from_slice(alloc, &[2])?)?;
+        for _ in 0..faults {
+            match buffer.pop() {
+                Some(Err(fault)) => assert_eq!(rt; fault.number(), 11, "in {name}"),
+                _ => return Err(name.into()),
+            }
         }
+        assert!(rt; buffer.pop().is_none(), "in {name}");
+        assert_eq!(rt; buffer.held(), held, "in {name}");
     }
-    assert!(rt; buffer.pop().is_none());
-    assert_eq!(rt; buffer.held(), 0);
-    Ok(())
-}
-
-#[test]
-fn box_heads_all_false(rt: HostRuntime) -> Result<(), Fail> {
-    let alloc = rt.alloc();
-    let each_packet = EachPacket {
-        heads: false,
-        refuses: true,
-    };
-    let each_packet = BoxedDepacketizer(Box::new(alloc, each_packet)?);
-    let mut buffer = DepacketizingBuffer::new(alloc, CodecDepacketizer::Boxed(each_packet), 0);
-    buffer.push(meta(1), Vec::from_slice(alloc, &[1])?)?;
-    buffer.push(meta(2), Vec::from_slice(alloc, &[2])?)?;
-    assert!(rt; buffer.pop().is_none());
-    assert_eq!(rt; buffer.held(), 2);
     Ok(())
 }
 
@@ -306,12 +297,18 @@ fn a_box_is_told_the_packet_before(rt: HostRuntime) -> Result<(), Fail> {
 
 /// What is in a box is not shown.
 #[test]
-fn debug_of_boxes(rt: HostRuntime) -> Result<(), Fail> {
+fn debug_of_boxed_packetizers(rt: HostRuntime) -> Result<(), Fail> {
     let alloc = rt.alloc();
     let sends = BoxedPacketizer(Box::new(alloc, EachByte {})?);
     assert_eq!(rt; format!(in alloc; "{sends:?}")?.as_str(), "BoxedPacketizer");
     let sends = CodecPacketizer::Boxed(sends);
     assert_eq!(rt; format!(in alloc; "{sends:?}")?.as_str(), "Boxed");
+    Ok(())
+}
+
+#[test]
+fn debug_of_boxed_depacketizers(rt: HostRuntime) -> Result<(), Fail> {
+    let alloc = rt.alloc();
     let each_packet = EachPacket {
         heads: true,
         refuses: true,

@@ -3,6 +3,7 @@
 ghost use Rattle.std.specs.Prelude.{◌≤◌};
 
 mod plain_search;
+mod rows;
 
 use codec_payload_core::buffer::{Depacketized, DepacketizingBuffer, RtpMeta};
 use codec_payload_core::codec::{CodecDepacketizer, CodecExtra};
@@ -12,6 +13,7 @@ use codec_payload_core::wire::{
     AbsCaptureTime, Codec, ExtensionValues, Frequency, MediaTime, Pt, RtpHeader, SenderInfo, SeqNo,
     Ticks, VideoLayersAllocation,
 };
+use rows::{Packet, STEPS, Step, StepsRow, Unit};
 use std::alloc::Global;
 use std::process::Abort;
 use std::test::Fail;
@@ -41,17 +43,6 @@ fn opus_buffer(alloc: Global, hold_back: usize) -> DepacketizingBuffer {
     )
 }
 
-/// What is done to a buffer, and what it must answer.
-#[derive(Clone, Copy, Debug)]
-enum Step {
-    /// A packet of that number, each with a time of its own.
-    Push(u64),
-    /// The number of the unit that comes out, and whether it is contiguous.
-    Pop(Option<(u64, bool)>),
-    /// How many packets are held.
-    Held(usize),
-}
-
 /// The number of the next unit, and whether it is contiguous.
 fn pop(buffer: &mut DepacketizingBuffer) -> Result<Option<(u64, bool)>, PacketError> {
     match buffer.pop() {
@@ -61,75 +52,95 @@ fn pop(buffer: &mut DepacketizingBuffer) -> Result<Option<(u64, bool)>, PacketEr
     }
 }
 
-fn do_steps(rt: &impl Abort, alloc: Global, hold_back: usize, steps: &[Step]) -> Result<(), Fail> {
-    let mut buffer = opus_buffer(alloc, hold_back);
-    for (place, step) in steps.iter().enumerate() {
-        match *step {
-            Step::Push(number) => {
-                let payload = Vec::from_slice(alloc, &[7])?;
-                buffer.push(meta(number, number), payload)?;
-            }
-            Step::Pop(answer) => assert_eq!(rt; pop(&mut buffer)?, answer, "at step {place}"),
-            Step::Held(count) => assert_eq!(rt; buffer.held(), count, "at step {place}"),
-        }
+/// An empty buffer of a codec, which holds nothing back.
+fn buffer_of(alloc: Global, codec: Codec) -> Result<DepacketizingBuffer, Fail> {
+    let depack = CodecDepacketizer::from_codec(alloc, codec).ok_or("no depacketizer")?;
+    Ok(DepacketizingBuffer::new(alloc, depack, 0))
+}
+
+/// An empty buffer of a codec, with its own limit.
+fn buffer_of_limit(
+    alloc: Global,
+    codec: Codec,
+    hold_back: usize,
+    limit: usize,
+) -> Result<DepacketizingBuffer, Fail>
+    requires least { 1 ≤ limit }
+    requires most { limit ≤ 65536 }
+{
+    let depack = CodecDepacketizer::from_codec(alloc, codec).ok_or("no depacketizer")?;
+    Ok(DepacketizingBuffer::with_limit(alloc, depack, hold_back, limit))
+}
+
+/// Pushes a packet of the one frame of that time.
+fn push_part(
+    alloc: Global,
+    buffer: &mut DepacketizingBuffer,
+    number: u64,
+    marker: bool,
+    payload: &[u8],
+) -> Result<(), Fail> {
+    let mut meta = meta(number, 960);
+    meta.header.marker = marker;
+    buffer.push(meta, Vec::from_slice(alloc, payload)?)?;
+    Ok(())
+}
+
+fn assert_steps(rt: &impl Abort, alloc: Global, row: &StepsRow) -> Result<(), Fail> {
+    assert!(rt; row.limit >= 1 && row.limit <= 65_536);
+    let mut buffer = buffer_of_limit(alloc, row.codec, row.hold_back, row.limit)?;
+    assert_eq!(rt; buffer.limit(), row.limit, "in {}", row.name);
+    for (place, step) in row.steps.iter().enumerate() {
+        assert_step(rt, alloc, &mut buffer, row.name, place, step)?;
     }
     Ok(())
 }
 
-#[test]
-fn opus_hold_back_1(rt: HostRuntime) -> Result<(), Fail> {
-    let steps = [
-        Step::Push(10),
-        Step::Pop(Some((10, true))),
-        Step::Push(12),
-        Step::Pop(None),
-        Step::Push(13),
-        Step::Pop(Some((12, false))),
-        Step::Push(11),
-        Step::Held(1),
-        Step::Pop(Some((13, true))),
-        Step::Pop(None),
-    ];
-    do_steps(&rt, rt.alloc(), 1, &steps)
+fn assert_step(
+    rt: &impl Abort,
+    alloc: Global,
+    buffer: &mut DepacketizingBuffer,
+    name: &str,
+    place: usize,
+    step: &Step,
+) -> Result<(), Fail> {
+    match step {
+        Step::Push(packet) => push_packet(alloc, buffer, packet)?,
+        Step::Pop(Some(wanted)) => {
+            let unit = buffer.pop().ok_or(name)??;
+            assert_unit(rt, name, place, &unit, wanted);
+        }
+        Step::Pop(None) => assert!(rt; buffer.pop().is_none(), "at step {place} of {name}"),
+        Step::Held(count) => assert_eq!(rt; buffer.held(), *count, "at step {place} of {name}"),
+        Step::Ready(count) => assert_eq!(rt; buffer.ready(), *count, "at step {place} of {name}"),
+    }
+    Ok(())
+}
+
+fn push_packet(
+    alloc: Global,
+    buffer: &mut DepacketizingBuffer,
+    packet: &Packet,
+) -> Result<(), Fail> {
+    let mut meta = meta(packet.number, packet.time);
+    meta.header.marker = packet.marker;
+    buffer.push(meta, Vec::from_slice(alloc, packet.payload)?)?;
+    Ok(())
+}
+
+fn assert_unit(rt: &impl Abort, name: &str, place: usize, unit: &Depacketized, wanted: &Unit) {
+    let got = (unit.bytes.as_slice(), unit.seq_range(), unit.contiguous);
+    let numbers = SeqNo(wanted.first)..=SeqNo(wanted.last);
+    let wanted = (wanted.bytes, numbers, wanted.contiguous);
+    assert_eq!(rt; got, wanted, "at step {place} of {name}");
 }
 
 #[test]
-fn opus_hold_back_max(rt: HostRuntime) -> Result<(), Fail> {
-    let steps = [
-        Step::Push(1),
-        Step::Pop(Some((1, true))),
-        Step::Push(3),
-        Step::Pop(None),
-        Step::Push(2),
-        Step::Pop(Some((2, true))),
-        Step::Pop(Some((3, true))),
-    ];
-    do_steps(&rt, rt.alloc(), usize::MAX, &steps)
-}
-
-#[test]
-fn opus_hold_back_0_goes_on_over_a_gap(rt: HostRuntime) -> Result<(), Fail> {
-    let steps = [
-        Step::Push(3),
-        Step::Push(0),
-        Step::Pop(Some((0, true))),
-        Step::Pop(Some((3, false))),
-        Step::Pop(None),
-    ];
-    do_steps(&rt, rt.alloc(), 0, &steps)
-}
-
-#[test]
-fn opus_last_number(rt: HostRuntime) -> Result<(), Fail> {
-    let steps = [
-        Step::Push(u64::MAX),
-        Step::Pop(Some((u64::MAX, true))),
-        Step::Push(0),
-        Step::Push(u64::MAX),
-        Step::Held(0),
-        Step::Pop(None),
-    ];
-    do_steps(&rt, rt.alloc(), 0, &steps)
+fn steps_are_answered(rt: HostRuntime) -> Result<(), Fail> {
+    for row in &STEPS {
+        assert_steps(&rt, rt.alloc(), row)?;
+    }
+    Ok(())
 }
 
 /// A packet below all that a full buffer holds leaves at once, and yet the unit after it does not follow.
@@ -162,24 +173,35 @@ fn units_are_what_came_first(rt: HostRuntime) -> Result<(), Fail> {
     Ok(())
 }
 
+/// Pushes one of the packets 4 to 6 of a VP8 frame, which was received then.
+fn push_received(
+    alloc: Global,
+    buffer: &mut DepacketizingBuffer,
+    number: u64,
+    received: u64,
+) -> Result<(), Fail> {
+    let mut meta = meta(number, 960);
+    meta.received = Ticks(received);
+    meta.header.marker = number == 6;
+    meta.last_sender_info = Some(SenderInfo {
+        ssrc: 1,
+        ntp_time: number,
+        rtp_time: 2,
+        packet_count: 3,
+        octet_count: 4,
+    });
+    let descriptor = if number == 4 { 0x10 } else { 0x00 };
+    buffer.push(meta, Vec::from_slice(alloc, &[descriptor, 0x90])?)?;
+    Ok(())
+}
+
 /// A VP8 frame in three packets, of which the second and the third were received first.
 #[test]
 fn unit_tells_of_its_packets(rt: HostRuntime) -> Result<(), Fail> {
     let alloc = rt.alloc();
     let mut buffer = buffer_of(alloc, Codec::Vp8)?;
     for (number, received) in [(4, 9), (5, 8), (6, 8)] {
-        let mut meta = meta(number, 960);
-        meta.received = Ticks(received);
-        meta.header.marker = number == 6;
-        meta.last_sender_info = Some(SenderInfo {
-            ssrc: 1,
-            ntp_time: number,
-            rtp_time: 2,
-            packet_count: 3,
-            octet_count: 4,
-        });
-        let descriptor = if number == 4 { 0x10 } else { 0x00 };
-        buffer.push(meta, Vec::from_slice(alloc, &[descriptor, 0x90])?)?;
+        push_received(alloc, &mut buffer, number, received)?;
     }
     let unit = buffer.pop().ok_or("no unit")??;
     assert_eq!(rt; unit.meta().len(), 3);
@@ -187,76 +209,6 @@ fn unit_tells_of_its_packets(rt: HostRuntime) -> Result<(), Fail> {
     assert_eq!(rt; unit.first_sender_info().map(|info| info.ntp_time), Some(5));
     assert_eq!(rt; unit.seq_range(), SeqNo(4)..=SeqNo(6));
     assert_eq!(rt; unit.start_of_talkspurt(), false);
-    Ok(())
-}
-
-/// An empty buffer of a codec, which holds nothing back.
-fn buffer_of(alloc: Global, codec: Codec) -> Result<DepacketizingBuffer, Fail> {
-    let depack = CodecDepacketizer::from_codec(alloc, codec).ok_or("no depacketizer")?;
-    Ok(DepacketizingBuffer::new(alloc, depack, 0))
-}
-
-/// An empty buffer of a codec, with its own limit.
-fn buffer_of_limit(
-    alloc: Global,
-    codec: Codec,
-    hold_back: usize,
-    limit: usize,
-) -> Result<DepacketizingBuffer, Fail>
-    requires least { 1 ≤ limit }
-    requires most { limit ≤ 65536 }
-{
-    let depack = CodecDepacketizer::from_codec(alloc, codec).ok_or("no depacketizer")?;
-    Ok(DepacketizingBuffer::with_limit(alloc, depack, hold_back, limit))
-}
-
-/// Pushes a packet that is a frame by itself, with a time of its own.
-fn push_frame(
-    alloc: Global,
-    buffer: &mut DepacketizingBuffer,
-    number: u64,
-    payload: &[u8],
-) -> Result<(), Fail> {
-    let mut meta = meta(number, number);
-    meta.header.marker = true;
-    buffer.push(meta, Vec::from_slice(alloc, payload)?)?;
-    Ok(())
-}
-
-/// Pushes a packet of the one frame of that time.
-fn push_part(
-    alloc: Global,
-    buffer: &mut DepacketizingBuffer,
-    number: u64,
-    marker: bool,
-    payload: &[u8],
-) -> Result<(), Fail> {
-    let mut meta = meta(number, 960);
-    meta.header.marker = marker;
-    buffer.push(meta, Vec::from_slice(alloc, payload)?)?;
-    Ok(())
-}
-
-/// Pushes one of the three packets, from 1, of the VP8 frame `909090` at an MTU of 2.
-fn push_of_three(alloc: Global, buffer: &mut DepacketizingBuffer, number: u64) -> Result<(), Fail> {
-    let first_byte = if number == 1 { 0x10 } else { 0x00 };
-    push_part(alloc, buffer, number, number == 3, &[first_byte, 0x90])
-}
-
-/// The second packet and the first each begin a unit: the frame that ends at the third grows with each.
-#[test]
-fn ready_av1_last_first(rt: HostRuntime) -> Result<(), Fail> {
-    let alloc = rt.alloc();
-    let mut buffer = buffer_of(alloc, Codec::Av1)?;
-    push_part(alloc, &mut buffer, 3, true, &[0x90, 0xcc])?;
-    assert_eq!(rt; buffer.ready(), 0);
-    push_part(alloc, &mut buffer, 2, false, &[0x50, 0x30, 0xbb])?;
-    assert_eq!(rt; buffer.ready(), 1);
-    push_part(alloc, &mut buffer, 1, false, &[0x18, 0x08, 0xaa])?;
-    assert_eq!(rt; buffer.ready(), 1);
-    let unit = buffer.pop().ok_or("no unit")??;
-    assert_eq!(rt; unit.seq_range(), SeqNo(1)..=SeqNo(3));
-    assert_eq!(rt; buffer.ready(), 0);
     Ok(())
 }
 
@@ -303,94 +255,6 @@ fn ready_as_a_frame_shrinks(rt: HostRuntime) -> Result<(), Fail> {
     assert_eq!(rt; unit.contiguous, false);
     assert_eq!(rt; buffer.ready(), 3);
     assert_eq!(rt; pop(&mut buffer)?, Some((4_097, true)));
-    Ok(())
-}
-
-#[test]
-fn vp8_older_id_passed_over(rt: HostRuntime) -> Result<(), Fail> {
-    let alloc = rt.alloc();
-    let mut buffer = buffer_of(alloc, Codec::Vp8)?;
-    push_frame(alloc, &mut buffer, 1, &[0x90, 0xe0, 0x0a, 0x05, 0x00, 0x01])?;
-    let unit = buffer.pop().ok_or("no unit")??;
-    assert_eq!(rt; unit.bytes.as_slice(), [0x01u8].as_slice());
-    assert!(rt; unit.contiguous);
-    push_frame(alloc, &mut buffer, 2, &[0x90, 0xe0, 0x09, 0x05, 0x00, 0x01])?;
-    push_frame(alloc, &mut buffer, 3, &[0x90, 0xe0, 0x0b, 0x06, 0x00, 0x01])?;
-    assert_eq!(rt; pop(&mut buffer)?, Some((3, true)));
-    assert_eq!(rt; pop(&mut buffer)?, None);
-    assert_eq!(rt; buffer.held(), 0);
-    Ok(())
-}
-
-/// Keyframes that go back start again: they go out, and do not follow.
-#[test]
-fn vp9_contiguity_three_keyframes(rt: HostRuntime) -> Result<(), Fail> {
-    let alloc = rt.alloc();
-    let mut buffer = buffer_of(alloc, Codec::Vp9)?;
-    // The first byte tells of a picture id, of layers, and that a frame begins and ends; with 0x40 that it is no keyframe.
-    let frames = [
-        ([0xac, 40, 0x00, 40, 0x01], true),
-        ([0xac, 1, 0x00, 1, 0x01], false),
-        ([0xac, 1, 0x00, 1, 0x01], false),
-        ([0xec, 2, 0x00, 2, 0x01], true),
-    ];
-    for (place, (payload, contiguous)) in frames.iter().enumerate() {
-        let number = place as u64 + 1;
-        push_frame(alloc, &mut buffer, number, payload)?;
-        assert_eq!(rt; pop(&mut buffer)?, Some((number, *contiguous)));
-    }
-    assert_eq!(rt; pop(&mut buffer)?, None);
-    Ok(())
-}
-
-/// The three packets of a VP8 frame, in every order. A buffer of two evicts the first, and has no whole frame.
-#[test]
-fn limit_2_vp8_three_packets(rt: HostRuntime) -> Result<(), Fail> {
-    let alloc = rt.alloc();
-    for order in [
-        [1, 2, 3],
-        [1, 3, 2],
-        [2, 1, 3],
-        [2, 3, 1],
-        [3, 1, 2],
-        [3, 2, 1],
-    ] {
-        let mut buffer = buffer_of_limit(alloc, Codec::Vp8, 0, 2)?;
-        assert_eq!(rt; buffer.limit(), 2);
-        for number in order {
-            push_of_three(alloc, &mut buffer, number)?;
-        }
-        assert_eq!(rt; buffer.held(), 2, "in the order {order:?}");
-        assert_eq!(rt; pop(&mut buffer)?, None, "in the order {order:?}");
-    }
-    Ok(())
-}
-
-#[test]
-fn limit_3_vp8_three_packets(rt: HostRuntime) -> Result<(), Fail> {
-    let alloc = rt.alloc();
-    let mut buffer = buffer_of_limit(alloc, Codec::Vp8, 0, 3)?;
-    for number in [1, 2, 3] {
-        push_of_three(alloc, &mut buffer, number)?;
-    }
-    let unit = buffer.pop().ok_or("no unit")??;
-    assert_eq!(rt; unit.bytes.as_slice(), [0x90, 0x90, 0x90].as_slice());
-    assert_eq!(rt; unit.seq_range(), SeqNo(1)..=SeqNo(3));
-    assert_eq!(rt; pop(&mut buffer)?, None);
-    Ok(())
-}
-
-#[test]
-fn limit_1_opus(rt: HostRuntime) -> Result<(), Fail> {
-    let alloc = rt.alloc();
-    let mut buffer = buffer_of_limit(alloc, Codec::Opus, 0, 1)?;
-    for number in [1, 2] {
-        buffer.push(meta(number, number), Vec::new(alloc))?;
-        assert_eq!(rt; buffer.held(), 1);
-    }
-    assert_eq!(rt; pop(&mut buffer)?, Some((2, false)));
-    buffer.push(meta(3, 3), Vec::new(alloc))?;
-    assert_eq!(rt; pop(&mut buffer)?, Some((3, true)));
     Ok(())
 }
 

@@ -52,16 +52,12 @@ fn red_sink_sends_wrapped(rt: HostRuntime) -> Result<(), Fail> {
     assert_eq!(rt; sink.next_seq_no(), SeqNo(1));
     assert!(rt; sink.last_packet().is_none());
     send_in_red(&mut stream, &mut red, 1_200, packet(alloc, &[1, 2])?)?;
-    assert_eq!(rt;
-        stream.last_packet().ok_or("no packet")?,
-        [0x6fu8, 1, 2].as_slice()
-    );
+    let wrapped = [0x6fu8, 1, 2];
+    assert_eq!(rt; stream.last_packet(), Some(wrapped.as_slice()));
     assert_eq!(rt; stream.packets().len(), 1);
     let sent = &stream.packets()[0];
-    assert_eq!(rt; sent.pt, Pt::new_with_value(63));
-    assert_eq!(rt; sent.payload.as_slice(), [0x6fu8, 1, 2].as_slice());
-    assert_eq!(rt; sent.rtp_time, 960);
-    assert_eq!(rt; sent.wallclock, Ticks(5));
-    assert!(rt; sent.marker);
+    assert_eq!(rt; sent.payload.as_slice(), wrapped.as_slice());
+    let fields = (sent.pt, sent.rtp_time, sent.wallclock, sent.marker);
+    assert_eq!(rt; fields, (Pt::new_with_value(63), 960, Ticks(5), true));
     Ok(())
 }

@@ -64,7 +64,7 @@ fn names_fault(codec: Codec, fault: &PacketError) -> bool {
 }
 
 /// Each packet has a byte and none more than the MTU, but of Null, which looks at no MTU. At the greatest MTU there is one
-/// packet at most, which can be received; of VP9 in the non-flexible mode it tells a keyframe where the frame is one.
+/// packet at most, which can be received.
 fn packets_fit(
     rt: &impl Abort,
     alloc: Global,
@@ -73,22 +73,33 @@ fn packets_fit(
     frame: &[u8],
     packets: &[Vec<u8>],
 ) -> Result<(), Fail> {
-    let (codec, mode, _) = kind;
+    let (codec, _, _) = kind;
     if codec == Codec::Null {
         assert_eq!(rt; packets.len(), 1);
         return Ok(());
     }
     for packet in packets {
-        assert!(rt; !packet.is_empty());
-        assert!(rt; packet.len() <= mtu);
+        assert!(rt; !packet.is_empty() && packet.len() <= mtu);
     }
     if mtu < usize::MAX || codec == Codec::Tele {
         return Ok(());
     }
     assert!(rt; packets.len() <= 1);
-    let Some(packet) = packets.first() else {
-        return Ok(());
-    };
+    match packets.first() {
+        Some(packet) => is_received(rt, alloc, kind, frame, packet),
+        None => Ok(()),
+    }
+}
+
+/// The only packet of a frame is received, and of VP9 in the non-flexible mode it tells a keyframe where the frame is one.
+fn is_received(
+    rt: &impl Abort,
+    alloc: Global,
+    kind: Kind,
+    frame: &[u8],
+    packet: &[u8],
+) -> Result<(), Fail> {
+    let (codec, mode, _) = kind;
     let mut depacketizer = CodecDepacketizer::from_codec(alloc, codec).ok_or("none")?;
     depacketizer.configure_for(&specification(kind));
     let mut out = Vec::new(alloc);
