@@ -189,7 +189,11 @@ impl<'a> BitRead<'a> for BitReader<'a> {
             return Some(0);
         }
         let high = self.source[self.byte];
-        let low = self.source.get(self.byte + 1).copied().unwrap_or(0);
+        let low = if bytes < 2 {
+            0
+        } else {
+            self.source[self.byte + 1]
+        };
         let word = (u16::from(high) << 8) | u16::from(low);
         let value = (word >> (16 - self.bit - count)) & ((1 << count) - 1);
         let place = self.bit + count;
