@@ -1,26 +1,40 @@
 -- Lemmas on bytes that are bits from a place between bytes on.
 use Rattle.std.proofs.Common.{◌≡◌, ℕ, ◌+◌, ◌-◌, ◌*◌, ◌/◌, ◌%◌, ◌^◌, ◌<◌, ◌≤◌, List, [], ◌∷◌, ◌++◌, length, get_or, set, take, drop, refl, sym, ◌∙◌, ap, arith, append_assoc, append-nil, length-drop, length-set, take-append-drop}
 use Rattle.std.specs.Int.Bits.{bit_or}
-use Rattle.std.proofs.Math.Nat.{mod-mod}
-use Rattle.std.proofs.lemmas.Nat.{or_shifted}
+use Rattle.std.proofs.Math.Nat.{add-zero, add_comm, mod-eq_of_lt, mod-mod, mul-add-div_right, mul-add-mod_self_right, mul-mod_left, mul_assoc}
+use Rattle.std.proofs.lemmas.Nat.{mod-pow-add, or_shifted, pow-add, pow_pos, shl-shr, shr_below, shr_high}
 use Rattle.std.proofs.Math.Seq.{take-add}
-use Rattle.std.proofs.lemmas.Grind.{or_after_shift}
 use Rattle.std.proofs.lemmas.List.{drop-drop, take_more_set, take-set-le, take_at, take_all, take-append-le, length-take-le, get_or_past}
 use Rattle.codec_payload_base.specs.Bits.{Reader, bits, bits_of, left, here}
 use Rattle.codec_payload_base.proofs.BitLemmas.{bits-same, bits-cat, bits-split, bits_of-append, length-bits, length-bits_of, take-bits, length_left, next_at, drop-bits_of}
 use Rattle.codec_payload_audio.proofs.AmrWbCopyLemmas.{Carries, carries_first, carries_all, bits_of-push}
 
+-- the low bits of one byte before the high bits of the next
+joined : (s d h l : ℕ) → d + s ≡ 8 → l < 256 → bit_or (h * 2 ^ s % 256) (l / 2 ^ d) ≡ (h * 2 ^ 8 + l) / 2 ^ d % 2 ^ 8
+joined s d h l width small =
+    let v : ℕ = l / 2 ^ d in
+    let n : ℕ = h * 2 ^ s + v in
+    let inside : l < 2 ^ (s + d) = rw (add_comm s d, width) small in
+    let low : v < 2 ^ s = shr_below l s d inside in
+    let first : h * 2 ^ s % 256 ≡ h % 2 ^ d * 2 ^ s =
+    ap (λ t. h * 2 ^ s % 2 ^ t) (sym width) ∙ mod-pow-add (h * 2 ^ s) d s ∙ rw (shl-shr h s, mul-mod_left h (2 ^ s)) (add-zero (h % 2 ^ d * 2 ^ s)) in
+    let both : n % 2 ^ 8 ≡ h % 2 ^ d * 2 ^ s + v =
+    ap (λ t. n % 2 ^ t) (sym width) ∙ mod-pow-add n d s ∙ rw (shr_high h s v low, mul-add-mod_self_right h (2 ^ s) v, mod-eq_of_lt low) refl in
+    let parts : h * 2 ^ 8 ≡ h * 2 ^ s * 2 ^ d = ap (λ t. h * 2 ^ t) (sym width ∙ add_comm d s) ∙ ap (λ t. h * t) (pow-add 2 s d) ∙ sym (mul_assoc h (2 ^ s) (2 ^ d)) in
+    let sum : (h * 2 ^ 8 + l) / 2 ^ d ≡ n = ap (λ t. (t + l) / 2 ^ d) parts ∙ mul-add-div_right (pow_pos d) (h * 2 ^ s) l in
+    ap (λ t. bit_or t v) first ∙ or_shifted (h % 2 ^ d) s v low ∙ sym both ∙ ap (λ t. t % 2 ^ 8) (sym sum)
+
 -- the byte that stands across two neighbours
-pub across : (bs : List ℕ) (i s h l : ℕ) → 0 < s → s < 8 → 8 * i + s + 8 ≤ 8 * length bs → h ≡ get_or bs i 0 → l ≡ get_or bs (i + 1) 0 → h < 256 → l < 256 → bits 8 (bit_or (h * 256 % 65536) l / 2 ^ (8 - s) % 256) ≡ take 8 (drop (8 * i + s) (bits_of bs))
+pub across : (bs : List ℕ) (i s h l : ℕ) → 0 < s → s < 8 → 8 * i + s + 8 ≤ 8 * length bs → h ≡ get_or bs i 0 → l ≡ get_or bs (i + 1) 0 → h < 256 → l < 256 → bits 8 (bit_or (h * 2 ^ s % 256) (l / 2 ^ (8 - s))) ≡ take 8 (drop (8 * i + s) (bits_of bs))
 across bs i s h l some few there high low large small =
-    let word : bit_or (h * 256 % 65536) l ≡ h * 2 ^ 8 + l = or_after_shift h 256 65536 l refl small (omega arith) in
+    let d : ℕ = 8 - s in
     let next : get_or bs (i + 1) 0 < 2 ^ 8 = omega arith in
-    let width : s + 8 + (8 - s) ≡ 16 = omega arith in
-    let v : ℕ = (h * 2 ^ 8 + l) / 2 ^ (8 - s) in
-    ap (λ t. bits 8 (t / 2 ^ (8 - s) % 256)) word
+    let width : s + 8 + d ≡ 16 = omega arith in
+    let v : ℕ = (h * 2 ^ 8 + l) / 2 ^ d in
+    ap (bits 8) (joined s d h l (omega arith) small)
     ∙ bits-same 8 (v % 256) v (mod-mod v (2 ^ 8))
-    ∙ ap (λ t. bits 8 (t / 2 ^ (8 - s))) (rw (high, low) refl)
-    ∙ sym (next_at bs i s 8 (8 - s) width there next)
+    ∙ ap (λ t. bits 8 (t / 2 ^ d)) (rw (high, low) refl)
+    ∙ sym (next_at bs i s 8 d width there next)
 
 -- the first bytes of a list are a front, and i bytes that are the bits from the one at s on
 pub record Shifted (front now : List ℕ) (start : ℕ) (bs : List ℕ) (s i : ℕ) : Type 0 where

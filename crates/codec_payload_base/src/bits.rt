@@ -1,6 +1,6 @@
 //! A reader of bits, the highest of each byte first, and of LEB128 numbers.
 
-ghost use Rattle.std.specs.Prelude.{◌≡◌, ◌+◌, ◌*◌, ◌/◌, ◌%◌, ◌<◌, ◌≤◌, length, min, None};
+ghost use Rattle.std.specs.Prelude.{◌≡◌, ◌+◌, ◌*◌, ◌/◌, ◌%◌, ◌<◌, ◌≤◌, length, min, None, true, false};
 ghost use Rattle.std.specs.Option.{option_map};
 ghost use Rattle.codec_payload_base.specs.Bits.{Reader, ReadsBits, ReadsLeb128, LendsBytes, ReadsLebAtFront, Skips, left, here, moved, at_end};
 ghost use Rattle.codec_payload_base.specs.Leb.{WritesLeb, WritesShortest, TakesNine, FindsLeb};
@@ -123,15 +123,19 @@ impl<'a> BitReader<'a> {
         &self.source[self.byte..]
     }
 
-    /// Moves the place on by `count` bits, which are left.
+    /// Moves the place on by `count` bits where as many are left, and tells whether they were. Else it stays.
     #[tactic(auto, using(crate::proofs::BitLemmas::length_left))]
-    pub fn skip_bits(&mut self, count: usize)
-        requires { count ≤ length (left self.old) }
-        ensures { self.new ≡ moved self.old count }
+    pub fn skip_bits(&mut self, count: usize) -> bool
+        ensures skipped { result ≡ true → (count ≤ length (left self.old)) × (self.new ≡ moved self.old count) }
+        ensures stayed { result ≡ false → (length (left self.old) < count) × (self.new ≡ self.old) }
     {
         let place = self.bit + count % 8;
-        self.byte += count / 8 + place / 8;
-        self.bit = place % 8;
+        let there = count / 8 + place.div_ceil(8) <= self.source.len() - self.byte;
+        if there {
+            self.byte += count / 8 + place / 8;
+            self.bit = place % 8;
+        }
+        there
     }
 
     /// How many bits lie between the start of that byte in which the place stands and the place, from 0 to 7.
@@ -185,7 +189,11 @@ impl<'a> BitRead<'a> for BitReader<'a> {
             return Some(0);
         }
         let high = self.source[self.byte];
-        let low = self.source.get(self.byte + 1).copied().unwrap_or(0);
+        let low = if bytes < 2 {
+            0
+        } else {
+            self.source[self.byte + 1]
+        };
         let word = (u16::from(high) << 8) | u16::from(low);
         let value = (word >> (16 - self.bit - count)) & ((1 << count) - 1);
         let place = self.bit + count;

@@ -113,7 +113,7 @@ fn check_payload<'a>(octet_align: bool, packet: &'a [u8]) -> Result<Contents<'a>
 fn less_than_a_byte_is_left<'a>(reader: &BitReader<'a>) -> bool
     ensures { IsTrue result ↔ (length (left reader.now) < 8) }
 {
-    reader.remaining_bits() < 8
+    reader.remaining_bytes() == 0
 }
 
 /// Appends the frames of a payload that was checked; after a refusal some of them may be there.
@@ -210,10 +210,9 @@ fn skip_frame<'a>(
     let Some(count) = speech_bits(entry.frame_type) else {
         return Err(PacketError::ErrAmrWbCorruptedPacket);
     };
-    if reader.remaining_bits() < count {
+    if !reader.skip_bits(count) {
         return Err(PacketError::ErrShortPacket);
     }
-    reader.skip_bits(count);
     skip_padding(reader, count, octet_align);
     Ok(count)
 }

@@ -18,8 +18,7 @@ fn write_shifted(to: &mut [u8], start: usize, bytes: &[u8], shift: usize, count:
 {
     let down = 8 - shift;
     for i in 0..count {
-        let word = (u16::from(bytes[i]) << 8) | u16::from(bytes[i + 1]);
-        to[start + i] = ((word >> down) % 256) as u8;
+        to[start + i] = (bytes[i] << shift) | (bytes[i + 1] >> down);
     }
 }
 

@@ -73,14 +73,18 @@ impl Pending {
     }
 
     /// Leaves room for what `out` holds, where that is little, and for the size of an OBU that takes all that is free in it.
+    /// What is pending then has as much memory as `out`; less is not grown, which would copy what it held before.
     fn leave_room(&mut self, out: &Vec<u8>) -> Result<(), AllocError>
         ensures { OnOk result (self.new ≡ []) }
     {
-        self.clear();
+        self.room = 0;
+        self.bytes.clear();
         if out.len() <= MOST_BEFORE {
             let free = out.capacity() - out.len();
             let room = out.len() + number_len(free as u64);
-            self.bytes.reserve(free.saturating_add(room))?;
+            if self.bytes.capacity() < out.capacity() {
+                self.bytes = Vec::with_capacity(*out.allocator(), out.capacity())?;
+            }
             self.bytes.resize(room, 0)?;
             self.room = room;
         }

@@ -1,4 +1,4 @@
-use Rattle.std.proofs.Common.{arith, ◌+◌, ◌*◌, ◌<◌, ◌≤◌, length}
+use Rattle.std.proofs.Common.{arith, refl, ◌+◌, ◌*◌, ◌<◌, ◌≤◌, length}
 use Rattle.codec_payload_audio.proofs.ShiftLemmas.{across, shifted_more}
 use Rattle.codec_payload_audio.proofs.amr_wb.shift.write_shifted.Goals as goal
 
@@ -9,5 +9,5 @@ loop-i-preserved c =
     let inside : c.args.start + i < length c.args.to.now = omega arith in
     let there : 8 * i + c.args.shift + 8 ≤ 8 * length bs = omega arith in
     shifted_more c.args.to.now c.loop-i.to c.args.start bs c.args.shift i _ inside
-    (across bs i c.args.shift c.from.result c.from-in-loop-i.result c.requires.some c.requires.few there c.from.ensures c.from-in-loop-i.ensures (omega (arith, c.type_inv.bytes i, c.from.ensures)) (omega (arith, c.type_inv.bytes (i + 1), c.from-in-loop-i.ensures)))
+    (across bs i c.args.shift _ _ c.requires.some c.requires.few there refl refl (omega (arith, c.type_inv.bytes i)) (omega (arith, c.type_inv.bytes (i + 1))))
     c.loop-i.invariant
