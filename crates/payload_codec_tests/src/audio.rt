@@ -12,7 +12,7 @@ use codec_payload_audio::tele::{
 use codec_payload_base::error::PacketError;
 use codec_payload_base::interface::{CodecExtra, Depacketizer, Packetizer, TelephoneEvent};
 use codec_payload_base::wire::Frequency;
-use std::alloc::Global;
+use std::alloc::{AllocError, Global};
 use std::process::Abort;
 use std::test::Fail;
 
@@ -58,7 +58,7 @@ fn assert_received_as(
     format: Format,
     payload: &[u8],
     wanted: &Result<&[u8], PacketError>,
-) -> Result<(), Fail> {
+) -> Result<(), AllocError> {
     match format {
         Format::AmrWb { octet_align } => {
             let mut depacketizer = AmrWbDepacketizer { octet_align };
@@ -544,7 +544,7 @@ fn assert_both_ways(
     format: Format,
     frame: &[u8],
     payload: &[u8],
-) -> Result<(), Fail> {
+) -> Result<(), AllocError> {
     let answer = sent(alloc, format, 1_200, frame);
     assert_sent(rt, name, &answer, &Ok(&[payload]));
     let mut wanted = Vec::from_slice(alloc, &[7])?;
