@@ -1,6 +1,8 @@
 //! The worked examples of the audio formats, and calls that take memory.
 
-use crate::tables::{Frame, assert_received, assert_sent};
+use crate::tables::{
+    Frame, assert_printed, assert_received, assert_same, assert_sent, filled, packetize, receive,
+};
 use codec_payload_audio::amr_wb::{AmrWbDepacketizer, AmrWbPacketizer};
 use codec_payload_audio::plain::{
     ComfortNoiseDepacketizer, ComfortNoisePacketizer, G7xxPacketizer, G711Depacketizer,
@@ -10,7 +12,7 @@ use codec_payload_audio::tele::{
     TelephoneEventDepacketizer, TelephoneEventPacketizer, duration_from_units,
 };
 use codec_payload_base::error::PacketError;
-use codec_payload_base::interface::{CodecExtra, Depacketizer, Packetizer, TelephoneEvent};
+use codec_payload_base::interface::{CodecExtra, Packetizer, TelephoneEvent};
 use codec_payload_base::wire::Frequency;
 use std::alloc::{AllocError, Global};
 use std::process::Abort;
@@ -39,14 +41,14 @@ fn sent(
     frame: &[u8],
 ) -> Result<Vec<Vec<u8>>, PacketError> {
     match format {
-        Format::AmrWb { octet_align } => AmrWbPacketizer { octet_align }.packetize(
-            alloc, mtu, frame,
-        ),
-        Format::ComfortNoise => ComfortNoisePacketizer {}.packetize(alloc, mtu, frame),
-        Format::Telephone => TelephoneEventPacketizer {}.packetize(alloc, mtu, frame),
-        Format::Opus => OpusPacketizer {}.packetize(alloc, mtu, frame),
-        Format::G711 => G7xxPacketizer::default().packetize(alloc, mtu, frame),
-        Format::Null => NullPacketizer {}.packetize(alloc, mtu, frame),
+        Format::AmrWb { octet_align } => {
+            packetize(alloc, &mut AmrWbPacketizer { octet_align }, mtu, frame)
+        }
+        Format::ComfortNoise => packetize(alloc, &mut ComfortNoisePacketizer {}, mtu, frame),
+        Format::Telephone => packetize(alloc, &mut TelephoneEventPacketizer {}, mtu, frame),
+        Format::Opus => packetize(alloc, &mut OpusPacketizer {}, mtu, frame),
+        Format::G711 => packetize(alloc, &mut G7xxPacketizer::default(), mtu, frame),
+        Format::Null => packetize(alloc, &mut NullPacketizer {}, mtu, frame),
     }
 }
 
@@ -113,6 +115,14 @@ const TYPE_8_BANDWIDTH_EFFICIENT: [u8; 61] = [
 
 /// Two reports on telephone events.
 const TWO_REPORTS: [u8; 8] = [0x05, 0x8a, 0x03, 0x20, 0x06, 0x0a, 0x01, 0x40];
+
+/// A report and the first byte of another.
+const FIVE_BYTES: [u8; 5] = [0x05, 0x8a, 0x03, 0x20, 0x06];
+
+/// Its fault.
+const NOT_WHOLE: PacketError = PacketError::InvalidTelephoneEvent(
+    "payload must contain one or more complete 4-byte reports",
+);
 
 /// A comfort noise payload.
 const NOISE: [u8; 3] = [0x2a, 0x80, 0x40];
@@ -288,7 +298,7 @@ struct ReceivedRow {
     wanted: Result<&'static [u8], PacketError>,
 }
 
-const RECEIVED: [ReceivedRow; 14] = [
+const RECEIVED: [ReceivedRow; 15] = [
     ReceivedRow {
         name: "amr-wb-two-frames-received",
         format: BANDWIDTH_EFFICIENT,
@@ -358,6 +368,12 @@ const RECEIVED: [ReceivedRow; 14] = [
         wanted: Ok(&[7, 0x05, 0x8a, 0x03, 0x20]),
     },
     ReceivedRow {
+        name: "tele-five-bytes-fault",
+        format: Format::Telephone,
+        payload: &FIVE_BYTES,
+        wanted: Err(NOT_WHOLE),
+    },
+    ReceivedRow {
         name: "other-codecs-once, Opus",
         format: Format::Opus,
         payload: &[1, 2],
@@ -392,30 +408,32 @@ fn payloads_are_received(rt: HostRuntime) -> Result<(), Fail> {
     Ok(())
 }
 
+/// A frame in one layout is sent in one packet, which comes back as these bytes behind the one byte 7.
+fn assert_comes_back(
+    rt: &impl Abort,
+    alloc: Global,
+    format: Format,
+    frame: &[u8],
+    wanted: &[u8],
+) -> Result<(), PacketError> {
+    let name = "amr-wb-bits-that-mean-nothing";
+    let packets = sent(alloc, format, 1_200, frame)?;
+    assert_same(rt, name, &packets.len(), &1);
+    for packet in &packets {
+        assert_received_as(rt, alloc, name, format, packet, &Ok(wanted))?;
+    }
+    Ok(())
+}
+
 /// Type 0 without quality: 132 bits are 16 bytes and the bits 1010. The frame's bits 0x83 and its last four mean nothing, so
 /// the same comes back as for bits 0x00 and four zeros.
 #[test]
 fn amr_wb_bits_that_mean_nothing(rt: HostRuntime) -> Result<(), Fail> {
     let alloc = rt.alloc();
-    let mut frame = Vec::from_slice(alloc, &[0x83])?;
-    frame.resize(17, 0xa5)?;
-    frame.push(0xaf)?;
-    let mut canonical = Vec::from_slice(alloc, &[7, 0x00])?;
-    canonical.resize(18, 0xa5)?;
-    canonical.push(0xa0)?;
-    for format in [BANDWIDTH_EFFICIENT, OCTET_ALIGNED] {
-        let packets = sent(alloc, format, 1_200, &frame)?;
-        assert_eq!(rt; packets.len(), 1);
-        let wanted = Ok(canonical.as_slice());
-        assert_received_as(
-            &rt,
-            alloc,
-            "bits-that-mean-nothing",
-            format,
-            &packets[0],
-            &wanted,
-        )?;
-    }
+    let frame = filled(alloc, &[0x83], 0xa5, 16, &[0xaf])?;
+    let canonical = filled(alloc, &[7, 0x00], 0xa5, 16, &[0xa0])?;
+    assert_comes_back(&rt, alloc, BANDWIDTH_EFFICIENT, &frame, &canonical)?;
+    assert_comes_back(&rt, alloc, OCTET_ALIGNED, &frame, &canonical)?;
     Ok(())
 }
 
@@ -577,48 +595,48 @@ fn amr_wb_every_speech_type(rt: HostRuntime) -> Result<(), Fail> {
     Ok(())
 }
 
-#[test]
-fn tele_two_reports(rt: HostRuntime) -> Result<(), Fail> {
-    let alloc = rt.alloc();
-    let mut out = Vec::new(alloc);
-    let mut extra = CodecExtra::None;
-    let mut depacketizer = TelephoneEventDepacketizer::default();
-    depacketizer.depacketize(&TWO_REPORTS, &mut out, &mut extra)?;
-    assert_eq!(rt; out.as_slice(), [0x05u8, 0x8a, 0x03, 0x20].as_slice());
-    let first = TelephoneEvent {
+/// The reports of a payload, at 8,000 units a second.
+fn reports(alloc: Global, payload: &[u8]) -> Result<Option<Vec<TelephoneEvent>>, AllocError> {
+    match TelephoneEvent::parse_all(payload, Frequency::EIGHT_KHZ) {
+        Some(reports) => Ok(Some(reports.collect(alloc)?)),
+        None => Ok(None),
+    }
+}
+
+/// The two reports.
+const EVENTS: [TelephoneEvent; 2] = [
+    TelephoneEvent {
         event: 5,
         end: true,
         volume: 10,
         duration: 100_000_000,
-    };
-    assert_eq!(rt; extra, CodecExtra::Tele(first));
-    let mut all = TelephoneEvent::parse_all(&TWO_REPORTS, Frequency::EIGHT_KHZ).ok_or("reports")?;
-    assert_eq!(rt; all.next(), Some(first));
-    let second = all.next().ok_or("a second report")?;
-    assert_eq!(rt; second.event, 6);
-    assert!(rt; !second.end);
-    assert_eq!(rt; second.duration, 40_000_000);
-    assert_eq!(rt; all.next(), None);
+    },
+    TelephoneEvent {
+        event: 6,
+        end: false,
+        volume: 10,
+        duration: 40_000_000,
+    },
+];
+
+/// The first report is told, and both are read.
+#[test]
+fn tele_two_reports(rt: HostRuntime) -> Result<(), Fail> {
+    let name = "tele-two-reports";
+    let mut depacketizer = TelephoneEventDepacketizer::default();
+    let received = receive(rt.alloc(), &mut depacketizer, &TWO_REPORTS)?;
+    assert_same(&rt, name, &received.extra, &CodecExtra::Tele(EVENTS[0]));
+    let events = reports(rt.alloc(), &TWO_REPORTS)?.ok_or("reports")?;
+    assert_same(&rt, name, &events.as_slice(), &EVENTS.as_slice());
     Ok(())
 }
 
 #[test]
 fn tele_five_bytes_fault(rt: HostRuntime) -> Result<(), Fail> {
-    let alloc = rt.alloc();
-    let mut out = Vec::from_slice(alloc, &[7])?;
-    let mut extra = CodecExtra::None;
-    let fault = TelephoneEventDepacketizer::default()
-        .depacketize(&TWO_REPORTS[..5], &mut out, &mut extra)
-        .err()
-        .ok_or("a fault")?;
-    assert_eq!(rt; out.as_slice(), [7u8].as_slice());
-    assert_eq!(rt; extra, CodecExtra::None);
-    assert_eq!(rt; fault.number(), 15);
-    let text = format!(in alloc; "{fault}")?;
-    let expected =
-        "Invalid telephone event: payload must contain one or more complete 4-byte reports";
-    assert_eq!(rt; text.as_str(), expected);
-    assert!(rt; TelephoneEvent::parse_all(&TWO_REPORTS[..5], Frequency::EIGHT_KHZ).is_none());
+    assert_same(&rt, "tele-five-bytes-fault", &NOT_WHOLE.number(), &15);
+    let text = "Invalid telephone event: payload must contain one or more complete 4-byte reports";
+    assert_printed(&rt, rt.alloc(), &NOT_WHOLE, text)?;
+    assert!(rt; reports(rt.alloc(), &FIVE_BYTES)?.is_none());
     Ok(())
 }
 

@@ -1,8 +1,11 @@
 //! The worked examples, and what comes where memory is refused.
 
+ghost use Rattle.std.specs.Prelude.{IsTrue};
+ghost use Rattle.codec_payload_red.specs.RedLevels.{is_accepted};
+
 mod recovery;
 
-use crate::tables::{assert_bytes, assert_same, assert_shown};
+use crate::tables::{assert_bytes, assert_same, assert_shown, found};
 use codec_payload_base::error::PacketError;
 use codec_payload_base::wire::Pt;
 use codec_payload_red::red::{
@@ -13,14 +16,13 @@ use std::alloc::{AllocError, Global};
 use std::process::Abort;
 use std::test::Fail;
 
-/// A sender of RED under type 63 whose blocks have type 111, if it accepts these distances.
-fn sender(alloc: Global, distances: &[u32]) -> Option<RedSender> {
-    if !RedSender::accepts(distances) {
-        return None;
-    }
+/// A sender of RED under type 63 whose blocks have type 111.
+fn sender(alloc: Global, distances: &[u32]) -> RedSender
+    requires { IsTrue (is_accepted distances.now) }
+{
     let red_pt = Pt::new_with_value(63);
     let primary_pt = Pt::new_with_value(111);
-    Some(RedSender::new(alloc, red_pt, primary_pt, distances))
+    RedSender::new(alloc, red_pt, primary_pt, distances)
 }
 
 /// What a sender makes of a payload at an RTP time.
@@ -36,8 +38,8 @@ fn wrapped(
 }
 
 /// A sender that has sent the payloads `00` to `03`, each 960 ticks after the one before.
-fn sender_of_four(alloc: Global) -> Result<RedSender, Fail> {
-    let mut sender = sender(alloc, &[1, 3]).ok_or("a sender")?;
+fn sender_of_four(alloc: Global) -> Result<RedSender, PacketError> {
+    let mut sender = sender(alloc, &[1, 3]);
     for (byte, rtp_time) in [(0u8, 0u32), (1, 960), (2, 1_920), (3, 2_880)] {
         wrapped(alloc, &mut sender, &[byte], rtp_time, 1_200)?;
     }
@@ -153,21 +155,20 @@ fn assert_wrapped(
 }
 
 /// What a new sender makes of the payloads of a row.
-fn assert_row(rt: &impl Abort, alloc: Global, row: &SentRow) -> Result<(), Fail> {
-    let mut sender = sender(alloc, row.distances).ok_or(row.name)?;
+fn assert_row(rt: &impl Abort, alloc: Global, row: &SentRow) {
+    assert!(rt; RedSender::accepts(row.distances), "in {}", row.name);
+    let mut sender = sender(alloc, row.distances);
     for sent in row.payloads {
         let answer = wrapped(alloc, &mut sender, sent.payload, sent.rtp_time, 1_200);
         assert_wrapped(rt, row.name, &answer, sent.wanted);
     }
-    Ok(())
 }
 
 #[test]
-fn payloads_are_wrapped(rt: HostRuntime) -> Result<(), Fail> {
+fn payloads_are_wrapped(rt: HostRuntime) {
     for row in &SENT {
-        assert_row(&rt, rt.alloc(), row)?;
+        assert_row(&rt, rt.alloc(), row);
     }
-    Ok(())
 }
 
 /// So many headers of empty redundant blocks, and that of the primary block, of type 96.
@@ -225,12 +226,19 @@ fn red_32_redundant_blocks(rt: HostRuntime) -> Result<(), Fail> {
     Ok(())
 }
 
-/// The third of three payloads of 100 bytes, of which each is one byte again and again, at a budget of 300.
-fn third_of_hundred_bytes(alloc: Global) -> Result<Vec<u8>, Fail> {
-    let mut sender = sender(alloc, &[1, 2]).ok_or("a sender")?;
-    wrapped(alloc, &mut sender, &[1; 100], 0, 300)?;
-    wrapped(alloc, &mut sender, &[2; 100], 960, 300)?;
-    Ok(wrapped(alloc, &mut sender, &[3; 100], 1_920, 300)?)
+/// Payloads of 100 bytes.
+const ONES: [u8; 100] = [1; 100];
+
+const TWOS: [u8; 100] = [2; 100];
+
+const THREES: [u8; 100] = [3; 100];
+
+/// What a sender makes of the third of them at a budget of 300 bytes.
+fn third_of_hundred_bytes(alloc: Global) -> Result<Vec<u8>, PacketError> {
+    let mut sender = sender(alloc, &[1, 2]);
+    wrapped(alloc, &mut sender, &ONES, 0, 300)?;
+    wrapped(alloc, &mut sender, &TWOS, 960, 300)?;
+    wrapped(alloc, &mut sender, &THREES, 1_920, 300)
 }
 
 /// The offsets of blocks, and their payloads.
@@ -248,7 +256,7 @@ fn red_budget_300_shallowest(rt: HostRuntime) -> Result<(), Fail> {
     let third = third_of_hundred_bytes(rt.alloc())?;
     assert_same(&rt, name, &third.len(), &205);
     let blocks = decoded(rt.alloc(), &third)?;
-    assert_blocks(&rt, name, &blocks, &[(960, &[2; 100]), (0, &[3; 100])]);
+    assert_blocks(&rt, name, &blocks, &[(960, &TWOS), (0, &THREES)]);
     Ok(())
 }
 
@@ -320,8 +328,12 @@ const DISTANCES: [(&[u32], bool); 5] = [
 
 #[test]
 fn red_accepted_distances(rt: HostRuntime) {
-    for (distances, accepted) in DISTANCES {
-        assert_eq!(rt; RedSender::accepts(distances), accepted, "of {distances:?}");
+    for (distances, accepted) in &DISTANCES {
+        assert_eq!(rt;
+            RedSender::accepts(distances),
+            *accepted,
+            "of {distances:?}"
+        );
     }
     assert_eq!(rt; MAX_RED_RECOVERY_DEPTH, 8);
 }
@@ -370,15 +382,6 @@ fn blocks_are_compared_and_shown(rt: HostRuntime) -> Result<(), Fail> {
     Ok(())
 }
 
-/// What a call answered, or nothing where it found no memory. Any other fault fails the test.
-fn found<T: Drop>(answer: Result<T, PacketError>) -> Result<Option<T>, Fail> {
-    match answer {
-        Ok(value) => Ok(Some(value)),
-        Err(PacketError::OutOfMemory) => Ok(None),
-        Err(_) => Err(Fail::from("another fault")),
-    }
-}
-
 #[test]
 fn encode_and_decode_where_memory_is_refused(rt: HostRuntime) -> Result<(), Fail> {
     let name = "red-where-memory-is-refused";
@@ -408,7 +411,7 @@ fn wrapped_at_last(
 /// those for the payloads after it.
 #[test]
 fn wrap_where_memory_is_refused(rt: HostRuntime) -> Result<(), Fail> {
-    let mut sender = sender(rt.alloc(), &[1, 3]).ok_or("a sender")?;
+    let mut sender = sender(rt.alloc(), &[1, 3]);
     let mut last = Vec::new(rt.alloc());
     for (byte, rtp_time) in [(0u8, 0u32), (1, 960), (2, 1_920), (3, 2_880), (0x2a, 3_840)] {
         last = wrapped_at_last(rt.alloc(), &mut sender, byte, rtp_time)?;

@@ -5,6 +5,7 @@ use codec_payload_base::interface::{CodecExtra, Depacketizer, Packetizer};
 use std::alloc::{AllocError, Global};
 use std::fmt::{Debug, Display};
 use std::process::Abort;
+use std::test::Fail;
 
 /// A frame that a packetizer is given.
 pub struct Frame {
@@ -75,6 +76,16 @@ pub fn assert_sent(
     }
 }
 
+/// What a packetizer makes of a frame.
+pub fn packetize<P: Packetizer>(
+    alloc: Global,
+    packetizer: &mut P,
+    mtu: usize,
+    frame: &[u8],
+) -> Result<Vec<Vec<u8>>, PacketError> {
+    packetizer.packetize(alloc, mtu, frame)
+}
+
 /// Frames that one packetizer is given one after another.
 pub fn assert_frames<P: Packetizer>(
     rt: &impl Abort,
@@ -87,6 +98,41 @@ pub fn assert_frames<P: Packetizer>(
         let answer = packetizer.packetize(alloc, frame.mtu, frame.bytes);
         assert_sent(rt, name, &answer, &frame.packets);
     }
+}
+
+/// What a call answered, or nothing where it found no memory. Any other fault fails the test.
+pub fn found<T: Drop>(answer: Result<T, PacketError>) -> Result<Option<T>, Fail> {
+    match answer {
+        Ok(value) => Ok(Some(value)),
+        Err(PacketError::OutOfMemory) => Ok(None),
+        Err(_) => Err(Fail::from("another fault")),
+    }
+}
+
+/// Bytes of which one is there so many times in the middle.
+pub fn filled(
+    alloc: Global,
+    front: &[u8],
+    filling: u8,
+    count: usize,
+    back: &[u8],
+) -> Result<Vec<u8>, AllocError> {
+    let mut bytes = Vec::from_slice(alloc, front)?;
+    for _ in 0..count {
+        bytes.push(filling)?;
+    }
+    bytes.extend_from_slice(back)?;
+    Ok(bytes)
+}
+
+/// What a depacketizer makes of a payload, behind what came before.
+pub fn depacketize<D: Depacketizer>(
+    depacketizer: &mut D,
+    payload: &[u8],
+    out: &mut Vec<u8>,
+    extra: &mut CodecExtra,
+) -> Result<(), PacketError> {
+    depacketizer.depacketize(payload, out, extra)
 }
 
 /// What a depacketizer made of a payload.

@@ -1,7 +1,7 @@
 //! The worked examples of recovery, and what comes where memory is refused.
 
-use super::{found, sender_of_four, wrapped};
-use crate::tables::{assert_other, assert_same, assert_shown};
+use super::{sender_of_four, wrapped};
+use crate::tables::{assert_other, assert_same, assert_shown, found};
 use codec_payload_base::error::PacketError;
 use codec_payload_base::wire::SeqNo;
 use codec_payload_red::red::{Recovered, RedReceiver};
@@ -321,13 +321,17 @@ fn what_a_sender_repeats_is_recovered(rt: HostRuntime) -> Result<(), Fail> {
     Ok(())
 }
 
+/// Steps, and whether a receiver may have them.
+const STEPS: [(u32, bool); 4] = [(0, false), (1, true), (16_383, true), (16_384, false)];
+
 #[test]
-fn steps_of_receivers(rt: HostRuntime) {
-    for (step, accepted) in [(0, false), (1, true), (16_383, true), (16_384, false)] {
-        assert_eq!(rt; receiver(96, step).is_some(), accepted, "of {step}");
+fn steps_of_receivers(rt: HostRuntime) -> Result<(), Fail> {
+    for (step, accepted) in &STEPS {
+        assert_eq!(rt; receiver(96, *step).is_some(), *accepted, "of {step}");
     }
-    let primary_pt = receiver(0xe0, 960).map(|receiver| receiver.primary_pt());
-    assert_eq!(rt; primary_pt, Some(96));
+    let masked = receiver(0xe0, 960).ok_or("no receiver")?;
+    assert_same(&rt, "the lower seven bits", &masked.primary_pt(), &96);
+    Ok(())
 }
 
 #[test]
