@@ -134,7 +134,7 @@ struct SentRow {
     frame: Frame,
 }
 
-const SENT: [SentRow; 16] = [
+static SENT: [SentRow; 16] = [
     SentRow {
         name: "amr-wb-type-14-sent, octet-aligned",
         format: OCTET_ALIGNED,
@@ -281,12 +281,16 @@ const SENT: [SentRow; 16] = [
     },
 ];
 
+/// The packets of a row's frame.
+fn assert_sent_row(rt: &impl Abort, alloc: Global, row: &SentRow) {
+    let answer = sent(alloc, row.format, row.frame.mtu, row.frame.bytes);
+    assert_sent(rt, row.name, &answer, &row.frame.packets);
+}
+
 #[test]
 fn frames_are_sent(rt: HostRuntime) {
-    let alloc = rt.alloc();
     for row in &SENT {
-        let answer = sent(alloc, row.format, row.frame.mtu, row.frame.bytes);
-        assert_sent(&rt, row.name, &answer, &row.frame.packets);
+        assert_sent_row(&rt, rt.alloc(), row);
     }
 }
 
@@ -298,7 +302,7 @@ struct ReceivedRow {
     wanted: Result<&'static [u8], PacketError>,
 }
 
-const RECEIVED: [ReceivedRow; 15] = [
+static RECEIVED: [ReceivedRow; 15] = [
     ReceivedRow {
         name: "amr-wb-two-frames-received",
         format: BANDWIDTH_EFFICIENT,
@@ -393,47 +397,41 @@ const RECEIVED: [ReceivedRow; 15] = [
     },
 ];
 
+/// What a row's payload gives.
+fn assert_received_row(
+    rt: &impl Abort,
+    alloc: Global,
+    row: &ReceivedRow,
+) -> Result<(), AllocError> {
+    assert_received_as(rt, alloc, row.name, row.format, row.payload, &row.wanted)
+}
+
 #[test]
 fn payloads_are_received(rt: HostRuntime) -> Result<(), Fail> {
     for row in &RECEIVED {
-        assert_received_as(
-            &rt,
-            rt.alloc(),
-            row.name,
-            row.format,
-            row.payload,
-            &row.wanted,
-        )?;
-    }
-    Ok(())
-}
-
-/// A frame in one layout is sent in one packet, which comes back as these bytes behind the one byte 7.
-fn assert_comes_back(
-    rt: &impl Abort,
-    alloc: Global,
-    format: Format,
-    frame: &[u8],
-    wanted: &[u8],
-) -> Result<(), PacketError> {
-    let name = "amr-wb-bits-that-mean-nothing";
-    let packets = sent(alloc, format, 1_200, frame)?;
-    assert_same(rt, name, &packets.len(), &1);
-    for packet in &packets {
-        assert_received_as(rt, alloc, name, format, packet, &Ok(wanted))?;
+        assert_received_row(&rt, rt.alloc(), row)?;
     }
     Ok(())
 }
 
 /// Type 0 without quality: 132 bits are 16 bytes and the bits 1010. The frame's bits 0x83 and its last four mean nothing, so
-/// the same comes back as for bits 0x00 and four zeros.
-#[test]
-fn amr_wb_bits_that_mean_nothing(rt: HostRuntime) -> Result<(), Fail> {
-    let alloc = rt.alloc();
+/// the same comes back from its one packet as for bits 0x00 and four zeros.
+fn assert_canonical(rt: &impl Abort, alloc: Global, format: Format) -> Result<(), PacketError> {
+    let name = "amr-wb-bits-that-mean-nothing";
     let frame = filled(alloc, &[0x83], 0xa5, 16, &[0xaf])?;
     let canonical = filled(alloc, &[7, 0x00], 0xa5, 16, &[0xa0])?;
-    assert_comes_back(&rt, alloc, BANDWIDTH_EFFICIENT, &frame, &canonical)?;
-    assert_comes_back(&rt, alloc, OCTET_ALIGNED, &frame, &canonical)?;
+    let packets = sent(alloc, format, 1_200, &frame)?;
+    assert_same(rt, name, &packets.len(), &1);
+    for packet in &packets {
+        assert_received_as(rt, alloc, name, format, packet, &Ok(&canonical))?;
+    }
+    Ok(())
+}
+
+#[test]
+fn amr_wb_bits_that_mean_nothing(rt: HostRuntime) -> Result<(), Fail> {
+    assert_canonical(&rt, rt.alloc(), BANDWIDTH_EFFICIENT)?;
+    assert_canonical(&rt, rt.alloc(), OCTET_ALIGNED)?;
     Ok(())
 }
 
@@ -570,27 +568,32 @@ fn assert_both_ways(
     assert_received_as(rt, alloc, name, format, payload, &Ok(wanted.as_slice()))
 }
 
+/// The bandwidth-efficient payload of a vector.
+fn shifted(alloc: Global, vector: &Vector) -> Result<Vec<u8>, AllocError> {
+    let mut payload = Vec::from_slice(alloc, &[vector.first, vector.second])?;
+    for _ in 1..vector.whole {
+        payload.push(0x69)?;
+    }
+    payload.push(vector.last)?;
+    Ok(payload)
+}
+
+/// A vector in both layouts.
+fn assert_vector(rt: &impl Abort, alloc: Global, vector: &Vector) -> Result<(), AllocError> {
+    let name = vector.name;
+    let header = (vector.frame_type << 3) | 0x04;
+    let mut frame = filled(alloc, &[header], 0xa5, vector.whole, &[])?;
+    frame.extend(vector.rest)?;
+    let aligned = filled(alloc, &[0xf0], 0, 0, &frame)?;
+    assert_both_ways(rt, alloc, name, OCTET_ALIGNED, &frame, &aligned)?;
+    let shifted = shifted(alloc, vector)?;
+    assert_both_ways(rt, alloc, name, BANDWIDTH_EFFICIENT, &frame, &shifted)
+}
+
 #[test]
 fn amr_wb_every_speech_type(rt: HostRuntime) -> Result<(), Fail> {
-    let alloc = rt.alloc();
     for vector in &VECTORS {
-        let mut frame = Vec::from_slice(alloc, &[(vector.frame_type << 3) | 0x04])?;
-        frame.resize(1 + vector.whole, 0xa5)?;
-        frame.extend(vector.rest)?;
-        let mut aligned = Vec::from_slice(alloc, &[0xf0])?;
-        aligned.extend_from_slice(&frame)?;
-        let mut shifted = Vec::from_slice(alloc, &[vector.first, vector.second])?;
-        shifted.resize(1 + vector.whole, 0x69)?;
-        shifted.push(vector.last)?;
-        assert_both_ways(&rt, alloc, vector.name, OCTET_ALIGNED, &frame, &aligned)?;
-        assert_both_ways(
-            &rt,
-            alloc,
-            vector.name,
-            BANDWIDTH_EFFICIENT,
-            &frame,
-            &shifted,
-        )?;
+        assert_vector(&rt, rt.alloc(), vector)?;
     }
     Ok(())
 }

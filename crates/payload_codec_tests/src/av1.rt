@@ -4,8 +4,7 @@ mod plain;
 
 use crate::av1::plain::plain_packets;
 use crate::tables::{
-    Frame, assert_bytes, assert_received, assert_same, assert_sent, depacketize, filled, found,
-    packetize,
+    Frame, Unit, assert_bytes, assert_received, assert_same, assert_sent, filled, found, packetize,
 };
 use codec_payload_av1::av1::{Av1CodecExtra, Av1Depacketizer, Av1Packetizer};
 use codec_payload_base::error::PacketError;
@@ -43,15 +42,9 @@ fn sent(alloc: Global, mtu: usize, frame: &[u8]) -> Result<Vec<Vec<u8>>, PacketE
     packetize(alloc, &mut Av1Packetizer::default(), mtu, frame)
 }
 
-/// What a depacketizer that holds nothing puts together from these packets.
-fn received(alloc: Global, packets: &[&[u8]]) -> Result<(Vec<u8>, CodecExtra), PacketError> {
-    let mut depacketizer = Av1Depacketizer::new(alloc);
-    let mut out = Vec::new(alloc);
-    let mut extra = CodecExtra::None;
-    for packet in packets {
-        depacketize(&mut depacketizer, packet, &mut out, &mut extra)?;
-    }
-    Ok((out, extra))
+/// A depacketizer that holds nothing.
+fn unit(alloc: Global) -> Unit<Av1Depacketizer> {
+    Unit::new(alloc, Av1Depacketizer::new(alloc))
 }
 
 fn told(is_keyframe: bool) -> CodecExtra {
@@ -64,7 +57,7 @@ struct SentRow {
     frame: Frame,
 }
 
-const SENT: [SentRow; 10] = [
+static SENT: [SentRow; 10] = [
     SentRow {
         name: "av1-two-obus-mtu-1200",
         frame: Frame {
@@ -204,25 +197,20 @@ const UNITS: [UnitRow; 5] = [
     },
 ];
 
-/// The unit of a row, and whether it is a keyframe.
-fn assert_unit(
-    rt: &impl Abort,
-    row: &UnitRow,
-    answer: &Result<(Vec<u8>, CodecExtra), PacketError>,
-) {
-    match answer {
-        Ok((unit, extra)) => {
-            assert_bytes(rt, row.name, unit, row.unit);
-            assert_same(rt, row.name, extra, &told(row.is_keyframe));
-        }
-        Err(fault) => panic!(rt; "{} is refused: {fault}", row.name),
+/// The unit of a row's packets, and whether it is a keyframe.
+fn assert_unit(rt: &impl Abort, alloc: Global, row: &UnitRow) {
+    let mut unit = unit(alloc);
+    for packet in row.packets {
+        assert_same(rt, row.name, &unit.take(packet), &Ok(()));
     }
+    assert_bytes(rt, row.name, &unit.out, row.unit);
+    assert_same(rt, row.name, &unit.extra, &told(row.is_keyframe));
 }
 
 #[test]
 fn units_are_put_together(rt: HostRuntime) {
     for row in &UNITS {
-        assert_unit(&rt, row, &received(rt.alloc(), row.packets));
+        assert_unit(&rt, rt.alloc(), row);
     }
 }
 
@@ -381,14 +369,13 @@ fn filled_frames_are_sent(rt: HostRuntime) -> Result<(), Fail> {
 #[test]
 fn a_keyframe_stays_one(rt: HostRuntime) -> Result<(), Fail> {
     let name = "a-keyframe-stays-one";
-    let mut depacketizer = Av1Depacketizer::new(rt.alloc());
-    let mut out = Vec::new(rt.alloc());
-    let mut extra = told(true);
-    depacketize(&mut depacketizer, &[0x10, 0x30, 0xbb], &mut out, &mut extra)?;
-    assert_same(&rt, name, &extra, &told(true));
-    let empty = depacketize(&mut depacketizer, &[], &mut out, &mut extra);
-    assert_same(&rt, name, &empty, &Err(PacketError::ErrShortPacket));
-    assert_bytes(&rt, name, &out, &[0x32, 0x01, 0xbb]);
+    let mut unit = unit(rt.alloc());
+    unit.extra = told(true);
+    unit.take(&[0x10, 0x30, 0xbb])?;
+    assert_same(&rt, name, &unit.extra, &told(true));
+    let fault = unit.take(&[]).err();
+    assert_same(&rt, name, &fault, &Some(PacketError::ErrShortPacket));
+    assert_bytes(&rt, name, &unit.out, &[0x32, 0x01, 0xbb]);
     Ok(())
 }
 
@@ -435,13 +422,11 @@ fn table_frame(alloc: Global, lengths: &[usize]) -> Result<(Vec<u8>, Vec<Vec<u8>
 }
 
 fn put_together(alloc: Global, packets: &[Vec<u8>]) -> Result<Vec<u8>, PacketError> {
-    let mut depacketizer = Av1Depacketizer::new(alloc);
-    let mut out = Vec::new(alloc);
-    let mut extra = CodecExtra::None;
+    let mut unit = unit(alloc);
     for packet in packets {
-        depacketize(&mut depacketizer, packet, &mut out, &mut extra)?;
+        unit.take(packet)?;
     }
-    Ok(out)
+    Ok(unit.out)
 }
 
 /// A frame is sent as the plain packer sends it, and comes back.
@@ -486,18 +471,15 @@ fn memory_is_refused_to_a_packetizer(rt: HostRuntime) -> Result<(), Fail> {
 #[test]
 fn memory_is_refused(rt: HostRuntime) -> Result<(), Fail> {
     let name = "memory-is-refused";
-    let mut depacketizer = Av1Depacketizer::new(rt.alloc());
-    let mut out = Vec::new(rt.alloc());
-    let mut extra = CodecExtra::None;
-    let answer = depacketize(&mut depacketizer, &GOES_ON, &mut out, &mut extra);
-    if found(answer)?.is_some() {
-        assert_bytes(&rt, name, &out, &[0x0a, 0x01, 0xaa]);
+    let mut unit = unit(rt.alloc());
+    if found(unit.take(&GOES_ON))?.is_some() {
+        assert_bytes(&rt, name, &unit.out, &[0x0a, 0x01, 0xaa]);
         return Ok(());
     }
-    assert_bytes(&rt, name, &out, &[]);
-    assert_same(&rt, name, &extra, &CodecExtra::None);
+    assert_bytes(&rt, name, &unit.out, &[]);
+    assert_same(&rt, name, &unit.extra, &CodecExtra::None);
     // Nothing is pending, so an element that goes on is skipped.
-    found(depacketize(&mut depacketizer, &[0x90, 0xdd], &mut out, &mut extra))?;
-    assert_bytes(&rt, name, &out, &[]);
+    found(unit.take(&[0x90, 0xdd]))?;
+    assert_bytes(&rt, name, &unit.out, &[]);
     Ok(())
 }

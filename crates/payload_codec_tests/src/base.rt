@@ -109,7 +109,7 @@ fn lent_bytes_outlive_the_next_read(rt: HostRuntime) -> Result<(), Fail> {
 }
 
 /// All faults in the order of their numbers, each with its text.
-const TEXTS: [(PacketError, &str); 17] = [
+static TEXTS: [(PacketError, &str); 17] = [
     (PacketError::ErrShortPacket, "Packet is too short"),
     (PacketError::ErrPayloadTooLarge, "Payload exceeds the MTU"),
     (
@@ -300,13 +300,20 @@ fn media_kind_application_none(rt: HostRuntime) {
     }
 }
 
-#[test]
-fn media_kinds_are_keys(rt: HostRuntime) -> Result<(), Fail> {
-    let mut names = HashMap::new(rt.alloc());
+/// The kinds of media by their names.
+fn named_kinds(alloc: Global) -> Result<HashMap<MediaKind, &'static str>, AllocError> {
+    let mut names = HashMap::new(alloc);
     names.insert(MediaKind::Audio, "audio")?;
     names.insert(MediaKind::Video, "video")?;
-    assert_eq!(rt; names.len(), 2);
-    assert_eq!(rt; names.get(&MediaKind::Video).copied(), Some("video"));
+    Ok(names)
+}
+
+#[test]
+fn media_kinds_are_keys(rt: HostRuntime) -> Result<(), Fail> {
+    let names = named_kinds(rt.alloc())?;
+    assert_same(&rt, "the names", &names.len(), &2);
+    let video = names.get(&MediaKind::Video).copied();
+    assert_same(&rt, "video", &video, &Some("video"));
     Ok(())
 }
 

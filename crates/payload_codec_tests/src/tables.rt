@@ -125,14 +125,29 @@ pub fn filled(
     Ok(bytes)
 }
 
-/// What a depacketizer makes of a payload, behind what came before.
-pub fn depacketize<D: Depacketizer>(
-    depacketizer: &mut D,
-    payload: &[u8],
-    out: &mut Vec<u8>,
-    extra: &mut CodecExtra,
-) -> Result<(), PacketError> {
-    depacketizer.depacketize(payload, out, extra)
+/// A depacketizer, and what it put together so far.
+#[derive(Drop)]
+pub struct Unit<D> {
+    pub depacketizer: D,
+    pub out: Vec<u8>,
+    pub extra: CodecExtra,
+}
+
+impl<D: Depacketizer> Unit<D> {
+    /// Nothing so far.
+    pub fn new(alloc: Global, depacketizer: D) -> Self {
+        Unit {
+            depacketizer,
+            out: Vec::new(alloc),
+            extra: CodecExtra::None,
+        }
+    }
+
+    /// Goes on with a payload.
+    pub fn take(&mut self, payload: &[u8]) -> Result<(), PacketError> {
+        self.depacketizer
+            .depacketize(payload, &mut self.out, &mut self.extra)
+    }
 }
 
 /// What a depacketizer made of a payload.

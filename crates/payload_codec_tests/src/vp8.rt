@@ -1,8 +1,8 @@
 //! The worked examples, texts of errors, and copies.
 
 use crate::tables::{
-    Frame, assert_bytes, assert_frames, assert_other, assert_printed, assert_same, depacketize,
-    packetize, receive,
+    Frame, Unit, assert_bytes, assert_frames, assert_other, assert_printed, assert_same, packetize,
+    receive,
 };
 use codec_payload_base::error::PacketError;
 use codec_payload_base::interface::CodecExtra;
@@ -22,7 +22,7 @@ struct SentRow {
     frames: &'static [Frame],
 }
 
-const SENT: [SentRow; 8] = [
+static SENT: [SentRow; 8] = [
     SentRow {
         name: "vp8-no-ids-three-packets",
         first_id: None,
@@ -160,10 +160,9 @@ fn told(
     depacketizer: &mut Vp8Depacketizer,
     payload: &[u8],
 ) -> Result<Option<u64>, PacketError> {
-    let mut out = Vec::new(alloc);
-    let mut extra = CodecExtra::None;
-    depacketize(depacketizer, payload, &mut out, &mut extra)?;
-    match extra {
+    let received = receive(alloc, depacketizer, payload)?;
+    received.answer?;
+    match received.extra {
         CodecExtra::Vp8(told) => Ok(told.picture_id),
         _ => Ok(None),
     }
@@ -229,12 +228,10 @@ fn picture_ids_are_told(rt: HostRuntime) {
 #[test]
 fn a_keyframe_stays_one(rt: HostRuntime) -> Result<(), Fail> {
     let name = "a-keyframe-stays-one";
-    let mut out = Vec::new(rt.alloc());
-    let mut extra = CodecExtra::None;
-    let mut depacketizer = Vp8Depacketizer::default();
-    depacketize(&mut depacketizer, &[0x30, 0x90], &mut out, &mut extra)?;
-    depacketize(&mut depacketizer, &[0x00, 0x91], &mut out, &mut extra)?;
-    assert_bytes(&rt, name, &out, &[0x90, 0x91]);
+    let mut unit = Unit::new(rt.alloc(), Vp8Depacketizer::default());
+    unit.take(&[0x30, 0x90])?;
+    unit.take(&[0x00, 0x91])?;
+    assert_bytes(&rt, name, &unit.out, &[0x90, 0x91]);
     let told = Vp8CodecExtra {
         discardable: false,
         sync: false,
@@ -243,7 +240,7 @@ fn a_keyframe_stays_one(rt: HostRuntime) -> Result<(), Fail> {
         tl0_picture_id: None,
         is_keyframe: true,
     };
-    assert_same(&rt, name, &extra, &CodecExtra::Vp8(told));
+    assert_same(&rt, name, &unit.extra, &CodecExtra::Vp8(told));
     Ok(())
 }
 
@@ -283,7 +280,7 @@ struct PatchRow {
     wanted: Result<[u8; 7], Vp8PatchError>,
 }
 
-const PATCHES: [PatchRow; 11] = [
+static PATCHES: [PatchRow; 11] = [
     PatchRow {
         name: "vp8-patch-and-back",
         payload: &READ,
@@ -420,7 +417,7 @@ fn descriptors_are_patched(rt: HostRuntime) -> Result<(), Fail> {
 }
 
 /// The faults of descriptors, each with its text.
-const OF_DESCRIPTORS: [(Vp8DescriptorError, &str); 2] = [
+static OF_DESCRIPTORS: [(Vp8DescriptorError, &str); 2] = [
     (Vp8DescriptorError::ShortPayload, "VP8 payload is too short"),
     (
         Vp8DescriptorError::MalformedDescriptor,
@@ -429,7 +426,7 @@ const OF_DESCRIPTORS: [(Vp8DescriptorError, &str); 2] = [
 ];
 
 /// The faults of patches, each with its text.
-const OF_PATCHES: [(Vp8PatchError, &str); 5] = [
+static OF_PATCHES: [(Vp8PatchError, &str); 5] = [
     (
         Vp8PatchError::PictureIdMissing,
         "VP8 payload descriptor has no PictureID",

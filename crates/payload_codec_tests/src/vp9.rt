@@ -1,8 +1,8 @@
 //! The worked examples, and copies.
 
 use crate::tables::{
-    Frame, assert_bytes, assert_frames, assert_other, assert_out, assert_received, assert_same,
-    depacketize, packetize, receive,
+    Frame, Unit, assert_bytes, assert_frames, assert_other, assert_out, assert_received,
+    assert_same, packetize, receive,
 };
 use codec_payload_base::error::PacketError;
 use codec_payload_base::interface::CodecExtra;
@@ -22,7 +22,7 @@ struct SentRow {
     frames: &'static [Frame],
 }
 
-const SENT: [SentRow; 6] = [
+static SENT: [SentRow; 6] = [
     SentRow {
         name: "vp9-nonflex-two-packets",
         mode: Vp9PacketizerMode::NonFlexible,
@@ -156,45 +156,20 @@ fn payloads_are_refused(rt: HostRuntime) -> Result<(), Fail> {
     Ok(())
 }
 
-/// A payload that says where the first spatial layer ends, and is wrong.
-const MISPLACED: [u8; 4] = [0x20, 0x00, 0x01, 0xcc];
-
 /// The end of the first spatial layer is elsewhere than where the bytes end.
 #[test]
 fn vp9_misplaced_layer_fault(rt: HostRuntime) -> Result<(), Fail> {
     let name = "vp9-misplaced-layer-fault";
-    let mut out = Vec::new(rt.alloc());
-    let mut extra = CodecExtra::None;
-    let mut depacketizer = Vp9Depacketizer::new(rt.alloc());
-    depacketize(
-        &mut depacketizer,
-        &[0x28, 0x00, 0x01, 0xaa],
-        &mut out,
-        &mut extra,
-    )?;
-    depacketize(
-        &mut depacketizer,
-        &[0x28, 0x02, 0x01, 0xbb],
-        &mut out,
-        &mut extra,
-    )?;
-    let before = extra;
-    let misplaced = depacketize(&mut depacketizer, &MISPLACED, &mut out, &mut extra);
-    assert_same(
-        &rt,
-        name,
-        &misplaced,
-        &Err(PacketError::ErrVP9CorruptedPacket),
-    );
-    assert_bytes(&rt, name, &out, &[0xaa, 0xbb]);
-    assert_same(&rt, name, &extra, &before);
-    depacketize(
-        &mut depacketizer,
-        &[0x20, 0x02, 0x01, 0xcc],
-        &mut out,
-        &mut extra,
-    )?;
-    assert_bytes(&rt, name, &out, &[0xaa, 0xbb, 0xcc]);
+    let mut unit = Unit::new(rt.alloc(), Vp9Depacketizer::new(rt.alloc()));
+    unit.take(&[0x28, 0x00, 0x01, 0xaa])?;
+    unit.take(&[0x28, 0x02, 0x01, 0xbb])?;
+    let before = unit.extra;
+    let fault = unit.take(&[0x20, 0x00, 0x01, 0xcc]).err();
+    assert_same(&rt, name, &fault, &Some(PacketError::ErrVP9CorruptedPacket));
+    assert_bytes(&rt, name, &unit.out, &[0xaa, 0xbb]);
+    assert_same(&rt, name, &unit.extra, &before);
+    unit.take(&[0x20, 0x02, 0x01, 0xcc])?;
+    assert_bytes(&rt, name, &unit.out, &[0xaa, 0xbb, 0xcc]);
     Ok(())
 }
 
@@ -214,15 +189,17 @@ fn vp9_structure_read_anew(rt: HostRuntime) -> Result<(), Fail> {
 }
 
 /// Whether a frame that is sent in one packet comes back as a keyframe.
-fn comes_back_as_keyframe(rt: &impl Abort, alloc: Global, frame: &[u8]) -> Result<bool, Fail> {
-    let mut out = Vec::new(alloc);
-    let mut extra = CodecExtra::None;
-    let mut depacketizer = Vp9Depacketizer::new(alloc);
+fn comes_back_as_keyframe(
+    rt: &impl Abort,
+    alloc: Global,
+    frame: &[u8],
+) -> Result<bool, PacketError> {
+    let mut unit = Unit::new(alloc, Vp9Depacketizer::new(alloc));
     for payload in packetize(alloc, &mut Vp9Packetizer::default(), 1_200, frame)? {
-        depacketize(&mut depacketizer, &payload, &mut out, &mut extra)?;
+        unit.take(&payload)?;
     }
-    assert_bytes(rt, "a frame that comes back", &out, frame);
-    Ok(matches!(extra, CodecExtra::Vp9(told) if told.is_keyframe))
+    assert_bytes(rt, "a frame that comes back", &unit.out, frame);
+    Ok(matches!(unit.extra, CodecExtra::Vp9(told) if told.is_keyframe))
 }
 
 /// A shown keyframe of profile 2 has no reserved bit before the bits that say so.

@@ -49,7 +49,7 @@ struct RecoveredRow {
     wanted: Result<&'static [Recovered<'static>], PacketError>,
 }
 
-const RECOVERED: [RecoveredRow; 13] = [
+static RECOVERED: [RecoveredRow; 13] = [
     RecoveredRow {
         name: "recover-block-and-primary",
         primary_pt: 96,
@@ -295,14 +295,22 @@ fn assert_recovered<'a>(
     }
 }
 
-#[test]
-fn packets_are_recovered(rt: HostRuntime) -> Result<(), Fail> {
-    for row in &RECOVERED {
-        let receiver = receiver(row.primary_pt, row.step).ok_or(row.name)?;
-        let answer = recovered(rt.alloc(), &receiver, row.seq_no, row.rtp_time, row.payload);
-        assert_recovered(&rt, row.name, &answer, &row.wanted);
+/// What a row's receiver finds.
+fn assert_row(rt: &impl Abort, alloc: Global, row: &RecoveredRow) {
+    match receiver(row.primary_pt, row.step) {
+        Some(receiver) => {
+            let answer = recovered(alloc, &receiver, row.seq_no, row.rtp_time, row.payload);
+            assert_recovered(rt, row.name, &answer, &row.wanted);
+        }
+        None => panic!(rt; "no receiver in {}", row.name),
     }
-    Ok(())
+}
+
+#[test]
+fn packets_are_recovered(rt: HostRuntime) {
+    for row in &RECOVERED {
+        assert_row(&rt, rt.alloc(), row);
+    }
 }
 
 /// Of five packets, numbered from 10 and 960 ticks apart, the fifth repeats the first one before it and the third.
