@@ -54,11 +54,11 @@ pub fn assert_shown<T: Debug>(
     Ok(())
 }
 
-/// These packets, each of them whole.
-pub fn assert_packets(rt: &impl Abort, name: &str, packets: &[Vec<u8>], payloads: &[&[u8]]) {
-    assert_same(rt, name, &packets.len(), &payloads.len());
-    for (place, (packet, payload)) in packets.iter().zip(payloads).enumerate() {
-        assert_eq!(rt; packet.as_slice(), *payload, "packet {place} of {name}");
+/// As many parts as are wanted, each of them whole.
+pub fn assert_parts(rt: &impl Abort, name: &str, parts: &[Vec<u8>], wanted: &[&[u8]]) {
+    assert_same(rt, name, &parts.len(), &wanted.len());
+    for (place, (part, bytes)) in parts.iter().zip(wanted).enumerate() {
+        assert_eq!(rt; part.as_slice(), *bytes, "part {place} of {name}");
     }
 }
 
@@ -70,7 +70,7 @@ pub fn assert_sent(
     wanted: &Result<&[&[u8]], PacketError>,
 ) {
     match (answer, wanted) {
-        (Ok(packets), Ok(payloads)) => assert_packets(rt, name, packets, payloads),
+        (Ok(packets), Ok(payloads)) => assert_parts(rt, name, packets, payloads),
         (Err(fault), Err(named)) => assert_same(rt, name, fault, named),
         _ => panic!(rt; "{name} gives {answer:?} in place of {wanted:?}"),
     }

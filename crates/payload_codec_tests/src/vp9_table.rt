@@ -1,6 +1,6 @@
 //! The descriptor of RFC 9628, section 4.2, under all flag bytes, cut off at each byte.
 
-use crate::tables::{Received, assert_bytes, assert_out, assert_packets, assert_same, receive};
+use crate::tables::{Received, assert_bytes, assert_out, assert_parts, assert_same, receive};
 use codec_payload_base::error::PacketError;
 use codec_payload_base::interface::CodecExtra;
 use codec_payload_vp9::vp9::{Vp9CodecExtra, Vp9Depacketizer, detect_vp9_keyframe};
@@ -449,7 +449,7 @@ fn assert_groups(rt: &impl Abort, name: &str, depacketizer: &Vp9Depacketizer, st
         &depacketizer.pgu.as_slice(),
         &[false, true].as_slice(),
     );
-    assert_packets(rt, name, &depacketizer.pgpdiff, &[&[1], &[]]);
+    assert_parts(rt, name, &depacketizer.pgpdiff, &[&[1], &[]]);
 }
 
 /// What a payload under these flags that was taken told, with the bytes so far.
