@@ -1,6 +1,8 @@
 //! The worked examples of the audio formats, and calls that take memory.
 
-use crate::tables::{Frame, assert_received, assert_sent};
+use crate::tables::{
+    Frame, assert_printed, assert_received, assert_same, assert_sent, filled, packetize, receive,
+};
 use codec_payload_audio::amr_wb::{AmrWbDepacketizer, AmrWbPacketizer};
 use codec_payload_audio::plain::{
     ComfortNoiseDepacketizer, ComfortNoisePacketizer, G7xxPacketizer, G711Depacketizer,
@@ -10,9 +12,9 @@ use codec_payload_audio::tele::{
     TelephoneEventDepacketizer, TelephoneEventPacketizer, duration_from_units,
 };
 use codec_payload_base::error::PacketError;
-use codec_payload_base::interface::{CodecExtra, Depacketizer, Packetizer, TelephoneEvent};
+use codec_payload_base::interface::{CodecExtra, Packetizer, TelephoneEvent};
 use codec_payload_base::wire::Frequency;
-use std::alloc::Global;
+use std::alloc::{AllocError, Global};
 use std::process::Abort;
 use std::test::Fail;
 
@@ -39,14 +41,14 @@ fn sent(
     frame: &[u8],
 ) -> Result<Vec<Vec<u8>>, PacketError> {
     match format {
-        Format::AmrWb { octet_align } => AmrWbPacketizer { octet_align }.packetize(
-            alloc, mtu, frame,
-        ),
-        Format::ComfortNoise => ComfortNoisePacketizer {}.packetize(alloc, mtu, frame),
-        Format::Telephone => TelephoneEventPacketizer {}.packetize(alloc, mtu, frame),
-        Format::Opus => OpusPacketizer {}.packetize(alloc, mtu, frame),
-        Format::G711 => G7xxPacketizer::default().packetize(alloc, mtu, frame),
-        Format::Null => NullPacketizer {}.packetize(alloc, mtu, frame),
+        Format::AmrWb { octet_align } => {
+            packetize(alloc, &mut AmrWbPacketizer { octet_align }, mtu, frame)
+        }
+        Format::ComfortNoise => packetize(alloc, &mut ComfortNoisePacketizer {}, mtu, frame),
+        Format::Telephone => packetize(alloc, &mut TelephoneEventPacketizer {}, mtu, frame),
+        Format::Opus => packetize(alloc, &mut OpusPacketizer {}, mtu, frame),
+        Format::G711 => packetize(alloc, &mut G7xxPacketizer::default(), mtu, frame),
+        Format::Null => packetize(alloc, &mut NullPacketizer {}, mtu, frame),
     }
 }
 
@@ -58,7 +60,7 @@ fn assert_received_as(
     format: Format,
     payload: &[u8],
     wanted: &Result<&[u8], PacketError>,
-) -> Result<(), Fail> {
+) -> Result<(), AllocError> {
     match format {
         Format::AmrWb { octet_align } => {
             let mut depacketizer = AmrWbDepacketizer { octet_align };
@@ -114,6 +116,14 @@ const TYPE_8_BANDWIDTH_EFFICIENT: [u8; 61] = [
 /// Two reports on telephone events.
 const TWO_REPORTS: [u8; 8] = [0x05, 0x8a, 0x03, 0x20, 0x06, 0x0a, 0x01, 0x40];
 
+/// A report and the first byte of another.
+const FIVE_BYTES: [u8; 5] = [0x05, 0x8a, 0x03, 0x20, 0x06];
+
+/// Its fault.
+const NOT_WHOLE: PacketError = PacketError::InvalidTelephoneEvent(
+    "payload must contain one or more complete 4-byte reports",
+);
+
 /// A comfort noise payload.
 const NOISE: [u8; 3] = [0x2a, 0x80, 0x40];
 
@@ -124,7 +134,7 @@ struct SentRow {
     frame: Frame,
 }
 
-const SENT: [SentRow; 16] = [
+static SENT: [SentRow; 16] = [
     SentRow {
         name: "amr-wb-type-14-sent, octet-aligned",
         format: OCTET_ALIGNED,
@@ -271,12 +281,16 @@ const SENT: [SentRow; 16] = [
     },
 ];
 
+/// The packets of a row's frame.
+fn assert_sent_row(rt: &impl Abort, alloc: Global, row: &SentRow) {
+    let answer = sent(alloc, row.format, row.frame.mtu, row.frame.bytes);
+    assert_sent(rt, row.name, &answer, &row.frame.packets);
+}
+
 #[test]
 fn frames_are_sent(rt: HostRuntime) {
-    let alloc = rt.alloc();
     for row in &SENT {
-        let answer = sent(alloc, row.format, row.frame.mtu, row.frame.bytes);
-        assert_sent(&rt, row.name, &answer, &row.frame.packets);
+        assert_sent_row(&rt, rt.alloc(), row);
     }
 }
 
@@ -288,7 +302,7 @@ struct ReceivedRow {
     wanted: Result<&'static [u8], PacketError>,
 }
 
-const RECEIVED: [ReceivedRow; 14] = [
+static RECEIVED: [ReceivedRow; 15] = [
     ReceivedRow {
         name: "amr-wb-two-frames-received",
         format: BANDWIDTH_EFFICIENT,
@@ -358,6 +372,12 @@ const RECEIVED: [ReceivedRow; 14] = [
         wanted: Ok(&[7, 0x05, 0x8a, 0x03, 0x20]),
     },
     ReceivedRow {
+        name: "tele-five-bytes-fault",
+        format: Format::Telephone,
+        payload: &FIVE_BYTES,
+        wanted: Err(NOT_WHOLE),
+    },
+    ReceivedRow {
         name: "other-codecs-once, Opus",
         format: Format::Opus,
         payload: &[1, 2],
@@ -377,45 +397,41 @@ const RECEIVED: [ReceivedRow; 14] = [
     },
 ];
 
+/// What a row's payload gives.
+fn assert_received_row(
+    rt: &impl Abort,
+    alloc: Global,
+    row: &ReceivedRow,
+) -> Result<(), AllocError> {
+    assert_received_as(rt, alloc, row.name, row.format, row.payload, &row.wanted)
+}
+
 #[test]
 fn payloads_are_received(rt: HostRuntime) -> Result<(), Fail> {
     for row in &RECEIVED {
-        assert_received_as(
-            &rt,
-            rt.alloc(),
-            row.name,
-            row.format,
-            row.payload,
-            &row.wanted,
-        )?;
+        assert_received_row(&rt, rt.alloc(), row)?;
     }
     Ok(())
 }
 
 /// Type 0 without quality: 132 bits are 16 bytes and the bits 1010. The frame's bits 0x83 and its last four mean nothing, so
-/// the same comes back as for bits 0x00 and four zeros.
+/// the same comes back from its one packet as for bits 0x00 and four zeros.
+fn assert_canonical(rt: &impl Abort, alloc: Global, format: Format) -> Result<(), PacketError> {
+    let name = "amr-wb-bits-that-mean-nothing";
+    let frame = filled(alloc, &[0x83], 0xa5, 16, &[0xaf])?;
+    let canonical = filled(alloc, &[7, 0x00], 0xa5, 16, &[0xa0])?;
+    let packets = sent(alloc, format, 1_200, &frame)?;
+    assert_same(rt, name, &packets.len(), &1);
+    for packet in &packets {
+        assert_received_as(rt, alloc, name, format, packet, &Ok(&canonical))?;
+    }
+    Ok(())
+}
+
 #[test]
 fn amr_wb_bits_that_mean_nothing(rt: HostRuntime) -> Result<(), Fail> {
-    let alloc = rt.alloc();
-    let mut frame = Vec::from_slice(alloc, &[0x83])?;
-    frame.resize(17, 0xa5)?;
-    frame.push(0xaf)?;
-    let mut canonical = Vec::from_slice(alloc, &[7, 0x00])?;
-    canonical.resize(18, 0xa5)?;
-    canonical.push(0xa0)?;
-    for format in [BANDWIDTH_EFFICIENT, OCTET_ALIGNED] {
-        let packets = sent(alloc, format, 1_200, &frame)?;
-        assert_eq!(rt; packets.len(), 1);
-        let wanted = Ok(canonical.as_slice());
-        assert_received_as(
-            &rt,
-            alloc,
-            "bits-that-mean-nothing",
-            format,
-            &packets[0],
-            &wanted,
-        )?;
-    }
+    assert_canonical(&rt, rt.alloc(), BANDWIDTH_EFFICIENT)?;
+    assert_canonical(&rt, rt.alloc(), OCTET_ALIGNED)?;
     Ok(())
 }
 
@@ -544,7 +560,7 @@ fn assert_both_ways(
     format: Format,
     frame: &[u8],
     payload: &[u8],
-) -> Result<(), Fail> {
+) -> Result<(), AllocError> {
     let answer = sent(alloc, format, 1_200, frame);
     assert_sent(rt, name, &answer, &Ok(&[payload]));
     let mut wanted = Vec::from_slice(alloc, &[7])?;
@@ -552,73 +568,78 @@ fn assert_both_ways(
     assert_received_as(rt, alloc, name, format, payload, &Ok(wanted.as_slice()))
 }
 
+/// The bandwidth-efficient payload of a vector.
+fn shifted(alloc: Global, vector: &Vector) -> Result<Vec<u8>, AllocError> {
+    let mut payload = Vec::from_slice(alloc, &[vector.first, vector.second])?;
+    for _ in 1..vector.whole {
+        payload.push(0x69)?;
+    }
+    payload.push(vector.last)?;
+    Ok(payload)
+}
+
+/// A vector in both layouts.
+fn assert_vector(rt: &impl Abort, alloc: Global, vector: &Vector) -> Result<(), AllocError> {
+    let name = vector.name;
+    let header = (vector.frame_type << 3) | 0x04;
+    let mut frame = filled(alloc, &[header], 0xa5, vector.whole, &[])?;
+    frame.extend(vector.rest)?;
+    let aligned = filled(alloc, &[0xf0], 0, 0, &frame)?;
+    assert_both_ways(rt, alloc, name, OCTET_ALIGNED, &frame, &aligned)?;
+    let shifted = shifted(alloc, vector)?;
+    assert_both_ways(rt, alloc, name, BANDWIDTH_EFFICIENT, &frame, &shifted)
+}
+
 #[test]
 fn amr_wb_every_speech_type(rt: HostRuntime) -> Result<(), Fail> {
-    let alloc = rt.alloc();
     for vector in &VECTORS {
-        let mut frame = Vec::from_slice(alloc, &[(vector.frame_type << 3) | 0x04])?;
-        frame.resize(1 + vector.whole, 0xa5)?;
-        frame.extend(vector.rest)?;
-        let mut aligned = Vec::from_slice(alloc, &[0xf0])?;
-        aligned.extend_from_slice(&frame)?;
-        let mut shifted = Vec::from_slice(alloc, &[vector.first, vector.second])?;
-        shifted.resize(1 + vector.whole, 0x69)?;
-        shifted.push(vector.last)?;
-        assert_both_ways(&rt, alloc, vector.name, OCTET_ALIGNED, &frame, &aligned)?;
-        assert_both_ways(
-            &rt,
-            alloc,
-            vector.name,
-            BANDWIDTH_EFFICIENT,
-            &frame,
-            &shifted,
-        )?;
+        assert_vector(&rt, rt.alloc(), vector)?;
     }
     Ok(())
 }
 
-#[test]
-fn tele_two_reports(rt: HostRuntime) -> Result<(), Fail> {
-    let alloc = rt.alloc();
-    let mut out = Vec::new(alloc);
-    let mut extra = CodecExtra::None;
-    let mut depacketizer = TelephoneEventDepacketizer::default();
-    depacketizer.depacketize(&TWO_REPORTS, &mut out, &mut extra)?;
-    assert_eq!(rt; out.as_slice(), [0x05u8, 0x8a, 0x03, 0x20].as_slice());
-    let first = TelephoneEvent {
+/// The reports of a payload, at 8,000 units a second.
+fn reports(alloc: Global, payload: &[u8]) -> Result<Option<Vec<TelephoneEvent>>, AllocError> {
+    match TelephoneEvent::parse_all(payload, Frequency::EIGHT_KHZ) {
+        Some(reports) => Ok(Some(reports.collect(alloc)?)),
+        None => Ok(None),
+    }
+}
+
+/// The two reports.
+const EVENTS: [TelephoneEvent; 2] = [
+    TelephoneEvent {
         event: 5,
         end: true,
         volume: 10,
         duration: 100_000_000,
-    };
-    assert_eq!(rt; extra, CodecExtra::Tele(first));
-    let mut all = TelephoneEvent::parse_all(&TWO_REPORTS, Frequency::EIGHT_KHZ).ok_or("reports")?;
-    assert_eq!(rt; all.next(), Some(first));
-    let second = all.next().ok_or("a second report")?;
-    assert_eq!(rt; second.event, 6);
-    assert!(rt; !second.end);
-    assert_eq!(rt; second.duration, 40_000_000);
-    assert_eq!(rt; all.next(), None);
+    },
+    TelephoneEvent {
+        event: 6,
+        end: false,
+        volume: 10,
+        duration: 40_000_000,
+    },
+];
+
+/// The first report is told, and both are read.
+#[test]
+fn tele_two_reports(rt: HostRuntime) -> Result<(), Fail> {
+    let name = "tele-two-reports";
+    let mut depacketizer = TelephoneEventDepacketizer::default();
+    let received = receive(rt.alloc(), &mut depacketizer, &TWO_REPORTS)?;
+    assert_same(&rt, name, &received.extra, &CodecExtra::Tele(EVENTS[0]));
+    let events = reports(rt.alloc(), &TWO_REPORTS)?.ok_or("reports")?;
+    assert_same(&rt, name, &events.as_slice(), &EVENTS.as_slice());
     Ok(())
 }
 
 #[test]
 fn tele_five_bytes_fault(rt: HostRuntime) -> Result<(), Fail> {
-    let alloc = rt.alloc();
-    let mut out = Vec::from_slice(alloc, &[7])?;
-    let mut extra = CodecExtra::None;
-    let fault = TelephoneEventDepacketizer::default()
-        .depacketize(&TWO_REPORTS[..5], &mut out, &mut extra)
-        .err()
-        .ok_or("a fault")?;
-    assert_eq!(rt; out.as_slice(), [7u8].as_slice());
-    assert_eq!(rt; extra, CodecExtra::None);
-    assert_eq!(rt; fault.number(), 15);
-    let text = format!(in alloc; "{fault}")?;
-    let expected =
-        "Invalid telephone event: payload must contain one or more complete 4-byte reports";
-    assert_eq!(rt; text.as_str(), expected);
-    assert!(rt; TelephoneEvent::parse_all(&TWO_REPORTS[..5], Frequency::EIGHT_KHZ).is_none());
+    assert_same(&rt, "tele-five-bytes-fault", &NOT_WHOLE.number(), &15);
+    let text = "Invalid telephone event: payload must contain one or more complete 4-byte reports";
+    assert_printed(&rt, rt.alloc(), &NOT_WHOLE, text)?;
+    assert!(rt; reports(rt.alloc(), &FIVE_BYTES)?.is_none());
     Ok(())
 }
 

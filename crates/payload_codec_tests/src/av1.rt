@@ -3,11 +3,14 @@
 mod plain;
 
 use crate::av1::plain::plain_packets;
-use crate::tables::{Frame, assert_received, assert_sent};
+use crate::tables::{
+    Frame, Unit, assert_bytes, assert_received, assert_same, assert_sent, filled, found, packetize,
+};
 use codec_payload_av1::av1::{Av1CodecExtra, Av1Depacketizer, Av1Packetizer};
 use codec_payload_base::error::PacketError;
-use codec_payload_base::interface::{CodecExtra, Depacketizer, Packetizer};
+use codec_payload_base::interface::CodecExtra;
 use std::alloc::{AllocError, Global};
+use std::process::Abort;
 use std::test::Fail;
 
 /// A temporal delimiter, a sequence header and a frame.
@@ -36,18 +39,12 @@ const PACKETS_OF_TWO: [&[u8]; 5] = [
 ];
 
 fn sent(alloc: Global, mtu: usize, frame: &[u8]) -> Result<Vec<Vec<u8>>, PacketError> {
-    Av1Packetizer::default().packetize(alloc, mtu, frame)
+    packetize(alloc, &mut Av1Packetizer::default(), mtu, frame)
 }
 
-/// What a depacketizer that holds nothing puts together from these packets.
-fn received(alloc: Global, packets: &[&[u8]]) -> Result<(Vec<u8>, CodecExtra), PacketError> {
-    let mut depacketizer = Av1Depacketizer::new(alloc);
-    let mut out = Vec::new(alloc);
-    let mut extra = CodecExtra::None;
-    for packet in packets {
-        depacketizer.depacketize(packet, &mut out, &mut extra)?;
-    }
-    Ok((out, extra))
+/// A depacketizer that holds nothing.
+fn unit(alloc: Global) -> Unit<Av1Depacketizer> {
+    Unit::new(alloc, Av1Depacketizer::new(alloc))
 }
 
 fn told(is_keyframe: bool) -> CodecExtra {
@@ -60,7 +57,7 @@ struct SentRow {
     frame: Frame,
 }
 
-const SENT: [SentRow; 10] = [
+static SENT: [SentRow; 10] = [
     SentRow {
         name: "av1-two-obus-mtu-1200",
         frame: Frame {
@@ -200,18 +197,21 @@ const UNITS: [UnitRow; 5] = [
     },
 ];
 
-#[test]
-fn units_are_put_together(rt: HostRuntime) -> Result<(), Fail> {
-    for row in &UNITS {
-        match received(rt.alloc(), row.packets) {
-            Ok((unit, extra)) => {
-                assert_eq!(rt; unit.as_slice(), row.unit, "in {}", row.name);
-                assert_eq!(rt; extra, told(row.is_keyframe), "in {}", row.name);
-            }
-            Err(fault) => assert!(rt; false, "{} is refused: {fault}", row.name),
-        }
+/// The unit of a row's packets, and whether it is a keyframe.
+fn assert_unit(rt: &impl Abort, alloc: Global, row: &UnitRow) {
+    let mut unit = unit(alloc);
+    for packet in row.packets {
+        assert_same(rt, row.name, &unit.take(packet), &Ok(()));
     }
-    Ok(())
+    assert_bytes(rt, row.name, &unit.out, row.unit);
+    assert_same(rt, row.name, &unit.extra, &told(row.is_keyframe));
+}
+
+#[test]
+fn units_are_put_together(rt: HostRuntime) {
+    for row in &UNITS {
+        assert_unit(&rt, rt.alloc(), row);
+    }
 }
 
 /// Payloads that are corrupted, each by its name.
@@ -250,12 +250,7 @@ struct Filled {
 
 impl Filled {
     fn bytes(&self, alloc: Global) -> Result<Vec<u8>, AllocError> {
-        let mut bytes = Vec::from_slice(alloc, self.front)?;
-        for _ in 0..self.count {
-            bytes.push(0xbb)?;
-        }
-        bytes.extend_from_slice(self.back)?;
-        Ok(bytes)
+        filled(alloc, self.front, 0xbb, self.count, self.back)
     }
 }
 
@@ -352,30 +347,35 @@ const FILLED: [FilledRow; 4] = [
     },
 ];
 
+/// The two packets of a row's frame.
+fn assert_filled(rt: &impl Abort, alloc: Global, row: &FilledRow) -> Result<(), AllocError> {
+    let first = row.first.bytes(alloc)?;
+    let second = row.second.bytes(alloc)?;
+    assert_same(rt, row.name, &[first.len(), second.len()], &row.lengths);
+    let frame = row.frame.bytes(alloc)?;
+    let answer = sent(alloc, row.mtu, &frame);
+    assert_sent(rt, row.name, &answer, &Ok(&[&first, &second]));
+    Ok(())
+}
+
 #[test]
 fn filled_frames_are_sent(rt: HostRuntime) -> Result<(), Fail> {
-    let alloc = rt.alloc();
     for row in &FILLED {
-        let first = row.first.bytes(alloc)?;
-        let second = row.second.bytes(alloc)?;
-        assert_eq!(rt; [first.len(), second.len()], row.lengths, "in {}", row.name);
-        let answer = sent(alloc, row.mtu, &row.frame.bytes(alloc)?);
-        assert_sent(&rt, row.name, &answer, &Ok(&[&first, &second]));
+        assert_filled(&rt, rt.alloc(), row)?;
     }
     Ok(())
 }
 
 #[test]
 fn a_keyframe_stays_one(rt: HostRuntime) -> Result<(), Fail> {
-    let alloc = rt.alloc();
-    let mut depacketizer = Av1Depacketizer::new(alloc);
-    let mut out = Vec::new(alloc);
-    let mut extra = told(true);
-    depacketizer.depacketize(&[0x10, 0x30, 0xbb], &mut out, &mut extra)?;
-    assert_eq!(rt; extra, told(true));
-    let empty = depacketizer.depacketize(&[], &mut out, &mut extra);
-    assert_eq!(rt; empty, Err(PacketError::ErrShortPacket));
-    assert_eq!(rt; out.as_slice(), [0x32u8, 0x01, 0xbb].as_slice());
+    let name = "a-keyframe-stays-one";
+    let mut unit = unit(rt.alloc());
+    unit.extra = told(true);
+    unit.take(&[0x10, 0x30, 0xbb])?;
+    assert_same(&rt, name, &unit.extra, &told(true));
+    let fault = unit.take(&[]).err();
+    assert_same(&rt, name, &fault, &Some(PacketError::ErrShortPacket));
+    assert_bytes(&rt, name, &unit.out, &[0x32, 0x01, 0xbb]);
     Ok(())
 }
 
@@ -422,29 +422,46 @@ fn table_frame(alloc: Global, lengths: &[usize]) -> Result<(Vec<u8>, Vec<Vec<u8>
 }
 
 fn put_together(alloc: Global, packets: &[Vec<u8>]) -> Result<Vec<u8>, PacketError> {
-    let mut depacketizer = Av1Depacketizer::new(alloc);
-    let mut out = Vec::new(alloc);
-    let mut extra = CodecExtra::None;
+    let mut unit = unit(alloc);
     for packet in packets {
-        depacketizer.depacketize(packet, &mut out, &mut extra)?;
+        unit.take(packet)?;
     }
-    Ok(out)
+    Ok(unit.out)
+}
+
+/// A frame is sent as the plain packer sends it, and comes back.
+fn assert_as_plain(
+    rt: &impl Abort,
+    alloc: Global,
+    lengths: &[usize],
+    mtu: usize,
+) -> Result<(), PacketError> {
+    let (frame, strings) = table_frame(alloc, lengths)?;
+    let packets = sent(alloc, mtu, &frame)?;
+    let plain = plain_packets(alloc, mtu, &strings)?;
+    assert!(rt; packets == plain, "lengths {lengths:?}, MTU {mtu}");
+    let unit = put_together(alloc, &packets)?;
+    assert!(rt; unit == frame, "lengths {lengths:?}, MTU {mtu}");
+    Ok(())
 }
 
 #[test]
 fn as_a_plain_packer(rt: HostRuntime) -> Result<(), Fail> {
-    let alloc = rt.alloc();
     for lengths in &TABLE {
-        let (frame, strings) = table_frame(alloc, lengths)?;
         for mtu in 2..=20usize {
-            let packets = sent(alloc, mtu, &frame)?;
-            assert!(rt;
-                packets == plain_packets(alloc, mtu, &strings)?,
-                "lengths {lengths:?}, MTU {mtu}"
-            );
-            let unit = put_together(alloc, &packets)?;
-            assert!(rt; unit == frame, "lengths {lengths:?}, MTU {mtu}");
+            assert_as_plain(&rt, rt.alloc(), lengths, mtu)?;
         }
+    }
+    Ok(())
+}
+
+/// A payload whose last element goes on.
+const GOES_ON: [u8; 7] = [0x68, 0x02, 0x08, 0xaa, 0x30, 0xbb, 0xcc];
+
+#[test]
+fn memory_is_refused_to_a_packetizer(rt: HostRuntime) -> Result<(), Fail> {
+    if let Some(packets) = found(sent(rt.alloc(), 3, &TWO_OBUS))? {
+        assert_same(&rt, "memory-is-refused", &packets.len(), &3);
     }
     Ok(())
 }
@@ -452,32 +469,17 @@ fn as_a_plain_packer(rt: HostRuntime) -> Result<(), Fail> {
 /// With each allocation refused in turn: the right answer or want of memory, and then `out` and the extra as before and
 /// nothing pending.
 #[test]
-fn memory_is_refused(rt: HostRuntime) {
-    let alloc = rt.alloc();
-    match sent(alloc, 3, &TWO_OBUS) {
-        Ok(packets) => {
-            assert_eq!(rt; packets.len(), 3);
-        }
-        Err(fault) => {
-            assert_eq!(rt; fault, PacketError::OutOfMemory);
-        }
+fn memory_is_refused(rt: HostRuntime) -> Result<(), Fail> {
+    let name = "memory-is-refused";
+    let mut unit = unit(rt.alloc());
+    if found(unit.take(&GOES_ON))?.is_some() {
+        assert_bytes(&rt, name, &unit.out, &[0x0a, 0x01, 0xaa]);
+        return Ok(());
     }
-    let mut depacketizer = Av1Depacketizer::new(alloc);
-    let mut out = Vec::new(alloc);
-    let mut extra = CodecExtra::None;
-    let payload: [u8; 7] = [0x68, 0x02, 0x08, 0xaa, 0x30, 0xbb, 0xcc];
-    match depacketizer.depacketize(&payload, &mut out, &mut extra) {
-        Ok(()) => {
-            assert_eq!(rt; out.as_slice(), [0x0au8, 0x01, 0xaa].as_slice());
-        }
-        Err(fault) => {
-            assert_eq!(rt; fault, PacketError::OutOfMemory);
-            assert!(rt; out.is_empty());
-            assert_eq!(rt; extra, CodecExtra::None);
-            // Nothing is pending, so an element that goes on is skipped.
-            let rest = depacketizer.depacketize(&[0x90, 0xdd], &mut out, &mut extra);
-            assert!(rt; rest.is_ok() || rest == Err(PacketError::OutOfMemory));
-            assert!(rt; out.is_empty());
-        }
-    }
+    assert_bytes(&rt, name, &unit.out, &[]);
+    assert_same(&rt, name, &unit.extra, &CodecExtra::None);
+    // Nothing is pending, so an element that goes on is skipped.
+    found(unit.take(&[0x90, 0xdd]))?;
+    assert_bytes(&rt, name, &unit.out, &[]);
+    Ok(())
 }

@@ -1,5 +1,6 @@
 //! What no clause says: texts of faults, defaults, and the worked examples of bits and numbers.
 
+use crate::tables::{assert_bytes, assert_other, assert_printed, assert_same};
 use codec_payload_base::bits::{BitRead, BitReader};
 use codec_payload_base::error::PacketError;
 use codec_payload_base::interface::Vp9PacketizerMode;
@@ -7,7 +8,9 @@ use codec_payload_base::wire::{
     AbsCaptureTime, ExtensionValues, Frequency, MediaKind, MediaTime, MediaType, Pt,
     VideoLayersAllocation, VideoTiming, encode_leb_u63,
 };
+use std::alloc::{AllocError, Global};
 use std::collections::HashMap;
+use std::process::Abort;
 use std::test::Fail;
 
 /// What is read, and the answer.
@@ -54,23 +57,21 @@ const READS: [ReadRow; 3] = [
     },
 ];
 
+/// The next answer of a reader.
+fn assert_read(rt: &impl Abort, name: &str, reader: &mut BitReader, read: &Read) {
+    match *read {
+        Read::Bits(count, value) => assert_same(rt, name, &reader.get_bits(count), &value),
+        Read::Leb128(value) => assert_same(rt, name, &reader.get_leb128(), &value),
+        Read::ByteOffset(offset) => assert_same(rt, name, &reader.byte_offset(), &offset),
+    }
+}
+
 #[test]
 fn bits_are_read(rt: HostRuntime) {
     for row in &READS {
-        let name = row.name;
         let mut reader = BitReader::at(row.bytes, row.place_in_bits);
         for read in row.reads {
-            match *read {
-                Read::Bits(count, value) => {
-                    assert_eq!(rt; reader.get_bits(count), value, "{count} bits in {name}");
-                }
-                Read::Leb128(value) => assert_eq!(rt; reader.get_leb128(), value, "in {name}"),
-                Read::ByteOffset(offset) => assert_eq!(rt;
-                    reader.byte_offset(),
-                    offset,
-                    "in {name}"
-                ),
-            }
+            assert_read(&rt, row.name, &mut reader, read);
         }
     }
 }
@@ -88,22 +89,27 @@ fn any_reader_serves(rt: HostRuntime) {
     assert_eq!(rt; BitReader::new(&[1, 2]).get_u16(), Some(0x0102));
 }
 
-#[test]
-fn lent_bytes_outlive_the_next_read(rt: HostRuntime) -> Result<(), Fail> {
-    let bytes = [1, 2, 3, 4, 5];
-    let mut reader = BitReader::at(&bytes, 11);
-    let two = reader.get_bytes(2).ok_or("two bytes")?;
+/// Two bytes behind the first, and what is left behind the one after them, by a reader that is then at the end.
+fn lent<'a>(rt: &impl Abort, bytes: &'a [u8]) -> Option<(&'a [u8], &'a [u8])> {
+    let mut reader = BitReader::at(bytes, 11);
+    let two = reader.get_bytes(2)?;
     reader.skip_bytes(1);
     let rest = reader.get_remaining();
-    assert_eq!(rt; two, [2u8, 3].as_slice());
-    assert_eq!(rt; rest, [5u8].as_slice());
     assert_eq!(rt; reader.remaining_bits(), 0);
     assert_eq!(rt; reader.remaining_bytes(), 0);
+    Some((two, rest))
+}
+
+#[test]
+fn lent_bytes_outlive_the_next_read(rt: HostRuntime) -> Result<(), Fail> {
+    let (two, rest) = lent(&rt, &[1, 2, 3, 4, 5]).ok_or("two bytes")?;
+    assert_bytes(&rt, "two bytes", two, &[2, 3]);
+    assert_bytes(&rt, "the rest", rest, &[5]);
     Ok(())
 }
 
 /// All faults in the order of their numbers, each with its text.
-const TEXTS: [(PacketError, &str); 17] = [
+static TEXTS: [(PacketError, &str); 17] = [
     (PacketError::ErrShortPacket, "Packet is too short"),
     (PacketError::ErrPayloadTooLarge, "Payload exceeds the MTU"),
     (
@@ -144,33 +150,51 @@ const TEXTS: [(PacketError, &str); 17] = [
     (PacketError::OutOfMemory, "Out of memory"),
 ];
 
+/// A fault's text and number.
+fn assert_fault(
+    rt: &impl Abort,
+    alloc: Global,
+    fault: &PacketError,
+    text: &str,
+    number: usize,
+) -> Result<(), AllocError> {
+    assert_same(rt, text, &usize::from(fault.number()), &number);
+    assert_printed(rt, alloc, fault, text)
+}
+
 #[test]
 fn texts_of_faults(rt: HostRuntime) -> Result<(), Fail> {
-    let alloc = rt.alloc();
     for (index, (fault, text)) in TEXTS.iter().enumerate() {
-        let shown = format!(in alloc; "{fault}")?;
-        assert_eq!(rt; shown.as_str(), *text);
-        assert_eq!(rt; usize::from(fault.number()), index + 1, "of {text}");
+        assert_fault(&rt, rt.alloc(), fault, text, index + 1)?;
     }
     Ok(())
 }
 
 #[test]
-fn times_and_defaults(rt: HostRuntime) -> Result<(), Fail> {
+fn times_are_rebased(rt: HostRuntime) -> Result<(), Fail> {
     let second = MediaTime::new(8_000, Frequency::EIGHT_KHZ);
-    assert_eq!(rt; second.rebase(Frequency::FORTY_EIGHT_KHZ).numer(), 48_000);
-    assert!(rt; second != second.rebase(Frequency::FORTY_EIGHT_KHZ));
-    assert_eq!(rt; MediaTime::from_90khz(5).frequency(), Frequency::NINETY_KHZ);
-    assert!(rt; Frequency::make(0).is_none());
+    let finer = second.rebase(Frequency::FORTY_EIGHT_KHZ);
+    assert_same(&rt, "a second", &finer.numer(), &48_000);
+    assert!(rt; second != finer);
     let greatest = Frequency::make(u32::MAX).ok_or("a rate")?;
     let low_bits = MediaTime::new(u64::MAX, Frequency::make(1).ok_or("a rate")?).rebase(greatest);
-    assert_eq!(rt; low_bits.numer(), 0xffff_ffff_0000_0001);
-    assert!(rt; Pt::new_with_value(95) < Pt::new_with_value(96));
-    assert_eq!(rt;
-        Vp9PacketizerMode::default(),
-        Vp9PacketizerMode::NonFlexible
+    assert_same(
+        &rt,
+        "the low bits",
+        &low_bits.numer(),
+        &0xffff_ffff_0000_0001,
     );
     Ok(())
+}
+
+#[test]
+fn times_and_defaults(rt: HostRuntime) {
+    let of_video = MediaTime::from_90khz(5).frequency();
+    assert_same(&rt, "the rate of video", &of_video, &Frequency::NINETY_KHZ);
+    assert!(rt; Frequency::make(0).is_none());
+    assert!(rt; Pt::new_with_value(95) < Pt::new_with_value(96));
+    let mode = Vp9PacketizerMode::default();
+    assert_same(&rt, "the mode", &mode, &Vp9PacketizerMode::NonFlexible);
 }
 
 #[test]
@@ -186,27 +210,31 @@ fn leb_at_the_front(rt: HostRuntime) {
     );
 }
 
+/// The bytes of a layers allocation.
+const SEVENS: [u8; 256] = [7; 256];
+
+/// A layers allocation of these bytes.
+fn allocation(bytes: &[u8]) -> Option<VideoLayersAllocation> {
+    VideoLayersAllocation::new(bytes)
+}
+
 #[test]
 fn layers_allocation_255_bytes(rt: HostRuntime) -> Result<(), Fail> {
-    let bytes = [7; 256];
-    assert!(rt; VideoLayersAllocation::new(&bytes).is_none());
-    let longest = VideoLayersAllocation::new(&bytes[..255]).ok_or("255 bytes")?;
-    assert_eq!(rt; longest.bytes(), &bytes[..255]);
-    let empty = VideoLayersAllocation::new(&[]).ok_or("no bytes")?;
-    assert_eq!(rt; empty.bytes().len(), 0);
+    assert!(rt; allocation(&SEVENS).is_none());
+    let longest = allocation(&SEVENS[..255]).ok_or("255 bytes")?;
+    assert_bytes(&rt, "the longest", longest.bytes(), &SEVENS[..255]);
+    let empty = allocation(&[]).ok_or("no bytes")?;
+    assert_bytes(&rt, "the shortest", empty.bytes(), &[]);
     Ok(())
 }
 
 #[test]
-fn layers_allocations_are_their_bytes(rt: HostRuntime) -> Result<(), Fail> {
-    let two = VideoLayersAllocation::new(&[1, 0]).ok_or("two bytes")?;
-    let same = VideoLayersAllocation::new(&[1, 0]).ok_or("two bytes")?;
-    let shorter = VideoLayersAllocation::new(&[1]).ok_or("one byte")?;
-    let other = VideoLayersAllocation::new(&[1, 2]).ok_or("two bytes")?;
-    assert!(rt; two == same);
-    assert!(rt; two != shorter);
-    assert!(rt; two != other);
-    Ok(())
+fn layers_allocations_are_their_bytes(rt: HostRuntime) {
+    let two = allocation(&[1, 0]);
+    assert!(rt; two.is_some());
+    assert_same(&rt, "the same", &two, &allocation(&[1, 0]));
+    assert_other(&rt, "a shorter one", &two, &allocation(&[1]));
+    assert_other(&rt, "another one", &two, &allocation(&[1, 2]));
 }
 
 #[test]
@@ -253,36 +281,49 @@ fn extension_values_differ_in_each_field(rt: HostRuntime) {
     }
 }
 
+/// Types of media, and their kinds.
+const KINDS: [(MediaType, Option<MediaKind>); 4] = [
+    (MediaType::Application, None),
+    (MediaType::Unknown, None),
+    (MediaType::Audio, Some(MediaKind::Audio)),
+    (MediaType::Video, Some(MediaKind::Video)),
+];
+
 #[test]
 fn media_kind_application_none(rt: HostRuntime) {
-    assert_eq!(rt; MediaKind::from_media_type(MediaType::Application), None);
-    assert_eq!(rt; MediaKind::from_media_type(MediaType::Unknown), None);
-    let audio = MediaKind::from_media_type(MediaType::Audio);
-    assert_eq!(rt; audio, Some(MediaKind::Audio));
-    let video = MediaKind::from_media_type(MediaType::Video);
-    assert_eq!(rt; video, Some(MediaKind::Video));
+    for (media_type, kind) in &KINDS {
+        assert_eq!(rt;
+            MediaKind::from_media_type(*media_type),
+            *kind,
+            "of {media_type:?}"
+        );
+    }
+}
+
+/// The kinds of media by their names.
+fn named_kinds(alloc: Global) -> Result<HashMap<MediaKind, &'static str>, AllocError> {
+    let mut names = HashMap::new(alloc);
+    names.insert(MediaKind::Audio, "audio")?;
+    names.insert(MediaKind::Video, "video")?;
+    Ok(names)
 }
 
 #[test]
 fn media_kinds_are_keys(rt: HostRuntime) -> Result<(), Fail> {
-    let mut names = HashMap::new(rt.alloc());
-    names.insert(MediaKind::Audio, "audio")?;
-    names.insert(MediaKind::Video, "video")?;
-    assert_eq!(rt; names.len(), 2);
-    assert_eq!(rt; names.get(&MediaKind::Video).copied(), Some("video"));
+    let names = named_kinds(rt.alloc())?;
+    assert_same(&rt, "the names", &names.len(), &2);
+    let video = names.get(&MediaKind::Video).copied();
+    assert_same(&rt, "video", &video, &Some("video"));
     Ok(())
 }
 
 #[test]
 fn media_kinds_are_printed(rt: HostRuntime) -> Result<(), Fail> {
-    let alloc = rt.alloc();
-    for (kind, text) in [(MediaKind::Audio, "audio"), (MediaKind::Video, "video")] {
-        let shown = format!(in alloc; "{kind}")?;
-        assert_eq!(rt; shown.as_str(), text);
+    assert_printed(&rt, rt.alloc(), &MediaKind::Audio, "audio")?;
+    assert_printed(&rt, rt.alloc(), &MediaKind::Video, "video")?;
+    for (kind, is_audio) in [(MediaKind::Audio, true), (MediaKind::Video, false)] {
+        assert_same(&rt, "is it audio", &kind.is_audio(), &is_audio);
+        assert_same(&rt, "is it video", &kind.is_video(), &!is_audio);
     }
-    assert!(rt; MediaKind::Audio.is_audio());
-    assert!(rt; !MediaKind::Audio.is_video());
-    assert!(rt; MediaKind::Video.is_video());
-    assert!(rt; !MediaKind::Video.is_audio());
     Ok(())
 }

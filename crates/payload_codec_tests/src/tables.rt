@@ -2,7 +2,8 @@
 
 use codec_payload_base::error::PacketError;
 use codec_payload_base::interface::{CodecExtra, Depacketizer, Packetizer};
-use std::alloc::Global;
+use std::alloc::{AllocError, Global};
+use std::fmt::{Debug, Display};
 use std::process::Abort;
 use std::test::Fail;
 
@@ -14,6 +15,53 @@ pub struct Frame {
     pub packets: Result<&'static [&'static [u8]], PacketError>,
 }
 
+/// What is found is what is wanted, in the example of that name.
+pub fn assert_same<T: Debug + PartialEq>(rt: &impl Abort, name: &str, found: &T, wanted: &T) {
+    assert_eq!(rt; *found, *wanted, "in {name}");
+}
+
+/// The bytes that are found are those that are wanted, in the example of that name.
+pub fn assert_bytes(rt: &impl Abort, name: &str, found: &[u8], wanted: &[u8]) {
+    assert_eq!(rt; found, wanted, "in {name}");
+}
+
+/// What is found is not the other, in the example of that name.
+pub fn assert_other<T: Debug + PartialEq>(rt: &impl Abort, name: &str, found: &T, other: &T) {
+    assert_ne!(rt; *found, *other, "in {name}");
+}
+
+/// A value is printed as this text.
+pub fn assert_printed<T: Display>(
+    rt: &impl Abort,
+    alloc: Global,
+    value: &T,
+    text: &str,
+) -> Result<(), AllocError> {
+    let printed = format!(in alloc; "{value}")?;
+    assert_eq!(rt; printed.as_str(), text);
+    Ok(())
+}
+
+/// A value is shown as this text, which names its fields.
+pub fn assert_shown<T: Debug>(
+    rt: &impl Abort,
+    alloc: Global,
+    value: &T,
+    text: &str,
+) -> Result<(), AllocError> {
+    let shown = format!(in alloc; "{value:?}")?;
+    assert_eq!(rt; shown.as_str(), text);
+    Ok(())
+}
+
+/// As many parts as are wanted, each of them whole.
+pub fn assert_parts(rt: &impl Abort, name: &str, parts: &[Vec<u8>], wanted: &[&[u8]]) {
+    assert_same(rt, name, &parts.len(), &wanted.len());
+    for (place, (part, bytes)) in parts.iter().zip(wanted).enumerate() {
+        assert_eq!(rt; part.as_slice(), *bytes, "part {place} of {name}");
+    }
+}
+
 /// The packets of a frame, each of them whole, or its fault.
 pub fn assert_sent(
     rt: &impl Abort,
@@ -22,16 +70,20 @@ pub fn assert_sent(
     wanted: &Result<&[&[u8]], PacketError>,
 ) {
     match (answer, wanted) {
-        (Ok(packets), Ok(payloads)) => {
-            assert_eq!(rt; packets.len(), payloads.len(), "packets of {name}");
-            for (place, (packet, payload)) in packets.iter().zip(*payloads).enumerate() {
-                assert_eq!(rt; packet.as_slice(), *payload, "packet {place} of {name}");
-            }
-        }
-        (Err(fault), Err(named)) => assert_eq!(rt; fault, named, "in {name}"),
-        (Ok(_), Err(named)) => assert!(rt; false, "{name} is sent in place of: {named}"),
-        (Err(fault), Ok(_)) => assert!(rt; false, "{name} is refused: {fault}"),
+        (Ok(packets), Ok(payloads)) => assert_parts(rt, name, packets, payloads),
+        (Err(fault), Err(named)) => assert_same(rt, name, fault, named),
+        _ => panic!(rt; "{name} gives {answer:?} in place of {wanted:?}"),
     }
+}
+
+/// What a packetizer makes of a frame.
+pub fn packetize<P: Packetizer>(
+    alloc: Global,
+    packetizer: &mut P,
+    mtu: usize,
+    frame: &[u8],
+) -> Result<Vec<Vec<u8>>, PacketError> {
+    packetizer.packetize(alloc, mtu, frame)
 }
 
 /// Frames that one packetizer is given one after another.
@@ -48,6 +100,95 @@ pub fn assert_frames<P: Packetizer>(
     }
 }
 
+/// What a call answered, or nothing where it found no memory. Any other fault fails the test.
+pub fn found<T: Drop>(answer: Result<T, PacketError>) -> Result<Option<T>, Fail> {
+    match answer {
+        Ok(value) => Ok(Some(value)),
+        Err(PacketError::OutOfMemory) => Ok(None),
+        Err(_) => Err(Fail::from("another fault")),
+    }
+}
+
+/// Bytes of which one is there so many times in the middle.
+pub fn filled(
+    alloc: Global,
+    front: &[u8],
+    filling: u8,
+    count: usize,
+    back: &[u8],
+) -> Result<Vec<u8>, AllocError> {
+    let mut bytes = Vec::from_slice(alloc, front)?;
+    for _ in 0..count {
+        bytes.push(filling)?;
+    }
+    bytes.extend_from_slice(back)?;
+    Ok(bytes)
+}
+
+/// A depacketizer, and what it put together so far.
+#[derive(Drop)]
+pub struct Unit<D> {
+    pub depacketizer: D,
+    pub out: Vec<u8>,
+    pub extra: CodecExtra,
+}
+
+impl<D: Depacketizer> Unit<D> {
+    /// Nothing so far.
+    pub fn new(alloc: Global, depacketizer: D) -> Self {
+        Unit {
+            depacketizer,
+            out: Vec::new(alloc),
+            extra: CodecExtra::None,
+        }
+    }
+
+    /// Goes on with a payload.
+    pub fn take(&mut self, payload: &[u8]) -> Result<(), PacketError> {
+        self.depacketizer
+            .depacketize(payload, &mut self.out, &mut self.extra)
+    }
+}
+
+/// What a depacketizer made of a payload.
+#[derive(Drop)]
+pub struct Received {
+    pub answer: Result<(), PacketError>,
+    /// The byte 7, and what was put behind it.
+    pub out: Vec<u8>,
+    pub extra: CodecExtra,
+}
+
+/// What a depacketizer makes of a payload behind the one byte 7.
+pub fn receive<D: Depacketizer>(
+    alloc: Global,
+    depacketizer: &mut D,
+    payload: &[u8],
+) -> Result<Received, AllocError> {
+    let mut out = Vec::from_slice(alloc, &[7])?;
+    let mut extra = CodecExtra::None;
+    let answer = depacketizer.depacketize(payload, &mut out, &mut extra);
+    Ok(Received { answer, out, extra })
+}
+
+/// The bytes, or the fault, which leaves the byte 7, and the extra as it was.
+pub fn assert_out(
+    rt: &impl Abort,
+    name: &str,
+    received: &Received,
+    wanted: &Result<&[u8], PacketError>,
+) {
+    match (&received.answer, wanted) {
+        (Ok(()), Ok(bytes)) => assert_bytes(rt, name, &received.out, bytes),
+        (Err(fault), Err(named)) => {
+            assert_same(rt, name, fault, named);
+            assert_bytes(rt, name, &received.out, &[7]);
+            assert_same(rt, name, &received.extra, &CodecExtra::None);
+        }
+        (answer, _) => panic!(rt; "{name} gives {answer:?} in place of {wanted:?}"),
+    }
+}
+
 /// What a payload gives behind the one byte 7, or its fault, which leaves that byte, and the extra as it was.
 pub fn assert_received<D: Depacketizer>(
     rt: &impl Abort,
@@ -56,19 +197,8 @@ pub fn assert_received<D: Depacketizer>(
     depacketizer: &mut D,
     payload: &[u8],
     wanted: &Result<&[u8], PacketError>,
-) -> Result<(), Fail> {
-    let mut out = Vec::from_slice(alloc, &[7])?;
-    let mut extra = CodecExtra::None;
-    let answer = depacketizer.depacketize(payload, &mut out, &mut extra);
-    match (&answer, wanted) {
-        (Ok(()), Ok(bytes)) => assert_eq!(rt; out.as_slice(), *bytes, "in {name}"),
-        (Err(fault), Err(named)) => {
-            assert_eq!(rt; fault, named, "in {name}");
-            assert_eq!(rt; out.as_slice(), [7u8].as_slice(), "in {name}");
-            assert_eq!(rt; extra, CodecExtra::None, "in {name}");
-        }
-        (Ok(()), Err(named)) => assert!(rt; false, "{name} is taken in place of: {named}"),
-        (Err(fault), Ok(_)) => assert!(rt; false, "{name} is refused: {fault}"),
-    }
+) -> Result<(), AllocError> {
+    let received = receive(alloc, depacketizer, payload)?;
+    assert_out(rt, name, &received, wanted);
     Ok(())
 }

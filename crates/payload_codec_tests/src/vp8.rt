@@ -1,8 +1,11 @@
 //! The worked examples, texts of errors, and copies.
 
-use crate::tables::{Frame, assert_frames};
+use crate::tables::{
+    Frame, Unit, assert_bytes, assert_frames, assert_other, assert_printed, assert_same, packetize,
+    receive,
+};
 use codec_payload_base::error::PacketError;
-use codec_payload_base::interface::{CodecExtra, Depacketizer, Packetizer};
+use codec_payload_base::interface::CodecExtra;
 use codec_payload_vp8::vp8::{
     Vp8CodecExtra, Vp8Depacketizer, Vp8Descriptor, Vp8DescriptorError, Vp8Packetizer, Vp8Patch,
     Vp8PatchError,
@@ -19,7 +22,7 @@ struct SentRow {
     frames: &'static [Frame],
 }
 
-const SENT: [SentRow; 8] = [
+static SENT: [SentRow; 8] = [
     SentRow {
         name: "vp8-no-ids-three-packets",
         first_id: None,
@@ -132,18 +135,22 @@ const SENT: [SentRow; 8] = [
     },
 ];
 
+/// The packets of a row's frames.
+fn assert_row(rt: &impl Abort, alloc: Global, row: &SentRow) {
+    let mut packetizer = match row.first_id {
+        Some(id) => {
+            assert!(rt; id < 0x8000);
+            Vp8Packetizer::with_picture_id(id)
+        }
+        None => Vp8Packetizer::default(),
+    };
+    assert_frames(rt, alloc, row.name, &mut packetizer, row.frames);
+}
+
 #[test]
 fn frames_are_sent(rt: HostRuntime) {
-    let alloc = rt.alloc();
     for row in &SENT {
-        let mut packetizer = match row.first_id {
-            Some(id) => {
-                assert!(rt; id < 0x8000);
-                Vp8Packetizer::with_picture_id(id)
-            }
-            None => Vp8Packetizer::default(),
-        };
-        assert_frames(&rt, alloc, row.name, &mut packetizer, row.frames);
+        assert_row(&rt, rt.alloc(), row);
     }
 }
 
@@ -153,10 +160,9 @@ fn told(
     depacketizer: &mut Vp8Depacketizer,
     payload: &[u8],
 ) -> Result<Option<u64>, PacketError> {
-    let mut out = Vec::new(alloc);
-    let mut extra = CodecExtra::None;
-    depacketizer.depacketize(payload, &mut out, &mut extra)?;
-    match extra {
+    let received = receive(alloc, depacketizer, payload)?;
+    received.answer?;
+    match received.extra {
         CodecExtra::Vp8(told) => Ok(told.picture_id),
         _ => Ok(None),
     }
@@ -201,30 +207,31 @@ const TOLD: [ToldRow; 3] = [
     },
 ];
 
-#[test]
-fn picture_ids_are_told(rt: HostRuntime) -> Result<(), Fail> {
-    let alloc = rt.alloc();
-    for row in &TOLD {
-        let mut depacketizer = Vp8Depacketizer::default();
-        depacketizer.picture_id = row.picture_id;
-        depacketizer.extended_pid = row.extended_pid;
-        for (payload, id) in row.payloads {
-            let told = told(alloc, &mut depacketizer, payload);
-            assert_eq!(rt; told, Ok(Some(*id)), "in {}", row.name);
-        }
+/// The extended picture ids that the payloads of a row tell.
+fn assert_ids(rt: &impl Abort, alloc: Global, row: &ToldRow) {
+    let mut depacketizer = Vp8Depacketizer::default();
+    depacketizer.picture_id = row.picture_id;
+    depacketizer.extended_pid = row.extended_pid;
+    for (payload, id) in row.payloads {
+        let told = told(alloc, &mut depacketizer, payload);
+        assert_same(rt, row.name, &told, &Ok(Some(*id)));
     }
-    Ok(())
+}
+
+#[test]
+fn picture_ids_are_told(rt: HostRuntime) {
+    for row in &TOLD {
+        assert_ids(&rt, rt.alloc(), row);
+    }
 }
 
 #[test]
 fn a_keyframe_stays_one(rt: HostRuntime) -> Result<(), Fail> {
-    let mut out = Vec::new(rt.alloc());
-    let mut extra = CodecExtra::None;
-    let mut depacketizer = Vp8Depacketizer::default();
-    for payload in [[0x30, 0x90], [0x00, 0x91]] {
-        depacketizer.depacketize(&payload, &mut out, &mut extra)?;
-    }
-    assert_eq!(rt; out.as_slice(), [0x90u8, 0x91].as_slice());
+    let name = "a-keyframe-stays-one";
+    let mut unit = Unit::new(rt.alloc(), Vp8Depacketizer::default());
+    unit.take(&[0x30, 0x90])?;
+    unit.take(&[0x00, 0x91])?;
+    assert_bytes(&rt, name, &unit.out, &[0x90, 0x91]);
     let told = Vp8CodecExtra {
         discardable: false,
         sync: false,
@@ -233,20 +240,24 @@ fn a_keyframe_stays_one(rt: HostRuntime) -> Result<(), Fail> {
         tl0_picture_id: None,
         is_keyframe: true,
     };
-    assert_eq!(rt; extra, CodecExtra::Vp8(told));
+    assert_same(&rt, name, &unit.extra, &CodecExtra::Vp8(told));
     Ok(())
 }
 
 #[test]
 fn vp8_fields_read_so_far(rt: HostRuntime) -> Result<(), Fail> {
-    let mut out = Vec::new(rt.alloc());
-    let mut extra = CodecExtra::None;
+    let name = "vp8-fields-read-so-far";
     let mut depacketizer = Vp8Depacketizer::default();
-    let cut = depacketizer.depacketize(&[0x90, 0xff, 0xff, 0xff], &mut out, &mut extra);
-    assert_eq!(rt; cut, Err(PacketError::ErrShortPacket));
-    assert_eq!(rt; depacketizer.picture_id, 0x7fff);
-    assert_eq!(rt; depacketizer.extended_pid, Some(32_767));
-    assert_eq!(rt; depacketizer.tl0_pic_idx, 0);
+    let received = receive(rt.alloc(), &mut depacketizer, &[0x90, 0xff, 0xff, 0xff])?;
+    assert_same(
+        &rt,
+        name,
+        &received.answer,
+        &Err(PacketError::ErrShortPacket),
+    );
+    assert_same(&rt, name, &depacketizer.picture_id, &0x7fff);
+    assert_same(&rt, name, &depacketizer.extended_pid, &Some(32_767));
+    assert_same(&rt, name, &depacketizer.tl0_pic_idx, &0);
     Ok(())
 }
 
@@ -269,7 +280,7 @@ struct PatchRow {
     wanted: Result<[u8; 7], Vp8PatchError>,
 }
 
-const PATCHES: [PatchRow; 11] = [
+static PATCHES: [PatchRow; 11] = [
     PatchRow {
         name: "vp8-patch-and-back",
         payload: &READ,
@@ -384,82 +395,118 @@ fn patched(alloc: Global, patch: &Vp8Patch, payload: &[u8]) -> Result<Vec<u8>, F
     Ok(copy)
 }
 
-#[test]
-fn descriptors_are_patched(rt: HostRuntime) -> Result<(), Fail> {
-    let alloc = rt.alloc();
-    for row in &PATCHES {
-        match (patch_of(row).ok().ok_or(row.name)?, &row.wanted) {
-            (Ok(patch), Ok(wanted)) => {
-                let copy = patched(alloc, &patch, row.payload)?;
-                assert_eq!(rt; copy.as_slice(), wanted.as_slice(), "in {}", row.name);
-            }
-            (Err(error), Err(wanted)) => assert_eq!(rt; error, *wanted, "in {}", row.name),
-            (answer, _) => assert!(rt; false, "{}: {answer:?}", row.name),
+/// What the patch of a row gives.
+fn assert_patched(rt: &impl Abort, alloc: Global, row: &PatchRow) -> Result<(), Fail> {
+    match (patch_of(row).ok().ok_or(row.name)?, &row.wanted) {
+        (Ok(patch), Ok(wanted)) => {
+            let copy = patched(alloc, &patch, row.payload)?;
+            assert_bytes(rt, row.name, &copy, wanted);
         }
+        (Err(error), Err(wanted)) => assert_same(rt, row.name, &error, wanted),
+        (answer, _) => panic!(rt; "{}: {answer:?}", row.name),
     }
     Ok(())
 }
 
 #[test]
+fn descriptors_are_patched(rt: HostRuntime) -> Result<(), Fail> {
+    for row in &PATCHES {
+        assert_patched(&rt, rt.alloc(), row)?;
+    }
+    Ok(())
+}
+
+/// The faults of descriptors, each with its text.
+static OF_DESCRIPTORS: [(Vp8DescriptorError, &str); 2] = [
+    (Vp8DescriptorError::ShortPayload, "VP8 payload is too short"),
+    (
+        Vp8DescriptorError::MalformedDescriptor,
+        "VP8 payload descriptor is malformed",
+    ),
+];
+
+/// The faults of patches, each with its text.
+static OF_PATCHES: [(Vp8PatchError, &str); 5] = [
+    (
+        Vp8PatchError::PictureIdMissing,
+        "VP8 payload descriptor has no PictureID",
+    ),
+    (
+        Vp8PatchError::PictureIdTooLarge,
+        "VP8 PictureID does not fit descriptor width",
+    ),
+    (
+        Vp8PatchError::Tl0PicIdxMissing,
+        "VP8 payload descriptor has no TL0PICIDX",
+    ),
+    (
+        Vp8PatchError::KeyIdxMissing,
+        "VP8 payload descriptor has no KEYIDX",
+    ),
+    (
+        Vp8PatchError::KeyIdxTooLarge,
+        "VP8 KEYIDX must fit in 5 bits",
+    ),
+];
+
+#[test]
 fn vp8_error_texts(rt: HostRuntime) -> Result<(), Fail> {
-    let alloc = rt.alloc();
-    let of_descriptors = [
-        (Vp8DescriptorError::ShortPayload, "VP8 payload is too short"),
-        (
-            Vp8DescriptorError::MalformedDescriptor,
-            "VP8 payload descriptor is malformed",
-        ),
-    ];
-    for (error, text) in &of_descriptors {
-        assert_eq!(rt; format!(in alloc; "{error}")?.as_str(), *text);
-        assert_eq!(rt; error.clone()?, *error);
+    for (error, text) in &OF_DESCRIPTORS {
+        assert_printed(&rt, rt.alloc(), error, text)?;
     }
-    assert_ne!(rt; of_descriptors[0].0, of_descriptors[1].0);
-    let of_patches = [
-        (
-            Vp8PatchError::PictureIdMissing,
-            "VP8 payload descriptor has no PictureID",
-        ),
-        (
-            Vp8PatchError::PictureIdTooLarge,
-            "VP8 PictureID does not fit descriptor width",
-        ),
-        (
-            Vp8PatchError::Tl0PicIdxMissing,
-            "VP8 payload descriptor has no TL0PICIDX",
-        ),
-        (
-            Vp8PatchError::KeyIdxMissing,
-            "VP8 payload descriptor has no KEYIDX",
-        ),
-        (
-            Vp8PatchError::KeyIdxTooLarge,
-            "VP8 KEYIDX must fit in 5 bits",
-        ),
-    ];
-    for (error, text) in &of_patches {
-        assert_eq!(rt; format!(in alloc; "{error}")?.as_str(), *text);
-        assert_eq!(rt; error.clone()?, *error);
+    for (error, text) in &OF_PATCHES {
+        assert_printed(&rt, rt.alloc(), error, text)?;
     }
-    assert_ne!(rt; of_patches[0].0, of_patches[1].0);
+    Ok(())
+}
+
+#[test]
+fn vp8_errors_are_compared(rt: HostRuntime) -> Result<(), Fail> {
+    for (error, text) in &OF_DESCRIPTORS {
+        assert_same(&rt, text, &error.clone()?, error);
+    }
+    for (error, text) in &OF_PATCHES {
+        assert_same(&rt, text, &error.clone()?, error);
+    }
+    let [(short, text), (malformed, _)] = &OF_DESCRIPTORS;
+    assert_other(&rt, text, short, malformed);
+    let missing = Vp8PatchError::PictureIdMissing;
+    assert_other(&rt, "patches", &missing, &Vp8PatchError::PictureIdTooLarge);
+    Ok(())
+}
+
+#[test]
+fn vp8_packetizers_are_copied(rt: HostRuntime) -> Result<(), Fail> {
+    let mut sender = Vp8Packetizer::with_picture_id(0x7f);
+    let mut copy = sender.clone()?;
+    let sent = packetize(rt.alloc(), &mut sender, 9, &[0x90])?;
+    let again = packetize(rt.alloc(), &mut copy, 9, &[0x90])?;
+    assert_same(&rt, "a copy of a packetizer", &again, &sent);
     Ok(())
 }
 
 #[test]
 fn vp8_copies_are_equal(rt: HostRuntime) -> Result<(), Fail> {
-    let mut sender = Vp8Packetizer::with_picture_id(0x7f);
-    let mut copy = sender.clone()?;
-    let sent = sender.packetize(rt.alloc(), 9, &[0x90])?;
-    let again = copy.packetize(rt.alloc(), 9, &[0x90])?;
-    assert_eq!(rt; sent, again);
+    let name = "a copy of a depacketizer";
     let mut depacketizer = Vp8Depacketizer::default();
-    assert_eq!(rt; told(rt.alloc(), &mut depacketizer, &READ)?, Some(0x1234));
-    assert_eq!(rt; depacketizer.clone()?, depacketizer);
-    assert_ne!(rt; Vp8Depacketizer::default(), depacketizer);
-    let patch = Vp8Descriptor::parse(&READ)?.patch().key_idx(1).build()?;
-    let other = Vp8Descriptor::parse(&READ)?.patch().key_idx(2).build()?;
+    let told = told(rt.alloc(), &mut depacketizer, &READ);
+    assert_same(&rt, name, &told, &Ok(Some(0x1234)));
+    assert_same(&rt, name, &depacketizer.clone()?, &depacketizer);
+    assert_other(&rt, name, &Vp8Depacketizer::default(), &depacketizer);
+    Ok(())
+}
+
+/// A patch of the key index alone.
+fn patch_of_key_idx(key_idx: u8) -> Option<Vp8Patch> {
+    let descriptor = Vp8Descriptor::parse(&READ).ok()?;
+    descriptor.patch().key_idx(key_idx).build().ok()
+}
+
+#[test]
+fn vp8_patches_are_compared(rt: HostRuntime) -> Result<(), Fail> {
+    let patch = patch_of_key_idx(1).ok_or("a patch")?;
     let same = patch;
-    assert_eq!(rt; same, patch);
-    assert_ne!(rt; other, patch);
+    assert_same(&rt, "a copy of a patch", &same, &patch);
+    assert_other(&rt, "another patch", &patch_of_key_idx(2), &Some(patch));
     Ok(())
 }

@@ -1,11 +1,12 @@
 //! The descriptor of RFC 7741, section 4.2, in all its forms, cut off at each byte.
 
+use crate::tables::{assert_received, assert_same, receive};
 use codec_payload_base::error::PacketError;
-use codec_payload_base::interface::{CodecExtra, Depacketizer};
+use codec_payload_base::interface::CodecExtra;
 use codec_payload_vp8::vp8::{
     Vp8CodecExtra, Vp8Depacketizer, Vp8Descriptor, Vp8DescriptorError, detect_vp8_keyframe,
 };
-use std::alloc::Global;
+use std::alloc::{AllocError, Global};
 use std::process::Abort;
 use std::test::Fail;
 
@@ -441,42 +442,15 @@ const PAYLOADS: [Worked; 21] = [
     },
 ];
 
-/// What `parse` refuses, or nothing.
-fn refused(payload: &[u8]) -> Option<Vp8DescriptorError> {
-    Vp8Descriptor::parse(payload).err()
-}
-
-/// What the depacketizer says of a payload, and that a refusal leaves `out` and the extra.
-fn taken(
-    rt: &impl Abort,
-    alloc: Global,
-    name: &str,
-    payload: &[u8],
-    rest: &[u8],
-) -> Result<Option<PacketError>, Fail> {
-    let mut out = Vec::from_slice(alloc, &[7])?;
-    let mut extra = CodecExtra::None;
-    match Vp8Depacketizer::default().depacketize(payload, &mut out, &mut extra) {
-        Ok(()) => {
-            assert_eq!(rt; out.get(1..), Some(rest), "in {name}");
-            Ok(None)
-        }
-        Err(fault) => {
-            assert_eq!(rt; out.as_slice(), [7u8].as_slice(), "in {name}");
-            assert_eq!(rt; extra, CodecExtra::None, "in {name}");
-            Ok(Some(fault))
-        }
+/// What stands behind the descriptor in a beginning of a payload. It is too short up to its descriptor's last byte, unless
+/// its second byte made it malformed.
+fn expected<'a>(payload: &'a [u8], worked: &Worked) -> Result<&'a [u8], Vp8DescriptorError> {
+    if worked.malformed && 2 <= payload.len() {
+        return Err(Vp8DescriptorError::MalformedDescriptor);
     }
-}
-
-/// A beginning of a payload is too short up to its descriptor's last byte, unless its second byte made it malformed.
-fn expected(len: usize, descriptor: usize, malformed: bool) -> Option<Vp8DescriptorError> {
-    if malformed && 2 <= len {
-        Some(Vp8DescriptorError::MalformedDescriptor)
-    } else if len <= descriptor {
-        Some(Vp8DescriptorError::ShortPayload)
-    } else {
-        None
+    match payload.get(worked.descriptor..) {
+        Some(rest) if !rest.is_empty() => Ok(rest),
+        _ => Err(Vp8DescriptorError::ShortPayload),
     }
 }
 
@@ -487,8 +461,43 @@ fn fault_of(error: Vp8DescriptorError) -> PacketError {
     }
 }
 
-/// Every beginning of a payload through `parse`, the depacketizer and the detector.
-fn cut_off(rt: &impl Abort, alloc: Global, worked: &Worked) -> Result<(), Fail> {
+/// Whether a keyframe starts there, or what `parse` refuses.
+fn starts_keyframe(payload: &[u8]) -> Result<bool, Vp8DescriptorError> {
+    Ok(Vp8Descriptor::parse(payload)?.starts_keyframe(payload))
+}
+
+/// What the depacketizer puts behind the one byte 7, or its fault.
+fn assert_taken(
+    rt: &impl Abort,
+    alloc: Global,
+    name: &str,
+    payload: &[u8],
+    rest: Result<&[u8], PacketError>,
+) -> Result<(), AllocError> {
+    let mut bytes = Vec::from_slice(alloc, &[7])?;
+    let wanted = match rest {
+        Ok(rest) => {
+            bytes.extend_from_slice(rest)?;
+            Ok(bytes.as_slice())
+        }
+        Err(fault) => Err(fault),
+    };
+    let mut depacketizer = Vp8Depacketizer::default();
+    assert_received(rt, alloc, name, &mut depacketizer, payload, &wanted)
+}
+
+/// A beginning of a payload through the detector, `parse` and the depacketizer.
+fn cut(rt: &impl Abort, alloc: Global, payload: &[u8], worked: &Worked) -> Result<(), AllocError> {
+    let keyframe = worked.keyframe && worked.descriptor < payload.len();
+    assert_same(rt, worked.name, &detect_vp8_keyframe(payload), &keyframe);
+    let read = expected(payload, worked).map(|_| keyframe);
+    assert_same(rt, worked.name, &starts_keyframe(payload), &read);
+    let rest = expected(payload, worked).map_err(fault_of);
+    assert_taken(rt, alloc, worked.name, payload, rest)
+}
+
+/// Every beginning of a payload.
+fn cut_off(rt: &impl Abort, alloc: Global, worked: &Worked) -> Result<(), AllocError> {
     for len in 0..=worked.payload.len() {
         let (beginning, _) = worked.payload.split_at(len);
         cut(rt, alloc, beginning, worked)?;
@@ -496,83 +505,66 @@ fn cut_off(rt: &impl Abort, alloc: Global, worked: &Worked) -> Result<(), Fail> 
     Ok(())
 }
 
-fn cut(rt: &impl Abort, alloc: Global, payload: &[u8], worked: &Worked) -> Result<(), Fail> {
-    let name = worked.name;
-    let wanted = expected(payload.len(), worked.descriptor, worked.malformed);
-    assert_eq!(rt; refused(payload), wanted, "in {name}");
-    let rest = payload.get(worked.descriptor..).unwrap_or(&[]);
-    let fault = taken(rt, alloc, name, payload, rest)?;
-    assert_eq!(rt; fault, wanted.map(fault_of), "in {name}");
-    let keyframe = worked.keyframe && worked.descriptor < payload.len();
-    assert_eq!(rt; detect_vp8_keyframe(payload), keyframe, "in {name}");
-    if let Ok(descriptor) = Vp8Descriptor::parse(payload) {
-        assert_eq!(rt; descriptor.starts_keyframe(payload), keyframe, "in {name}");
-    }
-    Ok(())
-}
-
-/// The fields of a descriptor, as `parse` tells them.
-fn parsed(rt: &impl Abort, row: &Row, fields: &Fields) -> Result<(), Fail> {
-    let descriptor = Vp8Descriptor::parse(row.payload).ok().ok_or(row.name)?;
-    assert_eq!(rt;
+/// The picture id, TL0PICIDX and KEYIDX of a payload, as `parse` tells them.
+fn parsed(payload: &[u8]) -> Result<(Option<u16>, Option<u8>, Option<u8>), Vp8DescriptorError> {
+    let descriptor = Vp8Descriptor::parse(payload)?;
+    Ok((
         descriptor.picture_id(),
-        fields.picture_id,
-        "in {}",
-        row.name
-    );
-    assert_eq!(rt;
         descriptor.tl0_pic_idx(),
-        fields.tl0_pic_idx,
-        "in {}",
-        row.name
-    );
-    assert_eq!(rt; descriptor.key_idx(), fields.key_idx, "in {}", row.name);
-    Ok(())
+        descriptor.key_idx(),
+    ))
 }
 
-/// The fields of a descriptor, as the depacketizer tells them.
-fn told(rt: &impl Abort, alloc: Global, row: &Row, fields: &Fields) {
-    let name = row.name;
-    let mut depacketizer = Vp8Depacketizer::default();
-    let mut out = Vec::new(alloc);
-    let mut extra = CodecExtra::None;
-    let answer = depacketizer.depacketize(row.payload, &mut out, &mut extra);
-    assert_eq!(rt; answer, Ok(()), "in {name}");
-    assert_eq!(rt;
+/// I, L, T, K and KEYIDX, as the depacketizer holds them.
+fn held(depacketizer: &Vp8Depacketizer) -> [u8; 5] {
+    [
         depacketizer.i,
-        u8::from(fields.picture_id.is_some()),
-        "in {name}"
-    );
-    assert_eq!(rt;
         depacketizer.l,
-        u8::from(fields.tl0_pic_idx.is_some()),
-        "in {name}"
-    );
-    assert_eq!(rt;
         depacketizer.t,
-        u8::from(fields.temporal.is_some()),
-        "in {name}"
-    );
-    assert_eq!(rt;
         depacketizer.k,
-        u8::from(fields.key_idx.is_some()),
-        "in {name}"
-    );
-    assert_eq!(rt;
         depacketizer.key_idx,
+    ]
+}
+
+/// I, L, T, K and KEYIDX where a descriptor has these fields.
+fn flags_of(fields: &Fields) -> [u8; 5] {
+    [
+        u8::from(fields.picture_id.is_some()),
+        u8::from(fields.tl0_pic_idx.is_some()),
+        u8::from(fields.temporal.is_some()),
+        u8::from(fields.key_idx.is_some()),
         fields.key_idx.unwrap_or(0),
-        "in {name}"
-    );
+    ]
+}
+
+/// The extra that these fields of a keyframe give.
+fn extra_of(fields: &Fields) -> CodecExtra {
     let (tid, y) = fields.temporal.unwrap_or((0, false));
-    let told = Vp8CodecExtra {
+    CodecExtra::Vp8(Vp8CodecExtra {
         discardable: false,
         sync: y,
         layer_index: tid,
         picture_id: fields.picture_id.map(|id| u64::from(id)),
         tl0_picture_id: fields.tl0_pic_idx.map(|index| u64::from(index)),
         is_keyframe: true,
-    };
-    assert_eq!(rt; extra, CodecExtra::Vp8(told), "in {name}");
+    })
+}
+
+/// The fields of a descriptor, as `parse` and the depacketizer tell them.
+fn assert_fields(
+    rt: &impl Abort,
+    alloc: Global,
+    row: &Row,
+    fields: &Fields,
+) -> Result<(), AllocError> {
+    let ids = (fields.picture_id, fields.tl0_pic_idx, fields.key_idx);
+    assert_same(rt, row.name, &parsed(row.payload), &Ok(ids));
+    let mut depacketizer = Vp8Depacketizer::default();
+    let received = receive(alloc, &mut depacketizer, row.payload)?;
+    assert_same(rt, row.name, &received.answer, &Ok(()));
+    assert_same(rt, row.name, &held(&depacketizer), &flags_of(fields));
+    assert_same(rt, row.name, &received.extra, &extra_of(fields));
+    Ok(())
 }
 
 #[test]
@@ -583,20 +575,23 @@ fn every_beginning_of_the_worked_payloads(rt: HostRuntime) -> Result<(), Fail> {
     Ok(())
 }
 
+/// A row as a worked payload.
+fn worked_of(row: &Row) -> Worked {
+    Worked {
+        name: row.name,
+        payload: row.payload,
+        descriptor: row.descriptor,
+        malformed: row.fields.is_none(),
+        keyframe: true,
+    }
+}
+
 #[test]
 fn every_descriptor_cut_off_at_each_byte(rt: HostRuntime) -> Result<(), Fail> {
     for row in &DESCRIPTORS {
-        let worked = Worked {
-            name: row.name,
-            payload: row.payload,
-            descriptor: row.descriptor,
-            malformed: row.fields.is_none(),
-            keyframe: true,
-        };
-        cut_off(&rt, rt.alloc(), &worked)?;
+        cut_off(&rt, rt.alloc(), &worked_of(row))?;
         if let Some(fields) = &row.fields {
-            parsed(&rt, row, fields)?;
-            told(&rt, rt.alloc(), row, fields);
+            assert_fields(&rt, rt.alloc(), row, fields)?;
         }
     }
     Ok(())

@@ -1,8 +1,11 @@
 //! The worked examples, and copies.
 
-use crate::tables::{Frame, assert_frames, assert_received};
+use crate::tables::{
+    Frame, Unit, assert_bytes, assert_frames, assert_other, assert_out, assert_received,
+    assert_same, packetize, receive,
+};
 use codec_payload_base::error::PacketError;
-use codec_payload_base::interface::{CodecExtra, Depacketizer, Packetizer};
+use codec_payload_base::interface::CodecExtra;
 use codec_payload_vp9::vp9::{
     Vp9CodecExtra, Vp9Depacketizer, Vp9Packetizer, Vp9PacketizerMode, detect_vp9_keyframe,
     detect_vp9_keyframe_bitstream,
@@ -19,7 +22,7 @@ struct SentRow {
     frames: &'static [Frame],
 }
 
-const SENT: [SentRow; 6] = [
+static SENT: [SentRow; 6] = [
     SentRow {
         name: "vp9-nonflex-two-packets",
         mode: Vp9PacketizerMode::NonFlexible,
@@ -109,13 +112,17 @@ const SENT: [SentRow; 6] = [
     },
 ];
 
+/// The packets of a row's frames.
+fn assert_row(rt: &impl Abort, alloc: Global, row: &SentRow) {
+    assert!(rt; row.first_id < 0x8000);
+    let mut packetizer = Vp9Packetizer::with_mode(row.mode, row.first_id);
+    assert_frames(rt, alloc, row.name, &mut packetizer, row.frames);
+}
+
 #[test]
 fn frames_are_sent(rt: HostRuntime) {
-    let alloc = rt.alloc();
     for row in &SENT {
-        assert!(rt; row.first_id < 0x8000);
-        let mut packetizer = Vp9Packetizer::with_mode(row.mode, row.first_id);
-        assert_frames(&rt, alloc, row.name, &mut packetizer, row.frames);
+        assert_row(&rt, rt.alloc(), row);
     }
 }
 
@@ -152,47 +159,47 @@ fn payloads_are_refused(rt: HostRuntime) -> Result<(), Fail> {
 /// The end of the first spatial layer is elsewhere than where the bytes end.
 #[test]
 fn vp9_misplaced_layer_fault(rt: HostRuntime) -> Result<(), Fail> {
-    let mut out = Vec::new(rt.alloc());
-    let mut extra = CodecExtra::None;
-    let mut depacketizer = Vp9Depacketizer::new(rt.alloc());
-    depacketizer.depacketize(&[0x28, 0x00, 0x01, 0xaa], &mut out, &mut extra)?;
-    depacketizer.depacketize(&[0x28, 0x02, 0x01, 0xbb], &mut out, &mut extra)?;
-    let before = extra;
-    let misplaced = depacketizer.depacketize(&[0x20, 0x00, 0x01, 0xcc], &mut out, &mut extra);
-    assert_eq!(rt; misplaced, Err(PacketError::ErrVP9CorruptedPacket));
-    assert_eq!(rt; out.as_slice(), [0xaau8, 0xbb].as_slice());
-    assert_eq!(rt; extra, before);
-    depacketizer.depacketize(&[0x20, 0x02, 0x01, 0xcc], &mut out, &mut extra)?;
-    assert_eq!(rt; out.as_slice(), [0xaau8, 0xbb, 0xcc].as_slice());
+    let name = "vp9-misplaced-layer-fault";
+    let mut unit = Unit::new(rt.alloc(), Vp9Depacketizer::new(rt.alloc()));
+    unit.take(&[0x28, 0x00, 0x01, 0xaa])?;
+    unit.take(&[0x28, 0x02, 0x01, 0xbb])?;
+    let before = unit.extra;
+    let fault = unit.take(&[0x20, 0x00, 0x01, 0xcc]).err();
+    assert_same(&rt, name, &fault, &Some(PacketError::ErrVP9CorruptedPacket));
+    assert_bytes(&rt, name, &unit.out, &[0xaa, 0xbb]);
+    assert_same(&rt, name, &unit.extra, &before);
+    unit.take(&[0x20, 0x02, 0x01, 0xcc])?;
+    assert_bytes(&rt, name, &unit.out, &[0xaa, 0xbb, 0xcc]);
     Ok(())
 }
 
 #[test]
 fn vp9_structure_read_anew(rt: HostRuntime) -> Result<(), Fail> {
-    let mut out = Vec::new(rt.alloc());
-    let mut extra = CodecExtra::None;
+    let name = "vp9-structure-read-anew";
     let mut depacketizer = Vp9Depacketizer::new(rt.alloc());
-    let cut = depacketizer.depacketize(&[0x02, 0x08, 0xff], &mut out, &mut extra);
-    assert_eq!(rt; cut, Err(PacketError::ErrShortPacket));
-    assert_eq!(rt; depacketizer.ng, 255);
-    assert_eq!(rt; depacketizer.pgtid.len(), 0);
-    depacketizer.depacketize(&[0x02, 0x00, 0xaa], &mut out, &mut extra)?;
-    assert_eq!(rt; out.as_slice(), [0xaau8].as_slice());
-    assert_eq!(rt; depacketizer.ng, 0);
-    assert!(rt; matches!(extra, CodecExtra::Vp9(told) if !told.is_keyframe));
+    let cut = receive(rt.alloc(), &mut depacketizer, &[0x02, 0x08, 0xff])?;
+    assert_same(&rt, name, &cut.answer, &Err(PacketError::ErrShortPacket));
+    assert_same(&rt, name, &depacketizer.ng, &255);
+    assert_bytes(&rt, name, &depacketizer.pgtid, &[]);
+    let read = receive(rt.alloc(), &mut depacketizer, &[0x02, 0x00, 0xaa])?;
+    assert_out(&rt, name, &read, &Ok(&[7, 0xaa]));
+    assert_same(&rt, name, &depacketizer.ng, &0);
+    assert!(rt; matches!(read.extra, CodecExtra::Vp9(told) if !told.is_keyframe));
     Ok(())
 }
 
 /// Whether a frame that is sent in one packet comes back as a keyframe.
-fn comes_back_as_keyframe(rt: &impl Abort, alloc: Global, frame: &[u8]) -> Result<bool, Fail> {
-    let mut out = Vec::new(alloc);
-    let mut extra = CodecExtra::None;
-    let mut depacketizer = Vp9Depacketizer::new(alloc);
-    for payload in Vp9Packetizer::default().packetize(alloc, 1_200, frame)? {
-        depacketizer.depacketize(&payload, &mut out, &mut extra)?;
+fn comes_back_as_keyframe(
+    rt: &impl Abort,
+    alloc: Global,
+    frame: &[u8],
+) -> Result<bool, PacketError> {
+    let mut unit = Unit::new(alloc, Vp9Depacketizer::new(alloc));
+    for payload in packetize(alloc, &mut Vp9Packetizer::default(), 1_200, frame)? {
+        unit.take(&payload)?;
     }
-    assert_eq!(rt; out.as_slice(), frame);
-    Ok(matches!(extra, CodecExtra::Vp9(told) if told.is_keyframe))
+    assert_bytes(rt, "a frame that comes back", &unit.out, frame);
+    Ok(matches!(unit.extra, CodecExtra::Vp9(told) if told.is_keyframe))
 }
 
 /// A shown keyframe of profile 2 has no reserved bit before the bits that say so.
@@ -223,18 +230,25 @@ fn vp9_keyframes_of_each_profile(rt: HostRuntime) {
 }
 
 #[test]
-fn vp9_copies_are_equal(rt: HostRuntime) -> Result<(), Fail> {
+fn vp9_packetizers_are_copied(rt: HostRuntime) -> Result<(), Fail> {
     let mut sender = Vp9Packetizer::with_mode(Vp9PacketizerMode::Flexible, 0x7fff);
     let mut copy = sender.clone()?;
-    let sent = sender.packetize(rt.alloc(), 9, &[0x82])?;
-    let again = copy.packetize(rt.alloc(), 9, &[0x82])?;
-    assert_eq!(rt; sent, again);
-    let mut out = Vec::new(rt.alloc());
-    let mut extra = CodecExtra::None;
+    let sent = packetize(rt.alloc(), &mut sender, 9, &[0x82])?;
+    let again = packetize(rt.alloc(), &mut copy, 9, &[0x82])?;
+    assert_same(&rt, "a copy of a packetizer", &again, &sent);
+    Ok(())
+}
+
+#[test]
+fn vp9_copies_are_equal(rt: HostRuntime) -> Result<(), Fail> {
+    let name = "depacketizers";
+    let new = Vp9Depacketizer::new(rt.alloc());
     let mut depacketizer = Vp9Depacketizer::new(rt.alloc());
-    assert_eq!(rt; depacketizer, Vp9Depacketizer::new(rt.alloc()));
-    depacketizer.depacketize(&[0x98, 0xff, 0xff, 0x82], &mut out, &mut extra)?;
-    assert_ne!(rt; depacketizer, Vp9Depacketizer::new(rt.alloc()));
-    assert_ne!(rt; extra, CodecExtra::Vp9(Vp9CodecExtra::default()));
+    assert_same(&rt, name, &depacketizer, &new);
+    let received = receive(rt.alloc(), &mut depacketizer, &[0x98, 0xff, 0xff, 0x82])?;
+    assert_same(&rt, name, &received.answer, &Ok(()));
+    assert_other(&rt, name, &depacketizer, &new);
+    let default = CodecExtra::Vp9(Vp9CodecExtra::default());
+    assert_other(&rt, name, &received.extra, &default);
     Ok(())
 }

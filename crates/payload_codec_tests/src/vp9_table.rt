@@ -1,9 +1,10 @@
 //! The descriptor of RFC 9628, section 4.2, under all flag bytes, cut off at each byte.
 
+use crate::tables::{Received, assert_bytes, assert_out, assert_parts, assert_same, receive};
 use codec_payload_base::error::PacketError;
-use codec_payload_base::interface::{CodecExtra, Depacketizer};
+use codec_payload_base::interface::CodecExtra;
 use codec_payload_vp9::vp9::{Vp9CodecExtra, Vp9Depacketizer, detect_vp9_keyframe};
-use std::alloc::Global;
+use std::alloc::{AllocError, Global};
 use std::process::Abort;
 use std::test::Fail;
 
@@ -413,101 +414,99 @@ fn told(layout: &Layout, begins: bool, end: usize) -> Vp9CodecExtra {
     }
 }
 
-/// The fields after a payload under these flags that was taken.
-fn has_fields(rt: &impl Abort, depacketizer: &Vp9Depacketizer, layout: &Layout, flags: u8) {
-    assert_eq!(rt;
-        depacketizer.i,
-        layout.picture_id.is_some(),
-        "under {flags}"
-    );
-    assert_eq!(rt;
-        depacketizer.picture_id,
-        layout.picture_id.unwrap_or(0),
-        "under {flags}"
-    );
-    assert_eq!(rt; depacketizer.sid, u8::from(layout.layer), "under {flags}");
-    assert_eq!(rt; depacketizer.u, layout.layer, "under {flags}");
-    assert_eq!(rt; depacketizer.d, layout.layer, "under {flags}");
-    assert_eq!(rt;
-        depacketizer.tl0picidx,
-        layout.tl0picidx.unwrap_or(0),
-        "under {flags}"
-    );
-    assert_eq!(rt; depacketizer.pdiff, layout.differences, "under {flags}");
-    assert_eq!(rt;
-        depacketizer.ns,
-        u8::from(layout.structure),
-        "under {flags}"
-    );
+/// I, U and D after a payload that was taken.
+fn assert_flags(rt: &impl Abort, name: &str, depacketizer: &Vp9Depacketizer, layout: &Layout) {
+    let found = [depacketizer.i, depacketizer.u, depacketizer.d];
+    let wanted = [layout.picture_id.is_some(), layout.layer, layout.layer];
+    assert_same(rt, name, &found, &wanted);
 }
 
-/// The groups of pictures after a payload under these flags that was taken.
-fn has_groups(rt: &impl Abort, depacketizer: &Vp9Depacketizer, structure: bool, flags: u8) {
-    if structure {
-        assert_eq!(rt; depacketizer.ng, 2, "under {flags}");
-        assert_eq!(rt;
-            depacketizer.pgtid.as_slice(),
-            [0u8, 2].as_slice(),
-            "under {flags}"
-        );
-        assert_eq!(rt;
-            depacketizer.pgu.as_slice(),
-            [false, true].as_slice(),
-            "under {flags}"
-        );
-        assert_eq!(rt; depacketizer.pgpdiff.len(), 2, "under {flags}");
-        assert_eq!(rt;
-            depacketizer.pgpdiff[0].as_slice(),
-            [1u8].as_slice(),
-            "under {flags}"
-        );
-        assert_eq!(rt; depacketizer.pgpdiff[1].len(), 0, "under {flags}");
-    } else {
-        assert_eq!(rt; depacketizer.pgtid.len(), 0, "under {flags}");
+/// The picture id, SID, TL0PICIDX, N_S and the values of P_DIFF after a payload that was taken.
+fn assert_numbers(rt: &impl Abort, name: &str, depacketizer: &Vp9Depacketizer, layout: &Layout) {
+    let picture_id = layout.picture_id.unwrap_or(0);
+    assert_same(rt, name, &depacketizer.picture_id, &picture_id);
+    let found = [depacketizer.sid, depacketizer.tl0picidx, depacketizer.ns];
+    let wanted = [
+        u8::from(layout.layer),
+        layout.tl0picidx.unwrap_or(0),
+        u8::from(layout.structure),
+    ];
+    assert_same(rt, name, &found, &wanted);
+    assert_same(rt, name, &depacketizer.pdiff, &layout.differences);
+}
+
+/// The groups of pictures after a payload that was taken.
+fn assert_groups(rt: &impl Abort, name: &str, depacketizer: &Vp9Depacketizer, structure: bool) {
+    if !structure {
+        assert_bytes(rt, name, &depacketizer.pgtid, &[]);
+        return;
     }
+    assert_same(rt, name, &depacketizer.ng, &2);
+    assert_bytes(rt, name, &depacketizer.pgtid, &[0, 2]);
+    assert_same(
+        rt,
+        name,
+        &depacketizer.pgu.as_slice(),
+        &[false, true].as_slice(),
+    );
+    assert_parts(rt, name, &depacketizer.pgpdiff, &[&[1], &[]]);
+}
+
+/// What a payload under these flags that was taken told, with the bytes so far.
+fn assert_told(
+    rt: &impl Abort,
+    name: &str,
+    received: &Received,
+    depacketizer: &Vp9Depacketizer,
+    layout: &Layout,
+    flags: u8,
+) {
+    let told = told(layout, flags & 0x08 != 0, received.out.len());
+    assert_same(rt, name, &received.extra, &CodecExtra::Vp9(told));
+    assert_flags(rt, name, depacketizer, layout);
+    assert_numbers(rt, name, depacketizer, layout);
+    assert_groups(rt, name, depacketizer, layout.structure);
 }
 
 /// A payload under these flags, or a beginning of one: too short within the descriptor, and else taken.
 fn cut(
     rt: &impl Abort,
     alloc: Global,
+    name: &str,
     payload: &[u8],
     layout: &Layout,
     flags: u8,
-) -> Result<(), Fail> {
-    let mut out = Vec::from_slice(alloc, &[7])?;
-    let mut extra = CodecExtra::None;
-    let mut depacketizer = Vp9Depacketizer::new(alloc);
-    let answer = depacketizer.depacketize(payload, &mut out, &mut extra);
-    if payload.len() <= layout.tail.len() {
-        assert_eq!(rt; answer, Err(PacketError::ErrShortPacket), "under {flags}");
-        assert_eq!(rt; out.as_slice(), [7u8].as_slice(), "under {flags}");
-        assert_eq!(rt; extra, CodecExtra::None, "under {flags}");
-    } else {
-        assert_eq!(rt; answer, Ok(()), "under {flags}");
-        assert_eq!(rt;
-            out.get(1..),
-            payload.get(layout.tail.len() + 1..),
-            "under {flags}"
-        );
-        let told = told(layout, flags & 0x08 != 0, out.len());
-        assert_eq!(rt; extra, CodecExtra::Vp9(told), "under {flags}");
-        has_fields(rt, &depacketizer, layout, flags);
-        has_groups(rt, &depacketizer, layout.structure, flags);
-    }
+) -> Result<(), AllocError> {
     let refers = !payload.is_empty() && layout.flags & 0x40 == 0;
-    assert_eq!(rt; detect_vp9_keyframe(payload), refers, "under {flags}");
+    assert_same(rt, name, &detect_vp9_keyframe(payload), &refers);
+    let mut depacketizer = Vp9Depacketizer::new(alloc);
+    let received = receive(alloc, &mut depacketizer, payload)?;
+    match payload.get(layout.tail.len() + 1..) {
+        Some(rest) => {
+            assert_same(rt, name, &received.answer, &Ok(()));
+            assert_same(rt, name, &received.out.get(1..), &Some(rest));
+            assert_told(rt, name, &received, &depacketizer, layout, flags);
+        }
+        None => assert_out(rt, name, &received, &Err(PacketError::ErrShortPacket)),
+    }
     Ok(())
 }
 
-/// A payload under these flags through each of its beginnings.
-fn cut_off(rt: &impl Abort, alloc: Global, layout: &Layout, flags: u8) -> Result<(), Fail> {
+/// A payload under these flags, with two bytes behind its descriptor.
+fn payload_of(alloc: Global, layout: &Layout, flags: u8) -> Result<Vec<u8>, AllocError> {
     let mut payload = Vec::from_slice(alloc, &[flags])?;
     payload.extend_from_slice(layout.tail)?;
     payload.extend_from_slice(&[0xaa, 0xbb])?;
+    Ok(payload)
+}
+
+/// A payload under these flags through each of its beginnings.
+fn cut_off(rt: &impl Abort, alloc: Global, layout: &Layout, flags: u8) -> Result<(), AllocError> {
+    let name = format!(in alloc; "flags {flags}")?;
+    let payload = payload_of(alloc, layout, flags)?;
     for len in 0..=payload.len() {
         let (beginning, _) = payload.split_at(len);
-        cut(rt, alloc, beginning, layout, flags)?;
+        cut(rt, alloc, &name, beginning, layout, flags)?;
     }
     Ok(())
 }

@@ -88,6 +88,46 @@ impl Filling {
     }
 }
 
+/// The payloads so far, and the one that is being filled.
+#[derive(Drop)]
+struct Packing {
+    /// Whether N stands on the first payload.
+    starts: bool,
+    packets: Vec<Vec<u8>>,
+    filling: Filling,
+}
+
+impl Packing {
+    /// Ends the payload that is being filled.
+    fn end(&mut self, alloc: Global, goes_on: bool) -> Result<(), AllocError> {
+        let starts = self.starts && self.packets.is_empty();
+        self.packets
+            .push(self.filling.write(alloc, goes_on, starts)?)?;
+        self.filling = Filling {
+            continues: goes_on,
+            elements: Vec::new(alloc),
+        };
+        Ok(())
+    }
+
+    /// Adds a byte, in a new payload where this one would be longer than the MTU.
+    fn put(
+        &mut self,
+        alloc: Global,
+        mtu: usize,
+        byte: u8,
+        is_first: bool,
+    ) -> Result<(), AllocError> {
+        self.filling.push(alloc, byte, is_first)?;
+        if self.filling.size() > mtu {
+            self.filling.pop();
+            self.end(alloc, !is_first)?;
+            self.filling.push(alloc, byte, true)?;
+        }
+        Ok(())
+    }
+}
+
 /// The payloads of strings: each takes the next byte as long as it then stays within the MTU. N stands on the first where
 /// the first string is a sequence header.
 pub fn plain_packets(
@@ -99,29 +139,21 @@ pub fn plain_packets(
         [first, ..] => first.first() == Some(&0x08),
         [] => false,
     };
-    let mut packets = Vec::new(alloc);
-    let mut filling = Filling {
-        continues: false,
-        elements: Vec::new(alloc),
+    let mut packing = Packing {
+        starts,
+        packets: Vec::new(alloc),
+        filling: Filling {
+            continues: false,
+            elements: Vec::new(alloc),
+        },
     };
     for string in strings {
         for (i, byte) in string.iter().enumerate() {
-            filling.push(alloc, *byte, i == 0)?;
-            if filling.size() > mtu {
-                filling.pop();
-                let is_first = packets.is_empty();
-                packets.push(filling.write(alloc, i > 0, starts && is_first)?)?;
-                filling = Filling {
-                    continues: i > 0,
-                    elements: Vec::new(alloc),
-                };
-                filling.push(alloc, *byte, true)?;
-            }
+            packing.put(alloc, mtu, *byte, i == 0)?;
         }
     }
-    if !filling.elements.is_empty() {
-        let is_first = packets.is_empty();
-        packets.push(filling.write(alloc, false, starts && is_first)?)?;
+    if !packing.filling.elements.is_empty() {
+        packing.end(alloc, false)?;
     }
-    Ok(packets)
+    Ok(packing.packets)
 }

@@ -1,9 +1,12 @@
 //! The worked examples of recovery, and what comes where memory is refused.
 
-use super::{found, sender_of_four, wrapped};
+use super::{sender_of_four, wrapped};
+use crate::tables::{assert_other, assert_same, assert_shown, found};
 use codec_payload_base::error::PacketError;
 use codec_payload_base::wire::SeqNo;
 use codec_payload_red::red::{Recovered, RedReceiver};
+use std::alloc::Global;
+use std::process::Abort;
 use std::test::Fail;
 
 /// A block of type 96 with the bytes `0304`, 960 ticks older than the primary one, which has the byte `05`.
@@ -46,7 +49,7 @@ struct RecoveredRow {
     wanted: Result<&'static [Recovered<'static>], PacketError>,
 }
 
-const RECOVERED: [RecoveredRow; 13] = [
+static RECOVERED: [RecoveredRow; 13] = [
     RecoveredRow {
         name: "recover-block-and-primary",
         primary_pt: 96,
@@ -262,85 +265,120 @@ const RECOVERED: [RecoveredRow; 13] = [
     },
 ];
 
-#[test]
-fn packets_are_recovered(rt: HostRuntime) -> Result<(), Fail> {
-    let alloc = rt.alloc();
-    for row in &RECOVERED {
-        let name = row.name;
-        let receiver = RedReceiver::new(row.primary_pt, row.step).ok_or(name)?;
-        let answer = receiver.recover(alloc, SeqNo(row.seq_no), row.rtp_time, row.payload);
-        match (&answer, &row.wanted) {
-            (Ok(packets), Ok(wanted)) => assert_eq!(rt; packets.as_slice(), *wanted, "in {name}"),
-            (Err(fault), Err(wanted)) => assert_eq!(rt; fault, wanted, "in {name}"),
-            _ => assert!(rt; false, "{name}: {answer:?}"),
-        }
+/// A receiver of blocks of a type, and of its steps.
+fn receiver(primary_pt: u8, step: u32) -> Option<RedReceiver> {
+    RedReceiver::new(primary_pt, step)
+}
+
+/// What a receiver finds in a payload.
+fn recovered<'a>(
+    alloc: Global,
+    receiver: &RedReceiver,
+    seq_no: u64,
+    rtp_time: u32,
+    payload: &'a [u8],
+) -> Result<Vec<Recovered<'a>>, PacketError> {
+    receiver.recover(alloc, SeqNo(seq_no), rtp_time, payload)
+}
+
+/// The packets that a receiver found, or its fault.
+fn assert_recovered<'a>(
+    rt: &impl Abort,
+    name: &str,
+    answer: &Result<Vec<Recovered<'a>>, PacketError>,
+    wanted: &Result<&[Recovered<'a>], PacketError>,
+) {
+    match (answer, wanted) {
+        (Ok(packets), Ok(wanted)) => assert_same(rt, name, &packets.as_slice(), wanted),
+        (Err(fault), Err(wanted)) => assert_same(rt, name, fault, wanted),
+        _ => panic!(rt; "{name} gives {answer:?} in place of {wanted:?}"),
     }
-    Ok(())
+}
+
+/// What a row's receiver finds.
+fn assert_row(rt: &impl Abort, alloc: Global, row: &RecoveredRow) {
+    match receiver(row.primary_pt, row.step) {
+        Some(receiver) => {
+            let answer = recovered(alloc, &receiver, row.seq_no, row.rtp_time, row.payload);
+            assert_recovered(rt, row.name, &answer, &row.wanted);
+        }
+        None => panic!(rt; "no receiver in {}", row.name),
+    }
+}
+
+#[test]
+fn packets_are_recovered(rt: HostRuntime) {
+    for row in &RECOVERED {
+        assert_row(&rt, rt.alloc(), row);
+    }
 }
 
 /// Of five packets, numbered from 10 and 960 ticks apart, the fifth repeats the first one before it and the third.
 #[test]
 fn what_a_sender_repeats_is_recovered(rt: HostRuntime) -> Result<(), Fail> {
-    let alloc = rt.alloc();
-    let mut sender = sender_of_four(alloc)?;
-    let fifth = wrapped(alloc, &mut sender, &[0x2a], 3_840, 1_200)?;
-    let receiver = RedReceiver::new(111, 960).ok_or("no receiver")?;
-    let packets = receiver.recover(alloc, SeqNo(14), 3_840, &fifth)?;
-    let want = [
+    let mut sender = sender_of_four(rt.alloc())?;
+    let fifth = wrapped(rt.alloc(), &mut sender, &[0x2a], 3_840, 1_200)?;
+    let receiver = receiver(111, 960).ok_or("no receiver")?;
+    let answer = recovered(rt.alloc(), &receiver, 14, 3_840, &fifth);
+    let wanted = [
         older(11, 960, &[1]),
         older(13, 2_880, &[3]),
         primary(14, 3_840, &[0x2a]),
     ];
-    assert_eq!(rt; packets.as_slice(), want.as_slice());
+    assert_recovered(&rt, "what-a-sender-repeats", &answer, &Ok(&wanted));
     Ok(())
 }
+
+/// Steps, and whether a receiver may have them.
+const STEPS: [(u32, bool); 4] = [(0, false), (1, true), (16_383, true), (16_384, false)];
 
 #[test]
 fn steps_of_receivers(rt: HostRuntime) -> Result<(), Fail> {
-    assert!(rt; RedReceiver::new(96, 0).is_none());
-    assert!(rt; RedReceiver::new(96, 1).is_some());
-    assert!(rt; RedReceiver::new(96, 16_383).is_some());
-    assert!(rt; RedReceiver::new(96, 16_384).is_none());
-    let receiver = RedReceiver::new(0xe0, 960).ok_or("no receiver")?;
-    assert_eq!(rt; receiver.primary_pt(), 96);
+    for (step, accepted) in &STEPS {
+        assert_eq!(rt; receiver(96, *step).is_some(), *accepted, "of {step}");
+    }
+    let masked = receiver(0xe0, 960).ok_or("no receiver")?;
+    assert_same(&rt, "the lower seven bits", &masked.primary_pt(), &96);
     Ok(())
 }
 
 #[test]
-fn receivers_and_packets_are_compared_and_shown(rt: HostRuntime) -> Result<(), Fail> {
-    let alloc = rt.alloc();
-    let receiver = RedReceiver::new(0xe0, 960).ok_or("no receiver")?;
-    let copy = receiver;
-    assert_eq!(rt; receiver, copy);
-    assert_eq!(rt; RedReceiver::new(96, 960), Some(copy));
-    assert!(rt; RedReceiver::new(96, 961) != Some(copy));
-    assert!(rt; RedReceiver::new(97, 960) != Some(copy));
-    assert_eq!(rt;
-        format!(in alloc; "{receiver:?}")?.as_str(),
-        "RedReceiver { primary_pt: 96, step: 960 }"
-    );
+fn receivers_are_compared_and_shown(rt: HostRuntime) -> Result<(), Fail> {
+    let name = "a receiver";
+    let copy = receiver(0xe0, 960);
+    assert_same(&rt, name, &receiver(0xe0, 960), &copy);
+    assert_same(&rt, name, &receiver(96, 960), &copy);
+    assert_other(&rt, name, &receiver(96, 961), &copy);
+    assert_other(&rt, name, &receiver(97, 960), &copy);
+    let shown = "RedReceiver { primary_pt: 96, step: 960 }";
+    assert_shown(&rt, rt.alloc(), &copy.ok_or("no receiver")?, shown)?;
+    Ok(())
+}
+
+#[test]
+fn packets_are_compared_and_shown(rt: HostRuntime) -> Result<(), Fail> {
+    let name = "a packet";
     let packet = older(11, 1_920, &[3, 4]);
-    assert_eq!(rt; packet.clone()?, packet);
-    assert!(rt; packet != primary(11, 1_920, &[3, 4]));
-    assert_eq!(rt;
-        format!(in alloc; "{packet:?}")?.as_str(),
-        "Recovered { seq_no: SeqNo(11), rtp_time: 1920, payload: [3, 4], is_primary: false }"
-    );
+    assert_same(&rt, name, &packet.clone()?, &packet);
+    assert_other(&rt, name, &packet, &primary(11, 1_920, &[3, 4]));
+    let shown =
+        "Recovered { seq_no: SeqNo(11), rtp_time: 1920, payload: [3, 4], is_primary: false }";
+    assert_shown(&rt, rt.alloc(), &packet, shown)?;
     Ok(())
 }
 
 /// Where memory is refused the fault is 17, and what is no RED payload has fault 14 all the same.
 #[test]
 fn recover_where_memory_is_refused(rt: HostRuntime) -> Result<(), Fail> {
-    let alloc = rt.alloc();
-    let receiver = RedReceiver::new(96, 960).ok_or("no receiver")?;
-    let answer = receiver.recover(alloc, SeqNo(12), 2_880, &BLOCK_AND_PRIMARY);
+    let name = "recover-where-memory-is-refused";
+    let receiver = receiver(96, 960).ok_or("no receiver")?;
+    let answer = recovered(rt.alloc(), &receiver, 12, 2_880, &BLOCK_AND_PRIMARY);
     if let Some(packets) = found(answer)? {
-        let want = [older(11, 1_920, &[3, 4]), primary(12, 2_880, &[5])];
-        assert_eq!(rt; packets.as_slice(), want.as_slice());
+        let wanted = [older(11, 1_920, &[3, 4]), primary(12, 2_880, &[5])];
+        assert_same(&rt, name, &packets.as_slice(), &wanted.as_slice());
     }
-    let cut = [0xe0u8, 0x0f, 0x00, 0xff, 0x60];
-    let fault = receiver.recover(alloc, SeqNo(12), 2_880, &cut).err();
-    assert_eq!(rt; fault, Some(PacketError::ErrRedCorruptedPacket));
+    let cut = [0xe0, 0x0f, 0x00, 0xff, 0x60];
+    let answer = recovered(rt.alloc(), &receiver, 12, 2_880, &cut);
+    assert_recovered(&rt, name, &answer, &Err(PacketError::ErrRedCorruptedPacket));
     Ok(())
 }
