@@ -2,16 +2,19 @@
 
 ghost use Rattle.std.specs.Prelude.{[], Some, ⊤, Bool, true};
 
+use crate::asserts::{assert_bytes, assert_holds, assert_same, assert_shown};
+use crate::library::{
+    Ended, bytes_and_markers, bytes_of_units, counts_of, push, run_steps, sample, samples_of, send,
+};
 use crate::own_codec::EachByte;
-use crate::runs::sample;
-use codec_payload_core::buffer::{DepacketizingBuffer, RtpMeta};
+use codec_payload_core::buffer::{Depacketized, DepacketizingBuffer, RtpMeta};
 use codec_payload_core::codec::{
     BoxedDepacketizer, BoxedPacketizer, CodecDepacketizer, CodecExtra, CodecPacketizer,
     Depacketizer, Packetizer,
 };
 use codec_payload_core::error::PacketError;
 use codec_payload_core::payload::{MemorySink, Payloader};
-use codec_payload_core::schedule::{Step, run_schedule};
+use codec_payload_core::schedule::Step;
 use codec_payload_core::wire::{
     ExtensionValues, Frequency, MediaTime, Pt, RtpHeader, SeqNo, Ticks,
 };
@@ -151,147 +154,182 @@ fn meta(number: u64) -> RtpMeta {
     }
 }
 
-/// For each packet its bytes and then its marker.
-fn bytes_and_markers(alloc: Global, sink: &MemorySink) -> Result<Vec<u8>, AllocError> {
-    let mut sent = Vec::new(alloc);
-    for packet in sink.packets() {
-        sent.extend_from_slice(&packet.payload)?;
-        sent.push(u8::from(packet.marker))?;
+/// What a payloader over that box sends of frames at an MTU.
+fn sent_of(
+    alloc: Global,
+    packetizer: BoxedPacketizer,
+    frames: &[&[u8]],
+    mtu: usize,
+) -> Result<MemorySink, Fail> {
+    let packetizer = CodecPacketizer::Boxed(packetizer);
+    let mut payloader = Payloader::with_packetizer(packetizer, Frequency::EIGHT_KHZ);
+    let mut sink = MemorySink::new(alloc, 1);
+    for frame in frames {
+        send(
+            alloc,
+            &mut payloader,
+            &sample(alloc, 960, frame)?,
+            mtu,
+            &mut sink,
+        )?;
     }
-    Ok(sent)
+    Ok(sink)
 }
 
 #[test]
 fn box_byte_a_packet(rt: HostRuntime) -> Result<(), Fail> {
     let alloc = rt.alloc();
     let each_byte = BoxedPacketizer(Box::new(alloc, EachByte {})?);
-    let mut payloader = Payloader::with_packetizer(
-        CodecPacketizer::Boxed(each_byte),
-        Frequency::EIGHT_KHZ,
-    );
-    let mut sink = MemorySink::new(alloc, 1);
-    payloader.push_sample(alloc, &sample(alloc, 960, &[1, 2])?, 1_200, &mut sink)?;
-    assert_eq!(rt;
-        bytes_and_markers(alloc, &sink)?.as_slice(),
-        [1u8, 0, 2, 1].as_slice()
-    );
+    let sink = sent_of(alloc, each_byte, &[&[1, 2]], 1_200)?;
+    let sent = bytes_and_markers(alloc, &sink)?;
+    assert_bytes(&rt, "what is sent", &sent, &[1, 0, 2, 1]);
     Ok(())
 }
 
-#[test]
-fn box_run_two_units(rt: HostRuntime) -> Result<(), Fail> {
-    let alloc = rt.alloc();
+const TWO_PACKETS: [Step; 6] = [
+    Step::Send {
+        sample: 0,
+        mtu: 1_200,
+    },
+    Step::Push(0),
+    Step::Push(1),
+    Step::Pop,
+    Step::Pop,
+    Step::Pop,
+];
+
+/// A run with both boxes over a frame of two bytes.
+fn run_boxes(alloc: Global) -> Result<Ended, Fail> {
     let each_byte = BoxedPacketizer(Box::new(alloc, EachByte {})?);
-    let mut payloader = Payloader::with_packetizer(
-        CodecPacketizer::Boxed(each_byte),
-        Frequency::EIGHT_KHZ,
-    );
+    let packetizer = CodecPacketizer::Boxed(each_byte);
+    let mut payloader = Payloader::with_packetizer(packetizer, Frequency::EIGHT_KHZ);
     let each_packet = EachPacket {
         heads: true,
         refuses: false,
     };
     let each_packet = BoxedDepacketizer(Box::new(alloc, each_packet)?);
     let mut buffer = DepacketizingBuffer::new(alloc, CodecDepacketizer::Boxed(each_packet), 0);
-    let mut sink = MemorySink::new(alloc, 1);
-    let mut samples = Vec::new(alloc);
-    samples.push(sample(alloc, 960, &[1, 2])?)?;
-    let steps = [
-        Step::Send {
-            sample: 0,
-            mtu: 1_200,
-        },
-        Step::Push(0),
-        Step::Push(1),
-        Step::Pop,
-        Step::Pop,
-        Step::Pop,
-    ];
-    let run = run_schedule(
+    let samples = samples_of(alloc, &[&[1, 2]])?;
+    Ok(run_steps(
         alloc,
         &mut payloader,
         &mut buffer,
-        &mut sink,
         &samples,
-        &steps,
+        &TWO_PACKETS,
         None,
-    )?;
-    let mut counts = Vec::new(alloc);
-    for entry in &run.sends {
-        counts.push(entry.count)?;
-    }
-    assert_eq!(rt; counts.as_slice(), [2usize].as_slice());
-    let mut units = Vec::new(alloc);
-    for pop in &run.pops {
-        match pop {
-            Some(Ok(unit)) => units.extend_from_slice(&unit.bytes)?,
-            _ => units.push(255)?,
-        }
-    }
-    assert_eq!(rt; units.as_slice(), [1u8, 2, 255].as_slice());
+    )?)
+}
+
+#[test]
+fn box_run_two_units(rt: HostRuntime) -> Result<(), Fail> {
+    let alloc = rt.alloc();
+    let ended = run_boxes(alloc)?;
+    let counts = counts_of(alloc, &ended.run, "a refused sample")?;
+    assert_same(
+        &rt,
+        "packets of the sample",
+        &counts.as_slice(),
+        &[2].as_slice(),
+    );
+    let units = bytes_of_units(alloc, &ended.run)?;
+    assert_bytes(&rt, "what comes out", &units, &[1, 2, 255]);
     Ok(())
 }
 
+/// What a pop answers: a unit, a fault of that number, or nothing.
+type Answer = Option<Result<(), u8>>;
+
+fn answer_of(answer: Option<Result<Depacketized, PacketError>>) -> Answer {
+    match answer {
+        Some(Ok(_)) => Some(Ok(())),
+        Some(Err(fault)) => Some(Err(fault.number())),
+        None => None,
+    }
+}
+
+/// What pops of a buffer over that box answer, into which two packets were pushed, and then how many it holds.
+fn answers_of(
+    alloc: Global,
+    each_packet: EachPacket,
+    pops: usize,
+) -> Result<(Vec<Answer>, usize), Fail> {
+    let each_packet = BoxedDepacketizer(Box::new(alloc, each_packet)?);
+    let mut buffer = DepacketizingBuffer::new(alloc, CodecDepacketizer::Boxed(each_packet), 0);
+    push(alloc, &mut buffer, meta(1), &[1])?;
+    push(alloc, &mut buffer, meta(2), &[2])?;
+    let mut answers = Vec::new(alloc);
+    for _ in 0..pops {
+        answers.push(answer_of(buffer.pop()))?;
+    }
+    Ok((answers, buffer.held()))
+}
+
 /// A box that refuses both of two packets, where each is told to begin a unit, and one that never comes to read, since none
-/// begins one: with how many faults there are, and how many packets are then held.
+/// begins one: with what pops answer, and how many packets are then held.
 #[test]
 fn box_refuses_everything(rt: HostRuntime) -> Result<(), Fail> {
-    let alloc = rt.alloc();
-    for (name, heads, faults, held) in [
-        ("box-refuses-everything", true, 2, 0),
-        ("box-heads-all-false", false, 0, 2),
+    let both = [Some(Err(11)), Some(Err(11)), None];
+    for (name, heads, wanted, held) in [
+        ("box-refuses-everything", true, both.as_slice(), 0),
+        ("box-heads-all-false", false, [None].as_slice(), 2),
     ] {
         let each_packet = EachPacket {
             heads,
             refuses: true,
         };
-        let each_packet = BoxedDepacketizer(Box::new(alloc, each_packet)?);
-        let mut buffer = DepacketizingBuffer::new(alloc, CodecDepacketizer::Boxed(each_packet), 0);
-        buffer.push(meta(1), Vec::from_slice(alloc, &[1])?)?;
-        buffer.push(meta(2), Vec::from_slice(alloc, &[2])?)?;
-        for _ in 0..faults {
-            match buffer.pop() {
-                Some(Err(fault)) => assert_eq!(rt; fault.number(), 11, "in {name}"),
-                _ => return Err(name.into()),
-            }
-        }
-        assert!(rt; buffer.pop().is_none(), "in {name}");
-        assert_eq!(rt; buffer.held(), held, "in {name}");
+        let (answers, left) = answers_of(rt.alloc(), each_packet, wanted.len())?;
+        assert_same(&rt, name, &(answers.as_slice(), left), &(wanted, held));
     }
     Ok(())
+}
+
+/// The length of each packet, and whether it has the marker.
+fn lengths_and_markers(alloc: Global, sink: &MemorySink) -> Result<Vec<(usize, bool)>, AllocError> {
+    let mut sent = Vec::new(alloc);
+    for packet in sink.packets() {
+        sent.push((packet.payload.len(), packet.marker))?;
+    }
+    Ok(sent)
 }
 
 #[test]
 fn box_lawless_packets_sent(rt: HostRuntime) -> Result<(), Fail> {
     let alloc = rt.alloc();
-    let lawless = CodecPacketizer::Boxed(BoxedPacketizer(Box::new(alloc, Lawless {})?));
-    let mut payloader = Payloader::with_packetizer(lawless, Frequency::EIGHT_KHZ);
-    let mut sink = MemorySink::new(alloc, 1);
-    payloader.push_sample(alloc, &sample(alloc, 960, &[1, 2, 3])?, 2, &mut sink)?;
-    let mut lengths = Vec::new(alloc);
-    for packet in sink.packets() {
-        lengths.push(packet.payload.len())?;
-        assert!(rt; packet.marker);
-    }
-    assert_eq!(rt; lengths.as_slice(), [0usize, 3].as_slice());
+    let lawless = BoxedPacketizer(Box::new(alloc, Lawless {})?);
+    let sink = sent_of(alloc, lawless, &[&[1, 2, 3]], 2)?;
+    let sent = lengths_and_markers(alloc, &sink)?;
+    assert_same(
+        &rt,
+        "what is sent",
+        &sent.as_slice(),
+        &[(0, true), (3, true)].as_slice(),
+    );
     Ok(())
+}
+
+/// Whether a packet may be asked for again.
+fn has_nackable(sink: &MemorySink) -> bool {
+    for packet in sink.packets() {
+        if packet.nackable {
+            return true;
+        }
+    }
+    false
 }
 
 /// The packet before is the last that the sink holds, also of the sample before. No clause says so.
 #[test]
 fn a_box_is_told_the_packet_before(rt: HostRuntime) -> Result<(), Fail> {
     let alloc = rt.alloc();
-    let marks = CodecPacketizer::Boxed(BoxedPacketizer(Box::new(alloc, MarksRepeats {})?));
-    let mut payloader = Payloader::with_packetizer(marks, Frequency::EIGHT_KHZ);
-    let mut sink = MemorySink::new(alloc, 1);
-    payloader.push_sample(alloc, &sample(alloc, 960, &[7, 7, 8])?, 1, &mut sink)?;
-    payloader.push_sample(alloc, &sample(alloc, 960, &[8])?, 1, &mut sink)?;
-    assert_eq!(rt;
-        bytes_and_markers(alloc, &sink)?.as_slice(),
-        [7u8, 0, 7, 1, 8, 0, 8, 1].as_slice()
+    let marks = BoxedPacketizer(Box::new(alloc, MarksRepeats {})?);
+    let sink = sent_of(alloc, marks, &[&[7, 7, 8], &[8]], 1)?;
+    let sent = bytes_and_markers(alloc, &sink)?;
+    assert_bytes(&rt, "what is sent", &sent, &[7, 0, 7, 1, 8, 0, 8, 1]);
+    assert_holds(
+        &rt,
+        "packets that are not asked for again",
+        !has_nackable(&sink),
     );
-    for packet in sink.packets() {
-        assert!(rt; !packet.nackable);
-    }
     Ok(())
 }
 
@@ -300,10 +338,8 @@ fn a_box_is_told_the_packet_before(rt: HostRuntime) -> Result<(), Fail> {
 fn debug_of_boxed_packetizers(rt: HostRuntime) -> Result<(), Fail> {
     let alloc = rt.alloc();
     let sends = BoxedPacketizer(Box::new(alloc, EachByte {})?);
-    assert_eq!(rt; format!(in alloc; "{sends:?}")?.as_str(), "BoxedPacketizer");
-    let sends = CodecPacketizer::Boxed(sends);
-    assert_eq!(rt; format!(in alloc; "{sends:?}")?.as_str(), "Boxed");
-    Ok(())
+    assert_shown(&rt, alloc, &sends, "BoxedPacketizer")?;
+    assert_shown(&rt, alloc, &CodecPacketizer::Boxed(sends), "Boxed")
 }
 
 #[test]
@@ -314,11 +350,6 @@ fn debug_of_boxed_depacketizers(rt: HostRuntime) -> Result<(), Fail> {
         refuses: true,
     };
     let reads = BoxedDepacketizer(Box::new(alloc, each_packet)?);
-    assert_eq!(rt;
-        format!(in alloc; "{reads:?}")?.as_str(),
-        "BoxedDepacketizer"
-    );
-    let reads = CodecDepacketizer::Boxed(reads);
-    assert_eq!(rt; format!(in alloc; "{reads:?}")?.as_str(), "Boxed");
-    Ok(())
+    assert_shown(&rt, alloc, &reads, "BoxedDepacketizer")?;
+    assert_shown(&rt, alloc, &CodecDepacketizer::Boxed(reads), "Boxed")
 }

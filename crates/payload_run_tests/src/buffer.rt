@@ -1,20 +1,20 @@
 //! The rules of the buffer, in worked examples.
 
-ghost use Rattle.std.specs.Prelude.{◌≤◌};
-
 mod plain_search;
 mod rows;
 
+use crate::asserts::{assert_bytes, assert_count, assert_same};
+use crate::library::{buffer_of, depacketizer_of, pop_unit, push};
 use codec_payload_core::buffer::{Depacketized, DepacketizingBuffer, RtpMeta};
-use codec_payload_core::codec::{CodecDepacketizer, CodecExtra};
+use codec_payload_core::codec::CodecExtra;
 use codec_payload_core::error::PacketError;
-use codec_payload_core::plain::OpusDepacketizer;
 use codec_payload_core::wire::{
     AbsCaptureTime, Codec, ExtensionValues, Frequency, MediaTime, Pt, RtpHeader, SenderInfo, SeqNo,
     Ticks, VideoLayersAllocation,
 };
 use rows::{Packet, STEPS, Step, StepsRow, Unit};
 use std::alloc::Global;
+use std::fmt;
 use std::process::Abort;
 use std::test::Fail;
 
@@ -35,12 +35,18 @@ fn meta(number: u64, time: u64) -> RtpMeta {
     }
 }
 
-fn opus_buffer(alloc: Global, hold_back: usize) -> DepacketizingBuffer {
-    DepacketizingBuffer::new(
-        alloc,
-        CodecDepacketizer::Opus(OpusDepacketizer {}),
-        hold_back,
-    )
+/// An empty buffer of a codec, with its own limit, which is 1 to 65,536.
+fn buffer_of_limit(
+    alloc: Global,
+    codec: Codec,
+    hold_back: usize,
+    limit: usize,
+) -> Result<DepacketizingBuffer, Fail> {
+    if limit < 1 || limit > 65_536 {
+        return Err("no limit".into());
+    }
+    let depacketizer = depacketizer_of(alloc, codec)?;
+    Ok(DepacketizingBuffer::with_limit(alloc, depacketizer, hold_back, limit))
 }
 
 /// The number of the next unit, and whether it is contiguous.
@@ -52,24 +58,23 @@ fn pop(buffer: &mut DepacketizingBuffer) -> Result<Option<(u64, bool)>, PacketEr
     }
 }
 
-/// An empty buffer of a codec, which holds nothing back.
-fn buffer_of(alloc: Global, codec: Codec) -> Result<DepacketizingBuffer, Fail> {
-    let depack = CodecDepacketizer::from_codec(alloc, codec).ok_or("no depacketizer")?;
-    Ok(DepacketizingBuffer::new(alloc, depack, 0))
+/// The next units are these, each told by the number of its first packet and by whether it is contiguous; `None` where none
+/// comes.
+fn assert_pops(
+    rt: &impl Abort,
+    buffer: &mut DepacketizingBuffer,
+    wanted: &[Option<(u64, bool)>],
+) -> Result<(), Fail> {
+    for unit in wanted {
+        assert_same(rt, "what comes out", &pop(buffer)?, unit);
+    }
+    Ok(())
 }
 
-/// An empty buffer of a codec, with its own limit.
-fn buffer_of_limit(
-    alloc: Global,
-    codec: Codec,
-    hold_back: usize,
-    limit: usize,
-) -> Result<DepacketizingBuffer, Fail>
-    requires least { 1 ≤ limit }
-    requires most { limit ≤ 65536 }
-{
-    let depack = CodecDepacketizer::from_codec(alloc, codec).ok_or("no depacketizer")?;
-    Ok(DepacketizingBuffer::with_limit(alloc, depack, hold_back, limit))
+/// So many packets are held, and so many complete frames.
+fn assert_held(rt: &impl Abort, buffer: &DepacketizingBuffer, held: usize, ready: usize) {
+    let got = (buffer.held(), buffer.ready());
+    assert_same(rt, "packets and frames that are held", &got, &(held, ready));
 }
 
 /// Pushes a packet of the one frame of that time.
@@ -79,60 +84,71 @@ fn push_part(
     number: u64,
     marker: bool,
     payload: &[u8],
-) -> Result<(), Fail> {
+) -> Result<(), PacketError> {
     let mut meta = meta(number, 960);
     meta.header.marker = marker;
-    buffer.push(meta, Vec::from_slice(alloc, payload)?)?;
-    Ok(())
-}
-
-fn assert_steps(rt: &impl Abort, alloc: Global, row: &StepsRow) -> Result<(), Fail> {
-    assert!(rt; row.limit >= 1 && row.limit <= 65_536);
-    let mut buffer = buffer_of_limit(alloc, row.codec, row.hold_back, row.limit)?;
-    assert_eq!(rt; buffer.limit(), row.limit, "in {}", row.name);
-    for (place, step) in row.steps.iter().enumerate() {
-        assert_step(rt, alloc, &mut buffer, row.name, place, step)?;
-    }
-    Ok(())
-}
-
-fn assert_step(
-    rt: &impl Abort,
-    alloc: Global,
-    buffer: &mut DepacketizingBuffer,
-    name: &str,
-    place: usize,
-    step: &Step,
-) -> Result<(), Fail> {
-    match step {
-        Step::Push(packet) => push_packet(alloc, buffer, packet)?,
-        Step::Pop(Some(wanted)) => {
-            let unit = buffer.pop().ok_or(name)??;
-            assert_unit(rt, name, place, &unit, wanted);
-        }
-        Step::Pop(None) => assert!(rt; buffer.pop().is_none(), "at step {place} of {name}"),
-        Step::Held(count) => assert_eq!(rt; buffer.held(), *count, "at step {place} of {name}"),
-        Step::Ready(count) => assert_eq!(rt; buffer.ready(), *count, "at step {place} of {name}"),
-    }
-    Ok(())
+    push(alloc, buffer, meta, payload)
 }
 
 fn push_packet(
     alloc: Global,
     buffer: &mut DepacketizingBuffer,
     packet: &Packet,
-) -> Result<(), Fail> {
+) -> Result<(), PacketError> {
     let mut meta = meta(packet.number, packet.time);
     meta.header.marker = packet.marker;
-    buffer.push(meta, Vec::from_slice(alloc, packet.payload)?)?;
+    push(alloc, buffer, meta, packet.payload)
+}
+
+/// A step of a row.
+#[derive(Clone, Copy)]
+struct Place<'a> {
+    name: &'a str,
+    step: usize,
+}
+
+impl fmt::Display for Place<'_> {
+    fn fmt<W: fmt::Write>(&self, f: &mut fmt::Formatter<W>) -> fmt::Result {
+        write!(f, "step {} of {}", self.step, self.name)
+    }
+}
+
+fn assert_unit(rt: &impl Abort, place: Place<'_>, unit: &Depacketized, wanted: &Unit) {
+    assert_bytes(rt, place, &unit.bytes, wanted.bytes);
+    let numbers = SeqNo(wanted.first)..=SeqNo(wanted.last);
+    let wanted = (numbers, wanted.contiguous);
+    assert_same(rt, place, &(unit.seq_range(), unit.contiguous), &wanted);
+}
+
+fn assert_step(
+    rt: &impl Abort,
+    alloc: Global,
+    buffer: &mut DepacketizingBuffer,
+    place: Place<'_>,
+    step: &Step,
+) -> Result<(), Fail> {
+    match step {
+        Step::Push(packet) => push_packet(alloc, buffer, packet)?,
+        Step::Pop(Some(wanted)) => {
+            let unit = pop_unit(buffer, place.name)?;
+            assert_unit(rt, place, &unit, wanted);
+        }
+        Step::Pop(None) => assert_same(rt, place, &pop(buffer)?, &None),
+        Step::Held(count) => assert_count(rt, place, buffer.held(), *count),
+        Step::Ready(count) => assert_count(rt, place, buffer.ready(), *count),
+    }
     Ok(())
 }
 
-fn assert_unit(rt: &impl Abort, name: &str, place: usize, unit: &Depacketized, wanted: &Unit) {
-    let got = (unit.bytes.as_slice(), unit.seq_range(), unit.contiguous);
-    let numbers = SeqNo(wanted.first)..=SeqNo(wanted.last);
-    let wanted = (wanted.bytes, numbers, wanted.contiguous);
-    assert_eq!(rt; got, wanted, "at step {place} of {name}");
+fn assert_steps(rt: &impl Abort, alloc: Global, row: &StepsRow) -> Result<(), Fail> {
+    let name = row.name;
+    let mut buffer = buffer_of_limit(alloc, row.codec, row.hold_back, row.limit)?;
+    assert_count(rt, name, buffer.limit(), row.limit);
+    for (place, step) in row.steps.iter().enumerate() {
+        let place = Place { name, step: place };
+        assert_step(rt, alloc, &mut buffer, place, step)?;
+    }
+    Ok(())
 }
 
 #[test]
@@ -143,34 +159,42 @@ fn steps_are_answered(rt: HostRuntime) -> Result<(), Fail> {
     Ok(())
 }
 
+/// An Opus buffer that holds everything back, into which packets 1 to 4,096 were pushed.
+fn full_buffer(alloc: Global) -> Result<DepacketizingBuffer, Fail> {
+    let mut buffer = buffer_of_limit(alloc, Codec::Opus, usize::MAX, 4_096)?;
+    for number in 1..=4_096 {
+        push(alloc, &mut buffer, meta(number, number), &[])?;
+    }
+    Ok(buffer)
+}
+
 /// A packet below all that a full buffer holds leaves at once, and yet the unit after it does not follow.
 #[test]
 fn full_buffer_evicts_the_packet_that_came(rt: HostRuntime) -> Result<(), Fail> {
-    let mut buffer = opus_buffer(rt.alloc(), usize::MAX);
-    for number in 1..=4_096 {
-        buffer.push(meta(number, number), Vec::new(rt.alloc()))?;
-    }
-    buffer.push(meta(0, 0), Vec::new(rt.alloc()))?;
-    assert_eq!(rt; buffer.held(), 4_096);
-    assert_eq!(rt; pop(&mut buffer)?, Some((1, false)));
-    assert_eq!(rt; pop(&mut buffer)?, Some((2, true)));
+    let mut buffer = full_buffer(rt.alloc())?;
+    push(rt.alloc(), &mut buffer, meta(0, 0), &[])?;
+    assert_count(&rt, "packets that are held", buffer.held(), 4_096);
+    assert_pops(&rt, &mut buffer, &[Some((1, false)), Some((2, true))])
+}
+
+/// The next unit has this byte, the time 960 and no extra.
+fn assert_opus(rt: &impl Abort, buffer: &mut DepacketizingBuffer, byte: u8) -> Result<(), Fail> {
+    let unit = pop_unit(buffer, "no unit")?;
+    assert_bytes(rt, "a unit", &unit.bytes, &[byte]);
+    let got = (unit.time.numer(), unit.codec_extra);
+    assert_same(rt, "its time and extra", &got, &(960, CodecExtra::None));
     Ok(())
 }
 
 /// Of two packets of one number the first stays. Two packets of one time are two units.
 #[test]
 fn units_are_what_came_first(rt: HostRuntime) -> Result<(), Fail> {
-    let mut buffer = opus_buffer(rt.alloc(), 0);
+    let mut buffer = buffer_of(rt.alloc(), Codec::Opus)?;
     for (number, byte) in [(1, 5), (1, 6), (2, 7)] {
-        buffer.push(meta(number, 960), Vec::from_slice(rt.alloc(), &[byte])?)?;
+        push_part(rt.alloc(), &mut buffer, number, false, &[byte])?;
     }
-    for byte in [5, 7] {
-        let unit = buffer.pop().ok_or("no unit")??;
-        assert_eq!(rt; unit.bytes.as_slice(), [byte].as_slice());
-        assert_eq!(rt; unit.time.numer(), 960);
-        assert_eq!(rt; unit.codec_extra, CodecExtra::None);
-    }
-    Ok(())
+    assert_opus(&rt, &mut buffer, 5)?;
+    assert_opus(&rt, &mut buffer, 7)
 }
 
 /// Pushes one of the packets 4 to 6 of a VP8 frame, which was received then.
@@ -179,7 +203,7 @@ fn push_received(
     buffer: &mut DepacketizingBuffer,
     number: u64,
     received: u64,
-) -> Result<(), Fail> {
+) -> Result<(), PacketError> {
     let mut meta = meta(number, 960);
     meta.received = Ticks(received);
     meta.header.marker = number == 6;
@@ -191,40 +215,69 @@ fn push_received(
         octet_count: 4,
     });
     let descriptor = if number == 4 { 0x10 } else { 0x00 };
-    buffer.push(meta, Vec::from_slice(alloc, &[descriptor, 0x90])?)?;
-    Ok(())
+    push(alloc, buffer, meta, &[descriptor, 0x90])
+}
+
+/// The NTP time of the first sender report.
+fn first_ntp_time(unit: &Depacketized) -> Option<u64> {
+    match unit.first_sender_info() {
+        Some(info) => Some(info.ntp_time),
+        None => None,
+    }
 }
 
 /// A VP8 frame in three packets, of which the second and the third were received first.
 #[test]
 fn unit_tells_of_its_packets(rt: HostRuntime) -> Result<(), Fail> {
-    let alloc = rt.alloc();
-    let mut buffer = buffer_of(alloc, Codec::Vp8)?;
+    let mut buffer = buffer_of(rt.alloc(), Codec::Vp8)?;
     for (number, received) in [(4, 9), (5, 8), (6, 8)] {
-        push_received(alloc, &mut buffer, number, received)?;
+        push_received(rt.alloc(), &mut buffer, number, received)?;
     }
-    let unit = buffer.pop().ok_or("no unit")??;
-    assert_eq!(rt; unit.meta().len(), 3);
-    assert_eq!(rt; unit.first_network_time(), Ticks(8));
-    assert_eq!(rt; unit.first_sender_info().map(|info| info.ntp_time), Some(5));
-    assert_eq!(rt; unit.seq_range(), SeqNo(4)..=SeqNo(6));
-    assert_eq!(rt; unit.start_of_talkspurt(), false);
+    let unit = pop_unit(&mut buffer, "no unit")?;
+    assert_count(&rt, "its packets", unit.meta().len(), 3);
+    let times = (unit.first_network_time(), first_ntp_time(&unit));
+    assert_same(&rt, "when it came", &times, &(Ticks(8), Some(5)));
+    let told = (unit.seq_range(), unit.start_of_talkspurt());
+    assert_same(
+        &rt,
+        "numbers and marker",
+        &told,
+        &(SeqNo(4)..=SeqNo(6), false),
+    );
     Ok(())
 }
 
-/// Packets 2 to 4,097 of a frame, and then its first, which leaves at once and comes too late from then on.
-#[test]
-fn ready_4097_first_last(rt: HostRuntime) -> Result<(), Fail> {
-    let alloc = rt.alloc();
+/// Packets 2 to 4,097 of a VP8 frame, whose first is missing.
+fn headless_buffer(alloc: Global) -> Result<DepacketizingBuffer, Fail> {
     let mut buffer = buffer_of(alloc, Codec::Vp8)?;
     for number in 2..=4_097u64 {
         push_part(alloc, &mut buffer, number, number == 4_097, &[0x00, 0x90])?;
     }
+    Ok(buffer)
+}
+
+/// The first packet leaves at once and comes too late from then on.
+#[test]
+fn ready_4097_first_last(rt: HostRuntime) -> Result<(), Fail> {
+    let mut buffer = headless_buffer(rt.alloc())?;
     for _ in 0..2 {
-        push_part(alloc, &mut buffer, 1, false, &[0x10, 0x90])?;
-        assert_eq!(rt; buffer.held(), 4_096);
-        assert_eq!(rt; buffer.ready(), 0);
-        assert_eq!(rt; pop(&mut buffer)?, None);
+        push_part(rt.alloc(), &mut buffer, 1, false, &[0x10, 0x90])?;
+        assert_held(&rt, &buffer, 4_096, 0);
+        assert_pops(&rt, &mut buffer, &[None])?;
+    }
+    Ok(())
+}
+
+/// Packets of AV1 from 4,096 down to 1, each of which begins a unit, and of which the last ends one. There is always one
+/// complete frame.
+fn push_downwards(
+    rt: &impl Abort,
+    alloc: Global,
+    buffer: &mut DepacketizingBuffer,
+) -> Result<(), Fail> {
+    for below in 0..4_096u64 {
+        push_part(alloc, buffer, 4_096 - below, below == 0, &[0x10, 0x30])?;
+        assert_count(rt, "complete frames", buffer.ready(), 1);
     }
     Ok(())
 }
@@ -233,28 +286,25 @@ fn ready_4097_first_last(rt: HostRuntime) -> Result<(), Fail> {
 /// frame begins one packet later each time.
 #[test]
 fn ready_as_a_frame_shrinks(rt: HostRuntime) -> Result<(), Fail> {
-    let alloc = rt.alloc();
-    let mut buffer = buffer_of(alloc, Codec::Av1)?;
-    for number in 0..4_096u64 {
-        push_part(
-            alloc,
-            &mut buffer,
-            4_096 - number,
-            number == 0,
-            &[0x10, 0x30],
-        )?;
-        assert_eq!(rt; buffer.ready(), 1);
-    }
+    let mut buffer = buffer_of(rt.alloc(), Codec::Av1)?;
+    push_downwards(&rt, rt.alloc(), &mut buffer)?;
     for number in 4_097..4_100u64 {
-        push_part(alloc, &mut buffer, number, true, &[0x10, 0x30])?;
+        push_part(rt.alloc(), &mut buffer, number, true, &[0x10, 0x30])?;
     }
-    assert_eq!(rt; buffer.held(), 4_096);
-    assert_eq!(rt; buffer.ready(), 4);
-    let unit = buffer.pop().ok_or("no unit")??;
-    assert_eq!(rt; unit.seq_range(), SeqNo(4)..=SeqNo(4_096));
-    assert_eq!(rt; unit.contiguous, false);
-    assert_eq!(rt; buffer.ready(), 3);
-    assert_eq!(rt; pop(&mut buffer)?, Some((4_097, true)));
+    assert_held(&rt, &buffer, 4_096, 4);
+    let unit = pop_unit(&mut buffer, "no unit")?;
+    let got = (unit.seq_range(), unit.contiguous);
+    assert_same(&rt, "the frame", &got, &(SeqNo(4)..=SeqNo(4_096), false));
+    assert_count(&rt, "complete frames behind it", buffer.ready(), 3);
+    assert_pops(&rt, &mut buffer, &[Some((4_097, true))])
+}
+
+/// A VP8 frame of packets 1 to 4,097.
+fn push_long_frame(alloc: Global, buffer: &mut DepacketizingBuffer) -> Result<(), PacketError> {
+    for number in 1..=4_097u64 {
+        let descriptor = if number == 1 { 0x10 } else { 0x00 };
+        push_part(alloc, buffer, number, number == 4_097, &[descriptor, 0x90])?;
+    }
     Ok(())
 }
 
@@ -263,26 +313,26 @@ fn ready_as_a_frame_shrinks(rt: HostRuntime) -> Result<(), Fail> {
 fn limit_65536_vp8(rt: HostRuntime) -> Result<(), Fail> {
     let alloc = rt.alloc();
     let mut buffer = buffer_of_limit(alloc, Codec::Vp8, 0, 65_536)?;
-    assert_eq!(rt; buffer.limit(), 65_536);
-    for number in 1..=4_097u64 {
-        let first_byte = if number == 1 { 0x10 } else { 0x00 };
-        push_part(
-            alloc,
-            &mut buffer,
-            number,
-            number == 4_097,
-            &[first_byte, 0x90],
-        )?;
-    }
-    let unit = buffer.pop().ok_or("no unit")??;
-    assert_eq!(rt; unit.bytes, vec![in alloc; 0x90u8; 4_097]?);
-    assert_eq!(rt; unit.seq_range(), SeqNo(1)..=SeqNo(4_097));
-    assert_eq!(rt; pop(&mut buffer)?, None);
-    Ok(())
+    assert_count(&rt, "the limit", buffer.limit(), 65_536);
+    push_long_frame(alloc, &mut buffer)?;
+    let unit = pop_unit(&mut buffer, "no unit")?;
+    assert_bytes(
+        &rt,
+        "the frame",
+        &unit.bytes,
+        &vec![in alloc; 0x90u8; 4_097]?,
+    );
+    assert_same(
+        &rt,
+        "its numbers",
+        &unit.seq_range(),
+        &(SeqNo(1)..=SeqNo(4_097)),
+    );
+    assert_pops(&rt, &mut buffer, &[None])
 }
 
-/// The unit that comes of a VP8 frame in packets with these extension values.
-fn unit_with(alloc: Global, values: &[ExtensionValues]) -> Result<Depacketized, Fail> {
+/// The values of the unit that comes of a VP8 frame in packets with these values.
+fn merged_of(alloc: Global, values: &[ExtensionValues]) -> Result<ExtensionValues, Fail> {
     let mut buffer = buffer_of(alloc, Codec::Vp8)?;
     for (place, value) in values.iter().enumerate() {
         let mut meta = meta(place as u64, 960);
@@ -290,19 +340,22 @@ fn unit_with(alloc: Global, values: &[ExtensionValues]) -> Result<Depacketized, 
         meta.header.marker = place + 1 == values.len();
         // The S bit begins a frame.
         let descriptor = if place == 0 { 0x10 } else { 0x00 };
-        buffer.push(meta, Vec::from_slice(alloc, &[descriptor, 0x01])?)?;
+        push(alloc, &mut buffer, meta, &[descriptor, 0x01])?;
     }
-    Ok(buffer.pop().ok_or("no unit")??)
+    Ok(pop_unit(&mut buffer, "no unit")?.ext_vals())
+}
+
+fn captured(capture_time: u64) -> AbsCaptureTime {
+    AbsCaptureTime {
+        capture_time,
+        clock_offset: None,
+    }
 }
 
 /// Capture time and layers allocation are those of the first packet, or else of the last; all others those of the last.
 #[test]
 fn unit_merges_extension_values(rt: HostRuntime) -> Result<(), Fail> {
     let alloc = rt.alloc();
-    let captured = |capture_time| AbsCaptureTime {
-        capture_time,
-        clock_offset: None,
-    };
     let mut first = ExtensionValues::default();
     first.abs_capture_time = Some(captured(1));
     first.layers_allocation = VideoLayersAllocation::new(&[1]);
@@ -317,14 +370,19 @@ fn unit_merges_extension_values(rt: HostRuntime) -> Result<(), Fail> {
     let mut merged = last;
     merged.abs_capture_time = first.abs_capture_time;
     merged.layers_allocation = first.layers_allocation;
-    assert!(rt; unit_with(alloc, &[first, none, last])?.ext_vals() == merged);
-    assert!(rt; unit_with(alloc, &[none, first, last])?.ext_vals() == last);
-    assert!(rt; unit_with(alloc, &[last])?.ext_vals() == last);
-    assert!(rt;
-        unit_with(alloc, &[last, none])?
-            .ext_vals()
-            .video_orientation
-            .is_none()
-    );
+    for (values, wanted) in [
+        ([first, none, last].as_slice(), merged),
+        (&[none, first, last], last),
+        (&[last], last),
+    ] {
+        assert_same(
+            &rt,
+            "the values of a unit",
+            &merged_of(alloc, values)?,
+            &wanted,
+        );
+    }
+    let turned = merged_of(alloc, &[last, none])?.video_orientation;
+    assert_same(&rt, "the orientation of a unit", &turned, &None);
     Ok(())
 }

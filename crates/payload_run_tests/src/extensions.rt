@@ -1,14 +1,14 @@
 //! Which values of header extensions go on which packets, and what a unit tells of them.
 
-use crate::runs::{payloader, sample};
-use codec_payload_core::buffer::DepacketizingBuffer;
-use codec_payload_core::codec::{CodecDepacketizer, Vp9PacketizerMode};
+use crate::asserts::assert_same;
+use crate::library::{Ended, buffer_of, payloader_of, run_steps, sample};
 use codec_payload_core::payload::MemorySink;
-use codec_payload_core::schedule::{Step, run_schedule};
+use codec_payload_core::schedule::{Run, Step};
 use codec_payload_core::wire::{
-    AbsCaptureTime, Codec, ExtensionValues, VideoLayersAllocation, VideoTiming,
+    AbsCaptureTime, Codec, ExtensionValues, Frequency, VideoLayersAllocation, VideoTiming,
 };
-use std::alloc::Global;
+use std::alloc::{AllocError, Global};
+use std::process::Abort;
 use std::test::Fail;
 
 const STEPS: [Step; 5] = [
@@ -19,40 +19,47 @@ const STEPS: [Step; 5] = [
     Step::Pop,
 ];
 
-/// The values on each packet of a VP8 frame that is cut into pieces of one byte, and those of the unit that came of it.
-fn send_frame(
-    alloc: Global,
-    frame: &[u8],
-    values: ExtensionValues,
-) -> Result<(Vec<ExtensionValues>, ExtensionValues), Fail> {
-    let mut payloader = payloader(Codec::Vp8, Vp9PacketizerMode::NonFlexible, 0)?;
-    let depack = CodecDepacketizer::from_codec(alloc, Codec::Vp8).ok_or("no depacketizer")?;
-    let mut buffer = DepacketizingBuffer::new(alloc, depack, 0);
-    let mut sink = MemorySink::new(alloc, 10);
+/// The values on each packet of a run.
+fn values_of(alloc: Global, sink: &MemorySink) -> Result<Vec<ExtensionValues>, AllocError> {
+    let mut values = Vec::new(alloc);
+    for packet in sink.packets() {
+        values.push(packet.ext_vals)?;
+    }
+    Ok(values)
+}
+
+/// The values of the unit that the last pop gave.
+fn values_of_unit(run: &Run) -> Result<ExtensionValues, Fail> {
+    match run.pops.last() {
+        Some(Some(Ok(unit))) => Ok(unit.ext_vals()),
+        _ => Err("no unit".into()),
+    }
+}
+
+/// Sends a VP8 frame with these values, cut into pieces of one byte, and receives it.
+fn send_frame(alloc: Global, frame: &[u8], values: ExtensionValues) -> Result<Ended, Fail> {
+    let mut payloader = payloader_of(Codec::Vp8, Frequency::EIGHT_KHZ)?;
+    let mut buffer = buffer_of(alloc, Codec::Vp8)?;
     let mut sent = sample(alloc, 960, frame)?;
     sent.ext_vals = values;
     let mut samples = Vec::new(alloc);
     samples.push(sent)?;
-    let run = run_schedule(
-        alloc,
-        &mut payloader,
-        &mut buffer,
-        &mut sink,
-        &samples,
-        &STEPS,
-        None,
-    )?;
-    let mut on_packets = Vec::new(alloc);
-    for packet in sink.packets() {
-        on_packets.push(packet.ext_vals)?;
-    }
-    let mut of_unit = None;
-    for pop in &run.pops {
-        if let Some(Ok(unit)) = pop {
-            of_unit = Some(unit.ext_vals());
-        }
-    }
-    Ok((on_packets, of_unit.ok_or("no unit")?))
+    Ok(run_steps(alloc, &mut payloader, &mut buffer, &samples, &STEPS, None)?)
+}
+
+/// A frame with these values has those on its packets, and its unit all.
+fn assert_values(
+    rt: &impl Abort,
+    alloc: Global,
+    frame: &[u8],
+    all: &ExtensionValues,
+    on_packets: &[ExtensionValues],
+) -> Result<(), Fail> {
+    let ended = send_frame(alloc, frame, *all)?;
+    let values = values_of(alloc, &ended.sink)?;
+    assert_same(rt, "values on packets", &values.as_slice(), &on_packets);
+    assert_same(rt, "values of the unit", &values_of_unit(&ended.run)?, all);
+    Ok(())
 }
 
 #[test]
@@ -67,10 +74,13 @@ fn vp8_extension_values_stripped(rt: HostRuntime) -> Result<(), Fail> {
     turned.video_orientation = Some(3);
     let mut both = captured;
     both.video_orientation = Some(3);
-    let (on_packets, of_unit) = send_frame(rt.alloc(), &[0x90, 0x90, 0x90], both)?;
-    assert_eq!(rt; on_packets.as_slice(), [captured, none, turned].as_slice());
-    assert_eq!(rt; of_unit, both);
-    Ok(())
+    assert_values(
+        &rt,
+        rt.alloc(),
+        &[0x90, 0x90, 0x90],
+        &both,
+        &[captured, none, turned],
+    )
 }
 
 /// Every value there is.
@@ -99,11 +109,7 @@ fn all_values() -> ExtensionValues {
 
 #[test]
 fn all_values_on_one_packet(rt: HostRuntime) -> Result<(), Fail> {
-    let all = all_values();
-    let (on_packets, of_unit) = send_frame(rt.alloc(), &[0x90], all)?;
-    assert_eq!(rt; on_packets.as_slice(), [all].as_slice());
-    assert_eq!(rt; of_unit, all);
-    Ok(())
+    assert_values(&rt, rt.alloc(), &[0x90], &all_values(), &[all_values()])
 }
 
 #[test]
@@ -119,8 +125,11 @@ fn all_values_over_three_packets(rt: HostRuntime) -> Result<(), Fail> {
     last.video_orientation = Some(1);
     last.video_content_type = Some(1);
     last.video_timing = all.video_timing;
-    let (on_packets, of_unit) = send_frame(rt.alloc(), &[0x90, 0x90, 0x90], all)?;
-    assert_eq!(rt; on_packets.as_slice(), [first, audio, last].as_slice());
-    assert_eq!(rt; of_unit, all);
-    Ok(())
+    assert_values(
+        &rt,
+        rt.alloc(),
+        &[0x90, 0x90, 0x90],
+        &all,
+        &[first, audio, last],
+    )
 }

@@ -1,13 +1,13 @@
 //! The example of an audio gateway in the README.
 
-use crate::runs::sample;
+use crate::asserts::assert_bytes;
+use crate::library::{buffer_of, payloader_of, sample};
 use codec_payload_core::buffer::{DepacketizingBuffer, RtpMeta};
-use codec_payload_core::codec::{CodecDepacketizer, Vp9PacketizerMode};
 use codec_payload_core::error::PacketError;
 use codec_payload_core::payload::{MemorySink, OutgoingPacket, Payloader, RedSink};
 use codec_payload_core::red::{Recovered, RedReceiver, RedSender};
 use codec_payload_core::wire::{
-    Codec, CodecSpec, ExtensionValues, Frequency, MediaTime, Pt, RtpHeader, Ticks, ToPayload,
+    Codec, ExtensionValues, Frequency, MediaTime, Pt, RtpHeader, Ticks, ToPayload,
 };
 use std::alloc::Global;
 use std::test::Fail;
@@ -67,30 +67,20 @@ fn receive(
     Ok(())
 }
 
-/// The frames that come out where the packets of these indices come.
-fn units_of(alloc: Global, arrived: &[usize]) -> Result<Vec<u8>, Fail> {
-    let spec = CodecSpec {
-        codec: Codec::Opus,
-        clock_rate: Frequency::FORTY_EIGHT_KHZ,
-        octet_align: false,
-    };
-    let mut payloader = Payloader::new(spec, Vp9PacketizerMode::NonFlexible, 0).ok_or(
-        "no packetizer",
-    )?;
-    let depacketizer = CodecDepacketizer::from_codec(alloc, spec.codec).ok_or("no depacketizer")?;
-    let mut buffer = DepacketizingBuffer::new(alloc, depacketizer, 0);
-    let receiver = RedReceiver::new(96, 960).ok_or("no step")?;
-
+/// The packets of eight frames, each of which has its number as its only byte.
+fn sent_frames(alloc: Global) -> Result<MemorySink, Fail> {
     let mut frames = Vec::new(alloc);
     for number in 0..8u8 {
         frames.push(sample(alloc, u64::from(number) * 960, &[number])?)?;
     }
+    let mut payloader = payloader_of(Codec::Opus, Frequency::FORTY_EIGHT_KHZ)?;
     let mut stream = MemorySink::new(alloc, 1);
     send_in_red(alloc, &mut payloader, &frames, &mut stream)?;
-    for index in arrived {
-        let packet = stream.packets().get(*index).ok_or("no packet")?;
-        receive(alloc, &receiver, packet, &mut buffer)?;
-    }
+    Ok(stream)
+}
+
+/// The bytes of all units that a buffer gives.
+fn pop_all(alloc: Global, buffer: &mut DepacketizingBuffer) -> Result<Vec<u8>, PacketError> {
     let mut units = Vec::new(alloc);
     while let Some(unit) = buffer.pop() {
         units.extend_from_slice(&unit?.bytes)?;
@@ -98,19 +88,33 @@ fn units_of(alloc: Global, arrived: &[usize]) -> Result<Vec<u8>, Fail> {
     Ok(units)
 }
 
+/// The frames that come out where the packets of these indices come.
+fn units_of(alloc: Global, arrived: &[usize]) -> Result<Vec<u8>, Fail> {
+    let stream = sent_frames(alloc)?;
+    let receiver = RedReceiver::new(96, 960).ok_or("no step")?;
+    let mut buffer = buffer_of(alloc, Codec::Opus)?;
+    for index in arrived {
+        let packet = stream.packets().get(*index).ok_or("no packet")?;
+        receive(alloc, &receiver, packet, &mut buffer)?;
+    }
+    Ok(pop_all(alloc, &mut buffer)?)
+}
+
 /// One lost packet; three in a row, of which the next packet repeats the first and the last, and the one after it the second;
 /// and two at the end, which nothing repeats.
 #[test]
 fn lost_frames_come_back(rt: HostRuntime) -> Result<(), Fail> {
-    let alloc = rt.alloc();
-    let one_lost = units_of(alloc, &[0, 1, 3, 4, 5, 6, 7])?;
-    assert_eq!(rt; one_lost.as_slice(), [0u8, 1, 2, 3, 4, 5, 6, 7].as_slice());
-    let three_lost = units_of(alloc, &[0, 1, 5, 6, 7])?;
-    assert_eq!(rt;
-        three_lost.as_slice(),
-        [0u8, 1, 2, 3, 4, 5, 6, 7].as_slice()
-    );
-    let none_behind = units_of(alloc, &[0, 1, 2, 3, 4, 5])?;
-    assert_eq!(rt; none_behind.as_slice(), [0u8, 1, 2, 3, 4, 5].as_slice());
+    let all = [0, 1, 2, 3, 4, 5, 6, 7];
+    for (name, arrived, wanted) in [
+        ("one lost", [0, 1, 3, 4, 5, 6, 7].as_slice(), all.as_slice()),
+        ("three lost", &[0, 1, 5, 6, 7], &all),
+        (
+            "two lost at the end",
+            &[0, 1, 2, 3, 4, 5],
+            &[0, 1, 2, 3, 4, 5],
+        ),
+    ] {
+        assert_bytes(&rt, name, &units_of(rt.alloc(), arrived)?, wanted);
+    }
     Ok(())
 }

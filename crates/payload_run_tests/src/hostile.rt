@@ -4,6 +4,8 @@
 mod payloads;
 mod senders;
 
+use crate::asserts::{assert_bytes, assert_holds, assert_same};
+use crate::library::depacketizer_for;
 use codec_payload_core::av1::detect_av1_keyframe;
 use codec_payload_core::codec::{CodecDepacketizer, CodecExtra, Depacketizer, TelephoneEvent};
 use codec_payload_core::error::PacketError;
@@ -44,16 +46,6 @@ fn names_fault(codec: Codec, fault: &PacketError) -> bool {
     }
 }
 
-fn depacketizer(alloc: Global, codec: Codec, octet_align: bool) -> Result<CodecDepacketizer, Fail> {
-    let mut depacketizer = CodecDepacketizer::from_codec(alloc, codec).ok_or("no depacketizer")?;
-    depacketizer.configure_for(&CodecSpec {
-        codec,
-        clock_rate: Frequency::EIGHT_KHZ,
-        octet_align,
-    });
-    Ok(depacketizer)
-}
-
 /// A depacketizer that goes on from payload to payload, with the bytes and the extra so far.
 #[derive(Drop)]
 struct Receiver {
@@ -65,28 +57,46 @@ struct Receiver {
 
 impl Receiver {
     fn new(alloc: Global, codec: Codec, octet_align: bool) -> Result<Self, Fail> {
+        let spec = CodecSpec {
+            codec,
+            clock_rate: Frequency::EIGHT_KHZ,
+            octet_align,
+        };
         Ok(Receiver {
             codec,
-            depacketizer: depacketizer(alloc, codec, octet_align)?,
+            depacketizer: depacketizer_for(alloc, &spec)?,
             out: Vec::from_slice(alloc, &[7])?,
             extra: CodecExtra::None,
         })
+    }
+
+    fn depacketize(&mut self, payload: &[u8]) -> Result<(), PacketError> {
+        self.depacketizer
+            .depacketize(payload, &mut self.out, &mut self.extra)
+    }
+
+    /// A refusal names a fault of the format, and has changed neither the bytes nor the extra.
+    fn assert_refused(
+        &self,
+        rt: &impl Abort,
+        fault: &PacketError,
+        before: &[u8],
+        extra: &CodecExtra,
+    ) {
+        assert_holds(rt, "faults of the format", names_fault(self.codec, fault));
+        assert_bytes(rt, "the bytes so far", &self.out, before);
+        assert_same(rt, "the extra so far", &self.extra, extra);
     }
 
     /// Reads a payload, and says whether it was accepted.
     fn reads(&mut self, rt: &impl Abort, payload: &[u8]) -> Result<bool, Fail> {
         let before = self.out.clone()?;
         let extra = self.extra;
-        let answer = self
-            .depacketizer
-            .depacketize(payload, &mut self.out, &mut self.extra);
-        if let Err(fault) = answer {
-            assert!(rt; names_fault(self.codec, &fault));
-            assert_eq!(rt; self.out.as_slice(), before.as_slice());
-            assert_eq!(rt; self.extra, extra);
+        if let Err(fault) = self.depacketize(payload) {
+            self.assert_refused(rt, &fault, &before, &extra);
             return Ok(false);
         }
-        assert!(rt; self.out.starts_with(&before));
+        assert_holds(rt, "the bytes so far", self.out.starts_with(&before));
         Ok(true)
     }
 }
@@ -106,8 +116,8 @@ impl Receivers {
         Ok(Receivers { going_on })
     }
 
-    /// Hands a payload to all that reads payloads.
-    fn read(&mut self, rt: &impl Abort, alloc: Global, payload: &[u8]) -> Result<(), Fail> {
+    /// Hands a payload to those that go on.
+    fn go_on(&mut self, rt: &impl Abort, payload: &[u8]) -> Result<(), Fail> {
         for receiver in &mut self.going_on {
             receiver.reads(rt, payload)?;
             if receiver.out.len() > 64 {
@@ -115,29 +125,69 @@ impl Receivers {
                 receiver.extra = CodecExtra::None;
             }
         }
-        for (codec, octet_align) in KINDS {
-            let accepted = Receiver::new(alloc, codec, octet_align)?.reads(rt, payload)?;
-            if codec == Codec::Vp8 {
-                vp8_agrees(rt, payload, accepted);
-            }
-        }
+        Ok(())
+    }
+
+    /// Hands a payload to all that reads payloads.
+    fn read(&mut self, rt: &impl Abort, alloc: Global, payload: &[u8]) -> Result<(), Fail> {
+        self.go_on(rt, payload)?;
+        new_ones_read(rt, alloc, payload)?;
         detectors_agree(rt, payload);
         reports_agree(rt, payload);
-        red_is_whole(rt, alloc, payload)
+        red_is_whole(rt, alloc, payload);
+        Ok(())
     }
+
+    /// Hands each beginning of a payload to all.
+    fn read_beginnings(
+        &mut self,
+        rt: &impl Abort,
+        alloc: Global,
+        payload: &[u8],
+    ) -> Result<(), Fail> {
+        for end in 0..=payload.len() {
+            let (beginning, _) = payload.split_at(end);
+            self.read(rt, alloc, beginning)?;
+        }
+        Ok(())
+    }
+
+    /// Hands a payload to all, each byte of it in turn replaced.
+    fn read_changed(&mut self, rt: &impl Abort, alloc: Global, payload: &[u8]) -> Result<(), Fail> {
+        for place in 0..payload.len() {
+            for byte in [0x00u8, 0x7f, 0x80, 0xff] {
+                let mut changed = Vec::from_slice(alloc, payload)?;
+                changed[place] = byte;
+                self.read(rt, alloc, &changed)?;
+            }
+        }
+        Ok(())
+    }
+}
+
+/// Hands a payload to a new depacketizer of each kind.
+fn new_ones_read(rt: &impl Abort, alloc: Global, payload: &[u8]) -> Result<(), Fail> {
+    for (codec, octet_align) in KINDS {
+        let accepted = Receiver::new(alloc, codec, octet_align)?.reads(rt, payload)?;
+        if codec == Codec::Vp8 {
+            vp8_agrees(rt, payload, accepted);
+        }
+    }
+    Ok(())
 }
 
 /// A VP8 descriptor is parsed exactly where the payload is accepted, and tells of a keyframe as the detector does.
 fn vp8_agrees(rt: &impl Abort, payload: &[u8], accepted: bool) {
-    match Vp8Descriptor::parse(payload) {
-        Ok(descriptor) => {
-            assert!(rt; accepted);
-            assert_eq!(rt;
-                descriptor.starts_keyframe(payload),
-                detect_vp8_keyframe(payload)
-            );
-        }
-        Err(_) => assert!(rt; !accepted),
+    let parsed = Vp8Descriptor::parse(payload);
+    assert_same(
+        rt,
+        "descriptors that are parsed",
+        &parsed.is_ok(),
+        &accepted,
+    );
+    if let Ok(descriptor) = parsed {
+        let told = descriptor.starts_keyframe(payload);
+        assert_same(rt, "VP8 keyframes", &told, &detect_vp8_keyframe(payload));
     }
 }
 
@@ -148,62 +198,77 @@ fn detectors_agree(rt: &impl Abort, payload: &[u8]) {
         Some(byte) => (byte & 0x40 == 0, byte & 0x08 != 0),
         None => (false, false),
     };
-    assert_eq!(rt; detect_vp9_keyframe(payload), p_clear);
-    assert_eq!(rt; detect_av1_keyframe(payload), n_set);
+    let got = (detect_vp9_keyframe(payload), detect_av1_keyframe(payload));
+    assert_same(rt, "keyframes of VP9 and AV1", &got, &(p_clear, n_set));
     if detect_vp9_keyframe_bitstream(payload) {
-        assert_eq!(rt; first.unwrap_or(0) / 64, 2);
+        assert_same(rt, "the frame marker", &(first.unwrap_or(0) / 64), &2);
     }
+}
+
+/// How many reports a payload is, where it is whole reports.
+fn count_of_reports(payload: &[u8]) -> Option<usize> {
+    let events = TelephoneEvent::parse_all(payload, Frequency::EIGHT_KHZ)?;
+    let mut count = 0usize;
+    for _ in events {
+        count = count.wrapping_add(1);
+    }
+    Some(count)
 }
 
 /// A report has four bytes, and payloads are whole reports.
 fn reports_agree(rt: &impl Abort, payload: &[u8]) {
-    let rate = Frequency::EIGHT_KHZ;
-    assert_eq!(rt;
-        TelephoneEvent::parse(payload, rate).is_some(),
-        payload.len() >= 4
-    );
-    match TelephoneEvent::parse_all(payload, rate) {
-        Some(events) => {
-            let mut count = 0usize;
-            for _ in events {
-                count = count.wrapping_add(4);
-            }
-            assert_eq!(rt; count, payload.len());
-            assert!(rt; count > 0);
-        }
-        None => assert!(rt; payload.is_empty() || payload.len() % 4 != 0),
+    let begins = TelephoneEvent::parse(payload, Frequency::EIGHT_KHZ).is_some();
+    assert_same(rt, "a report", &begins, &(payload.len() >= 4));
+    let is_whole = !payload.is_empty() && payload.len() % 4 == 0;
+    let wanted = if is_whole {
+        Some(payload.len() / 4)
+    } else {
+        None
+    };
+    assert_same(rt, "whole reports", &count_of_reports(payload), &wanted);
+}
+
+/// How many bytes the headers and blocks of RED are, how many blocks there are, and whether the last is the primary.
+fn measure_red(alloc: Global, payload: &[u8]) -> Result<(usize, usize, bool), PacketError> {
+    let blocks = RedDecoder::decode(alloc, payload)?;
+    let mut size = 0usize;
+    let mut ends_in_primary = false;
+    for block in &blocks {
+        let header = if block.is_primary { 1 } else { 4 };
+        size = size.wrapping_add(header).wrapping_add(block.payload.len());
+        ends_in_primary = block.is_primary;
     }
+    Ok((size, blocks.len(), ends_in_primary))
 }
 
 /// RED is refused with fault 14, or its headers and blocks are all of the payload, of which the last block is the primary.
-fn red_is_whole(rt: &impl Abort, alloc: Global, payload: &[u8]) -> Result<(), Fail> {
-    match RedDecoder::decode(alloc, payload) {
-        Ok(blocks) => {
-            let mut size = 0usize;
-            for block in &blocks {
-                let header = if block.is_primary { 1 } else { 4 };
-                size = size.wrapping_add(header).wrapping_add(block.payload.len());
-            }
-            assert_eq!(rt; size, payload.len());
-            assert!(rt; blocks.len() <= 33);
-            assert_eq!(rt; blocks.last().map(|block| block.is_primary), Some(true));
+fn red_is_whole(rt: &impl Abort, alloc: Global, payload: &[u8]) {
+    match measure_red(alloc, payload) {
+        Ok((size, count, ends_in_primary)) => {
+            let got = (size, ends_in_primary);
+            assert_same(rt, "what RED holds", &got, &(payload.len(), true));
+            assert_holds(rt, "how many blocks RED has", count <= 33);
         }
-        Err(fault) => assert_eq!(rt; fault.number(), 14),
+        Err(fault) => assert_same(rt, "the fault of RED", &fault.number(), &14),
     }
-    Ok(())
 }
 
 #[test]
 fn every_beginning_of_every_payload(rt: HostRuntime) -> Result<(), Fail> {
-    let alloc = rt.alloc();
-    let mut receivers = Receivers::new(alloc)?;
+    let mut receivers = Receivers::new(rt.alloc())?;
     for payloads in [PAYLOADS.as_slice(), LONG_PAYLOADS.as_slice()] {
         for payload in payloads {
-            for end in 0..=payload.len() {
-                let (beginning, _) = payload.split_at(end);
-                receivers.read(&rt, alloc, beginning)?;
-            }
+            receivers.read_beginnings(&rt, rt.alloc(), payload)?;
         }
+    }
+    Ok(())
+}
+
+/// Each beginning of a payload, read by a new depacketizer of AV1.
+fn av1_reads_beginnings(rt: &impl Abort, alloc: Global, payload: &[u8]) -> Result<(), Fail> {
+    for end in 0..=payload.len() {
+        let (beginning, _) = payload.split_at(end);
+        Receiver::new(alloc, Codec::Av1, false)?.reads(rt, beginning)?;
     }
     Ok(())
 }
@@ -211,18 +276,14 @@ fn every_beginning_of_every_payload(rt: HostRuntime) -> Result<(), Fail> {
 /// The two packets of an AV1 temporal unit of 20,000 bytes at an MTU of 16,392, read as AV1 alone.
 #[test]
 fn every_beginning_of_the_longest_payloads(rt: HostRuntime) -> Result<(), Fail> {
-    let alloc = rt.alloc();
     let first = [0x40u8, 0x01, 0x28, 0x01, 0x28, 0x01, 0x28, 0xff, 0x7f, 0x30];
     for (head, length) in [
         (first.as_slice(), 16_392usize),
         ([0x90u8].as_slice(), 3_618),
     ] {
-        let mut payload = Vec::from_slice(alloc, head)?;
+        let mut payload = Vec::from_slice(rt.alloc(), head)?;
         payload.resize(length, 0xbb)?;
-        for end in 0..=payload.len() {
-            let (beginning, _) = payload.split_at(end);
-            Receiver::new(alloc, Codec::Av1, false)?.reads(&rt, beginning)?;
-        }
+        av1_reads_beginnings(&rt, rt.alloc(), &payload)?;
     }
     Ok(())
 }
@@ -242,16 +303,9 @@ fn every_payload_of_one_and_of_two_bytes(rt: HostRuntime) -> Result<(), Fail> {
 
 #[test]
 fn each_byte_of_long_payloads_in_turn(rt: HostRuntime) -> Result<(), Fail> {
-    let alloc = rt.alloc();
-    let mut receivers = Receivers::new(alloc)?;
+    let mut receivers = Receivers::new(rt.alloc())?;
     for payload in LONG_PAYLOADS {
-        for place in 0..payload.len() {
-            for byte in [0x00u8, 0x7f, 0x80, 0xff] {
-                let mut changed = Vec::from_slice(alloc, payload)?;
-                changed[place] = byte;
-                receivers.read(&rt, alloc, &changed)?;
-            }
-        }
+        receivers.read_changed(&rt, rt.alloc(), payload)?;
     }
     Ok(())
 }

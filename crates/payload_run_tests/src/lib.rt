@@ -3,6 +3,8 @@
 #![tactic(auto)]
 
 #[cfg(test)]
+mod asserts;
+#[cfg(test)]
 mod boxes;
 #[cfg(test)]
 mod buffer;
@@ -14,6 +16,8 @@ mod extensions;
 mod gateway;
 #[cfg(test)]
 mod hostile;
+#[cfg(test)]
+mod library;
 #[cfg(test)]
 mod own_codec;
 #[cfg(test)]

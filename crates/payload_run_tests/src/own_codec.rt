@@ -2,7 +2,8 @@
 
 ghost use Rattle.std.specs.Prelude.{[], ⊤};
 
-use crate::runs::sample;
+use crate::asserts::assert_bytes;
+use crate::library::{bytes_and_markers, sample};
 use codec_payload_core::codec::{BoxedPacketizer, CodecPacketizer, Packetizer};
 use codec_payload_core::error::PacketError;
 use codec_payload_core::payload::{MemorySink, Payloader};
@@ -60,11 +61,7 @@ fn a_codec_of_ones_own(rt: HostRuntime) -> Result<(), Fail> {
     let alloc = rt.alloc();
     let mut sink = MemorySink::new(alloc, 1);
     send_twice(alloc, &sample(alloc, 960, &[1, 2])?, &mut sink)?;
-    let mut sent = Vec::new(alloc);
-    for packet in sink.packets() {
-        sent.extend_from_slice(&packet.payload)?;
-        sent.push(u8::from(packet.marker))?;
-    }
-    assert_eq!(rt; sent.as_slice(), [1u8, 0, 2, 1, 1, 0, 2, 1].as_slice());
+    let sent = bytes_and_markers(alloc, &sink)?;
+    assert_bytes(&rt, "what is sent", &sent, &[1, 0, 2, 1, 1, 0, 2, 1]);
     Ok(())
 }

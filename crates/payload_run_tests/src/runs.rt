@@ -1,93 +1,41 @@
 //! Whole runs of the codecs that are there.
 
-ghost use Rattle.std.specs.Prelude.{◌≤◌};
-
 mod rows;
 
-use codec_payload_core::buffer::{Depacketized, DepacketizingBuffer};
+use crate::asserts::{assert_bytes, assert_count, assert_same, assert_shown};
+use crate::library::{Ended, buffer_of, counts_of, payloader_of, received, run_steps, samples_of};
+use codec_payload_core::buffer::Depacketized;
 use codec_payload_core::codec::{
     CodecDepacketizer, CodecExtra, CodecPacketizer, Depacketizer, Packetizer, TelephoneEvent,
     Vp9PacketizerMode,
 };
 use codec_payload_core::error::PacketError;
 use codec_payload_core::payload::{MemorySink, PacketSink, Payloader};
-use codec_payload_core::schedule::{Run, Step, run_schedule};
+use codec_payload_core::schedule::{Run, Step};
 use codec_payload_core::vp8::Vp8Packetizer;
-use codec_payload_core::wire::{
-    Codec, CodecSpec, ExtensionValues, Frequency, MediaTime, Pt, SeqNo, Ticks, ToPayload,
-};
+use codec_payload_core::wire::{Codec, CodecSpec, Frequency, Pt, SeqNo, Ticks};
 use rows::{Popped, RUNS, RunRow, Sender, Told, Unit};
-use std::alloc::Global;
+use std::alloc::{AllocError, Global};
 use std::process::Abort;
 use std::test::Fail;
 
-/// A sample of payload type 96, at that many ticks of 48 kHz, that starts a talk spurt.
-pub(super) fn sample(alloc: Global, time: u64, bytes: &[u8]) -> Result<ToPayload, Fail> {
-    Ok(ToPayload {
-        pt: Pt::new_with_value(96),
-        wallclock: Ticks(5),
-        rtp_time: MediaTime::new(time, Frequency::FORTY_EIGHT_KHZ),
-        bytes: Vec::from_slice(alloc, bytes)?,
-        start_of_talk_spurt: true,
-        ext_vals: ExtensionValues::default(),
-    })
-}
-
-/// A payloader of a codec, with a clock of 8 kHz; of VP9 in that mode and with that first picture id.
-pub(super) fn payloader(
-    codec: Codec,
-    mode: Vp9PacketizerMode,
-    first_id: u16,
-) -> Result<Payloader, Fail>
-    requires { first_id ≤ 32767 }
-{
-    let spec = CodecSpec {
-        codec,
-        clock_rate: Frequency::EIGHT_KHZ,
-        octet_align: false,
-    };
-    Ok(Payloader::new(spec, mode, first_id).ok_or("no packetizer")?)
-}
-
-/// A run over an unused sink, whose first number is 10, and an unused buffer that holds nothing back, of samples 960 ticks
-/// apart; last, how many packets the buffer holds in the end.
+/// A run of samples 960 ticks apart with a buffer of a codec that holds nothing back.
 fn run_frames(
     alloc: Global,
-    mut payloader: Payloader,
+    payloader: &mut Payloader,
     codec: Codec,
     frames: &[&[u8]],
     steps: &[Step],
-) -> Result<(MemorySink, Run, usize), Fail> {
-    let depack = CodecDepacketizer::from_codec(alloc, codec).ok_or("no depacketizer")?;
-    let mut buffer = DepacketizingBuffer::new(alloc, depack, 0);
-    let mut sink = MemorySink::new(alloc, 10);
-    let mut samples = Vec::new(alloc);
-    let mut time = 0u64;
-    for frame in frames {
-        time = time.wrapping_add(960);
-        samples.push(sample(alloc, time, frame)?)?;
-    }
-    let run = run_schedule(
-        alloc,
-        &mut payloader,
-        &mut buffer,
-        &mut sink,
-        &samples,
-        steps,
-        None,
-    )?;
-    Ok((sink, run, buffer.held()))
+) -> Result<Ended, Fail> {
+    let mut buffer = buffer_of(alloc, codec)?;
+    let samples = samples_of(alloc, frames)?;
+    Ok(run_steps(alloc, payloader, &mut buffer, &samples, steps, None)?)
 }
 
 /// The same with one sample, of a codec by its default.
-fn run(
-    alloc: Global,
-    codec: Codec,
-    bytes: &[u8],
-    steps: &[Step],
-) -> Result<(MemorySink, Run, usize), Fail> {
-    let payloader = payloader(codec, Vp9PacketizerMode::NonFlexible, 0)?;
-    run_frames(alloc, payloader, codec, &[bytes], steps)
+fn run(alloc: Global, codec: Codec, bytes: &[u8], steps: &[Step]) -> Result<Ended, Fail> {
+    let mut payloader = payloader_of(codec, Frequency::EIGHT_KHZ)?;
+    run_frames(alloc, &mut payloader, codec, &[bytes], steps)
 }
 
 fn what_is_told(extra: &CodecExtra) -> Told {
@@ -107,9 +55,14 @@ fn assert_unit(rt: &impl Abort, name: &str, unit: &Depacketized, wanted: &Unit<'
     let range = unit.seq_range();
     let numbers = (range.start().0, range.end().0);
     let told = what_is_told(&unit.codec_extra);
-    let got = (unit.bytes.as_slice(), numbers, unit.contiguous, told);
-    let wanted = (wanted.bytes, wanted.numbers, wanted.contiguous, wanted.told);
-    assert_eq!(rt; got, wanted, "in {name}");
+    assert_bytes(rt, name, &unit.bytes, wanted.bytes);
+    let got = (numbers, unit.contiguous, told);
+    assert_same(
+        rt,
+        name,
+        &got,
+        &(wanted.numbers, wanted.contiguous, wanted.told),
+    );
 }
 
 /// A pop answered so.
@@ -122,7 +75,7 @@ fn assert_pop(
     match (pop, wanted) {
         (Some(Ok(unit)), Popped::Unit(wanted)) => assert_unit(rt, name, unit, wanted),
         (Some(Err(fault)), Popped::Fault(number)) => {
-            assert_eq!(rt; fault.number(), *number, "in {name}");
+            assert_same(rt, name, &fault.number(), number);
         }
         (None, Popped::Nothing) => {}
         _ => assert!(rt; false, "a pop of {name} is of another kind"),
@@ -131,59 +84,65 @@ fn assert_pop(
 
 /// The pops of a run answered so.
 fn assert_pops(rt: &impl Abort, name: &str, run: &Run, wanted: &[Popped<'_>]) {
-    assert_eq!(rt; run.pops.len(), wanted.len(), "pops of {name}");
+    assert_count(rt, name, run.pops.len(), wanted.len());
     for (pop, wanted) in run.pops.iter().zip(wanted) {
         assert_pop(rt, name, pop, wanted);
     }
 }
 
-/// No sample of a run was refused, and each gave so many packets.
-fn assert_sends(rt: &impl Abort, name: &str, run: &Run, counts: &[usize]) {
-    assert_eq!(rt; run.sends.len(), counts.len(), "sends of {name}");
-    for (sent, count) in run.sends.iter().zip(counts) {
-        let got = (sent.count, sent.fault.is_none());
-        assert_eq!(rt; got, (*count, true), "in {name}");
+/// The payloads of all packets.
+fn payloads_of(alloc: Global, sink: &MemorySink) -> Result<Vec<&[u8]>, AllocError> {
+    let mut payloads = Vec::new(alloc);
+    for packet in sink.packets() {
+        payloads.push(packet.payload.as_slice())?;
     }
+    Ok(payloads)
 }
 
-/// The packets of a run have these payloads.
-fn assert_payloads(rt: &impl Abort, name: &str, sink: &MemorySink, payloads: &[&[u8]]) {
-    assert_eq!(rt; sink.packets().len(), payloads.len(), "packets of {name}");
-    for (packet, payload) in sink.packets().iter().zip(payloads) {
-        assert_eq!(rt; packet.payload.as_slice(), *payload, "a packet of {name}");
+/// A payloader of VP8 that sends picture ids, of which this is the first.
+fn vp8_payloader(first_id: u16) -> Result<Payloader, Fail> {
+    if first_id > 0x7fff {
+        return Err("no picture id".into());
     }
-}
-
-/// A payloader of VP8 with that first picture id.
-fn vp8_payloader(first_id: u16) -> Payloader
-    requires { first_id ≤ 32767 }
-{
     let packetizer = CodecPacketizer::Vp8(Vp8Packetizer::with_picture_id(first_id));
-    Payloader::with_packetizer(packetizer, Frequency::NINETY_KHZ)
+    Ok(Payloader::with_packetizer(packetizer, Frequency::NINETY_KHZ))
 }
 
-fn payloader_of(rt: &impl Abort, sender: &Sender) -> Result<Payloader, Fail> {
-    match *sender {
-        Sender::OfCodec(codec) => payloader(codec, Vp9PacketizerMode::NonFlexible, 0),
-        Sender::Vp8WithIds(first_id) => {
-            assert!(rt; first_id <= 0x7fff);
-            Ok(vp8_payloader(first_id))
-        }
-        Sender::Vp9(mode, first_id) => {
-            assert!(rt; first_id <= 0x7fff);
-            payloader(Codec::Vp9, mode, first_id)
-        }
+/// A payloader of VP9 in this mode, with this first picture id.
+fn vp9_payloader(mode: Vp9PacketizerMode, first_id: u16) -> Result<Payloader, Fail> {
+    if first_id > 0x7fff {
+        return Err("no picture id".into());
     }
+    let spec = CodecSpec {
+        codec: Codec::Vp9,
+        clock_rate: Frequency::EIGHT_KHZ,
+        octet_align: false,
+    };
+    Ok(Payloader::new(spec, mode, first_id).ok_or("no packetizer")?)
+}
+
+fn payloader_of_row(sender: &Sender) -> Result<Payloader, Fail> {
+    match *sender {
+        Sender::OfCodec(codec) => payloader_of(codec, Frequency::EIGHT_KHZ),
+        Sender::Vp8WithIds(first_id) => vp8_payloader(first_id),
+        Sender::Vp9(mode, first_id) => vp9_payloader(mode, first_id),
+    }
+}
+
+fn run_row(alloc: Global, row: &RunRow) -> Result<Ended, Fail> {
+    let mut payloader = payloader_of_row(&row.sender)?;
+    run_frames(alloc, &mut payloader, row.codec, row.frames, row.steps)
 }
 
 fn assert_run(rt: &impl Abort, alloc: Global, row: &RunRow) -> Result<(), Fail> {
     let name = row.name;
-    let payloader = payloader_of(rt, &row.sender)?;
-    let (sink, run, held) = run_frames(alloc, payloader, row.codec, row.frames, row.steps)?;
-    assert_sends(rt, name, &run, row.counts);
-    assert_payloads(rt, name, &sink, row.payloads);
-    assert_pops(rt, name, &run, row.pops);
-    assert_eq!(rt; held, 0, "in {name}");
+    let ended = run_row(alloc, row)?;
+    let counts = counts_of(alloc, &ended.run, name)?;
+    let payloads = payloads_of(alloc, &ended.sink)?;
+    assert_same(rt, name, &counts.as_slice(), &row.counts);
+    assert_same(rt, name, &payloads.as_slice(), &row.payloads);
+    assert_pops(rt, name, &ended.run, row.pops);
+    assert_count(rt, name, ended.held, 0);
     Ok(())
 }
 
@@ -195,6 +154,28 @@ fn runs_of_built_in_codecs(rt: HostRuntime) -> Result<(), Fail> {
     Ok(())
 }
 
+/// Payload type, number, RTP time, wall clock, marker, and whether the packet may be asked for again.
+type Fields = (Pt, SeqNo, u32, Ticks, bool, bool);
+
+/// What the last packet of a sink carries.
+fn last_fields(sink: &MemorySink) -> Result<Fields, Fail> {
+    let packet = sink.packets().last().ok_or("no packet")?;
+    let (time, wallclock) = (packet.rtp_time, packet.wallclock);
+    Ok((
+        packet.pt,
+        packet.seq_no,
+        time,
+        wallclock,
+        packet.marker,
+        packet.nackable,
+    ))
+}
+
+/// The number of the next packet.
+fn next_number(sink: &mut MemorySink) -> SeqNo {
+    sink.next_seq_no()
+}
+
 #[test]
 fn what_packets_carry(rt: HostRuntime) -> Result<(), Fail> {
     let alloc = rt.alloc();
@@ -203,78 +184,123 @@ fn what_packets_carry(rt: HostRuntime) -> Result<(), Fail> {
         Step::Send { sample: 1, mtu: 2 },
         Step::Push(7),
     ];
-    let (mut sink, done, _) = run(alloc, Codec::Opus, &[1, 2, 3], &steps)?;
-    assert_eq!(rt; done.sends.len(), 1);
-    assert_eq!(rt; done.sends[0].count, 2);
-    assert_eq!(rt; sink.packets().len(), 2);
-    let last = &sink.packets()[1];
-    assert_eq!(rt; last.pt, Pt::new_with_value(96));
-    assert_eq!(rt; last.seq_no, SeqNo(11));
-    assert_eq!(rt; last.rtp_time, 160);
-    assert_eq!(rt; last.wallclock, Ticks(5));
-    assert!(rt; last.marker);
-    assert!(rt; !last.nackable);
-    assert_eq!(rt; sink.last_packet().ok_or("no packet")?, [3u8].as_slice());
-    assert_eq!(rt; sink.next_seq_no(), SeqNo(12));
+    let mut ended = run(alloc, Codec::Opus, &[1, 2, 3], &steps)?;
+    let counts = counts_of(alloc, &ended.run, "a refused sample")?;
+    assert_same(
+        &rt,
+        "packets of the sample",
+        &counts.as_slice(),
+        &[2].as_slice(),
+    );
+    assert_count(&rt, "packets that are held", ended.sink.packets().len(), 2);
+    let fields = (
+        Pt::new_with_value(96),
+        SeqNo(11),
+        160,
+        Ticks(5),
+        true,
+        false,
+    );
+    assert_same(&rt, "the last packet", &last_fields(&ended.sink)?, &fields);
+    assert_same(
+        &rt,
+        "its payload",
+        &ended.sink.last_packet(),
+        &Some([3].as_slice()),
+    );
+    assert_same(
+        &rt,
+        "the next number",
+        &next_number(&mut ended.sink),
+        &SeqNo(12),
+    );
     Ok(())
+}
+
+const THERE: [Codec; 11] = [
+    Codec::Opus,
+    Codec::PCMU,
+    Codec::PCMA,
+    Codec::G722,
+    Codec::CN,
+    Codec::AmrWb,
+    Codec::Vp8,
+    Codec::Vp9,
+    Codec::Av1,
+    Codec::Null,
+    Codec::Tele,
+];
+
+const ABSENT: [Codec; 6] = [
+    Codec::H264,
+    Codec::H265,
+    Codec::H266,
+    Codec::Rtx,
+    Codec::Red,
+    Codec::Unknown,
+];
+
+/// Whether a codec has a packetizer, and whether it has a depacketizer.
+fn is_there(alloc: Global, codec: Codec) -> (bool, bool) {
+    let packetizer = CodecPacketizer::from_codec(codec);
+    let depacketizer = CodecDepacketizer::from_codec(alloc, codec);
+    (packetizer.is_some(), depacketizer.is_some())
 }
 
 #[test]
 fn from_codec_eleven(rt: HostRuntime) -> Result<(), Fail> {
-    let alloc = rt.alloc();
-    let there = [
-        Codec::Opus,
-        Codec::PCMU,
-        Codec::PCMA,
-        Codec::G722,
-        Codec::CN,
-        Codec::AmrWb,
-        Codec::Vp8,
-        Codec::Vp9,
-        Codec::Av1,
-        Codec::Null,
-        Codec::Tele,
-    ];
-    let absent = [
-        Codec::H264,
-        Codec::H265,
-        Codec::H266,
-        Codec::Rtx,
-        Codec::Red,
-        Codec::Unknown,
-    ];
-    for codec in there {
-        assert!(rt; CodecPacketizer::from_codec(codec).is_some());
-        assert!(rt; CodecDepacketizer::from_codec(alloc, codec).is_some());
+    for codec in THERE {
+        assert_same(
+            &rt,
+            "built-in codecs",
+            &is_there(rt.alloc(), codec),
+            &(true, true),
+        );
     }
-    for codec in absent {
-        assert!(rt; CodecPacketizer::from_codec(codec).is_none());
-        assert!(rt; CodecDepacketizer::from_codec(alloc, codec).is_none());
+    for codec in ABSENT {
+        assert_same(
+            &rt,
+            "other codecs",
+            &is_there(rt.alloc(), codec),
+            &(false, false),
+        );
     }
     let opus = CodecPacketizer::from_codec(Codec::Opus).ok_or("no packetizer")?;
-    assert_eq!(rt;
-        format!(in alloc; "{opus:?}")?.as_str(),
-        "Opus(OpusPacketizer)"
-    );
+    assert_shown(&rt, rt.alloc(), &opus, "Opus(OpusPacketizer)")?;
     let payloader = Payloader::with_packetizer(opus, Frequency::FORTY_EIGHT_KHZ);
-    assert_eq!(rt; payloader.clock_rate(), Frequency::FORTY_EIGHT_KHZ);
+    assert_same(
+        &rt,
+        "the clock",
+        &payloader.clock_rate(),
+        &Frequency::FORTY_EIGHT_KHZ,
+    );
     Ok(())
 }
 
+/// Sends the sample at an MTU of 2, pushes these packets, and pops so many times.
+fn steps_of(alloc: Global, packets: &[usize], pops: usize) -> Result<Vec<Step>, AllocError> {
+    let mut steps = Vec::new(alloc);
+    steps.push(Step::Send { sample: 0, mtu: 2 })?;
+    for packet in packets {
+        steps.push(Step::Push(*packet))?;
+    }
+    for _ in 0..pops {
+        steps.push(Step::Pop)?;
+    }
+    Ok(steps)
+}
+
+/// Each packet comes twice.
 #[test]
 fn vp8_4096_packets_reversed(rt: HostRuntime) -> Result<(), Fail> {
     let alloc = rt.alloc();
     let frame = vec![in alloc; 0x90u8; 4_096]?;
-    let mut steps = Vec::new(alloc);
-    steps.push(Step::Send { sample: 0, mtu: 2 })?;
+    let mut packets = Vec::new(alloc);
     for k in 0..4_096 {
-        steps.push(Step::Push(4_095 - k))?;
-        steps.push(Step::Push(4_095 - k))?;
+        packets.push(4_095 - k)?;
+        packets.push(4_095 - k)?;
     }
-    steps.push(Step::Pop)?;
-    steps.push(Step::Pop)?;
-    let (sink, done, held) = run(alloc, Codec::Vp8, &frame, &steps)?;
-    assert_eq!(rt; sink.packets().len(), 4_096);
+    let ended = run(alloc, Codec::Vp8, &frame, &steps_of(alloc, &packets, 2)?)?;
     let unit = Unit {
         bytes: &frame,
         numbers: (10, 4_105),
@@ -282,8 +308,8 @@ fn vp8_4096_packets_reversed(rt: HostRuntime) -> Result<(), Fail> {
         told: Told::Nothing,
     };
     let wanted = [Popped::Unit(unit), Popped::Nothing];
-    assert_pops(&rt, "vp8-4096-packets-reversed", &done, &wanted);
-    assert_eq!(rt; held, 0);
+    assert_left(&rt, "vp8-4096-packets-reversed", &ended, 4_096, 0);
+    assert_pops(&rt, "vp8-4096-packets-reversed", &ended.run, &wanted);
     Ok(())
 }
 
@@ -291,17 +317,25 @@ fn vp8_4096_packets_reversed(rt: HostRuntime) -> Result<(), Fail> {
 fn vp8_4097_packets_evicts(rt: HostRuntime) -> Result<(), Fail> {
     let alloc = rt.alloc();
     let frame = vec![in alloc; 0x90u8; 4_097]?;
-    let mut steps = Vec::new(alloc);
-    steps.push(Step::Send { sample: 0, mtu: 2 })?;
+    let mut packets = Vec::new(alloc);
     for k in 0..4_097 {
-        steps.push(Step::Push(k))?;
+        packets.push(k)?;
     }
-    steps.push(Step::Pop)?;
-    let (sink, done, held) = run(alloc, Codec::Vp8, &frame, &steps)?;
-    assert_eq!(rt; sink.packets().len(), 4_097);
-    assert_pops(&rt, "vp8-4097-packets-evicts", &done, &[Popped::Nothing]);
-    assert_eq!(rt; held, 4_096);
+    let ended = run(alloc, Codec::Vp8, &frame, &steps_of(alloc, &packets, 1)?)?;
+    assert_left(&rt, "vp8-4097-packets-evicts", &ended, 4_097, 4_096);
+    assert_pops(
+        &rt,
+        "vp8-4097-packets-evicts",
+        &ended.run,
+        &[Popped::Nothing],
+    );
     Ok(())
+}
+
+/// So many packets were sent, and so many the buffer holds.
+fn assert_left(rt: &impl Abort, name: &str, ended: &Ended, sent: usize, held: usize) {
+    let got = (ended.sink.packets().len(), ended.held);
+    assert_same(rt, name, &got, &(sent, held));
 }
 
 fn specification(codec: Codec) -> Result<CodecSpec, Fail> {
@@ -320,32 +354,32 @@ const EVENT: TelephoneEvent = TelephoneEvent {
     duration: 50_000_000,
 };
 
-/// What a depacketizer of a codec that is told a specification makes of a payload.
-fn received(alloc: Global, codec: Codec, payload: &[u8]) -> Result<(Vec<u8>, CodecExtra), Fail> {
-    let mut depacketizer = CodecDepacketizer::from_codec(alloc, codec).ok_or("no depacketizer")?;
-    depacketizer.configure_for(&specification(codec)?);
-    let mut out = Vec::new(alloc);
-    let mut extra = CodecExtra::None;
-    depacketizer.depacketize(payload, &mut out, &mut extra)?;
-    Ok((out, extra))
-}
-
 #[test]
 fn a_specification_sets_the_clock(rt: HostRuntime) -> Result<(), Fail> {
-    let (_, extra) = received(rt.alloc(), Codec::Tele, &[0x05, 0x8a, 0x03, 0x20])?;
-    assert_eq!(rt; extra, CodecExtra::Tele(EVENT));
+    let (_, extra) = received(
+        rt.alloc(),
+        &specification(Codec::Tele)?,
+        &[0x05, 0x8a, 0x03, 0x20],
+    )?;
+    assert_same(&rt, "what is told", &extra, &CodecExtra::Tele(EVENT));
     Ok(())
+}
+
+/// The payloads of a frame of speech from a packetizer that is told a specification.
+fn sent_speech(alloc: Global, frame: &[u8]) -> Result<Vec<Vec<u8>>, Fail> {
+    let mut speech = CodecPacketizer::from_codec(Codec::AmrWb).ok_or("no packetizer")?;
+    speech.configure_for(&specification(Codec::AmrWb)?);
+    Ok(speech.packetize(alloc, 1_200, frame)?)
 }
 
 #[test]
 fn a_specification_sets_the_layout(rt: HostRuntime) -> Result<(), Fail> {
-    let mut speech = CodecPacketizer::from_codec(Codec::AmrWb).ok_or("no packetizer")?;
-    speech.configure_for(&specification(Codec::AmrWb)?);
-    let payloads = speech.packetize(rt.alloc(), 1200, &[0x74])?;
-    assert_eq!(rt; payloads.len(), 1);
-    let payload = payloads.first().ok_or("a payload")?;
-    assert_eq!(rt; payload.as_slice(), [0xf0u8, 0x74].as_slice());
-    let (frame, _) = received(rt.alloc(), Codec::AmrWb, payload)?;
-    assert_eq!(rt; frame.as_slice(), [0x74u8].as_slice());
+    let payloads = sent_speech(rt.alloc(), &[0x74])?;
+    assert_count(&rt, "payloads of a frame", payloads.len(), 1);
+    for payload in &payloads {
+        assert_bytes(&rt, "the payload", payload, &[0xf0, 0x74]);
+        let (frame, _) = received(rt.alloc(), &specification(Codec::AmrWb)?, payload)?;
+        assert_bytes(&rt, "the frame", &frame, &[0x74]);
+    }
     Ok(())
 }

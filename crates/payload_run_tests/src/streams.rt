@@ -1,31 +1,38 @@
 //! Runs of a stream that is built from one specification.
 
-ghost use Rattle.std.specs.Prelude.{◌≡◌, IfOk};
-
+use crate::asserts::{assert_bytes, assert_holds, assert_same};
+use crate::library::counts_of;
 use codec_payload_core::codec::Vp9PacketizerMode;
-use codec_payload_core::schedule::{Step, Stream, run_stream};
+use codec_payload_core::schedule::{Run, Step, Stream, run_stream};
 use codec_payload_core::wire::{
     Codec, CodecSpec, ExtensionValues, Frequency, MediaTime, Pt, Ticks, ToPayload,
 };
 use std::alloc::Global;
 use std::test::Fail;
 
-/// A stream of that codec with an RTP clock of 16 kHz, whose first packet has the number 7.
-fn stream_of(codec: Codec, octet_align: bool) -> Result<Stream, Fail>
-    ensures { IfOk result (λ stream. (stream.first_id ≡ 0) × (stream.first_number ≡ 7) × (stream.limit ≡ 4096)) }
-{
-    Ok(Stream {
-        spec: CodecSpec {
-            codec,
-            clock_rate: Frequency::make(16_000).ok_or("no rate")?,
-            octet_align,
-        },
+/// A run of a stream of that codec with an RTP clock of 16 kHz, whose first packet has the number 7, over one sample.
+fn run_of(
+    alloc: Global,
+    codec: Codec,
+    octet_align: bool,
+    frame: &[u8],
+    steps: &[Step],
+) -> Result<Option<Run>, Fail> {
+    let spec = CodecSpec {
+        codec,
+        clock_rate: Frequency::make(16_000).ok_or("no rate")?,
+        octet_align,
+    };
+    let stream = Stream {
+        spec,
         mode: Vp9PacketizerMode::NonFlexible,
         first_id: 0,
         first_number: 7,
         hold_back: 0,
         limit: 4_096,
-    })
+    };
+    let samples = samples_of(alloc, frame)?;
+    Ok(run_stream(alloc, stream, &samples, steps)?)
 }
 
 fn samples_of(alloc: Global, bytes: &[u8]) -> Result<Vec<ToPayload>, Fail> {
@@ -41,36 +48,64 @@ fn samples_of(alloc: Global, bytes: &[u8]) -> Result<Vec<ToPayload>, Fail> {
     Ok(samples)
 }
 
-/// A frame of mode 0, 132 bits behind its header, comes back in either layout of AMR-WB: sender and receiver are both
-/// told the layout.
+/// For each pop the number of the first packet of the unit that came out.
+fn numbers_of(alloc: Global, run: &Run) -> Result<Vec<Option<u64>>, Fail> {
+    let mut numbers = Vec::new(alloc);
+    for pop in &run.pops {
+        numbers.push(match pop {
+            Some(Ok(unit)) => Some(unit.meta()[0].seq_no.0),
+            Some(Err(_)) => return Err("a fault".into()),
+            None => None,
+        })?;
+    }
+    Ok(numbers)
+}
+
+/// The bytes of the unit that the first pop gave.
+fn first_unit(run: &Run) -> Result<&[u8], Fail> {
+    match run.pops.first() {
+        Some(Some(Ok(unit))) => Ok(unit.bytes.as_slice()),
+        _ => Err("no unit".into()),
+    }
+}
+
+/// A frame of mode 0, with 132 bits behind its header.
+const SPEECH: [u8; 18] = [
+    0x04, 1, 2, 3, 4, 5, 6, 7, 8, 9, 10, 11, 12, 13, 14, 15, 16, 0xf0,
+];
+
+const SEND_AND_POP: [Step; 4] = [
+    Step::Send {
+        sample: 0,
+        mtu: 1_200,
+    },
+    Step::Push(0),
+    Step::Pop,
+    Step::Pop,
+];
+
+/// The frame comes back in either layout of AMR-WB: sender and receiver are both told the layout.
 #[test]
 fn amr_wb_in_either_layout(rt: HostRuntime) -> Result<(), Fail> {
     let alloc = rt.alloc();
-    let frame = [
-        0x04u8, 1, 2, 3, 4, 5, 6, 7, 8, 9, 10, 11, 12, 13, 14, 15, 16, 0xf0,
-    ];
-    let samples = samples_of(alloc, &frame)?;
-    let steps = [
-        Step::Send {
-            sample: 0,
-            mtu: 1200,
-        },
-        Step::Push(0),
-        Step::Pop,
-        Step::Pop,
-    ];
     for octet_align in [false, true] {
-        let stream = stream_of(Codec::AmrWb, octet_align)?;
-        let run = run_stream(alloc, stream, &samples, &steps)?.ok_or("no packetizer")?;
-        assert_eq!(rt; run.sends.len(), 1);
-        assert_eq!(rt; run.sends[0].count, 1);
-        assert_eq!(rt; run.pops.len(), 2);
-        let Some(Ok(unit)) = &run.pops[0] else {
-            return Err(Fail::from("no unit"));
-        };
-        assert_eq!(rt; unit.bytes.as_slice(), frame.as_slice());
-        assert_eq!(rt; unit.meta()[0].seq_no.0, 7);
-        assert!(rt; run.pops[1].is_none());
+        let run = run_of(alloc, Codec::AmrWb, octet_align, &SPEECH, &SEND_AND_POP)?;
+        let run = run.ok_or("no packetizer")?;
+        let counts = counts_of(alloc, &run, "a refused sample")?;
+        assert_same(
+            &rt,
+            "packets of the sample",
+            &counts.as_slice(),
+            &[1].as_slice(),
+        );
+        let numbers = numbers_of(alloc, &run)?;
+        assert_same(
+            &rt,
+            "pops",
+            &numbers.as_slice(),
+            &[Some(7), None].as_slice(),
+        );
+        assert_bytes(&rt, "the frame", first_unit(&run)?, &SPEECH);
     }
     Ok(())
 }
@@ -78,11 +113,9 @@ fn amr_wb_in_either_layout(rt: HostRuntime) -> Result<(), Fail> {
 /// Codecs that wrap others, and those that are not built in, have no packetizer.
 #[test]
 fn no_packetizer(rt: HostRuntime) -> Result<(), Fail> {
-    let alloc = rt.alloc();
-    let samples = samples_of(alloc, &[1])?;
     for codec in [Codec::Red, Codec::Rtx, Codec::H264, Codec::Unknown] {
-        let run = run_stream(alloc, stream_of(codec, false)?, &samples, &[Step::Pop])?;
-        assert!(rt; run.is_none());
+        let run = run_of(rt.alloc(), codec, false, &[1], &[Step::Pop])?;
+        assert_holds(&rt, "codecs without a packetizer", run.is_none());
     }
     Ok(())
 }

@@ -1,6 +1,7 @@
 //! The example of the README.
 
-use crate::runs::sample;
+use crate::asserts::{assert_bytes, assert_count, assert_holds};
+use crate::library::samples_of;
 use codec_payload_core::buffer::{Depacketized, DepacketizingBuffer, RtpMeta};
 use codec_payload_core::codec::{CodecDepacketizer, Vp9PacketizerMode};
 use codec_payload_core::error::PacketError;
@@ -9,6 +10,7 @@ use codec_payload_core::wire::{
     Codec, CodecSpec, Frequency, MediaTime, RtpHeader, Ticks, ToPayload,
 };
 use std::alloc::Global;
+use std::process::Abort;
 use std::test::Fail;
 
 /// What is known of a packet that came as it was sent.
@@ -62,6 +64,15 @@ fn send_and_receive(
     Ok(units)
 }
 
+/// Each unit is a sample, and follows the one before.
+fn assert_received(rt: &impl Abort, units: &[Depacketized], samples: &[ToPayload]) {
+    assert_count(rt, "units", units.len(), samples.len());
+    for (unit, sample) in units.iter().zip(samples) {
+        assert_bytes(rt, "a unit", &unit.bytes, &sample.bytes);
+        assert_holds(rt, "units that follow", unit.contiguous);
+    }
+}
+
 /// Speech of AMR-WB in octet-aligned payloads: receivers of the other layout would refuse it.
 #[test]
 fn what_is_sent_is_received(rt: HostRuntime) -> Result<(), Fail> {
@@ -71,19 +82,14 @@ fn what_is_sent_is_received(rt: HostRuntime) -> Result<(), Fail> {
         clock_rate: Frequency::make(16_000).ok_or("a rate")?,
         octet_align: true,
     };
-    let mut samples = Vec::new(alloc);
-    samples.push(sample(alloc, 960, &[0x74])?)?;
-    samples.push(sample(alloc, 1_920, &[0x4c, 1, 2, 3, 4, 0x50])?)?;
+    let samples = samples_of(alloc, &[&[0x74], &[0x4c, 1, 2, 3, 4, 0x50]])?;
     let units = send_and_receive(alloc, spec, &samples)?;
-    assert_eq!(rt; units.len(), samples.len());
-    for (unit, sample) in units.iter().zip(&samples) {
-        assert_eq!(rt; unit.bytes.as_slice(), sample.bytes.as_slice());
-        assert!(rt; unit.contiguous);
-    }
+    assert_received(&rt, &units, &samples);
     let red = CodecSpec {
         codec: Codec::Red,
         ..spec
     };
-    assert!(rt; send_and_receive(alloc, red, &samples)?.is_empty());
+    let units = send_and_receive(alloc, red, &samples)?;
+    assert_count(&rt, "units of RED", units.len(), 0);
     Ok(())
 }

@@ -1,8 +1,8 @@
 //! A buffer of VP8 frames beside a plain one, which keeps a list and goes over all of it at each step.
 
-ghost use Rattle.std.specs.Prelude.{◌≤◌};
-
 use super::{buffer_of_limit, meta};
+use crate::asserts::{assert_holds, assert_same};
+use crate::library;
 use codec_payload_core::buffer::DepacketizingBuffer;
 use codec_payload_core::wire::Codec;
 use std::alloc::Global;
@@ -125,9 +125,10 @@ fn assert_agree(
     buffer: &DepacketizingBuffer,
     plain: &PlainBuffer,
 ) -> Result<(), Fail> {
-    assert_eq!(rt; buffer.held(), plain.packets.len());
-    assert_eq!(rt; buffer.ready(), plain.frames(alloc)?.len());
-    assert!(rt; buffer.held() <= buffer.limit());
+    let wanted = (plain.packets.len(), plain.frames(alloc)?.len());
+    let got = (buffer.held(), buffer.ready());
+    assert_same(rt, "packets and complete frames", &got, &wanted);
+    assert_holds(rt, "the limit", buffer.held() <= buffer.limit());
     Ok(())
 }
 
@@ -135,8 +136,7 @@ fn push(alloc: Global, buffer: &mut DepacketizingBuffer, packet: Packet) -> Resu
     let mut meta = meta(packet.number, packet.time());
     meta.header.marker = packet.is_tail();
     let first_byte = if packet.is_head() { 0x10 } else { 0x00 };
-    buffer.push(meta, Vec::from_slice(alloc, &[first_byte, 0x90])?)?;
-    Ok(())
+    Ok(library::push(alloc, buffer, meta, &[first_byte, 0x90])?)
 }
 
 /// The frame that a pop gives.
@@ -150,34 +150,62 @@ fn pop(buffer: &mut DepacketizingBuffer) -> Result<Option<Frame>, Fail> {
     }
 }
 
-fn run_odd(rt: &impl Abort, alloc: Global, run: OddRun) -> Result<(), Fail>
-    requires least { 1 ≤ run.limit }
-    requires most { run.limit ≤ 65536 }
-{
-    let mut buffer = buffer_of_limit(alloc, Codec::Vp8, run.hold_back, run.limit)?;
-    let mut plain = PlainBuffer {
-        packets: Vec::new(alloc),
-        cutoff: None,
-        hold_back: run.hold_back,
-        limit: run.limit,
-    };
-    let mut evicts = false;
-    let mut releases = false;
-    let mut waits = false;
+/// A buffer and a plain one, and what has come to pass so far.
+#[derive(Drop)]
+struct Pair {
+    buffer: DepacketizingBuffer,
+    plain: PlainBuffer,
+    evicts: bool,
+    releases: bool,
+    waits: bool,
+}
+
+impl Pair {
+    fn new(alloc: Global, run: OddRun) -> Result<Self, Fail> {
+        Ok(Pair {
+            buffer: buffer_of_limit(alloc, Codec::Vp8, run.hold_back, run.limit)?,
+            plain: PlainBuffer {
+                packets: Vec::new(alloc),
+                cutoff: None,
+                hold_back: run.hold_back,
+                limit: run.limit,
+            },
+            evicts: false,
+            releases: false,
+            waits: false,
+        })
+    }
+
+    fn push(&mut self, rt: &impl Abort, alloc: Global, number: u64) -> Result<(), Fail> {
+        push(alloc, &mut self.buffer, Packet { number })?;
+        self.evicts |= self.plain.push(number)?;
+        assert_agree(rt, alloc, &self.buffer, &self.plain)
+    }
+
+    fn pop(&mut self, rt: &impl Abort, alloc: Global) -> Result<(), Fail> {
+        let frame = pop(&mut self.buffer)?;
+        assert_same(
+            rt,
+            "the frame that comes out",
+            &frame,
+            &self.plain.pop(alloc)?,
+        );
+        self.releases |= frame.is_some();
+        self.waits |= frame.is_none();
+        assert_agree(rt, alloc, &self.buffer, &self.plain)
+    }
+}
+
+fn run_odd(rt: &impl Abort, alloc: Global, run: OddRun) -> Result<(), Fail> {
+    let mut pair = Pair::new(alloc, run)?;
     for k in 0..run.pushes {
         let number = (k / 2).wrapping_add(k.wrapping_mul(7_919) % run.window.max(1));
-        push(alloc, &mut buffer, Packet { number })?;
-        evicts |= plain.push(number)?;
-        assert_agree(rt, alloc, &buffer, &plain)?;
+        pair.push(rt, alloc, number)?;
         if k % run.pushes_a_pop.max(1) == 0 {
-            let frame = pop(&mut buffer)?;
-            assert_eq!(rt; frame, plain.pop(alloc)?);
-            releases |= frame.is_some();
-            waits |= frame.is_none();
-            assert_agree(rt, alloc, &buffer, &plain)?;
+            pair.pop(rt, alloc)?;
         }
     }
-    assert!(rt; evicts && releases && waits, "{run:?}");
+    assert!(rt; pair.evicts && pair.releases && pair.waits, "{run:?}");
     Ok(())
 }
 

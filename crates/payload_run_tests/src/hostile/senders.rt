@@ -1,9 +1,9 @@
 //! Packetizers at odd MTUs, over frames of their own and of others.
 
 use super::payloads::{FRAMES, LONG_PAYLOADS, PAYLOADS};
-use codec_payload_core::codec::{
-    CodecDepacketizer, CodecExtra, CodecPacketizer, Depacketizer, Packetizer, Vp9PacketizerMode,
-};
+use crate::asserts::{assert_bytes, assert_count, assert_holds, assert_same};
+use crate::library::received;
+use codec_payload_core::codec::{CodecExtra, CodecPacketizer, Packetizer, Vp9PacketizerMode};
 use codec_payload_core::error::PacketError;
 use codec_payload_core::vp8::Vp8Packetizer;
 use codec_payload_core::vp9::detect_vp9_keyframe_bitstream;
@@ -75,16 +75,17 @@ fn packets_fit(
 ) -> Result<(), Fail> {
     let (codec, _, _) = kind;
     if codec == Codec::Null {
-        assert_eq!(rt; packets.len(), 1);
+        assert_count(rt, "the packets of Null", packets.len(), 1);
         return Ok(());
     }
     for packet in packets {
-        assert!(rt; !packet.is_empty() && packet.len() <= mtu);
+        let fits = !packet.is_empty() && packet.len() <= mtu;
+        assert_holds(rt, "packets that fit", fits);
     }
     if mtu < usize::MAX || codec == Codec::Tele {
         return Ok(());
     }
-    assert!(rt; packets.len() <= 1);
+    assert_holds(rt, "packets at the greatest MTU", packets.len() <= 1);
     match packets.first() {
         Some(packet) => is_received(rt, alloc, kind, frame, packet),
         None => Ok(()),
@@ -100,39 +101,54 @@ fn is_received(
     packet: &[u8],
 ) -> Result<(), Fail> {
     let (codec, mode, _) = kind;
-    let mut depacketizer = CodecDepacketizer::from_codec(alloc, codec).ok_or("none")?;
-    depacketizer.configure_for(&specification(kind));
-    let mut out = Vec::new(alloc);
-    let mut extra = CodecExtra::None;
-    depacketizer.depacketize(packet, &mut out, &mut extra)?;
+    let (out, extra) = received(alloc, &specification(kind), packet)?;
     if codec == Codec::AmrWb || codec == Codec::Av1 {
         return Ok(());
     }
-    assert_eq!(rt; out.as_slice(), frame);
+    assert_bytes(rt, "what is received", &out, frame);
     if let CodecExtra::Vp9(told) = extra {
         let keyframe = mode == Vp9PacketizerMode::Flexible || detect_vp9_keyframe_bitstream(frame);
-        assert_eq!(rt; told.is_keyframe, keyframe);
+        assert_same(rt, "whether it is a keyframe", &told.is_keyframe, &keyframe);
+    }
+    Ok(())
+}
+
+/// A packetizer of a kind cuts a frame into packets that fit, or refuses it with a fault that its codec names.
+fn assert_cut(
+    rt: &impl Abort,
+    alloc: Global,
+    kind: Kind,
+    mtu: usize,
+    frame: &[u8],
+) -> Result<(), Fail> {
+    match packetizer(kind)?.packetize(alloc, mtu, frame) {
+        Ok(packets) => packets_fit(rt, alloc, kind, mtu, frame, &packets),
+        Err(fault) => {
+            assert_holds(rt, "faults of packetizers", names_fault(kind.0, &fault));
+            Ok(())
+        }
+    }
+}
+
+/// Each packetizer cuts a frame at odd MTUs.
+fn assert_cuts(rt: &impl Abort, alloc: Global, frame: &[u8]) -> Result<(), Fail> {
+    for kind in KINDS {
+        for mtu in [0usize, 1, 2, 9, usize::MAX] {
+            assert_cut(rt, alloc, kind, mtu, frame)?;
+        }
     }
     Ok(())
 }
 
 #[test]
 fn every_packetizer_at_odd_mtus(rt: HostRuntime) -> Result<(), Fail> {
-    let alloc = rt.alloc();
-    for kind in KINDS {
-        for frames in [
-            FRAMES.as_slice(),
-            PAYLOADS.as_slice(),
-            LONG_PAYLOADS.as_slice(),
-        ] {
-            for frame in frames {
-                for mtu in [0usize, 1, 2, 9, usize::MAX] {
-                    match packetizer(kind)?.packetize(alloc, mtu, frame) {
-                        Ok(packets) => packets_fit(&rt, alloc, kind, mtu, frame, &packets)?,
-                        Err(fault) => assert!(rt; names_fault(kind.0, &fault)),
-                    }
-                }
-            }
+    for frames in [
+        FRAMES.as_slice(),
+        PAYLOADS.as_slice(),
+        LONG_PAYLOADS.as_slice(),
+    ] {
+        for frame in frames {
+            assert_cuts(&rt, rt.alloc(), frame)?;
         }
     }
     Ok(())

@@ -1,5 +1,5 @@
 use Rattle.std.proofs.Common.{length}
-use Rattle.payload_run_tests.proofs.gateway.units_of.Given as goal
+use Rattle.payload_run_tests.proofs.gateway.pop_all.Given as goal
 
 -- each unit takes a packet with it
 abbrev pub decreases-loop-unit : goal.decreases-loop-unit
