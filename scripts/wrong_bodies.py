@@ -4,6 +4,7 @@
   scripts/wrong_bodies.py                     all edits of must-fail/ and wrong-bodies/, of every crate
   scripts/wrong_bodies.py CRATE [NAME..]      those of one crate, or those of its edits that are named
   scripts/wrong_bodies.py CRATE FILE.edit..   edits from anywhere, applied to that crate
+  scripts/wrong_bodies.py --stale             the edits of all crates that cannot be applied, without the prover
 
 An edit is a file with a line 'file: src/x.rt' and pairs of lines 'old: TEXT' and 'new: TEXT'; each old text stands once in
 that file. It is applied to a scratch copy of the crate, over what `rt check` has proved, and the function in which its first
@@ -168,7 +169,22 @@ def try_crate(crate, edits):
     return counts
 
 
+def print_stale():
+    """Prints the edits that cannot be applied, and counts them."""
+    count = 0
+    for crate in crates():
+        for edit in edits_of(crate):
+            texts, why = apply(read_edit(edit), f"{ROOT}/crates/{crate}")
+            if texts is None:
+                count += 1
+                print(f"{os.path.relpath(edit, ROOT)}: {why}")
+    print(f"{count} stale")
+    return 1 if count else 0
+
+
 def main(words):
+    if words == ["--stale"]:
+        return print_stale()
     chosen = [words[0]] if words else list(crates())
     counts = {}
     for crate in chosen:
