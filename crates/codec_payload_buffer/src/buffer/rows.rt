@@ -31,7 +31,7 @@ pub(super) fn row_of_packet(packet: &HeldPacket) -> Row
     Row {
         first: number,
         last: number,
-        time: packet.meta.time,
+        time: packet.meta.time(),
         head: if packet.head { Some(number) } else { None },
         tail: packet.tail,
     }
