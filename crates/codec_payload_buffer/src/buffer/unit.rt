@@ -22,6 +22,17 @@ pub struct RtpMeta {
     pub last_sender_info: Option<SenderInfo>,
 }
 
+/// What is told of a unit whose bytes, and what is known of whose packets, lie in memory of the caller's.
+#[derive(Clone, Copy, Debug, PartialEq, Eq)]
+pub struct UnitInfo {
+    /// The one time of its packets.
+    pub time: MediaTime,
+    /// Whether it follows the unit that was released before it, as [`Depacketized`] tells it.
+    pub contiguous: bool,
+    /// What its payloads told besides its bytes.
+    pub codec_extra: CodecExtra,
+}
+
 /// A unit that was put together from the payloads of one packet or more.
 #[derive(Debug, Drop)]
 pub struct Depacketized {

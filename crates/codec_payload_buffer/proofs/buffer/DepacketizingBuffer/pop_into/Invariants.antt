@@ -1,7 +1,7 @@
 use Rattle.std.proofs.Common.{◌≡◌, ◌≤◌, List, length}
 use Rattle.codec_payload_buffer.specs.Steps.{Passes}
 use Rattle.codec_payload_buffer.specs.declared.buffer.frames.Segment.{Segment}
-use Rattle.codec_payload_buffer.proofs.buffer.DepacketizingBuffer.pop.Given as goal
+use Rattle.codec_payload_buffer.proofs.buffer.DepacketizingBuffer.pop_into.Given as goal
 
 abbrev pub invariant-loop-frame : goal.invariant-loop-frame
 invariant-loop-frame g l = record {
