@@ -45,9 +45,9 @@ awk -F'\t' -v with_other="$other" '
       if (!(key in least) || $3 < least[key]) least[key] = $3
       if ($1 == "now" && !($2 in seen)) { seen[$2] = 1; order[++count] = $2 } }
     END {
-        printf "| case | ns a frame | over a copy |"
+        printf "| case | ns a frame | over a copy | over memcpy |"
         if (with_other) printf " other, ns | over the other |"
-        printf "\n|---|---|---|"
+        printf "\n|---|---|---|---|"
         if (with_other) printf "---|---|"
         printf "\n"
         for (i = 1; i <= count; i++) {
@@ -55,7 +55,9 @@ awk -F'\t' -v with_other="$other" '
             ns = least["now\t" order[i]]
             copy = least["now\t" part[1] "/copy"]
             ratio = (copy > 0 && part[2] != "copy") ? sprintf("%.2f", ns / copy) : ""
-            printf "| %s | %s | %s |", order[i], ns, ratio
+            plain = least["now\t" part[1] "/memcpy"]
+            over = (plain > 0 && part[2] ~ /^packetize/) ? sprintf("%.2f", ns / plain) : ""
+            printf "| %s | %s | %s | %s |", order[i], ns, ratio, over
             if (with_other) {
                 was = least["other\t" order[i]]
                 printf " %s | %s |", was, (was > 0) ? sprintf("%.2f", ns / was) : ""

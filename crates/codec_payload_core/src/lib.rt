@@ -3,7 +3,7 @@
 
 pub use codec_payload_audio::{amr_wb, plain, tele};
 pub use codec_payload_av1::av1;
-pub use codec_payload_base::{bits, error, interface, wire};
+pub use codec_payload_base::{bits, error, interface, payloads, wire};
 pub use codec_payload_buffer::{buffer, codec, contiguity};
 pub use codec_payload_red::red;
 pub use codec_payload_vp8::vp8;

@@ -10,9 +10,9 @@ use codec_payload_core::wire::{Codec, ExtensionValues, MediaTime, Pt, RtpHeader,
 use std::alloc::Global;
 use std::time::Clock;
 
-/// How packets come: each after the one before; in rows of 32 out of order; all from the last to the first; or as parts of a
-/// frame whose end never comes, so that there is nothing to take.
-pub const ORDERS: [&str; 4] = ["in-order", "jitter", "reverse", "waiting"];
+/// How packets come: each after the one before, taken out by `pop` or by `pop_into`; in rows of 32 out of order; all from the
+/// last to the first; or as parts of a frame whose end never comes, so that there is nothing to take.
+pub const ORDERS: [&str; 5] = ["in-order", "in-order-into", "jitter", "reverse", "waiting"];
 
 /// How many packets are held.
 pub const HELD: [u64; 4] = [64, 512, 4_096, 65_536];
@@ -93,6 +93,28 @@ impl<'a> Work for Steady<'a> {
     }
 }
 
+/// The same, with each unit popped into memory that is used again.
+#[derive(Drop)]
+struct SteadyInto<'a> {
+    steady: Steady<'a>,
+    bytes: Vec<u8>,
+    metas: Vec<RtpMeta>,
+}
+
+impl<'a> Work for SteadyInto<'a> {
+    fn once(&mut self) -> Result<(), PacketError> {
+        self.steady.push()?;
+        if let Some(unit) = self
+            .steady
+            .buffer
+            .pop_into(&mut self.bytes, &mut self.metas)
+        {
+            let _info = unit?;
+        }
+        Ok(())
+    }
+}
+
 /// Fills a new buffer from the last packet to the first, and pops each unit.
 #[derive(Drop)]
 struct Reverse<'a> {
@@ -142,6 +164,26 @@ fn buffer_of_a_part(alloc: Global, held: u64) -> Result<Waiting> {
     Ok(Waiting { buffer })
 }
 
+/// Packets in order or with jitter, of which so many less one are held, since a packet comes before a unit goes.
+fn steady<'a>(
+    alloc: Global,
+    held: u64,
+    has_jitter: bool,
+    payload: &'a [u8],
+) -> Result<Steady<'a>, PacketError> {
+    let mut work = Steady {
+        alloc,
+        buffer: buffer_of(alloc, Codec::Opus)?,
+        has_jitter,
+        next: 0,
+        payload,
+    };
+    for _ in 1..held {
+        work.push()?;
+    }
+    Ok(work)
+}
+
 /// Runs packets in an order, with so many held.
 pub fn run<R: Clock>(
     clock: &R,
@@ -153,17 +195,15 @@ pub fn run<R: Clock>(
     let payload = noise(alloc, 100)?;
     match order {
         "in-order" | "jitter" => {
-            let mut work = Steady {
-                alloc,
-                buffer: buffer_of(alloc, Codec::Opus)?,
-                has_jitter: order == "jitter",
-                next: 0,
-                payload: &payload,
+            let mut work = steady(alloc, held, order == "jitter", &payload)?;
+            measure(clock, alloc, plan, 1, &mut work)
+        }
+        "in-order-into" => {
+            let mut work = SteadyInto {
+                steady: steady(alloc, held, false, &payload)?,
+                bytes: Vec::new(alloc),
+                metas: Vec::new(alloc),
             };
-            // One less, since a packet comes before a unit goes.
-            for _ in 1..held {
-                work.push()?;
-            }
             measure(clock, alloc, plan, 1, &mut work)
         }
         "reverse" => {

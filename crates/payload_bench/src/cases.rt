@@ -6,9 +6,15 @@ use anyhow::{Result, anyhow};
 use std::alloc::Global;
 use std::time::Clock;
 
-/// What is done with the frames of a codec: its packets are made, they are put together, or as many bytes are copied into
-/// fresh memory.
-const CODEC_CALLS: [&str; 3] = ["packetize", "depacketize", "copy"];
+/// What is done with the frames of a codec: its packets are made, in memory of their own or in memory that is used again, they
+/// are put together, or as many bytes are copied into fresh memory or into memory that is used again.
+const CODEC_CALLS: [&str; 5] = [
+    "packetize",
+    "packetize-into",
+    "depacketize",
+    "copy",
+    "memcpy",
+];
 
 /// The same of RED.
 const RED_CALLS: [&str; 3] = ["wrap", "decode", "copy"];

@@ -7,6 +7,7 @@ use codec_payload_core::codec::{
     CodecDepacketizer, CodecExtra, CodecPacketizer, Depacketizer, Packetizer, Vp9PacketizerMode,
 };
 use codec_payload_core::error::PacketError;
+use codec_payload_core::payloads::Payloads;
 use codec_payload_core::vp8::Vp8Packetizer;
 use codec_payload_core::wire::{Codec, CodecSpec, Frequency};
 use std::alloc::Global;
@@ -40,6 +41,9 @@ pub const FAMILIES: [&str; 24] = [
     "av1-tiles-200k",
 ];
 
+/// How many bytes are kept free in front of each payload.
+const RTP_HEADER: usize = 12;
+
 /// Makes the packets of a frame and lets them go.
 #[derive(Drop)]
 struct Packetize<'a> {
@@ -53,6 +57,23 @@ impl<'a> Work for Packetize<'a> {
     fn once(&mut self) -> Result<(), PacketError> {
         let _packets = self.pack.packetize(self.alloc, self.mtu, self.frame)?;
         Ok(())
+    }
+}
+
+/// Writes the payloads of a frame into memory that is used again.
+#[derive(Drop)]
+struct PacketizeInto<'a> {
+    alloc: Global,
+    mtu: usize,
+    pack: CodecPacketizer,
+    frame: &'a [u8],
+    out: Payloads,
+}
+
+impl<'a> Work for PacketizeInto<'a> {
+    fn once(&mut self) -> Result<(), PacketError> {
+        self.pack
+            .packetize_into(self.alloc, self.mtu, self.frame, &mut self.out)
     }
 }
 
@@ -91,6 +112,23 @@ impl<'a> Work for Copies<'a> {
         let mut all = Vec::with_capacity(self.alloc, self.payloads.len())?;
         for payload in self.payloads {
             all.push(Vec::from_slice(self.alloc, payload)?)?;
+        }
+        Ok(())
+    }
+}
+
+/// Copies payloads into memory that is used again, one behind the other.
+#[derive(Drop)]
+struct CopiesInto<'a> {
+    payloads: &'a [Vec<u8>],
+    out: Vec<u8>,
+}
+
+impl<'a> Work for CopiesInto<'a> {
+    fn once(&mut self) -> Result<(), PacketError> {
+        self.out.clear();
+        for payload in self.payloads {
+            self.out.extend_from_slice(payload)?;
         }
         Ok(())
     }
@@ -202,6 +240,23 @@ pub fn run<R: Clock>(
                 mtu: plan.mtu,
                 pack,
                 frame: &frame,
+            };
+            measure(clock, alloc, plan, 1, &mut work)
+        }
+        "packetize-into" => {
+            let mut work = PacketizeInto {
+                alloc,
+                mtu: plan.mtu,
+                pack,
+                frame: &frame,
+                out: Payloads::new(alloc, RTP_HEADER, 0)?,
+            };
+            measure(clock, alloc, plan, 1, &mut work)
+        }
+        "memcpy" => {
+            let mut work = CopiesInto {
+                payloads: &packets,
+                out: Vec::new(alloc),
             };
             measure(clock, alloc, plan, 1, &mut work)
         }

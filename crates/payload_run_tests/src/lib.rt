@@ -19,6 +19,8 @@ mod hostile;
 #[cfg(test)]
 mod library;
 #[cfg(test)]
+mod memory;
+#[cfg(test)]
 mod own_codec;
 #[cfg(test)]
 mod red_runs;

@@ -1,6 +1,6 @@
 use Rattle.std.proofs.Common.{rules, ◌≡◌, ◌∙◌, ◌+◌, ◌-◌, ◌<◌, ◌≤◌, ◌++◌, ap, arith, length, take, sym}
 use Rattle.std.proofs.lemmas.List.{length-take}
-use Rattle.codec_payload_base.specs.Payloads.{PayloadList}
+use Rattle.codec_payload_base.specs.PayloadLists.{PayloadList}
 use Rattle.codec_payload_base.proofs.SpanLemmas.{few_spans, span_at, range_in_front, header_at, payload_at, both_parts}
 use Rattle.codec_payload_base.proofs.payloads.Payloads.packet.Goals as goal
 
