@@ -1,4 +1,4 @@
-use Rattle.std.proofs.Common.{rules, ◌≡◌, ◌∙◌, ◌+◌, ◌-◌, ◌<◌, ◌≤◌, ◌++◌, ap, arith, length, take, sym}
+use Rattle.std.proofs.Common.{◌-◌, ap, arith, length, take}
 use Rattle.std.proofs.lemmas.List.{length-take}
 use Rattle.codec_payload_base.specs.PayloadLists.{PayloadList}
 use Rattle.codec_payload_base.proofs.SpanLemmas.{few_spans, span_at, range_in_front, header_at}

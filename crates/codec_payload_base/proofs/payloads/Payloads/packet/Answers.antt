@@ -1,4 +1,4 @@
-use Rattle.std.proofs.Common.{rules, ◌≡◌, ◌∙◌, ◌+◌, ◌-◌, ◌<◌, ◌≤◌, ◌++◌, ap, arith, length, take, sym}
+use Rattle.std.proofs.Common.{◌-◌, ap, arith, length, take}
 use Rattle.std.proofs.lemmas.List.{length-take}
 use Rattle.codec_payload_base.specs.PayloadLists.{PayloadList}
 use Rattle.codec_payload_base.proofs.SpanLemmas.{few_spans, span_at, range_in_front, header_at, payload_at, both_parts}
@@ -32,6 +32,11 @@ returns c =
     let few = few_spans bytes p.spans.items _ c.args.i (ap (λ (l : PayloadList). l.payloads) c.self.view_is) c.requires in
     let s = c.index-span.result.now in
     let at = span_at p.headroom p.tailroom 0 (p.begun - p.headroom) p.spans.items c.args.i s few c.index-span.ensures c.self.invariant.5 in
-    rw (← c.self.view_is, header_at bytes p.spans.items c.args.i s few c.index-span.ensures, payload_at bytes p.spans.items c.args.i s few c.index-span.ensures,
+    rw (
+      ← c.self.view_is,
+      header_at bytes p.spans.items c.args.i s few c.index-span.ensures,
+      payload_at bytes p.spans.items c.args.i s few c.index-span.ensures,
       ← both_parts bytes s.front s.start s.end at.2 at.3 (omega (arith, at.4, took, c.self.invariant.4)),
-      ← range_in_front p.filled p.bytes.items s.front s.end c.self.invariant.4 (omega (arith, at.2, at.3)) (omega (arith, at.4)), ← c.deref.ensures.value) c.part.ensures
+      ← range_in_front p.filled p.bytes.items s.front s.end c.self.invariant.4 (omega (arith, at.2, at.3)) (omega (arith, at.4)),
+      ← c.deref.ensures.value,
+    ) c.part.ensures
