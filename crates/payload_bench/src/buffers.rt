@@ -165,7 +165,7 @@ fn buffer_of_a_part(alloc: Global, held: u64) -> Result<Waiting> {
 }
 
 /// Packets in order or with jitter, of which so many less one are held, since a packet comes before a unit goes.
-fn steady<'a>(
+fn steady_of<'a>(
     alloc: Global,
     held: u64,
     has_jitter: bool,
@@ -195,12 +195,12 @@ pub fn run<R: Clock>(
     let payload = noise(alloc, 100)?;
     match order {
         "in-order" | "jitter" => {
-            let mut work = steady(alloc, held, order == "jitter", &payload)?;
+            let mut work = steady_of(alloc, held, order == "jitter", &payload)?;
             measure(clock, alloc, plan, 1, &mut work)
         }
         "in-order-into" => {
             let mut work = SteadyInto {
-                steady: steady(alloc, held, false, &payload)?,
+                steady: steady_of(alloc, held, false, &payload)?,
                 bytes: Vec::new(alloc),
                 metas: Vec::new(alloc),
             };
