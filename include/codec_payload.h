@@ -7,7 +7,8 @@
  *
  * STATUSES. A call answers a status, but for the few that answer a bool or a number. 0 is success, 1 to 17 are faults of
  * payloads and of memory, 32 to 37 are the library's own; the enum below has them all, with names. On every status but 0
- * the caller's bytes stay as they are.
+ * the caller's bytes stay as they are; and on every status but 0 and CPL_TOO_SMALL so does all else that a call tells: structs,
+ * sizes, counts and bools.
  *
  * HANDLES. A packetizer, a depacketizer, a buffer and a RED sender live behind a cpl_handle, which is the caller's own
  * memory: zero it (CPL_HANDLE_INIT), make something in it by a call named *_new, and end with cpl_free, which empties it.
@@ -128,7 +129,8 @@ typedef struct {
 /* Empties the handle, and gives back what it held. */
 void cpl_free(cpl_handle *handle);
 
-/* A codec with its settings. What the codec does not have is not looked at, but `rate` and `first_id`, always. */
+/* A codec with its settings. What the codec does not have is not looked at, but `rate`, always, and `first_id`, by
+ * cpl_packetizer_new of every codec. A buffer and a depacketizer do not look at `first_id`. */
 typedef struct {
     uint32_t codec;    /* CPL_OPUS and so on */
     uint32_t rate;     /* of the RTP clock, in hertz, above 0: 48000 for Opus, 90000 for video, 8000 for G.711 and G.722 */
@@ -143,9 +145,10 @@ typedef struct {
 /* A packetizer, in an empty handle. CPL_INVALID for a codec that is not there, a rate of 0 or a first_id above 32767. [m] */
 uint32_t cpl_packetizer_new(cpl_handle *handle, const cpl_spec *spec);
 
-/* Cuts a frame into payloads of at most `mtu` bytes, and tells how many there are: none for an empty frame. Those of the
- * frame before that were not taken are given up. Audio marks packets of a frame that starts a talk spurt; video does not look
- * at `starts_talk_spurt`. A fault leaves the packets of the frame before. [m] */
+/* Cuts a frame into payloads of at most `mtu` bytes, and tells how many there are: none for an empty frame. CPL_NULL alone
+ * looks at no MTU: a frame is one payload, as long as it is, also an empty one. Those of the frame before that were not taken
+ * are given up. Opus, G.711, G.722, AMR-WB and telephone events mark all packets of a frame that starts a talk spurt; comfort
+ * noise, video and CPL_NULL do not look at `starts_talk_spurt`. A fault leaves the packets of the frame before. [m] */
 uint32_t cpl_packetize(cpl_handle *handle, size_t mtu, bool starts_talk_spurt, const uint8_t *frame, size_t frame_len,
                        size_t *count);
 
@@ -301,9 +304,12 @@ typedef struct {
     bool is_primary;   /* this is the packet itself whose payload was read */
 } cpl_recovered_info;
 
-/* The packets that the payload of the packet with this number and time holds, by an index from 0; the packet itself is the
- * last, and CPL_NONE comes past it. Packets of the stream are `step` ticks apart, 1 to 16383; CPL_INVALID for another step.
- * Push them all: the buffer drops those that it has. [m] */
+/* The packets that the payload of the packet with this number and time holds, by an index from 0 in the order of its blocks;
+ * CPL_NONE comes past them. Packets of the stream are `step` ticks apart, 1 to 16383; CPL_INVALID for another step. Only blocks
+ * whose payload type is `primary_pt`, of which the low 7 bits count, are packets of the stream. The primary block is the packet
+ * itself, and then the last; where it has another type, the packet itself is not told. An older block is passed over besides
+ * where its offset is 0 or no multiple of `step`, and where it goes back more than 8 steps or below number 0. Push all that are
+ * told: the buffer drops those that it has. [m] */
 uint32_t cpl_red_recover(uint8_t primary_pt, uint32_t step, uint64_t number, uint32_t rtp_time, const uint8_t *payload,
                          size_t payload_len, size_t index, cpl_recovered_info *info, uint8_t *bytes, size_t bytes_len);
 

@@ -26,13 +26,13 @@ static cpl_spec spec_of(uint32_t codec, uint32_t rate) {
 /* Every call that takes a handle, on one that is empty or of another kind. */
 static void refusals(cpl_handle *handle, uint32_t packets, uint32_t units, uint32_t red, uint32_t pieces) {
     uint8_t bytes[4] = {7, 7, 7, 7};
-    size_t count = 0;
+    size_t count = 7;
     uint32_t distance = 1;
-    cpl_packet_info packet = {0};
+    cpl_packet_info packet = {.bytes = 7};
     cpl_received received = {.number = 1, .payload_type = 96};
-    cpl_unit unit = {0};
-    cpl_buffer_counts_info counts = {0};
-    cpl_extra extra = {0};
+    cpl_unit unit = {.first = 7};
+    cpl_buffer_counts_info counts = {.held = 7};
+    cpl_extra extra = {.picture_id = 7};
     uint8_t payload[1] = {0};
     if (packets) {
         CHECK(cpl_packetize(handle, 100, false, payload, 1, &count) == packets);
@@ -52,6 +52,39 @@ static void refusals(cpl_handle *handle, uint32_t packets, uint32_t units, uint3
         CHECK(cpl_depacketized(handle, &count, &extra, bytes, 4) == pieces);
     }
     CHECK(same(bytes, "\7\7\7\7", 4));
+    CHECK(count == 7 && packet.bytes == 7 && unit.first == 7 && counts.held == 7 && extra.picture_id == 7);
+}
+
+/* The text of each status. */
+static void texts(void) {
+    static const struct {
+        uint32_t status;
+        const char *text;
+    } rows[] = {
+        {0, "done"},
+        {1, "the packet is too short"},
+        {2, "the payload exceeds the MTU"},
+        {3, "too many spatial layers"},
+        {4, "too many references"},
+        {11, "the VP8 packet is corrupted"},
+        {12, "the VP9 packet is corrupted"},
+        {13, "the AV1 packet or frame is corrupted"},
+        {14, "the RED packet is corrupted"},
+        {15, "the payload is not whole telephone reports"},
+        {16, "the AMR-WB packet or frame is corrupted"},
+        {17, "out of memory"},
+        {32, "there is none"},
+        {33, "the caller's bytes are too few"},
+        {34, "the handle is empty"},
+        {35, "the handle holds something of another kind"},
+        {36, "the handle is full"},
+        {37, "an argument is none that the call takes"},
+        {5, "unknown status"},
+        {18, "unknown status"},
+        {38, "unknown status"},
+    };
+    for (size_t i = 0; i < sizeof rows / sizeof *rows; i++)
+        CHECK(strcmp(cpl_status_text(rows[i].status), rows[i].text) == 0);
 }
 
 static void handles(void) {
@@ -94,6 +127,11 @@ static void arguments(void) {
         cpl_free(&handle);
         CHECK(cpl_packetizer_new(&handle, &stopped) == CPL_INVALID);
         CHECK(cpl_packetizer_new(&handle, &ids) == CPL_INVALID);
+        /* What only receives does not look at the picture id. */
+        CHECK(cpl_depacketizer_new(&handle, &ids) == (there ? CPL_OK : CPL_INVALID));
+        cpl_free(&handle);
+        CHECK(cpl_buffer_new(&handle, &ids, 0, 1) == (there ? CPL_OK : CPL_INVALID));
+        cpl_free(&handle);
         CHECK(cpl_buffer_new(&handle, &stopped, 0, 1) == CPL_INVALID);
         CHECK(cpl_buffer_new(&handle, &spec, 0, 0) == CPL_INVALID);
         CHECK(cpl_buffer_new(&handle, &spec, 0, 65537) == CPL_INVALID);
@@ -291,7 +329,7 @@ static void pieces(void) {
 
 static void audio(void) {
     cpl_handle sender = CPL_HANDLE_INIT;
-    cpl_spec opus = spec_of(CPL_OPUS, 48000), cn = spec_of(CPL_CN, 8000);
+    cpl_spec opus = spec_of(CPL_OPUS, 48000), cn = spec_of(CPL_CN, 8000), null = spec_of(CPL_NULL, 8000);
     uint8_t bytes[4] = {0};
     size_t count = 9;
     cpl_packet_info packet = {0};
@@ -308,9 +346,17 @@ static void audio(void) {
     CHECK(cpl_packetize(&sender, 2, true, (const uint8_t *)"\4\5\6", 3, &count) == CPL_PAYLOAD_TOO_LARGE);
     CHECK(cpl_packet(&sender, &packet, bytes, 4) == CPL_OK && !packet.marker && same(bytes, "\1\2\3", 3));
     cpl_free(&sender);
+    /* Payloads that carry whatever they are given look at no MTU and at no talk spurt, and an empty frame is one of them. */
+    CHECK(cpl_packetizer_new(&sender, &null) == CPL_OK);
+    CHECK(cpl_packetize(&sender, 2, true, (const uint8_t *)"\1\2\3", 3, &count) == CPL_OK && count == 1);
+    CHECK(cpl_packet(&sender, &packet, bytes, 4) == CPL_OK && !packet.marker && packet.bytes == 3 && same(bytes, "\1\2\3", 3));
+    CHECK(cpl_packetize(&sender, 0, false, bytes, 0, &count) == CPL_OK && count == 1);
+    CHECK(cpl_packet(&sender, &packet, bytes, 4) == CPL_OK && packet.bytes == 0);
+    cpl_free(&sender);
 }
 
 int main(void) {
+    texts();
     handles();
     arguments();
     audio();

@@ -74,7 +74,8 @@ pub struct Settings {
     pub codec: Codec,
     /// The rate of the RTP clock in hertz, above 0.
     pub rate: u32,
-    /// The first picture id that is sent, at most 32,767: of VP9, and of VP8 with `vp8_ids`.
+    /// The first picture id that is sent, at most 32,767: of VP9, and of VP8 with `vp8_ids`. A packetizer of another codec
+    /// looks at it too; a buffer and a depacketizer do not.
     pub first_id: u16,
     /// AMR-WB payloads are octet-aligned (RFC 4867, section 4.4).
     pub octet_align: bool,
@@ -132,7 +133,9 @@ impl Packetizer {
         Ok(Packetizer(handle))
     }
 
-    /// The packets of a frame, of at most `mtu` bytes each. Of audio, those of a frame that starts a talk spurt are marked.
+    /// The packets of a frame, of at most `mtu` bytes each; none for an empty frame. [`Codec::Null`] alone looks at no MTU: a
+    /// frame is one packet, also an empty one. Of Opus, G.711, G.722, AMR-WB and telephone events those of a frame that starts
+    /// a talk spurt are marked; the other codecs do not look at `starts_talk_spurt`.
     pub fn packetize(
         &mut self,
         mtu: usize,

@@ -113,8 +113,12 @@ pub fn blocks(payload: &[u8]) -> Result<Vec<Block>, Error> {
     })
 }
 
-/// The packets that the payload of the packet with this number and time holds, that packet last. Packets of the stream are
-/// `step` ticks apart, 1 to 16,383.
+/// The packets that the payload of the packet with this number and time holds, in the order of its blocks. Packets of the
+/// stream are `step` ticks apart, 1 to 16,383.
+///
+/// Only blocks whose payload type is `primary_pt`, of which the low 7 bits count, are packets of the stream. The primary block
+/// is the packet itself, and then the last; where it has another type, the packet itself is not told. An older block is passed
+/// over besides where its offset is 0 or no multiple of `step`, and where it goes back more than 8 steps or below number 0.
 pub fn recover(
     primary_pt: u8,
     step: u32,

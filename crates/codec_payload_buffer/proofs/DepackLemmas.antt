@@ -53,7 +53,7 @@ vp9_rest_same d f (Ok rest) out extra o p x y same a b = placed (is_misplaced d 
   where
     placed : (m : Bool) → AppendedIf m d rest out extra (Ok tt) o x → AppendedIf m d rest out extra (Ok tt) p y → (o ≡ p) × (x ≡ y)
     placed true a b = let no = a.0 in absurd (cc)
-    placed false a b = (a.1 ∙ sym b.1, a.2 ∙ sym b.2)
+    placed false a b = (a.0 ∙ sym b.0, a.1 ∙ sym b.1)
 
 vp9_same : (d : Fields) (payload out : List ℕ) (extra : CodecExtra) (e f : Fields) (o p : List ℕ) (x y : CodecExtra) → Vp9Step d payload out extra (Ok tt) e o x → Vp9Step d payload out extra (Ok tt) f p y → (e ≡ f) × (o ≡ p) × (x ≡ y)
 vp9_same d [] out extra e f o p x y a b = let no = a.0 in absurd (cc)
@@ -61,7 +61,7 @@ vp9_same d (flags ∷ bytes) out extra e f o p x y a b =
     let all = (read_all (with_flags d flags) bytes).fields in
     let groups : e.groups ≡ f.groups = a.1 refl ∙ sym (b.1 refl) in
     let same : e ≡ f = a.0 ∙ ap (λ (g : Groups). record all { groups = g }) groups ∙ sym b.0 in
-    let rest = vp9_rest_same e f (all_groups (with_flags d flags) bytes).rest out extra o p x y same (a.2 refl) (b.2 refl) in
+    let rest = vp9_rest_same e f (all_groups (with_flags d flags) bytes).rest out extra o p x y same a.2 b.2 in
     (same, rest.0, rest.1)
 
 some_is : (x y : List ℕ × List ℕ) → Some x ≡ Some y → x ≡ y

@@ -1,12 +1,12 @@
 -- What the calls on a buffer do.
-use Rattle.std.specs.Prelude.{◌≡◌, ◌≢◌, ◌⊎◌, ℕ, ◌%◌, ◌<◌, ◌≤◌, Option, Some, None, Ok, Err, List, [], is_some, length}
+use Rattle.std.specs.Prelude.{◌≡◌, ◌≢◌, ◌⊎◌, ℕ, ◌%◌, ◌<◌, ◌≤◌, Option, Some, None, Ok, Err, List, is_some, length}
 use Rattle.codec_payload_core.specs.Extensions.{no_values}
 use Rattle.codec_payload_core.specs.Depack.{Depack}
 use Rattle.codec_payload_core.specs.Faults.{fault_number}
 use Rattle.codec_payload_core.specs.Frames.{frames}
 use Rattle.codec_payload_core.specs.Held.{Held}
 use Rattle.codec_payload_core.specs.Release.{Release, IsFirst, IsLast, IsReceivedFirst}
-use Rattle.codec_payload_core.specs.Steps.{State, Pops, IsArrived, pushed}
+use Rattle.codec_payload_core.specs.Steps.{State, Pops, IsArrived, empty_buffer, pushed}
 use Rattle.codec_payload_core.specs.declared.buffer.RtpMeta.{RtpMeta}
 use Rattle.codec_payload_core.specs.declared.error.PacketError.{PacketError}
 use Rattle.codec_payload_c.specs.Bytes.{filled}
@@ -21,11 +21,8 @@ use Rattle.codec_payload_c.specs.declared.settings.Spec.{Spec}
 
 -- an empty buffer with these settings
 pub record IsNew (spec : Spec) (depack : Option Depack) (hold_back limit : ℕ) (r : Receiver) : Type 0 where
-  pub held : r.buffer.held ≡ []
-  pub cutoff : r.buffer.cutoff ≡ None
   pub depack_is : Some r.buffer.depack ≡ depack
-  pub hold_back_is : r.buffer.hold_back ≡ hold_back
-  pub limit_is : r.buffer.limit ≡ limit
+  pub empty : r.buffer ≡ empty_buffer hold_back limit r.buffer.depack
   pub waiting : r.waiting ≡ None
   pub rate : r.rate ≡ spec.rate
 

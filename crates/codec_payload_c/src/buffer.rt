@@ -228,6 +228,7 @@ pub extern "C" fn cpl_buffer_pop(
     ensures pops { OnReceiver handle.old.place.value (λ r s. AnswersPop r result unit.old unit.new bytes.old bytes.new s) handle.new.place.value }
     ensures refused { Refuses is_receiver handle.old.place.value result handle.new.place.value }
     ensures untouched { result ≢ 0 → bytes.new ≡ bytes.old }
+    ensures untold { result ≢ 0 → result ≢ 33 → unit.new ≡ unit.old }
 {
     let Some(mut object) = handle.take(alloc) else {
         return status::EMPTY;
@@ -249,6 +250,7 @@ pub extern "C" fn cpl_buffer_counts(
 ) -> u32
     ensures counts { OnReceiver handle.old.place.value (λ r s. (result ≡ 0) × (s ≡ r) × Counts r counts.new) handle.new.place.value }
     ensures refused { Refuses is_receiver handle.old.place.value result handle.new.place.value }
+    ensures untold { result ≢ 0 → counts.new ≡ counts.old }
 {
     let Some(mut object) = handle.take(alloc) else {
         return status::EMPTY;

@@ -98,6 +98,8 @@ pub extern "C" fn cpl_depacketized(
     ensures takes { OnAssembler handle.old.place.value (λ r s. Takes r result size.new extra.new bytes.old bytes.new s) handle.new.place.value }
     ensures refused { Refuses is_assembler handle.old.place.value result handle.new.place.value }
     ensures untouched { result ≢ 0 → bytes.new ≡ bytes.old }
+    ensures same_size { result ≢ 0 → result ≢ 33 → size.new ≡ size.old }
+    ensures untold { result ≢ 0 → result ≢ 33 → extra.new ≡ extra.old }
 {
     let Some(mut object) = handle.take(alloc) else {
         return status::EMPTY;

@@ -35,7 +35,8 @@ impl Sender {
         frame: &[u8],
         count: &mut usize,
     ) -> u32
-        ensures { CutsFrame self.old mtu starts_talk_spurt frame.now result count.new self.new }
+        ensures cuts { CutsFrame self.old mtu starts_talk_spurt frame.now result count.new self.new }
+        ensures untold { result ≢ 0 → count.new ≡ count.old }
     {
         match self.pack.packetize(alloc, mtu, frame) {
             Ok(packets) => {
@@ -51,7 +52,8 @@ impl Sender {
 
     /// The next packet.
     fn packet(&mut self, info: &mut PacketInfo, bytes: &mut [u8]) -> u32
-        ensures { GivesPacket self.old result info.new bytes.old bytes.new self.new }
+        ensures gives { GivesPacket self.old result info.new bytes.old bytes.new self.new }
+        ensures untold { result ≢ 0 → result ≢ 33 → info.new ≡ info.old }
     {
         let Some(payload) = self.packets.get(self.taken) else {
             return status::NONE;
@@ -111,6 +113,7 @@ pub extern "C" fn cpl_packetize(
 ) -> u32
     ensures cuts { OnSender handle.old.place.value (λ r s. CutsFrame r mtu starts_talk_spurt frame.now result count.new s) handle.new.place.value }
     ensures refused { Refuses is_sender handle.old.place.value result handle.new.place.value }
+    ensures untold { result ≢ 0 → count.new ≡ count.old }
 {
     let Some(mut object) = handle.take(alloc) else {
         return status::EMPTY;
@@ -134,6 +137,7 @@ pub extern "C" fn cpl_packet(
     ensures gives { OnSender handle.old.place.value (λ r s. GivesPacket r result info.new bytes.old bytes.new s) handle.new.place.value }
     ensures refused { Refuses is_sender handle.old.place.value result handle.new.place.value }
     ensures untouched { result ≢ 0 → bytes.new ≡ bytes.old }
+    ensures untold { result ≢ 0 → result ≢ 33 → info.new ≡ info.old }
 {
     let Some(mut object) = handle.take(alloc) else {
         return status::EMPTY;

@@ -38,11 +38,12 @@ fn wrap(
     bytes: &mut [u8],
     size: &mut usize,
 ) -> u32
-    ensures { Wraps sender.old rtp_time budget payload.now result bytes.old bytes.new size.new sender.new }
+    ensures wraps { Wraps sender.old rtp_time budget payload.now result bytes.old bytes.new size.new sender.new }
+    ensures same_size { result ≢ 0 → result ≢ 33 → size.new ≡ size.old }
 {
     let room = budget.max(payload.len());
-    *size = room;
     if bytes.len() < room {
+        *size = room;
         return status::TOO_SMALL;
     }
     let Ok(media) = Vec::from_slice(alloc, payload) else {
@@ -128,6 +129,7 @@ pub extern "C" fn cpl_red_wrap(
     ensures wraps { OnRedSender handle.old.place.value (λ r s. Wraps r rtp_time budget payload.now result bytes.old bytes.new size.new s) handle.new.place.value }
     ensures refused { Refuses is_red_sender handle.old.place.value result handle.new.place.value }
     ensures untouched { result ≢ 0 → bytes.new ≡ bytes.old }
+    ensures same_size { result ≢ 0 → result ≢ 33 → size.new ≡ size.old }
 {
     let Some(mut object) = handle.take(alloc) else {
         return status::EMPTY;

@@ -1,6 +1,6 @@
 //! Descriptors of VP8 payloads, read and patched in place (RFC 7741, section 4.2).
 
-ghost use Rattle.std.specs.Prelude.{◌≡◌, IfOk, length};
+ghost use Rattle.std.specs.Prelude.{◌≡◌, ◌≢◌, IfOk, length};
 ghost use Rattle.codec_payload_core.specs.Vp8Descriptor.{parsed};
 ghost use Rattle.codec_payload_core.specs.Vp8Patch.{Patches, Reaches, patch_for, patched};
 ghost use Rattle.codec_payload_c.specs.Vp8.{PatchesTo, ReadsTo, builder_of, descriptor_status, patch_status};
@@ -99,7 +99,9 @@ pub extern "C" fn cpl_vp8_fields(
     fields: &mut Vp8FieldsInfo,
     starts_keyframe: &mut bool,
 ) -> u32
-    ensures { ReadsTo (parsed payload.now) payload.now result fields.new starts_keyframe.new }
+    ensures reads { ReadsTo (parsed payload.now) payload.now result fields.new starts_keyframe.new }
+    ensures untold { result ≢ 0 → fields.new ≡ fields.old }
+    ensures unlooked { result ≢ 0 → starts_keyframe.new ≡ starts_keyframe.old }
 {
     let descriptor = match Vp8Descriptor::parse(payload) {
         Ok(descriptor) => descriptor,

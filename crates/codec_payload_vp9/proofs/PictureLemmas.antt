@@ -29,7 +29,7 @@ pub record TellsBoth (d : Fields) (id tl0 : ℕ) (after : Fields) (extra : Codec
 taken_extra : (misplaced : Bool) (after : Fields) (piece out : List ℕ) (extra : CodecExtra) (x : Unit {0}) (out' : List ℕ) (extra' : CodecExtra)
     → AppendedIf misplaced after piece out extra (Ok x) out' extra' → extra' ≡ extras.Vp9 (extra_of after (length out + length piece) (told_before extra))
 taken_extra true after piece out extra x out' extra' a = let no = a.0 in absurd (cc)
-taken_extra false after piece out extra x out' extra' a = a.2
+taken_extra false after piece out extra x out' extra' a = a.1
 
 module _ (d : Fields) (id tl0 : ℕ) (small : id < 2 ^ 15) (piece out : List ℕ) (extra : CodecExtra) (x : Unit {0}) (after : Fields) (out' : List ℕ) (extra' : CodecExtra) where
   plain_tells : (p first e : Bool) → StepFromId (flagged d p true false first e false) (take_id (id_bytes (Long id) ++ 16 ∷ tl0 ∷ piece)) out extra (Ok x) after out' extra' → TellsBoth d id tl0 after extra'
@@ -38,7 +38,7 @@ module _ (d : Fields) (id tl0 : ℕ) (small : id < 2 ^ 15) (piece out : List ℕ
       let known : StepFromId d0 (Some (Long id, 16 ∷ tl0 ∷ piece)) out extra (Ok x) after out' extra' =
       subst (λ (o : Option (PictureId × List ℕ)). StepFromId d0 o out extra (Ok x) after out' extra') (takes_spelled (Long id) (16 ∷ tl0 ∷ piece) small) step in
       let fields = (then_read (from_id d0 (Some (Long id, 16 ∷ tl0 ∷ piece))) read_head).fields in
-      let is = taken_extra (is_misplaced after (length out) (told_before extra)) after piece out extra x out' extra' (known.2 refl) in
+      let is = taken_extra (is_misplaced after (length out) (told_before extra)) after piece out extra x out' extra' known.2 in
       record {
         told = extra_of fields (length out + length piece) (told_before extra);
         is = is ∙ ap (λ (f : Fields). extras.Vp9 (extra_of f (length out + length piece) (told_before extra))) known.0;
@@ -55,7 +55,7 @@ module _ (d : Fields) (id tl0 : ℕ) (small : id < 2 ^ 15) (piece out : List ℕ
       let known : StepFromId d0 (Some (Long id, 16 ∷ tl0 ∷ 0 ∷ piece)) out extra (Ok x) after out' extra' =
       subst (λ (o : Option (PictureId × List ℕ)). StepFromId d0 o out extra (Ok x) after out' extra') (takes_spelled (Long id) (16 ∷ tl0 ∷ 0 ∷ piece) small) step in
       let fields = (then_read (from_id d0 (Some (Long id, 16 ∷ tl0 ∷ 0 ∷ piece))) read_head).fields in
-      let is = taken_extra (is_misplaced after (length out) (told_before extra)) after piece out extra x out' extra' (known.2 refl) in
+      let is = taken_extra (is_misplaced after (length out) (told_before extra)) after piece out extra x out' extra' known.2 in
       record {
         told = extra_of fields (length out + length piece) (told_before extra);
         is = is ∙ ap (λ (f : Fields). extras.Vp9 (extra_of f (length out + length piece) (told_before extra))) known.0;
@@ -87,7 +87,7 @@ module _ (d : Fields) (id tl0 : ℕ) (small : id < 2 ^ 15) (piece out : List ℕ
       let known : StepFromId d0 (Some (Long id, piece)) out extra (Ok x) after out' extra' =
       subst (λ (o : Option (PictureId × List ℕ)). StepFromId d0 o out extra (Ok x) after out' extra') (takes_spelled (Long id) piece small) step in
       let fields = (then_read (from_id d0 (Some (Long id, piece))) read_head).fields in
-      let is = taken_extra (is_misplaced after (length out) (told_before extra)) after piece out extra x out' extra' (known.2 refl) in
+      let is = taken_extra (is_misplaced after (length out) (told_before extra)) after piece out extra x out' extra' known.2 in
       (extra_of fields (length out + length piece) (told_before extra), is ∙ ap (λ (f : Fields). extras.Vp9 (extra_of f (length out + length piece) (told_before extra))) known.0, refl)
 
   pub sent_keeps_base : (key first last : Bool) → Vp9Step d (header_in Flexible key id tl0 first last ++ piece) out extra (Ok x) after out' extra' → KeepsBase

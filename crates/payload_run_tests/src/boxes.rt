@@ -1,6 +1,6 @@
 //! Codecs that a caller brings in a box: nothing is taken for granted of them.
 
-ghost use Rattle.std.specs.Prelude.{[], Some, ⊤, Bool, true};
+ghost use Rattle.std.specs.Prelude.{[], Some, ⊤, Bool, true, false};
 
 use crate::asserts::{assert_bytes, assert_holds, assert_same, assert_shown};
 use crate::library::{
@@ -32,9 +32,9 @@ impl Packetizer for Lawless {
 
     ghost marker_step = { λ _ _ _ _ _ _. ⊤ };
 
-    ghost may_mark = { λ _. ⊤ };
+    ghost marks_spurts = { λ _. true };
 
-    ghost may_do_without = { λ _. ⊤ };
+    ghost may_be_asked_for = { λ _. true };
 
     fn packetize(
         &mut self,
@@ -55,6 +55,10 @@ impl Packetizer for Lawless {
     fn marks_talkspurt(&self) -> bool {
         true
     }
+
+    fn nackable(&self) -> bool {
+        true
+    }
 }
 
 /// Sends each byte in a packet, marks one that repeats the packet before, and has no packet asked for again.
@@ -68,9 +72,9 @@ impl Packetizer for MarksRepeats {
 
     ghost marker_step = { λ _ _ _ _ _ _. ⊤ };
 
-    ghost may_mark = { λ _. ⊤ };
+    ghost marks_spurts = { λ _. false };
 
-    ghost may_do_without = { λ _. ⊤ };
+    ghost may_be_asked_for = { λ _. false };
 
     fn packetize(
         &mut self,
@@ -86,6 +90,10 @@ impl Packetizer for MarksRepeats {
             Some(before) => before == data,
             None => false,
         }
+    }
+
+    fn marks_talkspurt(&self) -> bool {
+        false
     }
 
     fn nackable(&self) -> bool {

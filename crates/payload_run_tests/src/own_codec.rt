@@ -1,6 +1,6 @@
 //! A codec of a caller's own, as the README has it.
 
-ghost use Rattle.std.specs.Prelude.{[], ⊤};
+ghost use Rattle.std.specs.Prelude.{[], ⊤, false, true};
 
 use crate::asserts::assert_bytes;
 use crate::library::{bytes_and_markers, sample};
@@ -23,9 +23,9 @@ impl Packetizer for EachByte {
 
     ghost marker_step = { λ _ _ _ _ _ _. ⊤ };
 
-    ghost may_mark = { λ _. ⊤ };
+    ghost marks_spurts = { λ _. false };
 
-    ghost may_do_without = { λ _. ⊤ };
+    ghost may_be_asked_for = { λ _. true };
 
     fn packetize(
         &mut self,
@@ -42,6 +42,14 @@ impl Packetizer for EachByte {
 
     fn is_marker(&mut self, _data: &[u8], _previous: Option<&[u8]>, last: bool) -> bool {
         last
+    }
+
+    fn marks_talkspurt(&self) -> bool {
+        false
+    }
+
+    fn nackable(&self) -> bool {
+        true
     }
 }
 

@@ -1,3 +1,4 @@
+pub mod DistanceLemmas
 pub mod HexFieldLemmas
 pub mod Limits
 pub mod LineLemmas

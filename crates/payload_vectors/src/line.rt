@@ -85,7 +85,11 @@ pub struct Limit {
 
 impl Limit {
     /// The limit of a buffer where no line sets one.
-    pub const DEFAULT: Limit = Limit { packets: 4_096 };
+    pub fn unless_set() -> Limit
+        ensures { result.packets ≡ 4096 }
+    {
+        Limit { packets: 4_096 }
+    }
 
     /// The limit that the field after `limit` sets.
     fn from_field(packets: &str) -> Option<Limit>

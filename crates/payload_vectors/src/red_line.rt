@@ -1,6 +1,6 @@
 //! The line that has a run send and receive in RED.
 
-ghost use Rattle.std.specs.Prelude.{◌≡◌, ◌<◌, ◌≤◌, ◌↔◌, ◌++◌, ◌^◌, ℕ, List, IsTrue, IsSome, IsNone, IfOk, IfSome, map};
+ghost use Rattle.std.specs.Prelude.{◌≡◌, ◌<◌, ◌≤◌, ◌↔◌, ◌++◌, ◌^◌, ℕ, List, IsTrue, IsSome, IsNone, IfOk, IfSome, length, map};
 ghost use Rattle.std.specs.Str.Parse.{digits_value};
 ghost use Rattle.codec_payload_core.specs.RedLevels.{is_accepted};
 ghost use Rattle.payload_vectors.specs.Fields.{IsNumber};
@@ -9,6 +9,9 @@ ghost use Rattle.payload_vectors.specs.RedFields.{AreNumbers, AreRed, SpellsDist
 use crate::fields::{count, decimal};
 use codec_payload_core::red::RedSender;
 use std::alloc::{AllocError, Global};
+
+/// The most distances that a sender takes: they rise strictly, from 1 to 8.
+const MOST_DISTANCES: usize = 8;
 
 /// The greatest step, in ticks of the RTP clock: no older block can be further back.
 const GREATEST_STEP: u32 = 16_383;
@@ -79,15 +82,18 @@ fn accepted_distances(alloc: Global, field: &str) -> Result<Option<Vec<u32>>, Al
     Ok(Some(distances))
 }
 
-/// The distances that a field spells, whatever they are.
+/// The distances that a field spells, where they are no more than a sender takes.
 fn spelled_distances(alloc: Global, field: &str) -> Result<Option<Vec<u32>>, AllocError>
     ensures some { IfOk result (λ found. IfSome found (λ distances. SpellsDistances field.now distances.items)) }
-    ensures none { IfOk result (λ found. IsNone found → (distances : List ℕ) → ¬ SpellsDistances field.now distances) }
+    ensures none { IfOk result (λ found. IsNone found → (distances : List ℕ) → SpellsDistances field.now distances → 8 < length distances) }
 {
     if field == "-" {
         return Ok(Some(Vec::new(alloc)));
     }
     let parts: Vec<&str> = field.split(',').collect(alloc)?;
+    if parts.len() > MOST_DISTANCES {
+        return Ok(None);
+    }
     let mut distances = Vec::new(alloc);
     if !add_numbers(&mut distances, &parts)? {
         return Ok(None);
@@ -95,8 +101,10 @@ fn spelled_distances(alloc: Global, field: &str) -> Result<Option<Vec<u32>>, All
     Ok(Some(distances))
 }
 
-/// Adds the numbers that the fields spell, up to the first that spells none. Says whether each spells one.
+/// Adds the numbers that at most so many fields spell as a sender takes distances, up to the first that spells none. Says
+/// whether each spells one. It calls itself for each field, so no deeper than that.
 fn add_numbers(numbers: &mut Vec<u32>, fields: &[&str]) -> Result<bool, AllocError>
+    requires { length fields.now ≤ 8 }
     ensures all { IfOk result (λ all. IsTrue all ↔ AreNumbers (map (λ field. field.now) fields.now)) }
     ensures added { IfOk result (λ all. IsTrue all → numbers.new.items ≡ numbers.old.items ++ map (digits_value 10) (map (λ field. field.now) fields.now)) }
 {

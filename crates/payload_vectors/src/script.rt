@@ -60,7 +60,7 @@ impl Script {
         let setup = setup.ok_or(ProgramFault::BadLine(1))?;
         Ok(Script {
             setup,
-            limit: limit.unwrap_or(Limit::DEFAULT),
+            limit: limit.unwrap_or(Limit::unless_set()),
             red,
             samples,
             steps,

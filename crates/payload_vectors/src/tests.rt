@@ -168,6 +168,63 @@ fn opus_hold_back(rt: HostRuntime) -> Result<(), Fail> {
     Ok(())
 }
 
+/// Numbers above 65,535 are printed whole, and so is the greatest number of a fault.
+#[test]
+fn numbers_are_printed_whole(rt: HostRuntime) -> Result<(), Fail> {
+    for (input, output) in [
+        (
+            "codec opus 48000 0 70000 0\nsample 960 0 9090\nsend 0 2\npush 0\npop\n",
+            "sent 1\npacket 70000 0 9090\nunit 70000 70000 1 9090\n",
+        ),
+        (
+            "codec amrwb 16000 0 1 0\nsample 0 0 50\nsend 0 1200\n",
+            "refused 16\n",
+        ),
+    ] {
+        let printed = output_for(rt.alloc(), input)?;
+        assert_eq!(rt; printed.as_str(), output, "for {input}");
+    }
+    Ok(())
+}
+
+/// So many steps, each with its line of output.
+#[test]
+fn steps_are_all_done(rt: HostRuntime) -> Result<(), Fail> {
+    let alloc = rt.alloc();
+    let mut input = String::from_str(alloc, SETUP)?;
+    let mut wanted = String::new(alloc);
+    for _ in 0..1_500 {
+        input.push_str("pop\n")?;
+        wanted.push_str("none\n")?;
+    }
+    let printed = output_for(alloc, &input)?;
+    assert_eq!(rt; printed.as_str(), wanted.as_str());
+    Ok(())
+}
+
+/// More distances than a sender takes, and as many as it has of the greatest: a line is bad however long it is.
+#[test]
+fn long_lists_of_distances(rt: HostRuntime) -> Result<(), Fail> {
+    let alloc = rt.alloc();
+    for count in [7, 8, 20_000] {
+        let mut input = String::from_str(alloc, SETUP)?;
+        input.push_str("red 960 1200 1")?;
+        for place in 0..count {
+            let next = format!(in alloc; ",{}", place + 2)?;
+            input.push_str(&next)?;
+        }
+        input.push_str("\n")?;
+        let answer = run_lines(alloc, &mut input.as_bytes(), &mut Vec::new(alloc));
+        let wanted = if count == 7 {
+            Ok(())
+        } else {
+            Err(ProgramFault::BadLine(2))
+        };
+        assert_eq!(rt; answer, wanted, "with {count} more");
+    }
+    Ok(())
+}
+
 /// A report on a telephone event has four bytes, so five are sent and then refused.
 #[test]
 fn tele_five_bytes_fault(rt: HostRuntime) -> Result<(), Fail> {
