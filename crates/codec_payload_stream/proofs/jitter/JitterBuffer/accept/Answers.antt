@@ -1,4 +1,4 @@
-use Rattle.std.proofs.Common.{◌∙◌, ap, sym, subst, length}
+use Rattle.std.proofs.Common.{ap, sym, subst, length}
 use Rattle.std.specs.Option.{option_map}
 use Rattle.codec_payload_stream.specs.Receiving.{Receiving, Accepts, IsConserved, arrival_of, counted}
 use Rattle.codec_payload_stream.specs.declared.jitter.PacketCounters.{PacketCounters}

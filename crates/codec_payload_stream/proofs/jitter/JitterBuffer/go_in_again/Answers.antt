@@ -1,6 +1,6 @@
 use Rattle.std.proofs.Common.{◌∙◌, ap, sym, subst, length, true}
 use Rattle.std.specs.Option.{option_map}
-use Rattle.codec_payload_stream.specs.Receiving.{Receiving, GoesInAgain, IsConserved, arrival_of, counted_again, outcome_at}
+use Rattle.codec_payload_stream.specs.Receiving.{Receiving, GoesInAgain, IsConserved, arrival_of, counted_again}
 use Rattle.codec_payload_stream.specs.declared.jitter.PacketCounters.{PacketCounters}
 use Rattle.codec_payload_stream.specs.declared.jitter.Outcome.{Outcome}
 use Rattle.codec_payload_stream.proofs.ReceivingLemmas.{conserved_again}
