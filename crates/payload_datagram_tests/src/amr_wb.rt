@@ -1,0 +1,111 @@
+//! AMR-WB with 23 frames a packet: frames wait by the clock, and not by how many there are.
+
+use crate::events::{pop, take};
+use codec_payload_base::wire::{Codec, Frequency};
+use codec_payload_buffer::codec::{CodecDepacketizer, NoBox};
+use codec_payload_rtp::values::ExtensionIds;
+use codec_payload_stream::jitter::Patience;
+use codec_payload_stream::receiver::{Receiver, Settings};
+use std::alloc::Global;
+use std::process::Abort;
+use std::test::Fail;
+
+/// 23 frames of 6.60 kbit/s, 132 bits each, in the octet-aligned form of RFC 4867: a byte, 23 entries, and 17 bytes a frame.
+fn packet(number: u8) -> [u8; 427] {
+    let mut bytes = [0; 427];
+    bytes[..12].copy_from_slice(&[0x80, 96, 0, number, 0, 0, 0, number, 0, 0, 0, 7]);
+    bytes[12] = 0xf0;
+    for entry in 13..35 {
+        bytes[entry] = 0x84;
+    }
+    bytes[35] = 0x04;
+    bytes
+}
+
+fn receiver_of(alloc: Global) -> Result<Receiver<NoBox>, Fail> {
+    let mut depack: CodecDepacketizer<NoBox> = CodecDepacketizer::from_codec(
+        alloc,
+        Codec::AmrWb,
+    ).ok_or("no depacketizer")?;
+    if let CodecDepacketizer::AmrWb(d) = &mut depack {
+        d.octet_align = true;
+    }
+    let settings = Settings {
+        payload_type: 96,
+        no_media: Vec::new(alloc),
+        ssrc: Some(7),
+        extension_ids: ExtensionIds::default(),
+        clock_rate: Frequency::make(16_000).ok_or("a rate")?,
+        patience: Patience {
+            hold_back: 30,
+            start: 0,
+            max_wait: Some(100),
+        },
+        limit: 4_096,
+        forward: 3_000,
+        backward: 1_000,
+    };
+    match Receiver::new(alloc, depack, settings) {
+        Ok(receiver) => Ok(receiver),
+        Err(_) => Err("settings out of range")?,
+    }
+}
+
+/// What comes at a time, and how many units pops at that time give.
+struct Moment {
+    now: u64,
+    packet: Option<u8>,
+    units: usize,
+}
+
+/// A packet each 460 ms; the second is lost, and the third waits for 100 ms.
+const MOMENTS: [Moment; 4] = [
+    Moment {
+        now: 0,
+        packet: Some(1),
+        units: 1,
+    },
+    Moment {
+        now: 920,
+        packet: Some(3),
+        units: 0,
+    },
+    Moment {
+        now: 1_019,
+        packet: None,
+        units: 0,
+    },
+    Moment {
+        now: 1_020,
+        packet: None,
+        units: 1,
+    },
+];
+
+/// How many units pops give at that time.
+fn units_at(receiver: &mut Receiver<NoBox>, now: u64) -> usize {
+    let mut units = 0usize;
+    for _ in 0..4 {
+        if let Some(Ok(_)) = pop(receiver, now) {
+            units = units.saturating_add(1);
+        }
+    }
+    units
+}
+
+#[test]
+fn frames_wait_by_the_clock(rt: HostRuntime) -> Result<(), Fail> {
+    let mut receiver = receiver_of(rt.alloc())?;
+    for moment in &MOMENTS {
+        if let Some(number) = moment.packet {
+            assert_eq!(rt; take(&mut receiver, moment.now, &packet(number)), 'h');
+        }
+        assert_eq!(rt;
+            units_at(&mut receiver, moment.now),
+            moment.units,
+            "at {}",
+            moment.now
+        );
+    }
+    Ok(())
+}
