@@ -1,0 +1,5 @@
+//! What a frame says of itself: its size, whether it is a keyframe, how long it lasts, and how a decoder is set up for it.
+#![tactic(auto)]
+
+pub mod error;
+pub mod vp8;
