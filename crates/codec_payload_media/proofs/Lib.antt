@@ -1,2 +1,5 @@
+pub mod AmrWbLemmas
+pub mod ItemLemmas
+pub mod OpusLemmas
 pub mod ReadingLemmas
 pub mod Vp8Grammar

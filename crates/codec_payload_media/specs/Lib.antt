@@ -1,2 +1,6 @@
+pub mod AmrWbFrames
+pub mod FrameInfo
+pub mod Items
+pub mod OpusPackets
 pub mod Reading
 pub mod Vp8Frames
