@@ -2,4 +2,5 @@ pub mod AmrWbLemmas
 pub mod ItemLemmas
 pub mod OpusLemmas
 pub mod ReadingLemmas
+pub mod SyntaxLemmas
 pub mod Vp8Grammar

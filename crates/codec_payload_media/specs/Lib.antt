@@ -3,4 +3,6 @@ pub mod FrameInfo
 pub mod Items
 pub mod OpusPackets
 pub mod Reading
+pub mod Syntax
 pub mod Vp8Frames
+pub mod Vp9Frames

@@ -3,6 +3,8 @@
 
 pub mod amr_wb;
 pub mod error;
+mod fields;
 pub mod frame_info;
 pub mod opus;
 pub mod vp8;
+pub mod vp9;

@@ -1,0 +1,58 @@
+//! Fields of so many bits, as the tables of standards have them.
+
+ghost use Rattle.std.specs.Prelude.{◌≡◌, ◌≤◌, ◌<◌, ◌^◌, IfOk};
+ghost use Rattle.codec_payload_base.specs.Bits.{left};
+ghost use Rattle.codec_payload_media.specs.Syntax.{expects, field, flag, paired, read};
+
+use crate::error::MediaError;
+use codec_payload_base::bits::{BitRead, BitReader};
+
+/// A field of at most eight bits.
+#[tactic(auto, using(crate::proofs::SyntaxLemmas::reads_field, crate::proofs::SyntaxLemmas::reads_nothing))]
+pub(crate) fn read_field(reader: &mut BitReader<'_>, bits: usize) -> Result<u8, MediaError>
+    requires { bits ≤ 8 }
+    ensures value { paired result (left reader.new) ≡ read (field bits) (left reader.old) }
+    ensures below { IfOk result (λ v. v < 2 ^ bits) }
+{
+    match reader.get_bits(bits) {
+        Some(value) => Ok(value),
+        None => Err(MediaError::MissingBytes),
+    }
+}
+
+/// A field of sixteen bits.
+#[tactic(auto, using(crate::proofs::SyntaxLemmas::reads_field, crate::proofs::SyntaxLemmas::reads_nothing))]
+pub(crate) fn read_u16(reader: &mut BitReader<'_>) -> Result<u16, MediaError>
+    ensures { paired result (left reader.new) ≡ read (field 16) (left reader.old) }
+{
+    match reader.get_u16() {
+        Some(value) => Ok(value),
+        None => Err(MediaError::MissingBytes),
+    }
+}
+
+/// A field of one bit.
+pub(crate) fn read_flag(reader: &mut BitReader<'_>) -> Result<bool, MediaError>
+    ensures { paired result (left reader.new) ≡ read flag (left reader.old) }
+{
+    let bit = read_field(reader, 1)?;
+    Ok(bit == 1)
+}
+
+/// A field that has that value, or that fault.
+pub(crate) fn expect_field(
+    reader: &mut BitReader<'_>,
+    bits: usize,
+    value: u8,
+    fault: MediaError,
+) -> Result<u8, MediaError>
+    requires { bits ≤ 8 }
+    ensures { paired result (left reader.new) ≡ read (expects bits value fault) (left reader.old) }
+{
+    let found = read_field(reader, bits)?;
+    if found == value {
+        Ok(found)
+    } else {
+        Err(fault)
+    }
+}
