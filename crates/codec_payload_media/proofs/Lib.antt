@@ -2,5 +2,6 @@ pub mod AmrWbLemmas
 pub mod ItemLemmas
 pub mod OpusLemmas
 pub mod ReadingLemmas
+pub mod SuperframeLemmas
 pub mod SyntaxLemmas
 pub mod Vp8Grammar

@@ -5,6 +5,10 @@ ghost use Rattle.codec_payload_base.specs.Bits.{bits_of, left};
 ghost use Rattle.codec_payload_media.specs.Syntax.{IsSpelled, paired, read, told_by};
 ghost use Rattle.codec_payload_media.specs.Vp9Frames.{bit_depth, coded_frame, color_config, frame_header, inter_frame, is_odd, intra_color, intra_flag, intra_picture, key_frame, keyframe_picture, picture, picture_if, profile_at, render_size, reset_if, rgb_color, shown_again, side, sync_code, with_subsampling, yuv_color};
 
+mod superframe;
+
+pub use superframe::Vp9Frames;
+
 use crate::error::MediaError;
 use crate::fields::{expect_field, read_field, read_flag, read_u16};
 use codec_payload_base::bits::BitReader;
