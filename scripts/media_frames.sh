@@ -13,7 +13,7 @@ picture() {
   ffmpeg $quiet -f lavfi -i "testsrc=size=$1:rate=10" -pix_fmt "$2" -frames:v "$3" -strict -1 "$4.y4m"
 }
 
-# video NAME CODEC OPTIONS..: from NAME's Y4M to IVF, and what the fields of its headers are
+# video NAME SOURCE CODEC OPTIONS..: from the source's Y4M to IVF
 video() {
   name=$1 source=$2 codec=$3
   shift 3
@@ -38,6 +38,11 @@ video av1_odd odd libaom-av1 -b:v 50k -cpu-used 8
 video av1_444 full_color libaom-av1 -b:v 50k -cpu-used 8
 video av1_10 ten_bit_420 libaom-av1 -b:v 50k -cpu-used 8
 
+# hidden frames, in superframes
+ffmpeg $quiet -f lavfi -i "testsrc2=size=176x144:rate=30" -frames:v 40 -pix_fmt yuv420p hidden.y4m
+ffmpeg $quiet -i hidden.y4m -c:v libvpx-vp9 -b:v 40k -pass 1 -an -f null /dev/null
+video vp9_hidden hidden libvpx-vp9 -b:v 40k -pass 2 -auto-alt-ref 1 -lag-in-frames 25
+
 for duration in 2.5 5 10 20 40 60 80 100 120; do
   ffmpeg $quiet -f lavfi -i "sine=frequency=440:duration=0.3" -ac 1 -c:a libopus -b:a 24k -frame_duration "$duration" "opus_$duration.ogg" || true
 done
@@ -54,7 +59,7 @@ for file in opus*.ogg; do
   ffprobe -hide_banner -loglevel error -show_entries packet=size,duration,duration_time -of compact "$file"
 done > opus.txt
 
-# frames NAME: each frame of an IVF file as hexadecimal, one a line
+# each frame of an IVF file as hexadecimal, one a line
 for file in *.ivf; do
   python3 - "$file" <<'P' > "${file%.ivf}.hex"
 import struct, sys
@@ -66,7 +71,7 @@ while place < len(data):
     place += 12 + size
 P
 done
-# packets NAME: each packet of an Ogg file as hexadecimal, one a line
+# each packet of an Ogg file as hexadecimal, one a line
 for file in *.ogg; do
   python3 - "$file" <<'P' > "${file%.ogg}.hex"
 import sys
