@@ -1,4 +1,5 @@
 pub mod AmrWbFrames
+pub mod Av1SequenceHeaders
 pub mod FrameInfo
 pub mod Items
 pub mod OpusPackets

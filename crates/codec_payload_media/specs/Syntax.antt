@@ -1,4 +1,5 @@
--- Syntax tables, as the standards write them: fields of so many bits, highest first, and what follows from their values.
+-- Syntax tables, as the standards write them: fields of so many bits, highest first, bits of any value that are passed over,
+-- and what follows from the values of fields.
 use Rattle.std.specs.Prelude.{◌≡◌, ℕ, ◌^◌, ◌<◌, ◌==◌, nat_lt, Bool, true, false, List, ◌++◌, length, take, drop, if◌then◌else◌, Result, Ok, Err}
 use Rattle.codec_payload_base.specs.Bits.{bits, number_of}
 use Rattle.codec_payload_media.specs.declared.error.MediaError.{MediaError}
@@ -9,6 +10,7 @@ pub data Syntax : Type 0 → Type 1 where
   tells : {A : Type 0} → A → Syntax A
   refuses : {A : Type 0} → MediaError → Syntax A
   field : ℕ → Syntax ℕ
+  skips : ℕ → Syntax ℕ
   branch : {A : Type 0} → Bool → Syntax A → Syntax A → Syntax A
   follows : {A B : Type 0} → Syntax A → (A → Syntax B) → Syntax B
 
@@ -26,6 +28,7 @@ abbrev pub read : {A : Type 0} → Syntax A → List ℕ → Result (A × List �
 read (tells x) bs = Ok (x, bs)
 read (refuses e) bs = Err e
 read (field n) bs = if nat_lt (length bs) n then Err errors.MissingBytes else Ok (number_of (take n bs), drop n bs)
+read (skips n) bs = if nat_lt (length bs) n then Err errors.MissingBytes else Ok (0, drop n bs)
 read (branch b s t) bs = if b then read s bs else read t bs
 read (follows s f) bs = then_read (read s bs) (λ x rest. read (f x) rest)
 
@@ -39,6 +42,7 @@ abbrev pub Spells : {A : Type 0} → Syntax A → List ℕ → A → List ℕ �
 Spells (tells x) bs y rest = (x ≡ y) × (bs ≡ rest)
 Spells (refuses e) bs y rest = ⊥
 Spells (field n) bs y rest = (y < 2 ^ n) × (bs ≡ bits n y ++ rest)
+Spells (skips n) bs y rest = (y ≡ 0) × (passed : List ℕ) × (length passed ≡ n) × (bs ≡ passed ++ rest)
 Spells (branch b s t) bs y rest = IfMet b (Spells s bs y rest) (Spells t bs y rest)
 Spells (follows {A} s f) bs y rest = (x : A) × (middle : List ℕ) × Spells s bs x middle × Spells (f x) middle y rest
 

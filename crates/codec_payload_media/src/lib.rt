@@ -2,6 +2,7 @@
 #![tactic(auto)]
 
 pub mod amr_wb;
+pub mod av1;
 pub mod error;
 mod fields;
 pub mod frame_info;
