@@ -1,4 +1,5 @@
 pub mod AmrWbLemmas
+pub mod Av1Lemmas
 pub mod ItemLemmas
 pub mod OpusLemmas
 pub mod ReadingLemmas

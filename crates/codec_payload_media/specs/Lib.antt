@@ -1,5 +1,6 @@
 pub mod AmrWbFrames
 pub mod Av1SequenceHeaders
+pub mod Av1Units
 pub mod FrameInfo
 pub mod Items
 pub mod OpusPackets

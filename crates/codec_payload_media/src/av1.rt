@@ -1,3 +1,4 @@
 //! AV1 (AV1 bitstream and decoding process specification, sections 5.3 to 5.5).
 
+pub mod obu;
 pub mod sequence_header;

@@ -350,6 +350,7 @@ impl Vp9FrameHeader {
         ensures { paired result (left reader.new) ≡ read (shown_again profile) (left reader.old) }
     {
         let index = read_field(reader, 3)?;
+        // A frame that is shown again is no keyframe of its own.
         Ok(Vp9FrameHeader {
             profile,
             existing: Some(index),

@@ -4,6 +4,8 @@
 use crate::tables::{assert_same, filled};
 use codec_payload_base::wire::Codec;
 use codec_payload_media::amr_wb::{AmrWbFrames, amr_wb_ticks};
+use codec_payload_media::av1::obu::Av1Obus;
+use codec_payload_media::av1::sequence_header::Av1SequenceHeader;
 use codec_payload_media::error::MediaError;
 use codec_payload_media::frame_info::{FrameInfo, PictureSize, frame_info};
 use codec_payload_media::opus::{OpusBandwidth, OpusHead, OpusMode, OpusPacket};
@@ -541,6 +543,90 @@ fn amr_wb_units(rt: HostRuntime) -> Result<(), Fail> {
     assert_eq!(rt; amr_wb_ticks(&[0x70, 0x50]), Err(MediaError::ReservedValue));
     assert_eq!(rt; amr_wb_ticks(&[0x70, 0x4c, 1, 2, 3, 4]), Err(MediaError::MissingBytes));
     assert_eq!(rt; AmrWbFrames::new(&[0x50, 0x70]).count(), 1);
+    Ok(())
+}
+
+/// A sequence header OBU's payload, and what is told of it: the profile, the bit depth, the subsampling in both directions, and the
+/// largest width and height.
+struct Av1Row {
+    name: &'static str,
+    payload: &'static [u8],
+    found: Result<(u8, u8, bool, bool, u32, u32), MediaError>,
+}
+
+static AV1: [Av1Row; 6] = [
+    Av1Row {
+        name: "av1-64x48",
+        payload: &[0x00, 0x00, 0x00, 0x02, 0xaf, 0xf7, 0x9b, 0x5f, 0x20, 0x08],
+        found: Ok((0, 8, true, true, 64, 48)),
+    },
+    Av1Row {
+        name: "av1-175x143",
+        payload: &[
+            0x00, 0x00, 0x00, 0x03, 0xbd, 0x74, 0x71, 0xb5, 0xf2, 0x00, 0x80,
+        ],
+        found: Ok((0, 8, true, true, 175, 143)),
+    },
+    Av1Row {
+        name: "av1-profile-1-444",
+        payload: &[0x20, 0x00, 0x00, 0x02, 0xaf, 0xff, 0x9b, 0x5f, 0x20, 0x40],
+        found: Ok((1, 8, false, false, 64, 64)),
+    },
+    Av1Row {
+        name: "av1-10-bits",
+        payload: &[0x00, 0x00, 0x00, 0x02, 0xaf, 0xff, 0x9b, 0x5f, 0x28, 0x08],
+        found: Ok((0, 10, true, true, 64, 64)),
+    },
+    Av1Row {
+        name: "av1-profile-3-fault",
+        payload: &[0x60],
+        found: Err(MediaError::ReservedValue),
+    },
+    Av1Row {
+        name: "av1-cut-fault",
+        payload: &[0x00, 0x00, 0x00, 0x02, 0xaf, 0xf7, 0x9b, 0x5f, 0x20],
+        found: Err(MediaError::MissingBytes),
+    },
+];
+
+fn assert_av1(rt: &impl Abort, row: &Av1Row) {
+    let found = match Av1SequenceHeader::parse(row.payload) {
+        Ok(h) => Ok((
+            h.profile,
+            h.color.bit_depth,
+            h.color.subsampling_x,
+            h.color.subsampling_y,
+            h.max_width,
+            h.max_height,
+        )),
+        Err(fault) => Err(fault),
+    };
+    assert_same(rt, row.name, &found, &row.found);
+}
+
+#[test]
+fn av1_sequence_headers(rt: HostRuntime) {
+    for row in AV1.iter() {
+        assert_av1(&rt, row);
+    }
+}
+
+/// The first unit of libaom's encoder: a temporal delimiter, a sequence header, and a frame of 826 bytes.
+#[test]
+fn av1_obus(rt: HostRuntime) -> Result<(), Fail> {
+    let front = [
+        0x12, 0x00, 0x0a, 0x0a, 0x00, 0x00, 0x00, 0x02, 0xaf, 0xf7, 0x9b, 0x5f, 0x20, 0x08, 0x32,
+        0xba, 0x06,
+    ];
+    let unit = filled(rt.alloc(), &front, 0x14, 826, &[])?;
+    let mut found = Vec::new(rt.alloc());
+    for obu in Av1Obus::new(&unit) {
+        let obu = obu.ok().ok_or("an OBU")?;
+        found.push((obu.obu_type, obu.payload.len()))?;
+    }
+    assert_eq!(rt; found[..], [(2, 0), (1, 10), (6, 826)][..]);
+    let cut = Av1Obus::new(&unit[..842]).last();
+    assert_eq!(rt; cut, Some(Err(MediaError::SizesDoNotFit)));
     Ok(())
 }
 
