@@ -1,7 +1,6 @@
 -- Frames of AMR-WB have a byte or more.
-use Rattle.std.proofs.Common.{◌≡◌, ℕ, ◌/◌, ◌%◌, ◌<◌, ◌≤◌, List, [], ◌∷◌, length, take, drop, ltb, eqb, Option, Some, None, Result, Ok, Err, refl, sym, subst, arith}
+use Rattle.std.proofs.Common.{◌≡◌, ℕ, ◌/◌, ◌%◌, ◌<◌, ◌≤◌, List, [], ◌∷◌, length, take, drop, ltb, eqb, Option, Some, None, Ok, subst, arith}
 use Rattle.std.proofs.lemmas.List.{length-drop}
-use Rattle.codec_payload_media.specs.declared.error.MediaError.{MediaError}
 use Rattle.codec_payload_media.specs.declared.error.MediaError.TheVariants as errors
 use Rattle.codec_payload_media.specs.AmrWbFrames.{Frame, frame_at, speech_length, with_speech}
 use Rattle.codec_payload_media.proofs.ReadingLemmas.{guard_ok, ok_is}

@@ -1,5 +1,5 @@
 -- The sizes of an index, one after another.
-use Rattle.std.proofs.Common.{◌≡◌, ℕ, zero, suc, ◌+◌, ◌-◌, ◌<◌, ◌≤◌, List, drop, refl, ap, ◌∙◌, arith}
+use Rattle.std.proofs.Common.{◌≡◌, ℕ, suc, ◌+◌, ◌-◌, ◌<◌, ◌≤◌, List, drop, refl, ap, ◌∙◌, arith}
 use Rattle.codec_payload_media.specs.Vp9Superframes.{next_size, size_sum}
 
 pub sum_step : (n i width sum size : ℕ) (sizes rest : List ℕ) → i < n → size ≡ next_size width sizes → rest ≡ drop width sizes → sum + size_sum (n - i) width sizes ≡ (sum + size) + size_sum (n - (i + 1)) width rest

@@ -1,18 +1,17 @@
 -- Syntax tables: what is spelled is read, and what is read is spelled.
-use Rattle.std.proofs.Common.{◌≡◌, ℕ, zero, suc, ◌+◌, ◌-◌, ◌*◌, ◌/◌, ◌%◌, ◌^◌, ◌<◌, ◌≤◌, List, [], ◌∷◌, ◌++◌, length, take, drop, Bool, true, false, cond, ltb, Option, Some, None, Result, Ok, Err, refl, sym, ap, ◌∙◌, subst, arith, append_assoc, length-append}
+use Rattle.std.proofs.Common.{◌≡◌, ℕ, zero, suc, ◌+◌, ◌-◌, ◌*◌, ◌%◌, ◌^◌, ◌<◌, ◌≤◌, List, [], ◌∷◌, ◌++◌, length, take, drop, true, false, ltb, Some, None, Result, Ok, Err, refl, sym, ap, ◌∙◌, subst, arith, append_assoc, length-append}
 use Rattle.std.specs.Prelude.{IfOk}
 use Rattle.std.specs.List.{AllByRecursion}
 use Rattle.std.proofs.lemmas.Bool.{le-ltb, lt-ltb, ltb-false}
 use Rattle.std.proofs.lemmas.Nat.{pow_pos, pow-add}
 use Rattle.std.proofs.lemmas.List.{take_at, drop_at, take-append-drop, length-take-le, drop-drop}
 use Rattle.std.proofs.Math.Nat.{mod-eq_of_lt, mod-lt}
-use Rattle.std.proofs.Math.Numerals.{one-add}
 use Rattle.codec_payload_base.specs.Bits.{Reader, bits, bits_of, number_of, left, moved, ReadsBits}
 use Rattle.codec_payload_base.proofs.BitLemmas.{length-bits, bits-cat}
 use Rattle.codec_payload_base.proofs.BytesLemmas.{number_of-bits}
 use Rattle.codec_payload_media.specs.declared.error.MediaError.{MediaError}
 use Rattle.codec_payload_media.specs.declared.error.MediaError.TheVariants as errors
-use Rattle.codec_payload_media.specs.Syntax.{Syntax, tells, refuses, field, skips, branch, follows, IfMet, then_read, read, Spells, IsSpelled, paired, without_rest, told_by}
+use Rattle.codec_payload_media.specs.Syntax.{Syntax, tells, refuses, field, skips, branch, follows, then_read, read, Spells, IsSpelled, paired, without_rest, told_by}
 use Rattle.codec_payload_media.proofs.ReadingLemmas.{guard_ok, ok_is}
 
 -- ---- fields

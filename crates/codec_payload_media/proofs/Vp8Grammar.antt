@@ -1,5 +1,5 @@
 -- Headers of VP8 frames: what is spelled so is read, and what is read is spelled so.
-use Rattle.std.proofs.Common.{◌≡◌, ℕ, zero, suc, ◌+◌, ◌-◌, ◌*◌, ◌/◌, ◌%◌, ◌<◌, ◌≤◌, List, [], ◌∷◌, ◌++◌, length, Bool, true, false, cond, ltb, eqb, Option, Some, None, Result, Ok, Err, refl, sym, ap, ◌∙◌, subst, arith, ◌&&◌}
+use Rattle.std.proofs.Common.{◌≡◌, ℕ, zero, suc, ◌+◌, ◌*◌, ◌/◌, ◌%◌, ◌<◌, ◌≤◌, List, [], ◌∷◌, ◌++◌, length, Bool, true, false, ltb, eqb, Option, Some, None, Result, Ok, Err, refl, sym, ap, ◌∙◌, subst, arith, ◌&&◌}
 use Rattle.std.specs.Prelude.{is_some, IfSome, IfOk}
 use Rattle.std.specs.Int.{w16, from_le_bytes, to_le_bytes}
 use Rattle.std.proofs.lemmas.Bool.{and_parts, eqb-true, ltb-false, le-ltb, eq-eqb, ne_eqb}
@@ -10,7 +10,7 @@ use Rattle.codec_payload_media.specs.declared.error.MediaError.TheVariants as er
 use Rattle.codec_payload_media.specs.declared.vp8.Vp8FrameHeader.{Vp8FrameHeader}
 use Rattle.codec_payload_media.specs.declared.vp8.Vp8Keyframe.{Vp8Keyframe}
 use Rattle.codec_payload_media.specs.Reading.{◌>>=◌}
-use Rattle.codec_payload_media.specs.Vp8Frames.{bit_if, bit_unless, tag_of, three_bytes, side_bytes, keyframe_bytes, header_bytes, FitsKeyframe, IsVp8Frame, keyframe_of, is_start_code, keyframe_at, behind_tag, with_partition, with_tag, vp8_frame_at}
+use Rattle.codec_payload_media.specs.Vp8Frames.{bit_if, bit_unless, tag_of, three_bytes, side_bytes, keyframe_bytes, FitsKeyframe, IsVp8Frame, keyframe_of, is_start_code, keyframe_at, behind_tag, with_partition, with_tag, vp8_frame_at}
 use Rattle.codec_payload_media.proofs.ReadingLemmas.{bind_ok, guard_ok, then_true, ok_is, drop_bytes, take_bytes}
 
 -- ---- the bits of a tag

@@ -1,5 +1,5 @@
 -- What a frame of any format says.
-use Rattle.std.specs.Prelude.{ℕ, ◌*◌, Bool, true, false, List, length, Option, Some, None, is_some, option_map, Result, Ok, Err}
+use Rattle.std.specs.Prelude.{ℕ, ◌*◌, List, length, Some, None, is_some, option_map, Result, Ok}
 use Rattle.codec_payload_base.specs.declared.wire.Codec.{Codec}
 use Rattle.codec_payload_base.specs.declared.wire.Codec.TheVariants as codecs
 use Rattle.codec_payload_media.specs.declared.error.MediaError.{MediaError}

@@ -1,12 +1,10 @@
 -- The uncompressed header of VP9 frames, as the tables of the bitstream specification have it (sections 6.2 and 7.2).
-use Rattle.std.specs.Prelude.{ℕ, suc, ◌+◌, ◌*◌, ◌==◌, ◌&&◌, ◌||◌, not, nat_le, Bool, true, false, List, if◌then◌else◌, Option, Some, None, Result}
-use Rattle.codec_payload_base.specs.Bits.{bits_of}
-use Rattle.codec_payload_media.specs.declared.error.MediaError.{MediaError}
+use Rattle.std.specs.Prelude.{ℕ, ◌+◌, ◌*◌, ◌==◌, ◌&&◌, ◌||◌, not, nat_le, Bool, true, false, if◌then◌else◌, Option, Some, None}
 use Rattle.codec_payload_media.specs.declared.error.MediaError.TheVariants as errors
 use Rattle.codec_payload_media.specs.declared.vp9.Vp9Color.{Vp9Color}
 use Rattle.codec_payload_media.specs.declared.vp9.Vp9Picture.{Vp9Picture}
 use Rattle.codec_payload_media.specs.declared.vp9.Vp9FrameHeader.{Vp9FrameHeader}
-use Rattle.codec_payload_media.specs.Syntax.{Syntax, tells, refuses, field, branch, follows, ◌>>=◌, expects, flag}
+use Rattle.codec_payload_media.specs.Syntax.{Syntax, tells, refuses, field, branch, ◌>>=◌, expects, flag}
 
 -- frame_sync_code
 abbrev pub sync_code : Syntax ℕ

@@ -1,6 +1,6 @@
 -- Superframes of VP9 (bitstream specification, Annex B): frames one after another, and an index at the end. The index is a
 -- byte 110 SS CCC, the sizes of CCC + 1 frames in SS + 1 bytes each, low byte first, and the first byte again.
-use Rattle.std.specs.Prelude.{◌≡◌, ℕ, zero, suc, ◌+◌, ◌-◌, ◌*◌, ◌/◌, ◌%◌, ◌==◌, ◌&&◌, nat_le, nat_lt, Bool, true, false, List, [], ◌∷◌, ◌++◌, length, take, drop, get_or, if◌then◌else◌, Option, Some, None, Result, Ok, Err}
+use Rattle.std.specs.Prelude.{ℕ, zero, suc, ◌+◌, ◌-◌, ◌*◌, ◌/◌, ◌%◌, ◌==◌, ◌&&◌, nat_le, nat_lt, Bool, List, [], ◌∷◌, length, take, drop, get_or, if◌then◌else◌, Option, Some, None, Result, Ok, Err}
 use Rattle.codec_payload_media.specs.declared.error.MediaError.{MediaError}
 use Rattle.codec_payload_media.specs.declared.error.MediaError.TheVariants as errors
 

@@ -7,11 +7,10 @@ ghost use Rattle.codec_payload_media.specs.Vp9Frames.{bit_depth, coded_frame, co
 
 mod superframe;
 
-pub use superframe::Vp9Frames;
-
 use crate::error::MediaError;
 use crate::fields::{expect_field, read_field, read_flag, read_u16};
 use codec_payload_base::bits::BitReader;
+pub use superframe::Vp9Frames;
 
 /// How the colors of a picture are told.
 #[derive(Clone, Copy, Debug, PartialEq, Eq)]
@@ -87,11 +86,7 @@ fn is_odd(profile: u8) -> bool
 }
 
 /// The color of RGB.
-fn read_rgb(
-    reader: &mut BitReader<'_>,
-    profile: u8,
-    bit_depth: u8,
-) -> Result<Vp9Color, MediaError>
+fn read_rgb(reader: &mut BitReader<'_>, profile: u8, bit_depth: u8) -> Result<Vp9Color, MediaError>
     ensures { paired result (left reader.new) ≡ read (rgb_color profile bit_depth) (left reader.old) }
 {
     if !is_odd(profile) {
@@ -207,10 +202,7 @@ fn read_picture(reader: &mut BitReader<'_>, color: Vp9Color) -> Result<Vp9Pictur
 }
 
 /// The picture of a keyframe.
-fn read_keyframe_picture(
-    reader: &mut BitReader<'_>,
-    profile: u8,
-) -> Result<Vp9Picture, MediaError>
+fn read_keyframe_picture(reader: &mut BitReader<'_>, profile: u8) -> Result<Vp9Picture, MediaError>
     ensures { paired result (left reader.new) ≡ read (keyframe_picture profile) (left reader.old) }
 {
     read_sync_code(reader)?;
@@ -273,11 +265,7 @@ fn read_intra_flag(reader: &mut BitReader<'_>, shown: bool) -> Result<bool, Medi
 fn read_reset_if(reader: &mut BitReader<'_>, there: bool) -> Result<u8, MediaError>
     ensures { paired result (left reader.new) ≡ read (reset_if there) (left reader.old) }
 {
-    if there {
-        read_field(reader, 2)
-    } else {
-        Ok(0)
-    }
+    if there { read_field(reader, 2) } else { Ok(0) }
 }
 
 impl Vp9FrameHeader {
@@ -326,10 +314,7 @@ impl Vp9FrameHeader {
     }
 
     /// A frame that is coded.
-    fn read_coded(
-        reader: &mut BitReader<'_>,
-        profile: u8,
-    ) -> Result<Vp9FrameHeader, MediaError>
+    fn read_coded(reader: &mut BitReader<'_>, profile: u8) -> Result<Vp9FrameHeader, MediaError>
         ensures { paired result (left reader.new) ≡ read (coded_frame profile) (left reader.old) }
     {
         let inter = read_flag(reader)?;
@@ -343,10 +328,7 @@ impl Vp9FrameHeader {
     }
 
     /// A frame that is shown again.
-    fn read_existing(
-        reader: &mut BitReader<'_>,
-        profile: u8,
-    ) -> Result<Vp9FrameHeader, MediaError>
+    fn read_existing(reader: &mut BitReader<'_>, profile: u8) -> Result<Vp9FrameHeader, MediaError>
         ensures { paired result (left reader.new) ≡ read (shown_again profile) (left reader.old) }
     {
         let index = read_field(reader, 3)?;

@@ -50,10 +50,7 @@ fn number_front(more: u32, bytes: &[u8]) -> Option<(u64, &[u8])>
 }
 
 /// The extension byte, if there is one, and what is behind it.
-fn read_extension(
-    there: bool,
-    bytes: &[u8],
-) -> Result<(Option<Av1Extension>, &[u8]), MediaError>
+fn read_extension(there: bool, bytes: &[u8]) -> Result<(Option<Av1Extension>, &[u8]), MediaError>
     ensures { told (λ x. (x.0, x.1.now)) result ≡ extension_at there bytes.now }
 {
     if !there {

@@ -101,11 +101,7 @@ fn skip_if(reader: &mut BitReader<'_>, there: bool, bits: usize) -> Result<u8, M
 fn read_flag_if(reader: &mut BitReader<'_>, there: bool) -> Result<bool, MediaError>
     ensures { paired result (left reader.new) ≡ read (branch there flag (tells false)) (left reader.old) }
 {
-    if there {
-        read_flag(reader)
-    } else {
-        Ok(false)
-    }
+    if there { read_flag(reader) } else { Ok(false) }
 }
 
 /// The decoder model, of which the length of delays is told.
@@ -224,9 +220,7 @@ fn skip_operating_points(
 }
 
 /// The first operating point, and how many there are.
-fn read_operating_points(
-    reader: &mut BitReader<'_>,
-) -> Result<(Av1OperatingPoint, u8), MediaError>
+fn read_operating_points(reader: &mut BitReader<'_>) -> Result<(Av1OperatingPoint, u8), MediaError>
     ensures { paired result (left reader.new) ≡ read all_points (left reader.old) }
 {
     let there = read_flag(reader)?;
@@ -239,9 +233,7 @@ fn read_operating_points(
 }
 
 /// The one operating point of a short header.
-fn read_reduced_point(
-    reader: &mut BitReader<'_>,
-) -> Result<(Av1OperatingPoint, u8), MediaError>
+fn read_reduced_point(reader: &mut BitReader<'_>) -> Result<(Av1OperatingPoint, u8), MediaError>
     ensures { paired result (left reader.new) ≡ read reduced_point (left reader.old) }
 {
     let level = read_field(reader, 5)?;
@@ -371,11 +363,7 @@ fn read_subsampling(
 fn read_position_if(reader: &mut BitReader<'_>, there: bool) -> Result<u8, MediaError>
     ensures { paired result (left reader.new) ≡ read (branch there (field 2) (tells 0)) (left reader.old) }
 {
-    if there {
-        read_field(reader, 2)
-    } else {
-        Ok(0)
-    }
+    if there { read_field(reader, 2) } else { Ok(0) }
 }
 
 /// The color of gray pictures.

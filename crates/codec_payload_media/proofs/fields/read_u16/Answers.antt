@@ -1,5 +1,4 @@
 use Rattle.std.proofs.Common.{sym}
-use Rattle.codec_payload_base.specs.Bits.{left}
 use Rattle.codec_payload_media.proofs.SyntaxLemmas.{reads_field}
 use Rattle.codec_payload_media.proofs.fields.read_u16.Goals as goal
 

@@ -1,4 +1,4 @@
-use Rattle.std.proofs.Common.{◌-◌, sym, ◌∙◌, arith}
+use Rattle.std.proofs.Common.{sym, ◌∙◌, arith}
 use Rattle.codec_payload_media.proofs.OpusLemmas.{lengths_step}
 use Rattle.codec_payload_media.proofs.opus.read_lengths.Goals as goal
 
