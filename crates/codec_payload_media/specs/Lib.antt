@@ -1,4 +1,5 @@
 pub mod AmrWbFrames
+pub mod Av1Records
 pub mod Av1SequenceHeaders
 pub mod Av1Units
 pub mod FrameInfo

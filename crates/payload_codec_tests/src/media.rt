@@ -4,6 +4,7 @@
 use crate::tables::{assert_same, filled};
 use codec_payload_base::wire::Codec;
 use codec_payload_media::amr_wb::{AmrWbFrames, amr_wb_ticks};
+use codec_payload_media::av1::av1c::write_av1c;
 use codec_payload_media::av1::obu::Av1Obus;
 use codec_payload_media::av1::sequence_header::Av1SequenceHeader;
 use codec_payload_media::error::MediaError;
@@ -627,6 +628,20 @@ fn av1_obus(rt: HostRuntime) -> Result<(), Fail> {
     assert_eq!(rt; found[..], [(2, 0), (1, 10), (6, 826)][..]);
     let cut = Av1Obus::new(&unit[..842]).last();
     assert_eq!(rt; cut, Some(Err(MediaError::SizesDoNotFit)));
+    Ok(())
+}
+
+/// The record that ffmpeg writes into a file of the 10-bit stream.
+#[test]
+fn av1c_record(rt: HostRuntime) -> Result<(), Fail> {
+    let obu = [
+        0x0a, 0x0a, 0x00, 0x00, 0x00, 0x02, 0xaf, 0xff, 0x9b, 0x5f, 0x28, 0x08,
+    ];
+    let header = Av1SequenceHeader::parse(&obu[2..]).ok().ok_or("a header")?;
+    let mut record = Vec::new(rt.alloc());
+    write_av1c(&header, &obu, &mut record)?;
+    assert_eq!(rt; record[..4], [0x81, 0x00, 0x4c, 0x00][..]);
+    assert_eq!(rt; record[4..], obu[..]);
     Ok(())
 }
 
