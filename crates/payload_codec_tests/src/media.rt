@@ -304,7 +304,12 @@ fn vp9_each_byte_alone(rt: HostRuntime) {
             Err(_) => {}
         }
     }
-    assert_same(&rt, "vp9-each-byte", &(read, wrong, reserved), &(27, 192, 8));
+    assert_same(
+        &rt,
+        "vp9-each-byte",
+        &(read, wrong, reserved),
+        &(27, 192, 8),
+    );
 }
 
 /// How long the frames of a unit are.
@@ -532,7 +537,13 @@ fn opus_head(rt: HostRuntime) {
 /// A frame of mode 0, one that is lost, comfort noise, and one without data; then a reserved type.
 #[test]
 fn amr_wb_units(rt: HostRuntime) -> Result<(), Fail> {
-    let unit = filled(rt.alloc(), &[0x04], 0x55, 17, &[0x70, 0x4c, 1, 2, 3, 4, 5, 0x7c])?;
+    let unit = filled(
+        rt.alloc(),
+        &[0x04],
+        0x55,
+        17,
+        &[0x70, 0x4c, 1, 2, 3, 4, 5, 0x7c],
+    )?;
     let mut found = Vec::new(rt.alloc());
     for frame in AmrWbFrames::new(&unit) {
         let frame = frame.ok().ok_or("a frame")?;
@@ -542,7 +553,10 @@ fn amr_wb_units(rt: HostRuntime) -> Result<(), Fail> {
     assert_eq!(rt; found[..], wanted[..]);
     assert_eq!(rt; amr_wb_ticks(&unit), Ok(1280));
     assert_eq!(rt; amr_wb_ticks(&[0x70, 0x50]), Err(MediaError::ReservedValue));
-    assert_eq!(rt; amr_wb_ticks(&[0x70, 0x4c, 1, 2, 3, 4]), Err(MediaError::MissingBytes));
+    assert_eq!(rt;
+        amr_wb_ticks(&[0x70, 0x4c, 1, 2, 3, 4]),
+        Err(MediaError::MissingBytes)
+    );
     assert_eq!(rt; AmrWbFrames::new(&[0x50, 0x70]).count(), 1);
     Ok(())
 }
