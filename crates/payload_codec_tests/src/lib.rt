@@ -8,6 +8,8 @@ mod av1;
 #[cfg(test)]
 mod base;
 #[cfg(test)]
+mod media;
+#[cfg(test)]
 mod red;
 #[cfg(test)]
 mod tables;

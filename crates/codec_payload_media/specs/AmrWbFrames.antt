@@ -1,0 +1,52 @@
+-- Frames of AMR-WB in their storage form (RFC 4867, section 5.3): a bit of any value, the type (4 bits), the quality (1), two
+-- bits of any value, then the speech, in whole bytes.
+use Rattle.std.specs.Prelude.{ℕ, ◌*◌, ◌/◌, ◌%◌, ◌==◌, nat_lt, min, Bool, List, [], ◌∷◌, length, take, drop, slice_index_or, if◌then◌else◌, Option, Some, None, Result, Ok, Err}
+use Rattle.codec_payload_media.specs.declared.error.MediaError.{MediaError}
+use Rattle.codec_payload_media.specs.declared.error.MediaError.TheVariants as errors
+use Rattle.codec_payload_media.specs.declared.amr_wb.AmrWbFrame.{AmrWbFrame as LentFrame}
+use Rattle.codec_payload_media.specs.Reading.{told}
+use Rattle.codec_payload_media.specs.Items.{items_at, count_of}
+
+pub record Frame : Type 0 where
+  pub frame_type : ℕ
+  pub quality : Bool
+  pub speech : List ℕ
+
+abbrev pub frame_of : LentFrame → Frame
+frame_of f = record { frame_type = f.frame_type; quality = f.quality; speech = f.speech.now }
+
+-- how many bytes of speech each type has (3GPP TS 26.201, table 1a); None for a reserved one
+abbrev pub speech_lengths : List (Option ℕ)
+speech_lengths =
+    Some 17 ∷ Some 23 ∷ Some 32 ∷ Some 36 ∷ Some 40 ∷ Some 46 ∷ Some 50 ∷ Some 58 ∷ Some 60 ∷ Some 5 ∷ None ∷ None ∷ None ∷ None ∷ Some 0 ∷ Some 0 ∷ []
+
+abbrev pub speech_length : ℕ → Option ℕ
+speech_length kind = slice_index_or speech_lengths kind None
+
+-- the frame of that first byte, with so much speech
+abbrev pub with_speech : ℕ → Option ℕ → List ℕ → Result (Frame × List ℕ) MediaError
+with_speech byte None bytes = Err errors.ReservedValue
+with_speech byte (Some n) bytes =
+    if nat_lt (length bytes) n then Err errors.MissingBytes
+    else Ok (record { frame_type = byte / 8 % 16; quality = byte / 4 % 2 == 1; speech = take n bytes }, drop n bytes)
+
+abbrev pub frame_at : List ℕ → Result (Frame × List ℕ) MediaError
+frame_at [] = Err errors.MissingBytes
+frame_at (byte ∷ rest) = with_speech byte (speech_length (byte / 8 % 16)) rest
+
+-- what an iteration yields
+pub record Left : Type 0 where
+  pub bytes : List ℕ
+
+abbrev pub told_frame : Result LentFrame MediaError → Result Frame MediaError
+told_frame r = told frame_of r
+
+abbrev pub frames_left : Left → List (Result Frame MediaError)
+frames_left s = items_at frame_at s.bytes
+
+-- 20 ms of each frame, in ticks of 16 kHz
+abbrev pub ticks_of_frames : ℕ → ℕ
+ticks_of_frames n = min (320 * n) 18446744073709551615
+
+abbrev pub unit_ticks : List ℕ → Result ℕ MediaError
+unit_ticks bytes = told ticks_of_frames (count_of (items_at frame_at bytes))

@@ -1,0 +1,47 @@
+-- OBUs of a temporal unit (AV1 bitstream specification, sections 5.2 to 5.4): a forbidden bit, the type (4 bits), whether there
+-- is an extension (1) and a size (1), a bit of any value; the extension of 3 bits temporal and 2 spatial layer and 3 of any value;
+-- the size in LEB128 of at most eight bytes; the payload.
+use Rattle.std.specs.Prelude.{ℕ, ◌/◌, ◌%◌, ◌==◌, ◌||◌, nat_lt, Bool, true, false, List, [], ◌∷◌, length, take, drop, if◌then◌else◌, Option, Some, None, Result, Ok, Err}
+use Rattle.codec_payload_base.specs.Leb.{leb_low}
+use Rattle.codec_payload_media.specs.declared.error.MediaError.{MediaError}
+use Rattle.codec_payload_media.specs.declared.error.MediaError.TheVariants as errors
+use Rattle.codec_payload_media.specs.declared.av1.obu.Av1Extension.{Av1Extension}
+use Rattle.codec_payload_media.specs.declared.av1.obu.Av1Obu.{Av1Obu as LentObu}
+use Rattle.codec_payload_media.specs.Reading.{◌>>=◌, told}
+use Rattle.codec_payload_media.specs.Items.{items_at}
+
+pub record Obu : Type 0 where
+  pub obu_type : ℕ
+  pub extension : Option Av1Extension
+  pub payload : List ℕ
+
+abbrev pub obu_of : LentObu → Obu
+obu_of o = record { obu_type = o.obu_type; extension = o.extension; payload = o.payload.now }
+
+abbrev pub extension_at : Bool → List ℕ → Result (Option Av1Extension × List ℕ) MediaError
+extension_at false bytes = Ok (None, bytes)
+extension_at true [] = Err errors.MissingBytes
+extension_at true (byte ∷ rest) = Ok (Some (record { temporal_id = byte / 32; spatial_id = byte / 8 % 4 }), rest)
+
+-- the OBU whose size was read
+abbrev pub sized : ℕ → Option Av1Extension → Option (ℕ × List ℕ) → Result (Obu × List ℕ) MediaError
+sized obu_type extension None = Err errors.MissingBytes
+sized obu_type extension (Some size) =
+    if nat_lt (length size.1) size.0 then Err errors.SizesDoNotFit
+    else Ok (record { obu_type = obu_type; extension = extension; payload = take size.0 size.1 }, drop size.0 size.1)
+
+abbrev pub obu_at : List ℕ → Result (Obu × List ℕ) MediaError
+obu_at [] = Err errors.MissingBytes
+obu_at (header ∷ rest) =
+    if (header / 128 == 1) || (header / 2 % 2 == 0) then Err errors.ReservedValue
+    else (extension_at (header / 4 % 2 == 1) rest >>= λ extension. sized (header / 8 % 16) extension.0 (leb_low 7 extension.1))
+
+-- what an iteration yields
+pub record Left : Type 0 where
+  pub bytes : List ℕ
+
+abbrev pub told_obu : Result LentObu MediaError → Result Obu MediaError
+told_obu r = told obu_of r
+
+abbrev pub obus_left : Left → List (Result Obu MediaError)
+obus_left s = items_at obu_at s.bytes

@@ -1,0 +1,52 @@
+-- What a frame of any format says.
+use Rattle.std.specs.Prelude.{ℕ, ◌*◌, List, length, Some, None, is_some, option_map, Result, Ok}
+use Rattle.codec_payload_base.specs.declared.wire.Codec.{Codec}
+use Rattle.codec_payload_base.specs.declared.wire.Codec.TheVariants as codecs
+use Rattle.codec_payload_media.specs.declared.error.MediaError.{MediaError}
+use Rattle.codec_payload_media.specs.declared.frame_info.FrameInfo.{FrameInfo}
+use Rattle.codec_payload_media.specs.declared.frame_info.PictureSize.{PictureSize}
+use Rattle.codec_payload_media.specs.declared.opus.OpusPacket.{OpusPacket}
+use Rattle.codec_payload_media.specs.declared.vp8.Vp8FrameHeader.{Vp8FrameHeader}
+use Rattle.codec_payload_media.specs.declared.vp8.Vp8Keyframe.{Vp8Keyframe}
+use Rattle.codec_payload_media.specs.declared.vp9.Vp9FrameHeader.{Vp9FrameHeader}
+use Rattle.codec_payload_media.specs.declared.vp9.Vp9Picture.{Vp9Picture}
+use Rattle.codec_payload_base.specs.Bits.{bits_of}
+use Rattle.codec_payload_media.specs.Reading.{told}
+use Rattle.codec_payload_media.specs.Syntax.{told_by}
+use Rattle.codec_payload_media.specs.Vp9Frames.{frame_header}
+use Rattle.codec_payload_media.specs.AmrWbFrames.{unit_ticks}
+use Rattle.codec_payload_media.specs.OpusPackets.{opus_at}
+use Rattle.codec_payload_media.specs.Vp8Frames.{vp8_frame_at}
+
+-- nothing is told
+abbrev pub nothing : FrameInfo
+nothing = record { keyframe = None; size = None; duration = None }
+
+abbrev pub lasts : ℕ → FrameInfo
+lasts ticks = record { keyframe = None; size = None; duration = Some ticks }
+
+abbrev pub size_of : Vp8Keyframe → PictureSize
+size_of k = record { width = k.width; height = k.height }
+
+abbrev pub vp8_info : Vp8FrameHeader → FrameInfo
+vp8_info h = record { keyframe = Some (is_some h.keyframe); size = option_map size_of h.keyframe; duration = None }
+
+abbrev pub picture_size : Vp9Picture → PictureSize
+picture_size p = record { width = p.width; height = p.height }
+
+abbrev pub vp9_info : Vp9FrameHeader → FrameInfo
+vp9_info h = record { keyframe = Some h.keyframe; size = option_map picture_size h.picture; duration = None }
+
+abbrev pub opus_info : OpusPacket → FrameInfo
+opus_info p = lasts (p.frames * p.frame_ticks)
+
+-- what the frame of a codec says, or why it is malformed; G.711 and G.722 have a tick for each byte
+abbrev pub info_of : Codec → List ℕ → Result FrameInfo MediaError
+info_of codecs.Vp8 bytes = told vp8_info (vp8_frame_at bytes)
+info_of codecs.Vp9 bytes = told vp9_info (told_by frame_header (bits_of bytes))
+info_of codecs.Opus bytes = told opus_info (opus_at bytes)
+info_of codecs.AmrWb bytes = told lasts (unit_ticks bytes)
+info_of codecs.PCMU bytes = Ok (lasts (length bytes))
+info_of codecs.PCMA bytes = Ok (lasts (length bytes))
+info_of codecs.G722 bytes = Ok (lasts (length bytes))
+info_of codec bytes = Ok nothing

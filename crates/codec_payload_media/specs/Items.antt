@@ -1,0 +1,28 @@
+-- Items one after another, up to the first that is malformed.
+use Rattle.std.specs.Prelude.{ℕ, zero, suc, List, [], ◌∷◌, length, Result, Ok, Err}
+use Rattle.codec_payload_media.specs.declared.error.MediaError.{MediaError}
+
+-- an item, and those behind it; or the fault, behind which there is none
+abbrev pub with_others : {A : Type 0} → (List ℕ → List (Result A MediaError)) → Result (A × List ℕ) MediaError → List (Result A MediaError)
+with_others others (Ok x) = Ok x.0 ∷ others x.1
+with_others others (Err e) = Err e ∷ []
+
+-- at most n items, of which front reads the first
+unfoldable pub items_in : {A : Type 0} → (List ℕ → Result (A × List ℕ) MediaError) → ℕ → List ℕ → List (Result A MediaError)
+items_in front zero bytes = []
+items_in front (suc n) [] = []
+items_in front (suc n) (b ∷ bytes) = with_others (items_in front n) (front (b ∷ bytes))
+
+-- all of them: each has a byte or more
+abbrev pub items_at : {A : Type 0} → (List ℕ → Result (A × List ℕ) MediaError) → List ℕ → List (Result A MediaError)
+items_at front bytes = items_in front (length bytes) bytes
+
+-- how many there are, or the first fault
+abbrev pub count_then : {A : Type 0} → Result A MediaError → Result ℕ MediaError → Result ℕ MediaError
+count_then (Ok x) (Ok n) = Ok (suc n)
+count_then (Ok x) (Err e) = Err e
+count_then (Err e) more = Err e
+
+unfoldable pub count_of : {A : Type 0} → List (Result A MediaError) → Result ℕ MediaError
+count_of [] = Ok zero
+count_of (x ∷ xs) = count_then x (count_of xs)

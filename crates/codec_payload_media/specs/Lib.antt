@@ -1,0 +1,12 @@
+pub mod AmrWbFrames
+pub mod Av1Records
+pub mod Av1SequenceHeaders
+pub mod Av1Units
+pub mod FrameInfo
+pub mod Items
+pub mod OpusPackets
+pub mod Reading
+pub mod Syntax
+pub mod Vp8Frames
+pub mod Vp9Frames
+pub mod Vp9Superframes

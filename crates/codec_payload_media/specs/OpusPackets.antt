@@ -1,0 +1,133 @@
+-- Packets of Opus (RFC 6716, section 3), and the identification header (RFC 7845, section 5.1).
+use Rattle.std.specs.Prelude.{ℕ, zero, suc, ◌+◌, ◌-◌, ◌*◌, ◌/◌, ◌%◌, ◌==◌, ◌&&◌, ◌||◌, nat_lt, nat_le, min, Bool, true, false, List, [], ◌∷◌, ◌++◌, length, take, slice_index_or, if◌then◌else◌, Result, Ok, Err}
+use Rattle.std.specs.Int.{w16, w32, to_le_bytes}
+use Rattle.codec_payload_media.specs.declared.error.MediaError.{MediaError}
+use Rattle.codec_payload_media.specs.declared.error.MediaError.TheVariants as errors
+use Rattle.codec_payload_media.specs.declared.opus.OpusHead.{OpusHead}
+use Rattle.codec_payload_media.specs.declared.opus.OpusPacket.{OpusPacket}
+use Rattle.codec_payload_media.specs.declared.opus.OpusMode.{OpusMode}
+use Rattle.codec_payload_media.specs.declared.opus.OpusMode.TheVariants as modes
+use Rattle.codec_payload_media.specs.declared.opus.OpusBandwidth.{OpusBandwidth}
+use Rattle.codec_payload_media.specs.declared.opus.OpusBandwidth.TheVariants as bandwidths
+use Rattle.codec_payload_media.specs.Reading.{◌>>=◌}
+
+-- ---- the first byte: the configuration (5 bits), stereo (1), the code (2); table 2 says what a configuration is
+
+abbrev pub mode_of : ℕ → OpusMode
+mode_of config = if nat_lt config 12 then modes.Silk else if nat_lt config 16 then modes.Hybrid else modes.Celt
+
+abbrev pub bandwidth_of : ℕ → OpusBandwidth
+bandwidth_of config =
+    if nat_lt config 4 then bandwidths.Narrowband
+    else if nat_lt config 8 then bandwidths.Mediumband
+    else if nat_lt config 12 then bandwidths.Wideband
+    else if nat_lt config 14 then bandwidths.SuperWideband
+    else if nat_lt config 16 then bandwidths.Fullband
+    else if nat_lt config 20 then bandwidths.Narrowband
+    else if nat_lt config 24 then bandwidths.Wideband
+    else if nat_lt config 28 then bandwidths.SuperWideband
+    else bandwidths.Fullband
+
+-- how many samples of 48 kHz a frame has: of SILK 10, 20, 40 or 60 ms, of both 10 or 20 ms, of CELT 2.5, 5, 10 or 20 ms
+abbrev pub silk_ticks : List ℕ
+silk_ticks = 480 ∷ 960 ∷ 1920 ∷ 2880 ∷ []
+
+abbrev pub hybrid_ticks : List ℕ
+hybrid_ticks = 480 ∷ 960 ∷ []
+
+abbrev pub celt_ticks : List ℕ
+celt_ticks = 120 ∷ 240 ∷ 480 ∷ 960 ∷ []
+
+abbrev pub ticks_of : ℕ → ℕ
+ticks_of config =
+    if nat_lt config 12 then slice_index_or silk_ticks (config % 4) 0
+    else if nat_lt config 16 then slice_index_or hybrid_ticks (config % 2) 0
+    else slice_index_or celt_ticks (config % 4) 0
+
+abbrev pub packet_of : ℕ → ℕ → OpusPacket
+packet_of toc frames = record { mode = mode_of (toc / 8); bandwidth = bandwidth_of (toc / 8); channels = toc / 4 % 2 + 1; frame_ticks = ticks_of (toc / 8); frames = frames }
+
+-- ---- how packets are read
+
+-- the largest frame, in bytes
+abbrev pub most : ℕ
+most = 1275
+
+-- the longest packet, 120 ms in samples of 48 kHz
+abbrev pub longest : ℕ
+longest = 5760
+
+-- so many frames of one length, which together have that size
+abbrev pub alike : ℕ → ℕ → Result ℕ MediaError
+alike count size = if (size % count == 0) && nat_le (size / count) most then Ok count else Err errors.SizesDoNotFit
+
+abbrev pub long_length : ℕ → List ℕ → Result (ℕ × List ℕ) MediaError
+long_length low [] = Err errors.MissingBytes
+long_length low (high ∷ rest) = Ok (low + 4 * high, rest)
+
+-- the length of a frame in one byte, or from 252 on in two
+abbrev pub length_at : List ℕ → Result (ℕ × List ℕ) MediaError
+length_at [] = Err errors.MissingBytes
+length_at (low ∷ rest) = if nat_lt low 252 then Ok (low, rest) else long_length low rest
+
+-- the lengths of so many frames, which are added to a sum
+unfoldable pub lengths_at : ℕ → ℕ → List ℕ → Result (ℕ × List ℕ) MediaError
+lengths_at zero sum bytes = Ok (sum, bytes)
+lengths_at (suc n) sum bytes = do
+  first ← length_at bytes
+  lengths_at n (sum + first.0) first.1
+
+-- the frames whose lengths have that sum, and a last one
+abbrev pub with_last : ℕ → ℕ → ℕ → Result ℕ MediaError
+with_last count sum size = if nat_lt size sum || nat_lt most (size - sum) then Err errors.SizesDoNotFit else Ok count
+
+-- so many frames, with a length before them for each but the last
+abbrev pub apart : ℕ → List ℕ → Result ℕ MediaError
+apart count bytes = do
+  lengths ← lengths_at (count - 1) 0 bytes
+  with_last count lengths.0 (length lengths.1)
+
+-- Before frames with padding behind them its size is said by bytes of 255, which stand for 254 bytes each, and a last one.
+-- So many bytes from the place on are no padding, by what is said before it; what is left where all is said
+unfoldable pub unpadded : ℕ → List ℕ → Result (List ℕ) MediaError
+unpadded room [] = Err errors.MissingBytes
+unpadded room (b ∷ rest) =
+    if nat_lt room (1 + min b 254) then Err errors.SizesDoNotFit
+    else if nat_lt b 255 then Ok (take (room - (1 + min b 254)) rest)
+    else unpadded (room - (1 + min b 254)) rest
+
+abbrev pub unpadded_if : Bool → List ℕ → Result (List ℕ) MediaError
+unpadded_if false bytes = Ok bytes
+unpadded_if true bytes = unpadded (length bytes) bytes
+
+abbrev pub frames_if : Bool → ℕ → List ℕ → Result ℕ MediaError
+frames_if false count bytes = alike count (length bytes)
+frames_if true count bytes = apart count bytes
+
+-- frames behind a byte that says whether their lengths are told (1 bit), whether there is padding (1), and their number (6)
+abbrev pub counted_at : ℕ → List ℕ → Result ℕ MediaError
+counted_at ticks [] = Err errors.MissingBytes
+counted_at ticks (byte ∷ rest) =
+    if (byte % 64 == 0) || nat_lt longest (byte % 64 * ticks) then Err errors.ReservedValue
+    else (unpadded_if (byte / 64 % 2 == 1) rest >>= frames_if (byte / 128 == 1) (byte % 64))
+
+-- how many frames a packet of that code has, whose frames have so many samples
+abbrev pub frames_at : ℕ → ℕ → List ℕ → Result ℕ MediaError
+frames_at ticks code bytes =
+    if code == 0 then alike 1 (length bytes)
+    else if code == 1 then alike 2 (length bytes)
+    else if code == 2 then apart 2 bytes
+    else counted_at ticks bytes
+
+abbrev pub opus_at : List ℕ → Result OpusPacket MediaError
+opus_at [] = Err errors.MissingBytes
+opus_at (toc ∷ rest) = do
+  frames ← frames_at (ticks_of (toc / 8)) (toc % 4) rest
+  Ok (packet_of toc frames)
+
+-- ---- the identification header: "OpusHead", version 1, the channels, the samples to skip, the rate of the input, no gain,
+-- mapping family 0; numbers low byte first
+
+abbrev pub head_bytes : OpusHead → List ℕ
+head_bytes h =
+    0x4f ∷ 0x70 ∷ 0x75 ∷ 0x73 ∷ 0x48 ∷ 0x65 ∷ 0x61 ∷ 0x64 ∷ 1 ∷ h.channels ∷ (to_le_bytes w16 h.pre_skip ++ (to_le_bytes w32 h.input_sample_rate ++ (0 ∷ 0 ∷ 0 ∷ [])))

@@ -1,0 +1,20 @@
+//! Why bytes are no frame.
+
+use thiserror::Error;
+
+/// Why bytes are no frame of their format: the first fault in reading order.
+#[derive(Clone, Copy, Debug, PartialEq, Eq, Error)]
+pub enum MediaError {
+    /// The bytes end before what the format says.
+    #[error("media frame ends too early")]
+    MissingBytes,
+    /// A marker, a sync code or a start code is another than the standard's.
+    #[error("media frame has a wrong marker")]
+    WrongMarker,
+    /// A field has a value that the standard reserves or forbids.
+    #[error("media frame has a reserved value")]
+    ReservedValue,
+    /// A size in the frame does not fit to the bytes that are there, or is larger than the standard allows.
+    #[error("media frame has sizes that do not fit")]
+    SizesDoNotFit,
+}

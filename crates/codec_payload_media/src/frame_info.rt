@@ -1,0 +1,107 @@
+//! One call for the frames of all formats.
+
+ghost use Rattle.std.specs.Prelude.{◌≡◌};
+ghost use Rattle.codec_payload_media.specs.FrameInfo.{info_of, lasts, nothing, vp8_info, vp9_info};
+
+use crate::amr_wb::amr_wb_ticks;
+use crate::error::MediaError;
+use crate::opus::OpusPacket;
+use crate::vp8::Vp8FrameHeader;
+use crate::vp9::Vp9FrameHeader;
+use codec_payload_base::wire::Codec;
+
+/// The size of a picture in pixels, as it is coded.
+#[derive(Clone, Copy, Debug, PartialEq, Eq)]
+pub struct PictureSize {
+    pub width: u32,
+    pub height: u32,
+}
+
+/// What a frame says of itself; `None` for what it does not tell.
+#[derive(Clone, Copy, Debug, PartialEq, Eq)]
+pub struct FrameInfo {
+    /// Whether it is a keyframe, of video.
+    pub keyframe: Option<bool>,
+    /// The size of the picture, of video where the frame tells it.
+    pub size: Option<PictureSize>,
+    /// How long it lasts, of audio, in ticks of the RTP clock.
+    pub duration: Option<u64>,
+}
+
+impl FrameInfo {
+    /// Of a frame that tells nothing.
+    fn nothing() -> FrameInfo
+        ensures { result ≡ nothing }
+    {
+        FrameInfo {
+            keyframe: None,
+            size: None,
+            duration: None,
+        }
+    }
+
+    /// Of a frame that lasts so many ticks.
+    fn lasting(ticks: u64) -> FrameInfo
+        ensures { result ≡ lasts ticks }
+    {
+        FrameInfo {
+            keyframe: None,
+            size: None,
+            duration: Some(ticks),
+        }
+    }
+
+    /// Of a VP8 frame.
+    fn of_vp8(header: &Vp8FrameHeader) -> FrameInfo
+        ensures { result ≡ vp8_info header.now }
+    {
+        FrameInfo {
+            keyframe: Some(header.keyframe.is_some()),
+            size: match header.keyframe {
+                None => None,
+                Some(keyframe) => Some(PictureSize {
+                    width: u32::from(keyframe.width),
+                    height: u32::from(keyframe.height),
+                }),
+            },
+            duration: None,
+        }
+    }
+
+    /// Of a VP9 frame.
+    fn of_vp9(header: &Vp9FrameHeader) -> FrameInfo
+        ensures { result ≡ vp9_info header.now }
+    {
+        FrameInfo {
+            keyframe: Some(header.keyframe),
+            size: match header.picture {
+                None => None,
+                Some(picture) => Some(PictureSize {
+                    width: picture.width,
+                    height: picture.height,
+                }),
+            },
+            duration: None,
+        }
+    }
+}
+
+/// What a frame of a codec says: of VP8 and VP9 whether it is a keyframe, and the size where it is told, of a VP9
+/// superframe what its first frame says; of Opus, AMR-WB (in storage form),
+/// G.711 and G.722 how long it lasts. Of the other formats, and of what is no frame of media, nothing is told.
+///
+/// G.711 and G.722 have a byte for each tick of their RTP clock of 8 kHz, so bytes are never malformed. A fault is that of
+/// [`Vp8FrameHeader::parse`], [`Vp9FrameHeader::parse`], [`OpusPacket::parse`] or [`amr_wb_ticks`]. It takes no memory.
+pub fn frame_info(codec: Codec, bytes: &[u8]) -> Result<FrameInfo, MediaError>
+    ensures { result ≡ info_of codec bytes.now }
+{
+    let info = match codec {
+        Codec::Vp8 => FrameInfo::of_vp8(&Vp8FrameHeader::parse(bytes)?),
+        Codec::Vp9 => FrameInfo::of_vp9(&Vp9FrameHeader::parse(bytes)?),
+        Codec::Opus => FrameInfo::lasting(u64::from(OpusPacket::parse(bytes)?.ticks())),
+        Codec::AmrWb => FrameInfo::lasting(amr_wb_ticks(bytes)?),
+        Codec::PCMU | Codec::PCMA | Codec::G722 => FrameInfo::lasting(bytes.len() as u64),
+        _ => FrameInfo::nothing(),
+    };
+    Ok(info)
+}
