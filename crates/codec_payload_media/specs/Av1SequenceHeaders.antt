@@ -11,10 +11,10 @@ use Rattle.codec_payload_media.specs.Syntax.{Syntax, tells, refuses, field, skip
 
 -- uvlc, of which the value is not told: so many zeros, a one, and as many bits as zeros; 32 zeros are refused
 abbrev pub uvlc_from : ℕ → ℕ → Syntax ℕ
-uvlc_from zero zeros = refuses errors.ReservedValue
-uvlc_from (suc n) zeros = do
+uvlc_from zero count = refuses errors.ReservedValue
+uvlc_from (suc n) count = do
   one ← flag
-  branch one (skips zeros) (uvlc_from n (zeros + 1))
+  branch one (skips count) (uvlc_from n (count + 1))
 
 -- decoder_model_info, of which the length of delays is told
 abbrev pub decoder_model : Syntax ℕ
