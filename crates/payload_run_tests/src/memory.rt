@@ -314,7 +314,11 @@ fn assert_next(
     bytes: &mut Vec<u8>,
     metas: &mut Vec<RtpMeta>,
 ) -> Result<(), Fail> {
-    let info = pop_into(buffer, bytes, metas).ok_or("no unit")??;
+    let info = match pop_into(buffer, bytes, metas) {
+        Some(Ok(info)) => info,
+        Some(Err(_)) => return Err("a fault".into()),
+        None => return Err("no unit".into()),
+    };
     let wanted = known_of(number);
     assert_same(rt, "the time of the unit", &info.time, &wanted.time);
     assert_same(rt, "contiguous", &info.contiguous, &true);
