@@ -104,14 +104,11 @@ struct SteadyInto<'a> {
 impl<'a> Work for SteadyInto<'a> {
     fn once(&mut self) -> Result<(), PacketError> {
         self.steady.push()?;
-        if let Some(unit) = self
-            .steady
-            .buffer
-            .pop_into(&mut self.bytes, &mut self.metas)
-        {
-            let _info = unit?;
+        let buffer = &mut self.steady.buffer;
+        match buffer.pop_into(&mut self.bytes, &mut self.metas) {
+            Some(Err(fault)) => Err(fault),
+            Some(Ok(_)) | None => Ok(()),
         }
-        Ok(())
     }
 }
 
