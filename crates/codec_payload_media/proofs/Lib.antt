@@ -5,4 +5,5 @@ pub mod OpusLemmas
 pub mod ReadingLemmas
 pub mod SuperframeLemmas
 pub mod SyntaxLemmas
+pub mod TemporalUnitLemmas
 pub mod Vp8Grammar

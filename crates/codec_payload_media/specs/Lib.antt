@@ -1,6 +1,8 @@
 pub mod AmrWbFrames
+pub mod Av1OperatingPoints
 pub mod Av1Records
 pub mod Av1SequenceHeaders
+pub mod Av1TemporalUnits
 pub mod Av1Units
 pub mod FrameInfo
 pub mod Items

@@ -90,7 +90,7 @@ fn read_sized(
 }
 
 /// The OBU at the front, and what is behind it.
-fn front_obu(bytes: &[u8]) -> Result<(Av1Obu<'_>, &[u8]), MediaError>
+pub(crate) fn front_obu(bytes: &[u8]) -> Result<(Av1Obu<'_>, &[u8]), MediaError>
     ensures { told (λ x. (obu_of x.0, x.1.now)) result ≡ obu_at bytes.now }
 {
     let [header, rest @ ..] = bytes else {

@@ -150,7 +150,7 @@ fn read_timing(reader: &mut BitReader<'_>) -> Result<u8, MediaError>
 }
 
 /// The length of delays, or 0 where there is no timing.
-fn read_timing_if(reader: &mut BitReader<'_>, there: bool) -> Result<u8, MediaError>
+pub(crate) fn read_timing_if(reader: &mut BitReader<'_>, there: bool) -> Result<u8, MediaError>
     ensures value { paired result (left reader.new) ≡ read (timing_if there) (left reader.old) }
     ensures most { IfOk result (λ n. n ≤ 32) }
 {
@@ -182,7 +182,7 @@ fn skip_display_delay_if(reader: &mut BitReader<'_>, told: bool) -> Result<u8, M
 
 /// An operating point.
 #[tactic(auto, unfolding(crate::specs::Av1SequenceHeaders::operating_point))]
-fn read_operating_point(
+pub(crate) fn read_operating_point(
     reader: &mut BitReader<'_>,
     delay: u8,
     display: bool,
@@ -203,7 +203,7 @@ fn read_operating_point(
 }
 
 /// So many operating points are passed over.
-fn skip_operating_points(
+pub(crate) fn skip_operating_points(
     reader: &mut BitReader<'_>,
     count: u8,
     delay: u8,
@@ -233,7 +233,7 @@ fn read_operating_points(reader: &mut BitReader<'_>) -> Result<(Av1OperatingPoin
 }
 
 /// The one operating point of a short header.
-fn read_reduced_point(reader: &mut BitReader<'_>) -> Result<(Av1OperatingPoint, u8), MediaError>
+pub(crate) fn read_reduced_point(reader: &mut BitReader<'_>) -> Result<(Av1OperatingPoint, u8), MediaError>
     ensures { paired result (left reader.new) ≡ read reduced_point (left reader.old) }
 {
     let level = read_field(reader, 5)?;
@@ -456,14 +456,14 @@ fn read_color(reader: &mut BitReader<'_>, profile: u8) -> Result<Av1Color, Media
 
 /// What the front of a header tells.
 #[derive(Clone, Copy)]
-struct Front {
-    profile: u8,
-    still_picture: bool,
-    reduced: bool,
+pub(crate) struct Front {
+    pub(crate) profile: u8,
+    pub(crate) still_picture: bool,
+    pub(crate) reduced: bool,
 }
 
 /// The front of a header.
-fn read_front(reader: &mut BitReader<'_>) -> Result<Front, MediaError>
+pub(crate) fn read_front(reader: &mut BitReader<'_>) -> Result<Front, MediaError>
     ensures { paired result (left reader.new) ≡ read front (left reader.old) }
 {
     let profile = read_field(reader, 3)?;

@@ -1,0 +1,31 @@
+-- The operating point of an index in a sequence header (AV1 bitstream specification, section 5.5.1).
+use Rattle.std.specs.Prelude.{ℕ, ◌==◌, nat_lt, Bool, Option, Some, None}
+use Rattle.codec_payload_media.specs.declared.av1.sequence_header.Av1OperatingPoint.{Av1OperatingPoint}
+use Rattle.codec_payload_media.specs.Syntax.{Syntax, tells, field, branch, ◌>>=◌, flag}
+use Rattle.codec_payload_media.specs.Av1SequenceHeaders.{front, operating_point, other_points, reduced_point, timing_if}
+
+-- the one behind so many
+abbrev pub point_behind : ℕ → ℕ → Bool → Syntax (Option Av1OperatingPoint)
+point_behind index delay display = do
+  passed ← other_points index delay display
+  point ← operating_point delay display
+  tells (Some point)
+
+-- None behind the last
+abbrev pub long_point : ℕ → Syntax (Option Av1OperatingPoint)
+long_point index = do
+  there ← flag
+  delay ← timing_if there
+  display ← flag
+  others ← field 5
+  branch (nat_lt others index) (tells None) (point_behind index delay display)
+
+abbrev pub short_point : ℕ → Syntax (Option Av1OperatingPoint)
+short_point index = do
+  point ← reduced_point
+  branch (index == 0) (tells (Some point.0)) (tells None)
+
+unfoldable pub numbered_point : ℕ → Syntax (Option Av1OperatingPoint)
+numbered_point index = do
+  f ← front
+  branch f.reduced (short_point index) (long_point index)
