@@ -10,13 +10,13 @@ use Rattle.codec_payload_base.proofs.LebLemmas.{limit}
 -- ---- what is written
 
 -- bytes that go on and one that does not
-record IsText (k : ℕ) (text : List ℕ) : Type 0 where
-  front : List ℕ
-  last : ℕ
-  is : text ≡ front ++ last ∷ []
-  go_on : AllGoOn front
-  ends : last < 128
-  few : length front ≤ k
+pub record IsText (k : ℕ) (text : List ℕ) : Type 0 where
+  pub front : List ℕ
+  pub last : ℕ
+  pub is : text ≡ front ++ last ∷ []
+  pub go_on : AllGoOn front
+  pub ends : last < 128
+  pub few : length front ≤ k
 
 text_within : (k n : ℕ) → n < limit k → IsText k (leb_within k n)
 text_within zero n lt = record { front = []; last = n; is = refl; go_on = tt; ends = lt; few = omega arith }
@@ -89,7 +89,7 @@ takes_nine n lt = within_short 9 8 n (omega arith)
 
 -- ---- reading
 
-front_finds : (k : ℕ) (front : List ℕ) (last : ℕ) (rest : List ℕ) → AllGoOn front → last < 128 → length front ≤ k
+pub front_finds : (k : ℕ) (front : List ℕ) (last : ℕ) (rest : List ℕ) → AllGoOn front → last < 128 → length front ≤ k
     → leb_front k ((front ++ last ∷ []) ++ rest) ≡ Some (leb128_value (front ++ last ∷ []), rest)
 front_finds zero [] last rest go_on ends few = rw (lt-ltb last 128 ends) (ap (λ (v : ℕ). Some (v, rest)) (omega arith))
 front_finds (suc k) [] last rest go_on ends few = rw (lt-ltb last 128 ends) (ap (λ (v : ℕ). Some (v, rest)) (omega arith))
@@ -109,11 +109,11 @@ map_some f (Some x) y e = (x, refl, cc)
 map_some f None y e = absurd (cc)
 
 -- a text of at most k + 1 bytes at the front
-record StandsAtFront (k : ℕ) (bytes : List ℕ) (n : ℕ) (rest : List ℕ) : Type 0 where
-  text : List ℕ
-  is_text : IsText k text
-  parts : bytes ≡ text ++ rest
-  value : n ≡ leb128_value text
+pub record StandsAtFront (k : ℕ) (bytes : List ℕ) (n : ℕ) (rest : List ℕ) : Type 0 where
+  pub text : List ℕ
+  pub is_text : IsText k text
+  pub parts : bytes ≡ text ++ rest
+  pub value : n ≡ leb128_value text
 
 abbrev found : ℕ → List ℕ → Option (ℕ × List ℕ)
 found n rest = Some (n, rest)
@@ -130,7 +130,7 @@ last_byte k b n bs rest small e =
       value = sym (ap (λ (x : ℕ × List ℕ). x.0) same) ∙ omega arith;
     }
 
-front_stands : (k : ℕ) (bytes : List ℕ) (n : ℕ) (rest : List ℕ) → leb_front k bytes ≡ Some (n, rest) → StandsAtFront k bytes n rest
+pub front_stands : (k : ℕ) (bytes : List ℕ) (n : ℕ) (rest : List ℕ) → leb_front k bytes ≡ Some (n, rest) → StandsAtFront k bytes n rest
 front_stands k [] n rest e = absurd (cc)
 front_stands zero (b ∷ bs) n rest e =
     elim (cases_lt b 128) [

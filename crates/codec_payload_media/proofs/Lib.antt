@@ -1,8 +1,11 @@
+pub mod AmrWbGrammar
 pub mod AmrWbLemmas
 pub mod Av1Lemmas
 pub mod ItemLemmas
+pub mod ObuGrammar
 pub mod OpusLemmas
 pub mod ReadingLemmas
+pub mod SpellingLemmas
 pub mod SuperframeLemmas
 pub mod SyntaxLemmas
 pub mod TemporalUnitLemmas

@@ -1,11 +1,12 @@
 -- Frames of AMR-WB in their storage form (RFC 4867, section 5.3): a bit of any value, the type (4 bits), the quality (1), two
 -- bits of any value, then the speech, in whole bytes.
-use Rattle.std.specs.Prelude.{ℕ, ◌*◌, ◌/◌, ◌%◌, ◌==◌, nat_lt, min, Bool, List, [], ◌∷◌, length, take, drop, slice_index_or, if◌then◌else◌, Option, Some, None, Result, Ok, Err}
+use Rattle.std.specs.Prelude.{◌≡◌, ◌<◌, ◌+◌, ◌++◌, true, false, ℕ, ◌*◌, ◌/◌, ◌%◌, ◌==◌, nat_lt, min, Bool, List, [], ◌∷◌, length, take, drop, slice_index_or, if◌then◌else◌, Option, Some, None, Result, Ok, Err}
 use Rattle.codec_payload_media.specs.declared.error.MediaError.{MediaError}
 use Rattle.codec_payload_media.specs.declared.error.MediaError.TheVariants as errors
 use Rattle.codec_payload_media.specs.declared.amr_wb.AmrWbFrame.{AmrWbFrame as LentFrame}
 use Rattle.codec_payload_media.specs.Reading.{told}
-use Rattle.codec_payload_media.specs.Items.{items_at, count_of}
+use Rattle.codec_payload_base.specs.Flags.{AreBytes}
+use Rattle.codec_payload_media.specs.Items.{AreSpelled, all_ok, items_at, count_of}
 
 pub record Frame : Type 0 where
   pub frame_type : ℕ
@@ -15,6 +16,12 @@ pub record Frame : Type 0 where
 abbrev pub frame_of : LentFrame → Frame
 frame_of f = record { frame_type = f.frame_type; quality = f.quality; speech = f.speech.now }
 
+-- ---- how a frame is spelled
+
+abbrev pub bit_if : Bool → ℕ → ℕ
+bit_if true bit = bit
+bit_if false bit = 0
+
 -- how many bytes of speech each type has (3GPP TS 26.201, table 1a); None for a reserved one
 abbrev pub speech_lengths : List (Option ℕ)
 speech_lengths =
@@ -22,6 +29,18 @@ speech_lengths =
 
 abbrev pub speech_length : ℕ → Option ℕ
 speech_length kind = slice_index_or speech_lengths kind None
+
+-- The bytes begin with that frame.
+pub record IsAmrWbFrame (bytes : List ℕ) (f : Frame) (rest : List ℕ) : Type 0 where
+  pub kind : f.frame_type < 16
+  pub first : ℕ
+  pub first_bit : first < 2
+  pub last : ℕ
+  pub last_bits : last < 4
+  pub is : bytes ≡ (128 * first + 8 * f.frame_type + bit_if f.quality 4 + last) ∷ (f.speech ++ rest)
+  pub speech : speech_length f.frame_type ≡ Some (length f.speech)
+
+-- ---- how it is read
 
 -- the frame of that first byte, with so much speech
 abbrev pub with_speech : ℕ → Option ℕ → List ℕ → Result (Frame × List ℕ) MediaError
@@ -50,3 +69,7 @@ ticks_of_frames n = min (320 * n) 18446744073709551615
 
 abbrev pub unit_ticks : List ℕ → Result ℕ MediaError
 unit_ticks bytes = told ticks_of_frames (count_of (items_at frame_at bytes))
+
+-- Reading finds the frames that the bytes spell, and no others.
+abbrev pub ReadsAmrWbFrames : Type 0
+ReadsAmrWbFrames = (bytes : List ℕ) (frames : List Frame) → AreBytes bytes → (AreSpelled IsAmrWbFrame bytes frames → items_at frame_at bytes ≡ all_ok frames) × (items_at frame_at bytes ≡ all_ok frames → AreSpelled IsAmrWbFrame bytes frames)

@@ -1,5 +1,5 @@
 -- Items one after another, up to the first that is malformed.
-use Rattle.std.specs.Prelude.{ℕ, zero, suc, List, [], ◌∷◌, length, Result, Ok, Err}
+use Rattle.std.specs.Prelude.{◌≡◌, ℕ, zero, suc, List, [], ◌∷◌, length, Result, Ok, Err}
 use Rattle.codec_payload_media.specs.declared.error.MediaError.{MediaError}
 
 -- an item, and those behind it; or the fault, behind which there is none
@@ -26,3 +26,14 @@ count_then (Err e) more = Err e
 unfoldable pub count_of : {A : Type 0} → List (Result A MediaError) → Result ℕ MediaError
 count_of [] = Ok zero
 count_of (x ∷ xs) = count_then x (count_of xs)
+
+-- ---- how items are spelled
+
+-- The bytes are these items, one behind the other, of which each is spelled so before the others.
+abbrev pub AreSpelled : {A : Type 0} → (List ℕ → A → List ℕ → Type 0) → List ℕ → List A → Type 0
+AreSpelled IsItem bytes [] = bytes ≡ []
+AreSpelled IsItem bytes (x ∷ xs) = (rest : List ℕ) × IsItem bytes x rest × AreSpelled IsItem rest xs
+
+abbrev pub all_ok : {A : Type 0} → List A → List (Result A MediaError)
+all_ok [] = []
+all_ok (x ∷ xs) = Ok x ∷ all_ok xs

@@ -6,6 +6,7 @@ pub mod av1;
 pub mod error;
 mod fields;
 pub mod frame_info;
+pub mod laws;
 pub mod opus;
 pub mod vp8;
 pub mod vp9;

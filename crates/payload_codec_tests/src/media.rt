@@ -6,7 +6,9 @@ use codec_payload_base::wire::Codec;
 use codec_payload_media::amr_wb::{AmrWbFrames, amr_wb_ticks};
 use codec_payload_media::av1::av1c::write_av1c;
 use codec_payload_media::av1::obu::Av1Obus;
-use codec_payload_media::av1::sequence_header::Av1SequenceHeader;
+use codec_payload_media::av1::operating_points::operating_point;
+use codec_payload_media::av1::sequence_header::{Av1OperatingPoint, Av1SequenceHeader};
+use codec_payload_media::av1::temporal_unit::Av1TemporalUnit;
 use codec_payload_media::error::MediaError;
 use codec_payload_media::frame_info::{FrameInfo, PictureSize, frame_info};
 use codec_payload_media::opus::{OpusBandwidth, OpusHead, OpusMode, OpusPacket};
@@ -519,6 +521,22 @@ fn opus_each_byte_alone(rt: HostRuntime) {
     }
 }
 
+/// How many strings of two bytes are packets, counted by the rules of RFC 6716, section 3.2, for each of the 64 first bytes of a code:
+/// all 256 of code 0; none of code 1, whose frames are of one length; that of a first frame of no bytes of code 2; of code 3
+/// without padding each count of at most 120 ms, and one frame of told length. The 32 configurations have 497 of these.
+#[test]
+fn opus_each_two_bytes(rt: HostRuntime) {
+    let mut packets = 0;
+    for first in 0..=255u8 {
+        for second in 0..=255u8 {
+            if OpusPacket::parse(&[first, second]).is_ok() {
+                packets = u32::saturating_add(packets, 1);
+            }
+        }
+    }
+    assert_same(&rt, "opus-two-bytes", &packets, &(64 * 256 + 64 + 2 * 497));
+}
+
 /// The header that libopus's encoder wrote for a stereo stream.
 #[test]
 fn opus_head(rt: HostRuntime) {
@@ -648,6 +666,165 @@ fn av1_obus(rt: HostRuntime) -> Result<(), Fail> {
     Ok(())
 }
 
+/// An operating point of a sequence header's payload: which layers, the level, and whether the tier is High.
+struct PointRow {
+    name: &'static str,
+    payload: &'static [u8],
+    index: u8,
+    found: Result<Option<(u16, u8, bool)>, MediaError>,
+}
+
+/// Two temporal layers, and one of them at a level that tells its tier.
+const LAYERS: &[u8] = &[0x00, 0x11, 0x03, 0x20, 0x80, 0xa2];
+
+static POINTS: [PointRow; 6] = [
+    PointRow {
+        name: "point-first",
+        payload: LAYERS,
+        index: 0,
+        found: Ok(Some((0x103, 4, false))),
+    },
+    PointRow {
+        name: "point-second-of-high-tier",
+        payload: LAYERS,
+        index: 1,
+        found: Ok(Some((0x101, 8, true))),
+    },
+    PointRow {
+        name: "point-behind-the-last",
+        payload: LAYERS,
+        index: 2,
+        found: Ok(None),
+    },
+    PointRow {
+        name: "point-cut-fault",
+        payload: &[0x00, 0x11, 0x03, 0x20, 0x80],
+        index: 1,
+        found: Err(MediaError::MissingBytes),
+    },
+    PointRow {
+        name: "point-of-a-short-header",
+        payload: &[0x19, 0x40],
+        index: 0,
+        found: Ok(Some((0, 5, false))),
+    },
+    PointRow {
+        name: "point-short-header-has-one",
+        payload: &[0x19, 0x40],
+        index: 1,
+        found: Ok(None),
+    },
+];
+
+fn assert_point(rt: &impl Abort, row: &PointRow) {
+    let wanted = match row.found {
+        Ok(Some((idc, level, high_tier))) => Ok(Some(Av1OperatingPoint {
+            idc,
+            level,
+            high_tier,
+        })),
+        Ok(None) => Ok(None),
+        Err(fault) => Err(fault),
+    };
+    assert_same(rt, row.name, &operating_point(row.payload, row.index), &wanted);
+}
+
+#[test]
+fn av1_operating_points(rt: HostRuntime) {
+    for row in POINTS.iter() {
+        assert_point(&rt, row);
+    }
+}
+
+/// OBUs of a temporal unit behind its delimiter, and whether a coded video sequence begins with it.
+struct UnitRow {
+    name: &'static str,
+    obus: &'static [u8],
+    begins: Result<bool, MediaError>,
+}
+
+static UNITS: [UnitRow; 9] = [
+    UnitRow {
+        name: "unit-cut-header-fault",
+        obus: &[0x0a, 0x02, 0x00, 0x00, 0x32, 0x01, 0x10],
+        begins: Err(MediaError::MissingBytes),
+    },
+    UnitRow {
+        name: "unit-short-header-and-frame",
+        // The header of 2 by 1 pixels has a 4:2:0 picture of 8 bits; its frame begins with none of the bits that are read.
+        obus: &[0x0a, 0x05, 0x19, 0x40, 0x20, 0x00, 0x00, 0x32, 0x01, 0xff],
+        begins: Ok(true),
+    },
+    UnitRow {
+        name: "unit-keyframe-alone",
+        obus: &[0x32, 0x01, 0x10],
+        begins: Ok(false),
+    },
+    UnitRow {
+        name: "unit-header-behind-the-frame",
+        obus: &[0x32, 0x01, 0x10, 0x0a, 0x00],
+        begins: Ok(false),
+    },
+    UnitRow {
+        name: "unit-without-frames",
+        obus: &[0x2a, 0x01, 0x00],
+        begins: Ok(false),
+    },
+    UnitRow {
+        name: "unit-no-bytes-of-a-frame-fault",
+        obus: &[0x1a, 0x00],
+        begins: Err(MediaError::MissingBytes),
+    },
+    UnitRow {
+        name: "unit-no-size-fault",
+        obus: &[0x30, 0x10],
+        begins: Err(MediaError::ReservedValue),
+    },
+    UnitRow {
+        name: "unit-fault-behind-the-frame",
+        obus: &[0x32, 0x01, 0x10, 0xff],
+        begins: Ok(false),
+    },
+    UnitRow {
+        name: "unit-no-obus",
+        obus: &[],
+        begins: Ok(false),
+    },
+];
+
+fn assert_unit(rt: &impl Abort, alloc: Global, row: &UnitRow) -> Result<(), AllocError> {
+    let unit = filled(alloc, &[0x12, 0x00], 0, 0, row.obus)?;
+    let begins = match Av1TemporalUnit::parse(&unit) {
+        Ok(unit) => Ok(unit.begins_sequence()),
+        Err(fault) => Err(fault),
+    };
+    assert_same(rt, row.name, &begins, &row.begins);
+    Ok(())
+}
+
+#[test]
+fn av1_units(rt: HostRuntime) -> Result<(), Fail> {
+    for row in UNITS.iter() {
+        assert_unit(&rt, rt.alloc(), row)?;
+    }
+    Ok(())
+}
+
+/// The first payload byte of a frame behind libaom's sequence header: which of all bytes begin a sequence with it.
+#[test]
+fn av1_each_frame_byte(rt: HostRuntime) -> Result<(), Fail> {
+    for byte in 0..=255u8 {
+        let unit = [
+            0x12, 0x00, 0x0a, 0x0a, 0x00, 0x00, 0x00, 0x02, 0xaf, 0xf7, 0x9b, 0x5f, 0x20, 0x08,
+            0x32, 0x01, byte,
+        ];
+        let told = Av1TemporalUnit::parse(&unit).ok().ok_or("a unit")?;
+        // show_existing_frame 0, frame_type 0, show_frame 1.
+        assert_same(&rt, "av1-each-frame-byte", &told.begins_sequence(), &(byte / 16 == 1));
+    }
+    Ok(())
+}
+
 /// The record that ffmpeg writes into a file of the 10-bit stream.
 #[test]
 fn av1c_record(rt: HostRuntime) -> Result<(), Fail> {
@@ -670,7 +847,7 @@ struct InfoRow {
     found: Result<(Option<bool>, Option<(u32, u32)>, Option<u64>), MediaError>,
 }
 
-static INFOS: [InfoRow; 8] = [
+static INFOS: [InfoRow; 10] = [
     InfoRow {
         name: "info-vp8",
         codec: Codec::Vp8,
@@ -687,6 +864,21 @@ static INFOS: [InfoRow; 8] = [
         name: "info-vp9-existing-is-no-keyframe",
         codec: Codec::Vp9,
         bytes: &[0x88],
+        found: Ok((Some(false), None, None)),
+    },
+    InfoRow {
+        name: "info-av1",
+        codec: Codec::Av1,
+        bytes: &[
+            0x12, 0x00, 0x0a, 0x0a, 0x00, 0x00, 0x00, 0x02, 0xaf, 0xf7, 0x9b, 0x5f, 0x20, 0x08,
+            0x32, 0x01, 0x10,
+        ],
+        found: Ok((Some(true), Some((64, 48)), None)),
+    },
+    InfoRow {
+        name: "info-av1-existing-is-no-keyframe",
+        codec: Codec::Av1,
+        bytes: &[0x12, 0x00, 0x1a, 0x01, 0x80],
         found: Ok((Some(false), None, None)),
     },
     InfoRow {
