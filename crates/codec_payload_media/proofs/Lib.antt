@@ -3,9 +3,11 @@ pub mod AmrWbLemmas
 pub mod Av1Lemmas
 pub mod ItemLemmas
 pub mod ObuGrammar
+pub mod OpusGrammar
 pub mod OpusLemmas
 pub mod ReadingLemmas
 pub mod SpellingLemmas
+pub mod SuperframeGrammar
 pub mod SuperframeLemmas
 pub mod SyntaxLemmas
 pub mod TemporalUnitLemmas

@@ -1,5 +1,7 @@
 -- Packets of Opus (RFC 6716, section 3), and the identification header (RFC 7845, section 5.1).
-use Rattle.std.specs.Prelude.{ℕ, zero, suc, ◌+◌, ◌-◌, ◌*◌, ◌/◌, ◌%◌, ◌==◌, ◌&&◌, ◌||◌, nat_lt, nat_le, min, Bool, true, false, List, [], ◌∷◌, ◌++◌, length, take, slice_index_or, if◌then◌else◌, Result, Ok, Err}
+use Rattle.std.specs.Prelude.{◌≡◌, ◌≤◌, ◌<◌, ◌⊎◌, ℕ, zero, suc, ◌+◌, ◌-◌, ◌*◌, ◌/◌, ◌%◌, ◌==◌, ◌&&◌, ◌||◌, nat_lt, nat_le, min, Bool, true, false, List, [], ◌∷◌, ◌++◌, length, take, slice_index_or, if◌then◌else◌, Result, Ok, Err}
+use Rattle.std.specs.List.{AllByRecursion, concat}
+use Rattle.codec_payload_base.specs.Flags.{AreBytes}
 use Rattle.std.specs.Int.{w16, w32, to_le_bytes}
 use Rattle.codec_payload_media.specs.declared.error.MediaError.{MediaError}
 use Rattle.codec_payload_media.specs.declared.error.MediaError.TheVariants as errors
@@ -47,8 +49,6 @@ ticks_of config =
 abbrev pub packet_of : ℕ → ℕ → OpusPacket
 packet_of toc frames = record { mode = mode_of (toc / 8); bandwidth = bandwidth_of (toc / 8); channels = toc / 4 % 2 + 1; frame_ticks = ticks_of (toc / 8); frames = frames }
 
--- ---- how packets are read
-
 -- the largest frame, in bytes
 abbrev pub most : ℕ
 most = 1275
@@ -56,6 +56,76 @@ most = 1275
 -- the longest packet, 120 ms in samples of 48 kHz
 abbrev pub longest : ℕ
 longest = 5760
+
+-- ---- how packets are spelled
+
+-- a length in one byte, or from 252 on in two
+pub record IsLongLength (n : ℕ) (text : List ℕ) : Type 0 where
+  pub low : ℕ
+  pub high : ℕ
+  pub least : 252 ≤ low
+  pub is : n ≡ low + 4 * high
+  pub spelled : text ≡ low ∷ high ∷ []
+
+abbrev pub IsLength : ℕ → List ℕ → Type 0
+IsLength n text = ((n < 252) × (text ≡ n ∷ [])) ⊎ IsLongLength n text
+
+-- the lengths of these frames
+abbrev pub AreLengths : List (List ℕ) → List ℕ → Type 0
+AreLengths [] text = text ≡ []
+AreLengths (frame ∷ frames) text = (first : List ℕ) × (others : List ℕ) × (text ≡ first ++ others) × IsLength (length frame) first × AreLengths frames others
+
+-- bytes of 255 and a last one below, which say how much padding there is: 254 for each, and the last
+abbrev pub SaysPadding : List ℕ → ℕ → Type 0
+SaysPadding [] n = ⊥
+SaysPadding (b ∷ []) n = (b < 255) × (n ≡ b)
+SaysPadding (b ∷ c ∷ text) n = (b ≡ 255) × (m : ℕ) × (n ≡ 254 + m) × SaysPadding (c ∷ text) m
+
+abbrev pub IsPadding : Bool → List ℕ → List ℕ → Type 0
+IsPadding false text padding = (text ≡ []) × (padding ≡ [])
+IsPadding true text padding = SaysPadding text (length padding)
+
+abbrev pub bit_if : Bool → ℕ → ℕ
+bit_if true bit = bit
+bit_if false bit = 0
+
+-- frames of one length, or each length but the last before the frames
+abbrev pub AreFrames : Bool → List (List ℕ) → List ℕ → Type 0
+AreFrames false frames bytes = (size : ℕ) × AllByRecursion (λ frame. length frame ≡ size) frames × (bytes ≡ concat frames)
+AreFrames true frames bytes = (lengths : List ℕ) × (firsts : List (List ℕ)) × (last : List ℕ) × (frames ≡ firsts ++ last ∷ []) × AreLengths firsts lengths × (bytes ≡ lengths ++ concat frames)
+
+-- of code 3: a byte with the number of frames (6 bits), whether there is padding (1), and whether their lengths are told (1)
+pub record AreCounted (ticks : ℕ) (frames : List (List ℕ)) (bytes : List ℕ) : Type 0 where
+  pub few : length frames < 64
+  pub short : length frames * ticks ≤ longest
+  pub told : Bool
+  pub padded : Bool
+  pub size : List ℕ
+  pub padding : List ℕ
+  pub is_padding : IsPadding padded size padding
+  pub frames_bytes : List ℕ
+  pub are : AreFrames told frames frames_bytes
+  pub is : bytes ≡ (length frames + bit_if padded 64 + bit_if told 128) ∷ (size ++ (frames_bytes ++ padding))
+
+-- of code 0 one frame, of code 1 two of one length, of code 2 two of which the length of the first is told
+abbrev pub AreCoded : ℕ → ℕ → List (List ℕ) → List ℕ → Type 0
+AreCoded ticks zero frames bytes = (length frames ≡ 1) × AreFrames false frames bytes
+AreCoded ticks (suc zero) frames bytes = (length frames ≡ 2) × AreFrames false frames bytes
+AreCoded ticks (suc (suc zero)) frames bytes = (length frames ≡ 2) × AreFrames true frames bytes
+AreCoded ticks (suc (suc (suc code))) frames bytes = AreCounted ticks frames bytes
+
+-- The bytes are a packet that says this.
+pub record IsOpusPacket (packet : List ℕ) (p : OpusPacket) : Type 0 where
+  pub toc : ℕ
+  pub frames : List (List ℕ)
+  pub bytes : List ℕ
+  pub is : packet ≡ toc ∷ bytes
+  pub some : 1 ≤ length frames
+  pub small : AllByRecursion (λ frame. length frame ≤ most) frames
+  pub are : AreCoded (ticks_of (toc / 8)) (toc % 4) frames bytes
+  pub says : p ≡ packet_of toc (length frames)
+
+-- ---- how packets are read
 
 -- so many frames of one length, which together have that size
 abbrev pub alike : ℕ → ℕ → Result ℕ MediaError
@@ -131,3 +201,7 @@ opus_at (toc ∷ rest) = do
 abbrev pub head_bytes : OpusHead → List ℕ
 head_bytes h =
     0x4f ∷ 0x70 ∷ 0x75 ∷ 0x73 ∷ 0x48 ∷ 0x65 ∷ 0x61 ∷ 0x64 ∷ 1 ∷ h.channels ∷ (to_le_bytes w16 h.pre_skip ++ (to_le_bytes w32 h.input_sample_rate ++ (0 ∷ 0 ∷ 0 ∷ [])))
+
+-- Reading finds what a packet says that the bytes spell, and nothing else.
+abbrev pub ReadsOpus : Type 0
+ReadsOpus = (packet : List ℕ) (p : OpusPacket) → AreBytes packet → (IsOpusPacket packet p → opus_at packet ≡ Ok p) × (opus_at packet ≡ Ok p → IsOpusPacket packet p)

@@ -1,6 +1,8 @@
 -- Superframes of VP9 (bitstream specification, Annex B): frames one after another, and an index at the end. The index is a
 -- byte 110 SS CCC, the sizes of CCC + 1 frames in SS + 1 bytes each, low byte first, and the first byte again.
-use Rattle.std.specs.Prelude.{ℕ, zero, suc, ◌+◌, ◌-◌, ◌*◌, ◌/◌, ◌%◌, ◌==◌, ◌&&◌, nat_le, nat_lt, Bool, List, [], ◌∷◌, length, take, drop, get_or, if◌then◌else◌, Option, Some, None, Result, Ok, Err}
+use Rattle.std.specs.Prelude.{◌≡◌, ◌≤◌, ◌⊎◌, ◌++◌, false, ℕ, zero, suc, ◌+◌, ◌-◌, ◌*◌, ◌/◌, ◌%◌, ◌==◌, ◌&&◌, nat_le, nat_lt, Bool, List, [], ◌∷◌, length, take, drop, get_or, if◌then◌else◌, Option, Some, None, Result, Ok, Err}
+use Rattle.std.specs.List.{concat}
+use Rattle.codec_payload_base.specs.Flags.{AreBytes}
 use Rattle.codec_payload_media.specs.declared.error.MediaError.{MediaError}
 use Rattle.codec_payload_media.specs.declared.error.MediaError.TheVariants as errors
 
@@ -8,6 +10,35 @@ use Rattle.codec_payload_media.specs.declared.error.MediaError.TheVariants as er
 abbrev pub le_number : List ℕ → ℕ
 le_number [] = 0
 le_number (b ∷ bs) = b + 256 * le_number bs
+
+-- ---- how a superframe is spelled
+
+-- a size in so many bytes
+pub record IsSize (width : ℕ) (text frame : List ℕ) : Type 0 where
+  pub wide : length text ≡ width
+  pub says : le_number text ≡ length frame
+
+abbrev pub AreSizes : ℕ → List ℕ → List (List ℕ) → Type 0
+AreSizes width sizes [] = sizes ≡ []
+AreSizes width sizes (frame ∷ frames) = (text : List ℕ) × (others : List ℕ) × (sizes ≡ text ++ others) × IsSize width text frame × AreSizes width others frames
+
+-- the byte at both ends of an index
+abbrev pub marker_of : ℕ → ℕ → ℕ
+marker_of width count = 192 + 8 * (width - 1) + (count - 1)
+
+-- The unit is a superframe of these frames; between them and the index bytes may stand that belong to none.
+pub record IsSuperframe (unit : List ℕ) (frames : List (List ℕ)) : Type 0 where
+  pub some : 1 ≤ length frames
+  pub few : length frames ≤ 8
+  pub width : ℕ
+  pub wide : 1 ≤ width
+  pub narrow : width ≤ 4
+  pub sizes : List ℕ
+  pub are_sizes : AreSizes width sizes frames
+  pub spare : List ℕ
+  pub is : unit ≡ (concat frames ++ spare) ++ (marker_of width (length frames) ∷ (sizes ++ marker_of width (length frames) ∷ []))
+
+-- ---- how it is read
 
 -- what the byte at both ends says
 abbrev pub is_marker : ℕ → Bool
@@ -71,3 +102,13 @@ indexed byte unit =
 abbrev pub unit_frames : List ℕ → Result (List (List ℕ)) MediaError
 unit_frames [] = Err errors.MissingBytes
 unit_frames (b ∷ bytes) = if has_index (b ∷ bytes) then indexed (last_byte (b ∷ bytes)) (b ∷ bytes) else Ok ((b ∷ bytes) ∷ [])
+
+-- The unit is one frame: it does not end in an index.
+pub record IsAlone (unit : List ℕ) (frames : List (List ℕ)) : Type 0 where
+  pub some : 1 ≤ length unit
+  pub no_index : has_index unit ≡ false
+  pub is : frames ≡ unit ∷ []
+
+-- Reading finds the frames of a superframe that the unit spells, and no others; else the unit is one frame.
+abbrev pub ReadsSuperframes : Type 0
+ReadsSuperframes = (unit : List ℕ) (frames : List (List ℕ)) → AreBytes unit → (IsSuperframe unit frames → unit_frames unit ≡ Ok frames) × (unit_frames unit ≡ Ok frames → IsSuperframe unit frames ⊎ IsAlone unit frames)

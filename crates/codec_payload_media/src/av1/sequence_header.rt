@@ -233,7 +233,9 @@ fn read_operating_points(reader: &mut BitReader<'_>) -> Result<(Av1OperatingPoin
 }
 
 /// The one operating point of a short header.
-pub(crate) fn read_reduced_point(reader: &mut BitReader<'_>) -> Result<(Av1OperatingPoint, u8), MediaError>
+pub(crate) fn read_reduced_point(
+    reader: &mut BitReader<'_>,
+) -> Result<(Av1OperatingPoint, u8), MediaError>
     ensures { paired result (left reader.new) ≡ read reduced_point (left reader.old) }
 {
     let level = read_field(reader, 5)?;

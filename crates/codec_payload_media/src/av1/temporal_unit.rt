@@ -189,7 +189,9 @@ impl Av1TemporalUnit {
     {
         match self.frame {
             Some(frame) => {
-                self.sequence_header.is_some() && frame.is_shown_keyframe() && frame.temporal_id == 0
+                self.sequence_header.is_some()
+                    && frame.is_shown_keyframe()
+                    && frame.temporal_id == 0
             }
             None => false,
         }
