@@ -1,6 +1,8 @@
 -- What is promised of a whole run with RED.
 use Rattle.std.specs.Prelude.{◌≡◌, ◌⊎◌, ℕ, ◌<◌, ◌≤◌, ◌==◌, false, Option, List, [], Some, None, length, map, slice_get}
+use Rattle.std.specs.Borrow.{MutBor}
 use Rattle.std.specs.List.{AllByRecursion}
+use Rattle.std.proofs.Common.{inl, inr}
 use Rattle.codec_payload_base.specs.declared.wire.ToPayload.{ToPayload}
 use Rattle.codec_payload_buffer.specs.Depack.{Depack}
 use Rattle.codec_payload_buffer.specs.Held.{Held}
@@ -25,6 +27,7 @@ use Rattle.codec_payload_core.specs.declared.schedule.Run.{Run}
 use Rattle.codec_payload_core.specs.declared.schedule.Sent.{Sent}
 use Rattle.codec_payload_core.specs.declared.schedule.Step.{Step}
 use Rattle.codec_payload_core.specs.declared.schedule.Step.TheVariants as steps
+use Rattle.codec_payload_red.specs.RedLevels.{Sender}
 use Rattle.codec_payload_red.specs.RedRecovery.{Receiver, RecoveredPacket}
 use Rattle.codec_payload_red.specs.RedRun.{IsRecoverable, IsKeptIn}
 
@@ -45,6 +48,13 @@ ran_in_red with samples steps before run after = record { with = with; samples =
 -- what a run is told of RED, besides the sender
 abbrev pub protection_of : RedRun → Protection
 protection_of red = record { budget = red.budget; receiver = red.receiver.now }
+
+-- How a run leaves the sender that it was lent. What a value that holds a reference leaves behind it is told by the layout of
+-- the value: of an `Option` the second case is `Some`, and the sender is the first field of a `RedRun`.
+abbrev pub LeavesSender : {Rest : Type 0} → Unit {0} ⊎ (((MutBor Sender × Rest) × Unit {0}) ⊎ ⊥) → Sender → Type 0
+LeavesSender (inl none) sender = ⊥
+LeavesSender (inr (inl red)) sender = sender ≡ red.0.0.now
+LeavesSender (inr (inr none)) sender = ⊥
 
 -- the packets that were sent, as they were before they were put in RED
 abbrev pub sent_in : RedRan → List Packet
