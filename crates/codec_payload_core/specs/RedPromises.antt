@@ -9,12 +9,12 @@ use Rattle.codec_payload_buffer.specs.Held.{Held}
 use Rattle.codec_payload_buffer.specs.Steps.{arrived}
 use Rattle.codec_payload_buffer.specs.declared.buffer.unit.RtpMeta.{RtpMeta}
 use Rattle.codec_payload_core.specs.Exact.{IsPushedFirst, AnswersAll}
-use Rattle.codec_payload_core.specs.Headline.{InOrder, IsUnused}
+use Rattle.codec_payload_core.specs.Headline.{AreOfEarlier, InOrder, IsUnused}
 use Rattle.codec_payload_core.specs.LawfulUnits.{AllLawful}
 use Rattle.codec_payload_core.specs.Log.{Stretch, Turn, begun, packet_named, IsLogBy}
 use Rattle.codec_payload_core.specs.Packets.{Packet}
 use Rattle.codec_payload_core.specs.RedSchedule.{Protection, RedState, RunsInRed, all_remembered, meta_of_block, meta_of_recovered, recovered_in}
-use Rattle.codec_payload_core.specs.RunCounts.{IsCounted}
+use Rattle.codec_payload_core.specs.RunCounts.{IsCounted, sent_before}
 use Rattle.codec_payload_core.specs.RunOrder.{AreStretches, AllFollowAsSaid}
 use Rattle.codec_payload_core.specs.RunUnits.{NoneIsLost, NonePassedOver, FirstIsWhole, NoneEvicted, IsPatient, AreNext}
 use Rattle.codec_payload_core.specs.RunValues.{is_video}
@@ -73,11 +73,12 @@ pub record IsRedFresh (r : RedRan) : Type 0 where
 abbrev pub IsIn : RedRan → ℕ → ℕ → Type 0
 IsIn r k carrier = (k ≡ carrier) ⊎ IsKeptIn r.before.sender r.with.budget (all_remembered (sent_in r)) k carrier
 
--- what is known of one push of the packet of index k: a step pushed what a packet holds that it is in
+-- what is known of one push of the packet of index k: a step pushed what a packet holds that it is in, by which that was sent
 pub record IsRedPushOf (r : RedRan) (k : ℕ) (p : Packet) (meta : RtpMeta) : Type 0 where
   pub place : ℕ
   pub carrier : ℕ
   pub pushes : slice_get r.steps place ≡ Some (steps.Push carrier)
+  pub after_send : carrier < sent_before place r.sends
   pub carried : IsIn r k carrier
   pub told : meta ≡ meta_of_block place r.before.plain.payloading.clock_rate r.with.receiver.primary_pt (k == carrier) p
 
@@ -93,13 +94,14 @@ pub record WasSent (r : RedRan) (k : ℕ) (x : RecoveredPacket) : Type 0 where
   pub primary : x.is_primary ≡ (index == k)
 
 -- the units of the samples, as the steps send them, with their packets, of which the last alone ends a unit; and what the
--- pops answered are these units, in order, each at most once
+-- pops answered are these units, in order, each at most once, of packets that were pushed before the pop
 pub record ReleasesRecovered (r : RedRan) : Type 0 where
   pub units : List SentUnit
   pub canonical : map (λ (u : SentUnit). u.parts) units ≡ units_of_run r.before.plain.payloading.pack r.samples r.steps
   pub packets : packets_of units ≡ sent_in r
   pub ends : AllEndWithTail (payloads_by r.before.plain.payloading.pack) units
   pub in_order : InOrder (IsRedPushOf r) (may_split r.before.plain.payloading.pack) units 0 r.pops
+  pub before_pops : AreOfEarlier 0 r.steps r.pops
 
 -- the buffer has room for all packets that were sent, and each of them is in one that is pushed before the first pop
 pub record IsAllThere (r : RedRan) : Type 0 where

@@ -151,7 +151,7 @@ pub fn run_stream(
     requires least { 1 ≤ stream.limit }
     requires most { stream.limit ≤ 65536 }
     ensures none { (result ≡ Result.Ok Option.None) ↔ (pack_for stream.mode stream.first_id stream.spec.codec ≡ Option.None) }
-    ensures headline { IfOk result (λ run. IfSome run (RunsStream stream samples.now steps.now)) }
+    ensures promises { IfOk result (λ run. IfSome run (RunsStream stream samples.now steps.now)) }
     ensures fault { IfErr result (λ fault. fault ≡ OutOfMemory) }
 {
     let Some(mut payloader) = Payloader::new(stream.spec, stream.mode, stream.first_id) else {
