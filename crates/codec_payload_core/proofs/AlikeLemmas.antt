@@ -19,6 +19,7 @@ use Rattle.codec_payload_buffer.specs.Steps.{State, Releases, Passes, PassesOver
 use Rattle.codec_payload_buffer.specs.Stretches.{counts, numbers_from, last_or, is_some_of, left_out, kept}
 use Rattle.codec_payload_buffer.specs.declared.buffer.frames.Segment.{Segment}
 use Rattle.codec_payload_buffer.specs.declared.buffer.unit.RtpMeta.{RtpMeta}
+use Rattle.codec_payload_core.specs.declared.schedule.Sent.{Sent}
 use Rattle.codec_payload_core.specs.declared.schedule.Step.{Step}
 
 filter_same : (p q : ℕ → Bool) (xs : List ℕ) → ((n : ℕ) → p n ≡ q n) → filter p xs ≡ filter q xs
@@ -89,10 +90,10 @@ goes_of c s t passed (Some (Err fault)) pop = elim pop [ ]
 abbrev pub IsBarePush : Setting → Type 0
 IsBarePush c = (k : ℕ) (q : Packet) (m : RtpMeta) → c.known k q m → bare_meta m ≡ bare_meta (meta_of_push 0 c.clock_rate q)
 
-module _ (c : Setting) (told : IsBarePush c) (others : List Step) where
+module _ (c : Setting) (told : IsBarePush c) (others : List Step) (sends : List Sent) where
   -- the same packets, pushed by other steps
   abbrev other : Setting
-  other = by_steps c others
+  other = by_steps c others sends
 
   bare_sent : (p : Held) (i : IsPush c p) → bare p ≡ bare (held_as c.kind (meta_of_push 0 c.clock_rate i.1) i.1.payload)
   bare_sent p i = ap bare i.4 ∙ ap (λ (m : RtpMeta). held_as c.kind m i.1.payload) (told i.0 i.1 p.meta i.3)
@@ -102,7 +103,7 @@ module _ (c : Setting) (told : IsBarePush c) (others : List Step) where
       let k : i.0 ≡ j.0 = omega (arith, e, number_of_sent c.known c.clock_rate c.first c.kind c.faithful c.splits c.units c.lawful c.numbered p i, number_of_sent other.known c.clock_rate c.first c.kind other.faithful c.splits c.units c.lawful c.numbered q j) in
       let at : slice_get (packets_of c.units) j.0 ≡ Some i.1 = subst (λ (n : ℕ). slice_get (packets_of c.units) n ≡ Some i.1) k i.2 in
       let x : i.1 ≡ j.1 = packet_same i.1 j.1 (sym at ∙ j.2) in
-      bare_sent p i ∙ ap (λ (z : Packet). bare (held_as c.kind (meta_of_push 0 c.clock_rate z) z.payload)) x ∙ sym (ap bare j.4 ∙ ap (λ (m : RtpMeta). bare (held_as c.kind m j.1.payload)) j.3.2)
+      bare_sent p i ∙ ap (λ (z : Packet). bare (held_as c.kind (meta_of_push 0 c.clock_rate z) z.payload)) x ∙ sym (ap bare j.4 ∙ ap (λ (m : RtpMeta). bare (held_as c.kind m j.1.payload)) j.3.3)
 
   same_bare : (g h : List Held) → ArePushes c g → ArePushes other h → map number_of g ≡ map number_of h → map bare g ≡ map bare h
   same_bare [] [] a b e = refl

@@ -7,8 +7,9 @@ use Rattle.codec_payload_core.proofs.EntryLemmas.{entry_of, entry_made, made_fro
 use Rattle.codec_payload_buffer.proofs.MemberLemmas.{IsIn, in_append}
 use Rattle.codec_payload_core.proofs.SafetyLemmas.{send_keeps}
 use Rattle.codec_payload_core.proofs.StreamLemmas.{streams}
-use Rattle.codec_payload_core.specs.Log.{Stretch, Turn, begun, with_pushes, sent_before, packet_named, held_of, IsLogBy}
+use Rattle.codec_payload_core.specs.Log.{Stretch, Turn, begun, with_pushes, packet_named, held_of, IsLogBy}
 use Rattle.codec_payload_core.specs.Packets.{Packet}
+use Rattle.codec_payload_core.specs.RunCounts.{sent_before}
 use Rattle.codec_payload_core.proofs.BuiltInRuns.{Pushing, Runs, DoesStep, SendsIt, after_push, plainly}
 use Rattle.codec_payload_core.specs.Schedule.{Answer, RunState}
 use Rattle.codec_payload_core.specs.Sending.{Sample}

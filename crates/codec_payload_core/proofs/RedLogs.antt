@@ -11,10 +11,11 @@ use Rattle.codec_payload_core.proofs.BuiltInRuns.{Runs, codec_payloads}
 use Rattle.codec_payload_core.proofs.ChainLemmas.{PushesBefore, pushed_before, answers_all}
 use Rattle.codec_payload_core.proofs.ContiguousLemmas.{all_follow}
 use Rattle.codec_payload_core.proofs.CountLemmas.{red_counts}
+use Rattle.codec_payload_core.proofs.EarlierLemmas.{AllEarlier, of_earlier, red_earlier}
 use Rattle.codec_payload_core.proofs.LogLemmas.{Logs, DoesAsNamed, log_from, entry_before}
 use Rattle.codec_payload_core.proofs.LossLemmas.{none_is_lost}
 use Rattle.codec_payload_core.proofs.RedRuns.{IsInStep, IsImage, image_at, take_in_red, length_in_red, wrapped_by, runs_in_red}
-use Rattle.codec_payload_core.proofs.RunLogs.{slice_taken, slice_take, slice_there}
+use Rattle.codec_payload_core.proofs.RunLogs.{slice_taken, slice_take, slice_there, taken_within}
 use Rattle.codec_payload_core.proofs.RunSettings.{may_go, setting, fresh, ready, nothing, tracked, empty}
 use Rattle.codec_payload_core.proofs.SafetyLemmas.{SendsAll, all_end, number_at, sends_all}
 use Rattle.codec_payload_core.proofs.StreamLemmas.{Streams, streams}
@@ -30,10 +31,11 @@ use Rattle.codec_payload_buffer.specs.declared.buffer.unit.RtpMeta.{RtpMeta}
 use Rattle.codec_payload_core.specs.Exact.{IsPushedFirst, AnswersAll}
 use Rattle.codec_payload_core.specs.Headline.{InOrder}
 use Rattle.codec_payload_core.specs.LawfulUnits.{AllLawful}
-use Rattle.codec_payload_core.specs.Log.{Stretch, Turn, begun, sent_before, packet_named, IsLogBy}
+use Rattle.codec_payload_core.specs.Log.{Stretch, Turn, begun, packet_named, IsLogBy}
 use Rattle.codec_payload_core.specs.Packets.{Packet}
 use Rattle.codec_payload_core.specs.RedPromises.{RedRan, sent_in, IsRedFresh, IsIn as IsInPacket, IsRedPushOf, WasSent, ReleasesRecovered, RecoversUnits, recovered_held, pushes_of, RedLog, RunsAsRedSteps, KeepsRedPromises}
 use Rattle.codec_payload_core.specs.RedSchedule.{remembered, all_remembered, all_in_red, meta_of_block, meta_of_recovered, recovered_of, recovered_in}
+use Rattle.codec_payload_core.specs.RunCounts.{sent_before}
 use Rattle.codec_payload_core.specs.RunOrder.{AreStretches, AllFollowAsSaid}
 use Rattle.codec_payload_core.specs.RunUnits.{NoneIsLost, NonePassedOver, FirstIsWhole, NoneEvicted, IsPatient, AreNext}
 use Rattle.codec_payload_core.specs.RunValues.{is_video}
@@ -200,14 +202,14 @@ module _ (r : RedRan) (run : RunsAsRedSteps r) (is : IsRedFresh r) where
     red_setting = setting r.samples r.steps s t stream is.unused is.readable (IsRedPushOf r) faithful units lawful packets
 
     -- a step pushes what was sent
-    sent_recovered : (place k : ℕ) (d : Depack) (p : Packet) (xs : List RecoveredPacket) → slice_get r.steps place ≡ Some (steps.Push k) → kind_of_depack d ≡ payloads_by s.payloading.pack → IsImage red r.with.budget sent k p → AllByRecursion (WasSent r k) xs
+    sent_recovered : (place k : ℕ) (d : Depack) (p : Packet) (xs : List RecoveredPacket) → slice_get r.steps place ≡ Some (steps.Push k) → kind_of_depack d ≡ payloads_by s.payloading.pack → k < sent_before place r.sends → IsImage red r.with.budget sent k p → AllByRecursion (WasSent r k) xs
         → ArePushes red_setting (map (λ (x : RecoveredPacket). arrived d (meta_of_recovered place s.payloading.clock_rate r.with.receiver.primary_pt p x) x.bytes) xs)
-    sent_recovered place k d p [] at reads image each = tt
-    sent_recovered place k d p (x ∷ xs) at reads image each =
+    sent_recovered place k d p [] at reads early image each = tt
+    sent_recovered place k d p (x ∷ xs) at reads early image each =
         let one = each.0 in
         let there : slice_get (packets_of units) one.index ≡ Some one.packet = subst (λ (ps : List Packet). slice_get ps one.index ≡ Some one.packet) (sym packets) one.there in
         let meta = meta_is place s.payloading.clock_rate r.with.receiver.primary_pt p one.packet x (one.index == k) one.primary one.number one.time (λ same. own one same) in
-        let push : IsRedPushOf r one.index one.packet (meta_of_recovered place s.payloading.clock_rate r.with.receiver.primary_pt p x) = record { place = place; carrier = k; pushes = at; carried = one.carried; told = meta } in (
+        let push : IsRedPushOf r one.index one.packet (meta_of_recovered place s.payloading.clock_rate r.with.receiver.primary_pt p x) = record { place = place; carrier = k; pushes = at; after_send = early; carried = one.carried; told = meta } in (
           (
             one.index,
             one.packet,
@@ -216,7 +218,7 @@ module _ (r : RedRan) (run : RunsAsRedSteps r) (is : IsRedFresh r) where
             ap (λ (y : DepackKind). held_as y (meta_of_recovered place s.payloading.clock_rate r.with.receiver.primary_pt p x) x.bytes) reads
                 ∙ ap (λ (b : List ℕ). held_as (payloads_by s.payloading.pack) (meta_of_recovered place s.payloading.clock_rate r.with.receiver.primary_pt p x) b) one.bytes,
           ),
-          sent_recovered place k d p xs at reads image each.1,
+          sent_recovered place k d p xs at reads early image each.1,
         )
       where
         own : (one : WasSent r k x) → (one.index == k) ≡ true → (p.marker ≡ one.packet.marker) × (p.ext_vals ≡ one.packet.ext_vals)
@@ -236,7 +238,7 @@ module _ (r : RedRan) (run : RunsAsRedSteps r) (is : IsRedFresh r) where
         by_packet None none = tt
         by_packet (Some p) named =
             let there = slice_taken r.after.images _ k p named in
-            sent_recovered place k d p (recovered_in r.with.receiver p) at reads (image_of k p there) (were_sent k p there)
+            sent_recovered place k d p (recovered_in r.with.receiver p) at reads (taken_within r.after.images _ k p named) (image_of k p there) (were_sent k p there)
 
     red_chain : (turns : List Turn) (end : Stretch) → IsLogBy (pushes_of r) 0 r.steps (begun s.buffer) turns end → Chain red_setting s.buffer turns end
     red_chain turns end log =
@@ -259,6 +261,7 @@ module _ (r : RedRan) (run : RunsAsRedSteps r) (is : IsRedFresh r) where
     in_order = subst (InOrder (IsRedPushOf r) (may_split s.payloading.pack) stream.units 0) found.answers
         (chain_in_order (red_setting stream.units lawful (sym all.whole)) 0 s.buffer found.turns found.end
         (fresh r.samples r.steps s t stream is.unused is.readable (IsRedPushOf r) faithful stream.units lawful (sym all.whole)) chain);
+    before_pops = of_earlier (wrapped_by r.with red) r.samples (red_earlier r.with red) 0 r.steps s t r.sends r.pops runs.0 (subst (AllEarlier 0) (sym is.unused.nothing_held) tt);
   }
 
   -- a packet that is in another is recovered from it

@@ -10,6 +10,7 @@ use Rattle.codec_payload_core.proofs.BuiltInRuns.{Runs, plainly, unused_exactly}
 use Rattle.codec_payload_core.proofs.ChainLemmas.{PushesBefore, pushed_before, answers_all}
 use Rattle.codec_payload_core.proofs.ContiguousLemmas.{all_follow}
 use Rattle.codec_payload_core.proofs.CountLemmas.{run_counts}
+use Rattle.codec_payload_core.proofs.EarlierLemmas.{AllEarlier, of_earlier, plain_earlier}
 use Rattle.codec_payload_core.proofs.GapLemmas.{only_past_gap}
 use Rattle.codec_payload_core.proofs.LogLemmas.{Logs, log_from, entry_before, plain_as_named}
 use Rattle.codec_payload_core.proofs.LossLemmas.{none_is_lost}
@@ -30,8 +31,9 @@ use Rattle.codec_payload_buffer.specs.declared.buffer.unit.RtpMeta.{RtpMeta}
 use Rattle.codec_payload_core.specs.Exact.{IsPushedFirst, AnswersAll, ReleasesUnits}
 use Rattle.codec_payload_core.specs.Headline.{IsPushOf, ArePushesBy, InOrder, IsUnused, ReleasesInOrder, packets_before}
 use Rattle.codec_payload_core.specs.LawfulUnits.{AllLawful}
-use Rattle.codec_payload_core.specs.Log.{Stretch, Turn, begun, sent_before, packet_named, held_of, IsLog, RunLog}
+use Rattle.codec_payload_core.specs.Log.{Stretch, Turn, begun, packet_named, held_of, IsLog, RunLog}
 use Rattle.codec_payload_core.specs.Packets.{Packet}
+use Rattle.codec_payload_core.specs.RunCounts.{sent_before}
 use Rattle.codec_payload_core.specs.RunOrder.{AreStretches, IsOrderFree, AllFollowAsSaid, IsContiguousAsSaid, bare_meta, bare_answer, OnlySetsCount}
 use Rattle.codec_payload_core.specs.RunPromises.{Ran, IsFresh, KeepsPromises, RunsAsSteps}
 use Rattle.codec_payload_core.specs.RunUnits.{LosesNoneSilently, PassesNoneOver, PassesOnlyPastGap, FirstIsWhole, NoneEvicted, AreNext, BeginsAsSent}
@@ -47,6 +49,13 @@ use Rattle.codec_payload_core.specs.declared.schedule.Step.TheVariants as steps
 -- what was sent by then was sent
 pub slice_taken : (packets : List Packet) (n k : ℕ) (q : Packet) → slice_get (take n packets) k ≡ Some q → slice_get packets k ≡ Some q
 slice_taken packets n k q h = subst (λ (ps : List Packet). slice_get ps k ≡ Some q) (take-append-drop n packets) (slice_append (take n packets) (drop n packets) k q h)
+
+-- and what was sent by then is among so many
+pub taken_within : (packets : List Packet) (n k : ℕ) (q : Packet) → slice_get (take n packets) k ≡ Some q → k < n
+taken_within packets zero k q h = absurd (cc)
+taken_within [] (suc n) k q h = absurd (cc)
+taken_within (p ∷ ps) (suc n) zero q h = omega arith
+taken_within (p ∷ ps) (suc n) (suc k) q h = omega (arith, taken_within ps n k q h)
 
 -- and what was sent was sent by some time
 pub slice_take : (packets : List Packet) (n k : ℕ) → k < n → slice_get (take n packets) k ≡ slice_get packets k
@@ -66,28 +75,28 @@ end_at kind (v ∷ us) zero u ends is = let same : v ≡ u = cc in subst (λ (x 
 end_at kind (v ∷ us) (suc place) u ends is = end_at kind us place u ends.1 is
 
 -- the log of a run is a chain: its steps push what was sent
-plain_chain : (c : Setting) (all_steps : List Step) (sends : List Sent) (turns : List Turn) (end : Stretch) (s : State) → Beyond (by_steps c all_steps) 0 s → IsLog (packets_of c.units) c.clock_rate sends 0 all_steps (begun s) turns end → Chain (by_steps c all_steps) s turns end
-plain_chain c all_steps sends turns end s beyond log = chain_of (by_steps c all_steps) all_steps named named_sent all_steps 0 (begun s) turns end refl 0 beyond (record { sent = tt; now = refl }) log
+plain_chain : (c : Setting) (all_steps : List Step) (sends : List Sent) (turns : List Turn) (end : Stretch) (s : State) → Beyond (by_steps c all_steps sends) 0 s → IsLog (packets_of c.units) c.clock_rate sends 0 all_steps (begun s) turns end → Chain (by_steps c all_steps sends) s turns end
+plain_chain c all_steps sends turns end s beyond log = chain_of (by_steps c all_steps sends) all_steps named named_sent all_steps 0 (begun s) turns end refl 0 beyond (record { sent = tt; now = refl }) log
   where
     named : ℕ → ℕ → Depack → List Held
     named place k = held_of place c.clock_rate (packet_named (packets_of c.units) sends place k)
 
-    named_sent : (place k : ℕ) (d : Depack) → slice_get all_steps place ≡ Some (steps.Push k) → kind_of_depack d ≡ c.kind → ArePushes (by_steps c all_steps) (named place k d)
+    named_sent : (place k : ℕ) (d : Depack) → slice_get all_steps place ≡ Some (steps.Push k) → kind_of_depack d ≡ c.kind → ArePushes (by_steps c all_steps sends) (named place k d)
     named_sent place k d at reads = by_packet (packet_named (packets_of c.units) sends place k) refl
       where
-        by_packet : (o : Option Packet) → packet_named (packets_of c.units) sends place k ≡ o → ArePushes (by_steps c all_steps) (held_of place c.clock_rate o d)
+        by_packet : (o : Option Packet) → packet_named (packets_of c.units) sends place k ≡ o → ArePushes (by_steps c all_steps sends) (held_of place c.clock_rate o d)
         by_packet None is = tt
         by_packet (Some q) is =
             let meta = meta_of_push place c.clock_rate q in
-            ((k, q, slice_taken (packets_of c.units) _ k q is, (place, at, refl), ap (λ (x : DepackKind). held_as x meta q.payload) reads), tt)
+            ((k, q, slice_taken (packets_of c.units) _ k q is, (place, at, taken_within (packets_of c.units) _ k q is, refl), ap (λ (x : DepackKind). held_as x meta q.payload) reads), tt)
 
 module _ (samples : List Sample) (all_steps : List Step) (s t : RunState) (sends : List Sent) (pops : List Answer) (run : Runs plainly samples 0 all_steps s sends pops t) (unused : IsUnused s) (readable : AreReadable s.payloading.pack samples) where
   -- what is known of pushes, and what a step pushes
   abbrev Known : ℕ → Packet → RtpMeta → Type 0
-  Known = IsPushOf all_steps s.payloading.clock_rate
+  Known = IsPushOf all_steps sends s.payloading.clock_rate
 
   abbrev faithful : IsFaithful Known s.payloading.clock_rate (payloads_by s.payloading.pack)
-  faithful = push_faithful all_steps s.payloading.clock_rate (payloads_by s.payloading.pack)
+  faithful = push_faithful all_steps sends s.payloading.clock_rate (payloads_by s.payloading.pack)
 
   abbrev named : ℕ → ℕ → Depack → List Held
   named place k = held_of place s.payloading.clock_rate (packet_named t.sink.packets sends place k)
@@ -121,7 +130,7 @@ module _ (samples : List Sample) (all_steps : List Step) (s t : RunState) (sends
   chain = run_chain stream.units (stream.lawful readable) (sym sent.whole) found.turns found.end found.is_log
 
   -- a run over an unused sink and an unused buffer releases the units that it sends in order, each at most once
-  abbrev safe : ReleasesInOrder samples all_steps s pops t
+  abbrev safe : ReleasesInOrder samples all_steps s sends pops t
   safe = record {
     units = stream.units;
     canonical = stream.canonical;
@@ -129,6 +138,7 @@ module _ (samples : List Sample) (all_steps : List Step) (s t : RunState) (sends
     ends = all_end (payloads_by s.payloading.pack) (may_split s.payloading.pack) stream.units (stream.lawful readable);
     in_order = subst (InOrder Known (may_split s.payloading.pack) stream.units 0) found.answers
         (chain_in_order (run_setting stream.units (stream.lawful readable) (sym sent.whole)) 0 s.buffer found.turns found.end (run_fresh stream.units (stream.lawful readable) (sym sent.whole)) chain);
+    before_pops = of_earlier plainly samples plain_earlier 0 all_steps s t sends pops run (subst (AllEarlier 0) (sym unused.nothing_held) tt);
   }
 
   -- a packet that is pushed first is named before the first pop
@@ -168,7 +178,7 @@ module _ (samples : List Sample) (all_steps : List Step) (s t : RunState) (sends
   }
 
   -- of video, a whole release tells the values of its sample
-  pub has_values : (released : ReleasesInOrder samples all_steps s pops t) → HaveValuesOfSamples released
+  pub has_values : (released : ReleasesInOrder samples all_steps s sends pops t) → HaveValuesOfSamples released
   has_values released video place r whole =
       let sent = sends_all samples all_steps s t unused stream in
       let kind = payloads_by s.payloading.pack in
@@ -182,7 +192,7 @@ module _ (samples : List Sample) (all_steps : List Step) (s t : RunState) (sends
     where
       told : (ps : List Packet) (k : ℕ) (values : ExtensionValues) → EndsWithTail (payloads_by s.payloading.pack) ps → ArePushesBy Known k ps r.metas → AreStripped values 0 (length ps) ps → AreValues r.metas values
       told [] k values end pushes carry = absurd end
-      told (p ∷ ps) k values end pushes carry = told_by_all all_steps s.payloading.clock_rate values k p ps r.metas pushes carry
+      told (p ∷ ps) k values end pushes carry = told_by_all all_steps sends s.payloading.clock_rate values k p ps r.metas pushes carry
 
   module _ (log : RunLog samples all_steps s sends pops t) where
     abbrev pub log_setting : Setting
@@ -227,14 +237,14 @@ only_sets_count samples all_steps other_steps s t u sends other_sends pops other
     let exactly = unused_exactly samples all_steps s sends pops t unused run in
     let c = log_setting samples all_steps s t sends pops exactly unused readable log in
     let ready_of_log = log_ready samples all_steps s t sends pops exactly unused readable log in
-    let d = by_steps c other_steps in
+    let d = by_steps c other_steps other_sends in
     let beyond = fresh_beyond d.known d.clock_rate d.first d.kind d.faithful d.splits d.units d.lawful d.numbered s.buffer unused.nothing_held unused.no_cutoff unused.alike in
     let ready_of_other : IsReady d 0 s.buffer = record { beyond = beyond; few = ready_of_log.few } in
     let other_log : IsLog (packets_of log.released.units) s.payloading.clock_rate other_sends 0 other_steps (begun s.buffer) other.turns other.end =
     subst (λ (ps : List Packet). IsLog ps s.payloading.clock_rate other_sends 0 other_steps (begun s.buffer) other.turns other.end) (sym (log.released.packets ∙ packets)) other.is_log in
     let other_chain = plain_chain c other_steps other_sends other.turns other.end s.buffer beyond other_log in
     ap (map bare_answer) (sym log.answers)
-    ∙ chains_same c (λ k q m push. ap bare_meta push.2) other_steps 0 0 s.buffer s.buffer log.turns other.turns log.end other.end ready_of_log ready_of_other refl (log_chain samples all_steps s t sends pops exactly unused readable log) other_chain same
+    ∙ chains_same c (λ k q m push. ap bare_meta push.3) other_steps other_sends 0 0 s.buffer s.buffer log.turns other.turns log.end other.end ready_of_log ready_of_other refl (log_chain samples all_steps s t sends pops exactly unused readable log) other_chain same
     ∙ ap (map bare_answer) other.answers
 
 -- what is promised of a run follows from its steps alone

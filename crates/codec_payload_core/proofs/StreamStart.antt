@@ -8,7 +8,7 @@ use Rattle.codec_payload_buffer.specs.Depack.{Depack, depack_for, configured_dep
 use Rattle.codec_payload_buffer.specs.Pack.{Pack, pack_for, configured, is_built_in}
 use Rattle.codec_payload_core.specs.Headline.{IsUnused}
 use Rattle.codec_payload_core.specs.Packets.{SentPackets}
-use Rattle.codec_payload_core.specs.RunPromises.{KeepsPromises, ran}
+use Rattle.codec_payload_core.specs.RunPromises.{Ran, KeepsPromises, KeepsPromisesIf, ran}
 use Rattle.codec_payload_core.specs.RunStream.{fresh, RunsStream}
 use Rattle.codec_payload_core.specs.Schedule.{RunState, run_state}
 use Rattle.codec_payload_core.specs.Sending.{Payloading}
@@ -78,6 +78,23 @@ some_of_map f (Some x) y h = (x, refl, cc)
 abbrev pub payloading_for : Stream → Option Payloading
 payloading_for stream = option_map (λ pack. record { pack = configured stream.spec.octet_align pack; clock_rate = stream.spec.clock_rate }) (pack_for stream.mode stream.first_id stream.spec.codec)
 
+-- what is kept under a premise is kept under one from which that follows
+kept_if : {P Q : Type 0} (r : Ran) → (Q → P) → KeepsPromisesIf P r → KeepsPromisesIf Q r
+kept_if r so kept = record {
+  run_as_steps = kept.run_as_steps;
+  counted = kept.counted;
+  safety_half = λ q. kept.safety_half (so q);
+  exact_half = λ q. kept.exact_half (so q);
+  logged = λ q. kept.logged (so q);
+  order = λ q. kept.order (so q);
+  contiguous = λ q. kept.contiguous (so q);
+  no_silent_loss = λ q. kept.no_silent_loss (so q);
+  none_passed_over = λ q. kept.none_passed_over (so q);
+  passed_over = λ q. kept.passed_over (so q);
+  beginning = λ q. kept.beginning (so q);
+  extension_values = λ q. kept.extension_values (so q);
+}
+
 from_start : (stream : Stream) (samples : List ToPayload) (steps : List Step) (run : Run) (after : RunState) (p : Pack) (d : Depack)
     → pack_for stream.mode stream.first_id stream.spec.codec ≡ Some p → depack_for stream.spec.codec ≡ Some d
     → KeepsPromises (ran samples steps (fresh stream (configured stream.spec.octet_align p) (configured_depack stream.spec.octet_align stream.spec.clock_rate d)) run after)
@@ -88,8 +105,7 @@ from_start stream samples steps run after p d sends receives kept = record {
   depack = configured_depack stream.spec.octet_align stream.spec.clock_rate d;
   receiver = ap (λ o. option_map (configured_depack stream.spec.octet_align stream.spec.clock_rate) o) receives;
   after = after;
-  headline = λ readable. kept.exact_half (starts_unused stream p d sends receives, readable);
-  promises = kept;
+  promises = kept_if (ran samples steps (fresh stream (configured stream.spec.octet_align p) (configured_depack stream.spec.octet_align stream.spec.clock_rate d)) run after) (λ readable. (starts_unused stream p d sends receives, readable)) kept;
 }
 
 -- a run of payloader, buffer and sink that are those of the stream

@@ -26,6 +26,7 @@ use Rattle.codec_payload_buffer.specs.Steps.{State, IsSound, pushed, is_at_most,
 use Rattle.codec_payload_buffer.specs.Stretches.{after_pushes, kept, IsLeft, IsInRange}
 use Rattle.codec_payload_buffer.specs.declared.buffer.frames.Segment.{Segment}
 use Rattle.codec_payload_buffer.specs.declared.buffer.unit.RtpMeta.{RtpMeta}
+use Rattle.codec_payload_core.specs.declared.schedule.Sent.{Sent}
 use Rattle.codec_payload_core.specs.declared.schedule.Step.{Step}
 use Rattle.codec_payload_core.specs.declared.schedule.Step.TheVariants as steps
 
@@ -62,8 +63,8 @@ kept_few : (s : State) (ns : List ℕ) → length (kept s ns) ≤ s.limit
 kept_few s ns = omega (arith, length-drop (length ns - s.limit) ns)
 
 -- the same, of packets that these steps push as they are
-abbrev pub by_steps : Setting → List Step → Setting
-by_steps c all_steps = record c { known = IsPushOf all_steps c.clock_rate; faithful = push_faithful all_steps c.clock_rate c.kind }
+abbrev pub by_steps : Setting → List Step → List Sent → Setting
+by_steps c all_steps sends = record c { known = IsPushOf all_steps sends c.clock_rate; faithful = push_faithful all_steps sends c.clock_rate c.kind }
 
 -- what the pops of these turns answer
 abbrev pub answers_of : List Turn → List Answer

@@ -14,6 +14,7 @@ use Rattle.codec_payload_core.specs.LawfulUnits.{StartsWithHead, payloads_held, 
 use Rattle.codec_payload_core.specs.SentStream.{SentUnit, packets_of, EndsWithTail}
 use Rattle.codec_payload_buffer.specs.Steps.{metas_of}
 use Rattle.codec_payload_buffer.specs.declared.buffer.unit.RtpMeta.{RtpMeta}
+use Rattle.codec_payload_core.specs.declared.schedule.Sent.{Sent}
 use Rattle.codec_payload_core.specs.declared.schedule.Step.{Step}
 
 -- a packet as a buffer over a depacketizer of that kind holds it
@@ -52,11 +53,11 @@ pub record IsFaithful (known : ℕ → Packet → RtpMeta → Type 0) (clock_rat
   pub tail : (k : ℕ) (q : Packet) (m : RtpMeta) → known k q m → tail_in kind m.header.marker q.payload ≡ tail_in kind q.marker q.payload
 
 -- a push of the packet itself tells all this
-pub push_faithful : (all_steps : List Step) (clock_rate : ℕ) (kind : DepackKind) → IsFaithful (IsPushOf all_steps clock_rate) clock_rate kind
-push_faithful all_steps clock_rate kind = record {
-  number = λ k q m push. ap (λ (x : RtpMeta). x.seq_no.0) push.2;
-  time = λ k q m push. ap (λ (x : RtpMeta). x.time) push.2;
-  tail = λ k q m push. ap (λ (x : RtpMeta). tail_in kind x.header.marker q.payload) push.2;
+pub push_faithful : (all_steps : List Step) (sends : List Sent) (clock_rate : ℕ) (kind : DepackKind) → IsFaithful (IsPushOf all_steps sends clock_rate) clock_rate kind
+push_faithful all_steps sends clock_rate kind = record {
+  number = λ k q m push. ap (λ (x : RtpMeta). x.seq_no.0) push.3;
+  time = λ k q m push. ap (λ (x : RtpMeta). x.time) push.3;
+  tail = λ k q m push. ap (λ (x : RtpMeta). tail_in kind x.header.marker q.payload) push.3;
 }
 
 module _ (known : ℕ → Packet → RtpMeta → Type 0) (clock_rate : ℕ) (kind : DepackKind) (faithful : IsFaithful known clock_rate kind) where

@@ -18,6 +18,7 @@ use Rattle.codec_payload_core.specs.Sending.{Sample, packets_from, packets_for}
 use Rattle.codec_payload_core.specs.SentStream.{SentUnit, packets_of}
 use Rattle.codec_payload_core.specs.StrippedValues.{kept_if, stripped}
 use Rattle.codec_payload_core.specs.Units.{canonical_obus, canonical_units, is_skipped, pack_after, refusal_of, units_by}
+use Rattle.codec_payload_core.specs.declared.schedule.Sent.{Sent}
 use Rattle.codec_payload_core.specs.declared.schedule.Step.{Step}
 
 -- these packets stand from place i of n on, and have the values that go there
@@ -112,13 +113,13 @@ merged_stripped values m i =
       voice_activity = values.voice_activity;
     }
 
-module _ (all_steps : List Step) (clock_rate : ℕ) (values : ExtensionValues) where
-  last_meta : (k i n : ℕ) (p : Packet) (ps : List Packet) (metas : List RtpMeta) → ArePushesBy (IsPushOf all_steps clock_rate) k (p ∷ ps) metas → AreStripped values i n (p ∷ ps)
+module _ (all_steps : List Step) (sends : List Sent) (clock_rate : ℕ) (values : ExtensionValues) where
+  last_meta : (k i n : ℕ) (p : Packet) (ps : List Packet) (metas : List RtpMeta) → ArePushesBy (IsPushOf all_steps sends clock_rate) k (p ∷ ps) metas → AreStripped values i n (p ∷ ps)
       → (m : RtpMeta) × (slice_get metas (length metas - 1) ≡ Some m) × (m.header.ext_vals ≡ stripped values (i + length ps) n)
   last_meta k i n p ps [] pushes carry = absurd pushes
   last_meta k i n p [] (m ∷ []) pushes carry =
       let e : i ≡ i + 0 = omega arith in
-      (m, refl, ap (λ (x : RtpMeta). x.header.ext_vals) pushes.0.2 ∙ (carry.0 ∙ ap (λ (j : ℕ). stripped values j n) e))
+      (m, refl, ap (λ (x : RtpMeta). x.header.ext_vals) pushes.0.3 ∙ (carry.0 ∙ ap (λ (j : ℕ). stripped values j n) e))
   last_meta k i n p [] (m ∷ l ∷ ms) pushes carry = absurd pushes.1
   last_meta k i n p (q ∷ qs) (m ∷ []) pushes carry = absurd pushes.1
   last_meta k i n p (q ∷ qs) (m ∷ l ∷ ms) pushes carry =
@@ -128,13 +129,13 @@ module _ (all_steps : List Step) (clock_rate : ℕ) (values : ExtensionValues) w
       (rest.0, ap (slice_get (m ∷ l ∷ ms)) (sym at) ∙ rest.1, rest.2 ∙ ap (λ (j : ℕ). stripped values j n) e)
 
   -- what is known of one push each of all these packets tells the values
-  pub told_by_all : (k : ℕ) (p : Packet) (ps : List Packet) (metas : List RtpMeta) → ArePushesBy (IsPushOf all_steps clock_rate) k (p ∷ ps) metas → AreStripped values 0 (length (p ∷ ps)) (p ∷ ps) → AreValues metas values
+  pub told_by_all : (k : ℕ) (p : Packet) (ps : List Packet) (metas : List RtpMeta) → ArePushesBy (IsPushOf all_steps sends clock_rate) k (p ∷ ps) metas → AreStripped values 0 (length (p ∷ ps)) (p ∷ ps) → AreValues metas values
   told_by_all k p ps [] pushes carry = absurd pushes
   told_by_all k p ps (m ∷ ms) pushes carry =
       let last = last_meta k 0 (length (p ∷ ps)) p ps (m ∷ ms) pushes carry in
       let n : length (p ∷ ps) ≡ length ps + 1 = omega arith in
       let zero : 0 + length ps ≡ length ps = omega arith in
-      let first_has : m.header.ext_vals ≡ stripped values 0 (length ps + 1) = ap (λ (x : RtpMeta). x.header.ext_vals) pushes.0.2 ∙ (carry.0 ∙ ap (stripped values 0) n) in
+      let first_has : m.header.ext_vals ≡ stripped values 0 (length ps + 1) = ap (λ (x : RtpMeta). x.header.ext_vals) pushes.0.3 ∙ (carry.0 ∙ ap (stripped values 0) n) in
       let last_has : last.0.header.ext_vals ≡ stripped values (length ps) (length ps + 1) = last.2 ∙ (ap (λ (j : ℕ). stripped values j (length (p ∷ ps))) zero ∙ ap (stripped values (length ps)) n) in
       record {
         first = m;

@@ -43,5 +43,5 @@ AnswersAll known k (u ∷ us) (answer ∷ answers) =
 
 -- units are released in order, each at most once; and where all packets are pushed first, exactly all of them
 pub record ReleasesUnits (samples : List Sample) (all_steps : List Step) (s : RunState) (sends : List Sent) (pops : List Answer) (t : RunState) : Type 0 where
-  pub in_order : ReleasesInOrder samples all_steps s pops t
-  pub exactly : IsAllPushed all_steps sends s t → AnswersAll (IsPushOf all_steps s.payloading.clock_rate) 0 in_order.units pops
+  pub in_order : ReleasesInOrder samples all_steps s sends pops t
+  pub exactly : IsAllPushed all_steps sends s t → AnswersAll (IsPushOf all_steps sends s.payloading.clock_rate) 0 in_order.units pops

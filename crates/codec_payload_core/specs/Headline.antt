@@ -1,9 +1,10 @@
 -- What a buffer releases of a run, whatever is lost, repeated and reordered.
-use Rattle.std.specs.Prelude.{◌≡◌, ℕ, ◌+◌, ◌≤◌, Bool, true, false, List, [], ◌∷◌, ◌++◌, Some, None, Ok, Err, length, map, take, slice_get}
+use Rattle.std.specs.Prelude.{◌≡◌, ℕ, ◌+◌, ◌<◌, ◌≤◌, Bool, true, false, List, [], ◌∷◌, ◌++◌, Some, None, Ok, Err, length, map, take, slice_get}
 use Rattle.codec_payload_buffer.specs.ContiguityTable.{contiguity_for}
 use Rattle.codec_payload_buffer.specs.Depack.{kind_of_depack}
 use Rattle.codec_payload_buffer.specs.Pack.{is_built_in}
 use Rattle.codec_payload_core.specs.Packets.{Packet}
+use Rattle.codec_payload_core.specs.RunCounts.{sent_before}
 use Rattle.codec_payload_core.specs.ToldIds.{read_by}
 use Rattle.codec_payload_buffer.specs.Release.{Release}
 use Rattle.codec_payload_core.specs.Schedule.{Answer, RunState, meta_of_push}
@@ -11,12 +12,33 @@ use Rattle.codec_payload_core.specs.Sending.{Sample}
 use Rattle.codec_payload_core.specs.SentStream.{SentUnit, packets_of, AllEndWithTail, IsReleaseOf, units_of_run}
 use Rattle.codec_payload_core.specs.Units.{payloads_by, may_split}
 use Rattle.codec_payload_buffer.specs.declared.buffer.unit.RtpMeta.{RtpMeta}
+use Rattle.codec_payload_core.specs.declared.schedule.Sent.{Sent}
 use Rattle.codec_payload_core.specs.declared.schedule.Step.{Step}
 use Rattle.codec_payload_core.specs.declared.schedule.Step.TheVariants as steps
 
--- what is known of one push of that packet, whose index is k
-abbrev pub IsPushOf : List Step → ℕ → ℕ → Packet → RtpMeta → Type 0
-IsPushOf all_steps clock_rate k p meta = (place : ℕ) × (slice_get all_steps place ≡ Some (steps.Push k)) × (meta ≡ meta_of_push place clock_rate p)
+-- what is known of one push of that packet, whose index is k: a step pushed it, by which it was sent
+abbrev pub IsPushOf : List Step → List Sent → ℕ → ℕ → Packet → RtpMeta → Type 0
+IsPushOf all_steps sends clock_rate k p meta =
+    (place : ℕ) × (slice_get all_steps place ≡ Some (steps.Push k)) × (k < sent_before place sends) × (meta ≡ meta_of_push place clock_rate p)
+
+-- steps before that place pushed all of these: `received` tells the step
+abbrev pub ArePushedBefore : ℕ → List RtpMeta → Type 0
+ArePushedBefore place [] = Unit {0}
+ArePushedBefore place (m ∷ ms) = (m.received.0 < place) × ArePushedBefore place ms
+
+-- and all packets of the unit, if one is released
+abbrev pub IsOfEarlier : ℕ → Answer → Type 0
+IsOfEarlier place None = Unit {0}
+IsOfEarlier place (Some (Err fault)) = Unit {0}
+IsOfEarlier place (Some (Ok r)) = ArePushedBefore place r.metas
+
+-- each pop of the steps from `place` on releases packets that steps before it pushed
+abbrev pub AreOfEarlier : ℕ → List Step → List Answer → Type 0
+AreOfEarlier place [] answers = Unit {0}
+AreOfEarlier place (steps.Send i mtu ∷ later) answers = AreOfEarlier (place + 1) later answers
+AreOfEarlier place (steps.Push k ∷ later) answers = AreOfEarlier (place + 1) later answers
+AreOfEarlier place (steps.Pop ∷ later) [] = ⊥
+AreOfEarlier place (steps.Pop ∷ later) (answer ∷ answers) = IsOfEarlier place answer × AreOfEarlier (place + 1) later answers
 
 -- what is known of one push each of exactly these packets, in order, from index k on; `known` says what may be known of a
 -- push of the packet of an index
@@ -62,10 +84,12 @@ pub record IsUnused (s : RunState) : Type 0 where
   pub nothing_kept : s.buffer.contiguity ≡ contiguity_for (kind_of_depack s.buffer.depack)
 
 -- the units of the samples, as the steps send them, with their packets, of which the last alone ends a unit,
--- and which the sink holds; and what the pops answered are these units, in order, each at most once
-pub record ReleasesInOrder (samples : List Sample) (all_steps : List Step) (s : RunState) (pops : List Answer) (t : RunState) : Type 0 where
+-- and which the sink holds; and what the pops answered are these units, in order, each at most once, of packets that were
+-- pushed before the pop
+pub record ReleasesInOrder (samples : List Sample) (all_steps : List Step) (s : RunState) (sends : List Sent) (pops : List Answer) (t : RunState) : Type 0 where
   pub units : List SentUnit
   pub canonical : map (λ (u : SentUnit). u.parts) units ≡ units_of_run s.payloading.pack samples all_steps
   pub packets : packets_of units ≡ t.sink.packets
   pub ends : AllEndWithTail (payloads_by s.payloading.pack) units
-  pub in_order : InOrder (IsPushOf all_steps s.payloading.clock_rate) (may_split s.payloading.pack) units 0 pops
+  pub in_order : InOrder (IsPushOf all_steps sends s.payloading.clock_rate) (may_split s.payloading.pack) units 0 pops
+  pub before_pops : AreOfEarlier 0 all_steps pops

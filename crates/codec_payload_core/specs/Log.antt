@@ -1,11 +1,12 @@
 -- A run told pop by pop: what was pushed before each, what it answered, and what the buffer was.
-use Rattle.std.specs.Prelude.{◌≡◌, ◌≢◌, ℕ, ◌+◌, List, [], ◌∷◌, ◌++◌, Option, Some, None, Err, map, take, slice_get, nat_lt, if◌then◌else◌, refl}
+use Rattle.std.specs.Prelude.{◌≡◌, ◌≢◌, ℕ, ◌+◌, List, [], ◌∷◌, ◌++◌, Option, Some, None, Err, map, take, slice_get}
 use Rattle.codec_payload_base.specs.declared.error.PacketError.TheVariants as faults
 use Rattle.codec_payload_buffer.specs.Depack.{Depack}
 use Rattle.codec_payload_core.specs.Headline.{ReleasesInOrder}
 use Rattle.codec_payload_buffer.specs.Held.{Held}
 use Rattle.codec_payload_core.specs.LawfulUnits.{AllLawful}
 use Rattle.codec_payload_core.specs.Packets.{Packet}
+use Rattle.codec_payload_core.specs.RunCounts.{sent_before}
 use Rattle.codec_payload_core.specs.Schedule.{Answer, RunState, meta_of_push}
 use Rattle.codec_payload_core.specs.Sending.{Sample}
 use Rattle.codec_payload_buffer.specs.Steps.{State, arrived, PopsOver}
@@ -39,11 +40,6 @@ begun s = record { left = s; pushes = []; now = s }
 abbrev pub with_pushes : Stretch → List Held → Stretch
 with_pushes w ps = record w { pushes = w.pushes ++ ps; now = after_pushes w.now ps }
 
--- how many packets were sent before step `place`, as the entries tell
-abbrev pub sent_before : ℕ → List Sent → ℕ
-sent_before place [] = 0
-sent_before place (entry ∷ sends) = (if nat_lt entry.step place then entry.count else 0) + sent_before place sends
-
 -- the packet that step `place` names by its index, if it was sent by then
 abbrev pub packet_named : List Packet → List Sent → ℕ → ℕ → Option Packet
 packet_named packets sends place k = slice_get (take (sent_before place sends) packets) k
@@ -71,17 +67,10 @@ IsLog packets clock_rate sends = IsLogBy (λ place k. held_of place clock_rate (
 
 -- a run told pop by pop, with the units that it sends, for each of which the codec keeps what it owes; `end` is what comes after the last pop
 pub record RunLog (samples : List Sample) (all_steps : List Step) (s : RunState) (sends : List Sent) (pops : List Answer) (t : RunState) : Type 0 where
-  pub released : ReleasesInOrder samples all_steps s pops t
+  pub released : ReleasesInOrder samples all_steps s sends pops t
   pub lawful : AllLawful (payloads_by s.payloading.pack) (may_split s.payloading.pack) released.units
   pub turns : List Turn
   pub end : Stretch
   pub is_log : IsLog t.sink.packets s.payloading.clock_rate sends 0 all_steps (begun s.buffer) turns end
   pub answers : map (λ (turn : Turn). turn.answer) turns ≡ pops
   pub left : end.now ≡ t.buffer
-
--- an entry of the first step counts at each later one
-pub sent_before-first : sent_before 1 (record { step = 0; first = 0; count = 3; fault = None } ∷ record { step = 4; first = 3; count = 2; fault = None } ∷ []) ≡ 3
-sent_before-first = refl
-
-pub sent_before-both : sent_before 5 (record { step = 0; first = 0; count = 3; fault = None } ∷ record { step = 4; first = 3; count = 2; fault = None } ∷ []) ≡ 5
-sent_before-both = refl

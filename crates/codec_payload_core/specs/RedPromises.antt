@@ -1,18 +1,20 @@
 -- What is promised of a whole run with RED.
 use Rattle.std.specs.Prelude.{◌≡◌, ◌⊎◌, ℕ, ◌<◌, ◌≤◌, ◌==◌, false, Option, List, [], Some, None, length, map, slice_get}
+use Rattle.std.specs.Borrow.{MutBor}
 use Rattle.std.specs.List.{AllByRecursion}
+use Rattle.std.proofs.Common.{inl, inr}
 use Rattle.codec_payload_base.specs.declared.wire.ToPayload.{ToPayload}
 use Rattle.codec_payload_buffer.specs.Depack.{Depack}
 use Rattle.codec_payload_buffer.specs.Held.{Held}
 use Rattle.codec_payload_buffer.specs.Steps.{arrived}
 use Rattle.codec_payload_buffer.specs.declared.buffer.unit.RtpMeta.{RtpMeta}
 use Rattle.codec_payload_core.specs.Exact.{IsPushedFirst, AnswersAll}
-use Rattle.codec_payload_core.specs.Headline.{InOrder, IsUnused}
+use Rattle.codec_payload_core.specs.Headline.{AreOfEarlier, InOrder, IsUnused}
 use Rattle.codec_payload_core.specs.LawfulUnits.{AllLawful}
 use Rattle.codec_payload_core.specs.Log.{Stretch, Turn, begun, packet_named, IsLogBy}
 use Rattle.codec_payload_core.specs.Packets.{Packet}
 use Rattle.codec_payload_core.specs.RedSchedule.{Protection, RedState, RunsInRed, all_remembered, meta_of_block, meta_of_recovered, recovered_in}
-use Rattle.codec_payload_core.specs.RunCounts.{IsCounted}
+use Rattle.codec_payload_core.specs.RunCounts.{IsCounted, sent_before}
 use Rattle.codec_payload_core.specs.RunOrder.{AreStretches, AllFollowAsSaid}
 use Rattle.codec_payload_core.specs.RunUnits.{NoneIsLost, NonePassedOver, FirstIsWhole, NoneEvicted, IsPatient, AreNext}
 use Rattle.codec_payload_core.specs.RunValues.{is_video}
@@ -25,6 +27,7 @@ use Rattle.codec_payload_core.specs.declared.schedule.Run.{Run}
 use Rattle.codec_payload_core.specs.declared.schedule.Sent.{Sent}
 use Rattle.codec_payload_core.specs.declared.schedule.Step.{Step}
 use Rattle.codec_payload_core.specs.declared.schedule.Step.TheVariants as steps
+use Rattle.codec_payload_red.specs.RedLevels.{Sender}
 use Rattle.codec_payload_red.specs.RedRecovery.{Receiver, RecoveredPacket}
 use Rattle.codec_payload_red.specs.RedRun.{IsRecoverable, IsKeptIn}
 
@@ -46,6 +49,13 @@ ran_in_red with samples steps before run after = record { with = with; samples =
 abbrev pub protection_of : RedRun → Protection
 protection_of red = record { budget = red.budget; receiver = red.receiver.now }
 
+-- How a run leaves the sender that it was lent. What a value that holds a reference leaves behind it is told by the layout of
+-- the value: of an `Option` the second case is `Some`, and the sender is the first field of a `RedRun`.
+abbrev pub LeavesSender : {Rest : Type 0} → Unit {0} ⊎ (((MutBor Sender × Rest) × Unit {0}) ⊎ ⊥) → Sender → Type 0
+LeavesSender (inl none) sender = ⊥
+LeavesSender (inr (inl red)) sender = sender ≡ red.0.0.now
+LeavesSender (inr (inr none)) sender = ⊥
+
 -- the packets that were sent, as they were before they were put in RED
 abbrev pub sent_in : RedRan → List Packet
 sent_in r = r.after.plain.sink.packets
@@ -63,11 +73,12 @@ pub record IsRedFresh (r : RedRan) : Type 0 where
 abbrev pub IsIn : RedRan → ℕ → ℕ → Type 0
 IsIn r k carrier = (k ≡ carrier) ⊎ IsKeptIn r.before.sender r.with.budget (all_remembered (sent_in r)) k carrier
 
--- what is known of one push of the packet of index k: a step pushed what a packet holds that it is in
+-- what is known of one push of the packet of index k: a step pushed what a packet holds that it is in, by which that was sent
 pub record IsRedPushOf (r : RedRan) (k : ℕ) (p : Packet) (meta : RtpMeta) : Type 0 where
   pub place : ℕ
   pub carrier : ℕ
   pub pushes : slice_get r.steps place ≡ Some (steps.Push carrier)
+  pub after_send : carrier < sent_before place r.sends
   pub carried : IsIn r k carrier
   pub told : meta ≡ meta_of_block place r.before.plain.payloading.clock_rate r.with.receiver.primary_pt (k == carrier) p
 
@@ -83,13 +94,14 @@ pub record WasSent (r : RedRan) (k : ℕ) (x : RecoveredPacket) : Type 0 where
   pub primary : x.is_primary ≡ (index == k)
 
 -- the units of the samples, as the steps send them, with their packets, of which the last alone ends a unit; and what the
--- pops answered are these units, in order, each at most once
+-- pops answered are these units, in order, each at most once, of packets that were pushed before the pop
 pub record ReleasesRecovered (r : RedRan) : Type 0 where
   pub units : List SentUnit
   pub canonical : map (λ (u : SentUnit). u.parts) units ≡ units_of_run r.before.plain.payloading.pack r.samples r.steps
   pub packets : packets_of units ≡ sent_in r
   pub ends : AllEndWithTail (payloads_by r.before.plain.payloading.pack) units
   pub in_order : InOrder (IsRedPushOf r) (may_split r.before.plain.payloading.pack) units 0 r.pops
+  pub before_pops : AreOfEarlier 0 r.steps r.pops
 
 -- the buffer has room for all packets that were sent, and each of them is in one that is pushed before the first pop
 pub record IsAllThere (r : RedRan) : Type 0 where

@@ -1,5 +1,5 @@
 -- How many entries, answers and packets come of a run, whatever the codec.
-use Rattle.std.specs.Prelude.{◌≡◌, ℕ, ◌+◌, List, [], ◌∷◌, ◌++◌, Option, Some, None, length, slice_get, refl}
+use Rattle.std.specs.Prelude.{◌≡◌, ℕ, ◌+◌, List, [], ◌∷◌, ◌++◌, Option, Some, None, length, slice_get, nat_lt, if◌then◌else◌, refl}
 use Rattle.codec_payload_core.specs.Packets.{Packet}
 use Rattle.codec_payload_core.specs.Schedule.{Answer, RunState}
 use Rattle.codec_payload_core.specs.Sending.{Sample}
@@ -29,6 +29,11 @@ abbrev pub packets_counted : List Sent → ℕ
 packets_counted [] = 0
 packets_counted (entry ∷ sends) = entry.count + packets_counted sends
 
+-- how many packets were sent before step `place`, as the entries tell
+abbrev pub sent_before : ℕ → List Sent → ℕ
+sent_before place [] = 0
+sent_before place (entry ∷ sends) = (if nat_lt entry.step place then entry.count else 0) + sent_before place sends
+
 -- one entry for each `Send` that names a sample and one answer for each `Pop`; and the sink gained the packets that the
 -- entries count, behind those that it had
 pub record IsCounted (samples : List Sample) (all_steps : List Step) (s : RunState) (sends : List Sent) (pops : List Answer) (t : RunState) : Type 0 where
@@ -44,3 +49,10 @@ sends_in-none = refl
 
 pub pops_in-one : pops_in (steps.Send 0 9 ∷ steps.Push 0 ∷ steps.Pop ∷ steps.Send 7 9 ∷ []) ≡ 1
 pops_in-one = refl
+
+-- an entry of the first step counts at each later one
+pub sent_before-first : sent_before 1 (record { step = 0; first = 0; count = 3; fault = None } ∷ record { step = 4; first = 3; count = 2; fault = None } ∷ []) ≡ 3
+sent_before-first = refl
+
+pub sent_before-both : sent_before 5 (record { step = 0; first = 0; count = 3; fault = None } ∷ record { step = 4; first = 3; count = 2; fault = None } ∷ []) ≡ 5
+sent_before-both = refl

@@ -40,7 +40,7 @@ AreStretches known first packets (turn ∷ turns) end =
 
 -- Order independence, the first sentence
 abbrev pub IsOrderFree : {samples : List Sample} {all_steps : List Step} {s : RunState} {sends : List Sent} {pops : List Answer} {t : RunState} → RunLog samples all_steps s sends pops t → Type 0
-IsOrderFree {all_steps = all_steps} {s = s} {t = t} log = AreStretches (IsPushOf all_steps s.payloading.clock_rate) s.sink.first t.sink.packets log.turns log.end
+IsOrderFree {all_steps = all_steps} {s = s} {sends = sends} {t = t} log = AreStretches (IsPushOf all_steps sends s.payloading.clock_rate) s.sink.first t.sink.packets log.turns log.end
 
 -- the number of the first packet of a unit, and that of the last
 abbrev pub first_number : List RtpMeta → ℕ
@@ -76,7 +76,7 @@ AllFollowAsSaid first count last evicted (turn ∷ turns) =
     FollowsAsSaid last (has_evicted first count evicted turn.stretch) turn.answer
     × AllFollowAsSaid first count (last_released last turn.answer) (has_evicted first count evicted turn.stretch) turns
 
--- Order independence, the second sentence: of codecs that send no picture ids
+-- Order independence, the second sentence: of codecs that do not send both picture id and TL0PICIDX
 abbrev pub IsContiguousAsSaid : {samples : List Sample} {all_steps : List Step} {s : RunState} {sends : List Sent} {pops : List Answer} {t : RunState} → RunLog samples all_steps s sends pops t → Type 0
 IsContiguousAsSaid {s = s} {t = t} log = next_id s.payloading.pack ≡ None → AllFollowAsSaid s.sink.first (length t.sink.packets) None false log.turns
 

@@ -3,8 +3,7 @@ use Rattle.std.specs.Prelude.{◌≡◌, List, [], Some, option_map, map}
 use Rattle.codec_payload_base.specs.declared.wire.ToPayload.{ToPayload}
 use Rattle.codec_payload_buffer.specs.Depack.{Depack, depack_for, configured_depack}
 use Rattle.codec_payload_buffer.specs.Pack.{Pack, pack_for, configured}
-use Rattle.codec_payload_core.specs.Exact.{ReleasesUnits}
-use Rattle.codec_payload_core.specs.RunPromises.{KeepsPromises, ran}
+use Rattle.codec_payload_core.specs.RunPromises.{KeepsPromisesIf, ran}
 use Rattle.codec_payload_core.specs.Schedule.{RunState, run_state}
 use Rattle.codec_payload_core.specs.Sending.{sample_of}
 use Rattle.codec_payload_core.specs.SentStream.{AreReadable}
@@ -20,13 +19,12 @@ fresh stream pack depack = run_state
     (empty_buffer stream.hold_back stream.limit depack)
     (record { first = stream.first_number; packets = [] })
 
--- packetizer and depacketizer are those of the codec, both configured by the specification; where the samples can be read
--- again, their units are released as the theorem says, in both halves; and every promise of a run is kept
+-- packetizer and depacketizer are those of the codec, both configured by the specification; and every promise of a run is
+-- kept, where the samples can be read again, which is the one premise left
 pub record RunsStream (stream : Stream) (samples : List ToPayload) (steps : List Step) (run : Run) : Type 0 where
   pub pack : Pack
   pub sender : option_map (configured stream.spec.octet_align) (pack_for stream.mode stream.first_id stream.spec.codec) ≡ Some pack
   pub depack : Depack
   pub receiver : option_map (configured_depack stream.spec.octet_align stream.spec.clock_rate) (depack_for stream.spec.codec) ≡ Some depack
   pub after : RunState
-  pub headline : AreReadable pack (map sample_of samples) → ReleasesUnits (map sample_of samples) steps (fresh stream pack depack) run.sends.items run.pops.items after
-  pub promises : KeepsPromises (ran samples steps (fresh stream pack depack) run after)
+  pub promises : KeepsPromisesIf (AreReadable pack (map sample_of samples)) (ran samples steps (fresh stream pack depack) run after)

@@ -78,15 +78,15 @@ NoneIsLost known first splits units (turn ∷ turns) end =
 
 -- No silent loss
 abbrev pub LosesNoneSilently : {samples : List Sample} {all_steps : List Step} {s : RunState} {sends : List Sent} {pops : List Answer} {t : RunState} → RunLog samples all_steps s sends pops t → Type 0
-LosesNoneSilently {all_steps = all_steps} {s = s} log =
-    NoneIsLost (IsPushOf all_steps s.payloading.clock_rate) s.sink.first (may_split s.payloading.pack) log.released.units log.turns log.end
+LosesNoneSilently {all_steps = all_steps} {s = s} {sends = sends} log =
+    NoneIsLost (IsPushOf all_steps sends s.payloading.clock_rate) s.sink.first (may_split s.payloading.pack) log.released.units log.turns log.end
 
 -- no pop passes a frame over
 abbrev pub NonePassedOver : List Turn → Type 0
 NonePassedOver [] = Unit {0}
 NonePassedOver (turn ∷ turns) = (turn.passed ≡ []) × NonePassedOver turns
 
--- nor any of a run of a codec that sends no picture ids
+-- nor any of a run of a codec that does not send both picture id and TL0PICIDX
 abbrev pub PassesNoneOver : {samples : List Sample} {all_steps : List Step} {s : RunState} {sends : List Sent} {pops : List Answer} {t : RunState} → RunLog samples all_steps s sends pops t → Type 0
 PassesNoneOver {s = s} log = next_id s.payloading.pack ≡ None → NonePassedOver log.turns
 
@@ -169,8 +169,8 @@ IsPatient first units n (turn ∷ turns) =
 
 -- Beginning
 abbrev pub BeginsAsSent : {samples : List Sample} {all_steps : List Step} {s : RunState} {sends : List Sent} {pops : List Answer} {t : RunState} → RunLog samples all_steps s sends pops t → Type 0
-BeginsAsSent {all_steps = all_steps} {s = s} {pops = pops} {t = t} log =
-    FirstIsWhole (IsPushOf all_steps s.payloading.clock_rate) (may_split s.payloading.pack) log.released.units pops
+BeginsAsSent {all_steps = all_steps} {s = s} {sends = sends} {pops = pops} {t = t} log =
+    FirstIsWhole (IsPushOf all_steps sends s.payloading.clock_rate) (may_split s.payloading.pack) log.released.units pops
     → NoneEvicted s.sink.first (length t.sink.packets) log.turns
     → IsPatient s.sink.first log.released.units 0 log.turns
-    → AreNext (IsPushOf all_steps s.payloading.clock_rate) (may_split s.payloading.pack) log.released.units 0 pops
+    → AreNext (IsPushOf all_steps sends s.payloading.clock_rate) (may_split s.payloading.pack) log.released.units 0 pops

@@ -9,6 +9,7 @@ use Rattle.codec_payload_core.specs.Schedule.{Answer, RunState}
 use Rattle.codec_payload_core.specs.Sending.{Sample}
 use Rattle.codec_payload_core.specs.SentStream.{pack_after_sample}
 use Rattle.codec_payload_core.specs.Units.{canonical_units, may_split}
+use Rattle.codec_payload_core.specs.declared.schedule.Sent.{Sent}
 use Rattle.codec_payload_core.specs.declared.schedule.Step.{Step}
 use Rattle.codec_payload_core.specs.declared.schedule.Step.TheVariants as steps
 
@@ -33,7 +34,7 @@ values_of_run pack samples (steps.Push k ∷ later) = values_of_run pack samples
 values_of_run pack samples (steps.Pop ∷ later) = values_of_run pack samples later
 
 -- each release that is a unit of video, whole, has the values of the sample of that unit
-abbrev pub HaveValuesOfSamples : {samples : List Sample} {all_steps : List Step} {s : RunState} {pops : List Answer} {t : RunState} → ReleasesInOrder samples all_steps s pops t → Type 0
-HaveValuesOfSamples {samples} {all_steps} {s} {pops} {t} released =
-    is_video s.payloading.pack ≡ true → (place : ℕ) (r : Release) → IsWholeAt (IsPushOf all_steps s.payloading.clock_rate) (may_split s.payloading.pack) released.units place r
+abbrev pub HaveValuesOfSamples : {samples : List Sample} {all_steps : List Step} {s : RunState} {sends : List Sent} {pops : List Answer} {t : RunState} → ReleasesInOrder samples all_steps s sends pops t → Type 0
+HaveValuesOfSamples {samples} {all_steps} {s} {sends} {pops} {t} released =
+    is_video s.payloading.pack ≡ true → (place : ℕ) (r : Release) → IsWholeAt (IsPushOf all_steps sends s.payloading.clock_rate) (may_split s.payloading.pack) released.units place r
     → (values : ExtensionValues) × (slice_get (values_of_run s.payloading.pack samples all_steps) place ≡ Some values) × AreValues r.metas values

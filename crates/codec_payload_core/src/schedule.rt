@@ -4,7 +4,7 @@ ghost use Rattle.std.specs.Prelude.{◌≡◌, ◌≢◌, ◌∷◌, ◌++◌, �
 ghost use Rattle.std.specs.Result.{result_err};
 ghost use Rattle.codec_payload_base.specs.declared.error.PacketError.TheVariants.{OutOfMemory};
 ghost use Rattle.codec_payload_core.specs.Packets.{Packet, packet_of};
-ghost use Rattle.codec_payload_core.specs.RedPromises.{KeepsRedPromises, ran_in_red, protection_of};
+ghost use Rattle.codec_payload_core.specs.RedPromises.{KeepsRedPromises, LeavesSender, ran_in_red, protection_of};
 ghost use Rattle.codec_payload_core.specs.RedSchedule.{red_state, StopsInRed};
 ghost use Rattle.codec_payload_red.specs.RedLevels.{Sender};
 ghost use Rattle.codec_payload_buffer.specs.Pack.{pack_for};
@@ -25,6 +25,7 @@ use crate::payload::{MemorySink, OutgoingPacket, Payloader};
 use crate::red::{RedReceiver, RedSender};
 use crate::wire::{CodecSpec, Frequency, MediaTime, RtpHeader, Ticks, ToPayload};
 pub use red_run::run_in_red;
+use red_run::run_with_sender;
 use std::alloc::Global;
 
 /// One step of a run.
@@ -91,7 +92,7 @@ pub fn run_schedule<P: Packetizer, D: Depacketizer>(
     sink: &mut MemorySink,
     samples: &[ToPayload],
     steps: &[Step],
-    mut red: Option<RedRun<'_>>,
+    red: Option<RedRun<'_>>,
 ) -> Result<Run, PacketError>
     // Without RED: run as steps, both halves of the theorem, order, contiguous, no silent loss, beginning: see
     // `specs/RunPromises.antt`.
@@ -101,15 +102,22 @@ pub fn run_schedule<P: Packetizer, D: Depacketizer>(
     ensures stops { IsNone red.entry → OnErr result (Stops (map sample_of samples.now) 0 steps.now (run_state payloader.old buffer.old sink.old)
         (run_state payloader.new buffer.new sink.new)) }
     // With RED: run as steps, and the same promises with what is recovered as further pushes: see `specs/RedPromises.antt`.
-    // Some packets make them true: those that were sent, as they were before they were put in RED.
-    ensures red_promises { IfSome red.entry (λ red. IfOk result (λ run. (sent : List Packet) × (sender : Sender) × KeepsRedPromises (ran_in_red (protection_of red) samples.now steps.now
-        (red_state payloader.old buffer.old sink.old sink.old.packets red.sender.now) run (red_state payloader.new buffer.new sink.new sent sender)))) }
-    ensures red_stops { IfSome red.entry (λ red. OnErr result ((sent : List Packet) × (sender : Sender) × StopsInRed (protection_of red) (map sample_of samples.now) 0 steps.now
-        (red_state payloader.old buffer.old sink.old sink.old.packets red.sender.now) (red_state payloader.new buffer.new sink.new sent sender))) }
+    // Some packets make them true: those that were sent, as they were before they were put in RED. The sender is that behind
+    // the reference, as the run leaves it.
+    ensures red_promises { IfSome red.entry (λ lent. (sender : Sender) × LeavesSender red.exit sender × IfOk result (λ run. (sent : List Packet) × KeepsRedPromises (ran_in_red (protection_of lent) samples.now steps.now
+        (red_state payloader.old buffer.old sink.old sink.old.packets lent.sender.now) run (red_state payloader.new buffer.new sink.new sent sender)))) }
+    ensures red_stops { IfSome red.entry (λ lent. (sender : Sender) × LeavesSender red.exit sender × OnErr result ((sent : List Packet) × StopsInRed (protection_of lent) (map sample_of samples.now) 0 steps.now
+        (red_state payloader.old buffer.old sink.old sink.old.packets lent.sender.now) (red_state payloader.new buffer.new sink.new sent sender))) }
 {
-    match &mut red {
+    match red {
         None => run_plain(alloc, payloader, buffer, sink, samples, steps),
-        Some(red) => run_in_red(alloc, payloader, buffer, sink, red, samples, steps),
+        Some(red) => {
+            let budget = red.budget;
+            let receiver = red.receiver;
+            run_with_sender(
+                alloc, payloader, buffer, sink, red.sender, budget, receiver, samples, steps,
+            )
+        }
     }
 }
 
@@ -143,7 +151,7 @@ pub fn run_stream(
     requires least { 1 ≤ stream.limit }
     requires most { stream.limit ≤ 65536 }
     ensures none { (result ≡ Result.Ok Option.None) ↔ (pack_for stream.mode stream.first_id stream.spec.codec ≡ Option.None) }
-    ensures headline { IfOk result (λ run. IfSome run (RunsStream stream samples.now steps.now)) }
+    ensures promises { IfOk result (λ run. IfSome run (RunsStream stream samples.now steps.now)) }
     ensures fault { IfErr result (λ fault. fault ≡ OutOfMemory) }
 {
     let Some(mut payloader) = Payloader::new(stream.spec, stream.mode, stream.first_id) else {

@@ -23,6 +23,8 @@ mod memory;
 #[cfg(test)]
 mod own_codec;
 #[cfg(test)]
+mod own_counts;
+#[cfg(test)]
 mod red_runs;
 #[cfg(test)]
 mod red_sink;

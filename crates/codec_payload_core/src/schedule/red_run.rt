@@ -16,7 +16,7 @@ use crate::buffer::{DepacketizingBuffer, RtpMeta};
 use crate::codec::{Depacketizer, Packetizer};
 use crate::error::PacketError;
 use crate::payload::{MemorySink, OutgoingPacket, Payloader, RedSink};
-use crate::red::{Recovered, RedReceiver};
+use crate::red::{Recovered, RedReceiver, RedSender};
 use crate::schedule::{RedRun, Run, Sent, Step, pop_step, refusal};
 use crate::wire::{ExtensionValues, Frequency, MediaTime, Pt, RtpHeader, Ticks, ToPayload};
 use std::alloc::Global;
@@ -216,4 +216,31 @@ pub fn run_in_red<P: Packetizer, D: Depacketizer>(
         )?;
     }
     Ok(run)
+}
+
+/// Does the same with a sender, a budget and a receiver by themselves.
+pub(crate) fn run_with_sender<P: Packetizer, D: Depacketizer>(
+    alloc: Global,
+    payloader: &mut Payloader<P>,
+    buffer: &mut DepacketizingBuffer<D>,
+    sink: &mut MemorySink,
+    sender: &mut RedSender,
+    budget: usize,
+    receiver: &RedReceiver,
+    samples: &[ToPayload],
+    steps: &[Step],
+) -> Result<Run, PacketError>
+    ensures promises { IfOk result (λ run. (sent : List Packet) × KeepsRedPromises (ran_in_red (record { budget = budget; receiver = receiver.now }) samples.now steps.now
+        (red_state payloader.old buffer.old sink.old sink.old.packets sender.old) run (red_state payloader.new buffer.new sink.new sent sender.new))) }
+    ensures limit { buffer.new.limit ≡ buffer.old.limit }
+    ensures fault { IfErr result (λ fault. fault ≡ OutOfMemory) }
+    ensures stops { OnErr result ((sent : List Packet) × StopsInRed (record { budget = budget; receiver = receiver.now }) (map sample_of samples.now) 0 steps.now
+        (red_state payloader.old buffer.old sink.old sink.old.packets sender.old) (red_state payloader.new buffer.new sink.new sent sender.new)) }
+{
+    let mut red = RedRun {
+        sender,
+        budget,
+        receiver,
+    };
+    run_in_red(alloc, payloader, buffer, sink, &mut red, samples, steps)
 }

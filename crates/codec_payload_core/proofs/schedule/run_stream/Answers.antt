@@ -5,8 +5,8 @@ use Rattle.codec_payload_buffer.specs.Steps.{empty_buffer}
 use Rattle.codec_payload_core.specs.Schedule.{run_state}
 use Rattle.codec_payload_core.proofs.schedule.run_stream.Goals as goal
 
-pub returns-clause-headline : goal.returns-clause-headline
-returns-clause-headline c =
+pub returns-clause-promises : goal.returns-clause-promises
+returns-clause-promises c =
     let sends = sym c.new.ensures ∙ c.in-Some.is in
     let receives = sym c.from_codec.ensures ∙ ap (λ o. option_map depack_of o) c.in-Some-from_codec.is in
     let empty = c.with_limit-buffer.ensures ∙ ap (λ d. empty_buffer c.args.stream.hold_back c.args.stream.limit d) c.configure_for.ensures in
