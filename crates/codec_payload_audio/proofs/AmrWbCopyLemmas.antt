@@ -1,7 +1,7 @@
 -- Lemmas on copies of bits that are no whole bytes apart.
 use Rattle.std.proofs.Common.{◌≡◌, ℕ, suc, ◌+◌, ◌-◌, ◌*◌, ◌/◌, ◌%◌, ◌^◌, ◌<◌, ◌≤◌, List, [], ◌∷◌, ◌++◌, length, get_or, take, drop, set, replicate, refl, sym, ◌∙◌, ap, arith, append_assoc, append-nil, length-append}
 use Rattle.std.specs.Int.Bits.{bit_or}
-use Rattle.std.proofs.lemmas.Nat.{pow_pos, or_shifted, shr-shr, shr_split}
+use Rattle.std.proofs.lemmas.Nat.{pow_pos, or_shifted, shr-shr}
 use Rattle.std.proofs.lemmas.List.{take-append-le, length-take, length-take-le, take-take, drop_all, set_split, drop_more, take-append-drop}
 use Rattle.std.proofs.Math.Seq.{take-append-add}
 use Rattle.codec_payload_base.specs.Bits.{bits, bits_of}
@@ -52,25 +52,25 @@ cut_front xs ys b n r s width e =
     ∙ ap (λ t. bits_of xs ++ t) (take-append-le r (bits 8 b) (bits_of ys) short ∙ ap (λ t. take r (bits t b)) (sym width) ∙ take-bits s r b)
 
 -- to clear the low bits of the last byte keeps the bits before them, and zeros up to a byte
-pub cut_last : (xs ys : List ℕ) (b n r s : ℕ) → b < 256 → r + s ≡ 8 → s < 8 → n ≡ 8 * length xs + r → bits_of (xs ++ (b / 2 ^ s * 2 ^ s % 256) ∷ []) ≡ padded (take n (bits_of (xs ++ b ∷ ys)))
-cut_last xs ys b n r s small whole some e =
-    let kept : b / 2 ^ s * 2 ^ s % 256 ≡ b / 2 ^ s * 2 ^ s + 0 = omega (arith, shr_split b s) in
+pub cut_last : (xs ys : List ℕ) (b n r s : ℕ) → r + s ≡ 8 → s < 8 → n ≡ 8 * length xs + r → bits_of (xs ++ (b / 2 ^ s * 2 ^ s) ∷ []) ≡ padded (take n (bits_of (xs ++ b ∷ ys)))
+cut_last xs ys b n r s whole some e =
+    let kept : b / 2 ^ s * 2 ^ s ≡ b / 2 ^ s * 2 ^ s + 0 = omega arith in
     let width : s + r ≡ 8 = omega arith in
-    let byte : bits 8 (b / 2 ^ s * 2 ^ s % 256) ≡ bits r (b / 2 ^ s) ++ bits s 0 =
+    let byte : bits 8 (b / 2 ^ s * 2 ^ s) ≡ bits r (b / 2 ^ s) ++ bits s 0 =
     ap (bits 8) kept ∙ ap (λ t. bits t (b / 2 ^ s * 2 ^ s + 0)) (sym width) ∙ bits-cat s r (b / 2 ^ s) 0 (pow_pos s) in
     let front : take n (bits_of (xs ++ b ∷ ys)) ≡ bits_of xs ++ bits r (b / 2 ^ s) = cut_front xs ys b n r s width e in
     let size : length (bits_of xs ++ bits r (b / 2 ^ s)) ≡ n = omega (arith, length-append (bits_of xs) (bits r (b / 2 ^ s)), length-bits_of xs, length-bits r (b / 2 ^ s)) in
     let spare : gap n ≡ s = omega arith in
-    bits_of-push xs (b / 2 ^ s * 2 ^ s % 256)
+    bits_of-push xs (b / 2 ^ s * 2 ^ s)
     ∙ ap (λ t. bits_of xs ++ t) byte
     ∙ sym (append_assoc (bits_of xs) (bits r (b / 2 ^ s)) (bits s 0))
     ∙ ap (λ t. (bits_of xs ++ bits r (b / 2 ^ s)) ++ t) (bits-zero s ∙ ap (λ t. replicate t 0) (sym (ap gap size ∙ spare)))
     ∙ sym (ap padded front)
 
 -- what the code of a cut leaves, where the last byte kept is at k
-pub cut_items : (items : List ℕ) (n m k b s : ℕ) → 0 < n → n ≤ 8 * length items → m ≡ k + 1 → 8 * k < n → n ≤ 8 * m → s ≡ (8 - n % 8) % 8 → b ≡ get_or items k 0 → b < 256 → bits_of (set (take m items) k (b / 2 ^ s * 2 ^ s % 256)) ≡ padded (take n (bits_of items))
-cut_items items n m k b s some within last above below spare is small =
-    let v : ℕ = b / 2 ^ s * 2 ^ s % 256 in
+pub cut_items : (items : List ℕ) (n m k b s : ℕ) → 0 < n → n ≤ 8 * length items → m ≡ k + 1 → 8 * k < n → n ≤ 8 * m → s ≡ (8 - n % 8) % 8 → b ≡ get_or items k 0 → bits_of (set (take m items) k (b / 2 ^ s * 2 ^ s)) ≡ padded (take n (bits_of items))
+cut_items items n m k b s some within last above below spare is =
+    let v : ℕ = b / 2 ^ s * 2 ^ s in
     let inside : k < length items = omega arith in
     let size : length (take k items) ≡ k = length-take-le k items (omega arith) in
     let kept : take k (take m items) ≡ take k items = take-take k m items (omega arith) in
@@ -82,5 +82,5 @@ cut_items items n m k b s some within last above below spare is small =
     let sum : n - 8 * k + s ≡ 8 = omega arith in
     let count : n ≡ 8 * length (take k items) + (n - 8 * k) = omega arith in
     ap bits_of left_side
-    ∙ cut_last (take k items) (drop (k + 1) items) b n (n - 8 * k) s small sum (omega arith) count
+    ∙ cut_last (take k items) (drop (k + 1) items) b n (n - 8 * k) s sum (omega arith) count
     ∙ sym (ap (λ t. padded (take n (bits_of t))) right_side)

@@ -10,7 +10,7 @@ use Rattle.codec_payload_base.specs.Bits.{bits, bits_of}
 use Rattle.codec_payload_base.proofs.BitLemmas.{length-bits_of}
 use Rattle.codec_payload_base.specs.declared.error.PacketError.{PacketError}
 use Rattle.codec_payload_base.specs.declared.error.PacketError.TheVariants as faults
-use Rattle.codec_payload_audio.specs.AmrWb.{Frame, IsFrame, IsPacketOf, AnswersAmrWb, AnswersFrame, frame_from, sized, stored, speech_size, gap, entry, canonical, payload}
+use Rattle.codec_payload_audio.specs.AmrWb.{Frame, IsFrame, IsPacketOf, AnswersFrame, frame_from, sized, stored, amr_wb_is_skipped, speech_size, gap, entry, canonical, payload}
 use Rattle.codec_payload_audio.specs.AmrWbReceived.{entries_at, entry_from, frames_at, whole, received, CarriesCanonical}
 
 gap_sixteen : (n : ℕ) → gap (16 + n) ≡ gap n
@@ -83,26 +83,15 @@ if_sent octet mtu f packets answer = elim (cases_Bool (ltb (8 * mtu) (length (pa
   | inr fits ↦ rw fits at answer
 ]
 
--- the answer for the frame that was stored
-module _ (octet : Bool) (mtu first n : ℕ) (bytes rest : List ℕ) (e : bytes ≡ first ∷ rest) (size : speech_size (bit_and (first / 8) 15) ≡ Some n) (whole : length rest ≡ div_ceil n 8) (small : first < 256) (within : n ≤ 8 * length rest) where
-  is_stored : stored bytes ≡ Some (frame_from first n rest)
-  is_stored = stored_is bytes rest first n e size whole
-
-  kind_is : bit_and (first / 8) 15 ≡ first / 8 % 16
-  kind_is = and_mask (first / 8) 4
-
-  frame_answer : (r : Result (List (List ℕ)) PacketError) → AnswersFrame octet mtu (frame_from (bit_and first 124) n rest) r → AnswersFrame octet mtu (frame_from first n rest) r
-  frame_answer r answer = rw (toc_frame first n rest small) at answer
-
-  pub stored_answer : bit_and (first / 8) 15 ≢ 15 → (r : Result (List (List ℕ)) PacketError) → AnswersFrame octet mtu (frame_from (bit_and first 124) n rest) r → AnswersAmrWb octet mtu bytes r
-  stored_answer other r answer = rw (e, rw e at is_stored, ne_eqb (first / 8 % 16) 15 (λ none. other (kind_is ∙ none))) (frame_answer r answer)
-
-  carries_if : (r : Result (List (List ℕ)) PacketError) → AnswersFrame octet mtu (frame_from first n rest) r → IfOk r (λ packets. CarriesCanonical octet (Some (frame_from first n rest)) packets)
-  carries_if (Ok packets) answer = carries octet mtu (frame_from first n rest) packets (is_frame first n rest (ap speech_size (sym kind_is) ∙ size) within) (if_sent octet mtu (frame_from first n rest) packets answer)
-  carries_if (Err fault) answer = tt
-
-  pub stored_carries : (r : Result (List (List ℕ)) PacketError) → AnswersFrame octet mtu (frame_from (bit_and first 124) n rest) r → IfOk r (λ packets. CarriesCanonical octet (stored bytes) packets)
-  stored_carries r answer = rw is_stored (carries_if r (frame_answer r answer))
+-- a frame with data that bytes store, by the code's reading of its first byte
+pub stored_frame : (first n : ℕ) (bytes rest : List ℕ) → bytes ≡ first ∷ rest → speech_size (bit_and (first / 8) 15) ≡ Some n → length rest ≡ div_ceil n 8 → first < 256 → bit_and (first / 8) 15 ≢ 15
+    → (amr_wb_is_skipped bytes ≡ false) × (stored bytes ≡ Some (frame_from (bit_and first 124) n rest))
+stored_frame first n bytes rest e size whole small other =
+    let is : stored bytes ≡ Some (frame_from first n rest) = stored_is bytes rest first n e size whole in
+    let kind : bit_and (first / 8) 15 ≡ first / 8 % 16 = and_mask (first / 8) 4 in (
+      rw (e, rw e at is, ne_eqb (first / 8 % 16) 15 (λ none. other (kind ∙ none))) refl,
+      is ∙ ap Some (sym (toc_frame first n rest small)),
+    )
 
 some_injective : {x y : Frame} → Some x ≡ Some y → x ≡ y
 some_injective e = cc
@@ -125,3 +114,8 @@ sized_frame first rest (Some n) f size is = by_length (eqb (length rest) (div_ce
 pub stored_is_frame : (bytes : List ℕ) (f : Frame) → stored bytes ≡ Some f → IsFrame f
 stored_is_frame [] f is = cc
 stored_is_frame (b ∷ bs) f is = sized_frame b bs (speech_size (b / 8 % 16)) f refl is
+
+-- the packets of the frame that bytes store carry its canonical form
+pub stored_carries : (octet : Bool) (mtu : ℕ) (bytes : List ℕ) (f : Frame) → stored bytes ≡ Some f → (r : Result (List (List ℕ)) PacketError) → AnswersFrame octet mtu f r → IfOk r (λ packets. CarriesCanonical octet (stored bytes) packets)
+stored_carries octet mtu bytes f is (Ok packets) answer = rw is (carries octet mtu f packets (stored_is_frame bytes f is) (if_sent octet mtu f packets answer))
+stored_carries octet mtu bytes f is (Err fault) answer = tt

@@ -7,7 +7,7 @@ ghost use Rattle.codec_payload_audio.specs.AmrWbReceived.{Extends};
 use std::alloc::AllocError;
 
 /// Writes over `count` bytes from `start` on the bits of `bytes` from the one at `shift` on.
-fn write_shifted(to: &mut [u8], start: usize, bytes: &[u8], shift: usize, count: usize)
+pub(crate) fn write_shifted(to: &mut [u8], start: usize, bytes: &[u8], shift: usize, count: usize)
     requires some { 0 < shift }
     requires few { shift < 8 }
     requires there { 8 * count ≤ 8 * length bytes.now - shift }

@@ -22,7 +22,7 @@ both : (c : In_ok-push) → (c.if-len-lt3.now.0 ≡ own leb_len (lengths (pieces
 both c =
     let es = c.self.inside.elements.items in
     chosen (lengths (pieces_of es)) (length (piece_bytes c.args.element.now)) c.len.result c.len-len.result c.number_len-own_len.result c.if-len-lt3.now
-    (omega (arith, c.self.inside.elements.ok.0, length-map (pieces_of es) (length {A = ℕ}), length-map es piece_bytes))
+    (omega (arith, c.len.ensures, length-map (pieces_of es) (length {A = ℕ}), length-map es piece_bytes))
     c.len-len.ensures
     c.number_len-own_len.ensures.len
     (elim c.if-len-lt3.branch [
@@ -53,6 +53,6 @@ invariant_of-self-2 c =
     let es = c.self.inside.elements.items in
     let n = length (piece_bytes c.args.element.now) in
     let pushed : lengths (pieces_of c.push.new.self.items) ≡ lengths (pieces_of es) ++ n ∷ [] =
-    ap (λ (vs : List Piece). lengths (pieces_of vs)) c.in_ok-push.ensures.items ∙ ap lengths (map_push piece_bytes es c.args.element.now) ∙ map_push (length {A = ℕ}) (pieces_of es) (piece_bytes c.args.element.now) in
+    ap (λ (vs : List Piece). lengths (pieces_of vs)) c.in_ok-push.ensures.ok ∙ ap lengths (map_push piece_bytes es c.args.element.now) ∙ map_push (length {A = ℕ}) (pieces_of es) (piece_bytes c.args.element.now) in
     let h = less_left leb_len (lengths (pieces_of es)) c.self.inside.mtu c.self.inside.left c.self.inside.deferred_length c.self.invariant.0 c.self.invariant.1 n (fits (goal.at.invariant_of-self-2 c).In_ok-push) in
     rw pushed (omega (arith, h, (both (goal.at.invariant_of-self-2 c).In_ok-push).0, c.len-len.ensures), (both (goal.at.invariant_of-self-2 c).In_ok-push).1)
