@@ -10,7 +10,7 @@ use Rattle.codec_payload_core.specs.Packets.{Packet, SentPackets, AreNumbered}
 use Rattle.codec_payload_core.specs.Sending.{Sends, Sample, packet_for, packets_for, packets_from, is_last, number_after, IsAs, AreAs}
 use Rattle.codec_payload_base.specs.declared.error.PacketError.{PacketError}
 use Rattle.codec_payload_buffer.specs.Pack.{Pack, is_built_in, marker_of, talkspurt_of, nackable_of}
-use Rattle.codec_payload_core.specs.StrippedValues.{stripped}
+use Rattle.codec_payload_base.specs.StrippedValues.{stripped}
 use Rattle.codec_payload_base.specs.declared.wire.extension.ExtensionValues.{ExtensionValues}
 
 number_after_one : (number : ℕ) (packets : List Packet) (packet : Packet) → number_after number (packets ++ packet ∷ []) ≡ (number_after number packets + 1) % 2 ^ 64

@@ -16,7 +16,7 @@ use Rattle.codec_payload_core.specs.Packets.{Packet}
 use Rattle.codec_payload_core.specs.RunValues.{is_video}
 use Rattle.codec_payload_core.specs.Sending.{Sample, packets_from, packets_for}
 use Rattle.codec_payload_core.specs.SentStream.{SentUnit, packets_of}
-use Rattle.codec_payload_core.specs.StrippedValues.{kept_if, stripped}
+use Rattle.codec_payload_base.specs.StrippedValues.{kept_if, stripped}
 use Rattle.codec_payload_core.specs.Units.{canonical_obus, canonical_units, is_skipped, pack_after, refusal_of, units_by}
 use Rattle.codec_payload_core.specs.declared.schedule.Sent.{Sent}
 use Rattle.codec_payload_core.specs.declared.schedule.Step.{Step}

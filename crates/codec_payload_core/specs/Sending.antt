@@ -6,7 +6,7 @@ use Rattle.codec_payload_base.specs.declared.wire.extension.ExtensionValues.{Ext
 use Rattle.codec_payload_base.specs.declared.wire.ToPayload.{ToPayload}
 use Rattle.codec_payload_buffer.specs.Pack.{Pack, PackStep, is_built_in, marker_of, talkspurt_of, nackable_of}
 use Rattle.codec_payload_core.specs.Packets.{Packet}
-use Rattle.codec_payload_core.specs.StrippedValues.{stripped}
+use Rattle.codec_payload_base.specs.StrippedValues.{stripped}
 
 -- a sample, without where its bytes lie
 pub record Sample : Type 0 where

@@ -2,6 +2,7 @@
 
 ghost use Rattle.std.specs.Prelude.{◌≡◌, ◌≤◌, ◌<◌, ◌↔◌, IsNone, IfSome, length};
 ghost use Rattle.codec_payload_base.specs.Extensions.{no_values};
+ghost use Rattle.codec_payload_base.specs.StrippedValues.{kept_if, stripped};
 
 use std::fmt;
 use std::marker::Model;
@@ -24,6 +25,33 @@ pub struct ExtensionValues {
     pub audio_level: Option<i8>,
     /// Whether the audio holds speech (RFC 6464).
     pub voice_activity: Option<bool>,
+}
+
+/// The value, if it goes along.
+fn only_if<T: Drop>(goes: bool, value: Option<T>) -> Option<T>
+    ensures { result ≡ kept_if goes value }
+{
+    if goes { value } else { None }
+}
+
+impl ExtensionValues {
+    /// The values of a sample that go on its packet at that place, of so many: capture time and layers allocation on the first
+    /// alone, orientation, content type and timing on the last alone, and all others on each.
+    pub fn for_packet(&self, place: usize, count: usize) -> ExtensionValues
+        requires { place < count }
+        ensures { result ≡ stripped self.now place count }
+    {
+        let first = place == 0;
+        let last = place + 1 == count;
+        ExtensionValues {
+            abs_capture_time: only_if(first, self.abs_capture_time),
+            video_orientation: only_if(last, self.video_orientation),
+            video_content_type: only_if(last, self.video_content_type),
+            video_timing: only_if(last, self.video_timing),
+            layers_allocation: only_if(first, self.layers_allocation),
+            ..*self
+        }
+    }
 }
 
 /// No values at all, which is the default.

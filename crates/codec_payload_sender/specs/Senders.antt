@@ -1,0 +1,72 @@
+-- A sender: what each call leaves.
+use Rattle.std.specs.Prelude.{◌≡◌, ℕ, ◌+◌, ◌%◌, ◌^◌, nat_lt, not, if◌then◌else◌, true, List, [], Option, Some, None, Result, Ok, Err, length}
+use Rattle.codec_payload_base.specs.Answers.{Lands}
+use Rattle.codec_payload_base.specs.declared.error.PacketError.{PacketError}
+use Rattle.codec_payload_buffer.specs.Pack.{Pack, PackStep, is_built_in}
+use Rattle.codec_payload_rtp.specs.ExtensionWriting.{ids_fit}
+use Rattle.codec_payload_sender.specs.Datagrams.{Sample, AreSent, octets_in, time_of}
+use Rattle.codec_payload_sender.specs.declared.sender.Counts.{Counts}
+use Rattle.codec_payload_sender.specs.declared.sender.SenderSettings.{SenderSettings}
+use Rattle.codec_payload_sender.specs.declared.sender.SenderError.{SenderError}
+use Rattle.codec_payload_sender.specs.declared.sender.SenderError.TheVariants as errors
+use Rattle.codec_payload_sender.specs.declared.sender.Stream.{Stream}
+
+-- a sender, as contracts see it: its packetizer, the most bytes of a payload, what its packets share and the number of the next,
+-- the bytes that are free behind each datagram, what reports count, and the datagrams of the sample that was sent last
+pub record Sending : Type 0 where
+  pub pack : Pack
+  pub mtu : ℕ
+  pub stream : Stream
+  pub tailroom : ℕ
+  pub counts : Counts
+  pub datagrams : List (List ℕ)
+
+-- ---- settings
+
+-- which setting is out of range, if one is
+abbrev pub refusal_of : SenderSettings → Option SenderError
+refusal_of s =
+    if nat_lt 127 s.payload_type then Some errors.PayloadType
+    else if nat_lt 65535 s.tailroom then Some errors.Tailroom
+    else if not (ids_fit s.extension_ids) then Some errors.ExtensionIds
+    else None
+
+abbrev pub nothing_sent : Counts
+nothing_sent = record { packets = 0; octets = 0; rtp_time = None }
+
+abbrev pub sender_by : SenderSettings → Pack → Sending
+sender_by s pack = record {
+  pack = pack;
+  mtu = s.mtu;
+  stream = record { ssrc = s.ssrc; payload_type = s.payload_type; clock_rate = s.clock_rate; ids = s.extension_ids; number = s.first_number };
+  tailroom = s.tailroom;
+  counts = nothing_sent;
+  datagrams = [];
+}
+
+-- ---- sending
+
+-- these payloads of a sample were sent as well
+abbrev pub counted : Counts → ℕ → List (List ℕ) → Counts
+counted counts time payloads = record {
+  packets = (counts.packets + length payloads) % 2 ^ 32;
+  octets = (counts.octets + octets_in payloads) % 2 ^ 32;
+  rtp_time = Some time;
+}
+
+-- a sample was sent: of the payloads that the packetizer gives each is a datagram, with consecutive numbers
+pub record Sends (s : Sending) (sample : Sample) (t : Sending) : Type 0 where
+  pub payloads : List (List ℕ)
+  pub packetized : is_built_in s.pack ≡ true → PackStep s.pack s.mtu sample.bytes (Ok payloads) t.pack
+  pub sent : AreSent s.stream t.pack sample payloads t.datagrams
+  pub left : t ≡ record s {
+    pack = t.pack;
+    stream = record s.stream { number = (s.stream.number + length payloads) % 2 ^ 16 };
+    counts = counted s.counts (time_of s.stream sample) payloads;
+    datagrams = t.datagrams;
+  }
+
+-- nothing was sent: the packetizer answered with the fault, or it gave payloads and memory was wanting for them or their headers
+pub record Refuses (s : Sending) (sample : Sample) (fault : PacketError) (t : Sending) : Type 0 where
+  pub packetized : is_built_in s.pack ≡ true → (answer : Result (List (List ℕ)) PacketError) × PackStep s.pack s.mtu sample.bytes answer t.pack × Lands answer (Err fault) []
+  pub left : t ≡ record s { pack = t.pack; datagrams = [] }

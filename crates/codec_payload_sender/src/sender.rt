@@ -1,0 +1,426 @@
+//! Sends the samples of one stream as datagrams.
+
+ghost use Rattle.std.specs.Prelude.{◌≡◌, ◌+◌, ◌%◌, ◌^◌, ◌<◌, ◌≤◌, ◌∷◌, ℕ, List, [], Option, true, length, IfOk, IfErr, IfSome, OnOk, OnErr, IsTrue, Err, slice_index_or, slice_set};
+ghost use Rattle.std.specs.Option.{option_map};
+ghost use Rattle.codec_payload_base.specs.declared.error.PacketError.TheVariants.{OutOfMemory};
+ghost use Rattle.codec_payload_buffer.specs.Pack.{pack_of};
+ghost use Rattle.codec_payload_rtp.specs.ExtensionWriting.{ids_fit};
+ghost use Rattle.codec_payload_rtp.specs.RtpValues.{extension_of, header_of};
+ghost use Rattle.codec_payload_sender.specs.Datagrams.{IsHeader, IsHeadedAt, IsMarker, header_with, octets_in, sample_of, time_of};
+ghost use Rattle.codec_payload_sender.specs.Senders.{Sends, Refuses, nothing_sent, refusal_of, sender_by};
+ghost use Rattle.codec_payload_sender.specs.declared.sender.SenderError.TheVariants as refusals;
+
+use codec_payload_base::error::PacketError;
+use codec_payload_base::payloads::Payloads;
+use codec_payload_base::wire::{ExtensionValues, Frequency, MediaTime};
+use codec_payload_buffer::codec::{CodecPacketizer, NoBox, Packetizer};
+use codec_payload_rtp::rtp::{HeaderExtension, RtpHeader};
+use codec_payload_rtp::values::ExtensionIds;
+use std::alloc::Global;
+use std::marker::Model;
+use thiserror::Error;
+
+/// The most bytes of a header: 12, and an extension of 304 with each value that there is.
+pub const HEADROOM: usize = 316;
+
+/// What a sender is made of.
+#[derive(Clone, Copy, Debug)]
+pub struct SenderSettings {
+    /// The synchronization source: any number, chosen at random (RFC 3550, section 8).
+    pub ssrc: u32,
+    /// The payload type, 0 to 127.
+    pub payload_type: u8,
+    /// The sequence number of the first packet (RFC 3550, section 5.1: at random).
+    pub first_number: u16,
+    /// The rate of the RTP clock.
+    pub clock_rate: Frequency,
+    /// The most bytes of a payload, as packetizers have it. The header, of 12 bytes and at most 304 of an extension, and the tag
+    /// come on top.
+    pub mtu: usize,
+    /// How many bytes are kept free behind each datagram, for a tag (RFC 3711, section 3.1): 0 to 65,535.
+    pub tailroom: usize,
+    /// The ids of header extensions. Values without an id are not sent.
+    pub extension_ids: ExtensionIds,
+}
+
+/// Why a sender is not made.
+#[derive(Clone, Copy, Debug, PartialEq, Eq, Error)]
+pub enum SenderError {
+    /// The payload type is above 127.
+    #[error("the payload type is above 127")]
+    PayloadType,
+    /// More than 65,535 bytes are to be free behind each datagram.
+    #[error("more than 65535 bytes are to be free behind a datagram")]
+    Tailroom,
+    /// An id of a header extension is 0, or two are the same.
+    #[error("an id of a header extension is 0, or two are the same")]
+    ExtensionIds,
+    /// Memory is wanting.
+    #[error("out of memory")]
+    OutOfMemory,
+}
+
+/// What is sent at once: a media frame with its time.
+#[derive(Clone, Copy, Debug)]
+pub struct Sample<'a> {
+    pub rtp_time: MediaTime,
+    /// The media frame.
+    pub bytes: &'a [u8],
+    /// Whether the sample is the first after a silence.
+    pub start_of_talk_spurt: bool,
+    /// Which of them go on which packet, [`ExtensionValues::for_packet`] says.
+    pub ext_vals: ExtensionValues,
+}
+
+/// What sender reports tell (RFC 3550, section 6.4.1).
+#[derive(Clone, Copy, Debug, PartialEq, Eq)]
+pub struct Counts {
+    /// How many packets were sent, modulo 2^32.
+    pub packets: u32,
+    /// How many bytes of payload, modulo 2^32.
+    pub octets: u32,
+    /// The RTP time of the sample that was sent last.
+    pub rtp_time: Option<u32>,
+}
+
+/// What the packets of a stream share, and the number of the next.
+#[derive(Clone, Copy, Debug)]
+pub(crate) struct Stream {
+    ssrc: u32,
+    payload_type: u8,
+    clock_rate: Frequency,
+    ids: ExtensionIds,
+    number: u16,
+}
+
+/// What each packet has of its own.
+#[derive(Clone, Copy, Debug)]
+pub(crate) struct Fields {
+    marker: bool,
+    number: u16,
+    time: u32,
+}
+
+/// The payloads with their headers, and where a header and its extension are written first.
+#[derive(Drop)]
+struct Packets {
+    out: Payloads,
+    header: Vec<u8>,
+    extension: Vec<u8>,
+}
+
+/// Sends the samples of one stream: a sample goes in, and its datagrams stand in memory that is used again, until the next
+/// sample goes in.
+///
+/// Each is a packet of RFC 3550, without CSRCs and padding, its header written in front of its payload, in place. Once the
+/// memory has grown to the largest sample, no call takes any. It opens no socket and reads no clock.
+#[derive(Drop)]
+pub struct Sender<B = NoBox> {
+    alloc: Global,
+    pack: CodecPacketizer<B>,
+    mtu: usize,
+    stream: Stream,
+    counts: Counts,
+    packets: Packets,
+}
+
+impl<B> Model for Sender<B> {
+    ghost use Rattle.std.specs.Prelude.{◌≡◌, ◌<◌, IsTrue};
+    ghost use Rattle.codec_payload_buffer.specs.Pack.{pack_of};
+    ghost use Rattle.codec_payload_rtp.specs.ExtensionWriting.{ids_fit};
+    ghost use Rattle.codec_payload_sender.specs.Datagrams.{joined};
+    ghost use Rattle.codec_payload_sender.specs.Senders.{Sending};
+
+    ghost Value = { Sending };
+
+    ghost view = { λ s. record {
+      pack = pack_of s.pack;
+      mtu = s.mtu;
+      stream = s.stream;
+      tailroom = s.packets.out.tailroom;
+      counts = s.counts;
+      datagrams = joined s.packets.out.headers s.packets.out.payloads;
+    } };
+
+    ghost invariant = { λ s. (s.packets.out.headroom ≡ 316) × (s.stream.payload_type < 128) × IsTrue (ids_fit s.stream.ids) };
+}
+
+/// The extension of that profile, if there is one.
+fn extension_by(profile: Option<u16>, bytes: &[u8]) -> Option<HeaderExtension<'_>>
+    ensures { extension_of result ≡ option_map (λ p. record { profile = p; bytes = bytes.now }) profile }
+{
+    match profile {
+        Some(profile) => Some(HeaderExtension { profile, bytes }),
+        None => None,
+    }
+}
+
+/// The header of a packet of the stream, with that extension.
+fn header_by<'a>(
+    stream: &Stream,
+    fields: Fields,
+    extension: Option<HeaderExtension<'a>>,
+) -> RtpHeader<'a>
+    ensures { header_of result ≡ record { marker = fields.marker; payload_type = stream.now.payload_type; sequence_number = fields.number; timestamp = fields.time; ssrc = stream.now.ssrc; csrcs = []; extension = extension_of extension.entry } }
+{
+    RtpHeader {
+        marker: fields.marker,
+        payload_type: stream.payload_type,
+        sequence_number: fields.number,
+        timestamp: fields.time,
+        ssrc: stream.ssrc,
+        csrcs: &[],
+        extension,
+    }
+}
+
+/// Writes the header of a packet of the stream in the place of what `out` has, and its extension in that of what `words` has.
+fn write_header(
+    stream: &Stream,
+    fields: Fields,
+    values: &ExtensionValues,
+    words: &mut Vec<u8>,
+    out: &mut Vec<u8>,
+) -> Result<(), PacketError>
+    requires payload_type { stream.now.payload_type < 128 }
+    requires ids { IsTrue (ids_fit stream.now.ids) }
+    ensures ok { OnOk result (IsHeader out.new.items (header_with stream.now fields values.now)) }
+    ensures few { OnOk result (length out.new.items ≤ 316) }
+    ensures fault { IfErr result (λ fault. fault ≡ OutOfMemory) }
+{
+    let profile = stream.ids.write(values, words)?;
+    let header = header_by(stream, fields, extension_by(profile, words));
+    out.clear();
+    header.write(out)?;
+    Ok(())
+}
+
+/// The RTP time of a sample.
+fn time_of(stream: &Stream, sample: &Sample<'_>) -> u32
+    ensures { result ≡ time_of stream.now (sample_of sample.now) }
+{
+    (sample.rtp_time.rebase(stream.clock_rate).numer() % (1 << 32)) as u32
+}
+
+/// Whether the packet at a place is marked.
+fn is_marked<B: Packetizer>(
+    pack: &mut CodecPacketizer<B>,
+    sample: &Sample<'_>,
+    place: usize,
+    out: &Payloads,
+) -> bool
+    requires { place < length out.now.payloads }
+    ensures marker { IsMarker (pack_of pack.old) (sample_of sample.now) place (length out.now.payloads) result }
+    ensures same { pack_of pack.new ≡ pack_of pack.old }
+{
+    let count = out.len();
+    let last = place + 1 == count;
+    let starts = pack.marks_talkspurt() && sample.start_of_talk_spurt;
+    let payload = out.get(place);
+    if place == 0 {
+        return pack.is_marker(payload, None, last) || starts;
+    }
+    pack.is_marker(payload, Some(out.get(place - 1)), last) || starts
+}
+
+/// Puts the header of the packet at a place in front of its payload.
+fn put_header<B: Packetizer>(
+    pack: &mut CodecPacketizer<B>,
+    stream: &Stream,
+    sample: &Sample<'_>,
+    place: usize,
+    packets: &mut Packets,
+) -> Result<(), PacketError>
+    requires room { packets.old.out.headroom ≡ 316 }
+    requires place { place < length packets.old.out.payloads }
+    requires payload_type { stream.now.payload_type < 128 }
+    requires ids { IsTrue (ids_fit stream.now.ids) }
+    ensures ok { OnOk result ((header : List ℕ) × IsHeadedAt stream.now (pack_of pack.old) (sample_of sample.now) (length packets.old.out.payloads) place header
+        × (packets.new.out.headers ≡ slice_set packets.old.out.headers place header)) }
+    ensures same { pack_of pack.new ≡ pack_of pack.old }
+    ensures rest { packets.new.out ≡ record packets.old.out { headers = packets.new.out.headers } }
+    ensures fault { IfErr result (λ fault. fault ≡ OutOfMemory) }
+{
+    let marker = is_marked(pack, sample, place, &packets.out);
+    let fields = Fields {
+        marker,
+        number: stream.number.wrapping_add((place % 65_536) as u16),
+        time: time_of(stream, sample),
+    };
+    let values = sample.ext_vals.for_packet(place, packets.out.len());
+    write_header(
+        stream,
+        fields,
+        &values,
+        &mut packets.extension,
+        &mut packets.header,
+    )?;
+    packets.out.put_header(place, &packets.header);
+    Ok(())
+}
+
+/// Puts the headers of all packets of a sample in front of their payloads.
+fn put_headers<B: Packetizer>(
+    pack: &mut CodecPacketizer<B>,
+    stream: &Stream,
+    sample: &Sample<'_>,
+    packets: &mut Packets,
+) -> Result<(), PacketError>
+    requires room { packets.old.out.headroom ≡ 316 }
+    requires payload_type { stream.now.payload_type < 128 }
+    requires ids { IsTrue (ids_fit stream.now.ids) }
+    ensures ok { OnOk result ((place : ℕ) → place < length packets.old.out.payloads
+        → IsHeadedAt stream.now (pack_of pack.old) (sample_of sample.now) (length packets.old.out.payloads) place (slice_index_or packets.new.out.headers place [])) }
+    ensures same { pack_of pack.new ≡ pack_of pack.old }
+    ensures rest { packets.new.out ≡ record packets.old.out { headers = packets.new.out.headers } }
+    ensures fault { IfErr result (λ fault. fault ≡ OutOfMemory) }
+{
+    for place in 0..packets.out.len() {
+        put_header(pack, stream, sample, place, packets)?;
+    }
+    Ok(())
+}
+
+/// How many bytes the payloads have, modulo 2^32.
+fn octets_in(out: &Payloads) -> u32
+    ensures { result ≡ octets_in out.now.payloads % 2 ^ 32 }
+{
+    let mut octets: u32 = 0;
+    for place in 0..out.len() {
+        octets = octets.wrapping_add((out.get(place).len() % (1 << 32)) as u32);
+    }
+    octets
+}
+
+impl<B: Packetizer> Sender<B> {
+    /// A sender over that packetizer, by settings that are looked at in their order. It takes memory for the longest header.
+    pub fn new(
+        alloc: Global,
+        pack: CodecPacketizer<B>,
+        settings: SenderSettings,
+    ) -> Result<Self, SenderError>
+        ensures ok { IfOk result (λ s. s ≡ sender_by settings (pack_of pack)) }
+        // Which setting is out of range.
+        ensures refused { IfSome (refusal_of settings) (λ e. result ≡ Err e) }
+        // Where none is, it is made, if there is memory.
+        ensures made { refusal_of settings ≡ Option.None → IfErr result (λ e. e ≡ refusals.OutOfMemory) }
+    {
+        if settings.payload_type > 127 {
+            return Err(SenderError::PayloadType);
+        }
+        if settings.tailroom > 65_535 {
+            return Err(SenderError::Tailroom);
+        }
+        if !settings.extension_ids.fit() {
+            return Err(SenderError::ExtensionIds);
+        }
+        let Ok(packets) = empty_packets(alloc, settings.tailroom) else {
+            return Err(SenderError::OutOfMemory);
+        };
+        Ok(Sender {
+            alloc,
+            pack,
+            mtu: settings.mtu,
+            stream: stream_by(&settings),
+            counts: no_counts(),
+            packets,
+        })
+    }
+
+    /// Cuts a sample into packets. Its datagrams take the place of those of the sample before: see [`Sender::datagram`].
+    ///
+    /// A sample that the packetizer skips has none. After a fault there are none, and the sequence number and the counts are as
+    /// before. Where memory was wanting, the packetizer may have gone on.
+    pub fn send(&mut self, sample: &Sample<'_>) -> Result<(), PacketError>
+        ensures ok { OnOk result (Sends self.old (sample_of sample.now) self.new) }
+        ensures err { IfErr result (λ fault. Refuses self.old (sample_of sample.now) fault self.new) }
+    {
+        self.pack
+            .packetize_into(self.alloc, self.mtu, sample.bytes, &mut self.packets.out)?;
+        let answer = put_headers(&mut self.pack, &self.stream, sample, &mut self.packets);
+        self.packets.out.settle(answer)?;
+        let count = self.packets.out.len();
+        self.counts = Counts {
+            packets: self.counts.packets.wrapping_add((count % (1 << 32)) as u32),
+            octets: self
+                .counts
+                .octets
+                .wrapping_add(octets_in(&self.packets.out)),
+            rtp_time: Some(time_of(&self.stream, sample)),
+        };
+        self.stream.number = self.stream.number.wrapping_add((count % 65_536) as u16);
+        Ok(())
+    }
+
+    /// How many datagrams the sample has that was sent last.
+    pub fn len(&self) -> usize
+        ensures { result ≡ length self.now.datagrams }
+    {
+        self.packets.out.len()
+    }
+
+    /// The datagram at a place.
+    pub fn datagram(&self, place: usize) -> &[u8]
+        requires { place < length self.now.datagrams }
+        ensures { result.now ≡ slice_index_or self.now.datagrams place [] }
+    {
+        self.packets.out.packet(place)
+    }
+
+    /// How many bytes are free behind each datagram.
+    pub fn tailroom(&self) -> usize
+        ensures { result ≡ self.now.tailroom }
+    {
+        self.packets.out.tailroom()
+    }
+
+    /// The sequence number of the next packet.
+    pub fn next_number(&self) -> u16
+        ensures { result ≡ self.now.stream.number }
+    {
+        self.stream.number
+    }
+
+    /// What sender reports tell.
+    pub fn counts(&self) -> Counts
+        ensures { result ≡ self.now.counts }
+    {
+        self.counts
+    }
+}
+
+/// What the packets share, by settings.
+fn stream_by(settings: &SenderSettings) -> Stream
+    ensures { result ≡ record { ssrc = settings.now.ssrc; payload_type = settings.now.payload_type; clock_rate = settings.now.clock_rate; ids = settings.now.extension_ids; number = settings.now.first_number } }
+{
+    Stream {
+        ssrc: settings.ssrc,
+        payload_type: settings.payload_type,
+        clock_rate: settings.clock_rate,
+        ids: settings.extension_ids,
+        number: settings.first_number,
+    }
+}
+
+/// Nothing was sent so far.
+fn no_counts() -> Counts
+    ensures { result ≡ nothing_sent }
+{
+    Counts {
+        packets: 0,
+        octets: 0,
+        rtp_time: None,
+    }
+}
+
+/// No packets, with room for the longest header, and so many bytes free behind each packet that comes.
+fn empty_packets(alloc: Global, tailroom: usize) -> Result<Packets, PacketError>
+    requires { tailroom ≤ 65535 }
+    ensures { IfOk result (λ p. p.out ≡ record { headroom = 316; tailroom = tailroom; headers = []; payloads = []; begun = [] }) }
+{
+    Ok(Packets {
+        out: Payloads::new(alloc, HEADROOM, tailroom)?,
+        header: Vec::with_capacity(alloc, HEADROOM)?,
+        extension: Vec::with_capacity(alloc, HEADROOM)?,
+    })
+}
