@@ -6,7 +6,7 @@
  * proved: on any bytes it neither crashes nor reads out of bounds. docs/FORMATS.md has the formats and the buffer's rules.
  *
  * STATUSES. A call answers a status, but for the few that answer a bool or a number. 0 is success, 1 to 17 are faults of
- * payloads and of memory, 32 to 37 are the library's own; the enum below has them all, with names. On every status but 0
+ * payloads and of memory, 32 to 41 are the library's own; the enum below has them all, with names. On every status but 0
  * the caller's bytes stay as they are; and on every status but 0 and CPL_TOO_SMALL so does all else that a call tells: structs,
  * sizes, counts and bools.
  *
@@ -93,7 +93,11 @@ enum {
     CPL_EMPTY = 34,      /* the handle is empty */
     CPL_OTHER_KIND = 35, /* the handle holds something of another kind */
     CPL_FULL = 36,       /* the handle is full already, and stays as it is */
-    CPL_INVALID = 37     /* an argument is none that the call takes; its comment says which are */
+    CPL_INVALID = 37,    /* an argument is none that the call takes; its comment says which are */
+    CPL_FRAME_TOO_SHORT = 38, /* a frame ends before what its format says */
+    CPL_FRAME_MARKER = 39,    /* a marker, a sync code or a start code of a frame is another than the standard's */
+    CPL_FRAME_RESERVED = 40,  /* a field of a frame has a value that the standard reserves or forbids */
+    CPL_FRAME_SIZES = 41      /* a size in a frame does not fit to the bytes that are there */
 };
 
 /* Codecs. */
@@ -358,6 +362,57 @@ uint32_t cpl_is_tail(uint32_t codec, bool marker, const uint8_t *payload, size_t
  * where earlier packets may come behind the first one. */
 uint64_t cpl_extend_number(uint64_t previous, bool has_previous, uint16_t number);
 
+/* ---- What frames say: whole frames, as cpl_buffer_pop gives them. None takes memory ---- */
+
+/* What a frame says of itself. What it does not tell is 0. */
+typedef struct {
+    uint64_t duration; /* of audio, in ticks of the RTP clock */
+    uint32_t width;    /* in pixels; of AV1 the largest of the sequence header */
+    uint32_t height;
+    bool has_keyframe; /* whether `keyframe` is told: of VP8 and VP9 always, of AV1 where the unit has a frame header */
+    bool keyframe;
+    bool has_size; /* of a keyframe of VP8, of a keyframe or an intra-only frame of VP9, of AV1 with a sequence header */
+    bool has_duration;
+} cpl_frame_facts;
+
+/* What a frame of a codec says. Of VP8, VP9, AV1, Opus, AMR-WB (in storage form), G.711 and G.722; of other codecs, and of a
+ * codec that is not there, nothing is told. CPL_FRAME_TOO_SHORT to CPL_FRAME_SIZES where the frame is malformed: the first
+ * fault from left to right. It reads what it needs and no more. */
+uint32_t cpl_frame_info(uint32_t codec, const uint8_t *frame, size_t frame_len, cpl_frame_facts *facts);
+
+/* An OBU of a temporal unit. */
+typedef struct {
+    size_t start; /* where its payload begins in the unit; the next OBU begins at start + bytes */
+    size_t bytes;
+    uint8_t obu_type;    /* 1 a sequence header, 2 a temporal delimiter, 3 a frame header, 6 a frame */
+    uint8_t temporal_id; /* the layers, 0 where they are not told */
+    uint8_t spatial_id;
+    bool has_extension;
+} cpl_obu_info;
+
+/* The OBU at an offset of a temporal unit: 0 for the first, and from each start + bytes for the next. CPL_NONE at the end,
+ * CPL_INVALID behind it, CPL_FRAME_TOO_SHORT to CPL_FRAME_SIZES where the OBU is malformed. */
+uint32_t cpl_av1_obu(const uint8_t *unit, size_t unit_len, size_t offset, cpl_obu_info *info);
+
+/* A frame of an AMR-WB unit. */
+typedef struct {
+    size_t start; /* where its speech begins in the unit; the next frame begins at start + bytes */
+    size_t bytes;
+    uint8_t frame_type; /* 0 to 8 speech, 9 comfort noise, 14 lost, 15 no data */
+    bool quality;       /* whether it is undamaged */
+} cpl_amr_wb_frame_info;
+
+/* The frame at an offset of an AMR-WB unit in storage form, found as cpl_av1_obu finds OBUs. Each lasts 20 ms. */
+uint32_t cpl_amr_wb_frame(const uint8_t *unit, size_t unit_len, size_t offset, cpl_amr_wb_frame_info *info);
+
+/* The av1C record of a stream (AV1 codec ISO media file format binding, 2.3) of 4 bytes and the OBU, from its sequence header
+ * OBU with header and size. *size is told on 0 and on CPL_TOO_SMALL. CPL_INVALID for another OBU, or bytes behind it. */
+uint32_t cpl_av1c(const uint8_t *obu, size_t obu_len, uint8_t *bytes, size_t bytes_len, size_t *size);
+
+/* The 19 bytes of an Opus stream's identification header (RFC 7845, 5.1), without gain, in mapping family 0. `pre_skip` counts
+ * samples of 48 kHz; the rate is that of the input, or 0. CPL_INVALID for other than one or two channels. */
+uint32_t cpl_opus_head(uint8_t channels, uint16_t pre_skip, uint32_t input_sample_rate, uint8_t *bytes, size_t bytes_len);
+
 /* A text for each status, in English. */
 static inline const char *cpl_status_text(uint32_t status) {
     switch (status) {
@@ -379,6 +434,10 @@ static inline const char *cpl_status_text(uint32_t status) {
     case CPL_OTHER_KIND: return "the handle holds something of another kind";
     case CPL_FULL: return "the handle is full";
     case CPL_INVALID: return "an argument is none that the call takes";
+    case CPL_FRAME_TOO_SHORT: return "the frame ends too early";
+    case CPL_FRAME_MARKER: return "the frame has a wrong marker";
+    case CPL_FRAME_RESERVED: return "the frame has a reserved value";
+    case CPL_FRAME_SIZES: return "the frame has sizes that do not fit";
     default: return "unknown status";
     }
 }

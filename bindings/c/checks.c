@@ -79,6 +79,10 @@ static void texts(void) {
         {35, "the handle holds something of another kind"},
         {36, "the handle is full"},
         {37, "an argument is none that the call takes"},
+        {38, "the frame ends too early"},
+        {39, "the frame has a wrong marker"},
+        {40, "the frame has a reserved value"},
+        {41, "the frame has sizes that do not fit"},
         {5, "unknown status"},
         {18, "unknown status"},
         {38, "unknown status"},
@@ -355,6 +359,57 @@ static void audio(void) {
     cpl_free(&sender);
 }
 
+/* What frames say: headers that libvpx and libaom wrote, and the bytes of RFC 6716, RFC 7845 and RFC 4867. */
+static void frames(void) {
+    static const uint8_t vp8[] = {0x10, 0x00, 0x00, 0x9d, 0x01, 0x2a, 0x40, 0x00, 0x30, 0x00};
+    static const uint8_t unit[] = {0x12, 0x00, 0x0a, 0x0a, 0x00, 0x00, 0x00, 0x02, 0xaf,
+                                   0xf7, 0x9b, 0x5f, 0x20, 0x08, 0x32, 0x01, 0x10};
+    static const uint8_t opus[] = {0x78, 0x81}, sound[] = {0x70, 0x4c, 1, 2, 3, 4, 5};
+    cpl_frame_facts facts = {0};
+    CHECK(cpl_frame_info(CPL_VP8, vp8, sizeof vp8, &facts) == CPL_OK);
+    CHECK(facts.has_keyframe && facts.keyframe && facts.has_size && facts.width == 64 && facts.height == 48);
+    CHECK(!facts.has_duration);
+    CHECK(cpl_frame_info(CPL_AV1, unit, sizeof unit, &facts) == CPL_OK);
+    CHECK(facts.keyframe && facts.width == 64 && facts.height == 48);
+    CHECK(cpl_frame_info(CPL_OPUS, opus, sizeof opus, &facts) == CPL_OK);
+    CHECK(!facts.has_keyframe && !facts.has_size && facts.has_duration && facts.duration == 960);
+    facts.duration = 7;
+    CHECK(cpl_frame_info(CPL_VP8, vp8, 9, &facts) == CPL_FRAME_TOO_SHORT);
+    CHECK(cpl_frame_info(CPL_VP9, vp8, sizeof vp8, &facts) == CPL_FRAME_MARKER);
+    CHECK(cpl_frame_info(CPL_AV1, unit + 1, sizeof unit - 1, &facts) == CPL_FRAME_RESERVED);
+    CHECK(cpl_frame_info(CPL_AV1, unit, 9, &facts) == CPL_FRAME_SIZES && facts.duration == 7);
+
+    cpl_obu_info obu = {0};
+    unsigned types = 0;
+    for (size_t offset = 0; cpl_av1_obu(unit, sizeof unit, offset, &obu) == CPL_OK; offset = obu.start + obu.bytes)
+        types = 16 * types + obu.obu_type;
+    CHECK(types == 0x216 && obu.start == 16 && obu.bytes == 1 && !obu.has_extension);
+    CHECK(cpl_av1_obu(unit, sizeof unit, sizeof unit, &obu) == CPL_NONE);
+    CHECK(cpl_av1_obu(unit, sizeof unit, sizeof unit + 1, &obu) == CPL_INVALID);
+    CHECK(cpl_av1_obu(unit, sizeof unit - 1, 14, &obu) == CPL_FRAME_SIZES && obu.start == 16);
+
+    cpl_amr_wb_frame_info frame = {0};
+    CHECK(cpl_amr_wb_frame(sound, sizeof sound, 0, &frame) == CPL_OK);
+    CHECK(frame.start == 1 && frame.bytes == 0 && frame.frame_type == 14 && !frame.quality);
+    CHECK(cpl_amr_wb_frame(sound, sizeof sound, 1, &frame) == CPL_OK);
+    CHECK(frame.start == 2 && frame.bytes == 5 && frame.frame_type == 9 && frame.quality);
+    CHECK(cpl_amr_wb_frame(sound, sizeof sound, 7, &frame) == CPL_NONE);
+    CHECK(cpl_amr_wb_frame(sound, 6, 1, &frame) == CPL_FRAME_TOO_SHORT && frame.bytes == 5);
+
+    uint8_t bytes[19] = {7};
+    size_t size = 0;
+    CHECK(cpl_av1c(unit + 2, 12, bytes, 15, &size) == CPL_TOO_SMALL && size == 16 && bytes[0] == 7);
+    CHECK(cpl_av1c(unit + 2, 12, bytes, sizeof bytes, &size) == CPL_OK && size == 16);
+    CHECK(same(bytes, "\x81\x00\x0c\x00\x0a\x0a", 6));
+    CHECK(cpl_av1c(unit, 2, bytes, sizeof bytes, &size) == CPL_INVALID);
+    CHECK(cpl_av1c(unit + 2, 13, bytes, sizeof bytes, &size) == CPL_INVALID && bytes[0] == 0x81);
+    CHECK(cpl_opus_head(2, 312, 48000, bytes, 18) == CPL_TOO_SMALL);
+    CHECK(cpl_opus_head(2, 312, 48000, bytes, sizeof bytes) == CPL_OK);
+    CHECK(same(bytes, "OpusHead\1\2\x38\1\x80\xbb\0\0\0\0\0", 19));
+    CHECK(cpl_opus_head(0, 312, 48000, bytes, sizeof bytes) == CPL_INVALID);
+    CHECK(cpl_opus_head(3, 312, 48000, bytes, sizeof bytes) == CPL_INVALID);
+}
+
 int main(void) {
     texts();
     handles();
@@ -366,6 +421,7 @@ int main(void) {
     telephone();
     looks();
     pieces();
+    frames();
     printf("%d checks, %d failed\n", checks, failures);
     return failures ? EXIT_FAILURE : EXIT_SUCCESS;
 }

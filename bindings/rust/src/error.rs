@@ -29,6 +29,14 @@ pub enum Error {
     Missing,
     /// An argument is none that the call takes.
     Invalid,
+    /// A frame ends before what its format says.
+    FrameTooShort,
+    /// A marker, a sync code or a start code of a frame is another than the standard's.
+    FrameMarker,
+    /// A field of a frame has a value that the standard reserves or forbids.
+    FrameReserved,
+    /// A size in a frame does not fit to the bytes that are there.
+    FrameSizes,
     /// A status that this crate does not know.
     Unknown(u32),
 }
@@ -52,6 +60,10 @@ impl Error {
             17 => Error::OutOfMemory,
             NONE => Error::Missing,
             37 => Error::Invalid,
+            38 => Error::FrameTooShort,
+            39 => Error::FrameMarker,
+            40 => Error::FrameReserved,
+            41 => Error::FrameSizes,
             status => Error::Unknown(status),
         }
     }
@@ -94,6 +106,10 @@ impl fmt::Display for Error {
             Error::OutOfMemory => f.write_str("out of memory"),
             Error::Missing => f.write_str("there is no such field"),
             Error::Invalid => f.write_str("an argument is none that the call takes"),
+            Error::FrameTooShort => f.write_str("the frame ends too early"),
+            Error::FrameMarker => f.write_str("the frame has a wrong marker"),
+            Error::FrameReserved => f.write_str("the frame has a reserved value"),
+            Error::FrameSizes => f.write_str("the frame has sizes that do not fit"),
             Error::Unknown(status) => write!(f, "unknown status {status}"),
         }
     }

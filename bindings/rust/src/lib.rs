@@ -2,7 +2,7 @@
 //!
 //! A [`Packetizer`] cuts frames into payloads that keep an MTU. A [`Buffer`] takes received packets in any order and gives
 //! whole units back, in order; it is an [`Iterator`] over those that are ready. [`red`] has RFC 2198, [`vp8`] descriptors of
-//! VP8 payloads, [`telephone`] reports on telephone events.
+//! VP8 payloads, [`telephone`] reports on telephone events, [`media`] what frames say of themselves.
 //!
 //! ```
 //! use codec_payload::{Buffer, Codec, Error, Packetizer, Received, Settings};
@@ -34,6 +34,7 @@ mod error;
 mod extra;
 mod handle;
 mod looks;
+pub mod media;
 mod raw;
 pub mod red;
 pub mod telephone;

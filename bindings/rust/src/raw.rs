@@ -141,6 +141,38 @@ pub struct Vp8FieldsInfo {
     pub has_key_idx: bool,
 }
 
+#[repr(C)]
+#[derive(Clone, Copy, Debug, Default)]
+pub struct FrameFacts {
+    pub duration: u64,
+    pub width: u32,
+    pub height: u32,
+    pub has_keyframe: bool,
+    pub keyframe: bool,
+    pub has_size: bool,
+    pub has_duration: bool,
+}
+
+#[repr(C)]
+#[derive(Clone, Copy, Debug, Default)]
+pub struct ObuInfo {
+    pub start: usize,
+    pub bytes: usize,
+    pub obu_type: u8,
+    pub temporal_id: u8,
+    pub spatial_id: u8,
+    pub has_extension: bool,
+}
+
+#[repr(C)]
+#[derive(Clone, Copy, Debug, Default)]
+pub struct AmrWbFrameInfo {
+    pub start: usize,
+    pub bytes: usize,
+    pub frame_type: u8,
+    pub quality: bool,
+}
+
 unsafe extern "C" {
     pub fn cpl_buffer_new(
         handle: *mut Handle,
@@ -281,4 +313,31 @@ unsafe extern "C" {
     ) -> u32;
     pub fn cpl_vp8_patch(payload: *mut u8, payload_len: usize, values: *const Vp8FieldsInfo)
     -> u32;
+    pub fn cpl_frame_info(
+        codec: u32,
+        frame: *const u8,
+        frame_len: usize,
+        facts: *mut FrameFacts,
+    ) -> u32;
+    pub fn cpl_av1_obu(unit: *const u8, unit_len: usize, offset: usize, info: *mut ObuInfo) -> u32;
+    pub fn cpl_amr_wb_frame(
+        unit: *const u8,
+        unit_len: usize,
+        offset: usize,
+        info: *mut AmrWbFrameInfo,
+    ) -> u32;
+    pub fn cpl_av1c(
+        obu: *const u8,
+        obu_len: usize,
+        bytes: *mut u8,
+        bytes_len: usize,
+        size: *mut usize,
+    ) -> u32;
+    pub fn cpl_opus_head(
+        channels: u8,
+        pre_skip: u16,
+        input_sample_rate: u32,
+        bytes: *mut u8,
+        bytes_len: usize,
+    ) -> u32;
 }

@@ -2,8 +2,8 @@
 
 use codec_payload::{
     Buffer, Codec, Depacketizer, Error, Extra, Packet, Packetizer, Received, Settings, Unit,
-    extend_number, is_av1_keyframe, is_head, is_tail, is_vp9_frame_keyframe, is_vp9_keyframe, red,
-    telephone, vp8,
+    extend_number, is_av1_keyframe, is_head, is_tail, is_vp9_frame_keyframe, is_vp9_keyframe,
+    media, red, telephone, vp8,
 };
 
 /// What is known of a packet of that number.
@@ -216,6 +216,55 @@ fn descriptors_and_looks() -> Result<(), Error> {
     assert!(is_av1_keyframe(&[0x18, 0x0a]));
     assert_eq!(extend_number(Some(65_535), 0), 65_536);
     assert_eq!(extend_number(None, 5), 5);
+    Ok(())
+}
+
+/// What frames of libvpx and libaom say, and those of RFC 6716, RFC 7845 and RFC 4867.
+#[test]
+fn frames() -> Result<(), Error> {
+    let vp8 = [0x10, 0x00, 0x00, 0x9d, 0x01, 0x2a, 0x40, 0x00, 0x30, 0x00];
+    let info = media::frame_info(Codec::Vp8, &vp8)?;
+    assert_eq!(
+        (info.keyframe, info.size, info.duration),
+        (Some(true), Some((64, 48)), None)
+    );
+    assert_eq!(
+        media::frame_info(Codec::Vp8, &vp8[..9]),
+        Err(Error::FrameTooShort)
+    );
+    assert_eq!(media::frame_info(Codec::Vp9, &vp8), Err(Error::FrameMarker));
+    assert_eq!(
+        media::frame_info(Codec::Opus, &[0x78, 0x81])?.duration,
+        Some(960)
+    );
+
+    let unit = [
+        0x12, 0x00, 0x0a, 0x0a, 0x00, 0x00, 0x00, 0x02, 0xaf, 0xf7, 0x9b, 0x5f, 0x20, 0x08, 0x32,
+        0x01, 0x10,
+    ];
+    let obus = media::av1_obus(&unit).collect::<Result<Vec<_>, _>>()?;
+    let types: Vec<_> = obus.iter().map(|obu| obu.obu_type).collect();
+    assert_eq!((types, obus[2].payload), (vec![2, 1, 6], &[0x10][..]));
+    let mut cut = media::av1_obus(&unit[..16]).skip(2);
+    assert_eq!(
+        (cut.next(), cut.next()),
+        (Some(Err(Error::FrameSizes)), None)
+    );
+    assert_eq!(
+        media::av1c(&unit[2..14])?[..6],
+        [0x81, 0x00, 0x0c, 0x00, 0x0a, 0x0a]
+    );
+    assert_eq!(media::av1c(&unit[..2]), Err(Error::Invalid));
+
+    let mut sound = media::amr_wb_frames(&[0x70, 0x4c, 1, 2, 3, 4, 5]);
+    assert_eq!(sound.next().unwrap()?.frame_type, 14);
+    assert_eq!(sound.next().unwrap()?.speech, [1, 2, 3, 4, 5]);
+    assert_eq!(sound.next(), None);
+    assert_eq!(
+        media::opus_head(2, 312, 48_000)?,
+        *b"OpusHead\x01\x02\x38\x01\x80\xbb\x00\x00\x00\x00\x00"
+    );
+    assert_eq!(media::opus_head(3, 312, 48_000), Err(Error::Invalid));
     Ok(())
 }
 

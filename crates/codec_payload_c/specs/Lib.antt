@@ -4,6 +4,7 @@ pub mod Bytes
 pub mod Extras
 pub mod Kinds
 pub mod Looks
+pub mod Media
 pub mod Owned
 pub mod RedCoding
 pub mod Reds

@@ -8,6 +8,7 @@ mod extra;
 mod handle;
 mod looks;
 mod loose;
+mod media;
 mod object;
 mod packetizer;
 mod red;

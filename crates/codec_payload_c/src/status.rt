@@ -22,3 +22,15 @@ pub(crate) const FULL: u32 = 36;
 
 /// An argument is none that the call takes.
 pub(crate) const INVALID: u32 = 37;
+
+/// A frame ends before what its format says.
+pub(crate) const FRAME_TOO_SHORT: u32 = 38;
+
+/// A frame has a wrong marker.
+pub(crate) const FRAME_MARKER: u32 = 39;
+
+/// A frame has a value that its standard reserves.
+pub(crate) const FRAME_RESERVED: u32 = 40;
+
+/// Sizes in a frame do not fit.
+pub(crate) const FRAME_SIZES: u32 = 41;

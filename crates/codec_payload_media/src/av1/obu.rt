@@ -89,8 +89,9 @@ fn read_sized(
     Ok((obu, rest))
 }
 
-/// The OBU at the front, and what is behind it.
-pub(crate) fn front_obu(bytes: &[u8]) -> Result<(Av1Obu<'_>, &[u8]), MediaError>
+/// The OBU at the front, and what is behind it. A fault is that of [`Av1Obus`]; of no bytes it is `MissingBytes`. It takes no
+/// memory.
+pub fn front_obu(bytes: &[u8]) -> Result<(Av1Obu<'_>, &[u8]), MediaError>
     ensures { told (λ x. (obu_of x.0, x.1.now)) result ≡ obu_at bytes.now }
 {
     let [header, rest @ ..] = bytes else {

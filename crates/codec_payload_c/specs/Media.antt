@@ -1,0 +1,117 @@
+-- What frames say.
+use Rattle.std.specs.Prelude.{◌≡◌, ℕ, ◌+◌, ◌-◌, ◌==◌, nat_le, nat_lt, if◌then◌else◌, Bool, true, false, List, [], ◌∷◌, length, drop, Option, Some, None, is_some, option_map, Result, Ok, Err}
+use Rattle.codec_payload_media.specs.AmrWbFrames.{Frame}
+use Rattle.codec_payload_media.specs.Av1Records.{av1c_bytes}
+use Rattle.codec_payload_media.specs.Av1SequenceHeaders.{sequence_header}
+use Rattle.codec_payload_media.specs.Av1Units.{Obu, obu_at}
+use Rattle.codec_payload_media.specs.OpusPackets.{head_bytes}
+use Rattle.codec_payload_media.specs.Syntax.{told_by}
+use Rattle.codec_payload_media.specs.declared.av1.obu.Av1Extension.{Av1Extension}
+use Rattle.codec_payload_media.specs.declared.av1.sequence_header.Av1SequenceHeader.{Av1SequenceHeader}
+use Rattle.codec_payload_media.specs.declared.error.MediaError.{MediaError}
+use Rattle.codec_payload_media.specs.declared.error.MediaError.TheVariants as errors
+use Rattle.codec_payload_media.specs.declared.frame_info.FrameInfo.{FrameInfo}
+use Rattle.codec_payload_media.specs.declared.frame_info.PictureSize.{PictureSize}
+use Rattle.codec_payload_media.specs.declared.opus.OpusHead.{OpusHead}
+use Rattle.codec_payload_core.specs.Bits.{bits_of}
+use Rattle.codec_payload_c.specs.Bytes.{filled}
+use Rattle.codec_payload_c.specs.Extras.{or_zero}
+use Rattle.codec_payload_c.specs.declared.media.AmrWbFrameInfo.{AmrWbFrameInfo}
+use Rattle.codec_payload_c.specs.declared.media.FrameFacts.{FrameFacts}
+use Rattle.codec_payload_c.specs.declared.media.ObuInfo.{ObuInfo}
+
+-- the statuses of frames that are malformed
+abbrev pub media_status : MediaError → ℕ
+media_status errors.MissingBytes = 38
+media_status errors.WrongMarker = 39
+media_status errors.ReservedValue = 40
+media_status errors.SizesDoNotFit = 41
+
+abbrev pub or_false : Option Bool → Bool
+or_false None = false
+or_false (Some b) = b
+
+abbrev pub width_of : PictureSize → ℕ
+width_of s = s.width
+
+abbrev pub height_of : PictureSize → ℕ
+height_of s = s.height
+
+abbrev pub facts_of : FrameInfo → FrameFacts
+facts_of i = record {
+  duration = or_zero i.duration;
+  width = or_zero (option_map width_of i.size);
+  height = or_zero (option_map height_of i.size);
+  has_keyframe = is_some i.keyframe;
+  keyframe = or_false i.keyframe;
+  has_size = is_some i.size;
+  has_duration = is_some i.duration;
+}
+
+abbrev pub TellsFrame : Result FrameInfo MediaError → ℕ → FrameFacts → FrameFacts → Type 0
+TellsFrame (Ok i) status before facts = (status ≡ 0) × (facts ≡ facts_of i)
+TellsFrame (Err e) status before facts = (status ≡ media_status e) × (facts ≡ before)
+
+-- ---- parts of a unit, each found behind the one before
+
+abbrev pub temporal_of : Av1Extension → ℕ
+temporal_of e = e.temporal_id
+
+abbrev pub spatial_of : Av1Extension → ℕ
+spatial_of e = e.spatial_id
+
+-- an OBU and the bytes behind it, in a unit of that length
+abbrev pub obu_info : ℕ → Obu × List ℕ → ObuInfo
+obu_info total x = record {
+  start = total - length x.1 - length x.0.payload;
+  bytes = length x.0.payload;
+  obu_type = x.0.obu_type;
+  temporal_id = or_zero (option_map temporal_of x.0.extension);
+  spatial_id = or_zero (option_map spatial_of x.0.extension);
+  has_extension = is_some x.0.extension;
+}
+
+abbrev pub TellsObu : ℕ → Result (Obu × List ℕ) MediaError → ℕ → ObuInfo → ObuInfo → Type 0
+TellsObu total (Ok x) status before info = (status ≡ 0) × (info ≡ obu_info total x)
+TellsObu total (Err e) status before info = (status ≡ media_status e) × (info ≡ before)
+
+abbrev pub frame_place : ℕ → Frame × List ℕ → AmrWbFrameInfo
+frame_place total x = record { start = total - length x.1 - length x.0.speech; bytes = length x.0.speech; frame_type = x.0.frame_type; quality = x.0.quality }
+
+abbrev pub TellsAmrWbFrame : ℕ → Result (Frame × List ℕ) MediaError → ℕ → AmrWbFrameInfo → AmrWbFrameInfo → Type 0
+TellsAmrWbFrame total (Ok x) status before info = (status ≡ 0) × (info ≡ frame_place total x)
+TellsAmrWbFrame total (Err e) status before info = (status ≡ media_status e) × (info ≡ before)
+
+-- what is left from an offset on: status 37 behind the end, status 32 at it
+abbrev pub AtOffset : {A : Type 0} → List ℕ → ℕ → (ℕ → A → A → Type 0) → ℕ → A → A → Type 0
+AtOffset unit offset tells status before after =
+    IfWithin (nat_lt (length unit) offset) (nat_le (length unit) offset) (tells status before after) ((status ≡ 37) × (after ≡ before)) ((status ≡ 32) × (after ≡ before))
+  where
+    abbrev IfWithin : Bool → Bool → Type 0 → Type 0 → Type 0 → Type 0
+    IfWithin true ends found beyond none = beyond
+    IfWithin false true found beyond none = none
+    IfWithin false false found beyond none = found
+
+-- ---- bytes of headers
+
+-- an OBU alone, which is a sequence header, gives the av1C record
+abbrev pub WritesRecord : List ℕ → Result Av1SequenceHeader MediaError → ℕ → List ℕ → List ℕ → ℕ → ℕ → Type 0
+WritesRecord obu (Err e) status before bytes size_before size = (status ≡ media_status e) × (bytes ≡ before) × (size ≡ size_before)
+WritesRecord obu (Ok h) status before bytes size_before size =
+    (status ≡ (if nat_le (length (av1c_bytes h obu)) (length before) then 0 else 33)) × (bytes ≡ filled (av1c_bytes h obu) before) × (size ≡ length (av1c_bytes h obu))
+
+abbrev pub is_header_alone : Obu × List ℕ → Bool
+is_header_alone x = if x.0.obu_type == 1 then length x.1 == 0 else false
+
+abbrev pub WritesOf : List ℕ → Result (Obu × List ℕ) MediaError → ℕ → List ℕ → List ℕ → ℕ → ℕ → Type 0
+WritesOf obu (Err e) status before bytes size_before size = (status ≡ media_status e) × (bytes ≡ before) × (size ≡ size_before)
+WritesOf obu (Ok x) status before bytes size_before size =
+    IfHeader (is_header_alone x) (WritesRecord obu (told_by sequence_header (bits_of x.0.payload)) status before bytes size_before size) ((status ≡ 37) × (bytes ≡ before) × (size ≡ size_before))
+  where
+    abbrev IfHeader : Bool → Type 0 → Type 0 → Type 0
+    IfHeader true writes refuses = writes
+    IfHeader false writes refuses = refuses
+
+abbrev pub WritesHead : Bool → OpusHead → ℕ → List ℕ → List ℕ → Type 0
+WritesHead false h status before bytes = (status ≡ 37) × (bytes ≡ before)
+WritesHead true h status before bytes = (status ≡ (if nat_le 19 (length before) then 0 else 33)) × (bytes ≡ filled (head_bytes h) before)

@@ -1,0 +1,216 @@
+//! What frames say of themselves. No call takes memory.
+
+ghost use Rattle.std.specs.Prelude.{◌≡◌, ◌≤◌, ◌&&◌, nat_le, drop, length};
+ghost use Rattle.codec_payload_media.specs.AmrWbFrames.{frame_at};
+ghost use Rattle.codec_payload_media.specs.Av1Units.{obu_at};
+ghost use Rattle.codec_payload_media.specs.FrameInfo.{info_of};
+ghost use Rattle.codec_payload_c.specs.Media.{AtOffset, TellsAmrWbFrame, TellsFrame, TellsObu, WritesHead, WritesOf, facts_of, media_status};
+ghost use Rattle.codec_payload_c.specs.Settings.{codec_numbered};
+
+use crate::bytes::fill;
+use crate::settings::codec_of;
+use crate::status;
+use codec_payload_media::amr_wb::front_frame;
+use codec_payload_media::av1::av1c::{AV1C_FRONT_LEN, av1c_front};
+use codec_payload_media::av1::obu::{OBU_SEQUENCE_HEADER, front_obu};
+use codec_payload_media::av1::sequence_header::Av1SequenceHeader;
+use codec_payload_media::error::MediaError;
+use codec_payload_media::frame_info::{FrameInfo, frame_info};
+use codec_payload_media::opus::OpusHead;
+
+/// What a frame says of itself.
+#[repr(C)]
+#[derive(Clone, Copy)]
+pub struct FrameFacts {
+    /// How long it lasts, of audio, in ticks of the RTP clock.
+    pub duration: u64,
+    /// In pixels.
+    pub width: u32,
+    /// In pixels.
+    pub height: u32,
+    /// Whether `keyframe` is told.
+    pub has_keyframe: bool,
+    pub keyframe: bool,
+    /// Whether `width` and `height` are told.
+    pub has_size: bool,
+    /// Whether `duration` is told.
+    pub has_duration: bool,
+}
+
+/// An OBU of a temporal unit.
+#[repr(C)]
+#[derive(Clone, Copy)]
+pub struct ObuInfo {
+    /// Where its payload begins in the unit; the next OBU begins behind its end.
+    pub start: usize,
+    /// How many bytes its payload has.
+    pub bytes: usize,
+    pub obu_type: u8,
+    pub temporal_id: u8,
+    pub spatial_id: u8,
+    /// Whether its layers are told.
+    pub has_extension: bool,
+}
+
+/// A frame of an AMR-WB unit.
+#[repr(C)]
+#[derive(Clone, Copy)]
+pub struct AmrWbFrameInfo {
+    /// Where its speech begins in the unit; the next frame begins behind its end.
+    pub start: usize,
+    /// How many bytes of speech it has.
+    pub bytes: usize,
+    pub frame_type: u8,
+    /// Whether it is undamaged.
+    pub quality: bool,
+}
+
+/// The status of a frame that is malformed.
+fn status_of(error: MediaError) -> u32
+    ensures { result ≡ media_status error }
+{
+    match error {
+        MediaError::MissingBytes => status::FRAME_TOO_SHORT,
+        MediaError::WrongMarker => status::FRAME_MARKER,
+        MediaError::ReservedValue => status::FRAME_RESERVED,
+        MediaError::SizesDoNotFit => status::FRAME_SIZES,
+    }
+}
+
+/// What is told, as C has it.
+fn facts_of(info: &FrameInfo) -> FrameFacts
+    ensures { result ≡ facts_of info.now }
+{
+    let (width, height) = match info.size {
+        Some(size) => (size.width, size.height),
+        None => (0, 0),
+    };
+    FrameFacts {
+        duration: info.duration.unwrap_or(0),
+        width,
+        height,
+        has_keyframe: info.keyframe.is_some(),
+        keyframe: info.keyframe.unwrap_or(false),
+        has_size: info.size.is_some(),
+        has_duration: info.duration.is_some(),
+    }
+}
+
+/// What a frame of a codec says of itself.
+#[unsafe(no_mangle)]
+pub extern "C" fn cpl_frame_info(codec: u32, frame: &[u8], facts: &mut FrameFacts) -> u32
+    ensures { TellsFrame (info_of (codec_numbered codec) frame.now) result facts.old facts.new }
+{
+    match frame_info(codec_of(codec), frame) {
+        Ok(info) => {
+            *facts = facts_of(&info);
+            status::OK
+        }
+        Err(error) => status_of(error),
+    }
+}
+
+/// The OBU at an offset of a temporal unit.
+#[unsafe(no_mangle)]
+pub extern "C" fn cpl_av1_obu(unit: &[u8], offset: usize, info: &mut ObuInfo) -> u32
+    ensures { AtOffset unit.now offset (TellsObu (length unit.now) (obu_at (drop offset unit.now))) result info.old info.new }
+{
+    let Some(rest) = unit.get(offset..) else {
+        return status::INVALID;
+    };
+    if rest.is_empty() {
+        return status::NONE;
+    }
+    let (obu, behind) = match front_obu(rest) {
+        Ok(found) => found,
+        Err(error) => return status_of(error),
+    };
+    let (temporal_id, spatial_id) = match obu.extension {
+        Some(extension) => (extension.temporal_id, extension.spatial_id),
+        None => (0, 0),
+    };
+    *info = ObuInfo {
+        start: unit.len() - behind.len() - obu.payload.len(),
+        bytes: obu.payload.len(),
+        obu_type: obu.obu_type,
+        temporal_id,
+        spatial_id,
+        has_extension: obu.extension.is_some(),
+    };
+    status::OK
+}
+
+/// The frame at an offset of an AMR-WB unit in storage form.
+#[unsafe(no_mangle)]
+pub extern "C" fn cpl_amr_wb_frame(unit: &[u8], offset: usize, info: &mut AmrWbFrameInfo) -> u32
+    ensures { AtOffset unit.now offset (TellsAmrWbFrame (length unit.now) (frame_at (drop offset unit.now))) result info.old info.new }
+{
+    let Some(rest) = unit.get(offset..) else {
+        return status::INVALID;
+    };
+    if rest.is_empty() {
+        return status::NONE;
+    }
+    let (frame, behind) = match front_frame(rest) {
+        Ok(found) => found,
+        Err(error) => return status_of(error),
+    };
+    *info = AmrWbFrameInfo {
+        start: unit.len() - behind.len() - frame.speech.len(),
+        bytes: frame.speech.len(),
+        frame_type: frame.frame_type,
+        quality: frame.quality,
+    };
+    status::OK
+}
+
+/// The `av1C` record of a stream, from its sequence header OBU.
+#[unsafe(no_mangle)]
+pub extern "C" fn cpl_av1c(obu: &[u8], bytes: &mut [u8], size: &mut usize) -> u32
+    ensures { WritesOf obu.now (obu_at obu.now) result bytes.old bytes.new size.old size.new }
+{
+    let (found, behind) = match front_obu(obu) {
+        Ok(found) => found,
+        Err(error) => return status_of(error),
+    };
+    if found.obu_type != OBU_SEQUENCE_HEADER || !behind.is_empty() {
+        return status::INVALID;
+    }
+    let header = match Av1SequenceHeader::parse(found.payload) {
+        Ok(header) => header,
+        Err(error) => return status_of(error),
+    };
+    *size = AV1C_FRONT_LEN + obu.len();
+    if bytes.len() < AV1C_FRONT_LEN || bytes.len() - AV1C_FRONT_LEN < obu.len() {
+        return status::TOO_SMALL;
+    }
+    let (front, rest) = bytes.split_at_mut(AV1C_FRONT_LEN);
+    front.copy_from_slice(&av1c_front(&header));
+    rest[..obu.len()].copy_from_slice(obu);
+    status::OK
+}
+
+/// The identification header of an Opus stream.
+#[unsafe(no_mangle)]
+pub extern "C" fn cpl_opus_head(
+    channels: u8,
+    pre_skip: u16,
+    input_sample_rate: u32,
+    bytes: &mut [u8],
+) -> u32
+    ensures { WritesHead (nat_le 1 channels && nat_le channels 2) (record { channels = channels; pre_skip = pre_skip; input_sample_rate = input_sample_rate }) result bytes.old bytes.new }
+{
+    if channels == 0 || channels > 2 {
+        return status::INVALID;
+    }
+    let head = OpusHead {
+        channels,
+        pre_skip,
+        input_sample_rate,
+    };
+    if fill(bytes, &head.to_bytes()) {
+        status::OK
+    } else {
+        status::TOO_SMALL
+    }
+}
