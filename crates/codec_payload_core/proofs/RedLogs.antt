@@ -118,7 +118,7 @@ module _ (r : RedRan) (run : RunsAsRedSteps r) (is : IsRedFresh r) where
     sender = ap (λ (ps : List Packet). sender_after red (all_remembered ps)) (sym is.unused.nothing_sent);
   }
 
-  runs : Runs (wrapped_by r.with red) r.samples 0 r.steps s r.sends r.pops t × IsInStep red r.with.budget r.after
+  pub runs : Runs (wrapped_by r.with red) r.samples 0 r.steps s r.sends r.pops t × IsInStep red r.with.budget r.after
   runs =
       runs_in_red r.with red r.samples 0 r.steps r.before r.after r.sends r.pops is.unused.built_in
       (ap is_codec is.unused.alike ∙ codec_payloads s.payloading.pack is.unused.built_in) start run
@@ -129,7 +129,7 @@ module _ (r : RedRan) (run : RunsAsRedSteps r) (is : IsRedFresh r) where
   all : SendsAll s t stream.units
   all = sends_all r.samples r.steps s t is.unused stream
 
-  faithful : IsFaithful (IsRedPushOf r) s.payloading.clock_rate (payloads_by s.payloading.pack)
+  pub faithful : IsFaithful (IsRedPushOf r) s.payloading.clock_rate (payloads_by s.payloading.pack)
   faithful = record {
     number = λ k q m push. ap (λ (x : RtpMeta). x.seq_no.0) push.told;
     time = λ k q m push. ap (λ (x : RtpMeta). x.time) push.told;
@@ -198,7 +198,7 @@ module _ (r : RedRan) (run : RunsAsRedSteps r) (is : IsRedFresh r) where
       log_from (wrapped_by r.with red) (pushes_of r) t.sink.packets s.payloading.clock_rate r.sends r.samples does r.steps 0 s t r.sends [] r.pops (begun s.buffer) runs.0 refl refl refl (λ n l. sym (ap length is.unused.nothing_sent)) refl
 
   module _ (units : List SentUnit) (lawful : AllLawful (payloads_by s.payloading.pack) (may_split s.payloading.pack) units) (packets : packets_of units ≡ t.sink.packets) where
-    abbrev red_setting : Setting
+    abbrev pub red_setting : Setting
     red_setting = setting r.samples r.steps s t stream is.unused is.readable (IsRedPushOf r) faithful units lawful packets
 
     -- a step pushes what was sent
@@ -231,7 +231,7 @@ module _ (r : RedRan) (run : RunsAsRedSteps r) (is : IsRedFresh r) where
               ap (λ (y : Packet). y.ext_vals) image.is ∙ ap (λ (y : Packet). y.ext_vals) (sym packet),
             )
 
-    named_sent : (place k : ℕ) (d : Depack) → slice_get r.steps place ≡ Some (steps.Push k) → kind_of_depack d ≡ payloads_by s.payloading.pack → ArePushes red_setting (pushes_of r place k d)
+    pub named_sent : (place k : ℕ) (d : Depack) → slice_get r.steps place ≡ Some (steps.Push k) → kind_of_depack d ≡ payloads_by s.payloading.pack → ArePushes red_setting (pushes_of r place k d)
     named_sent place k d at reads = by_packet (packet_named r.after.images r.sends place k) refl
       where
         by_packet : (o : Option Packet) → packet_named r.after.images r.sends place k ≡ o → ArePushes red_setting (recovered_held place s.payloading.clock_rate r.with.receiver o d)
@@ -321,13 +321,13 @@ module _ (r : RedRan) (run : RunsAsRedSteps r) (is : IsRedFresh r) where
   }
 
   module _ (log : RedLog r) where
-    abbrev log_setting : Setting
+    abbrev pub log_setting : Setting
     log_setting = red_setting log.released.units log.lawful log.released.packets
 
-    log_ready : IsReady log_setting 0 s.buffer
+    pub log_ready : IsReady log_setting 0 s.buffer
     log_ready = ready r.samples r.steps s t stream is.unused is.readable (IsRedPushOf r) faithful log.released.units log.lawful log.released.packets
 
-    log_chain : Chain log_setting s.buffer log.turns log.end
+    pub log_chain : Chain log_setting s.buffer log.turns log.end
     log_chain = red_chain log.released.units log.lawful log.released.packets log.turns log.end log.is_log
 
     pub order_free : AreStretches (IsRedPushOf r) s.sink.first sent log.turns log.end

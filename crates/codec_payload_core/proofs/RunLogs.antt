@@ -1,6 +1,6 @@
 -- What is promised of whole runs, from their logs.
 use Rattle.std.specs.Prelude.{slice_get}
-use Rattle.std.proofs.Common.{◌≡◌, ◌∙◌, refl, sym, ap, subst, List, [], Option, None, Some, false, ℕ, zero, suc, ◌+◌, ◌++◌, ◌∷◌, ◌<◌, inl, arith, length, map, take, drop}
+use Rattle.std.proofs.Common.{◌≡◌, ◌∙◌, refl, sym, ap, subst, List, [], Option, None, Some, true, false, ℕ, zero, suc, ◌+◌, ◌++◌, ◌∷◌, ◌<◌, inl, arith, length, map, take, drop}
 use Rattle.std.proofs.lemmas.Bool.Decides.{nat_tests}
 use Rattle.std.proofs.lemmas.List.{take-append-drop}
 use Rattle.codec_payload_buffer.proofs.MemberLemmas.{in_contains}
@@ -34,7 +34,7 @@ use Rattle.codec_payload_core.specs.LawfulUnits.{AllLawful}
 use Rattle.codec_payload_core.specs.Log.{Stretch, Turn, begun, packet_named, held_of, IsLog, RunLog}
 use Rattle.codec_payload_core.specs.Packets.{Packet}
 use Rattle.codec_payload_core.specs.RunCounts.{sent_before}
-use Rattle.codec_payload_core.specs.RunOrder.{AreStretches, IsOrderFree, AllFollowAsSaid, IsContiguousAsSaid, bare_meta, bare_answer, OnlySetsCount}
+use Rattle.codec_payload_core.specs.RunOrder.{AreStretches, IsOrderFree, AllFollowAsSaid, IsContiguousAsSaid, bare_meta, answer_with, OnlySetsCount}
 use Rattle.codec_payload_core.specs.RunPromises.{Ran, IsFresh, KeepsPromises, RunsAsSteps}
 use Rattle.codec_payload_core.specs.RunUnits.{LosesNoneSilently, PassesNoneOver, PassesOnlyPastGap, FirstIsWhole, NoneEvicted, AreNext, BeginsAsSent}
 use Rattle.codec_payload_core.specs.RunValues.{HaveValuesOfSamples, values_of_run}
@@ -243,9 +243,9 @@ only_sets_count samples all_steps other_steps s t u sends other_sends pops other
     let other_log : IsLog (packets_of log.released.units) s.payloading.clock_rate other_sends 0 other_steps (begun s.buffer) other.turns other.end =
     subst (λ (ps : List Packet). IsLog ps s.payloading.clock_rate other_sends 0 other_steps (begun s.buffer) other.turns other.end) (sym (log.released.packets ∙ packets)) other.is_log in
     let other_chain = plain_chain c other_steps other_sends other.turns other.end s.buffer beyond other_log in
-    ap (map bare_answer) (sym log.answers)
-    ∙ chains_same c (λ k q m push. ap bare_meta push.3) other_steps other_sends 0 0 s.buffer s.buffer log.turns other.turns log.end other.end ready_of_log ready_of_other refl (log_chain samples all_steps s t sends pops exactly unused readable log) other_chain same
-    ∙ ap (map bare_answer) other.answers
+    ap (map (answer_with bare_meta)) (sym log.answers)
+    ∙ chains_same true c d.known d.faithful (λ q. bare_meta (meta_of_push 0 s.payloading.clock_rate q)) (λ k q m push. ap bare_meta push.3) (λ k q m push. ap bare_meta push.3) 0 0 s.buffer s.buffer log.turns other.turns log.end other.end ready_of_log ready_of_other refl (log_chain samples all_steps s t sends pops exactly unused readable log) other_chain same
+    ∙ ap (map (answer_with bare_meta)) other.answers
 
 -- what is promised of a run follows from its steps alone
 pub promises : (r : Ran) → RunsAsSteps r → KeepsPromises r

@@ -84,13 +84,14 @@ IsContiguousAsSaid {s = s} {t = t} log = next_id s.payloading.pack ≡ None → 
 abbrev pub bare_meta : RtpMeta → RtpMeta
 bare_meta m = record m { received = record { 0 = 0 } }
 
-abbrev pub bare_release : Release → Release
-bare_release r = record r { metas = map bare_meta r.metas }
+-- a unit, and an answer, of whose packets less is told
+abbrev pub release_with : (RtpMeta → RtpMeta) → Release → Release
+release_with less r = record r { metas = map less r.metas }
 
-abbrev pub bare_answer : Answer → Answer
-bare_answer None = None
-bare_answer (Some (Err fault)) = Some (Err fault)
-bare_answer (Some (Ok r)) = Some (Ok (bare_release r))
+abbrev pub answer_with : (RtpMeta → RtpMeta) → Answer → Answer
+answer_with less None = None
+answer_with less (Some (Err fault)) = Some (Err fault)
+answer_with less (Some (Ok r)) = Some (Ok (release_with less r))
 
 -- the same packets are pushed before each pop, in whatever order and how often
 abbrev pub PushTheSame : List Turn → List Turn → Type 0
@@ -106,4 +107,4 @@ OnlySetsCount = (samples : List Sample) (all_steps other_steps : List Step) (s t
     → Runs samples 0 all_steps s sends pops t → Runs samples 0 other_steps s other_sends other_pops u → t.sink.packets ≡ u.sink.packets
     → IsUnused s → AreReadable s.payloading.pack samples
     → (log : RunLog samples all_steps s sends pops t) (other : RunLog samples other_steps s other_sends other_pops u) → PushTheSame log.turns other.turns
-    → map bare_answer pops ≡ map bare_answer other_pops
+    → map (answer_with bare_meta) pops ≡ map (answer_with bare_meta) other_pops

@@ -4,6 +4,7 @@ ghost use Rattle.std.specs.Prelude.{◌≡◌, ◌≢◌, ◌∷◌, ◌++◌, �
 ghost use Rattle.std.specs.Result.{result_err};
 ghost use Rattle.codec_payload_base.specs.declared.error.PacketError.TheVariants.{OutOfMemory};
 ghost use Rattle.codec_payload_core.specs.Packets.{Packet, packet_of};
+ghost use Rattle.codec_payload_core.specs.RedOrder.{OnlySetsCountInRed};
 ghost use Rattle.codec_payload_core.specs.RedPromises.{KeepsRedPromises, LeavesSender, ran_in_red, protection_of};
 ghost use Rattle.codec_payload_core.specs.RedSchedule.{red_state, StopsInRed};
 ghost use Rattle.codec_payload_red.specs.RedLevels.{Sender};
@@ -328,4 +329,10 @@ pub(crate) fn pop_step<D: Depacketizer>(
 /// each pop are answered the same, all but when each packet was received.
 pub fn order_of_runs()
     ensures { OnlySetsCount }
+{}
+
+/// The same of two runs with RED from one beginning, whose packets come as themselves or are recovered from others: also all
+/// but the marker and the values of header extensions, which are not known of a packet that was recovered.
+pub fn order_of_red_runs()
+    ensures { OnlySetsCountInRed }
 {}

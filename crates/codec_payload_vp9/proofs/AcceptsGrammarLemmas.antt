@@ -6,13 +6,14 @@ use Rattle.codec_payload_base.specs.declared.error.PacketError.{PacketError}
 use Rattle.codec_payload_base.specs.declared.error.PacketError.TheVariants as faults
 use Rattle.codec_payload_base.specs.declared.interface.CodecExtra.{CodecExtra}
 use Rattle.codec_payload_base.specs.declared.interface.CodecExtra.TheVariants as extras
-use Rattle.codec_payload_vp9.specs.Vp9Fields.{Fields}
+use Rattle.codec_payload_vp9.specs.Vp9Fields.{Fields, Groups}
+use Rattle.codec_payload_vp9.specs.Vp9Described.{groups_after, with_descriptor}
 use Rattle.codec_payload_vp9.specs.Vp9Descriptor.{spelled, Descriptor}
 use Rattle.codec_payload_vp9.specs.Vp9Laws.{Accepts, IsDescribed, RefusesBy, WantsMemoryOf}
-use Rattle.codec_payload_vp9.specs.Vp9Reading.{all_groups, with_flags}
+use Rattle.codec_payload_vp9.specs.Vp9Reading.{all_groups, groups_of, with_flags}
 use Rattle.codec_payload_vp9.specs.Vp9Received.{extra_of, is_misplaced, told_before, AppendedIf, Vp9Rest, Vp9Step, WantsMemory}
 use Rattle.codec_payload_vp9.proofs.ReadIsSpelledLemmas.{read_is_spelled}
-use Rattle.codec_payload_vp9.proofs.SpelledIsReadLemmas.{spelled_is_read}
+use Rattle.codec_payload_vp9.proofs.SpelledIsReadLemmas.{fields_read, groups_told, spelled_is_read}
 use Rattle.codec_payload_vp9.proofs.NamedFaultLemmas.{names_no_memory}
 
 -- taken: what is behind the descriptor was appended
@@ -31,13 +32,17 @@ taken_rest d (Ok rest) out extra out' extra' step =
     (rest, refl, appended.0, appended.1)
 
 pub accepts : (payload : List ℕ) (d : Fields) (out : List ℕ) (extra : CodecExtra) (r : Result (Unit {0}) PacketError) (after : Fields) (out' : List ℕ) (extra' : CodecExtra)
-    → AreBytes payload → Vp9Step d payload out extra r after out' extra' → IfOk r (λ _. Accepts payload out extra after out' extra')
+    → AreBytes payload → Vp9Step d payload out extra r after out' extra' → IfOk r (λ _. Accepts d payload out extra after out' extra')
 accepts payload d out extra (Err fault) after out' extra' are step = tt
 accepts [] d out extra (Ok _) after out' extra' are step = let never = step.0 in absurd (cc)
 accepts (flags ∷ bytes) d out extra (Ok _) after out' extra' are step =
     let (rest, ends, appended, told) = taken_rest after (all_groups (with_flags d flags) bytes).rest out extra out' extra' step.2 in
     let (read, is, whole) = read_is_spelled d flags bytes rest (λ i. are (suc i)) ends in
-    (read, rest, (is, whole), appended, told)
+    let so : Vp9Step d (spelled read ++ rest) out extra (Ok tt) after out' extra' = subst (λ (p : List ℕ). Vp9Step d p out extra (Ok tt) after out' extra') whole step in
+    let fields : after ≡ record (with_descriptor d read) { groups = groups_after d read.structure } =
+    so.0 ∙ ap (λ (f : Fields). record f { groups = groups_of after }) (fields_read read rest is d)
+    ∙ ap (λ (g : Groups). record (with_descriptor d read) { groups = g }) (so.1 refl ∙ groups_told read rest is d) in
+    (read, rest, (is, whole), appended, fields, told)
 
 -- refused, of a payload that has a descriptor: it is misplaced, or memory is wanted
 refused_if : (misplaced : Bool) (d : Fields) (rest out : List ℕ) (extra : CodecExtra) (fault : PacketError) (out' : List ℕ) (extra' : CodecExtra) → (fault ≡ faults.OutOfMemory → ⊥)

@@ -4,7 +4,9 @@ use crate::codecs::Example;
 use crate::report::{put_answer, put_bytes, put_fault};
 use crate::senders::{put_sink, sample};
 use codec_payload_core::buffer::{Depacketized, DepacketizingBuffer, RtpMeta};
-use codec_payload_core::codec::{CodecDepacketizer, Vp9PacketizerMode};
+use codec_payload_core::codec::{
+    CodecDepacketizer, CodecPacketizer, Packetizer, Vp9PacketizerMode,
+};
 use codec_payload_core::error::PacketError;
 use codec_payload_core::payload::{MemorySink, Payloader};
 use codec_payload_core::red::{RedReceiver, RedSender};
@@ -265,4 +267,33 @@ pub fn runs_in_red(alloc: Global, text: &mut String) -> Result<(), PacketError> 
     let next = sender.wrap(Vec::from_slice(alloc, &[0x92])?, 320, 1_200)?;
     put_bytes(text, &next)?;
     put_all_popped(text, &mut buffer)
+}
+
+/// Makes calls that take no memory, and prints what they answer: those of an empty buffer, frames that are skipped or refused
+/// before they are cut, and a RED sender that is made and told other distances.
+pub fn takes_none(alloc: Global, text: &mut String) -> Result<(), PacketError> {
+    let Some(depacketizer) = CodecDepacketizer::from_codec(alloc, Codec::Vp9) else {
+        return Ok(());
+    };
+    let mut buffer = DepacketizingBuffer::with_limit(alloc, depacketizer, 0, 65_536);
+    let popped = buffer.pop();
+    text.push_str("pop")?;
+    put_popped(text, &popped)?;
+    put_held(text, &buffer)?;
+    write!(text, " limit {}", buffer.limit())?;
+    let mode = Vp9PacketizerMode::NonFlexible;
+    let Some(mut noise) = CodecPacketizer::new(Codec::CN, mode, 0) else {
+        return Ok(());
+    };
+    for frame in [[].as_slice(), &[1, 2, 3]] {
+        match noise.packetize(alloc, 2, frame) {
+            Ok(packets) => write!(text, " packets {}", packets.len())?,
+            Err(fault) => put_fault(text, &fault)?,
+        }
+    }
+    let pt = Pt::new_with_value(96);
+    let mut red = RedSender::new(alloc, pt, pt, &[1, 3]);
+    red.sync(pt, pt, &[2]);
+    text.push_str("\n")?;
+    Ok(())
 }

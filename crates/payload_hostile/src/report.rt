@@ -1,6 +1,8 @@
 //! The calls by name, and how answers are printed.
 
-use crate::buffers::{pops, pops_after_passing_over, pushes, pushes_and_evicts, runs, runs_in_red};
+use crate::buffers::{
+    pops, pops_after_passing_over, pushes, pushes_and_evicts, runs, runs_in_red, takes_none,
+};
 use crate::codecs::{depacketizes, example_of, packetizes};
 use crate::senders::{
     decodes, encodes, pushes_a_sample, recovers, sends_in_red, sends_to_memory, wraps,
@@ -26,6 +28,7 @@ pub fn report(alloc: Global, name: &str) -> Result<Option<String>, PacketError> 
         "pop-passing-over" => pops_after_passing_over(alloc, &mut text)?,
         "run-schedule" => runs(alloc, &mut text)?,
         "run-schedule-red" => runs_in_red(alloc, &mut text)?,
+        "takes-none" => takes_none(alloc, &mut text)?,
         _ => {
             let Some((call, codec)) = name.split_once(' ') else {
                 return Ok(None);
