@@ -19,7 +19,7 @@ use Rattle.codec_payload_rtp.specs.ExtensionWriting.{Row, are_ids, audio_byte, c
 use Rattle.codec_payload_rtp.specs.RtpPackets.{Extension}
 use Rattle.codec_payload_rtp.proofs.ElementLemmas.{form_fits, words_again, words_whole}
 
-abbrev ids_of : List Row → List (Option ℕ)
+abbrev pub ids_of : List Row → List (Option ℕ)
 ids_of rows = map (λ r. r.id) rows
 
 -- ---- the two-byte form has room for them
