@@ -1,8 +1,8 @@
 -- Values of header extensions as they are written: they fit, they are few, and their elements are read back.
-use Rattle.std.proofs.Common.{◌≡◌, ℕ, zero, suc, ◌+◌, ◌-◌, ◌*◌, ◌/◌, ◌%◌, ◌<◌, ◌≤◌, List, [], ◌∷◌, ◌++◌, length, map, take, Bool, true, false, cond, leb, ◌&&◌, Option, Some, None, Result, Ok, Err, refl, sym, ap, ◌∙◌, subst, arith, append_assoc, length-append}
-use Rattle.std.specs.Prelude.{IfSome, IfOk, OnOk}
+use Rattle.std.proofs.Common.{◌≡◌, ℕ, ◌+◌, ◌-◌, ◌%◌, ◌≤◌, List, [], ◌∷◌, ◌++◌, length, map, true, leb, ◌&&◌, Option, Some, None, Result, Ok, Err, refl, ap, ◌∙◌, subst, arith, length-append}
+use Rattle.std.specs.Prelude.{IfSome, OnOk}
 use Rattle.std.specs.Option.{option_map}
-use Rattle.std.specs.Int.{w64, to_be_bytes, cast_unsigned}
+use Rattle.std.specs.Int.{w64, to_be_bytes}
 use Rattle.std.proofs.lemmas.Bool.{and_parts, and_from, le-leb}
 use Rattle.std.proofs.lemmas.List.{length-take}
 use Rattle.std.proofs.lemmas.List.Concat.{flat_map-append}
@@ -13,13 +13,13 @@ use Rattle.codec_payload_base.specs.declared.wire.extension.ExtensionValues.{Ext
 use Rattle.codec_payload_rtp.specs.declared.elements.ElementForm.{ElementForm}
 use Rattle.codec_payload_rtp.specs.declared.elements.ElementForm.TheVariants as forms
 use Rattle.codec_payload_rtp.specs.declared.values.ExtensionIds.{ExtensionIds}
-use Rattle.codec_payload_rtp.specs.Elements.{Element, element_bytes, element_fits, all_fit, elements_at, elements_bytes, form_for, form_of_profile, profile_of_form, words_of, zeros_behind}
+use Rattle.codec_payload_rtp.specs.Elements.{Element, element_bytes, element_fits, all_fit, elements_bytes, form_for, form_of_profile, profile_of_form, words_of, zeros_behind}
 use Rattle.codec_payload_rtp.specs.ExtensionFormats.{elements_by, elements_of, timing_bytes}
 use Rattle.codec_payload_rtp.specs.ExtensionWriting.{Row, are_ids, audio_byte, capture_bytes, element_for, elements_for, extension_for, id_fits, ids_fit, is_apart_from, offset_bytes, one_byte, row_elements, rows_elements, rows_for}
 use Rattle.codec_payload_rtp.specs.RtpPackets.{Extension}
 use Rattle.codec_payload_rtp.proofs.ElementLemmas.{form_fits, words_again, words_whole}
 
-abbrev ids_of : List Row → List (Option ℕ)
+abbrev pub ids_of : List Row → List (Option ℕ)
 ids_of rows = map (λ r. r.id) rows
 
 -- ---- the two-byte form has room for them
@@ -71,13 +71,22 @@ at_most (Some b) n m h f = omega (arith, h, f)
 
 pub values_fit : (ids : ExtensionIds) (values : ExtensionValues) → ids_fit ids ≡ true → IfSome values.layers_allocation (λ b. length b ≤ 255)
     → all_fit forms.TwoByte (elements_for ids values) ≡ true
-values_fit ids values fit layers = rows_fit (rows_for ids values) fit
-    (at_most _ 16 255 (omega arith) (capture_few values.abs_capture_time),
-    (at_most _ 1 255 (omega arith) (byte_few values.video_orientation),
-    (at_most _ 1 255 (omega arith) (byte_few values.video_content_type),
-    (at_most _ 13 255 (omega arith) (timing_few values.video_timing),
-    (layers,
-    (at_most _ 1 255 (omega arith) (byte_few (audio_byte values)), tt))))))
+values_fit ids values fit layers = rows_fit (rows_for ids values) fit (
+  at_most _ 16 255 (omega arith) (capture_few values.abs_capture_time),
+  (
+    at_most _ 1 255 (omega arith) (byte_few values.video_orientation),
+    (
+      at_most _ 1 255 (omega arith) (byte_few values.video_content_type),
+      (
+        at_most _ 13 255 (omega arith) (timing_few values.video_timing),
+        (
+          layers,
+          (at_most _ 1 255 (omega arith) (byte_few (audio_byte values)), tt),
+        ),
+      ),
+    ),
+  ),
+)
 
 pub lent_few : {A : Type 0} (now : A → List ℕ) (lent : Option A) (bytes : Option (List ℕ)) (n : ℕ) → option_map now lent ≡ bytes → IfSome lent (λ b. length (now b) ≤ n) → IfSome bytes (λ b. length b ≤ n)
 lent_few now None bytes n e few = subst (λ (o : Option (List ℕ)). IfSome o (λ b. length b ≤ n)) e tt

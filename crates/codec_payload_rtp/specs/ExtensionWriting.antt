@@ -1,13 +1,14 @@
 -- Values of header extensions as the elements that are written.
-use Rattle.std.specs.Prelude.{ℕ, zero, suc, ◌+◌, ◌==◌, ◌&&◌, not, nat_le, nat_lt, if◌then◌else◌, Bool, true, false, List, [], ◌∷◌, ◌++◌, length, Option, Some, None}
+use Rattle.std.specs.Prelude.{◌≡◌, ℕ, zero, suc, ◌+◌, ◌^◌, ◌<◌, ◌≤◌, ◌==◌, ◌&&◌, not, nat_le, nat_lt, if◌then◌else◌, Bool, true, false, List, [], ◌∷◌, ◌++◌, Option, Some, None, IfSome, length}
 use Rattle.std.specs.List.{flat_map}
 use Rattle.std.specs.Option.{option_map}
-use Rattle.std.specs.Int.{w64, to_be_bytes, cast_unsigned}
+use Rattle.std.specs.Int.{w64, to_be_bytes, cast_signed, cast_unsigned}
 use lib.IntN.{ℤ, pos, negsuc}
 use Rattle.codec_payload_base.specs.declared.wire.extension.AbsCaptureTime.{AbsCaptureTime}
+use Rattle.codec_payload_base.specs.declared.wire.extension.VideoTiming.{VideoTiming}
 use Rattle.codec_payload_base.specs.declared.wire.extension.ExtensionValues.{ExtensionValues}
 use Rattle.codec_payload_rtp.specs.Elements.{Element, form_for, profile_of_form, words_of}
-use Rattle.codec_payload_rtp.specs.ExtensionFormats.{timing_bytes, and_then}
+use Rattle.codec_payload_rtp.specs.ExtensionFormats.{timing_bytes, and_then, elements_of, values_in}
 use Rattle.codec_payload_rtp.specs.RtpPackets.{Extension, bit_if}
 use Rattle.codec_payload_rtp.specs.declared.values.ExtensionIds.{ExtensionIds}
 
@@ -101,3 +102,52 @@ are_ids (id ∷ others) = id_fits id && (is_apart_from id others && are_ids othe
 
 abbrev pub ids_fit : ExtensionIds → Bool
 ids_fit ids = are_ids (ids.abs_capture_time ∷ ids.video_orientation ∷ ids.video_content_type ∷ ids.video_timing ∷ ids.layers_allocation ∷ ids.audio_level ∷ [])
+
+-- ---- what is read of what was written
+
+-- a value comes back where its extension has an id
+abbrev pub kept_by : {A : Type 0} → Option ℕ → Option A → Option A
+kept_by None value = None
+kept_by (Some id) value = value
+
+-- a level that has a byte
+abbrev pub sent_level : ℤ → Option ℤ
+sent_level (pos zero) = Some (pos zero)
+sent_level (pos (suc n)) = None
+sent_level (negsuc n) = if nat_lt n 127 then Some (negsuc n) else None
+
+-- the values that are read: those that have an id; of the audio a level that has a byte, and speech with it alone
+abbrev pub values_told : ExtensionIds → ExtensionValues → ExtensionValues
+values_told ids values = record {
+  abs_capture_time = kept_by ids.abs_capture_time values.abs_capture_time;
+  video_orientation = kept_by ids.video_orientation values.video_orientation;
+  video_content_type = kept_by ids.video_content_type values.video_content_type;
+  video_timing = kept_by ids.video_timing values.video_timing;
+  layers_allocation = kept_by ids.layers_allocation values.layers_allocation;
+  audio_level = kept_by ids.audio_level (and_then sent_level values.audio_level);
+  voice_activity = kept_by ids.audio_level (option_map (λ level. is_speech values.voice_activity) (and_then sent_level values.audio_level));
+}
+
+-- the numbers of a value have their width
+pub record FitsCapture (t : AbsCaptureTime) : Type 0 where
+  pub time : t.capture_time < 2 ^ 64
+  pub offset : IfSome t.clock_offset (λ z. (cast_unsigned w64 z < 2 ^ 64) × (cast_signed w64 (cast_unsigned w64 z) ≡ z))
+
+pub record FitsTiming (t : VideoTiming) : Type 0 where
+  pub encode_start : t.encode_start < 65536
+  pub encode_finish : t.encode_finish < 65536
+  pub packetize_complete : t.packetize_complete < 65536
+  pub last_left_pacer : t.last_left_pacer < 65536
+  pub network_1 : t.network_1 < 65536
+  pub network_2 : t.network_2 < 65536
+
+pub record FitsValues (values : ExtensionValues) : Type 0 where
+  pub capture : IfSome values.abs_capture_time FitsCapture
+  pub timing : IfSome values.video_timing FitsTiming
+  pub layers : IfSome values.layers_allocation (λ b. length b ≤ 255)
+
+-- what was written under ids that fit is read
+abbrev pub ValuesComeBack : Type 0
+ValuesComeBack =
+    (ids : ExtensionIds) (values : ExtensionValues) → ids_fit ids ≡ true → FitsValues values
+    → values_in ids (elements_of (extension_for (elements_for ids values))) ≡ values_told ids values

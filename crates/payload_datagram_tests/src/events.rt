@@ -145,7 +145,8 @@ fn tell_byte(alloc: Global, byte: u8, told: &mut String) -> Result<(), Fail> {
     Ok(())
 }
 
-fn pop_all(
+/// The bytes of the units that pops at that time give, and a dot.
+pub fn pop_all(
     alloc: Global,
     receiver: &mut Receiver<NoBox>,
     now: u64,

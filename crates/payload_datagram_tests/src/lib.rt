@@ -14,4 +14,6 @@ mod packets;
 #[cfg(test)]
 mod receiver;
 #[cfg(test)]
+mod sender;
+#[cfg(test)]
 mod values;

@@ -1,6 +1,5 @@
-use Rattle.std.proofs.Common.{rules, ◌≡◌, ◌≤◌, ◌∙◌, ap, subst, sym, IsTrue, IfSome, Option, Some, None, List, ℕ, length, map, take, true}
-use Rattle.std.specs.Option.{option_map}
-use Rattle.codec_payload_rtp.specs.Elements.{Element, element_of, all_fit}
+use Rattle.std.proofs.Common.{rules, ◌≡◌, map, take, true}
+use Rattle.codec_payload_rtp.specs.Elements.{element_of, all_fit}
 use Rattle.codec_payload_rtp.specs.ExtensionWriting.{elements_for}
 use Rattle.codec_payload_rtp.specs.declared.elements.ElementForm.TheVariants.{TwoByte}
 use Rattle.codec_payload_rtp.proofs.ExtensionLemmas.{lent_few, on_ok, values_fit, extension_short, elements_again}

@@ -1,0 +1,65 @@
+//! RTP times of 32 bits, extended to numbers of 64 bits that do not wrap.
+
+ghost use Rattle.std.specs.Prelude.{◌≡◌, ◌%◌, ◌^◌, None, Some, IfSome};
+ghost use Rattle.codec_payload_base.specs.Extended.{Follows, nearest};
+ghost use Rattle.codec_payload_rtp.specs.ExtendedTimes.{extended_time};
+
+use std::marker::Model;
+
+/// Extends the RTP times of one stream, in the order in which they are told: each becomes the time nearest to the last that has
+/// its 32 bits, half the range going forward. The first gets 2^32 on top, so that earlier ones have times above 0. Takes no
+/// memory.
+#[derive(Clone, Copy, Debug, Default)]
+pub struct RtpTimes {
+    last: Option<u64>,
+}
+
+impl Model for RtpTimes {
+    ghost use Rattle.std.specs.Prelude.{ℕ, Option};
+
+    ghost Value = { Option ℕ };
+
+    ghost view = { λ t. t.last };
+
+    ghost inverse = { λ last. record { last = last } };
+}
+
+/// The time nearest to that one with these 32 bits.
+fn nearest_to(last: u64, timestamp: u32) -> u64
+    ensures { result ≡ nearest (2 ^ 32) last timestamp }
+{
+    const RANGE: u64 = 1 << 32;
+    let ahead = (u64::from(timestamp) + RANGE - last % RANGE) % RANGE;
+    if ahead <= RANGE / 2 {
+        last.wrapping_add(ahead)
+    } else {
+        last.wrapping_sub(RANGE - ahead)
+    }
+}
+
+impl RtpTimes {
+    /// No time was told so far.
+    pub fn new() -> RtpTimes
+        ensures { result ≡ None }
+    {
+        RtpTimes { last: None }
+    }
+
+    /// The time of a packet or a unit, in ticks of the RTP clock, modulo 2^64.
+    #[tactic(auto, using(crate::proofs::TimeLemmas::follows, crate::proofs::TimeLemmas::low_bits))]
+    pub fn extend(&mut self, timestamp: u32) -> u64
+        ensures value { result ≡ extended_time self.old timestamp }
+        ensures after { self.new ≡ Some result }
+        // It has the 32 bits that were told.
+        ensures low { result % 2 ^ 32 ≡ timestamp }
+        // Where the clock moved by less than half of 2^32 since the last, forward or back, the time moves as it did.
+        ensures follows { IfSome self.old (λ last. Follows (2 ^ 32) (Some last) timestamp result) }
+    {
+        let time = match self.last {
+            Some(last) => nearest_to(last, timestamp),
+            None => (1 << 32) + u64::from(timestamp),
+        };
+        self.last = Some(time);
+        time
+    }
+}
