@@ -18,7 +18,7 @@ use Rattle.codec_payload_buffer.specs.Held.{Held, number_of, has_number, above}
 use Rattle.codec_payload_core.specs.Log.{Stretch, Turn, begun, with_pushes, IsLogBy}
 use Rattle.codec_payload_core.specs.Packets.{Packet, AreNumbered}
 use Rattle.codec_payload_buffer.specs.Release.{Release}
-use Rattle.codec_payload_core.specs.RunOrder.{numbers_in, IsSentPacket, IsStretch, AreStretches}
+use Rattle.codec_payload_core.specs.RunOrder.{numbers_in, IsSentPacket, IsStretch, up_to, IsOrdered, AreStretches}
 use Rattle.codec_payload_core.specs.Schedule.{Answer}
 use Rattle.codec_payload_core.specs.LawfulUnits.{AllLawful}
 use Rattle.codec_payload_core.specs.SentStream.{SentUnit, packets_of}
@@ -252,9 +252,20 @@ module _ (c : Setting) where
     each = λ p there. sent_in w.now.held (span_ready from w ready is).beyond.sent p (in_contains p w.now.held there);
   }
 
+  -- at each moment of a stretch, and at its end
+  sent_front : (ps qs : List Held) → ArePushes (ps ++ qs) → ArePushes ps
+  sent_front [] qs sent = tt
+  sent_front (p ∷ ps) qs sent = (sent.0, sent_front ps qs sent.1)
+
+  ordered : (from : ℕ) (w : Stretch) → IsReady from w.left → IsSpan w → IsOrdered c.known c.first (packets_of c.units) w
+  ordered from w ready is = record {
+    at_each = λ pushes more split. stretch_of from (up_to w pushes) ready (record { sent = sent_front pushes more (subst ArePushes split is.sent); now = refl });
+    at_end = stretch_of from w ready is;
+  }
+
   pub are_stretches : (from : ℕ) (s : State) (turns : List Turn) (end : Stretch) → IsReady from s → Chain s turns end → AreStretches c.known c.first (packets_of c.units) turns end
-  are_stretches from s [] end ready chain = stretch_of from end (left_ready from s end chain.0 ready) chain.1
+  are_stretches from s [] end ready chain = ordered from end (left_ready from s end chain.0 ready) chain.1
   are_stretches from s (turn ∷ turns) end ready chain =
       let left = left_ready from s turn.stretch chain.0 ready in
       let next = ready_pops from turn.stretch.now turn.after turn.passed turn.answer (span_ready from turn.stretch left chain.1) chain.2 in
-      (stretch_of from turn.stretch left chain.1, are_stretches next.0 turn.after turns end next.1 chain.3)
+      (ordered from turn.stretch left chain.1, are_stretches next.0 turn.after turns end next.1 chain.3)

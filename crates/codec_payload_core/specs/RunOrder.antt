@@ -1,5 +1,5 @@
 -- Of the pushes of a run only their sets count, pop by pop; and when a released unit follows the one before.
-use Rattle.std.specs.Prelude.{◌≡◌, ℕ, ◌+◌, ◌||◌, ◌↔◌, IsTrue, Bool, false, List, [], ◌∷◌, Option, Some, None, Ok, Err, Contains, length, map, slice_get}
+use Rattle.std.specs.Prelude.{◌≡◌, ℕ, ◌+◌, ◌||◌, ◌↔◌, IsTrue, Bool, false, List, [], ◌∷◌, ◌++◌, Option, Some, None, Ok, Err, Contains, length, map, slice_get}
 use Rattle.codec_payload_core.specs.Headline.{IsPushOf, IsUnused}
 use Rattle.codec_payload_buffer.specs.Held.{Held, has_number}
 use Rattle.codec_payload_core.specs.Log.{Stretch, Turn, RunLog}
@@ -8,7 +8,7 @@ use Rattle.codec_payload_buffer.specs.Release.{Release}
 use Rattle.codec_payload_core.specs.Schedule.{Answer, RunState, Runs}
 use Rattle.codec_payload_core.specs.Sending.{Sample}
 use Rattle.codec_payload_core.specs.SentStream.{AreReadable}
-use Rattle.codec_payload_buffer.specs.Stretches.{stretch_numbers, left_out, is_some_of, IsLeft}
+use Rattle.codec_payload_buffer.specs.Stretches.{after_pushes, stretch_numbers, left_out, is_some_of, IsLeft}
 use Rattle.codec_payload_core.specs.ToldIds.{next_id}
 use Rattle.codec_payload_buffer.specs.declared.buffer.unit.RtpMeta.{RtpMeta}
 use Rattle.codec_payload_core.specs.declared.schedule.Sent.{Sent}
@@ -32,11 +32,20 @@ pub record IsStretch (known : ℕ → Packet → RtpMeta → Type 0) (first : �
   pub numbers : IsLeft w.left (numbers_in first (length packets) w) w.now
   pub each : (p : Held) → Contains w.now.held p → IsSentPacket known packets p
 
--- so does each stretch of a run, also the one after the last pop
+-- a stretch up to a moment: with the first of its pushes
+abbrev pub up_to : Stretch → List Held → Stretch
+up_to w pushes = record { left = w.left; pushes = pushes; now = after_pushes w.left pushes }
+
+-- so it is at each moment of a stretch, and at its end
+pub record IsOrdered (known : ℕ → Packet → RtpMeta → Type 0) (first : ℕ) (packets : List Packet) (w : Stretch) : Type 0 where
+  pub at_each : (pushes more : List Held) → w.pushes ≡ pushes ++ more → IsStretch known first packets (up_to w pushes)
+  pub at_end : IsStretch known first packets w
+
+-- of each stretch of a run, also of the one after the last pop
 abbrev pub AreStretches : (ℕ → Packet → RtpMeta → Type 0) → ℕ → List Packet → List Turn → Stretch → Type 0
-AreStretches known first packets [] end = IsStretch known first packets end
+AreStretches known first packets [] end = IsOrdered known first packets end
 AreStretches known first packets (turn ∷ turns) end =
-    IsStretch known first packets turn.stretch × AreStretches known first packets turns end
+    IsOrdered known first packets turn.stretch × AreStretches known first packets turns end
 
 -- Order independence, the first sentence
 abbrev pub IsOrderFree : {samples : List Sample} {all_steps : List Step} {s : RunState} {sends : List Sent} {pops : List Answer} {t : RunState} → RunLog samples all_steps s sends pops t → Type 0
