@@ -23,6 +23,7 @@ times_of() {
         buffer-64/reverse) echo 20 ;;
         buffer-512/reverse) echo 3 ;;
         buffer-4096/reverse | buffer-65536/reverse) echo 1 ;;
+        buffers-*) echo 5 ;;
         buffer-*) echo 20000 ;;
         *-200k/*) echo 60 ;;
         *-20k/*) echo 600 ;;
@@ -32,7 +33,7 @@ times_of() {
 }
 
 for _ in $(seq "$rounds"); do
-    for case in $(out/payload_bench | grep -F -- "$word"); do
+    for case in $(out/payload_bench | grep -F -- "$word" | grep -v '^memory/'); do
         printf 'now\t%s\n' "$(out/payload_bench "$case" "$(times_of "$case")" "$repeats" "$mtu")" >> "$results"
         if [ -n "$other" ]; then
             printf 'other\t%s\n' "$("$other" "$case" "$(times_of "$case")" "$repeats" "$mtu")" >> "$results"

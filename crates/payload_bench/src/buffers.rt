@@ -18,7 +18,7 @@ pub const ORDERS: [&str; 5] = ["in-order", "in-order-into", "jitter", "reverse",
 pub const HELD: [u64; 4] = [64, 512, 4_096, 65_536];
 
 /// A buffer that holds the most of these, and waits for nothing.
-fn buffer_of(alloc: Global, codec: Codec) -> Result<DepacketizingBuffer, PacketError> {
+pub fn buffer_of(alloc: Global, codec: Codec) -> Result<DepacketizingBuffer, PacketError> {
     let Some(depack) = CodecDepacketizer::from_codec(alloc, codec) else {
         return Err(PacketError::ErrShortPacket);
     };
@@ -44,7 +44,7 @@ fn meta_of(number: u64, time: u64, marker: bool) -> RtpMeta {
 }
 
 /// Pushes the packet of that number, which is a frame.
-fn push_frame(
+pub fn push_frame(
     alloc: Global,
     buffer: &mut DepacketizingBuffer,
     number: u64,

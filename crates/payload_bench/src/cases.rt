@@ -1,7 +1,7 @@
 //! The names of all cases, and what each runs.
 
 use crate::timing::Plan;
-use crate::{buffers, codecs, red};
+use crate::{buffers, codecs, red, streams};
 use anyhow::{Result, anyhow};
 use std::alloc::Global;
 use std::time::Clock;
@@ -37,6 +37,11 @@ pub fn all_cases(alloc: Global) -> Result<Vec<String>> {
             all.push(format!(in alloc; "buffer-{held}/{order}")?)?;
         }
     }
+    let count = streams::STREAMS;
+    all.push(format!(in alloc; "buffers-{count}/in-order")?)?;
+    for state in &streams::STATES {
+        all.push(format!(in alloc; "memory/{state}")?)?;
+    }
     Ok(all)
 }
 
@@ -47,6 +52,10 @@ pub fn run_case<R: Clock>(clock: &R, alloc: Global, plan: Plan, case: &str) -> R
     };
     if let Some(held) = family.strip_prefix("buffer-") {
         buffers::run(clock, alloc, plan, held.parse::<u64>()?, call)
+    } else if family.starts_with("buffers-") {
+        streams::run_in_turn(clock, alloc, plan)
+    } else if family == "memory" {
+        streams::run_state(clock, alloc, plan, call)
     } else if family.starts_with("red-") {
         red::run(clock, alloc, plan, family, call)
     } else {

@@ -10,6 +10,7 @@ mod cases;
 mod codecs;
 mod frames;
 mod red;
+mod streams;
 mod timing;
 
 use anyhow::{Result, anyhow};

@@ -1,0 +1,142 @@
+#!/bin/bash
+# Counts what the bench program's calls ask of memory. It prints a table of allocations a frame, and one of the bytes that a
+# receiving stream keeps, and fails where `packetize_into` takes memory in steady state.
+#
+#   scripts/allocations.sh           builds crates/payload_bench and counts in all its cases
+#   scripts/allocations.sh WORD      in those with WORD in their names alone
+#
+# A shim counts calls of malloc, calloc, realloc and the like. A case is run with 100 frames a repeat and with 300, so what the
+# program itself takes falls out of the difference. Where a case tells of the memory that stays, the bytes that are asked for
+# and not given back are read as the clock is, behind the work, less those of a case without a stream. It needs rt and a C
+# compiler, $CC or cc, for a C library that takes LD_PRELOAD, and some two minutes.
+set -eu
+cd "$(dirname "$0")/../crates/payload_bench"
+mtu=${MTU:-1200} word=${1:-}
+work=$(mktemp -d)
+trap 'rm -rf "$work"' EXIT
+
+rt run > /dev/null 2> "$work/messages" || { cat "$work/messages"; exit 1; }
+
+cat > "$work/count.c" <<'END'
+/* Counts the allocations, and the bytes that are asked for and not given back as the clock is read last; writes both at the
+   end to descriptor 9. */
+#define _GNU_SOURCE
+#include <dlfcn.h>
+#include <malloc.h>
+#include <stdio.h>
+#include <stdlib.h>
+#include <time.h>
+
+static long calls, live, live_then;
+
+#define NEXT(name) \
+    static __typeof__(name) *next; \
+    if (!next) \
+        next = (__typeof__(name) *)dlsym(RTLD_NEXT, #name)
+
+static void *taken(void *block) {
+    calls++;
+    if (block)
+        live += (long)malloc_usable_size(block);
+    return block;
+}
+
+void *malloc(size_t size) {
+    NEXT(malloc);
+    return taken(next(size));
+}
+
+void *calloc(size_t count, size_t size) {
+    NEXT(calloc);
+    return taken(next(count, size));
+}
+
+void *realloc(void *old, size_t size) {
+    NEXT(realloc);
+    long before = old ? (long)malloc_usable_size(old) : 0;
+    void *block = next(old, size);
+    if (block || size == 0)
+        live -= before;
+    return taken(block);
+}
+
+void *aligned_alloc(size_t alignment, size_t size) {
+    NEXT(aligned_alloc);
+    return taken(next(alignment, size));
+}
+
+int posix_memalign(void **made, size_t alignment, size_t size) {
+    NEXT(posix_memalign);
+    int status = next(made, alignment, size);
+    taken(status == 0 ? *made : NULL);
+    return status;
+}
+
+void free(void *block) {
+    NEXT(free);
+    if (block)
+        live -= (long)malloc_usable_size(block);
+    next(block);
+}
+
+int clock_gettime(clockid_t id, struct timespec *time) {
+    NEXT(clock_gettime);
+    live_then = live;
+    return next(id, time);
+}
+
+__attribute__((destructor)) static void tell(void) {
+    dprintf(9, "%ld\t%ld\n", calls, live_then);
+}
+END
+"${CC:-cc}" -O2 -shared -fPIC -o "$work/count.so" "$work/count.c" -ldl
+
+# counted CASE TIMES: the allocations, and the bytes that stay, of one repeat and one that goes before it.
+counted() {
+    LD_PRELOAD=$work/count.so out/payload_bench "$1" "$2" 1 "$mtu" 9> "$work/counts" > /dev/null
+    cat "$work/counts"
+}
+
+# So few calls that a case takes a second at most.
+few_of() {
+    case $1 in
+        buffer-4096/reverse | buffer-65536/reverse) echo 1 ;;
+        *) echo 100 ;;
+    esac
+}
+
+failed=0
+printf '| case | allocations a frame |\n|---|---|\n'
+for case in $(out/payload_bench | grep -F -- "$word" | grep -v '^memory/'); do
+    few=$(few_of "$case")
+    read -r less _ < <(counted "$case" "$few")
+    read -r more _ < <(counted "$case" $((3 * few)))
+    frames=$((4 * few))
+    case $case in
+        buffer-*/reverse)
+            held=${case#buffer-}
+            frames=$((frames * ${held%/*})) ;;
+        buffers-*)
+            count=${case#buffers-}
+            frames=$((frames * ${count%/*})) ;;
+    esac
+    each=$(awk -v all=$((more - less)) -v frames="$frames" 'BEGIN { printf "%.2f", all / frames }')
+    printf '| %s | %s |\n' "$case" "$each"
+    case $case in
+        */packetize-into)
+            if [ "$more" -ne "$less" ]; then
+                echo "$case takes memory in steady state" >&2
+                failed=1
+            fi ;;
+    esac
+done
+
+if out/payload_bench | grep -qF -- "memory/$word"; then
+    read -r _ none < <(counted memory/none 1)
+    printf '\n| stream | bytes |\n|---|---|\n'
+    for case in $(out/payload_bench | grep '^memory/' | grep -v '/none$'); do
+        read -r _ kept < <(counted "$case" 1)
+        printf '| %s | %s |\n' "${case#memory/}" $((kept - none))
+    done
+fi
+exit "$failed"
