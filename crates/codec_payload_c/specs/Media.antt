@@ -82,15 +82,16 @@ abbrev pub TellsAmrWbFrame : ℕ → Result (Frame × List ℕ) MediaError → �
 TellsAmrWbFrame total (Ok x) status before info = (status ≡ 0) × (info ≡ frame_place total x)
 TellsAmrWbFrame total (Err e) status before info = (status ≡ media_status e) × (info ≡ before)
 
+-- by whether an offset is behind the end, and whether it is at the end or behind it
+abbrev pub IfWithin : Bool → Bool → Type 0 → Type 0 → Type 0 → Type 0
+IfWithin true ends found beyond nothing = beyond
+IfWithin false true found beyond nothing = nothing
+IfWithin false false found beyond nothing = found
+
 -- what is left from an offset on: status 37 behind the end, status 32 at it
 abbrev pub AtOffset : {A : Type 0} → List ℕ → ℕ → (ℕ → A → A → Type 0) → ℕ → A → A → Type 0
 AtOffset unit offset tells status before after =
     IfWithin (nat_lt (length unit) offset) (nat_le (length unit) offset) (tells status before after) ((status ≡ 37) × (after ≡ before)) ((status ≡ 32) × (after ≡ before))
-  where
-    abbrev IfWithin : Bool → Bool → Type 0 → Type 0 → Type 0 → Type 0
-    IfWithin true ends found beyond none = beyond
-    IfWithin false true found beyond none = none
-    IfWithin false false found beyond none = found
 
 -- ---- bytes of headers
 
@@ -103,14 +104,14 @@ WritesRecord obu (Ok h) status before bytes size_before size =
 abbrev pub is_header_alone : Obu × List ℕ → Bool
 is_header_alone x = if x.0.obu_type == 1 then length x.1 == 0 else false
 
+abbrev pub IfHeader : Bool → Type 0 → Type 0 → Type 0
+IfHeader true written refused = written
+IfHeader false written refused = refused
+
 abbrev pub WritesOf : List ℕ → Result (Obu × List ℕ) MediaError → ℕ → List ℕ → List ℕ → ℕ → ℕ → Type 0
 WritesOf obu (Err e) status before bytes size_before size = (status ≡ media_status e) × (bytes ≡ before) × (size ≡ size_before)
 WritesOf obu (Ok x) status before bytes size_before size =
     IfHeader (is_header_alone x) (WritesRecord obu (told_by sequence_header (bits_of x.0.payload)) status before bytes size_before size) ((status ≡ 37) × (bytes ≡ before) × (size ≡ size_before))
-  where
-    abbrev IfHeader : Bool → Type 0 → Type 0 → Type 0
-    IfHeader true writes refuses = writes
-    IfHeader false writes refuses = refuses
 
 abbrev pub WritesHead : Bool → OpusHead → ℕ → List ℕ → List ℕ → Type 0
 WritesHead false h status before bytes = (status ≡ 37) × (bytes ≡ before)
