@@ -1,5 +1,5 @@
 -- What frames say.
-use Rattle.std.specs.Prelude.{◌≡◌, ℕ, ◌+◌, ◌-◌, ◌==◌, nat_le, nat_lt, if◌then◌else◌, Bool, true, false, List, [], ◌∷◌, length, drop, Option, Some, None, is_some, option_map, Result, Ok, Err}
+use Rattle.std.specs.Prelude.{◌≡◌, ◌&&◌, ℕ, ◌-◌, ◌==◌, nat_le, nat_lt, if◌then◌else◌, Bool, true, false, List, length, Option, Some, None, is_some, option_map, Result, Ok, Err}
 use Rattle.codec_payload_media.specs.AmrWbFrames.{Frame}
 use Rattle.codec_payload_media.specs.Av1Records.{av1c_bytes}
 use Rattle.codec_payload_media.specs.Av1SequenceHeaders.{sequence_header}
@@ -95,23 +95,26 @@ AtOffset unit offset tells status before after =
 
 -- ---- bytes of headers
 
--- an OBU alone, which is a sequence header, gives the av1C record
-abbrev pub WritesRecord : List ℕ → Result Av1SequenceHeader MediaError → ℕ → List ℕ → List ℕ → ℕ → ℕ → Type 0
-WritesRecord obu (Err e) status before bytes size_before size = (status ≡ media_status e) × (bytes ≡ before) × (size ≡ size_before)
+abbrev pub with_status : Result Av1SequenceHeader MediaError → Result Av1SequenceHeader ℕ
+with_status (Ok h) = Ok h
+with_status (Err e) = Err (media_status e)
+
+-- of an OBU alone, which is a sequence header
+abbrev pub header_of : Obu × List ℕ → Result Av1SequenceHeader ℕ
+header_of x = if (x.0.obu_type == 1) && (length x.1 == 0) then with_status (told_by sequence_header (bits_of x.0.payload)) else Err 37
+
+abbrev pub header_found : Result (Obu × List ℕ) MediaError → Result Av1SequenceHeader ℕ
+header_found (Ok x) = header_of x
+header_found (Err e) = Err (media_status e)
+
+abbrev pub header_in : List ℕ → Result Av1SequenceHeader ℕ
+header_in obu = header_found (obu_at obu)
+
+-- the av1C record of that header, or the status that refuses it
+abbrev pub WritesRecord : List ℕ → Result Av1SequenceHeader ℕ → ℕ → List ℕ → List ℕ → ℕ → ℕ → Type 0
+WritesRecord obu (Err s) status before bytes size_before size = (status ≡ s) × (bytes ≡ before) × (size ≡ size_before)
 WritesRecord obu (Ok h) status before bytes size_before size =
     (status ≡ (if nat_le (length (av1c_bytes h obu)) (length before) then 0 else 33)) × (bytes ≡ filled (av1c_bytes h obu) before) × (size ≡ length (av1c_bytes h obu))
-
-abbrev pub is_header_alone : Obu × List ℕ → Bool
-is_header_alone x = if x.0.obu_type == 1 then length x.1 == 0 else false
-
-abbrev pub IfHeader : Bool → Type 0 → Type 0 → Type 0
-IfHeader true written refused = written
-IfHeader false written refused = refused
-
-abbrev pub WritesOf : List ℕ → Result (Obu × List ℕ) MediaError → ℕ → List ℕ → List ℕ → ℕ → ℕ → Type 0
-WritesOf obu (Err e) status before bytes size_before size = (status ≡ media_status e) × (bytes ≡ before) × (size ≡ size_before)
-WritesOf obu (Ok x) status before bytes size_before size =
-    IfHeader (is_header_alone x) (WritesRecord obu (told_by sequence_header (bits_of x.0.payload)) status before bytes size_before size) ((status ≡ 37) × (bytes ≡ before) × (size ≡ size_before))
 
 abbrev pub WritesHead : Bool → OpusHead → ℕ → List ℕ → List ℕ → Type 0
 WritesHead false h status before bytes = (status ≡ 37) × (bytes ≡ before)

@@ -4,7 +4,9 @@ ghost use Rattle.std.specs.Prelude.{◌≡◌, ◌≤◌, ◌&&◌, nat_le, drop
 ghost use Rattle.codec_payload_media.specs.AmrWbFrames.{frame_at};
 ghost use Rattle.codec_payload_media.specs.Av1Units.{obu_at};
 ghost use Rattle.codec_payload_media.specs.FrameInfo.{info_of};
-ghost use Rattle.codec_payload_c.specs.Media.{AtOffset, TellsAmrWbFrame, TellsFrame, TellsObu, WritesHead, WritesOf, facts_of, media_status};
+ghost use Rattle.codec_payload_media.specs.Av1Records.{av1c_bytes};
+ghost use Rattle.codec_payload_c.specs.Bytes.{filled};
+ghost use Rattle.codec_payload_c.specs.Media.{AtOffset, TellsAmrWbFrame, TellsFrame, TellsObu, WritesHead, WritesRecord, facts_of, header_in, media_status};
 ghost use Rattle.codec_payload_c.specs.Settings.{codec_numbered};
 
 use crate::bytes::fill;
@@ -130,7 +132,10 @@ pub extern "C" fn cpl_av1_obu(unit: &[u8], offset: usize, info: &mut ObuInfo) ->
         None => (0, 0),
     };
     *info = ObuInfo {
-        start: unit.len() - behind.len() - obu.payload.len(),
+        start: unit
+            .len()
+            .saturating_sub(behind.len())
+            .saturating_sub(obu.payload.len()),
         bytes: obu.payload.len(),
         obu_type: obu.obu_type,
         temporal_id,
@@ -164,30 +169,52 @@ pub extern "C" fn cpl_amr_wb_frame(unit: &[u8], offset: usize, info: &mut AmrWbF
     status::OK
 }
 
-/// The `av1C` record of a stream, from its sequence header OBU.
-#[unsafe(no_mangle)]
-pub extern "C" fn cpl_av1c(obu: &[u8], bytes: &mut [u8], size: &mut usize) -> u32
-    ensures { WritesOf obu.now (obu_at obu.now) result bytes.old bytes.new size.old size.new }
+/// The sequence header of an OBU that is one, and has nothing behind it, or the status that refuses it.
+fn header_in(obu: &[u8]) -> Result<Av1SequenceHeader, u32>
+    ensures { result ≡ header_in obu.now }
 {
     let (found, behind) = match front_obu(obu) {
         Ok(found) => found,
-        Err(error) => return status_of(error),
+        Err(error) => return Err(status_of(error)),
     };
     if found.obu_type != OBU_SEQUENCE_HEADER || !behind.is_empty() {
-        return status::INVALID;
+        return Err(status::INVALID);
     }
-    let header = match Av1SequenceHeader::parse(found.payload) {
-        Ok(header) => header,
-        Err(error) => return status_of(error),
-    };
-    *size = AV1C_FRONT_LEN + obu.len();
-    if bytes.len() < AV1C_FRONT_LEN || bytes.len() - AV1C_FRONT_LEN < obu.len() {
-        return status::TOO_SMALL;
+    match Av1SequenceHeader::parse(found.payload) {
+        Ok(header) => Ok(header),
+        Err(error) => Err(status_of(error)),
+    }
+}
+
+/// Copies the record of a header and its OBU to the front of the caller's bytes, if they are enough.
+fn fill_record(header: &Av1SequenceHeader, obu: &[u8], bytes: &mut [u8]) -> bool
+    ensures enough { result ≡ nat_le (length (av1c_bytes header.now obu.now)) (length bytes.old) }
+    ensures written { bytes.new ≡ filled (av1c_bytes header.now obu.now) bytes.old }
+{
+    if bytes.len() < AV1C_FRONT_LEN + obu.len() {
+        return false;
     }
     let (front, rest) = bytes.split_at_mut(AV1C_FRONT_LEN);
-    front.copy_from_slice(&av1c_front(&header));
+    front.copy_from_slice(&av1c_front(header));
     rest[..obu.len()].copy_from_slice(obu);
-    status::OK
+    true
+}
+
+/// The `av1C` record of a stream, from its sequence header OBU.
+#[unsafe(no_mangle)]
+pub extern "C" fn cpl_av1c(obu: &[u8], bytes: &mut [u8], size: &mut usize) -> u32
+    ensures { WritesRecord obu.now (header_in obu.now) result bytes.old bytes.new size.old size.new }
+{
+    let header = match header_in(obu) {
+        Ok(header) => header,
+        Err(answer) => return answer,
+    };
+    *size = AV1C_FRONT_LEN + obu.len();
+    if fill_record(&header, obu, bytes) {
+        status::OK
+    } else {
+        status::TOO_SMALL
+    }
 }
 
 /// The identification header of an Opus stream.
