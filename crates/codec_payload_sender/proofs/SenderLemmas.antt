@@ -30,16 +30,16 @@ pub sent_all : (stream : Stream) (pack : Pack) (sample : Sample) (headers payloa
     → ((place : ℕ) → place < length payloads → IsHeadedAt stream pack sample (length payloads) place (get_or headers place []))
     → AreSent stream pack sample payloads (joined headers payloads)
 sent_all stream pack sample headers payloads headed = (
-      length-joined headers payloads,
-      λ place few.
-          let h = headed place few in
-          record {
-            marker = h.marker;
-            marked = h.marked;
-            reads = subst (λ (d : List ℕ). rtp_at d ≡ Ok (record { header = header_at stream sample place (length payloads) h.marker; payload = get_or payloads place []; padding = 0 }))
-                (sym (joined_at headers payloads place few)) (h.reads (get_or payloads place []));
-          },
-    )
+  length-joined headers payloads,
+  λ place few.
+      let h = headed place few in
+      record {
+        marker = h.marker;
+        marked = h.marked;
+        reads = subst (λ (d : List ℕ). rtp_at d ≡ Ok (record { header = header_at stream sample place (length payloads) h.marker; payload = get_or payloads place []; padding = 0 }))
+            (sym (joined_at headers payloads place few)) (h.reads (get_or payloads place []));
+      },
+)
 
 -- what a sender is, once a sample was sent
 abbrev pub sender_with : Sending → Pack → PayloadList → ℕ → ℕ → ℕ → Sending

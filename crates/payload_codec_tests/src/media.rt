@@ -726,7 +726,12 @@ fn assert_point(rt: &impl Abort, row: &PointRow) {
         Ok(None) => Ok(None),
         Err(fault) => Err(fault),
     };
-    assert_same(rt, row.name, &operating_point(row.payload, row.index), &wanted);
+    assert_same(
+        rt,
+        row.name,
+        &operating_point(row.payload, row.index),
+        &wanted,
+    );
 }
 
 #[test]
@@ -820,7 +825,12 @@ fn av1_each_frame_byte(rt: HostRuntime) -> Result<(), Fail> {
         ];
         let told = Av1TemporalUnit::parse(&unit).ok().ok_or("a unit")?;
         // show_existing_frame 0, frame_type 0, show_frame 1.
-        assert_same(&rt, "av1-each-frame-byte", &told.begins_sequence(), &(byte / 16 == 1));
+        assert_same(
+            &rt,
+            "av1-each-frame-byte",
+            &told.begins_sequence(),
+            &(byte / 16 == 1),
+        );
     }
     Ok(())
 }
