@@ -7,8 +7,9 @@
 #
 # The tests: the header and the Rust crate's declarations against the library; the header as C99 and, where there is a C++
 # compiler, as C++11; what each call answers (bindings/c/checks.c); scripts of payload_vectors through the library, compared
-# byte for byte with the program (bindings/c/vectors.c, inputs.py); each allocation of a session refused in turn
-# (bindings/c/oom.c); all of these also with the address and undefined-behaviour sanitizers; and the Rust crate's tests.
+# byte for byte with the program (bindings/c/vectors.c, inputs.py); allocations less frees after each kind of use, and each
+# allocation of a session refused in turn (bindings/c/oom.c); all of these also with the address and undefined-behaviour
+# sanitizers; and the Rust crate's tests.
 #
 # Needs rt, a C compiler ($CC or cc) with its sanitizers, ar and Python 3; for the Rust crate cargo of 1.85 or later. No network.
 # On a fresh clone rt first proves the library and the program.
@@ -74,7 +75,7 @@ run_c() {
     "$work/checks" || fail "bindings/c/checks.c failed"
     compile vectors "$@"
     compare_scripts
-    compile oom "$@" -Wl,--wrap=malloc,--wrap=realloc
+    compile oom "$@" -Wl,--wrap=malloc,--wrap=realloc,--wrap=free
     "$work/oom" || fail "bindings/c/oom.c failed"
 }
 

@@ -85,7 +85,7 @@ static void texts(void) {
         {41, "the frame has sizes that do not fit"},
         {5, "unknown status"},
         {18, "unknown status"},
-        {38, "unknown status"},
+        {42, "unknown status"},
     };
     for (size_t i = 0; i < sizeof rows / sizeof *rows; i++)
         CHECK(strcmp(cpl_status_text(rows[i].status), rows[i].text) == 0);

@@ -1,6 +1,8 @@
-/* One session, of each kind of handle, again and again, and each time one allocation more gets its memory: the next one is
+/* Counts of memory. First each kind of handle is made, used and freed, with packets, units and bytes left in it: what it took
+ * and did not give back is counted, before it is freed and afterwards, and so is what each call without a handle keeps. Then
+ * one session, of each kind of handle, again and again, and each time one allocation more gets its memory: the next one is
  * refused. The call that asked for it answers 17 and nothing else, is made once more, and the session then ends as it does
- * with all memory. Linked with -Wl,--wrap=malloc,--wrap=realloc. Nothing may leak. */
+ * with all memory, and has given all of it back. Linked with -Wl,--wrap=malloc,--wrap=realloc,--wrap=free. */
 #include "codec_payload.h"
 
 #include <stdio.h>
@@ -8,20 +10,37 @@
 #include <string.h>
 
 static long refuse_at, asked;
+static long kept; /* allocations less frees */
 static bool refused;
 
 void *__real_malloc(size_t size);
 void *__real_realloc(void *at, size_t size);
+void __real_free(void *at);
 void *__wrap_malloc(size_t size);
 void *__wrap_realloc(void *at, size_t size);
+void __wrap_free(void *at);
 
 static bool refuses(void) {
     if (++asked != refuse_at) return false;
     return refused = true;
 }
 
-void *__wrap_malloc(size_t size) { return refuses() ? NULL : __real_malloc(size); }
-void *__wrap_realloc(void *at, size_t size) { return refuses() ? NULL : __real_realloc(at, size); }
+void *__wrap_malloc(size_t size) {
+    void *made = refuses() ? NULL : __real_malloc(size);
+    if (made) kept++;
+    return made;
+}
+
+void *__wrap_realloc(void *at, size_t size) {
+    void *made = refuses() ? NULL : __real_realloc(at, size);
+    if (made && !at) kept++;
+    return made;
+}
+
+void __wrap_free(void *at) {
+    if (at) kept--;
+    __real_free(at);
+}
 
 /* The status of a call; where it is 17, that of the same call once more. */
 #define AGAIN(status, call) \
@@ -40,6 +59,7 @@ enum { FRAMES = 4, FRAME = 300, MTU = 100 };
 
 /* 0 where all came as it should; *met counts the answers of 17. */
 static int video(uint32_t codec, int *met) {
+    long before = kept;
     cpl_handle sender = CPL_HANDLE_INIT, buffer = CPL_HANDLE_INIT, pieces = CPL_HANDLE_INIT;
     cpl_spec spec = {.codec = codec, .rate = 90000, .vp8_ids = true, .first_id = 126};
     static uint8_t frame[FRAME], bytes[FRAME];
@@ -89,10 +109,11 @@ static int video(uint32_t codec, int *met) {
     cpl_free(&sender);
     cpl_free(&buffer);
     cpl_free(&pieces);
-    return 0;
+    return kept == before ? 0 : 16;
 }
 
 static int red(int *met) {
+    long before = kept;
     cpl_handle sender = CPL_HANDLE_INIT;
     static const uint32_t distances[2] = {1, 2};
     uint8_t bytes[64] = {0}, found[64] = {0};
@@ -120,7 +141,78 @@ static int red(int *met) {
     AGAIN(status, cpl_red_encode(111, (const uint8_t *)"\3", 1, older, 2, (const uint8_t *)"\1\2", 2, found, 64, &size));
     if (status || size != 12 || memcmp(bytes, found, 12)) return 6;
     cpl_free(&sender);
+    return kept == before ? 0 : 7;
+}
+
+/* Frees a handle that holds something, and tells whether that took memory, and all it took since `before` came back. */
+static bool gives_back(cpl_handle *handle, long before) {
+    bool took = kept > before;
+    cpl_free(handle);
+    return took && kept == before;
+}
+
+/* Each kind of handle is freed with something left in it. 0 where all memory came back. */
+static int left_in_handles(uint32_t codec) {
+    long before = kept;
+    cpl_handle handle = CPL_HANDLE_INIT;
+    cpl_spec spec = {.codec = codec, .rate = 90000, .vp8_ids = true, .first_id = 126};
+    cpl_received received = {.number = 5, .rtp_time = 3000, .payload_type = 96, .marker = true};
+    uint8_t payload[64] = {0}, byte = 0;
+    size_t count = 0, size = 0;
+    cpl_packet_info packet = {0};
+    cpl_unit unit = {0};
+    cpl_extra extra = {0};
+    /* packets that were not taken */
+    if (cpl_packetizer_new(&handle, &spec)) return 1;
+    if (cpl_packetize(&handle, 20, false, (const uint8_t *)"\x32\x1e 12345678901234567890123456789", 32, &count)) return 2;
+    if (!count || cpl_packet(&handle, &packet, payload, 64)) return 3;
+    if (!gives_back(&handle, before)) return 4;
+    /* a packet that is held, and then a unit that waits */
+    if (cpl_buffer_new(&handle, &spec, 0, 64)) return 5;
+    if (cpl_buffer_push(&handle, &received, payload, packet.bytes)) return 6;
+    if (!gives_back(&handle, before)) return 7;
+    if (cpl_buffer_new(&handle, &spec, 0, 64)) return 8;
+    if (cpl_buffer_push(&handle, &received, payload, packet.bytes)) return 9;
+    if (codec != CPL_AV1 && cpl_buffer_pop(&handle, &unit, &byte, 0) != CPL_TOO_SMALL) return 10;
+    if (!gives_back(&handle, before)) return 11;
+    /* bytes that were not taken, and that wait */
+    if (cpl_depacketizer_new(&handle, &spec)) return 12;
+    if (cpl_depacketize(&handle, payload, packet.bytes)) return 13;
+    if (codec != CPL_AV1 && cpl_depacketized(&handle, &size, &extra, &byte, 0) != CPL_TOO_SMALL) return 14;
+    if (!gives_back(&handle, before)) return 15;
     return 0;
+}
+
+/* A sender of RED is freed with a history, and calls without a handle keep nothing. */
+static int left_in_red(void) {
+    long before = kept;
+    cpl_handle handle = CPL_HANDLE_INIT;
+    static const uint32_t distances[2] = {1, 2};
+    uint8_t bytes[64] = {0}, found[64] = {0};
+    size_t size = 0;
+    cpl_red_block_info block = {0};
+    cpl_recovered_info packet = {0};
+    cpl_red_older older = {.start = 0, .bytes = 1, .offset = 960, .payload_type = 111};
+    if (cpl_red_sender_new(&handle, 63, 111, distances, 2)) return 1;
+    for (uint8_t i = 0; i < 4; i++)
+        if (cpl_red_wrap(&handle, 960u * i, 64, &i, 1, bytes, 64, &size)) return 2;
+    if (!gives_back(&handle, before)) return 3;
+    if (cpl_red_block(bytes, size, 0, &block, found, 64) || kept != before) return 4;
+    if (cpl_red_block(bytes, 3, 0, &block, found, 64) != CPL_RED_CORRUPTED || kept != before) return 5;
+    if (cpl_red_recover(111, 960, 10, 2880, bytes, size, 0, &packet, found, 64) || kept != before) return 6;
+    if (cpl_red_encode(111, bytes, 1, &older, 1, bytes, 1, found, 64, &size) || kept != before) return 7;
+    if (cpl_red_encode(111, bytes, 1, &older, 1, bytes, 1, found, 1, &size) != CPL_TOO_SMALL || kept != before) return 8;
+    return 0;
+}
+
+/* How many kinds of use kept memory, or failed. */
+static int leaks(void) {
+    static const uint32_t codecs[4] = {CPL_VP8, CPL_VP9, CPL_AV1, CPL_NULL};
+    int bad = 0, ended;
+    for (size_t i = 0; i < 4; i++)
+        if ((ended = left_in_handles(codecs[i]))) printf("memory left by codec %u: ended %d\n", (unsigned)codecs[i], ended), bad++;
+    if ((ended = left_in_red())) printf("memory left by RED: ended %d\n", ended), bad++;
+    return bad;
 }
 
 static int session(int *met) {
@@ -133,7 +225,9 @@ static int session(int *met) {
 }
 
 int main(void) {
-    int met = 0, bad = 0, ended = session(&met);
+    int met = 0, bad = leaks(), ended;
+    asked = 0;
+    ended = session(&met);
     long all = asked;
     if (ended || met) printf("with all memory: ended %d, met %d\n", ended, met), bad++;
     for (refuse_at = 1; refuse_at <= all; refuse_at++) {
