@@ -9,9 +9,10 @@
 # compiler, as C++11; what each call answers (bindings/c/checks.c); scripts of payload_vectors through the library, compared
 # byte for byte with the program (bindings/c/vectors.c, inputs.py); allocations less frees after each kind of use, and each
 # allocation of a session refused in turn (bindings/c/oom.c); all of these also with the address and undefined-behaviour
-# sanitizers; and the Rust crate's tests.
+# sanitizers; the Rust crate's tests; and the installed library (install_test.sh).
 #
-# Needs rt, a C compiler ($CC or cc) with its sanitizers, ar and Python 3; for the Rust crate cargo of 1.85 or later. No network.
+# Needs rt, a C compiler ($CC or cc) with its sanitizers, binutils and Python 3; for the Rust crate cargo of 1.85 or later; for
+# what is installed make, pkg-config and a C++ compiler. No network.
 # On a fresh clone rt first proves the library and the program.
 # The last line says what passed; the status is 0 where all did.
 set -eu
@@ -29,7 +30,8 @@ fail() {
     exit 1
 }
 
-# One archive of the library and of the three functions by which it calls malloc, realloc and free.
+# One archive of the library and of the three functions by which it calls malloc, realloc and free. The calls of the header are
+# the only names that it gives to others.
 build_library() {
     (cd "$root/crates/codec_payload_c" && rt lib) >"$work/lib.log" 2>&1 || {
         cat "$work/lib.log" >&2
@@ -38,7 +40,8 @@ build_library() {
     rm -f "$out/libcodec_payload.a"
     (cd "$work" && cp "$root/crates/codec_payload_c/out/libcodec_payload_c.a" "$kit/c/liblibc_c.a" . &&
         printf 'CREATE all.a\nADDLIB libcodec_payload_c.a\nADDLIB liblibc_c.a\nSAVE\nEND\n' | ar -M &&
-        mv all.a "$out/libcodec_payload.a")
+        ld -r --whole-archive all.a -o all.o && objcopy --wildcard --keep-global-symbol='cpl_*' all.o codec_payload.o &&
+        ar rcs "$out/libcodec_payload.a" codec_payload.o)
 }
 
 # compile NAME FLAGS..: builds bindings/c/NAME.c
@@ -115,5 +118,7 @@ run_c -fsanitize=address,undefined -fno-sanitize-recover=all
 command -v cargo >/dev/null || fail "there is no cargo; all but the Rust crate passed"
 (cd "$root/bindings/rust" && CODEC_PAYLOAD_DIR=$out cargo test --offline --quiet) || fail "the Rust crate's tests failed"
 
+"$root/scripts/install_test.sh" || fail "the installed library does not do"
+
 echo "faces: the header, the example, the checks, $count scripts and the refused allocations, with and without" \
-    "sanitizers, and the Rust crate: all passed"
+    "sanitizers, the Rust crate and the installed library: all passed"

@@ -1,0 +1,99 @@
+#!/bin/sh
+# Installs the library for C into a fresh folder, and builds against what is there, as its users would.
+#
+# The archive and the shared library export the calls of the header alone. The example is built by pkg-config, as C and as C++,
+# against the shared library and against the archive, and by CMake where there is cmake; each prints what it should. The same by
+# the tarball of `make dist`, unpacked elsewhere and without rt. In the end all is uninstalled, and nothing is left.
+#
+# Needs make, a C and a C++ compiler, nm and pkg-config; the library as `scripts/faces.sh library` builds it. The last line says
+# what passed; the status is 0 where all did.
+set -eu
+
+root=$(cd "$(dirname "$0")/.." && pwd)
+compiler=${CC:-cc}
+plus=${CXX:-c++}
+work=$(mktemp -d)
+trap 'rm -rf "$work"' EXIT
+
+fail() {
+    echo "$1" >&2
+    exit 1
+}
+
+for tool in make nm pkg-config "$compiler" "$plus"; do
+    command -v "$tool" >/dev/null || fail "$tool is not there"
+done
+
+# exports NM-FLAGS FILE: the names that a library defines for others, which have to be those of the header
+exports() {
+    sed -n 's/^[a-z0-9_ ]*[ *]\(cpl_[a-z0-9_]*\)(.*/\1/p' "$root/include/codec_payload.h" | grep -v -x cpl_status_text |
+        sort -u >"$work/wanted"
+    nm --defined-only --extern-only $1 "$2" | sed -n 's/.* [A-Z] \([^@]*\).*/\1/p' | grep -v -x CODEC_PAYLOAD_0 |
+        sort -u >"$work/found"
+    cmp -s "$work/wanted" "$work/found" || {
+        diff "$work/wanted" "$work/found" >&2 || true
+        fail "$2 exports other names than those of the header"
+    }
+}
+
+# prints PROGRAM: the example says how its one frame came back
+prints() {
+    LD_LIBRARY_PATH=$prefix/lib "$1" >"$work/printed" || fail "$1 did not end well"
+    [ "$(head -n 1 "$work/printed")" = "packets 0 to 2: a frame of 3000 bytes" ] || fail "$1 printed something else"
+}
+
+# builds_by_pkg_config SOURCE: as C and as C++, against the shared library and against the archive
+builds_by_pkg_config() {
+    export PKG_CONFIG_PATH="$prefix/lib/pkgconfig"
+    flags=$(pkg-config --cflags codec-payload)
+    libraries=$(pkg-config --libs codec-payload)
+    "$compiler" -std=c11 $flags "$1" $libraries -o "$work/shared" && prints "$work/shared"
+    "$compiler" -std=c11 $flags "$1" "$prefix/lib/libcodec_payload.a" -o "$work/static" && prints "$work/static"
+    "$plus" -std=c++20 -x c++ $flags "$1" -x none $libraries -o "$work/plus" && prints "$work/plus"
+}
+
+# builds_by_cmake SOURCE
+builds_by_cmake() {
+    command -v cmake >/dev/null || return 0
+    rm -rf "$work/project" && mkdir "$work/project" && cp "$1" "$work/project/example.c"
+    cat >"$work/project/CMakeLists.txt" <<'END'
+cmake_minimum_required(VERSION 3.13)
+project(example C)
+find_package(codec-payload 0.1 REQUIRED)
+add_executable(example example.c)
+target_link_libraries(example codec-payload::codec-payload)
+add_executable(example_static example.c)
+target_link_libraries(example_static codec-payload::static)
+END
+    cmake -S "$work/project" -B "$work/project/build" -DCMAKE_PREFIX_PATH="$prefix" >"$work/cmake.log" 2>&1 &&
+        cmake --build "$work/project/build" >>"$work/cmake.log" 2>&1 || {
+        cat "$work/cmake.log" >&2
+        fail "CMake does not build the example"
+    }
+    prints "$work/project/build/example"
+    prints "$work/project/build/example_static"
+}
+
+# installs FOLDER: from there into $prefix, builds against it, and uninstalls
+installs() {
+    make -s -C "$1" install PREFIX="$prefix" || fail "it is not installed"
+    exports "" "$prefix/lib/libcodec_payload.a"
+    exports -D "$prefix/lib/libcodec_payload.so.0"
+    builds_by_pkg_config "$1/bindings/c/example.c"
+    builds_by_cmake "$1/bindings/c/example.c"
+    make -s -C "$1" uninstall PREFIX="$prefix"
+    [ -z "$(find "$prefix" ! -type d)" ] || fail "something is left of what was installed"
+}
+
+prefix=$work/prefix
+installs "$root"
+make -s -C "$root" install PREFIX=/usr DESTDIR="$work/staged"
+[ -f "$work/staged/usr/include/codec_payload.h" ] || fail "DESTDIR is not looked at"
+grep -q -x prefix=/usr "$work/staged/usr/lib/pkgconfig/codec-payload.pc" || fail "DESTDIR stands in codec-payload.pc"
+make -s -C "$root" dist
+mkdir "$work/unpacked"
+tar -xzf "$root"/bindings/out/codec-payload-*.tar.gz -C "$work/unpacked"
+prefix=$work/other
+installs "$work/unpacked"/codec-payload-*
+
+echo "install: exports, pkg-config, C++, CMake, the tarball and the way back: all passed"
