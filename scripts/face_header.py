@@ -3,7 +3,7 @@
 
 The header is written by hand. This reads both and compares every function: its name, its answer, and of each parameter
 the name and the type; every struct that crosses: its fields in order with their types; and the numbers of the statuses and of
-the codecs. Of bindings/rust/src/raw.rs it compares the same functions and structs. The example in the header is the text of
+the codecs. Of bindings/rust-sys/src/lib.rs it compares the same functions and structs. The example in the header is the text of
 bindings/c/example.c. The last line says how many functions and structs are the same; the status is 0 where all are.
 """
 import os
@@ -113,7 +113,7 @@ def header():
 
 def raw_rust():
     """The same of the Rust crate's declarations, with its types as C has them."""
-    text = re.sub(r"//[^\n]*", "", read("bindings/rust/src/raw.rs"))
+    text = re.sub(r"//[^\n]*", "", read("bindings/rust-sys/src/lib.rs"))
 
     def named(kind):
         pointer = re.fullmatch(r"\*(const|mut) (.*)", kind.strip())

@@ -9,7 +9,8 @@
 # compiler, as C++11; what each call answers (bindings/c/checks.c); scripts of payload_vectors through the library, compared
 # byte for byte with the program (bindings/c/vectors.c, inputs.py); allocations less frees after each kind of use, and each
 # allocation of a session refused in turn (bindings/c/oom.c); all of these also with the address and undefined-behaviour
-# sanitizers; the Rust crate's tests; and the installed library (install_test.sh).
+# sanitizers; the Rust crates: their tests, packages, lints, and documents without the library; and the installed library
+# (install_test.sh).
 #
 # Needs rt, a C compiler ($CC or cc) with its sanitizers, binutils and Python 3; for the Rust crate cargo of 1.85 or later; for
 # what is installed make, pkg-config and a C++ compiler. No network.
@@ -115,10 +116,24 @@ fi
 "$root/bindings/c/inputs.py" "$work/scripts" >/dev/null
 run_c
 run_c -fsanitize=address,undefined -fno-sanitize-recover=all
-command -v cargo >/dev/null || fail "there is no cargo; all but the Rust crate passed"
-(cd "$root/bindings/rust" && CODEC_PAYLOAD_DIR=$out cargo test --offline --quiet) || fail "the Rust crate's tests failed"
+command -v cargo >/dev/null || fail "there is no cargo; all but the Rust crates passed"
+(
+    cd "$root/bindings"
+    CODEC_PAYLOAD_DIR=$out
+    export CODEC_PAYLOAD_DIR
+    cargo test --offline --quiet --workspace &&
+        cargo package --offline --quiet --allow-dirty --workspace &&
+        if cargo clippy --version >/dev/null 2>&1; then
+            cargo clippy --offline --quiet --workspace --all-targets -- -D warnings
+        fi
+    unset CODEC_PAYLOAD_DIR
+    RUSTDOCFLAGS="-D warnings" cargo doc --offline --quiet --no-deps --workspace
+) >"$work/cargo.log" 2>&1 || {
+    cat "$work/cargo.log" >&2
+    fail "the Rust crates failed"
+}
 
 "$root/scripts/install_test.sh" || fail "the installed library does not do"
 
 echo "faces: the header, the example, the checks, $count scripts and the refused allocations, with and without" \
-    "sanitizers, the Rust crate and the installed library: all passed"
+    "sanitizers, the Rust crates and the installed library: all passed"

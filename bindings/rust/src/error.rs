@@ -3,7 +3,7 @@
 use std::{error, fmt};
 
 /// A fault of a payload format or of memory, or an argument that a call does not take.
-#[derive(Clone, Copy, Debug, PartialEq, Eq)]
+#[derive(Clone, Copy, Debug, PartialEq, Eq, Hash)]
 #[non_exhaustive]
 pub enum Error {
     /// A payload ends before all is there that its format asks for.
@@ -14,7 +14,9 @@ pub enum Error {
     TooManyLayers,
     /// A VP9 payload refers to too many frames.
     TooManyReferences,
+    /// A VP8 payload has no descriptor of RFC 7741.
     Vp8Corrupted,
+    /// A VP9 payload has no descriptor of RFC 9628.
     Vp9Corrupted,
     /// A frame is no sequence of OBUs, or a payload no elements.
     Av1Corrupted,
@@ -22,6 +24,7 @@ pub enum Error {
     RedCorrupted,
     /// The payload is not one or more whole reports.
     TelephoneInvalid,
+    /// A frame is none in storage form, or a payload has no frames of RFC 4867.
     AmrWbCorrupted,
     /// Memory was refused. Things are as they were, so the call can be made again.
     OutOfMemory,

@@ -4,41 +4,52 @@ use crate::raw;
 
 /// What the payloads of a unit told besides its bytes.
 #[derive(Clone, Copy, Debug, PartialEq, Eq)]
+#[non_exhaustive]
 pub enum Extra {
+    /// Nothing.
     None,
+    /// Of VP8.
     Vp8(Vp8Extra),
+    /// Of VP9.
     Vp9(Vp9Extra),
-    /// Whether a new coded video sequence starts here.
+    /// Of AV1.
     Av1 {
+        /// A new coded video sequence starts here.
         is_keyframe: bool,
     },
+    /// The last report of the payload.
     Telephone(TelephoneEvent),
 }
 
-/// RFC 7741, section 4.2.
+/// What the descriptors of a VP8 frame told (RFC 7741, section 4.2).
 #[derive(Clone, Copy, Debug, PartialEq, Eq)]
 pub struct Vp8Extra {
     /// No other frame depends on this one.
     pub discardable: bool,
     /// This frame depends on frames of the base layer alone.
     pub sync: bool,
+    /// The temporal layer, 0 to 3.
     pub temporal_layer: u8,
     /// Extended beyond the bits that were sent.
     pub picture_id: Option<u64>,
     /// That of the base layer, extended likewise.
     pub tl0_picture_id: Option<u64>,
+    /// It depends on no other frame.
     pub is_keyframe: bool,
 }
 
-/// RFC 9628, section 4.2.
+/// What the descriptors of a VP9 unit told (RFC 9628, section 4.2).
 #[derive(Clone, Copy, Debug, PartialEq, Eq)]
 pub struct Vp9Extra {
+    /// The spatial layers.
     pub layers: [Vp9Layer; 3],
+    /// The temporal layer, 0 to 7, if it was sent.
     pub temporal_layer: Option<u8>,
     /// Extended beyond the bits that were sent.
     pub picture_id: Option<u64>,
     /// That of the base layer, extended likewise.
     pub tl0_picture_id: Option<u64>,
+    /// By the P bit of the descriptor, which some senders never set: [`crate::media::frame_info`] tells what the frame itself is.
     pub is_keyframe: bool,
 }
 
@@ -47,7 +58,9 @@ pub struct Vp9Extra {
 pub struct Vp9Layer {
     /// Where its bytes end in the unit's, if it was seen.
     pub end: Option<usize>,
+    /// In pixels, if it was told.
     pub width: Option<u16>,
+    /// In pixels, if it was told.
     pub height: Option<u16>,
 }
 
@@ -56,6 +69,7 @@ pub struct Vp9Layer {
 pub struct TelephoneEvent {
     /// 0 to 9 are the digits of a keypad.
     pub event: u8,
+    /// Whether the event has ended.
     pub end: bool,
     /// The power of the tone in dBm0, without its sign: 0 to 63.
     pub volume: u8,
@@ -73,7 +87,7 @@ impl TelephoneEvent {
         }
     }
 
-    pub(crate) fn raw(&self) -> raw::TeleEvent {
+    pub(crate) fn raw(self) -> raw::TeleEvent {
         raw::TeleEvent {
             duration: self.duration,
             event: self.event,

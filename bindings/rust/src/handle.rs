@@ -4,10 +4,14 @@ use crate::raw::{self, Place, cpl_free};
 use std::ptr;
 
 /// One handle, never copied. A call uses it by `&mut`, so one call at a time.
+#[derive(Debug)]
 pub(crate) struct Handle(raw::Handle);
 
 // SAFETY: that it may go to another thread is proved of the library's handle, with all that it can hold.
 unsafe impl Send for Handle {}
+
+// SAFETY: nothing can be done with a handle that is shared, since each call takes it by `&mut`.
+unsafe impl Sync for Handle {}
 
 impl Handle {
     pub(crate) fn empty() -> Handle {

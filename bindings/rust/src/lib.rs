@@ -28,18 +28,18 @@
 //! # }
 //! ```
 //!
-//! Each of them may go to another thread (`Send`), and is used by one at a time.
+//! Each of them may go to another thread, and is used by one at a time.
 
 mod error;
 mod extra;
 mod handle;
 mod looks;
 pub mod media;
-mod raw;
 pub mod red;
 pub mod telephone;
 pub mod vp8;
 
+use codec_payload_sys as raw;
 pub use error::Error;
 use error::{NONE, TOO_SMALL, told};
 pub use extra::{Extra, TelephoneEvent, Vp8Extra, Vp9Extra, Vp9Layer};
@@ -48,20 +48,34 @@ pub use looks::{
     extend_number, is_av1_keyframe, is_head, is_tail, is_vp9_frame_keyframe, is_vp9_keyframe,
 };
 use raw::*;
+use std::fmt;
+use std::str::FromStr;
 
 /// A payload format.
-#[derive(Clone, Copy, Debug, PartialEq, Eq)]
+///
+/// It is read from, and printed as, the encoding name of SDP: `opus`, `PCMU`, `PCMA`, `G722`, `CN`, `AMR-WB`, `VP8`, `VP9`, `AV1`,
+/// `telephone-event`, and `null` for payloads without a format. Capitals do not matter where it is read.
+#[derive(Clone, Copy, Debug, PartialEq, Eq, Hash)]
 #[repr(u32)]
+#[non_exhaustive]
 pub enum Codec {
+    /// RFC 7587. Its RTP clock has 48,000 ticks a second.
     Opus = 0,
+    /// G.711 with the mu law (RFC 3551), at 8,000.
     Pcmu = 1,
+    /// G.711 with the A law (RFC 3551), at 8,000.
     Pcma = 2,
+    /// RFC 3551, at 8,000, though it is sampled at 16,000.
     G722 = 3,
     /// RFC 3389.
     ComfortNoise = 4,
+    /// RFC 4867, at 16,000.
     AmrWb = 5,
+    /// RFC 7741, at 90,000.
     Vp8 = 9,
+    /// RFC 9628, at 90,000.
     Vp9 = 10,
+    /// The AV1 RTP payload format, at 90,000.
     Av1 = 11,
     /// Payloads that carry whatever they are given.
     Null = 12,
@@ -69,9 +83,71 @@ pub enum Codec {
     Telephone = 13,
 }
 
+impl Codec {
+    /// All codecs, in the order of their numbers.
+    pub const ALL: [Codec; 11] = [
+        Codec::Opus,
+        Codec::Pcmu,
+        Codec::Pcma,
+        Codec::G722,
+        Codec::ComfortNoise,
+        Codec::AmrWb,
+        Codec::Vp8,
+        Codec::Vp9,
+        Codec::Av1,
+        Codec::Null,
+        Codec::Telephone,
+    ];
+
+    /// The encoding name of SDP.
+    #[must_use]
+    pub fn name(self) -> &'static str {
+        match self {
+            Codec::Opus => "opus",
+            Codec::Pcmu => "PCMU",
+            Codec::Pcma => "PCMA",
+            Codec::G722 => "G722",
+            Codec::ComfortNoise => "CN",
+            Codec::AmrWb => "AMR-WB",
+            Codec::Vp8 => "VP8",
+            Codec::Vp9 => "VP9",
+            Codec::Av1 => "AV1",
+            Codec::Null => "null",
+            Codec::Telephone => "telephone-event",
+        }
+    }
+}
+
+impl fmt::Display for Codec {
+    fn fmt(&self, f: &mut fmt::Formatter<'_>) -> fmt::Result {
+        f.pad(self.name())
+    }
+}
+
+impl FromStr for Codec {
+    type Err = Error;
+
+    /// [`Error::Invalid`] for a name that is none of them.
+    fn from_str(name: &str) -> Result<Codec, Error> {
+        let same = |codec: &Codec| codec.name().eq_ignore_ascii_case(name);
+        Codec::ALL.into_iter().find(same).ok_or(Error::Invalid)
+    }
+}
+
+impl TryFrom<u32> for Codec {
+    type Error = Error;
+
+    /// The codec of that number in C; [`Error::Invalid`] where there is none.
+    fn try_from(number: u32) -> Result<Codec, Error> {
+        let same = |codec: &Codec| *codec as u32 == number;
+        Codec::ALL.into_iter().find(same).ok_or(Error::Invalid)
+    }
+}
+
 /// A codec with its settings.
-#[derive(Clone, Copy, Debug, PartialEq, Eq)]
+#[derive(Clone, Copy, Debug, PartialEq, Eq, Hash)]
 pub struct Settings {
+    /// The payload format.
     pub codec: Codec,
     /// The rate of the RTP clock in hertz, above 0.
     pub rate: u32,
@@ -89,6 +165,7 @@ pub struct Settings {
 impl Settings {
     /// The codec at that rate, with no picture ids of VP8, VP9 in the non-flexible mode from id 0 on, and AMR-WB in its
     /// bandwidth-efficient layout.
+    #[must_use]
     pub fn new(codec: Codec, rate: u32) -> Settings {
         Settings {
             codec,
@@ -115,6 +192,7 @@ impl Settings {
 /// A packet of a frame.
 #[derive(Clone, Debug, PartialEq, Eq)]
 pub struct Packet {
+    /// What goes behind the RTP header.
     pub payload: Vec<u8>,
     /// The marker of its RTP header.
     pub marker: bool,
@@ -123,10 +201,15 @@ pub struct Packet {
 }
 
 /// Cuts frames into packets.
+#[derive(Debug)]
 pub struct Packetizer(Handle);
 
 impl Packetizer {
-    /// `Error::Invalid` for a rate of 0 or a first id above 32,767.
+    /// A packetizer by its settings.
+    ///
+    /// # Errors
+    ///
+    /// [`Error::Invalid`] for a rate of 0 or a first id above 32,767, and [`Error::OutOfMemory`].
     pub fn new(settings: &Settings) -> Result<Packetizer, Error> {
         let mut handle = Handle::empty();
         // SAFETY: an empty handle, and a struct that is borrowed for the call.
@@ -137,6 +220,11 @@ impl Packetizer {
     /// The packets of a frame, of at most `mtu` bytes each; none for an empty frame. [`Codec::Null`] alone looks at no MTU: a
     /// frame is one packet, also an empty one. Of Opus, G.711, G.722, AMR-WB and telephone events those of a frame that starts
     /// a talk spurt are marked; the other codecs do not look at `starts_talk_spurt`.
+    ///
+    /// # Errors
+    ///
+    /// The fault of the format, of a frame that is none, or [`Error::PayloadTooLarge`] where a frame goes into one packet and does
+    /// not fit; [`Error::OutOfMemory`], after which the call can be made again.
     pub fn packetize(
         &mut self,
         mtu: usize,
@@ -188,8 +276,11 @@ pub struct Received {
     pub received: u64,
     /// The timestamp of its RTP header.
     pub rtp_time: u32,
+    /// The synchronization source.
     pub ssrc: u32,
+    /// The payload type, of which the low 7 bits count.
     pub payload_type: u8,
+    /// The marker.
     pub marker: bool,
 }
 
@@ -200,6 +291,7 @@ pub struct Unit {
     pub first: u64,
     /// The number of its last packet.
     pub last: u64,
+    /// The timestamp of its packets.
     pub rtp_time: u64,
     /// When the first of its packets to come was received.
     pub received: u64,
@@ -209,12 +301,14 @@ pub struct Unit {
     pub starts_talk_spurt: bool,
     /// What its payloads told besides.
     pub extra: Extra,
+    /// The frame.
     pub bytes: Vec<u8>,
 }
 
 /// How much a buffer holds.
 #[derive(Clone, Copy, Debug, PartialEq, Eq)]
 pub struct Counts {
+    /// How many packets are held.
     pub packets: usize,
     /// Complete frames, whether they may be taken yet or not.
     pub ready: usize,
@@ -224,12 +318,17 @@ pub struct Counts {
 
 /// Puts received packets in order and together.
 ///
-/// It is an iterator over the units whose turn has come, which goes on after a push.
+/// It is an iterator over the units whose turn has come, which goes on after a push: `None` is not the end.
+#[derive(Debug)]
 pub struct Buffer(Handle);
 
 impl Buffer {
     /// A buffer of at most `limit` packets, 1 to 65,536. A frame behind missing packets waits until more than `hold_back`
-    /// complete frames are there. `Error::Invalid` for a rate of 0 or another limit.
+    /// complete frames are there.
+    ///
+    /// # Errors
+    ///
+    /// [`Error::Invalid`] for a rate of 0 or another limit, and [`Error::OutOfMemory`].
     pub fn new(settings: &Settings, hold_back: usize, limit: usize) -> Result<Buffer, Error> {
         let mut handle = Handle::empty();
         // SAFETY: an empty handle, and a struct that is borrowed for the call.
@@ -238,6 +337,10 @@ impl Buffer {
     }
 
     /// Puts a packet in. One that is held already, or comes too late, is dropped.
+    ///
+    /// # Errors
+    ///
+    /// [`Error::OutOfMemory`], after which the call can be made again.
     pub fn push(&mut self, packet: &Received, payload: &[u8]) -> Result<(), Error> {
         let packet = raw::Received {
             number: packet.number,
@@ -251,7 +354,8 @@ impl Buffer {
         told(unsafe { cpl_buffer_push(self.0.raw(), &packet, payload.as_ptr(), payload.len()) })
     }
 
-    /// The next unit, if its turn has come. After an `Err` the next call goes on.
+    /// The next unit, if its turn has come. After an `Err` the next call goes on: a frame that is refused by its format has left,
+    /// and one for which memory was wanting is still there.
     pub fn pop(&mut self) -> Option<Result<Unit, Error>> {
         let mut told_unit = raw::Unit::default();
         let mut bytes = Vec::new();
@@ -274,6 +378,10 @@ impl Buffer {
     }
 
     /// How much is held.
+    ///
+    /// # Errors
+    ///
+    /// None today.
     pub fn counts(&mut self) -> Result<Counts, Error> {
         let mut counts = BufferCountsInfo::default();
         // SAFETY: as in `push`.
@@ -310,10 +418,15 @@ impl Iterator for Buffer {
 }
 
 /// Puts payloads together that the caller has put in order.
+#[derive(Debug)]
 pub struct Depacketizer(Handle);
 
 impl Depacketizer {
-    /// `Error::Invalid` for a rate of 0.
+    /// A depacketizer by its settings.
+    ///
+    /// # Errors
+    ///
+    /// [`Error::Invalid`] for a rate of 0, and [`Error::OutOfMemory`].
     pub fn new(settings: &Settings) -> Result<Depacketizer, Error> {
         let mut handle = Handle::empty();
         // SAFETY: an empty handle, and a struct that is borrowed for the call.
@@ -322,12 +435,20 @@ impl Depacketizer {
     }
 
     /// Reads a payload, and appends what it carries.
+    ///
+    /// # Errors
+    ///
+    /// The fault of the format, and [`Error::OutOfMemory`]. What payloads before it gave stays.
     pub fn depacketize(&mut self, payload: &[u8]) -> Result<(), Error> {
         // SAFETY: the pointer and the length are those of one slice, and all is borrowed for the call.
         told(unsafe { cpl_depacketize(self.0.raw(), payload.as_ptr(), payload.len()) })
     }
 
     /// What the payloads since the last such call gave, and told.
+    ///
+    /// # Errors
+    ///
+    /// [`Error::OutOfMemory`].
     pub fn take(&mut self) -> Result<(Vec<u8>, Extra), Error> {
         let mut size = 0;
         let mut extra = raw::Extra::default();
@@ -351,3 +472,8 @@ impl Depacketizer {
         }
     }
 }
+
+/// The code of the README is a test.
+#[cfg(doctest)]
+#[doc = include_str!("../README.md")]
+struct Readme;

@@ -34,10 +34,11 @@ pub fn frame_info(codec: Codec, frame: &[u8]) -> Result<FrameInfo, Error> {
 /// An OBU of a temporal unit.
 #[derive(Clone, Copy, Debug, PartialEq, Eq)]
 pub struct Obu<'a> {
-    /// 1 a sequence header, 2 a temporal delimiter, 3 a frame header, 6 a frame.
+    /// The type: 1 a sequence header, 2 a temporal delimiter, 3 a frame header, 6 a frame.
     pub obu_type: u8,
     /// The temporal and the spatial layer, where they are told.
     pub layers: Option<(u8, u8)>,
+    /// What stands behind the header and the size.
     pub payload: &'a [u8],
 }
 
@@ -48,6 +49,7 @@ pub struct AmrWbFrame<'a> {
     pub frame_type: u8,
     /// Whether it is undamaged.
     pub quality: bool,
+    /// The speech, in whole bytes.
     pub speech: &'a [u8],
 }
 
@@ -84,6 +86,7 @@ impl Parts<'_> {
 pub struct Obus<'a>(Parts<'a>);
 
 /// The OBUs of a temporal unit.
+#[must_use]
 pub fn av1_obus(unit: &[u8]) -> Obus<'_> {
     Obus(Parts { unit, offset: 0 })
 }
@@ -117,6 +120,7 @@ impl<'a> Iterator for Obus<'a> {
 pub struct AmrWbFrames<'a>(Parts<'a>);
 
 /// The frames of an AMR-WB unit in storage form.
+#[must_use]
 pub fn amr_wb_frames(unit: &[u8]) -> AmrWbFrames<'_> {
     AmrWbFrames(Parts { unit, offset: 0 })
 }

@@ -8,11 +8,16 @@ use crate::raw::*;
 const MOST_REDUNDANT: usize = 8 * (4 + 1_023) + 1;
 
 /// Sends each payload together with some of those before it.
+#[derive(Debug)]
 pub struct Sender(Handle);
 
 impl Sender {
     /// `red_pt` is the payload type of the packets, `primary_pt` that of the media. Each distance is how many payloads back to
-    /// repeat: they rise strictly, from 1 to 8, or `Error::Invalid` comes.
+    /// repeat: they rise strictly, from 1 to 8.
+    ///
+    /// # Errors
+    ///
+    /// [`Error::Invalid`] for other distances, and [`Error::OutOfMemory`].
     pub fn new(red_pt: u8, primary_pt: u8, distances: &[u32]) -> Result<Sender, Error> {
         let mut handle = Handle::empty();
         // SAFETY: an empty handle; the pointer and the length are those of one slice.
@@ -29,6 +34,10 @@ impl Sender {
     }
 
     /// Takes over new types and distances.
+    ///
+    /// # Errors
+    ///
+    /// [`Error::Invalid`] for distances that do not rise from 1 to 8, and [`Error::OutOfMemory`]; all is then as it was.
     pub fn sync(&mut self, red_pt: u8, primary_pt: u8, distances: &[u32]) -> Result<(), Error> {
         // SAFETY: as in `new`.
         told(unsafe {
@@ -44,6 +53,10 @@ impl Sender {
 
     /// The RED payload of a media payload, in at most `budget` bytes. The payload is then remembered. One of `budget` bytes or
     /// more comes back as it is, and is no RED.
+    ///
+    /// # Errors
+    ///
+    /// [`Error::OutOfMemory`], after which the call can be made again.
     pub fn wrap(&mut self, rtp_time: u32, budget: usize, payload: &[u8]) -> Result<Vec<u8>, Error> {
         // No answer is longer than this, so a greater budget changes nothing.
         let budget = budget.min(payload.len() + MOST_REDUNDANT);
@@ -70,25 +83,34 @@ impl Sender {
 /// A block of a payload.
 #[derive(Clone, Debug, PartialEq, Eq)]
 pub struct Block {
+    /// Its payload type, 0 to 127.
     pub payload_type: u8,
     /// How much older than the primary block it is, in ticks of the RTP clock.
     pub offset: u32,
     /// This is the packet's own media.
     pub is_primary: bool,
+    /// Its media.
     pub payload: Vec<u8>,
 }
 
 /// A packet that a payload holds.
 #[derive(Clone, Debug, PartialEq, Eq)]
 pub struct Recovered {
+    /// Its number.
     pub number: u64,
+    /// Its timestamp.
     pub rtp_time: u32,
     /// This is the packet itself whose payload was read.
     pub is_primary: bool,
+    /// Its media.
     pub payload: Vec<u8>,
 }
 
 /// The blocks of a payload in order, the primary one last.
+///
+/// # Errors
+///
+/// [`Error::RedCorrupted`] where the bytes are no RED payload, and [`Error::OutOfMemory`].
 pub fn blocks(payload: &[u8]) -> Result<Vec<Block>, Error> {
     let mut bytes = vec![0; payload.len()];
     each(|index| {
@@ -119,6 +141,10 @@ pub fn blocks(payload: &[u8]) -> Result<Vec<Block>, Error> {
 /// Only blocks whose payload type is `primary_pt`, of which the low 7 bits count, are packets of the stream. The primary block
 /// is the packet itself, and then the last; where it has another type, the packet itself is not told. An older block is passed
 /// over besides where its offset is 0 or no multiple of `step`, and where it goes back more than 8 steps or below number 0.
+///
+/// # Errors
+///
+/// [`Error::RedCorrupted`] where the bytes are no RED payload, [`Error::Invalid`] for another step, and [`Error::OutOfMemory`].
 pub fn recover(
     primary_pt: u8,
     step: u32,
@@ -154,6 +180,10 @@ pub fn recover(
 }
 
 /// A payload of the first 32 older blocks that fit, each with its type, offset and bytes, and of the primary one.
+///
+/// # Errors
+///
+/// [`Error::OutOfMemory`].
 pub fn encode(
     primary_pt: u8,
     primary: &[u8],

@@ -5,6 +5,10 @@ use crate::error::{Error, each, told};
 use crate::raw::*;
 
 /// The reports of a payload, whose durations count a clock of that rate.
+///
+/// # Errors
+///
+/// [`Error::TelephoneInvalid`] where the payload is not one or more whole reports, [`Error::Invalid`] for a rate of 0.
 pub fn read(payload: &[u8], rate: u32) -> Result<Vec<TelephoneEvent>, Error> {
     each(|index| {
         let mut event = TeleEvent::default();
@@ -14,7 +18,11 @@ pub fn read(payload: &[u8], rate: u32) -> Result<Vec<TelephoneEvent>, Error> {
     })
 }
 
-/// The four bytes of a report. `Error::Invalid` for a rate of 0, or a duration of more than 65,535 ticks.
+/// The four bytes of a report.
+///
+/// # Errors
+///
+/// [`Error::Invalid`] for a rate of 0, or a duration of more than 65,535 ticks.
 pub fn write(event: &TelephoneEvent, rate: u32) -> Result<[u8; 4], Error> {
     let mut bytes = [0; 4];
     // SAFETY: as in `read`.

@@ -8,12 +8,17 @@ use crate::raw::*;
 pub struct Fields {
     /// Of 7 or 15 bits.
     pub picture_id: Option<u16>,
+    /// The index of the base layer's last frame.
     pub tl0_pic_idx: Option<u8>,
     /// 0 to 31.
     pub key_idx: Option<u8>,
 }
 
 /// The fields of a payload's descriptor.
+///
+/// # Errors
+///
+/// [`Error::ShortPacket`] where a byte is missing, [`Error::Vp8Corrupted`] where TL0PICIDX has no temporal layer beside it.
 pub fn fields(payload: &[u8]) -> Result<Fields, Error> {
     let mut fields = Vp8FieldsInfo::default();
     let mut starts_keyframe = false;
@@ -33,8 +38,12 @@ pub fn fields(payload: &[u8]) -> Result<Fields, Error> {
     })
 }
 
-/// Gives the fields that are `Some` new values, in place. `Error::Missing` for one that is not there, `Error::Invalid` for a
-/// value that does not fit; the payload is then as it was.
+/// Gives the fields that are `Some` new values, in place.
+///
+/// # Errors
+///
+/// [`Error::Missing`] for one that is not there, [`Error::Invalid`] for a value that does not fit, and the faults of [`fields`].
+/// The payload is then as it was.
 pub fn patch(payload: &mut [u8], values: &Fields) -> Result<(), Error> {
     let values = Vp8FieldsInfo {
         picture_id: values.picture_id.unwrap_or(0),
@@ -49,6 +58,7 @@ pub fn patch(payload: &mut [u8], values: &Fields) -> Result<(), Error> {
 }
 
 /// Whether a keyframe starts in the payload.
+#[must_use]
 pub fn is_keyframe(payload: &[u8]) -> bool {
     // SAFETY: as in `fields`.
     unsafe { cpl_vp8_is_keyframe(payload.as_ptr(), payload.len()) }

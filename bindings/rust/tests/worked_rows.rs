@@ -290,13 +290,37 @@ fn refusals() {
     );
 }
 
+/// Codecs by their names and their numbers.
+#[test]
+fn codecs() {
+    for codec in Codec::ALL {
+        assert_eq!(codec.to_string().parse(), Ok(codec));
+        assert_eq!(Codec::try_from(codec as u32), Ok(codec));
+    }
+    assert_eq!("Opus".parse(), Ok(Codec::Opus));
+    assert_eq!("telephone-event".parse(), Ok(Codec::Telephone));
+    assert_eq!("H264".parse::<Codec>(), Err(Error::Invalid));
+    assert_eq!(Codec::try_from(6), Err(Error::Invalid));
+    assert_eq!(format!("{:>8}", Codec::AmrWb), "  AMR-WB");
+}
+
+/// All that holds a handle may go to another thread, and be shared.
+#[test]
+fn threads() {
+    fn may_go<T: Send + Sync>() {}
+    may_go::<Packetizer>();
+    may_go::<Buffer>();
+    may_go::<Depacketizer>();
+    may_go::<red::Sender>();
+}
+
 /// A buffer that is filled on one thread gives its units on another.
 #[test]
 fn another_thread() -> Result<(), Error> {
     let settings = Settings::new(Codec::Null, 8_000);
     let mut buffer = Buffer::new(&settings, 0, 8)?;
-    for number in 0..4 {
-        buffer.push(&received(number, 0, false), &[number as u8; 300])?;
+    for byte in 0..4u8 {
+        buffer.push(&received(u64::from(byte), 0, false), &[byte; 300])?;
     }
     let units = std::thread::spawn(move || {
         buffer

@@ -1,14 +1,17 @@
-//! The library's calls as C has them. `include/codec_payload.h` says what each does and asks for;
-//! `scripts/face_header.py` compares this file with the library.
+//! The library's calls as C has them. `codec_payload.h`, which the library installs, says what each does and asks for.
+#![no_std]
+#![allow(clippy::missing_safety_doc)]
 
-use std::ffi::c_void;
+use core::ffi::c_void;
 
 #[repr(C)]
+#[derive(Debug)]
 pub struct Place {
     pub at: *mut c_void,
 }
 
 #[repr(C)]
+#[derive(Debug)]
 pub struct Handle {
     pub full: bool,
     pub place: Place,
