@@ -5,8 +5,8 @@
 #   scripts/faces.sh library    proves and builds the library, and prints the folder of libcodec_payload.a
 #   scripts/faces.sh example    builds the library, and builds and runs the example of the header
 #
-# The tests: the header and the Rust crate's declarations against the library; the header as C99 and, where there is a C++
-# compiler, as C++11; what each call answers (bindings/c/checks.c); scripts of payload_vectors through the library, compared
+# The tests: the header and the Rust crate's declarations against the library; the header as C99 and C11 and, where there is a C++
+# compiler, as C++11 and C++20; what each call answers (bindings/c/checks.c); scripts of payload_vectors through the library, compared
 # byte for byte with the program (bindings/c/vectors.c, inputs.py); allocations less frees after each kind of use, and each
 # allocation of a session refused in turn (bindings/c/oom.c); all of these also with the address and undefined-behaviour
 # sanitizers; the Rust crates: their tests, packages, lints, and documents without the library; and the installed library
@@ -21,7 +21,7 @@ set -eu
 root=$(cd "$(dirname "$0")/.." && pwd)
 out=$root/bindings/out
 compiler=${CC:-cc}
-warnings="-pedantic -Wall -Wextra -Werror"
+warnings="-pedantic -Wall -Wextra -Wconversion -Werror"
 work=$(mktemp -d)
 trap 'rm -rf "$work"' EXIT
 mkdir -p "$out"
@@ -104,10 +104,14 @@ esac
 
 "$root/scripts/face_header.py" || fail "the header, the Rust crate and the library differ"
 header=$root/include/codec_payload.h
-"$compiler" -std=c99 $warnings -fsyntax-only -x c "$header" || fail "the header is no C99"
+for standard in c99 c11; do
+    "$compiler" -std=$standard $warnings -fsyntax-only -x c "$header" || fail "the header is no $standard"
+done
 plus=${CXX:-c++}
 if command -v "$plus" >/dev/null; then
-    "$plus" -std=c++11 $warnings -fsyntax-only -x c++ "$header" || fail "the header is no C++11"
+    for standard in c++11 c++20; do
+        "$plus" -std=$standard $warnings -fsyntax-only -x c++ "$header" || fail "the header is no $standard"
+    done
 fi
 (cd "$root/crates/payload_vectors" && rt run <stdin) >"$work/run.log" 2>&1 || {
     cat "$work/run.log" >&2
