@@ -101,6 +101,8 @@ def apply(steps, folder):
         found = texts[file].count(old)
         if found != 1:
             return None, f"an old text stands in {file} {found} times, and not once"
+        if old == new:
+            return None, f"an edit of {file} changes nothing"
         if function is None:
             function = function_at(file, texts[file], texts[file].index(old))
         texts[file] = texts[file].replace(old, new)
