@@ -10,6 +10,8 @@ mod base;
 #[cfg(test)]
 mod media;
 #[cfg(test)]
+mod media_av1;
+#[cfg(test)]
 mod red;
 #[cfg(test)]
 mod tables;
