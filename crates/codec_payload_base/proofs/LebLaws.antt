@@ -104,7 +104,7 @@ leb_complete bytes n rest text says e =
     let found = front_finds 9 says.front says.last rest says.go_on says.ends few in
     rw (e, says.is, found) (ap (λ (v : ℕ). Some (v, rest)) (sym (says.sum ∙ ap (λ (t : List ℕ). leb128_value t % 2 ^ 64) says.is)))
 
-map_some : {A B : Type 0} (f : A → B) (o : Option A) (y : B) → option_map f o ≡ Some y → (x : A) × (o ≡ Some x) × (f x ≡ y)
+pub map_some : {A B : Type 0} (f : A → B) (o : Option A) (y : B) → option_map f o ≡ Some y → (x : A) × (o ≡ Some x) × (f x ≡ y)
 map_some f (Some x) y e = (x, refl, cc)
 map_some f None y e = absurd (cc)
 

@@ -1,13 +1,14 @@
 -- Frames of AMR-WB: what is spelled is read, and what is read is spelled.
-use Rattle.std.proofs.Common.{◌≡◌, ℕ, zero, suc, ◌+◌, ◌*◌, ◌/◌, ◌%◌, ◌<◌, List, [], ◌∷◌, ◌++◌, length, take, drop, Bool, true, false, ltb, eqb, Option, Some, None, Ok, refl, sym, ap, ◌∙◌, subst, arith, length-append}
+use Rattle.std.proofs.Common.{◌≡◌, ℕ, ◌+◌, ◌*◌, ◌/◌, ◌%◌, ◌<◌, List, [], ◌∷◌, ◌++◌, length, take, drop, Bool, true, false, ltb, eqb, Option, Some, None, Ok, refl, sym, ap, ◌∙◌, subst, arith, length-append}
 use Rattle.std.proofs.lemmas.Bool.{eq-eqb, ne_eqb, le-ltb, ltb-false}
 use Rattle.std.proofs.lemmas.List.{take_at, drop_at, take-append-drop, length-take-le}
 use Rattle.codec_payload_base.specs.Flags.{AreBytes}
 use Rattle.codec_payload_media.specs.declared.error.MediaError.TheVariants as errors
-use Rattle.codec_payload_media.specs.AmrWbFrames.{Frame, IsAmrWbFrame, bit_if, frame_at, speech_length, with_speech}
+use Rattle.codec_payload_media.specs.BitFields.{bit_if}
+use Rattle.codec_payload_media.specs.AmrWbFrames.{Frame, IsAmrWbFrame, frame_at, speech_length, with_speech}
 use Rattle.codec_payload_media.specs.Items.{AreSpelled, all_ok, items_at}
 use Rattle.codec_payload_media.proofs.AmrWbLemmas.{frame_shorter}
-use Rattle.codec_payload_media.proofs.ReadingLemmas.{drop_bytes, guard_ok, ok_is}
+use Rattle.codec_payload_media.proofs.ReadingLemmas.{bit_is, drop_bytes, guard_ok, ok_is}
 use Rattle.codec_payload_media.proofs.SpellingLemmas.{all_again, all_spelled}
 
 abbrev header : ℕ → ℕ → Bool → ℕ → ℕ
@@ -37,13 +38,8 @@ frame_again bytes f rest is =
     ∙ ap (λ (o : Option ℕ). with_speech n o (f.speech ++ rest)) is.speech
     ∙ speech_again f n rest has
 
-quality_is : (b : ℕ) → b < 2 → bit_if (eqb b 1) 4 ≡ b * 4
-quality_is zero h = refl
-quality_is (suc zero) h = refl
-quality_is (suc (suc b)) h = absurd (omega (arith, h))
-
 header_is : (n : ℕ) → header (n / 128) (n / 8 % 16) (eqb (n / 4 % 2) 1) (n % 4) ≡ n
-header_is n = omega (arith, quality_is (n / 4 % 2) (omega arith))
+header_is n = omega (arith, bit_is (n / 4 % 2) 4 (omega arith))
 
 abbrev Taken : List ℕ → Frame × List ℕ → Type 0
 Taken bytes x = IsAmrWbFrame bytes x.0 x.1 × AreBytes x.1

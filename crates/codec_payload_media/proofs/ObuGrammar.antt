@@ -1,11 +1,10 @@
 -- OBUs: what is spelled is read, and what is read is spelled.
 use Rattle.std.proofs.Common.{◌≡◌, ℕ, zero, suc, ◌+◌, ◌*◌, ◌/◌, ◌%◌, ◌^◌, ◌<◌, ◌≤◌, List, [], ◌∷◌, ◌++◌, length, take, drop, Bool, true, false, ltb, eqb, ◌||◌, Option, Some, None, Result, Ok, Err, refl, sym, ap, ◌∙◌, subst, arith, append_assoc, length-append}
-use Rattle.std.specs.Option.{option_map}
 use Rattle.std.proofs.lemmas.Bool.{eq-eqb, ne_eqb, le-ltb, ltb-false}
 use Rattle.std.proofs.lemmas.List.{take_at, drop_at, take-append-drop, length-take-le}
 use Rattle.codec_payload_base.specs.Flags.{AreBytes}
 use Rattle.codec_payload_base.specs.Leb.{IsLeb128, leb128_value, leb_front, leb_low}
-use Rattle.codec_payload_base.proofs.LebLaws.{front_finds, front_stands}
+use Rattle.codec_payload_base.proofs.LebLaws.{front_finds, front_stands, map_some}
 use Rattle.codec_payload_media.specs.declared.av1.obu.Av1Extension.{Av1Extension}
 use Rattle.codec_payload_media.specs.declared.error.MediaError.{MediaError}
 use Rattle.codec_payload_media.specs.declared.error.MediaError.TheVariants as errors
@@ -13,7 +12,7 @@ use Rattle.codec_payload_media.specs.Reading.{◌>>=◌}
 use Rattle.codec_payload_media.specs.Items.{AreSpelled, all_ok, items_at}
 use Rattle.codec_payload_media.specs.Av1Units.{Obu, IsExtension, IsSizedObu, extension_at, extension_bit, obu_at, sized}
 use Rattle.codec_payload_media.proofs.Av1Lemmas.{obu_shorter}
-use Rattle.codec_payload_media.proofs.ReadingLemmas.{bind_ok, drop_bytes, guard_ok, ok_is}
+use Rattle.codec_payload_media.proofs.ReadingLemmas.{bind_ok, neither, drop_bytes, guard_ok, ok_is}
 use Rattle.codec_payload_media.proofs.SpellingLemmas.{all_again, all_spelled}
 
 -- ---- sizes
@@ -23,10 +22,6 @@ size_again size n rest says short =
     let few : length says.front ≤ 7 = omega (arith, short, ap length says.is, length-append says.front (says.last ∷ [])) in
     rw (says.is, front_finds 7 says.front says.last rest says.go_on says.ends few) (ap (λ (v : ℕ). Some (v, rest)) (sym (says.sum ∙ ap (λ (t : List ℕ). leb128_value t % 2 ^ 64) says.is)))
 
-some_mapped : {A B : Type 0} (f : A → B) (o : Option A) (y : B) → option_map f o ≡ Some y → (x : A) × (o ≡ Some x) × (f x ≡ y)
-some_mapped f (Some x) y e = (x, refl, cc)
-some_mapped f None y e = absurd cc
-
 record IsSize (bytes : List ℕ) (x : ℕ × List ℕ) : Type 0 where
   size : List ℕ
   spelled : IsLeb128 size x.0
@@ -35,7 +30,7 @@ record IsSize (bytes : List ℕ) (x : ℕ × List ℕ) : Type 0 where
 
 size_taken : (bytes : List ℕ) (x : ℕ × List ℕ) → leb_low 7 bytes ≡ Some x → IsSize bytes x
 size_taken bytes x e =
-    let low = some_mapped (λ (y : ℕ × List ℕ). (y.0 % 2 ^ 64, y.1)) (leb_front 7 bytes) x e in
+    let low = map_some (λ (y : ℕ × List ℕ). (y.0 % 2 ^ 64, y.1)) (leb_front 7 bytes) x e in
     let s = front_stands 7 bytes low.0.0 low.0.1 low.1 in
     let long : length s.text ≤ 8 = omega (arith, ap length s.is_text.is, length-append s.is_text.front (s.is_text.last ∷ []), s.is_text.few) in
     record {
@@ -139,10 +134,6 @@ extension_bit_is (suc zero) None h e = absurd cc
 extension_bit_is (suc zero) (Some x) h e = refl
 extension_bit_is (suc (suc b)) o h e = absurd (omega (arith, h))
 
-fine_bits : (a b : Bool) → a || b ≡ false → (a ≡ false) × (b ≡ false)
-fine_bits true b e = absurd cc
-fine_bits false b e = (refl, e)
-
 not_one : (k : ℕ) → k < 2 → eqb k 1 ≡ false → k ≡ 0
 not_one zero h e = refl
 not_one (suc zero) h e = absurd cc
@@ -159,7 +150,7 @@ module _ (n : ℕ) (bytes : List ℕ) (are : AreBytes (n ∷ bytes)) where
       let o : Obu = record { obu_type = n / 8 % 16; extension = extension; payload = take size.0 size.1 } in
       let g = guard_ok (ltb (length size.1) size.0) errors.SizesDoNotFit (Ok (o, drop size.0 size.1)) x e in
       let long : length (take size.0 size.1) ≡ size.0 = length-take-le size.0 size.1 (ltb-false _ _ g.0) in
-      let both = fine_bits (eqb (n / 128) 1) (eqb (n / 2 % 2) 0) fine in
+      let both = neither (eqb (n / 128) 1) (eqb (n / 2 % 2) 0) fine in
       let small : n < 256 = are 0 in
       let low : n / 128 ≡ 0 = not_one (n / 128) (omega (arith, small)) both.0 in
       let has : n / 2 % 2 ≡ 1 = not_zero (n / 2 % 2) (omega arith) both.1 in

@@ -10,8 +10,9 @@ use Rattle.codec_payload_media.specs.declared.error.MediaError.{MediaError}
 use Rattle.codec_payload_media.specs.declared.error.MediaError.TheVariants as errors
 use Rattle.codec_payload_media.specs.declared.opus.OpusPacket.{OpusPacket}
 use Rattle.codec_payload_media.specs.Reading.{◌>>=◌}
-use Rattle.codec_payload_media.specs.OpusPackets.{AreCoded, AreCounted, AreFrames, AreLengths, IsLength, IsOpusPacket, IsPadding, SaysPadding, alike, apart, bit_if, counted_at, frames_at, frames_if, length_at, lengths_at, long_length, longest, most, opus_at, packet_of, ticks_of, unpadded, unpadded_if, with_last}
-use Rattle.codec_payload_media.proofs.ReadingLemmas.{bind_ok, drop_bytes, take_bytes, guard_ok, then_true, ok_is}
+use Rattle.codec_payload_media.specs.BitFields.{bit_if}
+use Rattle.codec_payload_media.specs.OpusPackets.{AreCoded, AreCounted, AreFrames, AreLengths, IsLength, IsOpusPacket, IsPadding, SaysPadding, alike, apart, counted_at, frames_at, frames_if, length_at, lengths_at, long_length, longest, most, opus_at, packet_of, ticks_of, unpadded, unpadded_if, with_last}
+use Rattle.codec_payload_media.proofs.ReadingLemmas.{bind_ok, bit_is, neither, drop_bytes, take_bytes, guard_ok, then_true, ok_is}
 
 abbrev Frames : Type 0
 Frames = List (List ℕ)
@@ -285,17 +286,13 @@ cut_small : (ns bytes last : List ℕ) → AllByRecursion (λ k. k ≤ most) ns 
 cut_small [] bytes last small fits = (fits, tt)
 cut_small (n ∷ ns) bytes last (first, small) fits = (omega (arith, first, length-take n bytes), cut_small ns (drop n bytes) last small fits)
 
-fits_of : (a b : Bool) → a || b ≡ false → (a ≡ false) × (b ≡ false)
-fits_of true b e = absurd cc
-fits_of false b e = (refl, e)
-
 apart_taken : (count n : ℕ) (bytes : List ℕ) → 1 ≤ count → AreBytes bytes → apart count bytes ≡ Ok n → (count ≡ n) × Told true n bytes
 apart_taken count n bytes some are e =
     let a = bind_ok (lengths_at (count - 1) 0 bytes) (λ lengths. with_last count lengths.0 (length lengths.1)) n e in
     let t = lengths_taken (count - 1) 0 bytes a.0 are a.1 in
     let rest : List ℕ = a.0.1 in
     let g = guard_ok (ltb (length rest) a.0.0 || ltb most (length rest - a.0.0)) errors.SizesDoNotFit (Ok count) n a.2 in
-    let both = fits_of (ltb (length rest) a.0.0) (ltb most (length rest - a.0.0)) g.0 in
+    let both = neither (ltb (length rest) a.0.0) (ltb most (length rest - a.0.0)) g.0 in
     let room : a.0.0 ≤ length rest = ltb-false _ _ both.0 in
     let fits : length rest - a.0.0 ≤ most = ltb-false _ _ both.1 in
     let same : count ≡ n = ok_is count n g.1 in
@@ -388,11 +385,6 @@ unpadded_taken true bytes content are e =
     let long : t.number ≡ length t.padding = omega (arith, t.long) in
     (t.text, t.padding, subst (λ (k : ℕ). SaysPadding t.text k) long t.says, t.parts)
 
-bit_is : (k w : ℕ) → k < 2 → bit_if (eqb k 1) w ≡ k * w
-bit_is zero w h = omega arith
-bit_is (suc zero) w h = omega arith
-bit_is (suc (suc k)) w h = absurd (omega (arith, h))
-
 header_is : (b : ℕ) → b < 256 → header (b % 64) (eqb (b / 64 % 2) 1) (eqb (b / 128) 1) ≡ b
 header_is b small = omega (arith, bit_is (b / 64 % 2) 64 (omega arith), bit_is (b / 128) 128 (omega (arith, small)), small)
 
@@ -415,7 +407,7 @@ counted_taken ticks n (b ∷ rest) are e =
     let padded : Bool = eqb (b / 64 % 2) 1 in
     let told : Bool = eqb (b / 128) 1 in
     let g = guard_ok (eqb (b % 64) 0 || ltb longest (b % 64 * ticks)) errors.ReservedValue (unpadded_if padded rest >>= frames_if told (b % 64)) n e in
-    let allowed = fits_of (eqb (b % 64) 0) (ltb longest (b % 64 * ticks)) g.0 in
+    let allowed = neither (eqb (b % 64) 0) (ltb longest (b % 64 * ticks)) g.0 in
     let some : 1 ≤ b % 64 = above_zero (b % 64) allowed.0 in
     let a = bind_ok (unpadded_if padded rest) (frames_if told (b % 64)) n g.1 in
     let rest_bytes : AreBytes rest = drop_bytes 1 (b ∷ rest) are in

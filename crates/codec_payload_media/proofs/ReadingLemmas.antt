@@ -1,9 +1,10 @@
 -- Readings that went on.
-use Rattle.std.proofs.Common.{◌≡◌, ℕ, ◌+◌, List, take, drop, Bool, true, false, cond, Result, Ok, Err, refl, arith, inl, inr}
+use Rattle.std.proofs.Common.{◌≡◌, ℕ, zero, suc, ◌+◌, ◌*◌, ◌<◌, List, take, drop, Bool, true, false, cond, eqb, ◌||◌, Result, Ok, Err, refl, arith, inl, inr}
 use Rattle.std.proofs.lemmas.Bool.{cases_lt}
 use Rattle.std.proofs.lemmas.List.{length-take, get_or-drop, get_or-take, get_or_past}
 use Rattle.codec_payload_base.specs.Flags.{AreBytes}
 use Rattle.codec_payload_media.specs.declared.error.MediaError.{MediaError}
+use Rattle.codec_payload_media.specs.BitFields.{bit_if}
 use Rattle.codec_payload_media.specs.Reading.{◌>>=◌}
 
 pub drop_bytes : (n : ℕ) (bytes : List ℕ) → AreBytes bytes → AreBytes (drop n bytes)
@@ -30,6 +31,17 @@ guard_ok false d r y e = (refl, e)
 pub then_true : {A : Type 0} (b : Bool) (r : Result A MediaError) (d : MediaError) (y : A) → cond b r (Err d) ≡ Ok y → (b ≡ true) × (r ≡ Ok y)
 then_true true r d y e = (refl, e)
 then_true false r d y e = absurd cc
+
+-- neither of two tests was met
+pub neither : (a b : Bool) → a || b ≡ false → (a ≡ false) × (b ≡ false)
+neither true b e = absurd cc
+neither false b e = (refl, e)
+
+-- a bit that is told by whether it is 1
+pub bit_is : (k bit : ℕ) → k < 2 → bit_if (eqb k 1) bit ≡ k * bit
+bit_is zero bit h = omega arith
+bit_is (suc zero) bit h = omega arith
+bit_is (suc (suc k)) bit h = absurd (omega (arith, h))
 
 abbrev done : {A : Type 0} → A → Result A MediaError
 done x = Ok x

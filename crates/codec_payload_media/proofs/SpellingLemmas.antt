@@ -4,15 +4,10 @@ use Rattle.codec_payload_base.specs.Flags.{AreBytes}
 use Rattle.codec_payload_media.specs.declared.error.MediaError.{MediaError}
 use Rattle.codec_payload_media.specs.Items.{AreSpelled, all_ok, items_at, with_others}
 use Rattle.codec_payload_media.proofs.ItemLemmas.{items_more, items_none}
+use Rattle.codec_payload_media.proofs.ReadingLemmas.{ok_is}
 
 heads : {A : Type 0} (x y : A) (xs ys : List A) → x ∷ xs ≡ y ∷ ys → (x ≡ y) × (xs ≡ ys)
 heads x y xs ys e = (cc, cc)
-
-abbrev done : {A : Type 0} → A → Result A MediaError
-done x = Ok x
-
-ok_same : {A : Type 0} (x y : A) → done x ≡ done y → x ≡ y
-ok_same x y e = cc
 
 module _ {A : Type 0} (front : List ℕ → Result (A × List ℕ) MediaError) (shorter : (bytes : List ℕ) (x : A × List ℕ) → front bytes ≡ Ok x → length x.1 < length bytes) (IsItem : List ℕ → A → List ℕ → Type 0) where
   pub all_again : ((bytes : List ℕ) (x : A) (rest : List ℕ) → IsItem bytes x rest → front bytes ≡ Ok (x, rest)) → (xs : List A) (bytes : List ℕ) → AreSpelled IsItem bytes xs → items_at front bytes ≡ all_ok xs
@@ -28,7 +23,7 @@ module _ {A : Type 0} (front : List ℕ → Result (A × List ℕ) MediaError) (
   first_of : (x : A) (xs : List A) (o : Result (A × List ℕ) MediaError) → with_others (items_at front) o ≡ Ok x ∷ all_ok xs → (rest : List ℕ) × (o ≡ Ok (x, rest)) × (items_at front rest ≡ all_ok xs)
   first_of x xs (Ok y) e =
       let h = heads (Ok y.0) (Ok x) (items_at front y.1) (all_ok xs) e in
-      (y.1, ap (λ (z : A). Ok (z, y.1)) (ok_same y.0 x h.0), h.1)
+      (y.1, ap (λ (z : A). Ok (z, y.1)) (ok_is y.0 x h.0), h.1)
   first_of x xs (Err d) e = let h = heads (Err d) (Ok x) [] (all_ok xs) e in absurd cc
 
   pub all_spelled : ((bytes : List ℕ) (x : A) (rest : List ℕ) → AreBytes bytes → front bytes ≡ Ok (x, rest) → IsItem bytes x rest × AreBytes rest) → (xs : List A) (bytes : List ℕ) → AreBytes bytes → items_at front bytes ≡ all_ok xs → AreSpelled IsItem bytes xs

@@ -10,8 +10,9 @@ use Rattle.codec_payload_media.specs.declared.error.MediaError.TheVariants as er
 use Rattle.codec_payload_media.specs.declared.vp8.Vp8FrameHeader.{Vp8FrameHeader}
 use Rattle.codec_payload_media.specs.declared.vp8.Vp8Keyframe.{Vp8Keyframe}
 use Rattle.codec_payload_media.specs.Reading.{◌>>=◌}
-use Rattle.codec_payload_media.specs.Vp8Frames.{bit_if, bit_unless, tag_of, three_bytes, side_bytes, keyframe_bytes, FitsKeyframe, IsVp8Frame, keyframe_of, is_start_code, keyframe_at, behind_tag, with_partition, with_tag, vp8_frame_at}
-use Rattle.codec_payload_media.proofs.ReadingLemmas.{bind_ok, guard_ok, then_true, ok_is, drop_bytes, take_bytes}
+use Rattle.codec_payload_media.specs.BitFields.{bit_if}
+use Rattle.codec_payload_media.specs.Vp8Frames.{bit_unless, tag_of, three_bytes, side_bytes, keyframe_bytes, FitsKeyframe, IsVp8Frame, keyframe_of, is_start_code, keyframe_at, behind_tag, with_partition, with_tag, vp8_frame_at}
+use Rattle.codec_payload_media.proofs.ReadingLemmas.{bind_ok, bit_is, guard_ok, then_true, ok_is, drop_bytes, take_bytes}
 
 -- ---- the bits of a tag
 
@@ -30,18 +31,13 @@ tag_bits false v true s n is small = (ne_eqb (n % 2) 0 (λ h. omega (arith, h, i
 tag_bits true v false s n is small = (is_eq (n % 2) 0 (omega (arith, is)), omega (arith, is, small), ne_eqb (n / 16 % 2) 1 (λ h. omega (arith, h, is, small)), omega (arith, is, small))
 tag_bits true v true s n is small = (is_eq (n % 2) 0 (omega (arith, is)), omega (arith, is, small), is_eq (n / 16 % 2) 1 (omega (arith, is, small)), omega (arith, is, small))
 
-shown_is : (b : ℕ) → b < 2 → bit_if (eqb b 1) 16 ≡ b * 16
-shown_is zero h = refl
-shown_is (suc zero) h = refl
-shown_is (suc (suc b)) h = absurd (omega (arith, h))
-
 key_is : (b : ℕ) → b < 2 → bit_unless (eqb b 0) 1 ≡ b
 key_is zero h = refl
 key_is (suc zero) h = refl
 key_is (suc (suc b)) h = absurd (omega (arith, h))
 
 tag_is : (n : ℕ) → number (eqb (n % 2) 0) (n / 2 % 8) (eqb (n / 16 % 2) 1) (n / 32) ≡ n
-tag_is n = omega (arith, key_is (n % 2) (omega arith), shown_is (n / 16 % 2) (omega arith))
+tag_is n = omega (arith, key_is (n % 2) (omega arith), bit_is (n / 16 % 2) 16 (omega arith))
 
 -- ---- keyframes
 

@@ -1,6 +1,7 @@
 -- Frames of AMR-WB in their storage form (RFC 4867, section 5.3): a bit of any value, the type (4 bits), the quality (1), two
 -- bits of any value, then the speech, in whole bytes.
-use Rattle.std.specs.Prelude.{◌≡◌, ◌<◌, ◌+◌, ◌++◌, true, false, ℕ, ◌*◌, ◌/◌, ◌%◌, ◌==◌, nat_lt, min, Bool, List, [], ◌∷◌, length, take, drop, slice_index_or, if◌then◌else◌, Option, Some, None, Result, Ok, Err}
+use Rattle.std.specs.Prelude.{◌≡◌, ◌<◌, ◌+◌, ◌++◌, ℕ, ◌*◌, ◌/◌, ◌%◌, ◌==◌, nat_lt, min, Bool, List, [], ◌∷◌, length, take, drop, slice_index_or, if◌then◌else◌, Option, Some, None, Result, Ok, Err}
+use Rattle.codec_payload_media.specs.BitFields.{bit_if}
 use Rattle.codec_payload_media.specs.declared.error.MediaError.{MediaError}
 use Rattle.codec_payload_media.specs.declared.error.MediaError.TheVariants as errors
 use Rattle.codec_payload_media.specs.declared.amr_wb.AmrWbFrame.{AmrWbFrame as LentFrame}
@@ -17,10 +18,6 @@ abbrev pub frame_of : LentFrame → Frame
 frame_of f = record { frame_type = f.frame_type; quality = f.quality; speech = f.speech.now }
 
 -- ---- how a frame is spelled
-
-abbrev pub bit_if : Bool → ℕ → ℕ
-bit_if true bit = bit
-bit_if false bit = 0
 
 -- how many bytes of speech each type has (3GPP TS 26.201, table 1a); None for a reserved one
 abbrev pub speech_lengths : List (Option ℕ)

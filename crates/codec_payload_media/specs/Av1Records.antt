@@ -1,12 +1,9 @@
 -- The av1C record (AV1 codec ISO media file format binding, section 2.3): marker (1 bit, set) and version (7, 1); seq_profile (3)
 -- and seq_level_idx_0 (5); seq_tier_0, high_bitdepth, twelve_bit, monochrome, subsampling_x and subsampling_y (1 each) and
 -- chroma_sample_position (2); no initial presentation delay (a byte of 0); then the sequence header OBU.
-use Rattle.std.specs.Prelude.{ℕ, ◌+◌, ◌*◌, ◌%◌, ◌==◌, not, Bool, true, false, List, [], ◌∷◌, ◌++◌}
+use Rattle.std.specs.Prelude.{ℕ, ◌+◌, ◌*◌, ◌%◌, ◌==◌, not, List, [], ◌∷◌, ◌++◌}
+use Rattle.codec_payload_media.specs.BitFields.{bit_if}
 use Rattle.codec_payload_media.specs.declared.av1.sequence_header.Av1SequenceHeader.{Av1SequenceHeader}
-
-abbrev pub bit_if : Bool → ℕ → ℕ
-bit_if true bit = bit
-bit_if false bit = 0
 
 unfoldable pub av1c_front : Av1SequenceHeader → List ℕ
 av1c_front h =

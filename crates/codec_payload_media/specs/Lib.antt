@@ -4,6 +4,7 @@ pub mod Av1Records
 pub mod Av1SequenceHeaders
 pub mod Av1TemporalUnits
 pub mod Av1Units
+pub mod BitFields
 pub mod FrameInfo
 pub mod Items
 pub mod OpusPackets

@@ -3,6 +3,7 @@ use Rattle.std.specs.Prelude.{◌≡◌, ◌≤◌, ◌<◌, ◌⊎◌, ℕ, zer
 use Rattle.std.specs.List.{AllByRecursion, concat}
 use Rattle.codec_payload_base.specs.Flags.{AreBytes}
 use Rattle.std.specs.Int.{w16, w32, to_le_bytes}
+use Rattle.codec_payload_media.specs.BitFields.{bit_if}
 use Rattle.codec_payload_media.specs.declared.error.MediaError.{MediaError}
 use Rattle.codec_payload_media.specs.declared.error.MediaError.TheVariants as errors
 use Rattle.codec_payload_media.specs.declared.opus.OpusHead.{OpusHead}
@@ -84,10 +85,6 @@ SaysPadding (b ∷ c ∷ text) n = (b ≡ 255) × (m : ℕ) × (n ≡ 254 + m) �
 abbrev pub IsPadding : Bool → List ℕ → List ℕ → Type 0
 IsPadding false text padding = (text ≡ []) × (padding ≡ [])
 IsPadding true text padding = SaysPadding text (length padding)
-
-abbrev pub bit_if : Bool → ℕ → ℕ
-bit_if true bit = bit
-bit_if false bit = 0
 
 -- frames of one length, or each length but the last before the frames
 abbrev pub AreFrames : Bool → List (List ℕ) → List ℕ → Type 0

@@ -3,6 +3,7 @@
 -- and height of 14 bits each below two of scale; then the partitions.
 use Rattle.std.specs.Prelude.{◌≡◌, ℕ, ◌+◌, ◌*◌, ◌/◌, ◌%◌, ◌<◌, ◌≤◌, ◌==◌, ◌&&◌, nat_lt, Bool, true, false, List, [], ◌∷◌, ◌++◌, length, if◌then◌else◌, Option, Some, None, is_some, IfSome, Result, Ok, Err}
 use Rattle.std.specs.Int.{w16, to_le_bytes, from_le_bytes}
+use Rattle.codec_payload_media.specs.BitFields.{bit_if}
 use Rattle.codec_payload_media.specs.declared.error.MediaError.{MediaError}
 use Rattle.codec_payload_media.specs.declared.error.MediaError.TheVariants as errors
 use Rattle.codec_payload_media.specs.declared.vp8.Vp8FrameHeader.{Vp8FrameHeader}
@@ -10,10 +11,6 @@ use Rattle.codec_payload_media.specs.declared.vp8.Vp8Keyframe.{Vp8Keyframe}
 use Rattle.codec_payload_media.specs.Reading.{◌>>=◌}
 
 -- ---- how a header is spelled
-
-abbrev pub bit_if : Bool → ℕ → ℕ
-bit_if true bit = bit
-bit_if false bit = 0
 
 abbrev pub bit_unless : Bool → ℕ → ℕ
 bit_unless true bit = 0
