@@ -1,9 +1,10 @@
 //! RTP times of 32 bits, extended to numbers of 64 bits that do not wrap.
 
 ghost use Rattle.std.specs.Prelude.{◌≡◌, ◌%◌, ◌^◌, None, Some, IfSome};
-ghost use Rattle.codec_payload_base.specs.Extended.{Follows, nearest};
+ghost use Rattle.codec_payload_base.specs.Extended.{Follows};
 ghost use Rattle.codec_payload_rtp.specs.ExtendedTimes.{extended_time};
 
+use codec_payload_base::wire::extend_u32;
 use std::marker::Model;
 
 /// Extends the RTP times of one stream, in the order in which they are told: each becomes the time nearest to the last that has
@@ -24,19 +25,6 @@ impl Model for RtpTimes {
     ghost inverse = { λ last. record { last = last } };
 }
 
-/// The time nearest to that one with these 32 bits.
-fn nearest_to(last: u64, timestamp: u32) -> u64
-    ensures { result ≡ nearest (2 ^ 32) last timestamp }
-{
-    const RANGE: u64 = 1 << 32;
-    let ahead = (u64::from(timestamp) + RANGE - last % RANGE) % RANGE;
-    if ahead <= RANGE / 2 {
-        last.wrapping_add(ahead)
-    } else {
-        last.wrapping_sub(RANGE - ahead)
-    }
-}
-
 impl RtpTimes {
     /// No time was told so far.
     pub fn new() -> RtpTimes
@@ -46,7 +34,7 @@ impl RtpTimes {
     }
 
     /// The time of a packet or a unit, in ticks of the RTP clock, modulo 2^64.
-    #[tactic(auto, using(crate::proofs::TimeLemmas::follows, crate::proofs::TimeLemmas::low_bits))]
+    #[tactic(auto, using(crate::proofs::TimeLemmas::low_bits))]
     pub fn extend(&mut self, timestamp: u32) -> u64
         ensures value { result ≡ extended_time self.old timestamp }
         ensures after { self.new ≡ Some result }
@@ -56,7 +44,7 @@ impl RtpTimes {
         ensures follows { IfSome self.old (λ last. Follows (2 ^ 32) (Some last) timestamp result) }
     {
         let time = match self.last {
-            Some(last) => nearest_to(last, timestamp),
+            Some(_) => extend_u32(self.last, timestamp),
             None => (1 << 32) + u64::from(timestamp),
         };
         self.last = Some(time);
