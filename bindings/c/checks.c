@@ -18,38 +18,48 @@ static void check_at(bool holds, const char *what, int line) {
 
 static bool same(const uint8_t *found, const char *wanted, size_t size) { return memcmp(found, wanted, size) == 0; }
 
+/* Memory of any kind, since a struct of one kind may reach a call of another behind a cast. */
+typedef union {
+    cpay_packetizer packetizer;
+    cpay_buffer buffer;
+    cpay_depacketizer depacketizer;
+    cpay_red_sender red_sender;
+} any;
+
+#define ANY_INIT { CPAY_INIT }
+
 static cpay_spec spec_of(uint32_t codec, uint32_t rate) {
     cpay_spec spec = {.codec = codec, .rate = rate};
     return spec;
 }
 
-/* Every call that takes a handle, on one that is empty or of another kind. */
-static void refusals(cpay_handle *handle, uint32_t packets, uint32_t units, uint32_t red, uint32_t pieces) {
+/* Every call on a struct that is empty or of another kind. */
+static void refusals(any *it, cpay_status packets, cpay_status units, cpay_status red, cpay_status pieces) {
     uint8_t bytes[4] = {7, 7, 7, 7};
     size_t count = 7;
     uint32_t distance = 1;
     cpay_packet_info packet = {.bytes = 7};
-    cpay_received received = {.number = 1, .payload_type = 96};
+    cpay_received received = {.number = 1};
     cpay_unit unit = {.first = 7};
     cpay_buffer_counts_info counts = {.held = 7};
     cpay_extra extra = {.picture_id = 7};
     uint8_t payload[1] = {0};
     if (packets) {
-        CHECK(cpay_packetize(handle, 100, false, payload, 1, &count) == packets);
-        CHECK(cpay_packet(handle, &packet, bytes, 4) == packets);
+        CHECK(cpay_packetize(&it->packetizer, 100, false, payload, 1, &count) == packets);
+        CHECK(cpay_packet(&it->packetizer, &packet, bytes, 4) == packets);
     }
     if (units) {
-        CHECK(cpay_buffer_push(handle, &received, payload, 1) == units);
-        CHECK(cpay_buffer_pop(handle, &unit, bytes, 4) == units);
-        CHECK(cpay_buffer_counts(handle, &counts) == units);
+        CHECK(cpay_buffer_push(&it->buffer, &received, payload, 1) == units);
+        CHECK(cpay_buffer_pop(&it->buffer, &unit, bytes, 4) == units);
+        CHECK(cpay_buffer_counts(&it->buffer, &counts) == units);
     }
     if (red) {
-        CHECK(cpay_red_sync(handle, 1, 2, &distance, 1) == red);
-        CHECK(cpay_red_wrap(handle, 0, 4, payload, 1, bytes, 4, &count) == red);
+        CHECK(cpay_red_sync(&it->red_sender, 1, 2, &distance, 1) == red);
+        CHECK(cpay_red_wrap(&it->red_sender, 0, 4, payload, 1, bytes, 4, &count) == red);
     }
     if (pieces) {
-        CHECK(cpay_depacketize(handle, payload, 1) == pieces);
-        CHECK(cpay_depacketized(handle, &count, &extra, bytes, 4) == pieces);
+        CHECK(cpay_depacketize(&it->depacketizer, payload, 1) == pieces);
+        CHECK(cpay_depacketized(&it->depacketizer, &count, &extra, bytes, 4) == pieces);
     }
     CHECK(same(bytes, "\7\7\7\7", 4));
     CHECK(count == 7 && packet.bytes == 7 && unit.first == 7 && counts.held == 7 && extra.picture_id == 7);
@@ -75,9 +85,9 @@ static void texts(void) {
         {17, "out of memory"},
         {32, "there is none"},
         {33, "the caller's bytes are too few"},
-        {34, "the handle is empty"},
-        {35, "the handle holds something of another kind"},
-        {36, "the handle is full"},
+        {34, "nothing was made in it"},
+        {35, "it holds something of another kind"},
+        {36, "it is full already"},
         {37, "an argument is none that the call takes"},
         {38, "the frame ends too early"},
         {39, "the frame has a wrong marker"},
@@ -88,70 +98,71 @@ static void texts(void) {
         {42, "unknown status"},
     };
     for (size_t i = 0; i < sizeof rows / sizeof *rows; i++)
-        CHECK(strcmp(cpay_status_text(rows[i].status), rows[i].text) == 0);
+        CHECK(strcmp(cpay_status_text((cpay_status)rows[i].status), rows[i].text) == 0);
 }
 
-static void handles(void) {
-    cpay_handle handle = CPAY_HANDLE_INIT;
+static void kinds(void) {
+    any it = ANY_INIT;
     cpay_spec opus = spec_of(CPAY_OPUS, 48000);
     uint32_t distance = 1;
-    refusals(&handle, CPAY_EMPTY, CPAY_EMPTY, CPAY_EMPTY, CPAY_EMPTY);
-    cpay_free(&handle);
-    CHECK(cpay_packetizer_new(&handle, &opus) == CPAY_OK);
-    CHECK(cpay_packetizer_new(&handle, &opus) == CPAY_FULL);
-    CHECK(cpay_buffer_new(&handle, &opus, 0, 1) == CPAY_FULL);
-    CHECK(cpay_depacketizer_new(&handle, &opus) == CPAY_FULL);
-    CHECK(cpay_red_sender_new(&handle, 1, 2, &distance, 1) == CPAY_FULL);
-    refusals(&handle, 0, CPAY_OTHER_KIND, CPAY_OTHER_KIND, CPAY_OTHER_KIND);
-    cpay_free(&handle);
-    cpay_free(&handle);
-    refusals(&handle, CPAY_EMPTY, CPAY_EMPTY, CPAY_EMPTY, CPAY_EMPTY);
-    CHECK(cpay_buffer_new(&handle, &opus, 0, 1) == CPAY_OK);
-    refusals(&handle, CPAY_OTHER_KIND, 0, CPAY_OTHER_KIND, CPAY_OTHER_KIND);
-    cpay_free(&handle);
-    CHECK(cpay_red_sender_new(&handle, 1, 2, &distance, 1) == CPAY_OK);
-    refusals(&handle, CPAY_OTHER_KIND, CPAY_OTHER_KIND, 0, CPAY_OTHER_KIND);
-    cpay_free(&handle);
-    CHECK(cpay_depacketizer_new(&handle, &opus) == CPAY_OK);
-    refusals(&handle, CPAY_OTHER_KIND, CPAY_OTHER_KIND, CPAY_OTHER_KIND, 0);
-    cpay_free(&handle);
+    refusals(&it, CPAY_EMPTY, CPAY_EMPTY, CPAY_EMPTY, CPAY_EMPTY);
+    cpay_buffer_free(&it.buffer);
+    CHECK(cpay_packetizer_new(&it.packetizer, &opus) == CPAY_OK);
+    CHECK(cpay_packetizer_new(&it.packetizer, &opus) == CPAY_FULL);
+    CHECK(cpay_buffer_new(&it.buffer, &opus, 0, 1) == CPAY_FULL);
+    CHECK(cpay_depacketizer_new(&it.depacketizer, &opus) == CPAY_FULL);
+    CHECK(cpay_red_sender_new(&it.red_sender, 1, 2, &distance, 1) == CPAY_FULL);
+    refusals(&it, CPAY_OK, CPAY_OTHER_KIND, CPAY_OTHER_KIND, CPAY_OTHER_KIND);
+    cpay_buffer_free(&it.buffer);
+    cpay_buffer_free(&it.buffer);
+    refusals(&it, CPAY_EMPTY, CPAY_EMPTY, CPAY_EMPTY, CPAY_EMPTY);
+    CHECK(cpay_buffer_new(&it.buffer, &opus, 0, 1) == CPAY_OK);
+    refusals(&it, CPAY_OTHER_KIND, CPAY_OK, CPAY_OTHER_KIND, CPAY_OTHER_KIND);
+    cpay_buffer_free(&it.buffer);
+    CHECK(cpay_red_sender_new(&it.red_sender, 1, 2, &distance, 1) == CPAY_OK);
+    refusals(&it, CPAY_OTHER_KIND, CPAY_OTHER_KIND, CPAY_OK, CPAY_OTHER_KIND);
+    cpay_buffer_free(&it.buffer);
+    CHECK(cpay_depacketizer_new(&it.depacketizer, &opus) == CPAY_OK);
+    refusals(&it, CPAY_OTHER_KIND, CPAY_OTHER_KIND, CPAY_OTHER_KIND, CPAY_OK);
+    cpay_buffer_free(&it.buffer);
 }
 
 static void arguments(void) {
-    cpay_handle handle = CPAY_HANDLE_INIT;
+    any it = ANY_INIT;
     for (uint32_t codec = 0; codec < 20; codec++) {
         bool there = codec <= CPAY_AMR_WB || (codec >= CPAY_VP8 && codec <= CPAY_TELE);
         cpay_spec spec = spec_of(codec, 8000), stopped = spec_of(codec, 0), ids = spec;
         ids.first_id = 32768;
-        CHECK(cpay_packetizer_new(&handle, &spec) == (there ? CPAY_OK : CPAY_INVALID));
-        cpay_free(&handle);
-        CHECK(cpay_depacketizer_new(&handle, &spec) == (there ? CPAY_OK : CPAY_INVALID));
-        cpay_free(&handle);
-        CHECK(cpay_buffer_new(&handle, &spec, 0, 65536) == (there ? CPAY_OK : CPAY_INVALID));
-        cpay_free(&handle);
-        CHECK(cpay_packetizer_new(&handle, &stopped) == CPAY_INVALID);
-        CHECK(cpay_packetizer_new(&handle, &ids) == CPAY_INVALID);
+        CHECK(cpay_packetizer_new(&it.packetizer, &spec) == (there ? CPAY_OK : CPAY_INVALID));
+        cpay_buffer_free(&it.buffer);
+        CHECK(cpay_depacketizer_new(&it.depacketizer, &spec) == (there ? CPAY_OK : CPAY_INVALID));
+        cpay_buffer_free(&it.buffer);
+        CHECK(cpay_buffer_new(&it.buffer, &spec, 0, 65536) == (there ? CPAY_OK : CPAY_INVALID));
+        cpay_buffer_free(&it.buffer);
+        CHECK(cpay_packetizer_new(&it.packetizer, &stopped) == CPAY_INVALID);
+        CHECK(cpay_packetizer_new(&it.packetizer, &ids) == CPAY_INVALID);
         /* What only receives does not look at the picture id. */
-        CHECK(cpay_depacketizer_new(&handle, &ids) == (there ? CPAY_OK : CPAY_INVALID));
-        cpay_free(&handle);
-        CHECK(cpay_buffer_new(&handle, &ids, 0, 1) == (there ? CPAY_OK : CPAY_INVALID));
-        cpay_free(&handle);
-        CHECK(cpay_buffer_new(&handle, &stopped, 0, 1) == CPAY_INVALID);
-        CHECK(cpay_buffer_new(&handle, &spec, 0, 0) == CPAY_INVALID);
-        CHECK(cpay_buffer_new(&handle, &spec, 0, 65537) == CPAY_INVALID);
-        CHECK(!handle.full);
+        CHECK(cpay_depacketizer_new(&it.depacketizer, &ids) == (there ? CPAY_OK : CPAY_INVALID));
+        cpay_buffer_free(&it.buffer);
+        CHECK(cpay_buffer_new(&it.buffer, &ids, 0, 1) == (there ? CPAY_OK : CPAY_INVALID));
+        cpay_buffer_free(&it.buffer);
+        CHECK(cpay_buffer_new(&it.buffer, &stopped, 0, 1) == CPAY_INVALID);
+        CHECK(cpay_buffer_new(&it.buffer, &spec, 0, 0) == CPAY_INVALID);
+        CHECK(cpay_buffer_new(&it.buffer, &spec, 0, 65537) == CPAY_INVALID);
+        CHECK(!it.buffer.handle.full);
     }
     uint32_t falling[2] = {2, 1}, far[1] = {9};
-    CHECK(cpay_red_sender_new(&handle, 1, 2, falling, 2) == CPAY_INVALID);
-    CHECK(cpay_red_sender_new(&handle, 1, 2, far, 1) == CPAY_INVALID);
-    CHECK(cpay_red_sender_new(&handle, 1, 2, far, 0) == CPAY_OK);
-    CHECK(cpay_red_sync(&handle, 1, 2, falling, 2) == CPAY_INVALID);
-    cpay_free(&handle);
+    CHECK(cpay_red_sender_new(&it.red_sender, 1, 2, falling, 2) == CPAY_INVALID);
+    CHECK(cpay_red_sender_new(&it.red_sender, 1, 2, far, 1) == CPAY_INVALID);
+    CHECK(cpay_red_sender_new(&it.red_sender, 1, 2, far, 0) == CPAY_OK);
+    CHECK(cpay_red_sync(&it.red_sender, 1, 2, falling, 2) == CPAY_INVALID);
+    cpay_buffer_free(&it.buffer);
 }
 
 /* VP8 with picture ids (RFC 7741, section 4.2): X S, I, the id, and the frame. */
 static void vp8(void) {
-    cpay_handle sender = CPAY_HANDLE_INIT, buffer = CPAY_HANDLE_INIT;
+    cpay_packetizer sender = CPAY_INIT;
+    cpay_buffer buffer = CPAY_INIT;
     cpay_spec spec = {.codec = CPAY_VP8, .rate = 90000, .first_id = 32, .vp8_ids = true};
     const uint8_t frame[3] = {0x90, 0x90, 0x90};
     uint8_t bytes[8] = {0};
@@ -164,7 +175,7 @@ static void vp8(void) {
     CHECK(cpay_packet(&sender, &packet, bytes, 4) == CPAY_TOO_SMALL && packet.bytes == 5);
     CHECK(cpay_packet(&sender, &packet, bytes, 5) == CPAY_OK && same(bytes, "\x90\x80\x20\x90\x90", 5));
     CHECK(!packet.marker && packet.nackable);
-    cpay_received received = {.number = 7, .received = 20, .rtp_time = 3000, .payload_type = 96};
+    cpay_received received = {.number = 7, .received = 20, .rtp_time = 3000};
     CHECK(cpay_buffer_push(&buffer, &received, bytes, 5) == CPAY_OK);
     CHECK(cpay_packet(&sender, &packet, bytes, 8) == CPAY_OK && packet.bytes == 4 && same(bytes, "\x80\x80\x20\x90", 4));
     CHECK(packet.marker);
@@ -173,7 +184,7 @@ static void vp8(void) {
     cpay_unit unit = {0};
     cpay_buffer_counts_info counts = {0};
     CHECK(cpay_buffer_pop(&buffer, &unit, bytes, 8) == CPAY_NONE);
-    received = (cpay_received){.number = 8, .received = 10, .rtp_time = 3000, .payload_type = 96, .marker = true};
+    received = (cpay_received){.number = 8, .received = 10, .rtp_time = 3000, .marker = true};
     CHECK(cpay_buffer_push(&buffer, &received, bytes, 4) == CPAY_OK);
     CHECK(cpay_buffer_counts(&buffer, &counts) == CPAY_OK);
     CHECK(counts.held == 2 && counts.ready == 1 && counts.limit == 100 && !counts.waiting);
@@ -186,8 +197,8 @@ static void vp8(void) {
     CHECK(unit.extra.kind == CPAY_EXTRA_VP8 && unit.extra.has_picture_id && unit.extra.picture_id == 32);
     CHECK(!unit.extra.has_tl0_picture_id && unit.extra.is_keyframe && unit.extra.has_temporal_layer);
     CHECK(cpay_buffer_pop(&buffer, &unit, bytes, 3) == CPAY_NONE);
-    cpay_free(&sender);
-    cpay_free(&buffer);
+    cpay_packetizer_free(&sender);
+    cpay_buffer_free(&buffer);
 }
 
 static void descriptors(void) {
@@ -220,7 +231,7 @@ static void descriptors(void) {
 
 /* RFC 2198, section 3: F and the type, 14 bits of offset, 10 of length; F clear and the type; the bytes of the blocks. */
 static void red(void) {
-    cpay_handle sender = CPAY_HANDLE_INIT;
+    cpay_red_sender sender = CPAY_INIT;
     uint32_t distance = 1;
     uint8_t bytes[16] = {0};
     size_t size = 0;
@@ -233,7 +244,7 @@ static void red(void) {
     CHECK(cpay_red_sync(&sender, 63, 111, &distance, 0) == CPAY_OK);
     uint8_t plain[16] = {0};
     CHECK(cpay_red_wrap(&sender, 1920, 16, (const uint8_t *)"\4", 1, plain, 16, &size) == CPAY_OK && size == 2);
-    cpay_free(&sender);
+    cpay_red_sender_free(&sender);
 
     uint8_t found[4] = {0};
     cpay_red_block_info block = {0};
@@ -306,33 +317,33 @@ static void looks(void) {
 
 /* Payloads of VP9 (RFC 9628, section 4.2) and of telephone events through a depacketizer alone. */
 static void pieces(void) {
-    cpay_handle handle = CPAY_HANDLE_INIT;
+    cpay_depacketizer depacketizer = CPAY_INIT;
     cpay_spec vp9 = spec_of(CPAY_VP9, 90000), tele = spec_of(CPAY_TELE, 8000);
     cpay_extra extra = {0};
     uint8_t bytes[8] = {0};
     size_t size = 9;
-    CHECK(cpay_depacketizer_new(&handle, &vp9) == CPAY_OK);
+    CHECK(cpay_depacketizer_new(&depacketizer, &vp9) == CPAY_OK);
     /* I L B, a 15-bit id, layers 0, TL0PICIDX 7; and then I L E and the same */
-    CHECK(cpay_depacketize(&handle, (const uint8_t *)"\xa8\x92\x34\x00\x07\x82\x49", 7) == CPAY_OK);
-    CHECK(cpay_depacketize(&handle, (const uint8_t *)"\xa4\x92\x34\x00\x07\x83", 6) == CPAY_OK);
-    CHECK(cpay_depacketized(&handle, &size, &extra, bytes, 2) == CPAY_TOO_SMALL && size == 3);
-    CHECK(cpay_depacketized(&handle, &size, &extra, bytes, 8) == CPAY_OK && size == 3 && same(bytes, "\x82\x49\x83", 3));
+    CHECK(cpay_depacketize(&depacketizer, (const uint8_t *)"\xa8\x92\x34\x00\x07\x82\x49", 7) == CPAY_OK);
+    CHECK(cpay_depacketize(&depacketizer, (const uint8_t *)"\xa4\x92\x34\x00\x07\x83", 6) == CPAY_OK);
+    CHECK(cpay_depacketized(&depacketizer, &size, &extra, bytes, 2) == CPAY_TOO_SMALL && size == 3);
+    CHECK(cpay_depacketized(&depacketizer, &size, &extra, bytes, 8) == CPAY_OK && size == 3 && same(bytes, "\x82\x49\x83", 3));
     CHECK(extra.kind == CPAY_EXTRA_VP9 && extra.has_picture_id && extra.picture_id == 0x1234 && extra.is_keyframe);
     CHECK(extra.has_tl0_picture_id && extra.tl0_picture_id == 7 && extra.has_temporal_layer && extra.temporal_layer == 0);
     CHECK(extra.layers[0].has_end && extra.layers[0].end == 3 && !extra.layers[1].has_end && !extra.layers[0].has_width);
-    CHECK(cpay_depacketized(&handle, &size, &extra, bytes, 8) == CPAY_OK && size == 0 && extra.kind == CPAY_EXTRA_NONE);
-    CHECK(cpay_depacketize(&handle, bytes, 0) == CPAY_SHORT_PACKET);
-    cpay_free(&handle);
-    CHECK(cpay_depacketizer_new(&handle, &tele) == CPAY_OK);
-    CHECK(cpay_depacketize(&handle, (const uint8_t *)"\5\x8a\3", 3) == CPAY_TELE_INVALID);
-    CHECK(cpay_depacketize(&handle, (const uint8_t *)"\5\x8a\3\x20", 4) == CPAY_OK);
-    CHECK(cpay_depacketized(&handle, &size, &extra, bytes, 8) == CPAY_OK && size == 4);
+    CHECK(cpay_depacketized(&depacketizer, &size, &extra, bytes, 8) == CPAY_OK && size == 0 && extra.kind == CPAY_EXTRA_NONE);
+    CHECK(cpay_depacketize(&depacketizer, bytes, 0) == CPAY_SHORT_PACKET);
+    cpay_depacketizer_free(&depacketizer);
+    CHECK(cpay_depacketizer_new(&depacketizer, &tele) == CPAY_OK);
+    CHECK(cpay_depacketize(&depacketizer, (const uint8_t *)"\5\x8a\3", 3) == CPAY_TELE_INVALID);
+    CHECK(cpay_depacketize(&depacketizer, (const uint8_t *)"\5\x8a\3\x20", 4) == CPAY_OK);
+    CHECK(cpay_depacketized(&depacketizer, &size, &extra, bytes, 8) == CPAY_OK && size == 4);
     CHECK(extra.kind == CPAY_EXTRA_TELE && extra.event.duration == 100000000 && extra.event.event == 5 && extra.event.end);
-    cpay_free(&handle);
+    cpay_depacketizer_free(&depacketizer);
 }
 
 static void audio(void) {
-    cpay_handle sender = CPAY_HANDLE_INIT;
+    cpay_packetizer sender = CPAY_INIT;
     cpay_spec opus = spec_of(CPAY_OPUS, 48000), cn = spec_of(CPAY_CN, 8000), null = spec_of(CPAY_NULL, 8000);
     uint8_t bytes[4] = {0};
     size_t count = 9;
@@ -344,19 +355,56 @@ static void audio(void) {
     CHECK(cpay_packetize(&sender, 2, false, (const uint8_t *)"\4", 1, &count) == CPAY_OK && count == 1);
     CHECK(cpay_packet(&sender, &packet, bytes, 4) == CPAY_OK && !packet.marker);
     CHECK(cpay_packetize(&sender, 2, false, bytes, 0, &count) == CPAY_OK && count == 0);
-    cpay_free(&sender);
+    cpay_packetizer_free(&sender);
     CHECK(cpay_packetizer_new(&sender, &cn) == CPAY_OK);
     CHECK(cpay_packetize(&sender, 4, true, (const uint8_t *)"\1\2\3", 3, &count) == CPAY_OK && count == 1);
     CHECK(cpay_packetize(&sender, 2, true, (const uint8_t *)"\4\5\6", 3, &count) == CPAY_PAYLOAD_TOO_LARGE);
     CHECK(cpay_packet(&sender, &packet, bytes, 4) == CPAY_OK && !packet.marker && same(bytes, "\1\2\3", 3));
-    cpay_free(&sender);
+    cpay_packetizer_free(&sender);
     /* Payloads that carry whatever they are given look at no MTU and at no talk spurt, and an empty frame is one of them. */
     CHECK(cpay_packetizer_new(&sender, &null) == CPAY_OK);
     CHECK(cpay_packetize(&sender, 2, true, (const uint8_t *)"\1\2\3", 3, &count) == CPAY_OK && count == 1);
     CHECK(cpay_packet(&sender, &packet, bytes, 4) == CPAY_OK && !packet.marker && packet.bytes == 3 && same(bytes, "\1\2\3", 3));
     CHECK(cpay_packetize(&sender, 0, false, bytes, 0, &count) == CPAY_OK && count == 1);
     CHECK(cpay_packet(&sender, &packet, bytes, 4) == CPAY_OK && packet.bytes == 0);
-    cpay_free(&sender);
+    cpay_packetizer_free(&sender);
+}
+
+/* NULL goes with a length of 0, and with no other. */
+static void nulls(void) {
+    cpay_packetizer sender = CPAY_INIT;
+    cpay_buffer buffer = CPAY_INIT;
+    cpay_red_sender red = CPAY_INIT;
+    cpay_spec opus = spec_of(CPAY_OPUS, 48000);
+    cpay_packet_info packet = {0};
+    cpay_received received = {.number = 1};
+    cpay_unit unit = {0};
+    bool answer = true;
+    uint8_t bytes[4] = {0};
+    size_t count = 9;
+    CHECK(cpay_packetizer_new(&sender, &opus) == CPAY_OK && cpay_buffer_new(&buffer, &opus, 0, 9) == CPAY_OK);
+    CHECK(cpay_packetize(&sender, 9, false, NULL, 0, &count) == CPAY_OK && count == 0);
+    CHECK(cpay_packetize(&sender, 9, false, NULL, 1, &count) == CPAY_INVALID && count == 0);
+    CHECK(cpay_packetize(&sender, 9, false, (const uint8_t *)"\7", 1, &count) == CPAY_OK && count == 1);
+    CHECK(cpay_packet(&sender, &packet, NULL, 1) == CPAY_INVALID && packet.bytes == 0);
+    CHECK(cpay_packet(&sender, &packet, NULL, 0) == CPAY_TOO_SMALL && packet.bytes == 1);
+    CHECK(cpay_buffer_push(&buffer, &received, NULL, 1) == CPAY_INVALID);
+    CHECK(cpay_buffer_push(&buffer, &received, (const uint8_t *)"\7", 1) == CPAY_OK);
+    CHECK(cpay_buffer_pop(&buffer, &unit, NULL, 0) == CPAY_TOO_SMALL && unit.bytes == 1);
+    CHECK(cpay_buffer_pop(&buffer, &unit, NULL, 1) == CPAY_INVALID);
+    CHECK(cpay_buffer_pop(&buffer, &unit, bytes, 1) == CPAY_OK && bytes[0] == 7);
+    CHECK(cpay_red_sender_new(&red, 63, 111, NULL, 1) == CPAY_INVALID);
+    CHECK(cpay_red_sender_new(&red, 63, 111, NULL, 0) == CPAY_OK);
+    CHECK(cpay_is_head(CPAY_OPUS, NULL, 0, &answer) == CPAY_OK && cpay_is_head(CPAY_OPUS, NULL, 1, &answer) == CPAY_INVALID);
+    CHECK(!cpay_vp8_is_keyframe(NULL, 0) && !cpay_vp8_is_keyframe(NULL, 1));
+    CHECK(cpay_version() == CPAY_VERSION);
+    cpay_packetizer_free(&sender);
+    cpay_buffer_free(&buffer);
+    cpay_red_sender_free(&red);
+    cpay_packetizer_free(NULL);
+    cpay_buffer_free(NULL);
+    cpay_depacketizer_free(NULL);
+    cpay_red_sender_free(NULL);
 }
 
 /* What frames say: headers that libvpx and libaom wrote, and the bytes of RFC 6716, RFC 7845 and RFC 4867. */
@@ -412,7 +460,7 @@ static void frames(void) {
 
 int main(void) {
     texts();
-    handles();
+    kinds();
     arguments();
     audio();
     vp8();
@@ -421,6 +469,7 @@ int main(void) {
     telephone();
     looks();
     pieces();
+    nulls();
     frames();
     printf("%d checks, %d failed\n", checks, failures);
     return failures ? EXIT_FAILURE : EXIT_SUCCESS;

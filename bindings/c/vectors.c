@@ -237,7 +237,7 @@ static void read_script(void) {
 
 /* ---- Steps ---- */
 
-static void check(uint32_t status) {
+static void check(cpay_status status) {
     if (status == CPAY_OUT_OF_MEMORY) stop(1, "out of memory");
     if (status) {
         fprintf(stderr, "unexpected status: %s\n", cpay_status_text(status));
@@ -246,18 +246,18 @@ static void check(uint32_t status) {
 }
 
 /* Puts a packet in RED. A payload never gets longer than by all that can be repeated, so a greater budget is no other. */
-static void protect(cpay_handle *red, packet *p) {
+static void protect(cpay_red_sender *red, packet *p) {
     size_t most = p->size + 1 + MOST_DISTANCES * (4 + MOST_REPEATED), size = 0;
     size_t budget = run.red_budget < most ? (size_t)run.red_budget : most;
     uint8_t *bytes = malloc(most);
     if (!bytes) stop(1, "out of memory");
-    check(cpay_red_wrap(red, p->head.rtp_time, budget, p->bytes, p->size, bytes, most, &size));
+    check(cpay_red_wrap(red, (uint32_t)p->head.rtp_time, budget, p->bytes, p->size, bytes, most, &size));
     free(p->bytes);
     p->bytes = bytes;
     p->size = size;
 }
 
-static void take_packet(cpay_handle *sender, cpay_handle *red, const sample *from, output *to) {
+static void take_packet(cpay_packetizer *sender, cpay_red_sender *red, const sample *from, output *to) {
     cpay_packet_info info = {0};
     uint8_t none[1];
     if (cpay_packet(sender, &info, none, 0) == CPAY_TOO_SMALL && info.bytes == 0) stop(3, "no room is too small for nothing");
@@ -266,7 +266,7 @@ static void take_packet(cpay_handle *sender, cpay_handle *red, const sample *fro
     p->bytes = malloc(info.bytes + 1);
     if (!p->bytes) stop(1, "out of memory");
     if (info.bytes) check(cpay_packet(sender, &info, p->bytes, p->size));
-    p->head = (cpay_received){.number = run.first_number + run.n_packets, .payload_type = MEDIA_TYPE, .marker = info.marker};
+    p->head = (cpay_received){.number = run.first_number + run.n_packets, .marker = info.marker};
     p->head.rtp_time = (uint32_t)from->time;
     if (run.has_red) protect(red, p);
     print(to, "packet %" PRIu64 " %d ", p->head.number, info.marker);
@@ -274,11 +274,11 @@ static void take_packet(cpay_handle *sender, cpay_handle *red, const sample *fro
     run.n_packets++;
 }
 
-static void send(cpay_handle *sender, cpay_handle *red, const step *by, output *to) {
+static void send(cpay_packetizer *sender, cpay_red_sender *red, const step *by, output *to) {
     size_t count = 0;
     if (by->first >= run.n_samples) return;
     const sample *from = &run.samples[by->first];
-    uint32_t status = cpay_packetize(sender, (size_t)by->second, from->starts, from->bytes, from->size, &count);
+    cpay_status status = cpay_packetize(sender, (size_t)by->second, from->starts, from->bytes, from->size, &count);
     if (status && status != CPAY_OUT_OF_MEMORY && status < CPAY_NONE) {
         print(to, "refused %u\n", (unsigned)status);
         return;
@@ -289,7 +289,7 @@ static void send(cpay_handle *sender, cpay_handle *red, const step *by, output *
 }
 
 /* Pushes a packet, or, in RED, all that it holds. What is no RED payload is passed over. */
-static void push(cpay_handle *buffer, const packet *p) {
+static void push(cpay_buffer *buffer, const packet *p) {
     if (!run.has_red) {
         check(cpay_buffer_push(buffer, &p->head, p->bytes, p->size));
         return;
@@ -298,21 +298,21 @@ static void push(cpay_handle *buffer, const packet *p) {
     if (!bytes) stop(1, "out of memory");
     for (size_t i = 0;; i++) {
         cpay_recovered_info info = {0};
-        uint32_t status = cpay_red_recover(MEDIA_TYPE, (uint32_t)run.red_step, p->head.number, p->head.rtp_time, p->bytes,
-                                          p->size, i, &info, bytes, p->size + 1);
+        cpay_status status = cpay_red_recover(MEDIA_TYPE, (uint32_t)run.red_step, p->head.number, (uint32_t)p->head.rtp_time,
+                                              p->bytes, p->size, i, &info, bytes, p->size + 1);
         if (status == CPAY_NONE || status == CPAY_RED_CORRUPTED) break;
         check(status);
-        cpay_received head = {.number = info.number, .payload_type = MEDIA_TYPE, .marker = info.is_primary && p->head.marker};
+        cpay_received head = {.number = info.number, .marker = info.is_primary && p->head.marker};
         head.rtp_time = info.rtp_time;
         check(cpay_buffer_push(buffer, &head, bytes, info.bytes));
     }
     free(bytes);
 }
 
-static void pop(cpay_handle *buffer, output *to) {
+static void pop(cpay_buffer *buffer, output *to) {
     cpay_unit unit = {0};
     uint8_t none[1], *bytes = none;
-    uint32_t status = cpay_buffer_pop(buffer, &unit, none, 0);
+    cpay_status status = cpay_buffer_pop(buffer, &unit, none, 0);
     if (status == CPAY_TOO_SMALL) {
         bytes = malloc(unit.bytes);
         if (!bytes) stop(1, "out of memory");
@@ -331,7 +331,9 @@ static void pop(cpay_handle *buffer, output *to) {
 }
 
 int main(void) {
-    cpay_handle sender = CPAY_HANDLE_INIT, buffer = CPAY_HANDLE_INIT, red = CPAY_HANDLE_INIT;
+    cpay_packetizer sender = CPAY_INIT;
+    cpay_buffer buffer = CPAY_INIT;
+    cpay_red_sender red = CPAY_INIT;
     output sent = {0}, popped = {0};
     read_script();
     check(cpay_packetizer_new(&sender, &run.spec));
@@ -347,9 +349,9 @@ int main(void) {
             push(&buffer, &run.packets[by->first]);
         }
     }
-    cpay_free(&sender);
-    cpay_free(&red);
-    cpay_free(&buffer);
+    cpay_packetizer_free(&sender);
+    cpay_red_sender_free(&red);
+    cpay_buffer_free(&buffer);
     if (sent.len) fwrite(sent.at, 1, sent.len, stdout);
     if (popped.len) fwrite(popped.at, 1, popped.len, stdout);
     for (size_t i = 0; i < run.n_samples; i++) free(run.samples[i].bytes);

@@ -17,6 +17,39 @@ pub struct Handle {
     pub place: Place,
 }
 
+impl Handle {
+    pub const EMPTY: Handle = Handle {
+        full: false,
+        place: Place {
+            at: core::ptr::null_mut(),
+        },
+    };
+}
+
+#[repr(C)]
+#[derive(Debug)]
+pub struct Packetizer {
+    pub handle: Handle,
+}
+
+#[repr(C)]
+#[derive(Debug)]
+pub struct Buffer {
+    pub handle: Handle,
+}
+
+#[repr(C)]
+#[derive(Debug)]
+pub struct Depacketizer {
+    pub handle: Handle,
+}
+
+#[repr(C)]
+#[derive(Debug)]
+pub struct RedSender {
+    pub handle: Handle,
+}
+
 #[repr(C)]
 #[derive(Clone, Copy, Debug, Default)]
 pub struct Spec {
@@ -78,9 +111,7 @@ pub struct Extra {
 pub struct Received {
     pub number: u64,
     pub received: u64,
-    pub rtp_time: u32,
-    pub ssrc: u32,
-    pub payload_type: u8,
+    pub rtp_time: u64,
     pub marker: bool,
 }
 
@@ -178,34 +209,40 @@ pub struct AmrWbFrameInfo {
 
 unsafe extern "C" {
     pub fn cpay_buffer_new(
-        handle: *mut Handle,
+        buffer: *mut Buffer,
         spec: *const Spec,
         hold_back: usize,
         limit: usize,
     ) -> u32;
     pub fn cpay_buffer_push(
-        handle: *mut Handle,
+        buffer: *mut Buffer,
         packet: *const Received,
         payload: *const u8,
         payload_len: usize,
     ) -> u32;
     pub fn cpay_buffer_pop(
-        handle: *mut Handle,
+        buffer: *mut Buffer,
         unit: *mut Unit,
         bytes: *mut u8,
         bytes_len: usize,
     ) -> u32;
-    pub fn cpay_buffer_counts(handle: *mut Handle, counts: *mut BufferCountsInfo) -> u32;
-    pub fn cpay_depacketizer_new(handle: *mut Handle, spec: *const Spec) -> u32;
-    pub fn cpay_depacketize(handle: *mut Handle, payload: *const u8, payload_len: usize) -> u32;
+    pub fn cpay_buffer_counts(buffer: *mut Buffer, counts: *mut BufferCountsInfo) -> u32;
+    pub fn cpay_buffer_set_hold_back(buffer: *mut Buffer, hold_back: usize) -> u32;
+    pub fn cpay_buffer_pass_number(buffer: *mut Buffer, number: u64) -> u32;
+    pub fn cpay_depacketizer_new(depacketizer: *mut Depacketizer, spec: *const Spec) -> u32;
+    pub fn cpay_depacketize(depacketizer: *mut Depacketizer, payload: *const u8, payload_len: usize) -> u32;
     pub fn cpay_depacketized(
-        handle: *mut Handle,
+        depacketizer: *mut Depacketizer,
         size: *mut usize,
         extra: *mut Extra,
         bytes: *mut u8,
         bytes_len: usize,
     ) -> u32;
-    pub fn cpay_free(handle: *mut Handle);
+    pub fn cpay_packetizer_free(packetizer: *mut Packetizer);
+    pub fn cpay_buffer_free(buffer: *mut Buffer);
+    pub fn cpay_depacketizer_free(depacketizer: *mut Depacketizer);
+    pub fn cpay_red_sender_free(sender: *mut RedSender);
+    pub fn cpay_version() -> u32;
     pub fn cpay_vp8_is_keyframe(payload: *const u8, payload_len: usize) -> bool;
     pub fn cpay_vp9_is_keyframe(payload: *const u8, payload_len: usize) -> bool;
     pub fn cpay_vp9_frame_is_keyframe(frame: *const u8, frame_len: usize) -> bool;
@@ -224,9 +261,9 @@ unsafe extern "C" {
         is_tail: *mut bool,
     ) -> u32;
     pub fn cpay_extend_number(previous: u64, has_previous: bool, number: u16) -> u64;
-    pub fn cpay_packetizer_new(handle: *mut Handle, spec: *const Spec) -> u32;
+    pub fn cpay_packetizer_new(packetizer: *mut Packetizer, spec: *const Spec) -> u32;
     pub fn cpay_packetize(
-        handle: *mut Handle,
+        packetizer: *mut Packetizer,
         mtu: usize,
         starts_talk_spurt: bool,
         frame: *const u8,
@@ -234,27 +271,27 @@ unsafe extern "C" {
         count: *mut usize,
     ) -> u32;
     pub fn cpay_packet(
-        handle: *mut Handle,
+        packetizer: *mut Packetizer,
         info: *mut PacketInfo,
         bytes: *mut u8,
         bytes_len: usize,
     ) -> u32;
     pub fn cpay_red_sender_new(
-        handle: *mut Handle,
+        sender: *mut RedSender,
         red_pt: u8,
         primary_pt: u8,
         distances: *const u32,
         distances_len: usize,
     ) -> u32;
     pub fn cpay_red_sync(
-        handle: *mut Handle,
+        sender: *mut RedSender,
         red_pt: u8,
         primary_pt: u8,
         distances: *const u32,
         distances_len: usize,
     ) -> u32;
     pub fn cpay_red_wrap(
-        handle: *mut Handle,
+        sender: *mut RedSender,
         rtp_time: u32,
         budget: usize,
         payload: *const u8,

@@ -16,7 +16,6 @@
 //!     let received = Received {
 //!         number,
 //!         rtp_time: 3_000,
-//!         payload_type: 96,
 //!         marker: packet.marker,
 //!         ..Received::default()
 //!     };
@@ -202,7 +201,7 @@ pub struct Packet {
 
 /// Cuts frames into packets.
 #[derive(Debug)]
-pub struct Packetizer(Handle);
+pub struct Packetizer(Handle<raw::Packetizer>);
 
 impl Packetizer {
     /// A packetizer by its settings.
@@ -274,12 +273,8 @@ pub struct Received {
     pub number: u64,
     /// When it was received, by a clock of the caller's.
     pub received: u64,
-    /// The timestamp of its RTP header.
-    pub rtp_time: u32,
-    /// The synchronization source.
-    pub ssrc: u32,
-    /// The payload type, of which the low 7 bits count.
-    pub payload_type: u8,
+    /// The timestamp of its RTP header, or one that does not wrap.
+    pub rtp_time: u64,
     /// The marker.
     pub marker: bool,
 }
@@ -291,7 +286,7 @@ pub struct Unit {
     pub first: u64,
     /// The number of its last packet.
     pub last: u64,
-    /// The timestamp of its packets.
+    /// The timestamp of its packets, as it was pushed.
     pub rtp_time: u64,
     /// When the first of its packets to come was received.
     pub received: u64,
@@ -320,7 +315,7 @@ pub struct Counts {
 ///
 /// It is an iterator over the units whose turn has come, which goes on after a push: `None` is not the end.
 #[derive(Debug)]
-pub struct Buffer(Handle);
+pub struct Buffer(Handle<raw::Buffer>);
 
 impl Buffer {
     /// A buffer of at most `limit` packets, 1 to 65,536. A frame behind missing packets waits until more than `hold_back`
@@ -346,8 +341,6 @@ impl Buffer {
             number: packet.number,
             received: packet.received,
             rtp_time: packet.rtp_time,
-            ssrc: packet.ssrc,
-            payload_type: packet.payload_type,
             marker: packet.marker,
         };
         // SAFETY: the pointer and the length are those of one slice, and all is borrowed for the call.
@@ -375,6 +368,20 @@ impl Buffer {
                 status => return Some(told(status).map(|()| Unit::of(&told_unit, bytes))),
             }
         }
+    }
+
+    /// From now on a frame behind missing packets waits until more than `hold_back` complete frames are there. Where a stream
+    /// ends, set it to 0 and take units until there is none.
+    pub fn set_hold_back(&mut self, hold_back: usize) {
+        // SAFETY: a struct that is borrowed for the call. It holds a buffer, so the call succeeds.
+        unsafe { cpay_buffer_set_hold_back(self.0.raw(), hold_back) };
+    }
+
+    /// The packet of that number came and carries no media, as one of padding alone: where all before it have left, it is not
+    /// waited for.
+    pub fn pass_number(&mut self, number: u64) {
+        // SAFETY: as in `set_hold_back`.
+        unsafe { cpay_buffer_pass_number(self.0.raw(), number) };
     }
 
     /// How much is held.
@@ -419,7 +426,7 @@ impl Iterator for Buffer {
 
 /// Puts payloads together that the caller has put in order.
 #[derive(Debug)]
-pub struct Depacketizer(Handle);
+pub struct Depacketizer(Handle<raw::Depacketizer>);
 
 impl Depacketizer {
     /// A depacketizer by its settings.

@@ -9,7 +9,7 @@ const MOST_REDUNDANT: usize = 8 * (4 + 1_023) + 1;
 
 /// Sends each payload together with some of those before it.
 #[derive(Debug)]
-pub struct Sender(Handle);
+pub struct Sender(Handle<RedSender>);
 
 impl Sender {
     /// `red_pt` is the payload type of the packets, `primary_pt` that of the media. Each distance is how many payloads back to

@@ -11,7 +11,6 @@ fn received(number: u64, rtp_time: u32, marker: bool) -> Received {
     Received {
         number,
         rtp_time,
-        payload_type: 96,
         marker,
         ..Received::default()
     }
