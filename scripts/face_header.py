@@ -36,7 +36,7 @@ def split(text):
 
 
 def c_name(rust):
-    return "cpl_" + re.sub(r"(?<=[a-z0-9])([A-Z])", r"_\1", rust).lower()
+    return "cpay_" + re.sub(r"(?<=[a-z0-9])([A-Z])", r"_\1", rust).lower()
 
 
 def c_type(rust):
@@ -92,7 +92,7 @@ def spaced(kind, name):
 
 
 def c_declared(text):
-    """One declaration, as `const cpl_spec *spec`, as its type and name."""
+    """One declaration, as `const cpay_spec *spec`, as its type and name."""
     kind, stars, name = re.fullmatch(r"(.*?)(\**)(\w+(?:\[\d+\])?)", " ".join(text.split()), re.S).groups()
     return spaced(kind, stars + name)
 
@@ -105,9 +105,9 @@ def header():
     for found in re.finditer(r"typedef struct \{(.*?)\} (\w+);", text, re.S):
         structs[found[2]] = [c_declared(it) for it in found[1].split(";") if it.strip()]
     rest = re.sub(r"typedef struct \{.*?\} \w+;", "", text, flags=re.S)
-    for found in re.finditer(r"^(\w+) (cpl_\w+)\(([^)]*)\);", rest, re.M | re.S):
+    for found in re.finditer(r"^(\w+) (cpay_\w+)\(([^)]*)\);", rest, re.M | re.S):
         functions[found[2]] = (found[1], [c_declared(it) for it in split(found[3])])
-    numbers = {name: int(value) for name, value in re.findall(r"\b(CPL_\w+) = (\d+)", rest)}
+    numbers = {name: int(value) for name, value in re.findall(r"\b(CPAY_\w+) = (\d+)", rest)}
     return functions, structs, numbers
 
 
@@ -124,7 +124,7 @@ def raw_rust():
         return NUMBERS.get(kind.strip()) or c_name(kind.strip())
 
     functions, structs = {}, {}
-    for found in re.finditer(r"fn (cpl_\w+)\((.*?)\)\s*(?:-> (\w+))?;", text, re.S):
+    for found in re.finditer(r"fn (cpay_\w+)\((.*?)\)\s*(?:-> (\w+))?;", text, re.S):
         params = [it.split(":", 1) for it in split(found[2])]
         functions[found[1]] = (named(found[3]) if found[3] else "void", [(named(kind), name.strip()) for name, kind in params])
     for found in re.finditer(r"#\[repr\(C\)\]\s*(?:#\[[^\n]*\]\s*)*pub(?:\(crate\))? struct (\w+) \{(.*?)\n\}", text, re.S):
@@ -147,8 +147,8 @@ def main():
     functions, structs, statuses, codecs = rattle()
     of_header, its_structs, numbers = header()
     of_rust, rust_structs = raw_rust()
-    in_c = {f"CPL_{name.replace('amrwb', 'amr_wb')}".upper(): value for name, value in codecs.items()}
-    in_c |= {f"CPL_{name}": value for name, value in statuses.items()}
+    in_c = {f"CPAY_{name.replace('amrwb', 'amr_wb')}".upper(): value for name, value in codecs.items()}
+    in_c |= {f"CPAY_{name}": value for name, value in statuses.items()}
     wrong = [
         *differences("header: function", functions, of_header),
         *differences("header: struct", structs, its_structs),

@@ -41,7 +41,7 @@ build_library() {
     rm -f "$out/libcodec_payload.a"
     (cd "$work" && cp "$root/crates/codec_payload_c/out/libcodec_payload_c.a" "$kit/c/liblibc_c.a" . &&
         printf 'CREATE all.a\nADDLIB libcodec_payload_c.a\nADDLIB liblibc_c.a\nSAVE\nEND\n' | ar -M &&
-        ld -r --whole-archive all.a -o all.o && objcopy --wildcard --keep-global-symbol='cpl_*' all.o codec_payload.o &&
+        ld -r --whole-archive all.a -o all.o && objcopy --wildcard --keep-global-symbol='cpay_*' all.o codec_payload.o &&
         ar rcs "$out/libcodec_payload.a" codec_payload.o)
 }
 

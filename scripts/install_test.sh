@@ -26,7 +26,7 @@ done
 
 # exports NM-FLAGS FILE: the names that a library defines for others, which have to be those of the header
 exports() {
-    sed -n 's/^[a-z0-9_ ]*[ *]\(cpl_[a-z0-9_]*\)(.*/\1/p' "$root/include/codec_payload.h" | grep -v -x cpl_status_text |
+    sed -n 's/^[a-z0-9_ ]*[ *]\(cpay_[a-z0-9_]*\)(.*/\1/p' "$root/include/codec_payload.h" | grep -v -x cpay_status_text |
         sort -u >"$work/wanted"
     nm --defined-only --extern-only $1 "$2" | sed -n 's/.* [A-Z] \([^@]*\).*/\1/p' | grep -v -x CODEC_PAYLOAD_0 |
         sort -u >"$work/found"

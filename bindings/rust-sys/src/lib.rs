@@ -184,55 +184,55 @@ pub struct Vp9FrameInfo {
 }
 
 unsafe extern "C" {
-    pub fn cpl_buffer_new(
+    pub fn cpay_buffer_new(
         handle: *mut Handle,
         spec: *const Spec,
         hold_back: usize,
         limit: usize,
     ) -> u32;
-    pub fn cpl_buffer_push(
+    pub fn cpay_buffer_push(
         handle: *mut Handle,
         packet: *const Received,
         payload: *const u8,
         payload_len: usize,
     ) -> u32;
-    pub fn cpl_buffer_pop(
+    pub fn cpay_buffer_pop(
         handle: *mut Handle,
         unit: *mut Unit,
         bytes: *mut u8,
         bytes_len: usize,
     ) -> u32;
-    pub fn cpl_buffer_counts(handle: *mut Handle, counts: *mut BufferCountsInfo) -> u32;
-    pub fn cpl_depacketizer_new(handle: *mut Handle, spec: *const Spec) -> u32;
-    pub fn cpl_depacketize(handle: *mut Handle, payload: *const u8, payload_len: usize) -> u32;
-    pub fn cpl_depacketized(
+    pub fn cpay_buffer_counts(handle: *mut Handle, counts: *mut BufferCountsInfo) -> u32;
+    pub fn cpay_depacketizer_new(handle: *mut Handle, spec: *const Spec) -> u32;
+    pub fn cpay_depacketize(handle: *mut Handle, payload: *const u8, payload_len: usize) -> u32;
+    pub fn cpay_depacketized(
         handle: *mut Handle,
         size: *mut usize,
         extra: *mut Extra,
         bytes: *mut u8,
         bytes_len: usize,
     ) -> u32;
-    pub fn cpl_free(handle: *mut Handle);
-    pub fn cpl_vp8_is_keyframe(payload: *const u8, payload_len: usize) -> bool;
-    pub fn cpl_vp9_is_keyframe(payload: *const u8, payload_len: usize) -> bool;
-    pub fn cpl_vp9_frame_is_keyframe(frame: *const u8, frame_len: usize) -> bool;
-    pub fn cpl_av1_is_keyframe(payload: *const u8, payload_len: usize) -> bool;
-    pub fn cpl_is_head(
+    pub fn cpay_free(handle: *mut Handle);
+    pub fn cpay_vp8_is_keyframe(payload: *const u8, payload_len: usize) -> bool;
+    pub fn cpay_vp9_is_keyframe(payload: *const u8, payload_len: usize) -> bool;
+    pub fn cpay_vp9_frame_is_keyframe(frame: *const u8, frame_len: usize) -> bool;
+    pub fn cpay_av1_is_keyframe(payload: *const u8, payload_len: usize) -> bool;
+    pub fn cpay_is_head(
         codec: u32,
         payload: *const u8,
         payload_len: usize,
         is_head: *mut bool,
     ) -> u32;
-    pub fn cpl_is_tail(
+    pub fn cpay_is_tail(
         codec: u32,
         marker: bool,
         payload: *const u8,
         payload_len: usize,
         is_tail: *mut bool,
     ) -> u32;
-    pub fn cpl_extend_number(previous: u64, has_previous: bool, number: u16) -> u64;
-    pub fn cpl_packetizer_new(handle: *mut Handle, spec: *const Spec) -> u32;
-    pub fn cpl_packetize(
+    pub fn cpay_extend_number(previous: u64, has_previous: bool, number: u16) -> u64;
+    pub fn cpay_packetizer_new(handle: *mut Handle, spec: *const Spec) -> u32;
+    pub fn cpay_packetize(
         handle: *mut Handle,
         mtu: usize,
         starts_talk_spurt: bool,
@@ -240,27 +240,27 @@ unsafe extern "C" {
         frame_len: usize,
         count: *mut usize,
     ) -> u32;
-    pub fn cpl_packet(
+    pub fn cpay_packet(
         handle: *mut Handle,
         info: *mut PacketInfo,
         bytes: *mut u8,
         bytes_len: usize,
     ) -> u32;
-    pub fn cpl_red_sender_new(
+    pub fn cpay_red_sender_new(
         handle: *mut Handle,
         red_pt: u8,
         primary_pt: u8,
         distances: *const u32,
         distances_len: usize,
     ) -> u32;
-    pub fn cpl_red_sync(
+    pub fn cpay_red_sync(
         handle: *mut Handle,
         red_pt: u8,
         primary_pt: u8,
         distances: *const u32,
         distances_len: usize,
     ) -> u32;
-    pub fn cpl_red_wrap(
+    pub fn cpay_red_wrap(
         handle: *mut Handle,
         rtp_time: u32,
         budget: usize,
@@ -270,7 +270,7 @@ unsafe extern "C" {
         bytes_len: usize,
         size: *mut usize,
     ) -> u32;
-    pub fn cpl_red_encode(
+    pub fn cpay_red_encode(
         primary_pt: u8,
         primary: *const u8,
         primary_len: usize,
@@ -282,7 +282,7 @@ unsafe extern "C" {
         bytes_len: usize,
         size: *mut usize,
     ) -> u32;
-    pub fn cpl_red_block(
+    pub fn cpay_red_block(
         payload: *const u8,
         payload_len: usize,
         index: usize,
@@ -290,7 +290,7 @@ unsafe extern "C" {
         bytes: *mut u8,
         bytes_len: usize,
     ) -> u32;
-    pub fn cpl_red_recover(
+    pub fn cpay_red_recover(
         primary_pt: u8,
         step: u32,
         number: u64,
@@ -302,54 +302,54 @@ unsafe extern "C" {
         bytes: *mut u8,
         bytes_len: usize,
     ) -> u32;
-    pub fn cpl_tele_read(
+    pub fn cpay_tele_read(
         payload: *const u8,
         payload_len: usize,
         rate: u32,
         index: usize,
         event: *mut TeleEvent,
     ) -> u32;
-    pub fn cpl_tele_write(
+    pub fn cpay_tele_write(
         event: *const TeleEvent,
         rate: u32,
         bytes: *mut u8,
         bytes_len: usize,
     ) -> u32;
-    pub fn cpl_vp8_fields(
+    pub fn cpay_vp8_fields(
         payload: *const u8,
         payload_len: usize,
         fields: *mut Vp8FieldsInfo,
         starts_keyframe: *mut bool,
     ) -> u32;
-    pub fn cpl_vp8_patch(payload: *mut u8, payload_len: usize, values: *const Vp8FieldsInfo)
+    pub fn cpay_vp8_patch(payload: *mut u8, payload_len: usize, values: *const Vp8FieldsInfo)
     -> u32;
-    pub fn cpl_frame_info(
+    pub fn cpay_frame_info(
         codec: u32,
         frame: *const u8,
         frame_len: usize,
         facts: *mut FrameFacts,
     ) -> u32;
-    pub fn cpl_av1_obu(unit: *const u8, unit_len: usize, offset: usize, info: *mut ObuInfo) -> u32;
-    pub fn cpl_amr_wb_frame(
+    pub fn cpay_av1_obu(unit: *const u8, unit_len: usize, offset: usize, info: *mut ObuInfo) -> u32;
+    pub fn cpay_amr_wb_frame(
         unit: *const u8,
         unit_len: usize,
         offset: usize,
         info: *mut AmrWbFrameInfo,
     ) -> u32;
-    pub fn cpl_vp9_frame(
+    pub fn cpay_vp9_frame(
         unit: *const u8,
         unit_len: usize,
         index: usize,
         info: *mut Vp9FrameInfo,
     ) -> u32;
-    pub fn cpl_av1c(
+    pub fn cpay_av1c(
         obu: *const u8,
         obu_len: usize,
         bytes: *mut u8,
         bytes_len: usize,
         size: *mut usize,
     ) -> u32;
-    pub fn cpl_opus_head(
+    pub fn cpay_opus_head(
         channels: u8,
         pre_skip: u16,
         input_sample_rate: u32,

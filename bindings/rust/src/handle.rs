@@ -1,6 +1,6 @@
 //! The handle under which a value of the library lives.
 
-use crate::raw::{self, Place, cpl_free};
+use crate::raw::{self, Place, cpay_free};
 use std::ptr;
 
 /// One handle, never copied. A call uses it by `&mut`, so one call at a time.
@@ -31,6 +31,6 @@ impl Handle {
 impl Drop for Handle {
     fn drop(&mut self) {
         // SAFETY: the library alone writes the handle, which is not looked at again.
-        unsafe { cpl_free(&mut self.0) }
+        unsafe { cpay_free(&mut self.0) }
     }
 }

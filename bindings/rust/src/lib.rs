@@ -213,7 +213,7 @@ impl Packetizer {
     pub fn new(settings: &Settings) -> Result<Packetizer, Error> {
         let mut handle = Handle::empty();
         // SAFETY: an empty handle, and a struct that is borrowed for the call.
-        told(unsafe { cpl_packetizer_new(handle.raw(), &settings.raw()) })?;
+        told(unsafe { cpay_packetizer_new(handle.raw(), &settings.raw()) })?;
         Ok(Packetizer(handle))
     }
 
@@ -234,7 +234,7 @@ impl Packetizer {
         let mut count = 0;
         // SAFETY: the pointer and the length are those of one slice, and all is borrowed for the call.
         told(unsafe {
-            cpl_packetize(
+            cpay_packetize(
                 self.0.raw(),
                 mtu,
                 starts_talk_spurt,
@@ -253,7 +253,7 @@ impl Packetizer {
         loop {
             // SAFETY: as in `packetize`.
             let status =
-                unsafe { cpl_packet(self.0.raw(), &mut info, payload.as_mut_ptr(), payload.len()) };
+                unsafe { cpay_packet(self.0.raw(), &mut info, payload.as_mut_ptr(), payload.len()) };
             if status != TOO_SMALL {
                 told(status)?;
                 return Ok(Packet {
@@ -332,7 +332,7 @@ impl Buffer {
     pub fn new(settings: &Settings, hold_back: usize, limit: usize) -> Result<Buffer, Error> {
         let mut handle = Handle::empty();
         // SAFETY: an empty handle, and a struct that is borrowed for the call.
-        told(unsafe { cpl_buffer_new(handle.raw(), &settings.raw(), hold_back, limit) })?;
+        told(unsafe { cpay_buffer_new(handle.raw(), &settings.raw(), hold_back, limit) })?;
         Ok(Buffer(handle))
     }
 
@@ -351,7 +351,7 @@ impl Buffer {
             marker: packet.marker,
         };
         // SAFETY: the pointer and the length are those of one slice, and all is borrowed for the call.
-        told(unsafe { cpl_buffer_push(self.0.raw(), &packet, payload.as_ptr(), payload.len()) })
+        told(unsafe { cpay_buffer_push(self.0.raw(), &packet, payload.as_ptr(), payload.len()) })
     }
 
     /// The next unit, if its turn has come. After an `Err` the next call goes on: a frame that is refused by its format has left,
@@ -362,7 +362,7 @@ impl Buffer {
         loop {
             // SAFETY: as in `push`.
             let status = unsafe {
-                cpl_buffer_pop(
+                cpay_buffer_pop(
                     self.0.raw(),
                     &mut told_unit,
                     bytes.as_mut_ptr(),
@@ -385,7 +385,7 @@ impl Buffer {
     pub fn counts(&mut self) -> Result<Counts, Error> {
         let mut counts = BufferCountsInfo::default();
         // SAFETY: as in `push`.
-        told(unsafe { cpl_buffer_counts(self.0.raw(), &mut counts) })?;
+        told(unsafe { cpay_buffer_counts(self.0.raw(), &mut counts) })?;
         Ok(Counts {
             packets: counts.held,
             ready: counts.ready,
@@ -430,7 +430,7 @@ impl Depacketizer {
     pub fn new(settings: &Settings) -> Result<Depacketizer, Error> {
         let mut handle = Handle::empty();
         // SAFETY: an empty handle, and a struct that is borrowed for the call.
-        told(unsafe { cpl_depacketizer_new(handle.raw(), &settings.raw()) })?;
+        told(unsafe { cpay_depacketizer_new(handle.raw(), &settings.raw()) })?;
         Ok(Depacketizer(handle))
     }
 
@@ -441,7 +441,7 @@ impl Depacketizer {
     /// The fault of the format, and [`Error::OutOfMemory`]. What payloads before it gave stays.
     pub fn depacketize(&mut self, payload: &[u8]) -> Result<(), Error> {
         // SAFETY: the pointer and the length are those of one slice, and all is borrowed for the call.
-        told(unsafe { cpl_depacketize(self.0.raw(), payload.as_ptr(), payload.len()) })
+        told(unsafe { cpay_depacketize(self.0.raw(), payload.as_ptr(), payload.len()) })
     }
 
     /// What the payloads since the last such call gave, and told.
@@ -456,7 +456,7 @@ impl Depacketizer {
         loop {
             // SAFETY: as in `depacketize`.
             let status = unsafe {
-                cpl_depacketized(
+                cpay_depacketized(
                     self.0.raw(),
                     &mut size,
                     &mut extra,

@@ -160,7 +160,7 @@ impl Receiver {
 
 /// A buffer with these settings, in an empty handle.
 #[unsafe(no_mangle)]
-pub extern "C" fn cpl_buffer_new(
+pub extern "C" fn cpay_buffer_new(
     alloc: Global,
     handle: &mut Handle,
     spec: &Spec,
@@ -197,7 +197,7 @@ pub extern "C" fn cpl_buffer_new(
 
 /// A received packet goes in. Its payload is copied.
 #[unsafe(no_mangle)]
-pub extern "C" fn cpl_buffer_push(
+pub extern "C" fn cpay_buffer_push(
     alloc: Global,
     handle: &mut Handle,
     packet: &Received,
@@ -219,7 +219,7 @@ pub extern "C" fn cpl_buffer_push(
 
 /// The next unit, if its turn has come.
 #[unsafe(no_mangle)]
-pub extern "C" fn cpl_buffer_pop(
+pub extern "C" fn cpay_buffer_pop(
     alloc: Global,
     handle: &mut Handle,
     unit: &mut Unit,
@@ -243,7 +243,7 @@ pub extern "C" fn cpl_buffer_pop(
 
 /// How much a buffer holds.
 #[unsafe(no_mangle)]
-pub extern "C" fn cpl_buffer_counts(
+pub extern "C" fn cpay_buffer_counts(
     alloc: Global,
     handle: &mut Handle,
     counts: &mut BufferCountsInfo,

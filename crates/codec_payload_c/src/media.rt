@@ -113,7 +113,7 @@ fn facts_of(info: &FrameInfo) -> FrameFacts
 
 /// What a frame of a codec says of itself.
 #[unsafe(no_mangle)]
-pub extern "C" fn cpl_frame_info(codec: u32, frame: &[u8], facts: &mut FrameFacts) -> u32
+pub extern "C" fn cpay_frame_info(codec: u32, frame: &[u8], facts: &mut FrameFacts) -> u32
     ensures { TellsFrame (info_of (codec_numbered codec) frame.now) result facts.old facts.new }
 {
     match frame_info(codec_of(codec), frame) {
@@ -127,7 +127,7 @@ pub extern "C" fn cpl_frame_info(codec: u32, frame: &[u8], facts: &mut FrameFact
 
 /// The OBU at an offset of a temporal unit.
 #[unsafe(no_mangle)]
-pub extern "C" fn cpl_av1_obu(unit: &[u8], offset: usize, info: &mut ObuInfo) -> u32
+pub extern "C" fn cpay_av1_obu(unit: &[u8], offset: usize, info: &mut ObuInfo) -> u32
     ensures { AtOffset unit.now offset (TellsObu (length unit.now) (obu_at (drop offset unit.now))) result info.old info.new }
 {
     let Some(rest) = unit.get(offset..) else {
@@ -160,7 +160,7 @@ pub extern "C" fn cpl_av1_obu(unit: &[u8], offset: usize, info: &mut ObuInfo) ->
 
 /// The frame at an offset of an AMR-WB unit in storage form.
 #[unsafe(no_mangle)]
-pub extern "C" fn cpl_amr_wb_frame(unit: &[u8], offset: usize, info: &mut AmrWbFrameInfo) -> u32
+pub extern "C" fn cpay_amr_wb_frame(unit: &[u8], offset: usize, info: &mut AmrWbFrameInfo) -> u32
     ensures { AtOffset unit.now offset (TellsAmrWbFrame (length unit.now) (frame_at (drop offset unit.now))) result info.old info.new }
 {
     let Some(rest) = unit.get(offset..) else {
@@ -184,7 +184,7 @@ pub extern "C" fn cpl_amr_wb_frame(unit: &[u8], offset: usize, info: &mut AmrWbF
 
 /// The frame of that number of a VP9 unit, counted from 0.
 #[unsafe(no_mangle)]
-pub extern "C" fn cpl_vp9_frame(unit: &[u8], index: usize, info: &mut Vp9FrameInfo) -> u32
+pub extern "C" fn cpay_vp9_frame(unit: &[u8], index: usize, info: &mut Vp9FrameInfo) -> u32
     ensures { TellsVp9Frame (told (placed_in index) (unit_frames unit.now)) result info.old info.new }
 {
     match frame_at(unit, index) {
@@ -233,7 +233,7 @@ fn fill_record(header: &Av1SequenceHeader, obu: &[u8], bytes: &mut [u8]) -> bool
 
 /// The `av1C` record of a stream, from its sequence header OBU.
 #[unsafe(no_mangle)]
-pub extern "C" fn cpl_av1c(obu: &[u8], bytes: &mut [u8], size: &mut usize) -> u32
+pub extern "C" fn cpay_av1c(obu: &[u8], bytes: &mut [u8], size: &mut usize) -> u32
     ensures { WritesRecord obu.now (header_in obu.now) result bytes.old bytes.new size.old size.new }
 {
     let header = match header_in(obu) {
@@ -250,7 +250,7 @@ pub extern "C" fn cpl_av1c(obu: &[u8], bytes: &mut [u8], size: &mut usize) -> u3
 
 /// The identification header of an Opus stream.
 #[unsafe(no_mangle)]
-pub extern "C" fn cpl_opus_head(
+pub extern "C" fn cpay_opus_head(
     channels: u8,
     pre_skip: u16,
     input_sample_rate: u32,

@@ -1,6 +1,6 @@
 use Rattle.codec_payload_c.proofs.PatchFront.{reaches_payload}
 use Rattle.codec_payload_c.specs.Vp8.{builder_of}
-use Rattle.codec_payload_c.proofs.vp8.cpl_vp8_patch.Goals as goal
+use Rattle.codec_payload_c.proofs.vp8.cpay_vp8_patch.Goals as goal
 
 pub patch_front-requires-clause-reach : goal.patch_front-requires-clause-reach
 patch_front-requires-clause-reach c =
