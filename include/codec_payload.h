@@ -458,6 +458,17 @@ typedef struct {
 /** The frame at an offset of an AMR-WB unit in storage form, found as cpay_av1_obu finds OBUs. Each lasts 20 ms. */
 CPAY_CHECKED cpay_status cpay_amr_wb_frame(const uint8_t *unit, size_t unit_len, size_t offset, cpay_amr_wb_frame_info *info);
 
+/** A frame of a VP9 unit. */
+typedef struct {
+    size_t start; /**< where it begins in the unit; the next frame begins at start + bytes */
+    size_t bytes;
+} cpay_vp9_frame_info;
+
+/** The frame of that number, counted from 0, of a VP9 unit: of a superframe those of the index at its end, hidden ones too, else
+ * the unit as its only frame. CPAY_NONE where there are not as many; CPAY_FRAME_TOO_SHORT of no bytes, and CPAY_FRAME_SIZES
+ * where the frames have more bytes together than stand before the index. It reads the index alone. */
+CPAY_CHECKED cpay_status cpay_vp9_frame(const uint8_t *unit, size_t unit_len, size_t index, cpay_vp9_frame_info *info);
+
 /** The av1C record of a stream (AV1 codec ISO media file format binding, 2.3) of 4 bytes and the OBU, from its sequence header
  * OBU with header and size. *size is told on 0 and on CPAY_TOO_SMALL. CPAY_INVALID for another OBU, or bytes behind it. */
 CPAY_CHECKED cpay_status cpay_av1c(const uint8_t *obu, size_t obu_len, uint8_t *bytes, size_t bytes_len, size_t *size);

@@ -243,6 +243,12 @@ cpay_status cpay_amr_wb_frame(const uint8_t *unit, size_t unit_len, size_t offse
     return proved_cpay_amr_wb_frame(unit ? unit : (const uint8_t *)nothing, unit_len, offset, info);
 }
 
+cpay_status proved_cpay_vp9_frame(const uint8_t *unit, size_t unit_len, size_t index, cpay_vp9_frame_info *info);
+cpay_status cpay_vp9_frame(const uint8_t *unit, size_t unit_len, size_t index, cpay_vp9_frame_info *info) {
+    if (!unit && unit_len) return CPAY_INVALID;
+    return proved_cpay_vp9_frame(unit ? unit : (const uint8_t *)nothing, unit_len, index, info);
+}
+
 cpay_status proved_cpay_av1c(const uint8_t *obu, size_t obu_len, uint8_t *bytes, size_t bytes_len, size_t *size);
 cpay_status cpay_av1c(const uint8_t *obu, size_t obu_len, uint8_t *bytes, size_t bytes_len, size_t *size) {
     if ((!obu && obu_len) || (!bytes && bytes_len)) return CPAY_INVALID;

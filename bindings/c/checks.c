@@ -444,6 +444,17 @@ static void frames(void) {
     CHECK(cpay_amr_wb_frame(sound, sizeof sound, 7, &frame) == CPAY_NONE);
     CHECK(cpay_amr_wb_frame(sound, 6, 1, &frame) == CPAY_FRAME_TOO_SHORT && frame.bytes == 5);
 
+    /* A superframe of two frames, whose sizes have two bytes, and a byte that belongs to none. */
+    static const uint8_t two[] = {0x84, 7, 0x86, 9, 0xc9, 2, 0, 1, 0, 0xc9};
+    cpay_vp9_frame_info place = {0};
+    CHECK(cpay_vp9_frame(two, sizeof two, 0, &place) == CPAY_OK && place.start == 0 && place.bytes == 2);
+    CHECK(cpay_vp9_frame(two, sizeof two, 1, &place) == CPAY_OK && place.start == 2 && place.bytes == 1);
+    CHECK(cpay_vp9_frame(two, sizeof two, 2, &place) == CPAY_NONE && place.start == 2);
+    CHECK(cpay_vp9_frame(two, sizeof two, SIZE_MAX, &place) == CPAY_NONE);
+    CHECK(cpay_vp9_frame(two, sizeof two - 1, 0, &place) == CPAY_OK && place.bytes == sizeof two - 1);
+    CHECK(cpay_vp9_frame(two + 2, sizeof two - 2, 0, &place) == CPAY_FRAME_SIZES && place.bytes == sizeof two - 1);
+    CHECK(cpay_vp9_frame(two, 0, 0, &place) == CPAY_FRAME_TOO_SHORT);
+
     uint8_t bytes[19] = {7};
     size_t size = 0;
     CHECK(cpay_av1c(unit + 2, 12, bytes, 15, &size) == CPAY_TOO_SMALL && size == 16 && bytes[0] == 7);

@@ -207,6 +207,13 @@ pub struct AmrWbFrameInfo {
     pub quality: bool,
 }
 
+#[repr(C)]
+#[derive(Clone, Copy, Debug, Default)]
+pub struct Vp9FrameInfo {
+    pub start: usize,
+    pub bytes: usize,
+}
+
 unsafe extern "C" {
     pub fn cpay_buffer_new(
         buffer: *mut Buffer,
@@ -365,6 +372,12 @@ unsafe extern "C" {
         unit_len: usize,
         offset: usize,
         info: *mut AmrWbFrameInfo,
+    ) -> u32;
+    pub fn cpay_vp9_frame(
+        unit: *const u8,
+        unit_len: usize,
+        index: usize,
+        info: *mut Vp9FrameInfo,
     ) -> u32;
     pub fn cpay_av1c(
         obu: *const u8,

@@ -145,6 +145,46 @@ impl<'a> Iterator for AmrWbFrames<'a> {
     }
 }
 
+/// The frames of a VP9 unit, in order: of a superframe those of its index, else the unit. A unit whose index does not fit, and
+/// one of no bytes, gives a fault alone.
+#[derive(Clone, Debug)]
+pub struct Vp9Frames<'a> {
+    unit: &'a [u8],
+    /// How many were given; `None` behind the last.
+    given: Option<usize>,
+}
+
+/// The frames of a VP9 unit, hidden ones too.
+#[must_use]
+pub fn vp9_frames(unit: &[u8]) -> Vp9Frames<'_> {
+    Vp9Frames {
+        unit,
+        given: Some(0),
+    }
+}
+
+impl<'a> Iterator for Vp9Frames<'a> {
+    type Item = Result<&'a [u8], Error>;
+
+    fn next(&mut self) -> Option<Self::Item> {
+        let index = self.given.take()?;
+        let mut info = Vp9FrameInfo::default();
+        // SAFETY: as in `frame_info`.
+        let status =
+            unsafe { cpay_vp9_frame(self.unit.as_ptr(), self.unit.len(), index, &mut info) };
+        if status == NONE {
+            return None;
+        }
+        if let Err(fault) = told(status) {
+            return Some(Err(fault));
+        }
+        self.given = Some(index + 1);
+        Some(Ok(&self.unit[info.start..info.start + info.bytes]))
+    }
+}
+
+impl std::iter::FusedIterator for Vp9Frames<'_> {}
+
 /// The `av1C` record of a stream, from its sequence header OBU with header and size.
 ///
 /// # Errors

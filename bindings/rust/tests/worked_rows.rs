@@ -255,6 +255,18 @@ fn frames() -> Result<(), Error> {
     );
     assert_eq!(media::av1c(&unit[..2]), Err(Error::Invalid));
 
+    // A superframe of two frames and a byte that belongs to none, and one whose index asks for a byte more than there is.
+    let two = [0x84, 7, 0x86, 9, 0xc9, 2, 0, 1, 0, 0xc9];
+    assert_eq!(
+        media::vp9_frames(&two).collect::<Result<Vec<_>, _>>()?,
+        [&[0x84, 7][..], &[0x86]]
+    );
+    assert_eq!(media::vp9_frames(&two[..4]).next(), Some(Ok(&two[..4])));
+    let mut short = media::vp9_frames(&[0x84, 0x86, 0x01, 0xc1, 2, 2, 0xc1]);
+    assert_eq!(short.next(), Some(Err(Error::FrameSizes)));
+    assert_eq!(short.next(), None);
+    assert_eq!(media::vp9_frames(&[]).next(), Some(Err(Error::FrameTooShort)));
+
     let mut sound = media::amr_wb_frames(&[0x70, 0x4c, 1, 2, 3, 4, 5]);
     assert_eq!(sound.next().unwrap()?.frame_type, 14);
     assert_eq!(sound.next().unwrap()?.speech, [1, 2, 3, 4, 5]);

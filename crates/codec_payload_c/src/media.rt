@@ -5,8 +5,10 @@ ghost use Rattle.codec_payload_media.specs.AmrWbFrames.{frame_at};
 ghost use Rattle.codec_payload_media.specs.Av1Units.{obu_at};
 ghost use Rattle.codec_payload_media.specs.FrameInfo.{info_of};
 ghost use Rattle.codec_payload_media.specs.Av1Records.{av1c_bytes};
+ghost use Rattle.codec_payload_vpx.specs.Reading.{told};
+ghost use Rattle.codec_payload_vpx.specs.Vp9Superframes.{placed_in, unit_frames};
 ghost use Rattle.codec_payload_c.specs.Bytes.{filled};
-ghost use Rattle.codec_payload_c.specs.Media.{AtOffset, TellsAmrWbFrame, TellsFrame, TellsObu, WritesHead, WritesRecord, facts_of, header_in, media_status};
+ghost use Rattle.codec_payload_c.specs.Media.{AtOffset, TellsAmrWbFrame, TellsFrame, TellsObu, TellsVp9Frame, WritesHead, WritesRecord, facts_of, header_in, media_status};
 ghost use Rattle.codec_payload_c.specs.Settings.{codec_numbered};
 
 use crate::bytes::fill;
@@ -19,6 +21,7 @@ use codec_payload_media::av1::sequence_header::Av1SequenceHeader;
 use codec_payload_media::error::MediaError;
 use codec_payload_media::frame_info::{FrameInfo, frame_info};
 use codec_payload_media::opus::OpusHead;
+use codec_payload_media::vp9::frame_at;
 
 /// What a frame says of itself.
 #[repr(C)]
@@ -65,6 +68,16 @@ pub struct AmrWbFrameInfo {
     pub frame_type: u8,
     /// Whether it is undamaged.
     pub quality: bool,
+}
+
+/// A frame of a VP9 unit.
+#[repr(C)]
+#[derive(Clone, Copy)]
+pub struct Vp9FrameInfo {
+    /// Where it begins in the unit; the next frame begins behind its end.
+    pub start: usize,
+    /// How many bytes it has.
+    pub bytes: usize,
 }
 
 /// The status of a frame that is malformed.
@@ -167,6 +180,24 @@ pub extern "C" fn cpay_amr_wb_frame(unit: &[u8], offset: usize, info: &mut AmrWb
         quality: frame.quality,
     };
     status::OK
+}
+
+/// The frame of that number of a VP9 unit, counted from 0.
+#[unsafe(no_mangle)]
+pub extern "C" fn cpay_vp9_frame(unit: &[u8], index: usize, info: &mut Vp9FrameInfo) -> u32
+    ensures { TellsVp9Frame (told (placed_in index) (unit_frames unit.now)) result info.old info.new }
+{
+    match frame_at(unit, index) {
+        Ok(Some(found)) => {
+            *info = Vp9FrameInfo {
+                start: found.start,
+                bytes: found.frame.len(),
+            };
+            status::OK
+        }
+        Ok(None) => status::NONE,
+        Err(error) => status_of(error),
+    }
 }
 
 /// The sequence header of an OBU that is one, and has nothing behind it, or the status that refuses it.
