@@ -79,7 +79,7 @@ refuses() {
     printf '#include "codec_payload.h"\nvoid mistake(cpay_packetizer *packetizer, cpay_buffer *buffer, cpay_unit *unit);\n%s%s%s' \
         'void mistake(cpay_packetizer *packetizer, cpay_buffer *buffer, cpay_unit *unit) { (void)packetizer; (void)buffer; ' \
         "$1" '; }' >"$work/mistake.c"
-    ! "$compiler" -std=c99 $warnings -fsyntax-only -I"$root/include" "$work/mistake.c" 2>/dev/null || fail "$1: compiles"
+    ! "$compiler" -std=c99 $warnings -c -I"$root/include" "$work/mistake.c" -o "$work/mistake.o" 2>/dev/null || fail "$1: compiles"
 }
 
 # run_c FLAGS..: all C tests, built with these flags
