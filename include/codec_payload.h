@@ -1,37 +1,39 @@
-/* codec_payload: RTP payloads of media frames, for C and C++.
+/** @file
+ * codec_payload: RTP payloads of media frames, for C and C++.
  *
  * A packetizer cuts frames into RTP payloads that keep an MTU. A buffer takes received packets in any order and gives whole
- * frames back, in order. There are Opus, G.711, G.722, AMR-WB, comfort noise, telephone events, VP8, VP9 and AV1, payloads
- * that carry whatever they are given, and RED. RTP headers, sockets, clocks and threads are the caller's. The library is
- * proved: on any bytes it neither crashes nor reads out of bounds. docs/FORMATS.md has the formats and the buffer's rules.
+ * frames back, in order. There are Opus, G.711, G.722, AMR-WB, comfort noise, telephone events, VP8, VP9 and AV1, payloads that
+ * carry whatever they are given, and RED. RTP headers, sockets, clocks and threads are the caller's. The library is proved: on
+ * any bytes it neither crashes nor reads out of bounds. docs/FORMATS.md has the formats and the buffer's rules.
  *
  * STATUSES. A call answers a status, but for the few that answer a bool or a number. 0 is success, 1 to 17 are faults of
- * payloads and of memory, 32 to 41 are the library's own; the enum below has them all, with names. On every status but 0
- * the caller's bytes stay as they are; and on every status but 0 and CPL_TOO_SMALL so does all else that a call tells: structs,
+ * payloads and of memory, 32 to 41 are the library's own; the enum below has them all, with names. On every status but 0 the
+ * caller's bytes stay as they are; and on every status but 0 and CPAY_TOO_SMALL so does all else that a call tells: structs,
  * sizes, counts and bools.
  *
- * HANDLES. A packetizer, a depacketizer, a buffer and a RED sender live behind a cpl_handle, which is the caller's own
- * memory: zero it (CPL_HANDLE_INIT), make something in it by a call named *_new, and end with cpl_free, which empties it.
- * To free an empty handle does nothing, so freeing twice is no error; a call on an empty handle is CPL_EMPTY, and one on a
- * handle that holds something of another kind is CPL_OTHER_KIND. Never write into a handle, and never copy one that is full:
- * of two copies of a full handle neither the library nor anybody can tell that the other was freed. It may be moved in
- * memory, as long as one of the two places is forgotten.
+ * KINDS. A packetizer, a depacketizer, a buffer and a RED sender each live in a struct of their kind, which is the caller's own
+ * memory: begin with CPAY_INIT, make something in it by the call named *_new, and end with the one named *_free, which empties
+ * it. To free an empty one does nothing, so freeing twice is no error; another call on an empty one is CPAY_EMPTY, and one on a
+ * struct that holds something of another kind, as behind a cast, is CPAY_OTHER_KIND. Never write into one, and never copy one
+ * that is full: of two copies neither the library nor anybody can tell that the other was freed. It may be moved in memory, as
+ * long as one of the two places is forgotten.
  *
- * MEMORY. The library takes memory by the program's malloc and realloc and gives it back by free, and only in calls marked
- * [m]. These have to come from one allocator and to align blocks to 16 bytes, as all do. Where memory is refused a call
- * answers CPL_OUT_OF_MEMORY and leaves things as they were, but for what its comment says, so it can be made again. No call
- * keeps a pointer that it was given: frames and payloads are copied.
+ * MEMORY. The library takes memory by the program's malloc and realloc and gives it back by free, and only in calls marked [m].
+ * These have to come from one allocator and to align blocks to 16 bytes, as all do. Where memory is refused a call answers
+ * CPAY_OUT_OF_MEMORY and leaves things as they were, but for what its comment says, so it can be made again. No call keeps a
+ * pointer that it was given: frames and payloads are copied.
  *
- * BYTES FOR THE CALLER. Where a call gives bytes, they are written to the front of the caller's, and their number to a
- * `bytes` field or to *size. Where the caller's are too few the call answers CPL_TOO_SMALL, tells the number, and nothing is
- * lost: the packet or unit waits for the next call of the same kind. So a first call may have a length of 0.
+ * BYTES FOR THE CALLER. Where a call gives bytes, they are written to the front of the caller's, and their number to a `bytes`
+ * field or to *size. Where the caller's are too few the call answers CPAY_TOO_SMALL, tells the number, and nothing is lost: the
+ * packet or unit waits for the next call of the same kind. So a first call may have a length of 0.
  *
- * POINTERS. None is NULL, also where a length is 0: pass the address of anything then. Two arguments of a call that are
- * written overlap with no other argument. What a pointer points to has a value before the call, also where it is written:
- * begin structs with {0}. A bool is true or false, never another byte.
+ * POINTERS. NULL goes with a length of 0; with another length it is CPAY_INVALID, or false of a call that answers a bool. No
+ * other pointer is NULL, but for that of a *_free. Two arguments of a call that are written overlap with no other argument.
+ * What a pointer points to has a value before the call, also where it is written: begin structs with {0}. A bool is true or
+ * false, never another byte.
  *
- * THREADS. One call at a time uses a handle. It may go from thread to thread, where what one did comes before what the next
- * does, as by a mutex or by a thread's start or end. Different handles share nothing. No call is made from a signal handler,
+ * THREADS. One call at a time uses such a struct. It may go from thread to thread, where what one did comes before what the
+ * next does, as by a mutex or by a thread's start or end. Different ones share nothing. No call is made from a signal handler,
  * or in the forked child of a process with threads. No call blocks, prints, ends the process or reads a clock.
  *
  * AN EXAMPLE, which is bindings/c/example.c, in full: */
@@ -41,26 +43,27 @@
 
 int main(void) {
     static uint8_t frame[3000], bytes[3000];
-    cpl_spec spec = {.codec = CPL_VP8, .rate = 90000, .vp8_ids = true};
-    cpl_handle sender = CPL_HANDLE_INIT, receiver = CPL_HANDLE_INIT;
-    cpl_packet_info packet = {0};
-    cpl_unit unit = {0};
+    cpay_spec spec = {.codec = CPAY_VP8, .rate = 90000, .vp8_ids = true};
+    cpay_packetizer sender = CPAY_INIT;
+    cpay_buffer receiver = CPAY_INIT;
+    cpay_packet_info packet = {0};
+    cpay_unit unit = {0};
     size_t count = 0;
-    uint32_t status = cpl_packetizer_new(&sender, &spec);
-    if (!status) status = cpl_buffer_new(&receiver, &spec, 30, 4096);
-    if (!status) status = cpl_packetize(&sender, 1200, false, frame, sizeof frame, &count);
+    cpay_status status = cpay_packetizer_new(&sender, &spec);
+    if (!status) status = cpay_buffer_new(&receiver, &spec, 30, 4096);
+    if (!status) status = cpay_packetize(&sender, 1200, false, frame, sizeof frame, &count);
     for (uint64_t number = 0; !status && number < count; number++) {
-        status = cpl_packet(&sender, &packet, bytes, sizeof bytes);
+        status = cpay_packet(&sender, &packet, bytes, sizeof bytes);
         /* A sender puts the bytes behind an RTP header here, and a receiver has read this: */
-        cpl_received received = {.number = number, .rtp_time = 3000, .payload_type = 96, .marker = packet.marker};
-        if (!status) status = cpl_buffer_push(&receiver, &received, bytes, packet.bytes);
+        cpay_received received = {.number = number, .rtp_time = 3000, .marker = packet.marker};
+        if (!status) status = cpay_buffer_push(&receiver, &received, bytes, packet.bytes);
     }
-    while (!status && !(status = cpl_buffer_pop(&receiver, &unit, bytes, sizeof bytes)))
+    while (!status && !(status = cpay_buffer_pop(&receiver, &unit, bytes, sizeof bytes)))
         printf("packets %u to %u: a frame of %zu bytes\n", (unsigned)unit.first, (unsigned)unit.last, unit.bytes);
-    printf("%s\n", cpl_status_text(status));
-    cpl_free(&sender);
-    cpl_free(&receiver);
-    return status != CPL_NONE;
+    printf("%s\n", cpay_status_text(status));
+    cpay_packetizer_free(&sender);
+    cpay_buffer_free(&receiver);
+    return status != CPAY_NONE;
 }
 #endif
 
@@ -71,373 +74,435 @@ int main(void) {
 #include <stddef.h>
 #include <stdint.h>
 
+/** The version of this header. */
+#define CPAY_VERSION_MAJOR 0
+#define CPAY_VERSION_MINOR 1
+#define CPAY_VERSION_PATCH 0
+#define CPAY_VERSION (CPAY_VERSION_MAJOR * 10000 + CPAY_VERSION_MINOR * 100 + CPAY_VERSION_PATCH)
+
+/** A compiler that can warns where a status is not looked at. */
+#if defined(__cplusplus) && __cplusplus >= 201703L
+#define CPAY_CHECKED [[nodiscard]]
+#elif defined(__GNUC__)
+#define CPAY_CHECKED __attribute__((warn_unused_result))
+#else
+#define CPAY_CHECKED
+#endif
+
 #ifdef __cplusplus
 extern "C" {
 #endif
 
+/** The version of the library that is linked, as CPAY_VERSION has it. */
+uint32_t cpay_version(void);
+
+typedef enum {
+    CPAY_OK = 0,
+    CPAY_SHORT_PACKET = 1,      /**< a payload ends before all is there that its format asks for */
+    CPAY_PAYLOAD_TOO_LARGE = 2, /**< a frame that goes into one packet is longer than the MTU */
+    CPAY_TOO_MANY_LAYERS = 3,   /**< a VP9 payload tells of too many spatial layers */
+    CPAY_TOO_MANY_P_DIFF = 4,   /**< a VP9 payload refers to too many frames */
+    CPAY_VP8_CORRUPTED = 11,    /**< 5 to 10 are kept for H.26x, which is not there */
+    CPAY_VP9_CORRUPTED = 12,
+    CPAY_AV1_CORRUPTED = 13,  /**< a frame is no sequence of OBUs, or a payload no elements */
+    CPAY_RED_CORRUPTED = 14,  /**< the bytes are no RED payload */
+    CPAY_TELE_INVALID = 15,   /**< the payload is not one or more whole reports */
+    CPAY_AMR_WB_CORRUPTED = 16,
+    CPAY_OUT_OF_MEMORY = 17,
+    CPAY_NONE = 32,       /**< there is none: no unit has its turn, no packet is left, no block, report or field is there */
+    CPAY_TOO_SMALL = 33,  /**< the caller's bytes are too few: the number that is needed was told, and nothing is lost */
+    CPAY_EMPTY = 34,      /**< nothing was made in it */
+    CPAY_OTHER_KIND = 35, /**< it holds something of another kind */
+    CPAY_FULL = 36,       /**< it is full already, and stays as it is */
+    CPAY_INVALID = 37,    /**< an argument is none that the call takes; its comment says which are */
+    CPAY_FRAME_TOO_SHORT = 38, /**< a frame ends before what its format says */
+    CPAY_FRAME_MARKER = 39,    /**< a marker, a sync code or a start code of a frame is another than the standard's */
+    CPAY_FRAME_RESERVED = 40,  /**< a field of a frame has a value that the standard reserves or forbids */
+    CPAY_FRAME_SIZES = 41      /**< a size in a frame does not fit to the bytes that are there */
+} cpay_status;
+
+/** Codecs. */
 enum {
-    CPL_OK = 0,
-    CPL_SHORT_PACKET = 1,      /* a payload ends before all is there that its format asks for */
-    CPL_PAYLOAD_TOO_LARGE = 2, /* a frame that goes into one packet is longer than the MTU */
-    CPL_TOO_MANY_LAYERS = 3,   /* a VP9 payload tells of too many spatial layers */
-    CPL_TOO_MANY_P_DIFF = 4,   /* a VP9 payload refers to too many frames */
-    CPL_VP8_CORRUPTED = 11,    /* 5 to 10 are kept for H.26x, which is not there */
-    CPL_VP9_CORRUPTED = 12,
-    CPL_AV1_CORRUPTED = 13,  /* a frame is no sequence of OBUs, or a payload no elements */
-    CPL_RED_CORRUPTED = 14,  /* the bytes are no RED payload */
-    CPL_TELE_INVALID = 15,   /* the payload is not one or more whole reports */
-    CPL_AMR_WB_CORRUPTED = 16,
-    CPL_OUT_OF_MEMORY = 17,
-    CPL_NONE = 32,       /* there is none: no unit has its turn, no packet is left, no block, report or field is there */
-    CPL_TOO_SMALL = 33,  /* the caller's bytes are too few: the number that is needed was told, and nothing is lost */
-    CPL_EMPTY = 34,      /* the handle is empty */
-    CPL_OTHER_KIND = 35, /* the handle holds something of another kind */
-    CPL_FULL = 36,       /* the handle is full already, and stays as it is */
-    CPL_INVALID = 37,    /* an argument is none that the call takes; its comment says which are */
-    CPL_FRAME_TOO_SHORT = 38, /* a frame ends before what its format says */
-    CPL_FRAME_MARKER = 39,    /* a marker, a sync code or a start code of a frame is another than the standard's */
-    CPL_FRAME_RESERVED = 40,  /* a field of a frame has a value that the standard reserves or forbids */
-    CPL_FRAME_SIZES = 41      /* a size in a frame does not fit to the bytes that are there */
+    CPAY_OPUS = 0,
+    CPAY_PCMU = 1,
+    CPAY_PCMA = 2,
+    CPAY_G722 = 3,
+    CPAY_CN = 4, /**< comfort noise (RFC 3389) */
+    CPAY_AMR_WB = 5,
+    CPAY_VP8 = 9,
+    CPAY_VP9 = 10,
+    CPAY_AV1 = 11,
+    CPAY_NULL = 12, /**< payloads that carry whatever they are given */
+    CPAY_TELE = 13  /**< telephone events (RFC 4733) */
 };
 
-/* Codecs. */
-enum {
-    CPL_OPUS = 0,
-    CPL_PCMU = 1,
-    CPL_PCMA = 2,
-    CPL_G722 = 3,
-    CPL_CN = 4, /* comfort noise (RFC 3389) */
-    CPL_AMR_WB = 5,
-    CPL_VP8 = 9,
-    CPL_VP9 = 10,
-    CPL_AV1 = 11,
-    CPL_NULL = 12, /* payloads that carry whatever they are given */
-    CPL_TELE = 13  /* telephone events (RFC 4733) */
-};
+/** What payloads told besides bytes: the field `kind` of a cpay_extra. */
+enum { CPAY_EXTRA_NONE = 0, CPAY_EXTRA_VP8 = 1, CPAY_EXTRA_VP9 = 2, CPAY_EXTRA_AV1 = 3, CPAY_EXTRA_TELE = 4 };
 
-/* What payloads told besides bytes: the field `kind` of a cpl_extra. */
-enum { CPL_EXTRA_NONE = 0, CPL_EXTRA_VP8 = 1, CPL_EXTRA_VP9 = 2, CPL_EXTRA_AV1 = 3, CPL_EXTRA_TELE = 4 };
-
-/* A handle. All zeros are an empty one. Its fields are the library's. */
+/** What the library makes lives in the caller's memory, in a struct of its kind. All zeros are an empty one: begin with
+ * CPAY_INIT. The fields are the library's. */
 typedef struct {
     void *at;
-} cpl_place;
+} cpay_place;
 
 typedef struct {
     bool full;
-    cpl_place place;
-} cpl_handle;
+    cpay_place place;
+} cpay_handle;
 
-#define CPL_HANDLE_INIT { false, { NULL } }
-
-/* Empties the handle, and gives back what it held. */
-void cpl_free(cpl_handle *handle);
-
-/* A codec with its settings. What the codec does not have is not looked at, but `rate`, always, and `first_id`, by
- * cpl_packetizer_new of every codec. A buffer and a depacketizer do not look at `first_id`. */
 typedef struct {
-    uint32_t codec;    /* CPL_OPUS and so on */
-    uint32_t rate;     /* of the RTP clock, in hertz, above 0: 48000 for Opus, 90000 for video, 8000 for G.711 and G.722 */
-    uint16_t first_id; /* the first picture id that is sent, at most 32767: of VP9, and of VP8 with vp8_ids */
-    bool octet_align;  /* AMR-WB payloads are octet-aligned (RFC 4867, section 4.4) */
-    bool vp8_ids;      /* VP8 is sent with picture ids */
-    bool vp9_flexible; /* VP9 is sent in the flexible mode */
-} cpl_spec;
+    cpay_handle handle;
+} cpay_packetizer;
+
+typedef struct {
+    cpay_handle handle;
+} cpay_buffer;
+
+typedef struct {
+    cpay_handle handle;
+} cpay_depacketizer;
+
+typedef struct {
+    cpay_handle handle;
+} cpay_red_sender;
+
+#define CPAY_INIT { { false, { NULL } } }
+
+/** Empties it, and gives back what it held. NULL and an empty one are let be. */
+void cpay_packetizer_free(cpay_packetizer *packetizer);
+void cpay_buffer_free(cpay_buffer *buffer);
+void cpay_depacketizer_free(cpay_depacketizer *depacketizer);
+void cpay_red_sender_free(cpay_red_sender *sender);
+
+/** A codec with its settings. What the codec does not have is not looked at, but `rate`, always, and `first_id`, by
+ * cpay_packetizer_new of every codec. A buffer and a depacketizer do not look at `first_id`. */
+typedef struct {
+    uint32_t codec;    /**< CPAY_OPUS and so on */
+    uint32_t rate;     /**< of the RTP clock, in hertz, above 0: 48000 for Opus, 90000 for video, 8000 for G.711 and G.722 */
+    uint16_t first_id; /**< the first picture id that is sent, at most 32767: of VP9, and of VP8 with vp8_ids */
+    bool octet_align;  /**< AMR-WB payloads are octet-aligned (RFC 4867, section 4.4) */
+    bool vp8_ids;      /**< VP8 is sent with picture ids */
+    bool vp9_flexible; /**< VP9 is sent in the flexible mode */
+} cpay_spec;
 
 /* ---- Sending: a frame goes in, its packets come out one by one ---- */
 
-/* A packetizer, in an empty handle. CPL_INVALID for a codec that is not there, a rate of 0 or a first_id above 32767. [m] */
-uint32_t cpl_packetizer_new(cpl_handle *handle, const cpl_spec *spec);
+/** A packetizer, in an empty struct. CPAY_INVALID for a codec that is not there, a rate of 0 or a first_id above 32767. [m] */
+CPAY_CHECKED cpay_status cpay_packetizer_new(cpay_packetizer *packetizer, const cpay_spec *spec);
 
-/* Cuts a frame into payloads of at most `mtu` bytes, and tells how many there are: none for an empty frame. CPL_NULL alone
+/** Cuts a frame into payloads of at most `mtu` bytes, and tells how many there are: none for an empty frame. CPAY_NULL alone
  * looks at no MTU: a frame is one payload, as long as it is, also an empty one. Those of the frame before that were not taken
  * are given up. Opus, G.711, G.722, AMR-WB and telephone events mark all packets of a frame that starts a talk spurt; comfort
- * noise, video and CPL_NULL do not look at `starts_talk_spurt`. A fault leaves the packets of the frame before. [m] */
-uint32_t cpl_packetize(cpl_handle *handle, size_t mtu, bool starts_talk_spurt, const uint8_t *frame, size_t frame_len,
-                       size_t *count);
+ * noise, video and CPAY_NULL do not look at `starts_talk_spurt`. A fault leaves the packets of the frame before. [m] */
+CPAY_CHECKED cpay_status cpay_packetize(cpay_packetizer *packetizer, size_t mtu, bool starts_talk_spurt, const uint8_t *frame,
+                                        size_t frame_len, size_t *count);
 
 typedef struct {
-    size_t bytes;  /* how many bytes the packet's payload has */
-    bool marker;   /* the marker of its RTP header */
-    bool nackable; /* a receiver may ask for it again (RFC 4585, section 6.2.1) */
-} cpl_packet_info;
+    size_t bytes;  /**< how many bytes the packet's payload has */
+    bool marker;   /**< the marker of its RTP header */
+    bool nackable; /**< a receiver may ask for it again (RFC 4585, section 6.2.1) */
+} cpay_packet_info;
 
-/* The next packet of the frame. CPL_NONE once all were taken. */
-uint32_t cpl_packet(cpl_handle *handle, cpl_packet_info *info, uint8_t *bytes, size_t bytes_len);
+/** The next packet of the frame. CPAY_NONE once all were taken. */
+CPAY_CHECKED cpay_status cpay_packet(cpay_packetizer *packetizer, cpay_packet_info *info, uint8_t *bytes, size_t bytes_len);
 
 /* ---- What payloads tell besides bytes ---- */
 
-/* A report on a telephone event (RFC 4733, section 2.3). */
+/** A report on a telephone event (RFC 4733, section 2.3). */
 typedef struct {
-    uint64_t duration; /* how long the event has lasted so far, in nanoseconds */
-    uint8_t event;     /* 0 to 9 are the digits of a keypad */
-    uint8_t volume;    /* the power of the tone in dBm0, without its sign: 0 to 63 */
-    bool end;          /* the event has ended */
-} cpl_tele_event;
+    uint64_t duration; /**< how long the event has lasted so far, in nanoseconds */
+    uint8_t event;     /**< 0 to 9 are the digits of a keypad */
+    uint8_t volume;    /**< the power of the tone in dBm0, without its sign: 0 to 63 */
+    bool end;          /**< the event has ended */
+} cpay_tele_event;
 
-/* A spatial layer of VP9. */
+/** A spatial layer of VP9. */
 typedef struct {
-    size_t end; /* where its bytes end in the unit's */
+    size_t end; /**< where its bytes end in the unit's */
     uint16_t width;
     uint16_t height;
-    bool has_end; /* the layer was seen */
+    bool has_end; /**< the layer was seen */
     bool has_width;
     bool has_height;
-} cpl_vp9_layer;
+} cpay_vp9_layer;
 
-/* Fields that a kind does not have are 0. */
+/** Fields that a kind does not have are 0. */
 typedef struct {
-    uint64_t picture_id;     /* VP8, VP9: extended beyond the bits that were sent */
-    uint64_t tl0_picture_id; /* VP8, VP9: of the base layer, extended likewise */
-    uint32_t kind;           /* CPL_EXTRA_NONE and so on */
+    uint64_t picture_id;     /**< VP8, VP9: extended beyond the bits that were sent */
+    uint64_t tl0_picture_id; /**< VP8, VP9: of the base layer, extended likewise */
+    uint32_t kind;           /**< CPAY_EXTRA_NONE and so on */
     bool has_picture_id;
     bool has_tl0_picture_id;
-    bool has_temporal_layer; /* of VP8 always set */
-    uint8_t temporal_layer;  /* VP8, VP9 */
-    bool is_keyframe;        /* VP8, VP9: it can be decoded without any other; AV1: a coded video sequence starts here */
-    bool discardable;        /* VP8: no other frame depends on this one */
-    bool sync;               /* VP8: this frame depends on frames of the base layer alone */
-    cpl_tele_event event;    /* telephone events */
-    cpl_vp9_layer layers[3]; /* VP9 */
-} cpl_extra;
+    bool has_temporal_layer; /**< of VP8 always set */
+    uint8_t temporal_layer;  /**< VP8, VP9 */
+    bool is_keyframe;        /**< VP8, VP9: it can be decoded without any other; AV1: a coded video sequence starts here */
+    bool discardable;        /**< VP8: no other frame depends on this one */
+    bool sync;               /**< VP8: this frame depends on frames of the base layer alone */
+    cpay_tele_event event;    /**< telephone events */
+    cpay_vp9_layer layers[3]; /**< VP9 */
+} cpay_extra;
 
 /* ---- Receiving: packets in any order in, whole units in order out ---- */
 
-/* A buffer, in an empty handle. It holds at most `limit` packets, 1 to 65536; one more, and the lowest is evicted. A frame
- * behind missing packets waits until more than `hold_back` complete frames are there: 0 waits for nothing. CPL_INVALID for a
+/** A buffer, in an empty struct. It holds at most `limit` packets, 1 to 65536; one more, and the lowest is evicted. A frame
+ * behind missing packets waits until more than `hold_back` complete frames are there: 0 waits for nothing. CPAY_INVALID for a
  * codec that is not there, a rate of 0 or another limit. [m] */
-uint32_t cpl_buffer_new(cpl_handle *handle, const cpl_spec *spec, size_t hold_back, size_t limit);
+CPAY_CHECKED cpay_status cpay_buffer_new(cpay_buffer *buffer, const cpay_spec *spec, size_t hold_back, size_t limit);
 
-/* A received packet. Values of header extensions and sender reports are not passed on. */
+/** A received packet. Values of header extensions and sender reports are not passed on. */
 typedef struct {
-    uint64_t number;   /* the sequence number without wrapping (cpl_extend_number); its low 16 bits are the header's */
-    uint64_t received; /* when it was received, by a clock of the caller's */
-    uint32_t rtp_time; /* the timestamp of its header. Packets of one frame have one */
-    uint32_t ssrc;
-    uint8_t payload_type;
+    uint64_t number;   /**< the sequence number without wrapping (cpay_extend_number); its low 16 bits are the header's */
+    uint64_t received; /**< when it was received, by a clock of the caller's */
+    uint64_t rtp_time; /**< the timestamp of its header, or one that does not wrap. Packets of one frame have one */
     bool marker;
-} cpl_received;
+} cpay_received;
 
-/* Puts a packet in. One that is held already, or comes too late, is dropped with CPL_OK. [m] */
-uint32_t cpl_buffer_push(cpl_handle *handle, const cpl_received *packet, const uint8_t *payload, size_t payload_len);
+/** Puts a packet in. One that is held already, or comes too late, is dropped with CPAY_OK. [m] */
+CPAY_CHECKED cpay_status cpay_buffer_push(cpay_buffer *buffer, const cpay_received *packet, const uint8_t *payload,
+                                          size_t payload_len);
 
-/* What is known of a unit: of a frame, or of what the codec's payloads carry. */
+/** What is known of a unit: of a frame, or of what the codec's payloads carry. */
 typedef struct {
-    uint64_t first;         /* the number of its first packet */
-    uint64_t last;          /* the number of its last packet */
-    uint64_t rtp_time;      /* of its packets */
-    uint64_t received;      /* when the first of its packets to come was received */
-    size_t bytes;           /* how many bytes it has */
-    bool contiguous;        /* it follows the unit before it, by its numbers or its picture ids */
-    bool starts_talk_spurt; /* its first packet has the marker, which audio sets where a talk spurt starts */
-    cpl_extra extra;
-} cpl_unit;
+    uint64_t first;         /**< the number of its first packet */
+    uint64_t last;          /**< the number of its last packet */
+    uint64_t rtp_time;      /**< of its packets, as it was pushed */
+    uint64_t received;      /**< when the first of its packets to come was received */
+    size_t bytes;           /**< how many bytes it has */
+    bool contiguous;        /**< it follows the unit before it, by its numbers or its picture ids */
+    bool starts_talk_spurt; /**< its first packet has the marker, which audio sets where a talk spurt starts */
+    cpay_extra extra;
+} cpay_unit;
 
-/* The next unit whose turn has come, or CPL_NONE. With CPL_TOO_SMALL *unit is told, and the unit waits for the next call. A
- * fault from 1 to 16 is the depacketizer's: its frame has left, and the next call goes on. With CPL_OUT_OF_MEMORY the frame
+/** The next unit whose turn has come, or CPAY_NONE. With CPAY_TOO_SMALL *unit is told, and the unit waits for the next call. A
+ * fault from 1 to 16 is the depacketizer's: its frame has left, and the next call goes on. With CPAY_OUT_OF_MEMORY the frame
  * stays, and the next call tries it again. [m] */
-uint32_t cpl_buffer_pop(cpl_handle *handle, cpl_unit *unit, uint8_t *bytes, size_t bytes_len);
+CPAY_CHECKED cpay_status cpay_buffer_pop(cpay_buffer *buffer, cpay_unit *unit, uint8_t *bytes, size_t bytes_len);
 
 typedef struct {
-    size_t held;  /* how many packets are held */
-    size_t ready; /* how many complete frames are held, whether they may be taken yet or not */
-    size_t limit; /* how many packets are held at most */
-    bool waiting; /* a unit waits for enough of the caller's bytes */
-} cpl_buffer_counts_info;
+    size_t held;  /**< how many packets are held */
+    size_t ready; /**< how many complete frames are held, whether they may be taken yet or not */
+    size_t limit; /**< how many packets are held at most */
+    bool waiting; /**< a unit waits for enough of the caller's bytes */
+} cpay_buffer_counts_info;
 
-uint32_t cpl_buffer_counts(cpl_handle *handle, cpl_buffer_counts_info *counts);
+CPAY_CHECKED cpay_status cpay_buffer_counts(cpay_buffer *buffer, cpay_buffer_counts_info *counts);
+
+/** From now on a frame behind missing packets waits until more than `hold_back` complete frames are there. Where a stream ends,
+ * set it to 0 and take units until there is none: frames behind a gap come too, and what is then held is of frames that lack
+ * packets. */
+CPAY_CHECKED cpay_status cpay_buffer_set_hold_back(cpay_buffer *buffer, size_t hold_back);
+
+/** The packet of that number came and carries no media, as one of padding alone: where all before it have left, it is not
+ * waited for, and else nothing happens. */
+CPAY_CHECKED cpay_status cpay_buffer_pass_number(cpay_buffer *buffer, uint64_t number);
 
 /* ---- A depacketizer alone, for callers that order packets themselves ---- */
 
-/* CPL_INVALID for a codec that is not there or a rate of 0. [m] */
-uint32_t cpl_depacketizer_new(cpl_handle *handle, const cpl_spec *spec);
+/** CPAY_INVALID for a codec that is not there or a rate of 0. [m] */
+CPAY_CHECKED cpay_status cpay_depacketizer_new(cpay_depacketizer *depacketizer, const cpay_spec *spec);
 
-/* Reads a payload, and appends what it carries. What a fault leaves stands in docs/FORMATS.md for each codec. [m] */
-uint32_t cpl_depacketize(cpl_handle *handle, const uint8_t *payload, size_t payload_len);
+/** Reads a payload, and appends what it carries. What a fault leaves stands in docs/FORMATS.md for each codec. [m] */
+CPAY_CHECKED cpay_status cpay_depacketize(cpay_depacketizer *depacketizer, const uint8_t *payload, size_t payload_len);
 
-/* Takes what the payloads since the last such call gave, and begins anew: call it once a frame is whole. */
-uint32_t cpl_depacketized(cpl_handle *handle, size_t *size, cpl_extra *extra, uint8_t *bytes, size_t bytes_len);
+/** Takes what the payloads since the last such call gave, and begins anew: call it once a frame is whole. */
+CPAY_CHECKED cpay_status cpay_depacketized(cpay_depacketizer *depacketizer, size_t *size, cpay_extra *extra, uint8_t *bytes,
+                                           size_t bytes_len);
 
 /* ---- RED (RFC 2198) ---- */
 
-/* A sender that repeats earlier payloads, in an empty handle: `red_pt` is the payload type of its packets, `primary_pt` that
+/** A sender that repeats earlier payloads, in an empty struct: `red_pt` is the payload type of its packets, `primary_pt` that
  * of the media. A distance is how many payloads back to repeat: they rise strictly, from 1 to 8, or there is none; else the
- * answer is CPL_INVALID. [m] */
-uint32_t cpl_red_sender_new(cpl_handle *handle, uint8_t red_pt, uint8_t primary_pt, const uint32_t *distances,
-                            size_t distances_len);
+ * answer is CPAY_INVALID. [m] */
+CPAY_CHECKED cpay_status cpay_red_sender_new(cpay_red_sender *sender, uint8_t red_pt, uint8_t primary_pt,
+                                             const uint32_t *distances, size_t distances_len);
 
-/* Takes over new types and distances, as above. */
-uint32_t cpl_red_sync(cpl_handle *handle, uint8_t red_pt, uint8_t primary_pt, const uint32_t *distances,
-                      size_t distances_len);
+/** Takes over new types and distances, as above. */
+CPAY_CHECKED cpay_status cpay_red_sync(cpay_red_sender *sender, uint8_t red_pt, uint8_t primary_pt, const uint32_t *distances,
+                                       size_t distances_len);
 
-/* The RED payload of a media payload, in at most `budget` bytes; the payload is then remembered. One of `budget` bytes or
- * more comes back as it is, and is no RED. CPL_TOO_SMALL where the caller's bytes are fewer than `budget` or than the
+/** The RED payload of a media payload, in at most `budget` bytes; the payload is then remembered. One of `budget` bytes or
+ * more comes back as it is, and is no RED. CPAY_TOO_SMALL where the caller's bytes are fewer than `budget` or than the
  * payload, and then nothing was done, so call again with the same payload. [m] */
-uint32_t cpl_red_wrap(cpl_handle *handle, uint32_t rtp_time, size_t budget, const uint8_t *payload, size_t payload_len,
-                      uint8_t *bytes, size_t bytes_len, size_t *size);
+CPAY_CHECKED cpay_status cpay_red_wrap(cpay_red_sender *sender, uint32_t rtp_time, size_t budget, const uint8_t *payload,
+                                       size_t payload_len, uint8_t *bytes, size_t bytes_len, size_t *size);
 
-/* An older block, whose bytes stand in the caller's media. */
+/** An older block, whose bytes stand in the caller's media. */
 typedef struct {
-    size_t start;    /* where its bytes begin in the media */
-    size_t bytes;    /* how many it has; blocks of more than 1023 are left out */
-    uint32_t offset; /* how much older than the primary block it is, in ticks; blocks of more than 16383 are left out */
+    size_t start;    /**< where its bytes begin in the media */
+    size_t bytes;    /**< how many it has; blocks of more than 1023 are left out */
+    uint32_t offset; /**< how much older than the primary block it is, in ticks; blocks of more than 16383 are left out */
     uint8_t payload_type;
-} cpl_red_older;
+} cpay_red_older;
 
-/* A RED payload of the first 32 older blocks that fit, and of the primary one. CPL_INVALID where a block reaches past the
+/** A RED payload of the first 32 older blocks that fit, and of the primary one. CPAY_INVALID where a block reaches past the
  * media. Nothing is remembered. [m] */
-uint32_t cpl_red_encode(uint8_t primary_pt, const uint8_t *primary, size_t primary_len, const cpl_red_older *older,
-                        size_t older_len, const uint8_t *media, size_t media_len, uint8_t *bytes, size_t bytes_len,
-                        size_t *size);
+CPAY_CHECKED cpay_status cpay_red_encode(uint8_t primary_pt, const uint8_t *primary, size_t primary_len,
+                                         const cpay_red_older *older, size_t older_len, const uint8_t *media, size_t media_len,
+                                         uint8_t *bytes, size_t bytes_len, size_t *size);
 
 typedef struct {
-    size_t bytes;    /* how many bytes the block has */
-    uint32_t offset; /* how much older than the primary block it is, in ticks; 0 of the primary one */
+    size_t bytes;    /**< how many bytes the block has */
+    uint32_t offset; /**< how much older than the primary block it is, in ticks; 0 of the primary one */
     uint8_t payload_type;
-    bool is_primary; /* this is the packet's own media */
-} cpl_red_block_info;
+    bool is_primary; /**< this is the packet's own media */
+} cpay_red_block_info;
 
-/* The block of an index from 0 of a RED payload; the primary one is the last. CPL_NONE past it. [m] */
-uint32_t cpl_red_block(const uint8_t *payload, size_t payload_len, size_t index, cpl_red_block_info *info, uint8_t *bytes,
-                       size_t bytes_len);
+/** The block of an index from 0 of a RED payload; the primary one is the last. CPAY_NONE past it. [m] */
+CPAY_CHECKED cpay_status cpay_red_block(const uint8_t *payload, size_t payload_len, size_t index, cpay_red_block_info *info,
+                                        uint8_t *bytes, size_t bytes_len);
 
 typedef struct {
-    uint64_t number;   /* of the packet */
-    size_t bytes;      /* how many bytes its media has */
-    uint32_t rtp_time; /* of the packet */
-    bool is_primary;   /* this is the packet itself whose payload was read */
-} cpl_recovered_info;
+    uint64_t number;   /**< of the packet */
+    size_t bytes;      /**< how many bytes its media has */
+    uint32_t rtp_time; /**< of the packet */
+    bool is_primary;   /**< this is the packet itself whose payload was read */
+} cpay_recovered_info;
 
-/* The packets that the payload of the packet with this number and time holds, by an index from 0 in the order of its blocks;
- * CPL_NONE comes past them. Packets of the stream are `step` ticks apart, 1 to 16383; CPL_INVALID for another step. Only blocks
- * whose payload type is `primary_pt`, of which the low 7 bits count, are packets of the stream. The primary block is the packet
- * itself, and then the last; where it has another type, the packet itself is not told. An older block is passed over besides
- * where its offset is 0 or no multiple of `step`, and where it goes back more than 8 steps or below number 0. Push all that are
- * told: the buffer drops those that it has. [m] */
-uint32_t cpl_red_recover(uint8_t primary_pt, uint32_t step, uint64_t number, uint32_t rtp_time, const uint8_t *payload,
-                         size_t payload_len, size_t index, cpl_recovered_info *info, uint8_t *bytes, size_t bytes_len);
+/** The packets that the payload of the packet with this number and time holds, by an index from 0 in the order of its
+ * blocks; CPAY_NONE comes past them. Packets of the stream are `step` ticks apart, 1 to 16383; CPAY_INVALID for another
+ * step. Only blocks whose payload type is `primary_pt`, of which the low 7 bits count, are packets of the stream. The
+ * primary block is the packet itself, and then the last; where it has another type, the packet itself is not told. An older
+ * block is passed over besides where its offset is 0 or no multiple of `step`, and where it goes back more than 8 steps or
+ * below number 0. Push all that are told: the buffer drops those that it has. [m] */
+CPAY_CHECKED cpay_status cpay_red_recover(uint8_t primary_pt, uint32_t step, uint64_t number, uint32_t rtp_time,
+                                          const uint8_t *payload, size_t payload_len, size_t index, cpay_recovered_info *info,
+                                          uint8_t *bytes, size_t bytes_len);
 
 /* ---- VP8 descriptors (RFC 7741, section 4.2) ---- */
 
 typedef struct {
-    uint16_t picture_id; /* of 7 or 15 bits */
+    uint16_t picture_id; /**< of 7 or 15 bits */
     uint8_t tl0_pic_idx;
-    uint8_t key_idx; /* 0 to 31 */
+    uint8_t key_idx; /**< 0 to 31 */
     bool has_picture_id;
     bool has_tl0_pic_idx;
     bool has_key_idx;
-} cpl_vp8_fields_info;
+} cpay_vp8_fields_info;
 
-/* The fields of a payload's descriptor, and whether a keyframe starts in it. CPL_SHORT_PACKET where a byte is missing, also
- * of what is behind the descriptor; CPL_VP8_CORRUPTED where TL0PICIDX has no temporal layer beside it. */
-uint32_t cpl_vp8_fields(const uint8_t *payload, size_t payload_len, cpl_vp8_fields_info *fields, bool *starts_keyframe);
+/** The fields of a payload's descriptor, and whether a keyframe starts in it. CPAY_SHORT_PACKET where a byte is missing, also
+ * of what is behind the descriptor; CPAY_VP8_CORRUPTED where TL0PICIDX has no temporal layer beside it. */
+CPAY_CHECKED cpay_status cpay_vp8_fields(const uint8_t *payload, size_t payload_len, cpay_vp8_fields_info *fields,
+                                         bool *starts_keyframe);
 
-/* Gives those fields of a payload's descriptor that are set in `values` new values, in place. No byte moves, so CPL_NONE
- * answers a field that is not there, and CPL_INVALID a value that does not fit; nothing was written then. */
-uint32_t cpl_vp8_patch(uint8_t *payload, size_t payload_len, const cpl_vp8_fields_info *values);
+/** Gives those fields of a payload's descriptor that are set in `values` new values, in place. No byte moves, so CPAY_NONE
+ * answers a field that is not there, and CPAY_INVALID a value that does not fit; nothing was written then. */
+CPAY_CHECKED cpay_status cpay_vp8_patch(uint8_t *payload, size_t payload_len, const cpay_vp8_fields_info *values);
 
 /* ---- Telephone events (RFC 4733) ---- */
 
-/* The report of an index from 0 in a payload of reports, whose durations count a clock of that rate. CPL_NONE past the last,
- * CPL_TELE_INVALID where the payload is not whole reports, CPL_INVALID for a rate of 0. */
-uint32_t cpl_tele_read(const uint8_t *payload, size_t payload_len, uint32_t rate, size_t index, cpl_tele_event *event);
+/** The report of an index from 0 in a payload of reports, whose durations count a clock of that rate. CPAY_NONE past the last,
+ * CPAY_TELE_INVALID where the payload is not whole reports, CPAY_INVALID for a rate of 0. */
+CPAY_CHECKED cpay_status cpay_tele_read(const uint8_t *payload, size_t payload_len, uint32_t rate, size_t index,
+                                        cpay_tele_event *event);
 
-/* The four bytes of a report. CPL_INVALID for a rate of 0, or a duration of more than 65535 ticks. */
-uint32_t cpl_tele_write(const cpl_tele_event *event, uint32_t rate, uint8_t *bytes, size_t bytes_len);
+/** The four bytes of a report. CPAY_INVALID for a rate of 0, or a duration of more than 65535 ticks. */
+CPAY_CHECKED cpay_status cpay_tele_write(const cpay_tele_event *event, uint32_t rate, uint8_t *bytes, size_t bytes_len);
 
 /* ---- Looks at one payload. None takes memory ---- */
 
-bool cpl_vp8_is_keyframe(const uint8_t *payload, size_t payload_len);
-bool cpl_vp9_is_keyframe(const uint8_t *payload, size_t payload_len);
-bool cpl_vp9_frame_is_keyframe(const uint8_t *frame, size_t frame_len); /* a whole frame, without a descriptor */
-bool cpl_av1_is_keyframe(const uint8_t *payload, size_t payload_len);   /* a coded video sequence starts in it */
+bool cpay_vp8_is_keyframe(const uint8_t *payload, size_t payload_len);
+bool cpay_vp9_is_keyframe(const uint8_t *payload, size_t payload_len);
+bool cpay_vp9_frame_is_keyframe(const uint8_t *frame, size_t frame_len); /**< a whole frame, without a descriptor */
+bool cpay_av1_is_keyframe(const uint8_t *payload, size_t payload_len);   /**< a coded video sequence starts in it */
 
-/* Whether a payload begins a unit, and whether it ends one under this marker of its RTP header. CPL_INVALID for a codec that
+/** Whether a payload begins a unit, and whether it ends one under this marker of its RTP header. CPAY_INVALID for a codec that
  * is not there. */
-uint32_t cpl_is_head(uint32_t codec, const uint8_t *payload, size_t payload_len, bool *is_head);
-uint32_t cpl_is_tail(uint32_t codec, bool marker, const uint8_t *payload, size_t payload_len, bool *is_tail);
+CPAY_CHECKED cpay_status cpay_is_head(uint32_t codec, const uint8_t *payload, size_t payload_len, bool *is_head);
+CPAY_CHECKED cpay_status cpay_is_tail(uint32_t codec, bool marker, const uint8_t *payload, size_t payload_len, bool *is_tail);
 
-/* The number of a packet without wrapping: the one nearest to the greatest so far whose low 16 bits are those of the RTP
+/** The number of a packet without wrapping: the one nearest to the greatest so far whose low 16 bits are those of the RTP
  * header; half the range goes forward. The first packet's is the 16 bits themselves. Begin with 65536 as the previous number
  * where earlier packets may come behind the first one. */
-uint64_t cpl_extend_number(uint64_t previous, bool has_previous, uint16_t number);
+uint64_t cpay_extend_number(uint64_t previous, bool has_previous, uint16_t number);
 
-/* ---- What frames say: whole frames, as cpl_buffer_pop gives them. None takes memory ---- */
+/* ---- What frames say: whole frames, as cpay_buffer_pop gives them. None takes memory ---- */
 
-/* What a frame says of itself. What it does not tell is 0. */
+/** What a frame says of itself. What it does not tell is 0. */
 typedef struct {
-    uint64_t duration; /* of audio, in ticks of the RTP clock */
-    uint32_t width;    /* in pixels; of AV1 the largest of the sequence header */
+    uint64_t duration; /**< of audio, in ticks of the RTP clock */
+    uint32_t width;    /**< in pixels; of AV1 the largest of the sequence header */
     uint32_t height;
-    bool has_keyframe; /* whether `keyframe` is told: of VP8 and VP9 always, of AV1 where the unit has a frame header */
+    bool has_keyframe; /**< whether `keyframe` is told: of VP8 and VP9 always, of AV1 where the unit has a frame header */
     bool keyframe;
-    bool has_size; /* of a keyframe of VP8, of a keyframe or an intra-only frame of VP9, of AV1 with a sequence header */
+    bool has_size; /**< of a keyframe of VP8, of a keyframe or an intra-only frame of VP9, of AV1 with a sequence header */
     bool has_duration;
-} cpl_frame_facts;
+} cpay_frame_facts;
 
-/* What a frame of a codec says. Of VP8, VP9, AV1, Opus, AMR-WB (in storage form), G.711 and G.722; of other codecs, and of a
- * codec that is not there, nothing is told. CPL_FRAME_TOO_SHORT to CPL_FRAME_SIZES where the frame is malformed: the first
+/** What a frame of a codec says. Of VP8, VP9, AV1, Opus, AMR-WB (in storage form), G.711 and G.722; of other codecs, and of a
+ * codec that is not there, nothing is told. CPAY_FRAME_TOO_SHORT to CPAY_FRAME_SIZES where the frame is malformed: the first
  * fault from left to right. It reads what it needs and no more. */
-uint32_t cpl_frame_info(uint32_t codec, const uint8_t *frame, size_t frame_len, cpl_frame_facts *facts);
+CPAY_CHECKED cpay_status cpay_frame_info(uint32_t codec, const uint8_t *frame, size_t frame_len, cpay_frame_facts *facts);
 
-/* An OBU of a temporal unit. */
+/** An OBU of a temporal unit. */
 typedef struct {
-    size_t start; /* where its payload begins in the unit; the next OBU begins at start + bytes */
+    size_t start; /**< where its payload begins in the unit; the next OBU begins at start + bytes */
     size_t bytes;
-    uint8_t obu_type;    /* 1 a sequence header, 2 a temporal delimiter, 3 a frame header, 6 a frame */
-    uint8_t temporal_id; /* the layers, 0 where they are not told */
+    uint8_t obu_type;    /**< 1 a sequence header, 2 a temporal delimiter, 3 a frame header, 6 a frame */
+    uint8_t temporal_id; /**< the layers, 0 where they are not told */
     uint8_t spatial_id;
     bool has_extension;
-} cpl_obu_info;
+} cpay_obu_info;
 
-/* The OBU at an offset of a temporal unit: 0 for the first, and from each start + bytes for the next. CPL_NONE at the end,
- * CPL_INVALID behind it, CPL_FRAME_TOO_SHORT to CPL_FRAME_SIZES where the OBU is malformed. */
-uint32_t cpl_av1_obu(const uint8_t *unit, size_t unit_len, size_t offset, cpl_obu_info *info);
+/** The OBU at an offset of a temporal unit: 0 for the first, and from each start + bytes for the next. CPAY_NONE at the end,
+ * CPAY_INVALID behind it, CPAY_FRAME_TOO_SHORT to CPAY_FRAME_SIZES where the OBU is malformed. */
+CPAY_CHECKED cpay_status cpay_av1_obu(const uint8_t *unit, size_t unit_len, size_t offset, cpay_obu_info *info);
 
-/* A frame of an AMR-WB unit. */
+/** A frame of an AMR-WB unit. */
 typedef struct {
-    size_t start; /* where its speech begins in the unit; the next frame begins at start + bytes */
+    size_t start; /**< where its speech begins in the unit; the next frame begins at start + bytes */
     size_t bytes;
-    uint8_t frame_type; /* 0 to 8 speech, 9 comfort noise, 14 lost, 15 no data */
-    bool quality;       /* whether it is undamaged */
-} cpl_amr_wb_frame_info;
+    uint8_t frame_type; /**< 0 to 8 speech, 9 comfort noise, 14 lost, 15 no data */
+    bool quality;       /**< whether it is undamaged */
+} cpay_amr_wb_frame_info;
 
-/* The frame at an offset of an AMR-WB unit in storage form, found as cpl_av1_obu finds OBUs. Each lasts 20 ms. */
-uint32_t cpl_amr_wb_frame(const uint8_t *unit, size_t unit_len, size_t offset, cpl_amr_wb_frame_info *info);
+/** The frame at an offset of an AMR-WB unit in storage form, found as cpay_av1_obu finds OBUs. Each lasts 20 ms. */
+CPAY_CHECKED cpay_status cpay_amr_wb_frame(const uint8_t *unit, size_t unit_len, size_t offset, cpay_amr_wb_frame_info *info);
 
-/* The av1C record of a stream (AV1 codec ISO media file format binding, 2.3) of 4 bytes and the OBU, from its sequence header
- * OBU with header and size. *size is told on 0 and on CPL_TOO_SMALL. CPL_INVALID for another OBU, or bytes behind it. */
-uint32_t cpl_av1c(const uint8_t *obu, size_t obu_len, uint8_t *bytes, size_t bytes_len, size_t *size);
+/** A frame of a VP9 unit. */
+typedef struct {
+    size_t start; /**< where it begins in the unit; the next frame begins at start + bytes */
+    size_t bytes;
+} cpay_vp9_frame_info;
 
-/* The 19 bytes of an Opus stream's identification header (RFC 7845, 5.1), without gain, in mapping family 0. `pre_skip` counts
- * samples of 48 kHz; the rate is that of the input, or 0. CPL_INVALID for other than one or two channels. */
-uint32_t cpl_opus_head(uint8_t channels, uint16_t pre_skip, uint32_t input_sample_rate, uint8_t *bytes, size_t bytes_len);
+/** The frame of that number, counted from 0, of a VP9 unit: of a superframe those of the index at its end, hidden ones too, else
+ * the unit as its only frame. CPAY_NONE where there are not as many; CPAY_FRAME_TOO_SHORT of no bytes, and CPAY_FRAME_SIZES
+ * where the frames have more bytes together than stand before the index. It reads the index alone. */
+CPAY_CHECKED cpay_status cpay_vp9_frame(const uint8_t *unit, size_t unit_len, size_t index, cpay_vp9_frame_info *info);
 
-/* A text for each status, in English. */
-static inline const char *cpl_status_text(uint32_t status) {
+/** The av1C record of a stream (AV1 codec ISO media file format binding, 2.3) of 4 bytes and the OBU, from its sequence header
+ * OBU with header and size. *size is told on 0 and on CPAY_TOO_SMALL. CPAY_INVALID for another OBU, or bytes behind it. */
+CPAY_CHECKED cpay_status cpay_av1c(const uint8_t *obu, size_t obu_len, uint8_t *bytes, size_t bytes_len, size_t *size);
+
+/** The 19 bytes of an Opus stream's identification header (RFC 7845, 5.1), without gain, in mapping family 0. `pre_skip` counts
+ * samples of 48 kHz; the rate is that of the input, or 0. CPAY_INVALID for other than one or two channels. */
+CPAY_CHECKED cpay_status cpay_opus_head(uint8_t channels, uint16_t pre_skip, uint32_t input_sample_rate, uint8_t *bytes,
+                                        size_t bytes_len);
+
+/** A text for each status, in English. */
+static inline const char *cpay_status_text(cpay_status status) {
     switch (status) {
-    case CPL_OK: return "done";
-    case CPL_SHORT_PACKET: return "the packet is too short";
-    case CPL_PAYLOAD_TOO_LARGE: return "the payload exceeds the MTU";
-    case CPL_TOO_MANY_LAYERS: return "too many spatial layers";
-    case CPL_TOO_MANY_P_DIFF: return "too many references";
-    case CPL_VP8_CORRUPTED: return "the VP8 packet is corrupted";
-    case CPL_VP9_CORRUPTED: return "the VP9 packet is corrupted";
-    case CPL_AV1_CORRUPTED: return "the AV1 packet or frame is corrupted";
-    case CPL_RED_CORRUPTED: return "the RED packet is corrupted";
-    case CPL_TELE_INVALID: return "the payload is not whole telephone reports";
-    case CPL_AMR_WB_CORRUPTED: return "the AMR-WB packet or frame is corrupted";
-    case CPL_OUT_OF_MEMORY: return "out of memory";
-    case CPL_NONE: return "there is none";
-    case CPL_TOO_SMALL: return "the caller's bytes are too few";
-    case CPL_EMPTY: return "the handle is empty";
-    case CPL_OTHER_KIND: return "the handle holds something of another kind";
-    case CPL_FULL: return "the handle is full";
-    case CPL_INVALID: return "an argument is none that the call takes";
-    case CPL_FRAME_TOO_SHORT: return "the frame ends too early";
-    case CPL_FRAME_MARKER: return "the frame has a wrong marker";
-    case CPL_FRAME_RESERVED: return "the frame has a reserved value";
-    case CPL_FRAME_SIZES: return "the frame has sizes that do not fit";
+    case CPAY_OK: return "done";
+    case CPAY_SHORT_PACKET: return "the packet is too short";
+    case CPAY_PAYLOAD_TOO_LARGE: return "the payload exceeds the MTU";
+    case CPAY_TOO_MANY_LAYERS: return "too many spatial layers";
+    case CPAY_TOO_MANY_P_DIFF: return "too many references";
+    case CPAY_VP8_CORRUPTED: return "the VP8 packet is corrupted";
+    case CPAY_VP9_CORRUPTED: return "the VP9 packet is corrupted";
+    case CPAY_AV1_CORRUPTED: return "the AV1 packet or frame is corrupted";
+    case CPAY_RED_CORRUPTED: return "the RED packet is corrupted";
+    case CPAY_TELE_INVALID: return "the payload is not whole telephone reports";
+    case CPAY_AMR_WB_CORRUPTED: return "the AMR-WB packet or frame is corrupted";
+    case CPAY_OUT_OF_MEMORY: return "out of memory";
+    case CPAY_NONE: return "there is none";
+    case CPAY_TOO_SMALL: return "the caller's bytes are too few";
+    case CPAY_EMPTY: return "nothing was made in it";
+    case CPAY_OTHER_KIND: return "it holds something of another kind";
+    case CPAY_FULL: return "it is full already";
+    case CPAY_INVALID: return "an argument is none that the call takes";
+    case CPAY_FRAME_TOO_SHORT: return "the frame ends too early";
+    case CPAY_FRAME_MARKER: return "the frame has a wrong marker";
+    case CPAY_FRAME_RESERVED: return "the frame has a reserved value";
+    case CPAY_FRAME_SIZES: return "the frame has sizes that do not fit";
     default: return "unknown status";
     }
 }

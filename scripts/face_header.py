@@ -3,8 +3,11 @@
 
 The header is written by hand. This reads both and compares every function: its name, its answer, and of each parameter
 the name and the type; every struct that crosses: its fields in order with their types; and the numbers of the statuses and of
-the codecs. Of bindings/rust-sys/src/lib.rs it compares the same functions and structs. The example in the header is the text of
+the codecs. A handle of the library is in C a struct of its kind, so that the compiler tells one kind from another. Of
+bindings/rust-sys/src/lib.rs it compares the same functions and structs. The example in the header is the text of
 bindings/c/example.c. The last line says how many functions and structs are the same; the status is 0 where all are.
+
+bindings/c/calls.c, which lets NULL go with a length of 0, is what `face_header.py --calls` prints, and that is compared too.
 """
 import os
 import re
@@ -14,9 +17,29 @@ ROOT = os.path.dirname(os.path.dirname(os.path.realpath(__file__)))
 NUMBERS = {"u8": "uint8_t", "u16": "uint16_t", "u32": "uint32_t", "u64": "uint64_t", "usize": "size_t", "bool": "bool"}
 # The one pointer that stands in a struct, which C sees as one to nothing that it knows.
 FLAT = {"*mut u8": "void *"}
+# What a handle of the library is in the header, by what lives in it. Each has a call of its own to free it.
+KINDS = ["cpay_packetizer", "cpay_buffer", "cpay_depacketizer", "cpay_red_sender"]
+HANDLE = [("cpay_handle", "handle")]
+VERSION = "cpay_version"
 EXPORT = re.compile(
     r'#\[unsafe\(no_mangle\)\]\s*pub extern "C" fn (\w+)\((.*?)\)(?: -> (\w+))?\s*(?:requires|ensures|\{)', re.S
 )
+
+
+CALLS_BEGIN = """\
+/* The calls of codec_payload.h over those that are proved, which take a handle of any kind and no NULL: here NULL with a length
+ * of 0 becomes a pointer to something, and with another length it is refused. Written by scripts/face_header.py --calls. */
+#include "codec_payload.h"
+
+typedef char status_is_four_bytes[sizeof(cpay_status) == 4 ? 1 : -1];
+
+/* Bytes of length 0 begin here. Nothing reads or writes it. */
+static uint64_t nothing[2];
+
+uint32_t cpay_version(void) { return CPAY_VERSION; }
+
+void proved_cpay_free(cpay_handle *handle);
+"""
 
 
 def read(path):
@@ -36,7 +59,7 @@ def split(text):
 
 
 def c_name(rust):
-    return "cpl_" + re.sub(r"(?<=[a-z0-9])([A-Z])", r"_\1", rust).lower()
+    return "cpay_" + re.sub(r"(?<=[a-z0-9])([A-Z])", r"_\1", rust).lower()
 
 
 def c_type(rust):
@@ -92,7 +115,7 @@ def spaced(kind, name):
 
 
 def c_declared(text):
-    """One declaration, as `const cpl_spec *spec`, as its type and name."""
+    """One declaration, as `const cpay_spec *spec`, as its type and name."""
     kind, stars, name = re.fullmatch(r"(.*?)(\**)(\w+(?:\[\d+\])?)", " ".join(text.split()), re.S).groups()
     return spaced(kind, stars + name)
 
@@ -105,10 +128,22 @@ def header():
     for found in re.finditer(r"typedef struct \{(.*?)\} (\w+);", text, re.S):
         structs[found[2]] = [c_declared(it) for it in found[1].split(";") if it.strip()]
     rest = re.sub(r"typedef struct \{.*?\} \w+;", "", text, flags=re.S)
-    for found in re.finditer(r"^(\w+) (cpl_\w+)\(([^)]*)\);", rest, re.M | re.S):
-        functions[found[2]] = (found[1], [c_declared(it) for it in split(found[3])])
-    numbers = {name: int(value) for name, value in re.findall(r"\b(CPL_\w+) = (\d+)", rest)}
+    for found in re.finditer(r"^(?:CPAY_CHECKED )?(\w+) (cpay_\w+)\(([^)]*)\);", rest, re.M | re.S):
+        functions[found[2]] = (found[1], [c_declared(it) for it in split(found[3]) if it != "void"])
+    numbers = {name: int(value) for name, value in re.findall(r"\b(CPAY_\w+) = (\d+)", rest)}
     return functions, structs, numbers
+
+
+def plain(functions, structs):
+    """The header's functions and structs with handles and numbers in place of its kinds and its statuses."""
+    frees = {f"{kind}_free" for kind in KINDS}
+    plain_functions = {"cpay_free": ("void", [("cpay_handle *", "handle")])} if frees <= functions.keys() else {}
+    for name, (answer, params) in functions.items():
+        if name not in {*frees, VERSION}:
+            answer = {"cpay_status": "uint32_t"}.get(answer, answer)
+            params = [("cpay_handle *", "handle") if kind.removesuffix(" *") in KINDS else (kind, one) for kind, one in params]
+            plain_functions[name] = (answer, params)
+    return plain_functions, {name: fields for name, fields in structs.items() if name not in KINDS}
 
 
 def raw_rust():
@@ -124,7 +159,7 @@ def raw_rust():
         return NUMBERS.get(kind.strip()) or c_name(kind.strip())
 
     functions, structs = {}, {}
-    for found in re.finditer(r"fn (cpl_\w+)\((.*?)\)\s*(?:-> (\w+))?;", text, re.S):
+    for found in re.finditer(r"fn (cpay_\w+)\((.*?)\)\s*(?:-> (\w+))?;", text, re.S):
         params = [it.split(":", 1) for it in split(found[2])]
         functions[found[1]] = (named(found[3]) if found[3] else "void", [(named(kind), name.strip()) for name, kind in params])
     for found in re.finditer(r"#\[repr\(C\)\]\s*(?:#\[[^\n]*\]\s*)*pub(?:\(crate\))? struct (\w+) \{(.*?)\n\}", text, re.S):
@@ -143,12 +178,60 @@ def differences(what, wanted, found):
             yield f"{what} {name}: the library has {wanted.get(name)}, and here is {found.get(name)}"
 
 
+def wrapped(start, parts, end, indent):
+    """One call or declaration, in lines of at most 128 characters."""
+    lines, line = [], start
+    for place, part in enumerate(parts):
+        piece = part + (end if place + 1 == len(parts) else ",")
+        if len(line) + 1 + len(piece) > 128:
+            lines.append(line)
+            line = " " * (indent - 1)
+        line += piece if line.endswith("(") else " " + piece
+    return "\n".join([*lines, line if parts else line + end])
+
+
+def calls(functions):
+    """The text of bindings/c/calls.c."""
+    text = [CALLS_BEGIN]
+    for kind in KINDS:
+        text.append(f"void {kind}_free({kind} *{kind.split('_')[-1]}) {{\n    if ({kind.split('_')[-1]}) "
+                    f"proved_cpay_free(&{kind.split('_')[-1]}->handle);\n}}\n")
+    for name, (answer, params) in functions.items():
+        if name.endswith("_free") or name == VERSION:
+            continue
+        lengths = {one for _, one in params}
+        given, refused, declared = [], [], []
+        for kind, one in params:
+            declared.append((("cpay_handle *" if kind.removesuffix(" *") in KINDS else kind) + " " + one).replace("* ", "*"))
+            if kind.removesuffix(" *") in KINDS:
+                given.append(f"&{one}->handle")
+            elif f"{one}_len" in lengths:
+                refused.append(f"(!{one} && {one}_len)")
+                given.append(f"{one} ? {one} : ({kind})nothing")
+            else:
+                given.append(one)
+        proved = f"{answer} proved_{name}("
+        text.append(wrapped(proved, declared, ");", len(proved)))
+        signature = f"{answer} {name}("
+        text.append(wrapped(signature, [f"{kind} {one}".replace("* ", "*") for kind, one in params], ") {", len(signature)))
+        if refused:
+            text.append(f"    if ({' || '.join(refused) if len(refused) > 1 else refused[0][1:-1]}) "
+                        f"return {'CPAY_INVALID' if answer == 'cpay_status' else 'false'};")
+        call = f"    return proved_{name}("
+        text.append(wrapped(call, given, ");", len(call)) + "\n}\n")
+    return "\n".join(text)
+
+
 def main():
+    if sys.argv[1:] == ["--calls"]:
+        print(calls(header()[0]), end="")
+        return 0
     functions, structs, statuses, codecs = rattle()
-    of_header, its_structs, numbers = header()
-    of_rust, rust_structs = raw_rust()
-    in_c = {f"CPL_{name.replace('amrwb', 'amr_wb')}".upper(): value for name, value in codecs.items()}
-    in_c |= {f"CPL_{name}": value for name, value in statuses.items()}
+    as_written, written_structs, numbers = header()
+    of_header, its_structs = plain(as_written, written_structs)
+    of_rust, rust_structs = plain(*raw_rust())
+    in_c = {f"CPAY_{name.replace('amrwb', 'amr_wb')}".upper(): value for name, value in codecs.items()}
+    in_c |= {f"CPAY_{name}": value for name, value in statuses.items()}
     wrong = [
         *differences("header: function", functions, of_header),
         *differences("header: struct", structs, its_structs),
@@ -158,6 +241,9 @@ def main():
     ]
     if f"#if 0\n{read('bindings/c/example.c')}#endif\n" not in read("include/codec_payload.h"):
         wrong.append("header: the example is not that of bindings/c/example.c")
+    wrong += [f"header: {kind} is not one handle" for kind in KINDS if written_structs.get(kind) != HANDLE]
+    if read("bindings/c/calls.c") != calls(as_written):
+        wrong.append("bindings/c/calls.c is not what face_header.py --calls prints")
     if not functions or not structs:
         wrong.append("no function, or no struct, was found")
     counts = f"{len(functions)} functions and {len(structs)} structs"

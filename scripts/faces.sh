@@ -5,12 +5,12 @@
 #   scripts/faces.sh library    proves and builds the library, and prints the folder of libcodec_payload.a
 #   scripts/faces.sh example    builds the library, and builds and runs the example of the header
 #
-# The tests: the header and the Rust crate's declarations against the library; the header as C99 and C11 and, where there is a C++
-# compiler, as C++11 and C++20; what each call answers (bindings/c/checks.c); scripts of payload_vectors through the library, compared
-# byte for byte with the program (bindings/c/vectors.c, inputs.py); allocations less frees after each kind of use, and each
-# allocation of a session refused in turn (bindings/c/oom.c); all of these also with the address and undefined-behaviour
-# sanitizers; the Rust crates: their tests, packages, lints, and documents without the library; and the installed library
-# (install_test.sh).
+# The tests: the header and the Rust crate's declarations against the library; the header as C99 and C11 and, where there is a
+# C++ compiler, as C++11 and C++20; that the compiler tells one kind of struct from another, and a status that is not looked at;
+# what each call answers (bindings/c/checks.c); scripts of payload_vectors through the library, compared byte for byte with the
+# program (bindings/c/vectors.c, inputs.py); allocations less frees after each kind of use, and each allocation of a session
+# refused in turn (bindings/c/oom.c); all of these also with the address and undefined-behaviour sanitizers; the Rust crates:
+# their tests, packages, lints, and documents without the library; and the installed library (install_test.sh).
 #
 # Needs rt, a C compiler ($CC or cc) with its sanitizers, binutils and Python 3; for the Rust crate cargo of 1.85 or later; for
 # what is installed make, pkg-config and a C++ compiler. No network.
@@ -31,18 +31,22 @@ fail() {
     exit 1
 }
 
-# One archive of the library and of the three functions by which it calls malloc, realloc and free. The calls of the header are
-# the only names that it gives to others.
+# One archive of the library, of bindings/c/calls.c over it, and of the three functions by which it calls malloc, realloc and
+# free. The calls of the header are the only names that it gives to others: those that are proved are called proved_* and become
+# local.
 build_library() {
     (cd "$root/crates/codec_payload_c" && rt lib) >"$work/lib.log" 2>&1 || {
         cat "$work/lib.log" >&2
         fail "the library is not proved"
     }
     rm -f "$out/libcodec_payload.a"
-    (cd "$work" && cp "$root/crates/codec_payload_c/out/libcodec_payload_c.a" "$kit/c/liblibc_c.a" . &&
-        printf 'CREATE all.a\nADDLIB libcodec_payload_c.a\nADDLIB liblibc_c.a\nSAVE\nEND\n' | ar -M &&
-        ld -r --whole-archive all.a -o all.o && objcopy --wildcard --keep-global-symbol='cpl_*' all.o codec_payload.o &&
-        ar rcs "$out/libcodec_payload.a" codec_payload.o)
+    "$compiler" -std=c99 $warnings -O2 -fPIC -I"$root/include" -c "$root/bindings/c/calls.c" -o "$work/calls.o" &&
+        (cd "$work" && cp "$root/crates/codec_payload_c/out/libcodec_payload_c.a" "$kit/c/liblibc_c.a" . &&
+            nm --defined-only --extern-only libcodec_payload_c.a | sed -n 's/.* \(cpay_[a-z0-9_]*\)$/\1 proved_\1/p' >names &&
+            objcopy --redefine-syms=names libcodec_payload_c.a &&
+            printf 'CREATE all.a\nADDLIB libcodec_payload_c.a\nADDLIB liblibc_c.a\nADDMOD calls.o\nSAVE\nEND\n' | ar -M &&
+            ld -r --whole-archive all.a -o all.o && objcopy --wildcard --keep-global-symbol='cpay_*' all.o codec_payload.o &&
+            ar rcs "$out/libcodec_payload.a" codec_payload.o)
 }
 
 # compile NAME FLAGS..: builds bindings/c/NAME.c
@@ -68,6 +72,14 @@ compare_scripts() {
         }
         count=$((count + 1))
     done
+}
+
+# refuses WORDS: the compiler tells that mistake in one call
+refuses() {
+    printf '#include "codec_payload.h"\nvoid mistake(cpay_packetizer *packetizer, cpay_buffer *buffer, cpay_unit *unit);\n%s%s%s' \
+        'void mistake(cpay_packetizer *packetizer, cpay_buffer *buffer, cpay_unit *unit) { (void)packetizer; (void)buffer; ' \
+        "$1" '; }' >"$work/mistake.c"
+    ! "$compiler" -std=c99 $warnings -c -I"$root/include" "$work/mistake.c" -o "$work/mistake.o" 2>/dev/null || fail "$1: compiles"
 }
 
 # run_c FLAGS..: all C tests, built with these flags
@@ -107,6 +119,9 @@ header=$root/include/codec_payload.h
 for standard in c99 c11; do
     "$compiler" -std=$standard $warnings -fsyntax-only -x c "$header" || fail "the header is no $standard"
 done
+refuses 'cpay_buffer_pop(buffer, unit, NULL, 0)'
+refuses 'if (cpay_buffer_pop(packetizer, unit, NULL, 0)) return'
+! (refuses 'if (cpay_buffer_pop(buffer, unit, NULL, 0)) return') 2>/dev/null || fail "the compiler refuses what is right"
 plus=${CXX:-c++}
 if command -v "$plus" >/dev/null; then
     for standard in c++11 c++20; do

@@ -3,7 +3,9 @@
 #
 # The archive and the shared library export the calls of the header alone. The example is built by pkg-config, as C and as C++,
 # against the shared library and against the archive, and by CMake where there is cmake; each prints what it should. The same by
-# the tarball of `make dist`, unpacked elsewhere and without rt. In the end all is uninstalled, and nothing is left.
+# the tarball of `make dist`, unpacked elsewhere and without rt. In the end all is uninstalled, and nothing is left. Manual pages
+# are made and installed where there is doxygen, and Debian packages where there are debhelper and doxygen: lintian finds no
+# error in them, and the example is built against what they unpack.
 #
 # Needs make, a C and a C++ compiler, nm and pkg-config; the library as `scripts/faces.sh library` builds it. The last line says
 # what passed; the status is 0 where all did.
@@ -26,7 +28,7 @@ done
 
 # exports NM-FLAGS FILE: the names that a library defines for others, which have to be those of the header
 exports() {
-    sed -n 's/^[a-z0-9_ ]*[ *]\(cpl_[a-z0-9_]*\)(.*/\1/p' "$root/include/codec_payload.h" | grep -v -x cpl_status_text |
+    sed -n 's/^[A-Za-z0-9_ ]*[ *]\(cpay_[a-z0-9_]*\)(.*/\1/p' "$root/include/codec_payload.h" | grep -v -x cpay_status_text |
         sort -u >"$work/wanted"
     nm --defined-only --extern-only $1 "$2" | sed -n 's/.* [A-Z] \([^@]*\).*/\1/p' | grep -v -x CODEC_PAYLOAD_0 |
         sort -u >"$work/found"
@@ -74,6 +76,29 @@ END
     prints "$work/project/build/example_static"
 }
 
+# packs FOLDER: Debian packages of it, and the example against what is in them
+packs() {
+    command -v dh >/dev/null && command -v doxygen >/dev/null && command -v dpkg-buildpackage >/dev/null || return 0
+    make -s -C "$1" deb >"$work/deb.log" 2>&1 || {
+        tail -n 40 "$work/deb.log" >&2
+        fail "there are no Debian packages"
+    }
+    if command -v lintian >/dev/null; then
+        lintian --fail-on error "$1"/bindings/out/*.deb >"$work/lintian.log" 2>&1 || {
+            cat "$work/lintian.log" >&2
+            fail "lintian finds errors"
+        }
+    fi
+    for package in "$1"/bindings/out/*.deb; do
+        dpkg-deb -x "$package" "$work/debian"
+    done
+    [ -f "$work/debian/usr/share/man/man3/cpay_buffer_pop.3.gz" ] || fail "the manual pages are not packed"
+    folder=$(dirname "$(find "$work/debian" -name libcodec_payload.so.0)")
+    "$compiler" -std=c11 -I"$work/debian/usr/include" "$1/bindings/c/example.c" -L"$folder" -lcodec_payload -o "$work/packed" &&
+        LD_LIBRARY_PATH=$folder "$work/packed" >"$work/printed" || fail "the example fails against the Debian packages"
+    packed=", the Debian packages"
+}
+
 # installs FOLDER: from there into $prefix, builds against it, and uninstalls
 installs() {
     make -s -C "$1" install PREFIX="$prefix" || fail "it is not installed"
@@ -85,8 +110,10 @@ installs() {
     [ -z "$(find "$prefix" ! -type d)" ] || fail "something is left of what was installed"
 }
 
+packed=
 prefix=$work/prefix
 installs "$root"
+packs "$root"
 make -s -C "$root" install PREFIX=/usr DESTDIR="$work/staged"
 [ -f "$work/staged/usr/include/codec_payload.h" ] || fail "DESTDIR is not looked at"
 grep -q -x prefix=/usr "$work/staged/usr/lib/pkgconfig/codec-payload.pc" || fail "DESTDIR stands in codec-payload.pc"
@@ -96,4 +123,4 @@ tar -xzf "$root"/bindings/out/codec-payload-*.tar.gz -C "$work/unpacked"
 prefix=$work/other
 installs "$work/unpacked"/codec-payload-*
 
-echo "install: exports, pkg-config, C++, CMake, the tarball and the way back: all passed"
+echo "install: exports, pkg-config, C++, CMake, the tarball$packed and the way back: all passed"

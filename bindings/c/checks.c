@@ -18,38 +18,48 @@ static void check_at(bool holds, const char *what, int line) {
 
 static bool same(const uint8_t *found, const char *wanted, size_t size) { return memcmp(found, wanted, size) == 0; }
 
-static cpl_spec spec_of(uint32_t codec, uint32_t rate) {
-    cpl_spec spec = {.codec = codec, .rate = rate};
+/* Memory of any kind, since a struct of one kind may reach a call of another behind a cast. */
+typedef union {
+    cpay_packetizer packetizer;
+    cpay_buffer buffer;
+    cpay_depacketizer depacketizer;
+    cpay_red_sender red_sender;
+} any;
+
+#define ANY_INIT { CPAY_INIT }
+
+static cpay_spec spec_of(uint32_t codec, uint32_t rate) {
+    cpay_spec spec = {.codec = codec, .rate = rate};
     return spec;
 }
 
-/* Every call that takes a handle, on one that is empty or of another kind. */
-static void refusals(cpl_handle *handle, uint32_t packets, uint32_t units, uint32_t red, uint32_t pieces) {
+/* Every call on a struct that is empty or of another kind. */
+static void refusals(any *it, cpay_status packets, cpay_status units, cpay_status red, cpay_status pieces) {
     uint8_t bytes[4] = {7, 7, 7, 7};
     size_t count = 7;
     uint32_t distance = 1;
-    cpl_packet_info packet = {.bytes = 7};
-    cpl_received received = {.number = 1, .payload_type = 96};
-    cpl_unit unit = {.first = 7};
-    cpl_buffer_counts_info counts = {.held = 7};
-    cpl_extra extra = {.picture_id = 7};
+    cpay_packet_info packet = {.bytes = 7};
+    cpay_received received = {.number = 1};
+    cpay_unit unit = {.first = 7};
+    cpay_buffer_counts_info counts = {.held = 7};
+    cpay_extra extra = {.picture_id = 7};
     uint8_t payload[1] = {0};
     if (packets) {
-        CHECK(cpl_packetize(handle, 100, false, payload, 1, &count) == packets);
-        CHECK(cpl_packet(handle, &packet, bytes, 4) == packets);
+        CHECK(cpay_packetize(&it->packetizer, 100, false, payload, 1, &count) == packets);
+        CHECK(cpay_packet(&it->packetizer, &packet, bytes, 4) == packets);
     }
     if (units) {
-        CHECK(cpl_buffer_push(handle, &received, payload, 1) == units);
-        CHECK(cpl_buffer_pop(handle, &unit, bytes, 4) == units);
-        CHECK(cpl_buffer_counts(handle, &counts) == units);
+        CHECK(cpay_buffer_push(&it->buffer, &received, payload, 1) == units);
+        CHECK(cpay_buffer_pop(&it->buffer, &unit, bytes, 4) == units);
+        CHECK(cpay_buffer_counts(&it->buffer, &counts) == units);
     }
     if (red) {
-        CHECK(cpl_red_sync(handle, 1, 2, &distance, 1) == red);
-        CHECK(cpl_red_wrap(handle, 0, 4, payload, 1, bytes, 4, &count) == red);
+        CHECK(cpay_red_sync(&it->red_sender, 1, 2, &distance, 1) == red);
+        CHECK(cpay_red_wrap(&it->red_sender, 0, 4, payload, 1, bytes, 4, &count) == red);
     }
     if (pieces) {
-        CHECK(cpl_depacketize(handle, payload, 1) == pieces);
-        CHECK(cpl_depacketized(handle, &count, &extra, bytes, 4) == pieces);
+        CHECK(cpay_depacketize(&it->depacketizer, payload, 1) == pieces);
+        CHECK(cpay_depacketized(&it->depacketizer, &count, &extra, bytes, 4) == pieces);
     }
     CHECK(same(bytes, "\7\7\7\7", 4));
     CHECK(count == 7 && packet.bytes == 7 && unit.first == 7 && counts.held == 7 && extra.picture_id == 7);
@@ -75,9 +85,9 @@ static void texts(void) {
         {17, "out of memory"},
         {32, "there is none"},
         {33, "the caller's bytes are too few"},
-        {34, "the handle is empty"},
-        {35, "the handle holds something of another kind"},
-        {36, "the handle is full"},
+        {34, "nothing was made in it"},
+        {35, "it holds something of another kind"},
+        {36, "it is full already"},
         {37, "an argument is none that the call takes"},
         {38, "the frame ends too early"},
         {39, "the frame has a wrong marker"},
@@ -88,275 +98,313 @@ static void texts(void) {
         {42, "unknown status"},
     };
     for (size_t i = 0; i < sizeof rows / sizeof *rows; i++)
-        CHECK(strcmp(cpl_status_text(rows[i].status), rows[i].text) == 0);
+        CHECK(strcmp(cpay_status_text((cpay_status)rows[i].status), rows[i].text) == 0);
 }
 
-static void handles(void) {
-    cpl_handle handle = CPL_HANDLE_INIT;
-    cpl_spec opus = spec_of(CPL_OPUS, 48000);
+static void kinds(void) {
+    any it = ANY_INIT;
+    cpay_spec opus = spec_of(CPAY_OPUS, 48000);
     uint32_t distance = 1;
-    refusals(&handle, CPL_EMPTY, CPL_EMPTY, CPL_EMPTY, CPL_EMPTY);
-    cpl_free(&handle);
-    CHECK(cpl_packetizer_new(&handle, &opus) == CPL_OK);
-    CHECK(cpl_packetizer_new(&handle, &opus) == CPL_FULL);
-    CHECK(cpl_buffer_new(&handle, &opus, 0, 1) == CPL_FULL);
-    CHECK(cpl_depacketizer_new(&handle, &opus) == CPL_FULL);
-    CHECK(cpl_red_sender_new(&handle, 1, 2, &distance, 1) == CPL_FULL);
-    refusals(&handle, 0, CPL_OTHER_KIND, CPL_OTHER_KIND, CPL_OTHER_KIND);
-    cpl_free(&handle);
-    cpl_free(&handle);
-    refusals(&handle, CPL_EMPTY, CPL_EMPTY, CPL_EMPTY, CPL_EMPTY);
-    CHECK(cpl_buffer_new(&handle, &opus, 0, 1) == CPL_OK);
-    refusals(&handle, CPL_OTHER_KIND, 0, CPL_OTHER_KIND, CPL_OTHER_KIND);
-    cpl_free(&handle);
-    CHECK(cpl_red_sender_new(&handle, 1, 2, &distance, 1) == CPL_OK);
-    refusals(&handle, CPL_OTHER_KIND, CPL_OTHER_KIND, 0, CPL_OTHER_KIND);
-    cpl_free(&handle);
-    CHECK(cpl_depacketizer_new(&handle, &opus) == CPL_OK);
-    refusals(&handle, CPL_OTHER_KIND, CPL_OTHER_KIND, CPL_OTHER_KIND, 0);
-    cpl_free(&handle);
+    refusals(&it, CPAY_EMPTY, CPAY_EMPTY, CPAY_EMPTY, CPAY_EMPTY);
+    cpay_buffer_free(&it.buffer);
+    CHECK(cpay_packetizer_new(&it.packetizer, &opus) == CPAY_OK);
+    CHECK(cpay_packetizer_new(&it.packetizer, &opus) == CPAY_FULL);
+    CHECK(cpay_buffer_new(&it.buffer, &opus, 0, 1) == CPAY_FULL);
+    CHECK(cpay_depacketizer_new(&it.depacketizer, &opus) == CPAY_FULL);
+    CHECK(cpay_red_sender_new(&it.red_sender, 1, 2, &distance, 1) == CPAY_FULL);
+    refusals(&it, CPAY_OK, CPAY_OTHER_KIND, CPAY_OTHER_KIND, CPAY_OTHER_KIND);
+    cpay_buffer_free(&it.buffer);
+    cpay_buffer_free(&it.buffer);
+    refusals(&it, CPAY_EMPTY, CPAY_EMPTY, CPAY_EMPTY, CPAY_EMPTY);
+    CHECK(cpay_buffer_new(&it.buffer, &opus, 0, 1) == CPAY_OK);
+    refusals(&it, CPAY_OTHER_KIND, CPAY_OK, CPAY_OTHER_KIND, CPAY_OTHER_KIND);
+    cpay_buffer_free(&it.buffer);
+    CHECK(cpay_red_sender_new(&it.red_sender, 1, 2, &distance, 1) == CPAY_OK);
+    refusals(&it, CPAY_OTHER_KIND, CPAY_OTHER_KIND, CPAY_OK, CPAY_OTHER_KIND);
+    cpay_buffer_free(&it.buffer);
+    CHECK(cpay_depacketizer_new(&it.depacketizer, &opus) == CPAY_OK);
+    refusals(&it, CPAY_OTHER_KIND, CPAY_OTHER_KIND, CPAY_OTHER_KIND, CPAY_OK);
+    cpay_buffer_free(&it.buffer);
 }
 
 static void arguments(void) {
-    cpl_handle handle = CPL_HANDLE_INIT;
+    any it = ANY_INIT;
     for (uint32_t codec = 0; codec < 20; codec++) {
-        bool there = codec <= CPL_AMR_WB || (codec >= CPL_VP8 && codec <= CPL_TELE);
-        cpl_spec spec = spec_of(codec, 8000), stopped = spec_of(codec, 0), ids = spec;
+        bool there = codec <= CPAY_AMR_WB || (codec >= CPAY_VP8 && codec <= CPAY_TELE);
+        cpay_spec spec = spec_of(codec, 8000), stopped = spec_of(codec, 0), ids = spec;
         ids.first_id = 32768;
-        CHECK(cpl_packetizer_new(&handle, &spec) == (there ? CPL_OK : CPL_INVALID));
-        cpl_free(&handle);
-        CHECK(cpl_depacketizer_new(&handle, &spec) == (there ? CPL_OK : CPL_INVALID));
-        cpl_free(&handle);
-        CHECK(cpl_buffer_new(&handle, &spec, 0, 65536) == (there ? CPL_OK : CPL_INVALID));
-        cpl_free(&handle);
-        CHECK(cpl_packetizer_new(&handle, &stopped) == CPL_INVALID);
-        CHECK(cpl_packetizer_new(&handle, &ids) == CPL_INVALID);
+        CHECK(cpay_packetizer_new(&it.packetizer, &spec) == (there ? CPAY_OK : CPAY_INVALID));
+        cpay_buffer_free(&it.buffer);
+        CHECK(cpay_depacketizer_new(&it.depacketizer, &spec) == (there ? CPAY_OK : CPAY_INVALID));
+        cpay_buffer_free(&it.buffer);
+        CHECK(cpay_buffer_new(&it.buffer, &spec, 0, 65536) == (there ? CPAY_OK : CPAY_INVALID));
+        cpay_buffer_free(&it.buffer);
+        CHECK(cpay_packetizer_new(&it.packetizer, &stopped) == CPAY_INVALID);
+        CHECK(cpay_packetizer_new(&it.packetizer, &ids) == CPAY_INVALID);
         /* What only receives does not look at the picture id. */
-        CHECK(cpl_depacketizer_new(&handle, &ids) == (there ? CPL_OK : CPL_INVALID));
-        cpl_free(&handle);
-        CHECK(cpl_buffer_new(&handle, &ids, 0, 1) == (there ? CPL_OK : CPL_INVALID));
-        cpl_free(&handle);
-        CHECK(cpl_buffer_new(&handle, &stopped, 0, 1) == CPL_INVALID);
-        CHECK(cpl_buffer_new(&handle, &spec, 0, 0) == CPL_INVALID);
-        CHECK(cpl_buffer_new(&handle, &spec, 0, 65537) == CPL_INVALID);
-        CHECK(!handle.full);
+        CHECK(cpay_depacketizer_new(&it.depacketizer, &ids) == (there ? CPAY_OK : CPAY_INVALID));
+        cpay_buffer_free(&it.buffer);
+        CHECK(cpay_buffer_new(&it.buffer, &ids, 0, 1) == (there ? CPAY_OK : CPAY_INVALID));
+        cpay_buffer_free(&it.buffer);
+        CHECK(cpay_buffer_new(&it.buffer, &stopped, 0, 1) == CPAY_INVALID);
+        CHECK(cpay_buffer_new(&it.buffer, &spec, 0, 0) == CPAY_INVALID);
+        CHECK(cpay_buffer_new(&it.buffer, &spec, 0, 65537) == CPAY_INVALID);
+        CHECK(!it.buffer.handle.full);
     }
     uint32_t falling[2] = {2, 1}, far[1] = {9};
-    CHECK(cpl_red_sender_new(&handle, 1, 2, falling, 2) == CPL_INVALID);
-    CHECK(cpl_red_sender_new(&handle, 1, 2, far, 1) == CPL_INVALID);
-    CHECK(cpl_red_sender_new(&handle, 1, 2, far, 0) == CPL_OK);
-    CHECK(cpl_red_sync(&handle, 1, 2, falling, 2) == CPL_INVALID);
-    cpl_free(&handle);
+    CHECK(cpay_red_sender_new(&it.red_sender, 1, 2, falling, 2) == CPAY_INVALID);
+    CHECK(cpay_red_sender_new(&it.red_sender, 1, 2, far, 1) == CPAY_INVALID);
+    CHECK(cpay_red_sender_new(&it.red_sender, 1, 2, far, 0) == CPAY_OK);
+    CHECK(cpay_red_sync(&it.red_sender, 1, 2, falling, 2) == CPAY_INVALID);
+    cpay_buffer_free(&it.buffer);
 }
 
 /* VP8 with picture ids (RFC 7741, section 4.2): X S, I, the id, and the frame. */
 static void vp8(void) {
-    cpl_handle sender = CPL_HANDLE_INIT, buffer = CPL_HANDLE_INIT;
-    cpl_spec spec = {.codec = CPL_VP8, .rate = 90000, .first_id = 32, .vp8_ids = true};
+    cpay_packetizer sender = CPAY_INIT;
+    cpay_buffer buffer = CPAY_INIT;
+    cpay_spec spec = {.codec = CPAY_VP8, .rate = 90000, .first_id = 32, .vp8_ids = true};
     const uint8_t frame[3] = {0x90, 0x90, 0x90};
     uint8_t bytes[8] = {0};
     size_t count = 0;
-    cpl_packet_info packet = {0};
-    CHECK(cpl_packetizer_new(&sender, &spec) == CPL_OK);
-    CHECK(cpl_buffer_new(&buffer, &spec, 2, 100) == CPL_OK);
-    CHECK(cpl_packet(&sender, &packet, bytes, 8) == CPL_NONE);
-    CHECK(cpl_packetize(&sender, 5, true, frame, 3, &count) == CPL_OK && count == 2);
-    CHECK(cpl_packet(&sender, &packet, bytes, 4) == CPL_TOO_SMALL && packet.bytes == 5);
-    CHECK(cpl_packet(&sender, &packet, bytes, 5) == CPL_OK && same(bytes, "\x90\x80\x20\x90\x90", 5));
+    cpay_packet_info packet = {0};
+    CHECK(cpay_packetizer_new(&sender, &spec) == CPAY_OK);
+    CHECK(cpay_buffer_new(&buffer, &spec, 2, 100) == CPAY_OK);
+    CHECK(cpay_packet(&sender, &packet, bytes, 8) == CPAY_NONE);
+    CHECK(cpay_packetize(&sender, 5, true, frame, 3, &count) == CPAY_OK && count == 2);
+    CHECK(cpay_packet(&sender, &packet, bytes, 4) == CPAY_TOO_SMALL && packet.bytes == 5);
+    CHECK(cpay_packet(&sender, &packet, bytes, 5) == CPAY_OK && same(bytes, "\x90\x80\x20\x90\x90", 5));
     CHECK(!packet.marker && packet.nackable);
-    cpl_received received = {.number = 7, .received = 20, .rtp_time = 3000, .payload_type = 96};
-    CHECK(cpl_buffer_push(&buffer, &received, bytes, 5) == CPL_OK);
-    CHECK(cpl_packet(&sender, &packet, bytes, 8) == CPL_OK && packet.bytes == 4 && same(bytes, "\x80\x80\x20\x90", 4));
+    cpay_received received = {.number = 7, .received = 20, .rtp_time = 3000};
+    CHECK(cpay_buffer_push(&buffer, &received, bytes, 5) == CPAY_OK);
+    CHECK(cpay_packet(&sender, &packet, bytes, 8) == CPAY_OK && packet.bytes == 4 && same(bytes, "\x80\x80\x20\x90", 4));
     CHECK(packet.marker);
-    CHECK(cpl_packet(&sender, &packet, bytes, 8) == CPL_NONE);
+    CHECK(cpay_packet(&sender, &packet, bytes, 8) == CPAY_NONE);
 
-    cpl_unit unit = {0};
-    cpl_buffer_counts_info counts = {0};
-    CHECK(cpl_buffer_pop(&buffer, &unit, bytes, 8) == CPL_NONE);
-    received = (cpl_received){.number = 8, .received = 10, .rtp_time = 3000, .payload_type = 96, .marker = true};
-    CHECK(cpl_buffer_push(&buffer, &received, bytes, 4) == CPL_OK);
-    CHECK(cpl_buffer_counts(&buffer, &counts) == CPL_OK);
+    cpay_unit unit = {0};
+    cpay_buffer_counts_info counts = {0};
+    CHECK(cpay_buffer_pop(&buffer, &unit, bytes, 8) == CPAY_NONE);
+    received = (cpay_received){.number = 8, .received = 10, .rtp_time = 3000, .marker = true};
+    CHECK(cpay_buffer_push(&buffer, &received, bytes, 4) == CPAY_OK);
+    CHECK(cpay_buffer_counts(&buffer, &counts) == CPAY_OK);
     CHECK(counts.held == 2 && counts.ready == 1 && counts.limit == 100 && !counts.waiting);
-    CHECK(cpl_buffer_pop(&buffer, &unit, bytes, 2) == CPL_TOO_SMALL && unit.bytes == 3);
-    CHECK(cpl_buffer_counts(&buffer, &counts) == CPL_OK && counts.held == 0 && counts.waiting);
+    CHECK(cpay_buffer_pop(&buffer, &unit, bytes, 2) == CPAY_TOO_SMALL && unit.bytes == 3);
+    CHECK(cpay_buffer_counts(&buffer, &counts) == CPAY_OK && counts.held == 0 && counts.waiting);
     memset(&unit, 0, sizeof unit);
-    CHECK(cpl_buffer_pop(&buffer, &unit, bytes, 3) == CPL_OK && same(bytes, "\x90\x90\x90", 3));
+    CHECK(cpay_buffer_pop(&buffer, &unit, bytes, 3) == CPAY_OK && same(bytes, "\x90\x90\x90", 3));
     CHECK(unit.first == 7 && unit.last == 8 && unit.rtp_time == 3000 && unit.received == 10 && unit.bytes == 3);
     CHECK(unit.contiguous && !unit.starts_talk_spurt);
-    CHECK(unit.extra.kind == CPL_EXTRA_VP8 && unit.extra.has_picture_id && unit.extra.picture_id == 32);
+    CHECK(unit.extra.kind == CPAY_EXTRA_VP8 && unit.extra.has_picture_id && unit.extra.picture_id == 32);
     CHECK(!unit.extra.has_tl0_picture_id && unit.extra.is_keyframe && unit.extra.has_temporal_layer);
-    CHECK(cpl_buffer_pop(&buffer, &unit, bytes, 3) == CPL_NONE);
-    cpl_free(&sender);
-    cpl_free(&buffer);
+    CHECK(cpay_buffer_pop(&buffer, &unit, bytes, 3) == CPAY_NONE);
+    cpay_packetizer_free(&sender);
+    cpay_buffer_free(&buffer);
 }
 
 static void descriptors(void) {
     uint8_t one[4] = {0x90, 0x80, 0x20, 0x90}, two[5] = {0x90, 0x80, 0xff, 0xff, 0x91};
-    cpl_vp8_fields_info fields = {0}, values = {0};
+    cpay_vp8_fields_info fields = {0}, values = {0};
     bool keyframe = false;
-    CHECK(cpl_vp8_fields(one, 4, &fields, &keyframe) == CPL_OK);
+    CHECK(cpay_vp8_fields(one, 4, &fields, &keyframe) == CPAY_OK);
     CHECK(fields.has_picture_id && fields.picture_id == 32 && !fields.has_tl0_pic_idx && !fields.has_key_idx && keyframe);
-    CHECK(cpl_vp8_fields(two, 5, &fields, &keyframe) == CPL_OK && fields.picture_id == 32767 && !keyframe);
-    CHECK(cpl_vp8_fields(one, 3, &fields, &keyframe) == CPL_SHORT_PACKET);
-    CHECK(cpl_vp8_fields((const uint8_t *)"\x90\x40\x00\x90", 4, &fields, &keyframe) == CPL_VP8_CORRUPTED);
-    CHECK(cpl_vp8_patch(one, 4, &values) == CPL_OK && same(one, "\x90\x80\x20\x90", 4));
+    CHECK(cpay_vp8_fields(two, 5, &fields, &keyframe) == CPAY_OK && fields.picture_id == 32767 && !keyframe);
+    CHECK(cpay_vp8_fields(one, 3, &fields, &keyframe) == CPAY_SHORT_PACKET);
+    CHECK(cpay_vp8_fields((const uint8_t *)"\x90\x40\x00\x90", 4, &fields, &keyframe) == CPAY_VP8_CORRUPTED);
+    CHECK(cpay_vp8_patch(one, 4, &values) == CPAY_OK && same(one, "\x90\x80\x20\x90", 4));
     values.has_picture_id = true;
     values.picture_id = 33;
-    CHECK(cpl_vp8_patch(one, 4, &values) == CPL_OK && same(one, "\x90\x80\x21\x90", 4));
+    CHECK(cpay_vp8_patch(one, 4, &values) == CPAY_OK && same(one, "\x90\x80\x21\x90", 4));
     values.picture_id = 128;
-    CHECK(cpl_vp8_patch(one, 4, &values) == CPL_INVALID && same(one, "\x90\x80\x21\x90", 4));
+    CHECK(cpay_vp8_patch(one, 4, &values) == CPAY_INVALID && same(one, "\x90\x80\x21\x90", 4));
     values.picture_id = 0x1234;
-    CHECK(cpl_vp8_patch(two, 5, &values) == CPL_OK && same(two, "\x90\x80\x92\x34\x91", 5));
-    CHECK(cpl_vp8_patch(one, 3, &values) == CPL_SHORT_PACKET);
-    values = (cpl_vp8_fields_info){.has_tl0_pic_idx = true};
-    CHECK(cpl_vp8_patch(two, 5, &values) == CPL_NONE);
+    CHECK(cpay_vp8_patch(two, 5, &values) == CPAY_OK && same(two, "\x90\x80\x92\x34\x91", 5));
+    CHECK(cpay_vp8_patch(one, 3, &values) == CPAY_SHORT_PACKET);
+    values = (cpay_vp8_fields_info){.has_tl0_pic_idx = true};
+    CHECK(cpay_vp8_patch(two, 5, &values) == CPAY_NONE);
     /* X S, L T K, TL0PICIDX, TID Y KEYIDX, and bytes behind */
     uint8_t layered[9] = {0x90, 0x70, 5, 0x61, 0x91, 6, 7, 8, 9};
-    values = (cpl_vp8_fields_info){.tl0_pic_idx = 200, .key_idx = 31, .has_tl0_pic_idx = true, .has_key_idx = true};
-    CHECK(cpl_vp8_patch(layered, 9, &values) == CPL_OK && same(layered, "\x90\x70\xc8\x7f\x91\6\7\x8\x9", 9));
+    values = (cpay_vp8_fields_info){.tl0_pic_idx = 200, .key_idx = 31, .has_tl0_pic_idx = true, .has_key_idx = true};
+    CHECK(cpay_vp8_patch(layered, 9, &values) == CPAY_OK && same(layered, "\x90\x70\xc8\x7f\x91\6\7\x8\x9", 9));
     values.key_idx = 32;
-    CHECK(cpl_vp8_patch(layered, 9, &values) == CPL_INVALID && layered[2] == 200);
+    CHECK(cpay_vp8_patch(layered, 9, &values) == CPAY_INVALID && layered[2] == 200);
 }
 
 /* RFC 2198, section 3: F and the type, 14 bits of offset, 10 of length; F clear and the type; the bytes of the blocks. */
 static void red(void) {
-    cpl_handle sender = CPL_HANDLE_INIT;
+    cpay_red_sender sender = CPAY_INIT;
     uint32_t distance = 1;
     uint8_t bytes[16] = {0};
     size_t size = 0;
-    CHECK(cpl_red_sender_new(&sender, 63, 111, &distance, 1) == CPL_OK);
-    CHECK(cpl_red_wrap(&sender, 0, 16, (const uint8_t *)"\1\2", 2, bytes, 15, &size) == CPL_TOO_SMALL && size == 16);
-    CHECK(cpl_red_wrap(&sender, 0, 16, (const uint8_t *)"\1\2", 2, bytes, 16, &size) == CPL_OK);
+    CHECK(cpay_red_sender_new(&sender, 63, 111, &distance, 1) == CPAY_OK);
+    CHECK(cpay_red_wrap(&sender, 0, 16, (const uint8_t *)"\1\2", 2, bytes, 15, &size) == CPAY_TOO_SMALL && size == 16);
+    CHECK(cpay_red_wrap(&sender, 0, 16, (const uint8_t *)"\1\2", 2, bytes, 16, &size) == CPAY_OK);
     CHECK(size == 3 && same(bytes, "\x6f\1\2", 3));
-    CHECK(cpl_red_wrap(&sender, 960, 16, (const uint8_t *)"\3", 1, bytes, 16, &size) == CPL_OK);
+    CHECK(cpay_red_wrap(&sender, 960, 16, (const uint8_t *)"\3", 1, bytes, 16, &size) == CPAY_OK);
     CHECK(size == 8 && same(bytes, "\xef\x0f\x00\x02\x6f\1\2\3", 8));
-    CHECK(cpl_red_sync(&sender, 63, 111, &distance, 0) == CPL_OK);
+    CHECK(cpay_red_sync(&sender, 63, 111, &distance, 0) == CPAY_OK);
     uint8_t plain[16] = {0};
-    CHECK(cpl_red_wrap(&sender, 1920, 16, (const uint8_t *)"\4", 1, plain, 16, &size) == CPL_OK && size == 2);
-    cpl_free(&sender);
+    CHECK(cpay_red_wrap(&sender, 1920, 16, (const uint8_t *)"\4", 1, plain, 16, &size) == CPAY_OK && size == 2);
+    cpay_red_sender_free(&sender);
 
     uint8_t found[4] = {0};
-    cpl_red_block_info block = {0};
-    CHECK(cpl_red_block(bytes, 8, 0, &block, found, 1) == CPL_TOO_SMALL && block.bytes == 2);
-    CHECK(cpl_red_block(bytes, 8, 0, &block, found, 4) == CPL_OK && same(found, "\1\2", 2));
+    cpay_red_block_info block = {0};
+    CHECK(cpay_red_block(bytes, 8, 0, &block, found, 1) == CPAY_TOO_SMALL && block.bytes == 2);
+    CHECK(cpay_red_block(bytes, 8, 0, &block, found, 4) == CPAY_OK && same(found, "\1\2", 2));
     CHECK(block.offset == 960 && block.payload_type == 111 && !block.is_primary);
-    CHECK(cpl_red_block(bytes, 8, 1, &block, found, 4) == CPL_OK && block.is_primary && found[0] == 3);
-    CHECK(cpl_red_block(bytes, 8, 2, &block, found, 4) == CPL_NONE);
-    CHECK(cpl_red_block(bytes, 1, 0, &block, found, 4) == CPL_RED_CORRUPTED);
+    CHECK(cpay_red_block(bytes, 8, 1, &block, found, 4) == CPAY_OK && block.is_primary && found[0] == 3);
+    CHECK(cpay_red_block(bytes, 8, 2, &block, found, 4) == CPAY_NONE);
+    CHECK(cpay_red_block(bytes, 1, 0, &block, found, 4) == CPAY_RED_CORRUPTED);
 
-    cpl_recovered_info packet = {0};
-    CHECK(cpl_red_recover(111, 960, 7, 960, bytes, 8, 0, &packet, found, 4) == CPL_OK);
+    cpay_recovered_info packet = {0};
+    CHECK(cpay_red_recover(111, 960, 7, 960, bytes, 8, 0, &packet, found, 4) == CPAY_OK);
     CHECK(packet.number == 6 && packet.rtp_time == 0 && packet.bytes == 2 && !packet.is_primary && same(found, "\1\2", 2));
-    CHECK(cpl_red_recover(111, 960, 7, 960, bytes, 8, 1, &packet, found, 4) == CPL_OK);
+    CHECK(cpay_red_recover(111, 960, 7, 960, bytes, 8, 1, &packet, found, 4) == CPAY_OK);
     CHECK(packet.number == 7 && packet.rtp_time == 960 && packet.is_primary);
-    CHECK(cpl_red_recover(111, 960, 7, 960, bytes, 8, 2, &packet, found, 4) == CPL_NONE);
-    CHECK(cpl_red_recover(111, 960, 7, 960, bytes, 1, 0, &packet, found, 4) == CPL_RED_CORRUPTED);
-    CHECK(cpl_red_recover(111, 0, 7, 960, bytes, 8, 0, &packet, found, 4) == CPL_INVALID);
-    CHECK(cpl_red_recover(111, 16384, 7, 960, bytes, 8, 0, &packet, found, 4) == CPL_INVALID);
+    CHECK(cpay_red_recover(111, 960, 7, 960, bytes, 8, 2, &packet, found, 4) == CPAY_NONE);
+    CHECK(cpay_red_recover(111, 960, 7, 960, bytes, 1, 0, &packet, found, 4) == CPAY_RED_CORRUPTED);
+    CHECK(cpay_red_recover(111, 0, 7, 960, bytes, 8, 0, &packet, found, 4) == CPAY_INVALID);
+    CHECK(cpay_red_recover(111, 16384, 7, 960, bytes, 8, 0, &packet, found, 4) == CPAY_INVALID);
 
-    cpl_red_older older = {.start = 1, .bytes = 2, .offset = 960, .payload_type = 111};
-    CHECK(cpl_red_encode(111, (const uint8_t *)"\3", 1, &older, 1, (const uint8_t *)"\0\1\2", 3, plain, 16, &size) == CPL_OK);
+    cpay_red_older older = {.start = 1, .bytes = 2, .offset = 960, .payload_type = 111};
+    CHECK(cpay_red_encode(111, (const uint8_t *)"\3", 1, &older, 1, (const uint8_t *)"\0\1\2", 3, plain, 16, &size) == CPAY_OK);
     CHECK(size == 8 && same(plain, "\xef\x0f\x00\x02\x6f\1\2\3", 8));
-    CHECK(cpl_red_encode(111, found, 1, &older, 1, (const uint8_t *)"\0\1\2", 3, plain, 7, &size) == CPL_TOO_SMALL && size == 8);
+    CHECK(cpay_red_encode(111, found, 1, &older, 1, (const uint8_t *)"\0\1\2", 3, plain, 7, &size) == CPAY_TOO_SMALL && size == 8);
     older.bytes = 3;
-    CHECK(cpl_red_encode(111, found, 1, &older, 1, (const uint8_t *)"\0\1\2", 3, plain, 16, &size) == CPL_INVALID);
+    CHECK(cpay_red_encode(111, found, 1, &older, 1, (const uint8_t *)"\0\1\2", 3, plain, 16, &size) == CPAY_INVALID);
     older.bytes = SIZE_MAX;
-    CHECK(cpl_red_encode(111, found, 1, &older, 1, (const uint8_t *)"\0\1\2", 3, plain, 16, &size) == CPL_INVALID);
+    CHECK(cpay_red_encode(111, found, 1, &older, 1, (const uint8_t *)"\0\1\2", 3, plain, 16, &size) == CPAY_INVALID);
 }
 
 /* RFC 4733, section 2.3: the event, E R and the volume, the duration. 800 ticks at 8 kHz are 100 ms. */
 static void telephone(void) {
     static const uint8_t reports[8] = {5, 0x8a, 3, 0x20, 6, 10, 1, 0x40};
-    cpl_tele_event event = {0};
+    cpay_tele_event event = {0};
     uint8_t bytes[4] = {0};
-    CHECK(cpl_tele_read(reports, 8, 8000, 0, &event) == CPL_OK);
+    CHECK(cpay_tele_read(reports, 8, 8000, 0, &event) == CPAY_OK);
     CHECK(event.event == 5 && event.end && event.volume == 10 && event.duration == 100000000);
-    CHECK(cpl_tele_write(&event, 8000, bytes, 3) == CPL_TOO_SMALL);
-    CHECK(cpl_tele_write(&event, 8000, bytes, 4) == CPL_OK && same(bytes, "\5\x8a\3\x20", 4));
-    CHECK(cpl_tele_read(reports, 8, 8000, 1, &event) == CPL_OK && event.event == 6 && !event.end);
+    CHECK(cpay_tele_write(&event, 8000, bytes, 3) == CPAY_TOO_SMALL);
+    CHECK(cpay_tele_write(&event, 8000, bytes, 4) == CPAY_OK && same(bytes, "\5\x8a\3\x20", 4));
+    CHECK(cpay_tele_read(reports, 8, 8000, 1, &event) == CPAY_OK && event.event == 6 && !event.end);
     CHECK(event.duration == 40000000);
-    CHECK(cpl_tele_read(reports, 8, 8000, 2, &event) == CPL_NONE);
-    CHECK(cpl_tele_read(reports, 7, 8000, 0, &event) == CPL_TELE_INVALID);
-    CHECK(cpl_tele_read(reports, 0, 8000, 0, &event) == CPL_TELE_INVALID);
-    CHECK(cpl_tele_read(reports, 8, 0, 0, &event) == CPL_INVALID);
+    CHECK(cpay_tele_read(reports, 8, 8000, 2, &event) == CPAY_NONE);
+    CHECK(cpay_tele_read(reports, 7, 8000, 0, &event) == CPAY_TELE_INVALID);
+    CHECK(cpay_tele_read(reports, 0, 8000, 0, &event) == CPAY_TELE_INVALID);
+    CHECK(cpay_tele_read(reports, 8, 0, 0, &event) == CPAY_INVALID);
     event.duration = 65536 * (uint64_t)125000;
-    CHECK(cpl_tele_write(&event, 8000, bytes, 4) == CPL_INVALID);
-    CHECK(cpl_tele_write(&event, 0, bytes, 4) == CPL_INVALID);
+    CHECK(cpay_tele_write(&event, 8000, bytes, 4) == CPAY_INVALID);
+    CHECK(cpay_tele_write(&event, 0, bytes, 4) == CPAY_INVALID);
 }
 
 static void looks(void) {
     bool answer = false;
-    CHECK(cpl_is_head(CPL_VP8, (const uint8_t *)"\x10\x90", 2, &answer) == CPL_OK && answer);
-    CHECK(cpl_is_head(CPL_VP8, (const uint8_t *)"\x00\x90", 2, &answer) == CPL_OK && !answer);
-    CHECK(cpl_is_tail(CPL_VP8, true, (const uint8_t *)"\x00\x90", 2, &answer) == CPL_OK && answer);
-    CHECK(cpl_is_tail(CPL_VP8, false, (const uint8_t *)"\x00\x90", 2, &answer) == CPL_OK && !answer);
-    CHECK(cpl_is_head(6, (const uint8_t *)"", 0, &answer) == CPL_INVALID);
-    CHECK(cpl_is_tail(99, true, (const uint8_t *)"", 0, &answer) == CPL_INVALID);
-    CHECK(cpl_vp8_is_keyframe((const uint8_t *)"\x10\x90", 2) && !cpl_vp8_is_keyframe((const uint8_t *)"\x10\x91", 2));
-    CHECK(cpl_vp9_frame_is_keyframe((const uint8_t *)"\x82\x49\x83", 3));
-    CHECK(!cpl_vp9_frame_is_keyframe((const uint8_t *)"\x86", 1));
-    CHECK(cpl_av1_is_keyframe((const uint8_t *)"\x18\x0a", 2) && !cpl_av1_is_keyframe((const uint8_t *)"\x10\x32", 2));
-    CHECK(cpl_vp9_is_keyframe((const uint8_t *)"\x08\x82", 2) && !cpl_vp9_is_keyframe((const uint8_t *)"\x48\x82", 2));
-    CHECK(cpl_extend_number(0, false, 65535) == 65535);
-    CHECK(cpl_extend_number(65535, true, 0) == 65536);
-    CHECK(cpl_extend_number(65536, true, 65535) == 65535);
-    CHECK(cpl_extend_number(65536, true, 32768) == 65536 + 32768);
-    CHECK(cpl_extend_number(65536, true, 32769) == 32769);
+    CHECK(cpay_is_head(CPAY_VP8, (const uint8_t *)"\x10\x90", 2, &answer) == CPAY_OK && answer);
+    CHECK(cpay_is_head(CPAY_VP8, (const uint8_t *)"\x00\x90", 2, &answer) == CPAY_OK && !answer);
+    CHECK(cpay_is_tail(CPAY_VP8, true, (const uint8_t *)"\x00\x90", 2, &answer) == CPAY_OK && answer);
+    CHECK(cpay_is_tail(CPAY_VP8, false, (const uint8_t *)"\x00\x90", 2, &answer) == CPAY_OK && !answer);
+    CHECK(cpay_is_head(6, (const uint8_t *)"", 0, &answer) == CPAY_INVALID);
+    CHECK(cpay_is_tail(99, true, (const uint8_t *)"", 0, &answer) == CPAY_INVALID);
+    CHECK(cpay_vp8_is_keyframe((const uint8_t *)"\x10\x90", 2) && !cpay_vp8_is_keyframe((const uint8_t *)"\x10\x91", 2));
+    CHECK(cpay_vp9_frame_is_keyframe((const uint8_t *)"\x82\x49\x83", 3));
+    CHECK(!cpay_vp9_frame_is_keyframe((const uint8_t *)"\x86", 1));
+    CHECK(cpay_av1_is_keyframe((const uint8_t *)"\x18\x0a", 2) && !cpay_av1_is_keyframe((const uint8_t *)"\x10\x32", 2));
+    CHECK(cpay_vp9_is_keyframe((const uint8_t *)"\x08\x82", 2) && !cpay_vp9_is_keyframe((const uint8_t *)"\x48\x82", 2));
+    CHECK(cpay_extend_number(0, false, 65535) == 65535);
+    CHECK(cpay_extend_number(65535, true, 0) == 65536);
+    CHECK(cpay_extend_number(65536, true, 65535) == 65535);
+    CHECK(cpay_extend_number(65536, true, 32768) == 65536 + 32768);
+    CHECK(cpay_extend_number(65536, true, 32769) == 32769);
 }
 
 /* Payloads of VP9 (RFC 9628, section 4.2) and of telephone events through a depacketizer alone. */
 static void pieces(void) {
-    cpl_handle handle = CPL_HANDLE_INIT;
-    cpl_spec vp9 = spec_of(CPL_VP9, 90000), tele = spec_of(CPL_TELE, 8000);
-    cpl_extra extra = {0};
+    cpay_depacketizer depacketizer = CPAY_INIT;
+    cpay_spec vp9 = spec_of(CPAY_VP9, 90000), tele = spec_of(CPAY_TELE, 8000);
+    cpay_extra extra = {0};
     uint8_t bytes[8] = {0};
     size_t size = 9;
-    CHECK(cpl_depacketizer_new(&handle, &vp9) == CPL_OK);
+    CHECK(cpay_depacketizer_new(&depacketizer, &vp9) == CPAY_OK);
     /* I L B, a 15-bit id, layers 0, TL0PICIDX 7; and then I L E and the same */
-    CHECK(cpl_depacketize(&handle, (const uint8_t *)"\xa8\x92\x34\x00\x07\x82\x49", 7) == CPL_OK);
-    CHECK(cpl_depacketize(&handle, (const uint8_t *)"\xa4\x92\x34\x00\x07\x83", 6) == CPL_OK);
-    CHECK(cpl_depacketized(&handle, &size, &extra, bytes, 2) == CPL_TOO_SMALL && size == 3);
-    CHECK(cpl_depacketized(&handle, &size, &extra, bytes, 8) == CPL_OK && size == 3 && same(bytes, "\x82\x49\x83", 3));
-    CHECK(extra.kind == CPL_EXTRA_VP9 && extra.has_picture_id && extra.picture_id == 0x1234 && extra.is_keyframe);
+    CHECK(cpay_depacketize(&depacketizer, (const uint8_t *)"\xa8\x92\x34\x00\x07\x82\x49", 7) == CPAY_OK);
+    CHECK(cpay_depacketize(&depacketizer, (const uint8_t *)"\xa4\x92\x34\x00\x07\x83", 6) == CPAY_OK);
+    CHECK(cpay_depacketized(&depacketizer, &size, &extra, bytes, 2) == CPAY_TOO_SMALL && size == 3);
+    CHECK(cpay_depacketized(&depacketizer, &size, &extra, bytes, 8) == CPAY_OK && size == 3 && same(bytes, "\x82\x49\x83", 3));
+    CHECK(extra.kind == CPAY_EXTRA_VP9 && extra.has_picture_id && extra.picture_id == 0x1234 && extra.is_keyframe);
     CHECK(extra.has_tl0_picture_id && extra.tl0_picture_id == 7 && extra.has_temporal_layer && extra.temporal_layer == 0);
     CHECK(extra.layers[0].has_end && extra.layers[0].end == 3 && !extra.layers[1].has_end && !extra.layers[0].has_width);
-    CHECK(cpl_depacketized(&handle, &size, &extra, bytes, 8) == CPL_OK && size == 0 && extra.kind == CPL_EXTRA_NONE);
-    CHECK(cpl_depacketize(&handle, bytes, 0) == CPL_SHORT_PACKET);
-    cpl_free(&handle);
-    CHECK(cpl_depacketizer_new(&handle, &tele) == CPL_OK);
-    CHECK(cpl_depacketize(&handle, (const uint8_t *)"\5\x8a\3", 3) == CPL_TELE_INVALID);
-    CHECK(cpl_depacketize(&handle, (const uint8_t *)"\5\x8a\3\x20", 4) == CPL_OK);
-    CHECK(cpl_depacketized(&handle, &size, &extra, bytes, 8) == CPL_OK && size == 4);
-    CHECK(extra.kind == CPL_EXTRA_TELE && extra.event.duration == 100000000 && extra.event.event == 5 && extra.event.end);
-    cpl_free(&handle);
+    CHECK(cpay_depacketized(&depacketizer, &size, &extra, bytes, 8) == CPAY_OK && size == 0 && extra.kind == CPAY_EXTRA_NONE);
+    CHECK(cpay_depacketize(&depacketizer, bytes, 0) == CPAY_SHORT_PACKET);
+    cpay_depacketizer_free(&depacketizer);
+    CHECK(cpay_depacketizer_new(&depacketizer, &tele) == CPAY_OK);
+    CHECK(cpay_depacketize(&depacketizer, (const uint8_t *)"\5\x8a\3", 3) == CPAY_TELE_INVALID);
+    CHECK(cpay_depacketize(&depacketizer, (const uint8_t *)"\5\x8a\3\x20", 4) == CPAY_OK);
+    CHECK(cpay_depacketized(&depacketizer, &size, &extra, bytes, 8) == CPAY_OK && size == 4);
+    CHECK(extra.kind == CPAY_EXTRA_TELE && extra.event.duration == 100000000 && extra.event.event == 5 && extra.event.end);
+    cpay_depacketizer_free(&depacketizer);
 }
 
 static void audio(void) {
-    cpl_handle sender = CPL_HANDLE_INIT;
-    cpl_spec opus = spec_of(CPL_OPUS, 48000), cn = spec_of(CPL_CN, 8000), null = spec_of(CPL_NULL, 8000);
+    cpay_packetizer sender = CPAY_INIT;
+    cpay_spec opus = spec_of(CPAY_OPUS, 48000), cn = spec_of(CPAY_CN, 8000), null = spec_of(CPAY_NULL, 8000);
     uint8_t bytes[4] = {0};
     size_t count = 9;
-    cpl_packet_info packet = {0};
-    CHECK(cpl_packetizer_new(&sender, &opus) == CPL_OK);
-    CHECK(cpl_packetize(&sender, 2, true, (const uint8_t *)"\1\2\3", 3, &count) == CPL_OK && count == 2);
-    CHECK(cpl_packet(&sender, &packet, bytes, 4) == CPL_OK && packet.marker && !packet.nackable);
-    CHECK(cpl_packet(&sender, &packet, bytes, 4) == CPL_OK && packet.marker && packet.bytes == 1 && bytes[0] == 3);
-    CHECK(cpl_packetize(&sender, 2, false, (const uint8_t *)"\4", 1, &count) == CPL_OK && count == 1);
-    CHECK(cpl_packet(&sender, &packet, bytes, 4) == CPL_OK && !packet.marker);
-    CHECK(cpl_packetize(&sender, 2, false, bytes, 0, &count) == CPL_OK && count == 0);
-    cpl_free(&sender);
-    CHECK(cpl_packetizer_new(&sender, &cn) == CPL_OK);
-    CHECK(cpl_packetize(&sender, 4, true, (const uint8_t *)"\1\2\3", 3, &count) == CPL_OK && count == 1);
-    CHECK(cpl_packetize(&sender, 2, true, (const uint8_t *)"\4\5\6", 3, &count) == CPL_PAYLOAD_TOO_LARGE);
-    CHECK(cpl_packet(&sender, &packet, bytes, 4) == CPL_OK && !packet.marker && same(bytes, "\1\2\3", 3));
-    cpl_free(&sender);
+    cpay_packet_info packet = {0};
+    CHECK(cpay_packetizer_new(&sender, &opus) == CPAY_OK);
+    CHECK(cpay_packetize(&sender, 2, true, (const uint8_t *)"\1\2\3", 3, &count) == CPAY_OK && count == 2);
+    CHECK(cpay_packet(&sender, &packet, bytes, 4) == CPAY_OK && packet.marker && !packet.nackable);
+    CHECK(cpay_packet(&sender, &packet, bytes, 4) == CPAY_OK && packet.marker && packet.bytes == 1 && bytes[0] == 3);
+    CHECK(cpay_packetize(&sender, 2, false, (const uint8_t *)"\4", 1, &count) == CPAY_OK && count == 1);
+    CHECK(cpay_packet(&sender, &packet, bytes, 4) == CPAY_OK && !packet.marker);
+    CHECK(cpay_packetize(&sender, 2, false, bytes, 0, &count) == CPAY_OK && count == 0);
+    cpay_packetizer_free(&sender);
+    CHECK(cpay_packetizer_new(&sender, &cn) == CPAY_OK);
+    CHECK(cpay_packetize(&sender, 4, true, (const uint8_t *)"\1\2\3", 3, &count) == CPAY_OK && count == 1);
+    CHECK(cpay_packetize(&sender, 2, true, (const uint8_t *)"\4\5\6", 3, &count) == CPAY_PAYLOAD_TOO_LARGE);
+    CHECK(cpay_packet(&sender, &packet, bytes, 4) == CPAY_OK && !packet.marker && same(bytes, "\1\2\3", 3));
+    cpay_packetizer_free(&sender);
     /* Payloads that carry whatever they are given look at no MTU and at no talk spurt, and an empty frame is one of them. */
-    CHECK(cpl_packetizer_new(&sender, &null) == CPL_OK);
-    CHECK(cpl_packetize(&sender, 2, true, (const uint8_t *)"\1\2\3", 3, &count) == CPL_OK && count == 1);
-    CHECK(cpl_packet(&sender, &packet, bytes, 4) == CPL_OK && !packet.marker && packet.bytes == 3 && same(bytes, "\1\2\3", 3));
-    CHECK(cpl_packetize(&sender, 0, false, bytes, 0, &count) == CPL_OK && count == 1);
-    CHECK(cpl_packet(&sender, &packet, bytes, 4) == CPL_OK && packet.bytes == 0);
-    cpl_free(&sender);
+    CHECK(cpay_packetizer_new(&sender, &null) == CPAY_OK);
+    CHECK(cpay_packetize(&sender, 2, true, (const uint8_t *)"\1\2\3", 3, &count) == CPAY_OK && count == 1);
+    CHECK(cpay_packet(&sender, &packet, bytes, 4) == CPAY_OK && !packet.marker && packet.bytes == 3 && same(bytes, "\1\2\3", 3));
+    CHECK(cpay_packetize(&sender, 0, false, bytes, 0, &count) == CPAY_OK && count == 1);
+    CHECK(cpay_packet(&sender, &packet, bytes, 4) == CPAY_OK && packet.bytes == 0);
+    cpay_packetizer_free(&sender);
+}
+
+/* NULL goes with a length of 0, and with no other. */
+static void nulls(void) {
+    cpay_packetizer sender = CPAY_INIT;
+    cpay_buffer buffer = CPAY_INIT;
+    cpay_red_sender red = CPAY_INIT;
+    cpay_spec opus = spec_of(CPAY_OPUS, 48000);
+    cpay_packet_info packet = {0};
+    cpay_received received = {.number = 1};
+    cpay_unit unit = {0};
+    bool answer = true;
+    uint8_t bytes[4] = {0};
+    size_t count = 9;
+    CHECK(cpay_packetizer_new(&sender, &opus) == CPAY_OK && cpay_buffer_new(&buffer, &opus, 0, 9) == CPAY_OK);
+    CHECK(cpay_packetize(&sender, 9, false, NULL, 0, &count) == CPAY_OK && count == 0);
+    CHECK(cpay_packetize(&sender, 9, false, NULL, 1, &count) == CPAY_INVALID && count == 0);
+    CHECK(cpay_packetize(&sender, 9, false, (const uint8_t *)"\7", 1, &count) == CPAY_OK && count == 1);
+    CHECK(cpay_packet(&sender, &packet, NULL, 1) == CPAY_INVALID && packet.bytes == 0);
+    CHECK(cpay_packet(&sender, &packet, NULL, 0) == CPAY_TOO_SMALL && packet.bytes == 1);
+    CHECK(cpay_buffer_push(&buffer, &received, NULL, 1) == CPAY_INVALID);
+    CHECK(cpay_buffer_push(&buffer, &received, (const uint8_t *)"\7", 1) == CPAY_OK);
+    CHECK(cpay_buffer_pop(&buffer, &unit, NULL, 0) == CPAY_TOO_SMALL && unit.bytes == 1);
+    CHECK(cpay_buffer_pop(&buffer, &unit, NULL, 1) == CPAY_INVALID);
+    CHECK(cpay_buffer_pop(&buffer, &unit, bytes, 1) == CPAY_OK && bytes[0] == 7);
+    CHECK(cpay_red_sender_new(&red, 63, 111, NULL, 1) == CPAY_INVALID);
+    CHECK(cpay_red_sender_new(&red, 63, 111, NULL, 0) == CPAY_OK);
+    CHECK(cpay_is_head(CPAY_OPUS, NULL, 0, &answer) == CPAY_OK && cpay_is_head(CPAY_OPUS, NULL, 1, &answer) == CPAY_INVALID);
+    CHECK(!cpay_vp8_is_keyframe(NULL, 0) && !cpay_vp8_is_keyframe(NULL, 1));
+    CHECK(cpay_version() == CPAY_VERSION);
+    cpay_packetizer_free(&sender);
+    cpay_buffer_free(&buffer);
+    cpay_red_sender_free(&red);
+    cpay_packetizer_free(NULL);
+    cpay_buffer_free(NULL);
+    cpay_depacketizer_free(NULL);
+    cpay_red_sender_free(NULL);
 }
 
 /* What frames say: headers that libvpx and libaom wrote, and the bytes of RFC 6716, RFC 7845 and RFC 4867. */
@@ -365,54 +413,65 @@ static void frames(void) {
     static const uint8_t unit[] = {0x12, 0x00, 0x0a, 0x0a, 0x00, 0x00, 0x00, 0x02, 0xaf,
                                    0xf7, 0x9b, 0x5f, 0x20, 0x08, 0x32, 0x01, 0x10};
     static const uint8_t opus[] = {0x78, 0x81}, sound[] = {0x70, 0x4c, 1, 2, 3, 4, 5};
-    cpl_frame_facts facts = {0};
-    CHECK(cpl_frame_info(CPL_VP8, vp8, sizeof vp8, &facts) == CPL_OK);
+    cpay_frame_facts facts = {0};
+    CHECK(cpay_frame_info(CPAY_VP8, vp8, sizeof vp8, &facts) == CPAY_OK);
     CHECK(facts.has_keyframe && facts.keyframe && facts.has_size && facts.width == 64 && facts.height == 48);
     CHECK(!facts.has_duration);
-    CHECK(cpl_frame_info(CPL_AV1, unit, sizeof unit, &facts) == CPL_OK);
+    CHECK(cpay_frame_info(CPAY_AV1, unit, sizeof unit, &facts) == CPAY_OK);
     CHECK(facts.keyframe && facts.width == 64 && facts.height == 48);
-    CHECK(cpl_frame_info(CPL_OPUS, opus, sizeof opus, &facts) == CPL_OK);
+    CHECK(cpay_frame_info(CPAY_OPUS, opus, sizeof opus, &facts) == CPAY_OK);
     CHECK(!facts.has_keyframe && !facts.has_size && facts.has_duration && facts.duration == 960);
     facts.duration = 7;
-    CHECK(cpl_frame_info(CPL_VP8, vp8, 9, &facts) == CPL_FRAME_TOO_SHORT);
-    CHECK(cpl_frame_info(CPL_VP9, vp8, sizeof vp8, &facts) == CPL_FRAME_MARKER);
-    CHECK(cpl_frame_info(CPL_AV1, unit + 1, sizeof unit - 1, &facts) == CPL_FRAME_RESERVED);
-    CHECK(cpl_frame_info(CPL_AV1, unit, 9, &facts) == CPL_FRAME_SIZES && facts.duration == 7);
+    CHECK(cpay_frame_info(CPAY_VP8, vp8, 9, &facts) == CPAY_FRAME_TOO_SHORT);
+    CHECK(cpay_frame_info(CPAY_VP9, vp8, sizeof vp8, &facts) == CPAY_FRAME_MARKER);
+    CHECK(cpay_frame_info(CPAY_AV1, unit + 1, sizeof unit - 1, &facts) == CPAY_FRAME_RESERVED);
+    CHECK(cpay_frame_info(CPAY_AV1, unit, 9, &facts) == CPAY_FRAME_SIZES && facts.duration == 7);
 
-    cpl_obu_info obu = {0};
+    cpay_obu_info obu = {0};
     unsigned types = 0;
-    for (size_t offset = 0; cpl_av1_obu(unit, sizeof unit, offset, &obu) == CPL_OK; offset = obu.start + obu.bytes)
+    for (size_t offset = 0; cpay_av1_obu(unit, sizeof unit, offset, &obu) == CPAY_OK; offset = obu.start + obu.bytes)
         types = 16 * types + obu.obu_type;
     CHECK(types == 0x216 && obu.start == 16 && obu.bytes == 1 && !obu.has_extension);
-    CHECK(cpl_av1_obu(unit, sizeof unit, sizeof unit, &obu) == CPL_NONE);
-    CHECK(cpl_av1_obu(unit, sizeof unit, sizeof unit + 1, &obu) == CPL_INVALID);
-    CHECK(cpl_av1_obu(unit, sizeof unit - 1, 14, &obu) == CPL_FRAME_SIZES && obu.start == 16);
+    CHECK(cpay_av1_obu(unit, sizeof unit, sizeof unit, &obu) == CPAY_NONE);
+    CHECK(cpay_av1_obu(unit, sizeof unit, sizeof unit + 1, &obu) == CPAY_INVALID);
+    CHECK(cpay_av1_obu(unit, sizeof unit - 1, 14, &obu) == CPAY_FRAME_SIZES && obu.start == 16);
 
-    cpl_amr_wb_frame_info frame = {0};
-    CHECK(cpl_amr_wb_frame(sound, sizeof sound, 0, &frame) == CPL_OK);
+    cpay_amr_wb_frame_info frame = {0};
+    CHECK(cpay_amr_wb_frame(sound, sizeof sound, 0, &frame) == CPAY_OK);
     CHECK(frame.start == 1 && frame.bytes == 0 && frame.frame_type == 14 && !frame.quality);
-    CHECK(cpl_amr_wb_frame(sound, sizeof sound, 1, &frame) == CPL_OK);
+    CHECK(cpay_amr_wb_frame(sound, sizeof sound, 1, &frame) == CPAY_OK);
     CHECK(frame.start == 2 && frame.bytes == 5 && frame.frame_type == 9 && frame.quality);
-    CHECK(cpl_amr_wb_frame(sound, sizeof sound, 7, &frame) == CPL_NONE);
-    CHECK(cpl_amr_wb_frame(sound, 6, 1, &frame) == CPL_FRAME_TOO_SHORT && frame.bytes == 5);
+    CHECK(cpay_amr_wb_frame(sound, sizeof sound, 7, &frame) == CPAY_NONE);
+    CHECK(cpay_amr_wb_frame(sound, 6, 1, &frame) == CPAY_FRAME_TOO_SHORT && frame.bytes == 5);
+
+    /* A superframe of two frames, whose sizes have two bytes, and a byte that belongs to none. */
+    static const uint8_t two[] = {0x84, 7, 0x86, 9, 0xc9, 2, 0, 1, 0, 0xc9};
+    cpay_vp9_frame_info place = {0};
+    CHECK(cpay_vp9_frame(two, sizeof two, 0, &place) == CPAY_OK && place.start == 0 && place.bytes == 2);
+    CHECK(cpay_vp9_frame(two, sizeof two, 1, &place) == CPAY_OK && place.start == 2 && place.bytes == 1);
+    CHECK(cpay_vp9_frame(two, sizeof two, 2, &place) == CPAY_NONE && place.start == 2);
+    CHECK(cpay_vp9_frame(two, sizeof two, SIZE_MAX, &place) == CPAY_NONE);
+    CHECK(cpay_vp9_frame(two, sizeof two - 1, 0, &place) == CPAY_OK && place.bytes == sizeof two - 1);
+    CHECK(cpay_vp9_frame(two + 2, sizeof two - 2, 0, &place) == CPAY_FRAME_SIZES && place.bytes == sizeof two - 1);
+    CHECK(cpay_vp9_frame(two, 0, 0, &place) == CPAY_FRAME_TOO_SHORT);
 
     uint8_t bytes[19] = {7};
     size_t size = 0;
-    CHECK(cpl_av1c(unit + 2, 12, bytes, 15, &size) == CPL_TOO_SMALL && size == 16 && bytes[0] == 7);
-    CHECK(cpl_av1c(unit + 2, 12, bytes, sizeof bytes, &size) == CPL_OK && size == 16);
+    CHECK(cpay_av1c(unit + 2, 12, bytes, 15, &size) == CPAY_TOO_SMALL && size == 16 && bytes[0] == 7);
+    CHECK(cpay_av1c(unit + 2, 12, bytes, sizeof bytes, &size) == CPAY_OK && size == 16);
     CHECK(same(bytes, "\x81\x00\x0c\x00\x0a\x0a", 6));
-    CHECK(cpl_av1c(unit, 2, bytes, sizeof bytes, &size) == CPL_INVALID);
-    CHECK(cpl_av1c(unit + 2, 13, bytes, sizeof bytes, &size) == CPL_INVALID && bytes[0] == 0x81);
-    CHECK(cpl_opus_head(2, 312, 48000, bytes, 18) == CPL_TOO_SMALL);
-    CHECK(cpl_opus_head(2, 312, 48000, bytes, sizeof bytes) == CPL_OK);
+    CHECK(cpay_av1c(unit, 2, bytes, sizeof bytes, &size) == CPAY_INVALID);
+    CHECK(cpay_av1c(unit + 2, 13, bytes, sizeof bytes, &size) == CPAY_INVALID && bytes[0] == 0x81);
+    CHECK(cpay_opus_head(2, 312, 48000, bytes, 18) == CPAY_TOO_SMALL);
+    CHECK(cpay_opus_head(2, 312, 48000, bytes, sizeof bytes) == CPAY_OK);
     CHECK(same(bytes, "OpusHead\1\2\x38\1\x80\xbb\0\0\0\0\0", 19));
-    CHECK(cpl_opus_head(0, 312, 48000, bytes, sizeof bytes) == CPL_INVALID);
-    CHECK(cpl_opus_head(3, 312, 48000, bytes, sizeof bytes) == CPL_INVALID);
+    CHECK(cpay_opus_head(0, 312, 48000, bytes, sizeof bytes) == CPAY_INVALID);
+    CHECK(cpay_opus_head(3, 312, 48000, bytes, sizeof bytes) == CPAY_INVALID);
 }
 
 int main(void) {
     texts();
-    handles();
+    kinds();
     arguments();
     audio();
     vp8();
@@ -421,6 +480,7 @@ int main(void) {
     telephone();
     looks();
     pieces();
+    nulls();
     frames();
     printf("%d checks, %d failed\n", checks, failures);
     return failures ? EXIT_FAILURE : EXIT_SUCCESS;

@@ -3,59 +3,30 @@
 
   bindings/c/inputs.py FOLDER
 
-They are its stored input, every input that stands in its tests (crates/payload_vectors/src/tests.rt), and two hundred that a
-fixed generator makes: of each codec, with lost, repeated and late packets. The generator's numbers are its own, so they are
-the same wherever it runs.
+They are its stored input, those of scripts/program_rows.py, and two hundred that a fixed generator makes: of each codec, with
+lost, repeated and late packets. The generator's numbers are its own, so they are the same wherever it runs.
 """
-import ast
 import os
-import re
 import sys
 
 ROOT = os.path.dirname(os.path.dirname(os.path.dirname(os.path.realpath(__file__))))
 VECTORS = f"{ROOT}/crates/payload_vectors"
+sys.path.insert(0, f"{ROOT}/scripts")
+
+from program_rows import ROWS  # noqa: E402  (the folder is known only now)
+
 GENERATED = 200
 CODECS = ["opus", "pcmu", "pcma", "g722", "cn", "amrwb", "amrwb-octet", "tele", "vp8", "vp8-id", "vp9", "vp9-flex", "av1", "null"]
 # The length of the speech of an AMR-WB frame in bytes, by its type (RFC 4867, section 3.6).
 SPEECH = {0: 17, 1: 23, 2: 32, 3: 36, 4: 40, 5: 46, 6: 50, 7: 58, 8: 60, 9: 5, 14: 0, 15: 0}
 
 
-def literals(text):
-    """The texts of string literals, which have the escapes of Python here."""
-    return [ast.literal_eval(it) for of_bytes, it in re.findall(r'(b?)("(?:[^"\\]|\\.)*")', text) if not of_bytes]
-
-
 def stored():
-    """The inputs of the program's tests; those that a test puts together are put together here."""
+    """The program's stored input, and those of its rows."""
     with open(f"{VECTORS}/stdin", encoding="utf-8") as it:
         yield it.read()
-    with open(f"{VECTORS}/src/tests.rt", encoding="utf-8") as it:
-        text = it.read()
-    for test in re.split(r"\n(?=#\[test\])", text):
-        parts = {name: ast.literal_eval(value) for name, value in re.findall(r'let (\w+) =\s*("(?:[^"\\]|\\.)*");', test)}
-        tables = [literals(it) for it in re.findall(r"\(\s*((?:\"(?:[^\"\\]|\\.)*\"[,\s]*)+)\)", test)]
-        for one in literals(test):
-            if one.startswith("red "):
-                yield f"codec opus 48000 0 10 0\n{one}\n"
-            begins = one.startswith(("codec ", "sample ", "pop\n", "limit ", "\n"))
-            if not begins or one.startswith("sample ") and "codec" not in one:
-                continue
-            if "{hold_back}" in one:
-                for hold_back in "01":
-                    yield one.format(hold_back=hold_back, **parts)
-            elif "{before}" in one:
-                for before, behind, *_ in tables:
-                    yield one.format(before=before, behind=behind, **parts)
-            elif "{line}" in one:
-                for line, *_ in tables:
-                    yield one.format(line=line, **parts)
-            else:
-                yield one
-    yield ""
-    yield "codec opus " + "0" * 1_048_552 + "48000 0 10 0\n"
-    yield "codec opus " + "0" * 1_048_553 + "48000 0 10 0\n"
-    yield "\n" * 2_000_000
-    yield b"codec opus 48000 0 10 0\n\xff\n"
+    for row in ROWS:
+        yield row.given
 
 
 class Numbers:

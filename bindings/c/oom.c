@@ -1,6 +1,6 @@
-/* Counts of memory. First each kind of handle is made, used and freed, with packets, units and bytes left in it: what it took
- * and did not give back is counted, before it is freed and afterwards, and so is what each call without a handle keeps. Then
- * one session, of each kind of handle, again and again, and each time one allocation more gets its memory: the next one is
+/* Counts of memory. First something of each kind is made, used and freed, with packets, units and bytes left in it: what it took
+ * and did not give back is counted, before it is freed and afterwards, and so is what each other call keeps. Then
+ * one session, of each kind, again and again, and each time one allocation more gets its memory: the next one is
  * refused. The call that asked for it answers 17 and nothing else, is made once more, and the session then ends as it does
  * with all memory, and has given all of it back. Linked with -Wl,--wrap=malloc,--wrap=realloc,--wrap=free. */
 #include "codec_payload.h"
@@ -42,14 +42,24 @@ void __wrap_free(void *at) {
     __real_free(at);
 }
 
+/* Memory of any kind, since a struct of one kind may reach a call of another behind a cast. */
+typedef union {
+    cpay_packetizer packetizer;
+    cpay_buffer buffer;
+    cpay_depacketizer depacketizer;
+    cpay_red_sender red_sender;
+} any;
+
+#define ANY_INIT { CPAY_INIT }
+
 /* The status of a call; where it is 17, that of the same call once more. */
 #define AGAIN(status, call) \
     do { \
         refused = false; \
         (status) = (call); \
-        if (refused && (status) != CPL_OUT_OF_MEMORY && (status) != CPL_OK) return -1; \
-        if (!refused && (status) == CPL_OUT_OF_MEMORY) return -2; \
-        if ((status) == CPL_OUT_OF_MEMORY) { \
+        if (refused && (status) != CPAY_OUT_OF_MEMORY && (status) != CPAY_OK) return -1; \
+        if (!refused && (status) == CPAY_OUT_OF_MEMORY) return -2; \
+        if ((status) == CPAY_OUT_OF_MEMORY) { \
             (*met)++; \
             (status) = (call); \
         } \
@@ -60,163 +70,165 @@ enum { FRAMES = 4, FRAME = 300, MTU = 100 };
 /* 0 where all came as it should; *met counts the answers of 17. */
 static int video(uint32_t codec, int *met) {
     long before = kept;
-    cpl_handle sender = CPL_HANDLE_INIT, buffer = CPL_HANDLE_INIT, pieces = CPL_HANDLE_INIT;
-    cpl_spec spec = {.codec = codec, .rate = 90000, .vp8_ids = true, .first_id = 126};
+    cpay_packetizer sender = CPAY_INIT;
+    cpay_buffer buffer = CPAY_INIT;
+    cpay_depacketizer pieces = CPAY_INIT;
+    cpay_spec spec = {.codec = codec, .rate = 90000, .vp8_ids = true, .first_id = 126};
     static uint8_t frame[FRAME], bytes[FRAME];
-    uint32_t status;
+    cpay_status status;
     uint64_t number = 5;
     for (size_t i = 0; i < FRAME; i++) frame[i] = (uint8_t)(i * 7);
-    if (codec == CPL_AV1) memcpy(frame, "\x32\xa9\x02", 3); /* the header of an OBU, and its length, 297 */
-    AGAIN(status, cpl_packetizer_new(&sender, &spec));
+    if (codec == CPAY_AV1) memcpy(frame, "\x32\xa9\x02", 3); /* the header of an OBU, and its length, 297 */
+    AGAIN(status, cpay_packetizer_new(&sender, &spec));
     if (status) return 1;
-    AGAIN(status, cpl_buffer_new(&buffer, &spec, 0, 64));
+    AGAIN(status, cpay_buffer_new(&buffer, &spec, 0, 64));
     if (status) return 2;
-    AGAIN(status, cpl_depacketizer_new(&pieces, &spec));
+    AGAIN(status, cpay_depacketizer_new(&pieces, &spec));
     if (status) return 3;
     for (uint32_t i = 0; i < FRAMES; i++) {
         size_t count = 0, size = 0;
-        cpl_packet_info packet = {0};
-        cpl_unit unit = {0};
-        cpl_extra extra = {0};
-        AGAIN(status, cpl_packetize(&sender, MTU, false, frame, FRAME, &count));
+        cpay_packet_info packet = {0};
+        cpay_unit unit = {0};
+        cpay_extra extra = {0};
+        AGAIN(status, cpay_packetize(&sender, MTU, false, frame, FRAME, &count));
         if (status) return 4;
         for (size_t k = 0; k < count; k++) {
-            if (cpl_packet(&sender, &packet, bytes, 1) != CPL_TOO_SMALL) return 5;
-            if (cpl_packet(&sender, &packet, bytes, FRAME) != CPL_OK) return 6;
-            cpl_received received = {.number = number++, .rtp_time = 3000 * i, .payload_type = 96, .marker = packet.marker};
-            AGAIN(status, cpl_buffer_push(&buffer, &received, bytes, packet.bytes));
+            if (cpay_packet(&sender, &packet, bytes, 1) != CPAY_TOO_SMALL) return 5;
+            if (cpay_packet(&sender, &packet, bytes, FRAME) != CPAY_OK) return 6;
+            cpay_received received = {.number = number++, .rtp_time = 3000 * i, .marker = packet.marker};
+            AGAIN(status, cpay_buffer_push(&buffer, &received, bytes, packet.bytes));
             if (status) return 7;
             refused = false;
-            status = cpl_depacketize(&pieces, bytes, packet.bytes);
-            if (status == CPL_OUT_OF_MEMORY) {
+            status = cpay_depacketize(&pieces, bytes, packet.bytes);
+            if (status == CPAY_OUT_OF_MEMORY) {
                 /* What was read of a frame may be gone, so this one is given up. */
                 (*met)++;
                 if (!refused) return 8;
-                cpl_free(&pieces);
-                if (cpl_depacketizer_new(&pieces, &spec)) return 9;
+                cpay_depacketizer_free(&pieces);
+                if (cpay_depacketizer_new(&pieces, &spec)) return 9;
             } else if (status && *met == 0) {
                 return 10;
             }
         }
-        AGAIN(status, cpl_buffer_pop(&buffer, &unit, bytes, 1));
-        if (status != CPL_TOO_SMALL || unit.bytes != FRAME) return 11;
-        if (cpl_buffer_pop(&buffer, &unit, bytes, FRAME) != CPL_OK || memcmp(bytes, frame, FRAME)) return 12;
-        if (cpl_buffer_pop(&buffer, &unit, bytes, FRAME) != CPL_NONE) return 13;
+        AGAIN(status, cpay_buffer_pop(&buffer, &unit, bytes, 1));
+        if (status != CPAY_TOO_SMALL || unit.bytes != FRAME) return 11;
+        if (cpay_buffer_pop(&buffer, &unit, bytes, FRAME) != CPAY_OK || memcmp(bytes, frame, FRAME)) return 12;
+        if (cpay_buffer_pop(&buffer, &unit, bytes, FRAME) != CPAY_NONE) return 13;
         memset(bytes, 0, FRAME);
-        if (cpl_depacketized(&pieces, &size, &extra, bytes, FRAME) != CPL_OK) return 14;
+        if (cpay_depacketized(&pieces, &size, &extra, bytes, FRAME) != CPAY_OK) return 14;
         if (*met == 0 && (size != FRAME || memcmp(bytes, frame, FRAME))) return 15;
     }
-    cpl_free(&sender);
-    cpl_free(&buffer);
-    cpl_free(&pieces);
+    cpay_packetizer_free(&sender);
+    cpay_buffer_free(&buffer);
+    cpay_depacketizer_free(&pieces);
     return kept == before ? 0 : 16;
 }
 
 static int red(int *met) {
     long before = kept;
-    cpl_handle sender = CPL_HANDLE_INIT;
+    cpay_red_sender sender = CPAY_INIT;
     static const uint32_t distances[2] = {1, 2};
     uint8_t bytes[64] = {0}, found[64] = {0};
-    uint32_t status;
+    cpay_status status;
     size_t size = 0;
-    AGAIN(status, cpl_red_sender_new(&sender, 63, 111, distances, 2));
+    AGAIN(status, cpay_red_sender_new(&sender, 63, 111, distances, 2));
     if (status) return 1;
     for (uint8_t i = 0; i < 4; i++) {
-        AGAIN(status, cpl_red_wrap(&sender, 960u * i, 64, &i, 1, bytes, 64, &size));
+        AGAIN(status, cpay_red_wrap(&sender, 960u * i, 64, &i, 1, bytes, 64, &size));
         if (status) return 2;
     }
     if (size != 2 * 4 + 1 + 3 || bytes[9] != 1 || bytes[10] != 2 || bytes[11] != 3) return 3;
     for (size_t i = 0; i < 3; i++) {
-        cpl_red_block_info block = {0};
-        cpl_recovered_info packet = {0};
-        AGAIN(status, cpl_red_block(bytes, size, i, &block, found, 64));
+        cpay_red_block_info block = {0};
+        cpay_recovered_info packet = {0};
+        AGAIN(status, cpay_red_block(bytes, size, i, &block, found, 64));
         if (status || found[0] != 1 + i) return 4;
-        AGAIN(status, cpl_red_recover(111, 960, 10, 2880, bytes, size, i, &packet, found, 64));
+        AGAIN(status, cpay_red_recover(111, 960, 10, 2880, bytes, size, i, &packet, found, 64));
         if (status || found[0] != 1 + i || packet.number != 8 + i) return 5;
     }
-    cpl_red_older older[2] = {
+    cpay_red_older older[2] = {
         {.start = 0, .bytes = 1, .offset = 1920, .payload_type = 111},
         {.start = 1, .bytes = 1, .offset = 960, .payload_type = 111},
     };
-    AGAIN(status, cpl_red_encode(111, (const uint8_t *)"\3", 1, older, 2, (const uint8_t *)"\1\2", 2, found, 64, &size));
+    AGAIN(status, cpay_red_encode(111, (const uint8_t *)"\3", 1, older, 2, (const uint8_t *)"\1\2", 2, found, 64, &size));
     if (status || size != 12 || memcmp(bytes, found, 12)) return 6;
-    cpl_free(&sender);
+    cpay_red_sender_free(&sender);
     return kept == before ? 0 : 7;
 }
 
-/* Frees a handle that holds something, and tells whether that took memory, and all it took since `before` came back. */
-static bool gives_back(cpl_handle *handle, long before) {
+/* Frees what is made in a struct of any kind, and tells whether that took memory, and all it took since `before` came back. */
+static bool gives_back(any *it, long before) {
     bool took = kept > before;
-    cpl_free(handle);
+    cpay_buffer_free(&it->buffer);
     return took && kept == before;
 }
 
-/* Each kind of handle is freed with something left in it. 0 where all memory came back. */
-static int left_in_handles(uint32_t codec) {
+/* Each kind is freed with something left in it. 0 where all memory came back. */
+static int left_behind(uint32_t codec) {
     long before = kept;
-    cpl_handle handle = CPL_HANDLE_INIT;
-    cpl_spec spec = {.codec = codec, .rate = 90000, .vp8_ids = true, .first_id = 126};
-    cpl_received received = {.number = 5, .rtp_time = 3000, .payload_type = 96, .marker = true};
+    any it = ANY_INIT;
+    cpay_spec spec = {.codec = codec, .rate = 90000, .vp8_ids = true, .first_id = 126};
+    cpay_received received = {.number = 5, .rtp_time = 3000, .marker = true};
     uint8_t payload[64] = {0}, byte = 0;
     size_t count = 0, size = 0;
-    cpl_packet_info packet = {0};
-    cpl_unit unit = {0};
-    cpl_extra extra = {0};
+    cpay_packet_info packet = {0};
+    cpay_unit unit = {0};
+    cpay_extra extra = {0};
     /* packets that were not taken */
-    if (cpl_packetizer_new(&handle, &spec)) return 1;
-    if (cpl_packetize(&handle, 20, false, (const uint8_t *)"\x32\x1e 12345678901234567890123456789", 32, &count)) return 2;
-    if (!count || cpl_packet(&handle, &packet, payload, 64)) return 3;
-    if (!gives_back(&handle, before)) return 4;
+    if (cpay_packetizer_new(&it.packetizer, &spec)) return 1;
+    if (cpay_packetize(&it.packetizer, 20, false, (const uint8_t *)"\x32\x1e 12345678901234567890123456789", 32, &count)) return 2;
+    if (!count || cpay_packet(&it.packetizer, &packet, payload, 64)) return 3;
+    if (!gives_back(&it, before)) return 4;
     /* a packet that is held, and then a unit that waits */
-    if (cpl_buffer_new(&handle, &spec, 0, 64)) return 5;
-    if (cpl_buffer_push(&handle, &received, payload, packet.bytes)) return 6;
-    if (!gives_back(&handle, before)) return 7;
-    if (cpl_buffer_new(&handle, &spec, 0, 64)) return 8;
-    if (cpl_buffer_push(&handle, &received, payload, packet.bytes)) return 9;
-    if (codec != CPL_AV1 && cpl_buffer_pop(&handle, &unit, &byte, 0) != CPL_TOO_SMALL) return 10;
-    if (!gives_back(&handle, before)) return 11;
+    if (cpay_buffer_new(&it.buffer, &spec, 0, 64)) return 5;
+    if (cpay_buffer_push(&it.buffer, &received, payload, packet.bytes)) return 6;
+    if (!gives_back(&it, before)) return 7;
+    if (cpay_buffer_new(&it.buffer, &spec, 0, 64)) return 8;
+    if (cpay_buffer_push(&it.buffer, &received, payload, packet.bytes)) return 9;
+    if (codec != CPAY_AV1 && cpay_buffer_pop(&it.buffer, &unit, &byte, 0) != CPAY_TOO_SMALL) return 10;
+    if (!gives_back(&it, before)) return 11;
     /* bytes that were not taken, and that wait */
-    if (cpl_depacketizer_new(&handle, &spec)) return 12;
-    if (cpl_depacketize(&handle, payload, packet.bytes)) return 13;
-    if (codec != CPL_AV1 && cpl_depacketized(&handle, &size, &extra, &byte, 0) != CPL_TOO_SMALL) return 14;
-    if (!gives_back(&handle, before)) return 15;
+    if (cpay_depacketizer_new(&it.depacketizer, &spec)) return 12;
+    if (cpay_depacketize(&it.depacketizer, payload, packet.bytes)) return 13;
+    if (codec != CPAY_AV1 && cpay_depacketized(&it.depacketizer, &size, &extra, &byte, 0) != CPAY_TOO_SMALL) return 14;
+    if (!gives_back(&it, before)) return 15;
     return 0;
 }
 
-/* A sender of RED is freed with a history, and calls without a handle keep nothing. */
+/* A sender of RED is freed with a history, and calls without such a struct keep nothing. */
 static int left_in_red(void) {
     long before = kept;
-    cpl_handle handle = CPL_HANDLE_INIT;
+    any it = ANY_INIT;
     static const uint32_t distances[2] = {1, 2};
     uint8_t bytes[64] = {0}, found[64] = {0};
     size_t size = 0;
-    cpl_red_block_info block = {0};
-    cpl_recovered_info packet = {0};
-    cpl_red_older older = {.start = 0, .bytes = 1, .offset = 960, .payload_type = 111};
-    if (cpl_red_sender_new(&handle, 63, 111, distances, 2)) return 1;
+    cpay_red_block_info block = {0};
+    cpay_recovered_info packet = {0};
+    cpay_red_older older = {.start = 0, .bytes = 1, .offset = 960, .payload_type = 111};
+    if (cpay_red_sender_new(&it.red_sender, 63, 111, distances, 2)) return 1;
     for (uint8_t i = 0; i < 4; i++)
-        if (cpl_red_wrap(&handle, 960u * i, 64, &i, 1, bytes, 64, &size)) return 2;
-    if (!gives_back(&handle, before)) return 3;
-    if (cpl_red_block(bytes, size, 0, &block, found, 64) || kept != before) return 4;
-    if (cpl_red_block(bytes, 3, 0, &block, found, 64) != CPL_RED_CORRUPTED || kept != before) return 5;
-    if (cpl_red_recover(111, 960, 10, 2880, bytes, size, 0, &packet, found, 64) || kept != before) return 6;
-    if (cpl_red_encode(111, bytes, 1, &older, 1, bytes, 1, found, 64, &size) || kept != before) return 7;
-    if (cpl_red_encode(111, bytes, 1, &older, 1, bytes, 1, found, 1, &size) != CPL_TOO_SMALL || kept != before) return 8;
+        if (cpay_red_wrap(&it.red_sender, 960u * i, 64, &i, 1, bytes, 64, &size)) return 2;
+    if (!gives_back(&it, before)) return 3;
+    if (cpay_red_block(bytes, size, 0, &block, found, 64) || kept != before) return 4;
+    if (cpay_red_block(bytes, 3, 0, &block, found, 64) != CPAY_RED_CORRUPTED || kept != before) return 5;
+    if (cpay_red_recover(111, 960, 10, 2880, bytes, size, 0, &packet, found, 64) || kept != before) return 6;
+    if (cpay_red_encode(111, bytes, 1, &older, 1, bytes, 1, found, 64, &size) || kept != before) return 7;
+    if (cpay_red_encode(111, bytes, 1, &older, 1, bytes, 1, found, 1, &size) != CPAY_TOO_SMALL || kept != before) return 8;
     return 0;
 }
 
 /* How many kinds of use kept memory, or failed. */
 static int leaks(void) {
-    static const uint32_t codecs[4] = {CPL_VP8, CPL_VP9, CPL_AV1, CPL_NULL};
+    static const uint32_t codecs[4] = {CPAY_VP8, CPAY_VP9, CPAY_AV1, CPAY_NULL};
     int bad = 0, ended;
     for (size_t i = 0; i < 4; i++)
-        if ((ended = left_in_handles(codecs[i]))) printf("memory left by codec %u: ended %d\n", (unsigned)codecs[i], ended), bad++;
+        if ((ended = left_behind(codecs[i]))) printf("memory left by codec %u: ended %d\n", (unsigned)codecs[i], ended), bad++;
     if ((ended = left_in_red())) printf("memory left by RED: ended %d\n", ended), bad++;
     return bad;
 }
 
 static int session(int *met) {
-    static const uint32_t codecs[4] = {CPL_VP8, CPL_VP9, CPL_AV1, CPL_NULL};
+    static const uint32_t codecs[4] = {CPAY_VP8, CPAY_VP9, CPAY_AV1, CPAY_NULL};
     for (size_t i = 0; i < 4; i++) {
         int ended = video(codecs[i], met);
         if (ended) return 100 * (int)codecs[i] + ended;

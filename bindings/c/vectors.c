@@ -23,7 +23,7 @@ typedef struct {
 } sample;
 
 typedef struct {
-    cpl_received head;
+    cpay_received head;
     uint8_t *bytes;
     size_t size;
 } packet;
@@ -40,7 +40,7 @@ typedef struct {
 
 static struct {
     bool is_set, has_limit, has_red;
-    cpl_spec spec;
+    cpay_spec spec;
     uint64_t hold_back, first_number, limit, red_step, red_budget;
     uint32_t distances[MOST_DISTANCES];
     size_t n_distances;
@@ -125,22 +125,22 @@ static bool bytes_of(text field, sample *to) {
 static bool codec_line(const text *fields) {
     static const struct {
         const char *name;
-        cpl_spec spec;
+        cpay_spec spec;
     } names[] = {
-        {"opus", {.codec = CPL_OPUS}},
-        {"pcmu", {.codec = CPL_PCMU}},
-        {"pcma", {.codec = CPL_PCMA}},
-        {"g722", {.codec = CPL_G722}},
-        {"cn", {.codec = CPL_CN}},
-        {"amrwb", {.codec = CPL_AMR_WB}},
-        {"amrwb-octet", {.codec = CPL_AMR_WB, .octet_align = true}},
-        {"vp8", {.codec = CPL_VP8}},
-        {"vp8-id", {.codec = CPL_VP8, .vp8_ids = true}},
-        {"vp9", {.codec = CPL_VP9}},
-        {"vp9-flex", {.codec = CPL_VP9, .vp9_flexible = true}},
-        {"av1", {.codec = CPL_AV1}},
-        {"tele", {.codec = CPL_TELE}},
-        {"null", {.codec = CPL_NULL}},
+        {"opus", {.codec = CPAY_OPUS}},
+        {"pcmu", {.codec = CPAY_PCMU}},
+        {"pcma", {.codec = CPAY_PCMA}},
+        {"g722", {.codec = CPAY_G722}},
+        {"cn", {.codec = CPAY_CN}},
+        {"amrwb", {.codec = CPAY_AMR_WB}},
+        {"amrwb-octet", {.codec = CPAY_AMR_WB, .octet_align = true}},
+        {"vp8", {.codec = CPAY_VP8}},
+        {"vp8-id", {.codec = CPAY_VP8, .vp8_ids = true}},
+        {"vp9", {.codec = CPAY_VP9}},
+        {"vp9-flex", {.codec = CPAY_VP9, .vp9_flexible = true}},
+        {"av1", {.codec = CPAY_AV1}},
+        {"tele", {.codec = CPAY_TELE}},
+        {"null", {.codec = CPAY_NULL}},
     };
     uint64_t rate, id;
     for (size_t i = 0; i < sizeof names / sizeof names[0]; i++) {
@@ -237,36 +237,36 @@ static void read_script(void) {
 
 /* ---- Steps ---- */
 
-static void check(uint32_t status) {
-    if (status == CPL_OUT_OF_MEMORY) stop(1, "out of memory");
+static void check(cpay_status status) {
+    if (status == CPAY_OUT_OF_MEMORY) stop(1, "out of memory");
     if (status) {
-        fprintf(stderr, "unexpected status: %s\n", cpl_status_text(status));
+        fprintf(stderr, "unexpected status: %s\n", cpay_status_text(status));
         exit(3);
     }
 }
 
 /* Puts a packet in RED. A payload never gets longer than by all that can be repeated, so a greater budget is no other. */
-static void protect(cpl_handle *red, packet *p) {
+static void protect(cpay_red_sender *red, packet *p) {
     size_t most = p->size + 1 + MOST_DISTANCES * (4 + MOST_REPEATED), size = 0;
     size_t budget = run.red_budget < most ? (size_t)run.red_budget : most;
     uint8_t *bytes = malloc(most);
     if (!bytes) stop(1, "out of memory");
-    check(cpl_red_wrap(red, p->head.rtp_time, budget, p->bytes, p->size, bytes, most, &size));
+    check(cpay_red_wrap(red, (uint32_t)p->head.rtp_time, budget, p->bytes, p->size, bytes, most, &size));
     free(p->bytes);
     p->bytes = bytes;
     p->size = size;
 }
 
-static void take_packet(cpl_handle *sender, cpl_handle *red, const sample *from, output *to) {
-    cpl_packet_info info = {0};
+static void take_packet(cpay_packetizer *sender, cpay_red_sender *red, const sample *from, output *to) {
+    cpay_packet_info info = {0};
     uint8_t none[1];
-    if (cpl_packet(sender, &info, none, 0) == CPL_TOO_SMALL && info.bytes == 0) stop(3, "no room is too small for nothing");
+    if (cpay_packet(sender, &info, none, 0) == CPAY_TOO_SMALL && info.bytes == 0) stop(3, "no room is too small for nothing");
     packet *p = (run.packets = grown(run.packets, run.n_packets, sizeof(packet))) + run.n_packets;
     p->size = info.bytes;
     p->bytes = malloc(info.bytes + 1);
     if (!p->bytes) stop(1, "out of memory");
-    if (info.bytes) check(cpl_packet(sender, &info, p->bytes, p->size));
-    p->head = (cpl_received){.number = run.first_number + run.n_packets, .payload_type = MEDIA_TYPE, .marker = info.marker};
+    if (info.bytes) check(cpay_packet(sender, &info, p->bytes, p->size));
+    p->head = (cpay_received){.number = run.first_number + run.n_packets, .marker = info.marker};
     p->head.rtp_time = (uint32_t)from->time;
     if (run.has_red) protect(red, p);
     print(to, "packet %" PRIu64 " %d ", p->head.number, info.marker);
@@ -274,12 +274,12 @@ static void take_packet(cpl_handle *sender, cpl_handle *red, const sample *from,
     run.n_packets++;
 }
 
-static void send(cpl_handle *sender, cpl_handle *red, const step *by, output *to) {
+static void send(cpay_packetizer *sender, cpay_red_sender *red, const step *by, output *to) {
     size_t count = 0;
     if (by->first >= run.n_samples) return;
     const sample *from = &run.samples[by->first];
-    uint32_t status = cpl_packetize(sender, (size_t)by->second, from->starts, from->bytes, from->size, &count);
-    if (status && status != CPL_OUT_OF_MEMORY && status < CPL_NONE) {
+    cpay_status status = cpay_packetize(sender, (size_t)by->second, from->starts, from->bytes, from->size, &count);
+    if (status && status != CPAY_OUT_OF_MEMORY && status < CPAY_NONE) {
         print(to, "refused %u\n", (unsigned)status);
         return;
     }
@@ -289,38 +289,38 @@ static void send(cpl_handle *sender, cpl_handle *red, const step *by, output *to
 }
 
 /* Pushes a packet, or, in RED, all that it holds. What is no RED payload is passed over. */
-static void push(cpl_handle *buffer, const packet *p) {
+static void push(cpay_buffer *buffer, const packet *p) {
     if (!run.has_red) {
-        check(cpl_buffer_push(buffer, &p->head, p->bytes, p->size));
+        check(cpay_buffer_push(buffer, &p->head, p->bytes, p->size));
         return;
     }
     uint8_t *bytes = malloc(p->size + 1);
     if (!bytes) stop(1, "out of memory");
     for (size_t i = 0;; i++) {
-        cpl_recovered_info info = {0};
-        uint32_t status = cpl_red_recover(MEDIA_TYPE, (uint32_t)run.red_step, p->head.number, p->head.rtp_time, p->bytes,
-                                          p->size, i, &info, bytes, p->size + 1);
-        if (status == CPL_NONE || status == CPL_RED_CORRUPTED) break;
+        cpay_recovered_info info = {0};
+        cpay_status status = cpay_red_recover(MEDIA_TYPE, (uint32_t)run.red_step, p->head.number, (uint32_t)p->head.rtp_time,
+                                              p->bytes, p->size, i, &info, bytes, p->size + 1);
+        if (status == CPAY_NONE || status == CPAY_RED_CORRUPTED) break;
         check(status);
-        cpl_received head = {.number = info.number, .payload_type = MEDIA_TYPE, .marker = info.is_primary && p->head.marker};
+        cpay_received head = {.number = info.number, .marker = info.is_primary && p->head.marker};
         head.rtp_time = info.rtp_time;
-        check(cpl_buffer_push(buffer, &head, bytes, info.bytes));
+        check(cpay_buffer_push(buffer, &head, bytes, info.bytes));
     }
     free(bytes);
 }
 
-static void pop(cpl_handle *buffer, output *to) {
-    cpl_unit unit = {0};
+static void pop(cpay_buffer *buffer, output *to) {
+    cpay_unit unit = {0};
     uint8_t none[1], *bytes = none;
-    uint32_t status = cpl_buffer_pop(buffer, &unit, none, 0);
-    if (status == CPL_TOO_SMALL) {
+    cpay_status status = cpay_buffer_pop(buffer, &unit, none, 0);
+    if (status == CPAY_TOO_SMALL) {
         bytes = malloc(unit.bytes);
         if (!bytes) stop(1, "out of memory");
-        status = cpl_buffer_pop(buffer, &unit, bytes, unit.bytes);
+        status = cpay_buffer_pop(buffer, &unit, bytes, unit.bytes);
     }
-    if (status == CPL_NONE) {
+    if (status == CPAY_NONE) {
         print(to, "none\n");
-    } else if (status && status != CPL_OUT_OF_MEMORY && status < CPL_NONE) {
+    } else if (status && status != CPAY_OUT_OF_MEMORY && status < CPAY_NONE) {
         print(to, "fault %u\n", (unsigned)status);
     } else {
         check(status);
@@ -331,12 +331,14 @@ static void pop(cpl_handle *buffer, output *to) {
 }
 
 int main(void) {
-    cpl_handle sender = CPL_HANDLE_INIT, buffer = CPL_HANDLE_INIT, red = CPL_HANDLE_INIT;
+    cpay_packetizer sender = CPAY_INIT;
+    cpay_buffer buffer = CPAY_INIT;
+    cpay_red_sender red = CPAY_INIT;
     output sent = {0}, popped = {0};
     read_script();
-    check(cpl_packetizer_new(&sender, &run.spec));
-    if (run.has_red) check(cpl_red_sender_new(&red, RED_TYPE, MEDIA_TYPE, run.distances, run.n_distances));
-    check(cpl_buffer_new(&buffer, &run.spec, (size_t)run.hold_back, run.has_limit ? (size_t)run.limit : 4096));
+    check(cpay_packetizer_new(&sender, &run.spec));
+    if (run.has_red) check(cpay_red_sender_new(&red, RED_TYPE, MEDIA_TYPE, run.distances, run.n_distances));
+    check(cpay_buffer_new(&buffer, &run.spec, (size_t)run.hold_back, run.has_limit ? (size_t)run.limit : 4096));
     for (size_t i = 0; i < run.n_steps; i++) {
         const step *by = &run.steps[i];
         if (by->what == 's') {
@@ -347,9 +349,9 @@ int main(void) {
             push(&buffer, &run.packets[by->first]);
         }
     }
-    cpl_free(&sender);
-    cpl_free(&red);
-    cpl_free(&buffer);
+    cpay_packetizer_free(&sender);
+    cpay_red_sender_free(&red);
+    cpay_buffer_free(&buffer);
     if (sent.len) fwrite(sent.at, 1, sent.len, stdout);
     if (popped.len) fwrite(popped.at, 1, popped.len, stdout);
     for (size_t i = 0; i < run.n_samples; i++) free(run.samples[i].bytes);

@@ -17,6 +17,39 @@ pub struct Handle {
     pub place: Place,
 }
 
+impl Handle {
+    pub const EMPTY: Handle = Handle {
+        full: false,
+        place: Place {
+            at: core::ptr::null_mut(),
+        },
+    };
+}
+
+#[repr(C)]
+#[derive(Debug)]
+pub struct Packetizer {
+    pub handle: Handle,
+}
+
+#[repr(C)]
+#[derive(Debug)]
+pub struct Buffer {
+    pub handle: Handle,
+}
+
+#[repr(C)]
+#[derive(Debug)]
+pub struct Depacketizer {
+    pub handle: Handle,
+}
+
+#[repr(C)]
+#[derive(Debug)]
+pub struct RedSender {
+    pub handle: Handle,
+}
+
 #[repr(C)]
 #[derive(Clone, Copy, Debug, Default)]
 pub struct Spec {
@@ -78,9 +111,7 @@ pub struct Extra {
 pub struct Received {
     pub number: u64,
     pub received: u64,
-    pub rtp_time: u32,
-    pub ssrc: u32,
-    pub payload_type: u8,
+    pub rtp_time: u64,
     pub marker: bool,
 }
 
@@ -176,85 +207,98 @@ pub struct AmrWbFrameInfo {
     pub quality: bool,
 }
 
+#[repr(C)]
+#[derive(Clone, Copy, Debug, Default)]
+pub struct Vp9FrameInfo {
+    pub start: usize,
+    pub bytes: usize,
+}
+
 unsafe extern "C" {
-    pub fn cpl_buffer_new(
-        handle: *mut Handle,
+    pub fn cpay_buffer_new(
+        buffer: *mut Buffer,
         spec: *const Spec,
         hold_back: usize,
         limit: usize,
     ) -> u32;
-    pub fn cpl_buffer_push(
-        handle: *mut Handle,
+    pub fn cpay_buffer_push(
+        buffer: *mut Buffer,
         packet: *const Received,
         payload: *const u8,
         payload_len: usize,
     ) -> u32;
-    pub fn cpl_buffer_pop(
-        handle: *mut Handle,
+    pub fn cpay_buffer_pop(
+        buffer: *mut Buffer,
         unit: *mut Unit,
         bytes: *mut u8,
         bytes_len: usize,
     ) -> u32;
-    pub fn cpl_buffer_counts(handle: *mut Handle, counts: *mut BufferCountsInfo) -> u32;
-    pub fn cpl_depacketizer_new(handle: *mut Handle, spec: *const Spec) -> u32;
-    pub fn cpl_depacketize(handle: *mut Handle, payload: *const u8, payload_len: usize) -> u32;
-    pub fn cpl_depacketized(
-        handle: *mut Handle,
+    pub fn cpay_buffer_counts(buffer: *mut Buffer, counts: *mut BufferCountsInfo) -> u32;
+    pub fn cpay_buffer_set_hold_back(buffer: *mut Buffer, hold_back: usize) -> u32;
+    pub fn cpay_buffer_pass_number(buffer: *mut Buffer, number: u64) -> u32;
+    pub fn cpay_depacketizer_new(depacketizer: *mut Depacketizer, spec: *const Spec) -> u32;
+    pub fn cpay_depacketize(depacketizer: *mut Depacketizer, payload: *const u8, payload_len: usize) -> u32;
+    pub fn cpay_depacketized(
+        depacketizer: *mut Depacketizer,
         size: *mut usize,
         extra: *mut Extra,
         bytes: *mut u8,
         bytes_len: usize,
     ) -> u32;
-    pub fn cpl_free(handle: *mut Handle);
-    pub fn cpl_vp8_is_keyframe(payload: *const u8, payload_len: usize) -> bool;
-    pub fn cpl_vp9_is_keyframe(payload: *const u8, payload_len: usize) -> bool;
-    pub fn cpl_vp9_frame_is_keyframe(frame: *const u8, frame_len: usize) -> bool;
-    pub fn cpl_av1_is_keyframe(payload: *const u8, payload_len: usize) -> bool;
-    pub fn cpl_is_head(
+    pub fn cpay_packetizer_free(packetizer: *mut Packetizer);
+    pub fn cpay_buffer_free(buffer: *mut Buffer);
+    pub fn cpay_depacketizer_free(depacketizer: *mut Depacketizer);
+    pub fn cpay_red_sender_free(sender: *mut RedSender);
+    pub fn cpay_version() -> u32;
+    pub fn cpay_vp8_is_keyframe(payload: *const u8, payload_len: usize) -> bool;
+    pub fn cpay_vp9_is_keyframe(payload: *const u8, payload_len: usize) -> bool;
+    pub fn cpay_vp9_frame_is_keyframe(frame: *const u8, frame_len: usize) -> bool;
+    pub fn cpay_av1_is_keyframe(payload: *const u8, payload_len: usize) -> bool;
+    pub fn cpay_is_head(
         codec: u32,
         payload: *const u8,
         payload_len: usize,
         is_head: *mut bool,
     ) -> u32;
-    pub fn cpl_is_tail(
+    pub fn cpay_is_tail(
         codec: u32,
         marker: bool,
         payload: *const u8,
         payload_len: usize,
         is_tail: *mut bool,
     ) -> u32;
-    pub fn cpl_extend_number(previous: u64, has_previous: bool, number: u16) -> u64;
-    pub fn cpl_packetizer_new(handle: *mut Handle, spec: *const Spec) -> u32;
-    pub fn cpl_packetize(
-        handle: *mut Handle,
+    pub fn cpay_extend_number(previous: u64, has_previous: bool, number: u16) -> u64;
+    pub fn cpay_packetizer_new(packetizer: *mut Packetizer, spec: *const Spec) -> u32;
+    pub fn cpay_packetize(
+        packetizer: *mut Packetizer,
         mtu: usize,
         starts_talk_spurt: bool,
         frame: *const u8,
         frame_len: usize,
         count: *mut usize,
     ) -> u32;
-    pub fn cpl_packet(
-        handle: *mut Handle,
+    pub fn cpay_packet(
+        packetizer: *mut Packetizer,
         info: *mut PacketInfo,
         bytes: *mut u8,
         bytes_len: usize,
     ) -> u32;
-    pub fn cpl_red_sender_new(
-        handle: *mut Handle,
+    pub fn cpay_red_sender_new(
+        sender: *mut RedSender,
         red_pt: u8,
         primary_pt: u8,
         distances: *const u32,
         distances_len: usize,
     ) -> u32;
-    pub fn cpl_red_sync(
-        handle: *mut Handle,
+    pub fn cpay_red_sync(
+        sender: *mut RedSender,
         red_pt: u8,
         primary_pt: u8,
         distances: *const u32,
         distances_len: usize,
     ) -> u32;
-    pub fn cpl_red_wrap(
-        handle: *mut Handle,
+    pub fn cpay_red_wrap(
+        sender: *mut RedSender,
         rtp_time: u32,
         budget: usize,
         payload: *const u8,
@@ -263,7 +307,7 @@ unsafe extern "C" {
         bytes_len: usize,
         size: *mut usize,
     ) -> u32;
-    pub fn cpl_red_encode(
+    pub fn cpay_red_encode(
         primary_pt: u8,
         primary: *const u8,
         primary_len: usize,
@@ -275,7 +319,7 @@ unsafe extern "C" {
         bytes_len: usize,
         size: *mut usize,
     ) -> u32;
-    pub fn cpl_red_block(
+    pub fn cpay_red_block(
         payload: *const u8,
         payload_len: usize,
         index: usize,
@@ -283,7 +327,7 @@ unsafe extern "C" {
         bytes: *mut u8,
         bytes_len: usize,
     ) -> u32;
-    pub fn cpl_red_recover(
+    pub fn cpay_red_recover(
         primary_pt: u8,
         step: u32,
         number: u64,
@@ -295,48 +339,54 @@ unsafe extern "C" {
         bytes: *mut u8,
         bytes_len: usize,
     ) -> u32;
-    pub fn cpl_tele_read(
+    pub fn cpay_tele_read(
         payload: *const u8,
         payload_len: usize,
         rate: u32,
         index: usize,
         event: *mut TeleEvent,
     ) -> u32;
-    pub fn cpl_tele_write(
+    pub fn cpay_tele_write(
         event: *const TeleEvent,
         rate: u32,
         bytes: *mut u8,
         bytes_len: usize,
     ) -> u32;
-    pub fn cpl_vp8_fields(
+    pub fn cpay_vp8_fields(
         payload: *const u8,
         payload_len: usize,
         fields: *mut Vp8FieldsInfo,
         starts_keyframe: *mut bool,
     ) -> u32;
-    pub fn cpl_vp8_patch(payload: *mut u8, payload_len: usize, values: *const Vp8FieldsInfo)
+    pub fn cpay_vp8_patch(payload: *mut u8, payload_len: usize, values: *const Vp8FieldsInfo)
     -> u32;
-    pub fn cpl_frame_info(
+    pub fn cpay_frame_info(
         codec: u32,
         frame: *const u8,
         frame_len: usize,
         facts: *mut FrameFacts,
     ) -> u32;
-    pub fn cpl_av1_obu(unit: *const u8, unit_len: usize, offset: usize, info: *mut ObuInfo) -> u32;
-    pub fn cpl_amr_wb_frame(
+    pub fn cpay_av1_obu(unit: *const u8, unit_len: usize, offset: usize, info: *mut ObuInfo) -> u32;
+    pub fn cpay_amr_wb_frame(
         unit: *const u8,
         unit_len: usize,
         offset: usize,
         info: *mut AmrWbFrameInfo,
     ) -> u32;
-    pub fn cpl_av1c(
+    pub fn cpay_vp9_frame(
+        unit: *const u8,
+        unit_len: usize,
+        index: usize,
+        info: *mut Vp9FrameInfo,
+    ) -> u32;
+    pub fn cpay_av1c(
         obu: *const u8,
         obu_len: usize,
         bytes: *mut u8,
         bytes_len: usize,
         size: *mut usize,
     ) -> u32;
-    pub fn cpl_opus_head(
+    pub fn cpay_opus_head(
         channels: u8,
         pre_skip: u16,
         input_sample_rate: u32,

@@ -1,36 +1,57 @@
-//! The handle under which a value of the library lives.
+//! The struct in which a value of the library lives.
 
-use crate::raw::{self, Place, cpl_free};
-use std::ptr;
+use crate::raw;
 
-/// One handle, never copied. A call uses it by `&mut`, so one call at a time.
+/// What may live in one, by its struct of C.
+pub(crate) trait Kind {
+    const EMPTY: Self;
+
+    /// Gives back what lives there.
+    fn free(&mut self);
+}
+
+macro_rules! kind {
+    ($name:ident, $free:ident) => {
+        impl Kind for raw::$name {
+            const EMPTY: Self = raw::$name {
+                handle: raw::Handle::EMPTY,
+            };
+
+            fn free(&mut self) {
+                // SAFETY: the library alone writes the struct, and may free it any number of times.
+                unsafe { raw::$free(self) }
+            }
+        }
+    };
+}
+
+kind!(Packetizer, cpay_packetizer_free);
+kind!(Buffer, cpay_buffer_free);
+kind!(Depacketizer, cpay_depacketizer_free);
+kind!(RedSender, cpay_red_sender_free);
+
+/// One such struct, never copied. A call uses it by `&mut`, so one call at a time.
 #[derive(Debug)]
-pub(crate) struct Handle(raw::Handle);
+pub(crate) struct Handle<K: Kind>(K);
 
 // SAFETY: that it may go to another thread is proved of the library's handle, with all that it can hold.
-unsafe impl Send for Handle {}
+unsafe impl<K: Kind> Send for Handle<K> {}
 
 // SAFETY: nothing can be done with a handle that is shared, since each call takes it by `&mut`.
-unsafe impl Sync for Handle {}
+unsafe impl<K: Kind> Sync for Handle<K> {}
 
-impl Handle {
-    pub(crate) fn empty() -> Handle {
-        Handle(raw::Handle {
-            full: false,
-            place: Place {
-                at: ptr::null_mut(),
-            },
-        })
+impl<K: Kind> Handle<K> {
+    pub(crate) fn empty() -> Handle<K> {
+        Handle(K::EMPTY)
     }
 
-    pub(crate) fn raw(&mut self) -> *mut raw::Handle {
-        &mut self.0
+    pub(crate) fn raw(&mut self) -> *mut K {
+        &raw mut self.0
     }
 }
 
-impl Drop for Handle {
+impl<K: Kind> Drop for Handle<K> {
     fn drop(&mut self) {
-        // SAFETY: the library alone writes the handle, which is not looked at again.
-        unsafe { cpl_free(&mut self.0) }
+        self.0.free();
     }
 }

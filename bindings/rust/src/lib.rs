@@ -16,7 +16,6 @@
 //!     let received = Received {
 //!         number,
 //!         rtp_time: 3_000,
-//!         payload_type: 96,
 //!         marker: packet.marker,
 //!         ..Received::default()
 //!     };
@@ -202,7 +201,7 @@ pub struct Packet {
 
 /// Cuts frames into packets.
 #[derive(Debug)]
-pub struct Packetizer(Handle);
+pub struct Packetizer(Handle<raw::Packetizer>);
 
 impl Packetizer {
     /// A packetizer by its settings.
@@ -213,7 +212,7 @@ impl Packetizer {
     pub fn new(settings: &Settings) -> Result<Packetizer, Error> {
         let mut handle = Handle::empty();
         // SAFETY: an empty handle, and a struct that is borrowed for the call.
-        told(unsafe { cpl_packetizer_new(handle.raw(), &settings.raw()) })?;
+        told(unsafe { cpay_packetizer_new(handle.raw(), &settings.raw()) })?;
         Ok(Packetizer(handle))
     }
 
@@ -234,7 +233,7 @@ impl Packetizer {
         let mut count = 0;
         // SAFETY: the pointer and the length are those of one slice, and all is borrowed for the call.
         told(unsafe {
-            cpl_packetize(
+            cpay_packetize(
                 self.0.raw(),
                 mtu,
                 starts_talk_spurt,
@@ -253,7 +252,7 @@ impl Packetizer {
         loop {
             // SAFETY: as in `packetize`.
             let status =
-                unsafe { cpl_packet(self.0.raw(), &mut info, payload.as_mut_ptr(), payload.len()) };
+                unsafe { cpay_packet(self.0.raw(), &mut info, payload.as_mut_ptr(), payload.len()) };
             if status != TOO_SMALL {
                 told(status)?;
                 return Ok(Packet {
@@ -274,12 +273,8 @@ pub struct Received {
     pub number: u64,
     /// When it was received, by a clock of the caller's.
     pub received: u64,
-    /// The timestamp of its RTP header.
-    pub rtp_time: u32,
-    /// The synchronization source.
-    pub ssrc: u32,
-    /// The payload type, of which the low 7 bits count.
-    pub payload_type: u8,
+    /// The timestamp of its RTP header, or one that does not wrap.
+    pub rtp_time: u64,
     /// The marker.
     pub marker: bool,
 }
@@ -291,7 +286,7 @@ pub struct Unit {
     pub first: u64,
     /// The number of its last packet.
     pub last: u64,
-    /// The timestamp of its packets.
+    /// The timestamp of its packets, as it was pushed.
     pub rtp_time: u64,
     /// When the first of its packets to come was received.
     pub received: u64,
@@ -320,7 +315,7 @@ pub struct Counts {
 ///
 /// It is an iterator over the units whose turn has come, which goes on after a push: `None` is not the end.
 #[derive(Debug)]
-pub struct Buffer(Handle);
+pub struct Buffer(Handle<raw::Buffer>);
 
 impl Buffer {
     /// A buffer of at most `limit` packets, 1 to 65,536. A frame behind missing packets waits until more than `hold_back`
@@ -332,7 +327,7 @@ impl Buffer {
     pub fn new(settings: &Settings, hold_back: usize, limit: usize) -> Result<Buffer, Error> {
         let mut handle = Handle::empty();
         // SAFETY: an empty handle, and a struct that is borrowed for the call.
-        told(unsafe { cpl_buffer_new(handle.raw(), &settings.raw(), hold_back, limit) })?;
+        told(unsafe { cpay_buffer_new(handle.raw(), &settings.raw(), hold_back, limit) })?;
         Ok(Buffer(handle))
     }
 
@@ -346,12 +341,10 @@ impl Buffer {
             number: packet.number,
             received: packet.received,
             rtp_time: packet.rtp_time,
-            ssrc: packet.ssrc,
-            payload_type: packet.payload_type,
             marker: packet.marker,
         };
         // SAFETY: the pointer and the length are those of one slice, and all is borrowed for the call.
-        told(unsafe { cpl_buffer_push(self.0.raw(), &packet, payload.as_ptr(), payload.len()) })
+        told(unsafe { cpay_buffer_push(self.0.raw(), &packet, payload.as_ptr(), payload.len()) })
     }
 
     /// The next unit, if its turn has come. After an `Err` the next call goes on: a frame that is refused by its format has left,
@@ -362,7 +355,7 @@ impl Buffer {
         loop {
             // SAFETY: as in `push`.
             let status = unsafe {
-                cpl_buffer_pop(
+                cpay_buffer_pop(
                     self.0.raw(),
                     &mut told_unit,
                     bytes.as_mut_ptr(),
@@ -377,6 +370,20 @@ impl Buffer {
         }
     }
 
+    /// From now on a frame behind missing packets waits until more than `hold_back` complete frames are there. Where a stream
+    /// ends, set it to 0 and take units until there is none.
+    pub fn set_hold_back(&mut self, hold_back: usize) {
+        // SAFETY: a struct that is borrowed for the call. It holds a buffer, so the call succeeds.
+        unsafe { cpay_buffer_set_hold_back(self.0.raw(), hold_back) };
+    }
+
+    /// The packet of that number came and carries no media, as one of padding alone: where all before it have left, it is not
+    /// waited for.
+    pub fn pass_number(&mut self, number: u64) {
+        // SAFETY: as in `set_hold_back`.
+        unsafe { cpay_buffer_pass_number(self.0.raw(), number) };
+    }
+
     /// How much is held.
     ///
     /// # Errors
@@ -385,7 +392,7 @@ impl Buffer {
     pub fn counts(&mut self) -> Result<Counts, Error> {
         let mut counts = BufferCountsInfo::default();
         // SAFETY: as in `push`.
-        told(unsafe { cpl_buffer_counts(self.0.raw(), &mut counts) })?;
+        told(unsafe { cpay_buffer_counts(self.0.raw(), &mut counts) })?;
         Ok(Counts {
             packets: counts.held,
             ready: counts.ready,
@@ -419,7 +426,7 @@ impl Iterator for Buffer {
 
 /// Puts payloads together that the caller has put in order.
 #[derive(Debug)]
-pub struct Depacketizer(Handle);
+pub struct Depacketizer(Handle<raw::Depacketizer>);
 
 impl Depacketizer {
     /// A depacketizer by its settings.
@@ -430,7 +437,7 @@ impl Depacketizer {
     pub fn new(settings: &Settings) -> Result<Depacketizer, Error> {
         let mut handle = Handle::empty();
         // SAFETY: an empty handle, and a struct that is borrowed for the call.
-        told(unsafe { cpl_depacketizer_new(handle.raw(), &settings.raw()) })?;
+        told(unsafe { cpay_depacketizer_new(handle.raw(), &settings.raw()) })?;
         Ok(Depacketizer(handle))
     }
 
@@ -441,7 +448,7 @@ impl Depacketizer {
     /// The fault of the format, and [`Error::OutOfMemory`]. What payloads before it gave stays.
     pub fn depacketize(&mut self, payload: &[u8]) -> Result<(), Error> {
         // SAFETY: the pointer and the length are those of one slice, and all is borrowed for the call.
-        told(unsafe { cpl_depacketize(self.0.raw(), payload.as_ptr(), payload.len()) })
+        told(unsafe { cpay_depacketize(self.0.raw(), payload.as_ptr(), payload.len()) })
     }
 
     /// What the payloads since the last such call gave, and told.
@@ -456,7 +463,7 @@ impl Depacketizer {
         loop {
             // SAFETY: as in `depacketize`.
             let status = unsafe {
-                cpl_depacketized(
+                cpay_depacketized(
                     self.0.raw(),
                     &mut size,
                     &mut extra,

@@ -8,21 +8,21 @@ use crate::raw::*;
 #[must_use]
 pub fn is_vp9_keyframe(payload: &[u8]) -> bool {
     // SAFETY: the pointer and the length are those of one slice, which is borrowed for the call.
-    unsafe { cpl_vp9_is_keyframe(payload.as_ptr(), payload.len()) }
+    unsafe { cpay_vp9_is_keyframe(payload.as_ptr(), payload.len()) }
 }
 
 /// Whether a whole frame of VP9, without a descriptor, is a keyframe.
 #[must_use]
 pub fn is_vp9_frame_keyframe(frame: &[u8]) -> bool {
     // SAFETY: as above.
-    unsafe { cpl_vp9_frame_is_keyframe(frame.as_ptr(), frame.len()) }
+    unsafe { cpay_vp9_frame_is_keyframe(frame.as_ptr(), frame.len()) }
 }
 
 /// Whether a new coded video sequence of AV1 starts in the payload.
 #[must_use]
 pub fn is_av1_keyframe(payload: &[u8]) -> bool {
     // SAFETY: as above.
-    unsafe { cpl_av1_is_keyframe(payload.as_ptr(), payload.len()) }
+    unsafe { cpay_av1_is_keyframe(payload.as_ptr(), payload.len()) }
 }
 
 /// Whether the payload begins a unit.
@@ -33,7 +33,7 @@ pub fn is_av1_keyframe(payload: &[u8]) -> bool {
 pub fn is_head(codec: Codec, payload: &[u8]) -> Result<bool, Error> {
     let mut answer = false;
     // SAFETY: as above.
-    told(unsafe { cpl_is_head(codec as u32, payload.as_ptr(), payload.len(), &mut answer) })?;
+    told(unsafe { cpay_is_head(codec as u32, payload.as_ptr(), payload.len(), &mut answer) })?;
     Ok(answer)
 }
 
@@ -46,7 +46,7 @@ pub fn is_tail(codec: Codec, marker: bool, payload: &[u8]) -> Result<bool, Error
     let mut answer = false;
     // SAFETY: as above.
     told(unsafe {
-        cpl_is_tail(
+        cpay_is_tail(
             codec as u32,
             marker,
             payload.as_ptr(),
@@ -62,5 +62,5 @@ pub fn is_tail(codec: Codec, marker: bool, payload: &[u8]) -> Result<bool, Error
 #[must_use]
 pub fn extend_number(previous: Option<u64>, number: u16) -> u64 {
     // SAFETY: numbers alone.
-    unsafe { cpl_extend_number(previous.unwrap_or(0), previous.is_some(), number) }
+    unsafe { cpay_extend_number(previous.unwrap_or(0), previous.is_some(), number) }
 }

@@ -23,7 +23,7 @@ pub struct FrameInfo {
 pub fn frame_info(codec: Codec, frame: &[u8]) -> Result<FrameInfo, Error> {
     let mut facts = FrameFacts::default();
     // SAFETY: the pointer and the length are those of one slice, and all is borrowed for the call.
-    told(unsafe { cpl_frame_info(codec as u32, frame.as_ptr(), frame.len(), &mut facts) })?;
+    told(unsafe { cpay_frame_info(codec as u32, frame.as_ptr(), frame.len(), &mut facts) })?;
     Ok(FrameInfo {
         keyframe: facts.has_keyframe.then_some(facts.keyframe),
         size: facts.has_size.then_some((facts.width, facts.height)),
@@ -99,7 +99,7 @@ impl<'a> Iterator for Obus<'a> {
         let call = |offset| {
             let mut info = ObuInfo::default();
             // SAFETY: as in `frame_info`.
-            let status = unsafe { cpl_av1_obu(unit.as_ptr(), unit.len(), offset, &mut info) };
+            let status = unsafe { cpay_av1_obu(unit.as_ptr(), unit.len(), offset, &mut info) };
             (status, info)
         };
         let found = self.0.next(call, |info| (info.start, info.bytes))?;
@@ -133,7 +133,7 @@ impl<'a> Iterator for AmrWbFrames<'a> {
         let call = |offset| {
             let mut info = AmrWbFrameInfo::default();
             // SAFETY: as in `frame_info`.
-            let status = unsafe { cpl_amr_wb_frame(unit.as_ptr(), unit.len(), offset, &mut info) };
+            let status = unsafe { cpay_amr_wb_frame(unit.as_ptr(), unit.len(), offset, &mut info) };
             (status, info)
         };
         let found = self.0.next(call, |info| (info.start, info.bytes))?;
@@ -145,6 +145,46 @@ impl<'a> Iterator for AmrWbFrames<'a> {
     }
 }
 
+/// The frames of a VP9 unit, in order: of a superframe those of its index, else the unit. A unit whose index does not fit, and
+/// one of no bytes, gives a fault alone.
+#[derive(Clone, Debug)]
+pub struct Vp9Frames<'a> {
+    unit: &'a [u8],
+    /// How many were given; `None` behind the last.
+    given: Option<usize>,
+}
+
+/// The frames of a VP9 unit, hidden ones too.
+#[must_use]
+pub fn vp9_frames(unit: &[u8]) -> Vp9Frames<'_> {
+    Vp9Frames {
+        unit,
+        given: Some(0),
+    }
+}
+
+impl<'a> Iterator for Vp9Frames<'a> {
+    type Item = Result<&'a [u8], Error>;
+
+    fn next(&mut self) -> Option<Self::Item> {
+        let index = self.given.take()?;
+        let mut info = Vp9FrameInfo::default();
+        // SAFETY: as in `frame_info`.
+        let status =
+            unsafe { cpay_vp9_frame(self.unit.as_ptr(), self.unit.len(), index, &mut info) };
+        if status == NONE {
+            return None;
+        }
+        if let Err(fault) = told(status) {
+            return Some(Err(fault));
+        }
+        self.given = Some(index + 1);
+        Some(Ok(&self.unit[info.start..info.start + info.bytes]))
+    }
+}
+
+impl std::iter::FusedIterator for Vp9Frames<'_> {}
+
 /// The `av1C` record of a stream, from its sequence header OBU with header and size.
 ///
 /// # Errors
@@ -155,7 +195,7 @@ pub fn av1c(obu: &[u8]) -> Result<Vec<u8>, Error> {
     let mut size = 0;
     // SAFETY: as in `frame_info`.
     told(unsafe {
-        cpl_av1c(
+        cpay_av1c(
             obu.as_ptr(),
             obu.len(),
             bytes.as_mut_ptr(),
@@ -176,7 +216,7 @@ pub fn opus_head(channels: u8, pre_skip: u16, input_sample_rate: u32) -> Result<
     let mut bytes = [0; 19];
     // SAFETY: as in `frame_info`.
     told(unsafe {
-        cpl_opus_head(
+        cpay_opus_head(
             channels,
             pre_skip,
             input_sample_rate,

@@ -9,7 +9,7 @@ const MOST_REDUNDANT: usize = 8 * (4 + 1_023) + 1;
 
 /// Sends each payload together with some of those before it.
 #[derive(Debug)]
-pub struct Sender(Handle);
+pub struct Sender(Handle<RedSender>);
 
 impl Sender {
     /// `red_pt` is the payload type of the packets, `primary_pt` that of the media. Each distance is how many payloads back to
@@ -22,7 +22,7 @@ impl Sender {
         let mut handle = Handle::empty();
         // SAFETY: an empty handle; the pointer and the length are those of one slice.
         told(unsafe {
-            cpl_red_sender_new(
+            cpay_red_sender_new(
                 handle.raw(),
                 red_pt,
                 primary_pt,
@@ -41,7 +41,7 @@ impl Sender {
     pub fn sync(&mut self, red_pt: u8, primary_pt: u8, distances: &[u32]) -> Result<(), Error> {
         // SAFETY: as in `new`.
         told(unsafe {
-            cpl_red_sync(
+            cpay_red_sync(
                 self.0.raw(),
                 red_pt,
                 primary_pt,
@@ -64,7 +64,7 @@ impl Sender {
         let mut size = 0;
         // SAFETY: each pointer and length are those of one slice, and all is borrowed for the call.
         told(unsafe {
-            cpl_red_wrap(
+            cpay_red_wrap(
                 self.0.raw(),
                 rtp_time,
                 budget,
@@ -117,7 +117,7 @@ pub fn blocks(payload: &[u8]) -> Result<Vec<Block>, Error> {
         let mut info = RedBlockInfo::default();
         // SAFETY: each pointer and length are those of one slice, and all is borrowed for the call.
         told(unsafe {
-            cpl_red_block(
+            cpay_red_block(
                 payload.as_ptr(),
                 payload.len(),
                 index,
@@ -157,7 +157,7 @@ pub fn recover(
         let mut info = RecoveredInfo::default();
         // SAFETY: as in `blocks`.
         told(unsafe {
-            cpl_red_recover(
+            cpay_red_recover(
                 primary_pt,
                 step,
                 number,
@@ -205,7 +205,7 @@ pub fn encode(
     loop {
         // SAFETY: as in `blocks`.
         let status = unsafe {
-            cpl_red_encode(
+            cpay_red_encode(
                 primary_pt,
                 primary.as_ptr(),
                 primary.len(),

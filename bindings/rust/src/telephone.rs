@@ -13,7 +13,7 @@ pub fn read(payload: &[u8], rate: u32) -> Result<Vec<TelephoneEvent>, Error> {
     each(|index| {
         let mut event = TeleEvent::default();
         // SAFETY: the pointer and the length are those of one slice, and all is borrowed for the call.
-        told(unsafe { cpl_tele_read(payload.as_ptr(), payload.len(), rate, index, &mut event) })?;
+        told(unsafe { cpay_tele_read(payload.as_ptr(), payload.len(), rate, index, &mut event) })?;
         Ok(TelephoneEvent::of(&event))
     })
 }
@@ -26,6 +26,6 @@ pub fn read(payload: &[u8], rate: u32) -> Result<Vec<TelephoneEvent>, Error> {
 pub fn write(event: &TelephoneEvent, rate: u32) -> Result<[u8; 4], Error> {
     let mut bytes = [0; 4];
     // SAFETY: as in `read`.
-    told(unsafe { cpl_tele_write(&event.raw(), rate, bytes.as_mut_ptr(), bytes.len()) })?;
+    told(unsafe { cpay_tele_write(&event.raw(), rate, bytes.as_mut_ptr(), bytes.len()) })?;
     Ok(bytes)
 }

@@ -24,7 +24,7 @@ pub fn fields(payload: &[u8]) -> Result<Fields, Error> {
     let mut starts_keyframe = false;
     // SAFETY: the pointer and the length are those of one slice, and all is borrowed for the call.
     told(unsafe {
-        cpl_vp8_fields(
+        cpay_vp8_fields(
             payload.as_ptr(),
             payload.len(),
             &mut fields,
@@ -54,12 +54,12 @@ pub fn patch(payload: &mut [u8], values: &Fields) -> Result<(), Error> {
         has_key_idx: values.key_idx.is_some(),
     };
     // SAFETY: as in `fields`.
-    told(unsafe { cpl_vp8_patch(payload.as_mut_ptr(), payload.len(), &values) })
+    told(unsafe { cpay_vp8_patch(payload.as_mut_ptr(), payload.len(), &values) })
 }
 
 /// Whether a keyframe starts in the payload.
 #[must_use]
 pub fn is_keyframe(payload: &[u8]) -> bool {
     // SAFETY: as in `fields`.
-    unsafe { cpl_vp8_is_keyframe(payload.as_ptr(), payload.len()) }
+    unsafe { cpay_vp8_is_keyframe(payload.as_ptr(), payload.len()) }
 }

@@ -11,7 +11,6 @@ fn received(number: u64, rtp_time: u32, marker: bool) -> Received {
     Received {
         number,
         rtp_time,
-        payload_type: 96,
         marker,
         ..Received::default()
     }
@@ -255,6 +254,18 @@ fn frames() -> Result<(), Error> {
         [0x81, 0x00, 0x0c, 0x00, 0x0a, 0x0a]
     );
     assert_eq!(media::av1c(&unit[..2]), Err(Error::Invalid));
+
+    // A superframe of two frames and a byte that belongs to none, and one whose index asks for a byte more than there is.
+    let two = [0x84, 7, 0x86, 9, 0xc9, 2, 0, 1, 0, 0xc9];
+    assert_eq!(
+        media::vp9_frames(&two).collect::<Result<Vec<_>, _>>()?,
+        [&[0x84, 7][..], &[0x86]]
+    );
+    assert_eq!(media::vp9_frames(&two[..4]).next(), Some(Ok(&two[..4])));
+    let mut short = media::vp9_frames(&[0x84, 0x86, 0x01, 0xc1, 2, 2, 0xc1]);
+    assert_eq!(short.next(), Some(Err(Error::FrameSizes)));
+    assert_eq!(short.next(), None);
+    assert_eq!(media::vp9_frames(&[]).next(), Some(Err(Error::FrameTooShort)));
 
     let mut sound = media::amr_wb_frames(&[0x70, 0x4c, 1, 2, 3, 4, 5]);
     assert_eq!(sound.next().unwrap()?.frame_type, 14);

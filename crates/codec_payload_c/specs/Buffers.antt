@@ -1,5 +1,5 @@
 -- What the calls on a buffer do.
-use Rattle.std.specs.Prelude.{◌≡◌, ◌≢◌, ◌⊎◌, ℕ, ◌%◌, ◌<◌, ◌≤◌, Option, Some, None, Ok, Err, List, is_some, length}
+use Rattle.std.specs.Prelude.{◌≡◌, ◌≢◌, ◌⊎◌, ℕ, ◌%◌, ◌^◌, ◌<◌, ◌≤◌, Option, Some, None, Ok, Err, List, is_some, length}
 use Rattle.codec_payload_core.specs.Extensions.{no_values}
 use Rattle.codec_payload_core.specs.Depack.{Depack}
 use Rattle.codec_payload_core.specs.Faults.{fault_number}
@@ -37,10 +37,10 @@ pub record IsToldBy (packet : Received) (rate : ℕ) (meta : RtpMeta) : Type 0 w
   pub number : meta.seq_no.0 ≡ packet.number
   pub received : meta.received.0 ≡ packet.received
   pub time : meta.time ≡ record { numer = packet.rtp_time; rate = rate }
-  pub payload_type : meta.header.payload_type ≡ packet.payload_type
+  pub payload_type : meta.header.payload_type ≡ 0
   pub sequence_number : meta.header.sequence_number ≡ packet.number % 65536
-  pub timestamp : meta.header.timestamp ≡ packet.rtp_time
-  pub ssrc : meta.header.ssrc ≡ packet.ssrc
+  pub timestamp : meta.header.timestamp ≡ packet.rtp_time % 2 ^ 32
+  pub ssrc : meta.header.ssrc ≡ 0
   pub marker : meta.header.marker ≡ packet.marker
   pub values : meta.header.ext_vals ≡ no_values
   pub no_info : meta.last_sender_info ≡ None

@@ -5,11 +5,11 @@ use Rattle.codec_payload_media.specs.Av1Records.{av1c_bytes}
 use Rattle.codec_payload_media.specs.Av1SequenceHeaders.{sequence_header}
 use Rattle.codec_payload_media.specs.Av1Units.{Obu, obu_at}
 use Rattle.codec_payload_media.specs.OpusPackets.{head_bytes}
-use Rattle.codec_payload_media.specs.Syntax.{told_by}
+use Rattle.codec_payload_vpx.specs.Syntax.{told_by}
 use Rattle.codec_payload_media.specs.declared.av1.obu.Av1Extension.{Av1Extension}
 use Rattle.codec_payload_media.specs.declared.av1.sequence_header.Av1SequenceHeader.{Av1SequenceHeader}
-use Rattle.codec_payload_media.specs.declared.error.MediaError.{MediaError}
-use Rattle.codec_payload_media.specs.declared.error.MediaError.TheVariants as errors
+use Rattle.codec_payload_vpx.specs.declared.error.MediaError.{MediaError}
+use Rattle.codec_payload_vpx.specs.declared.error.MediaError.TheVariants as errors
 use Rattle.codec_payload_media.specs.declared.frame_info.FrameInfo.{FrameInfo}
 use Rattle.codec_payload_media.specs.declared.frame_info.PictureSize.{PictureSize}
 use Rattle.codec_payload_media.specs.declared.opus.OpusHead.{OpusHead}
@@ -19,6 +19,7 @@ use Rattle.codec_payload_c.specs.Extras.{or_zero}
 use Rattle.codec_payload_c.specs.declared.media.AmrWbFrameInfo.{AmrWbFrameInfo}
 use Rattle.codec_payload_c.specs.declared.media.FrameFacts.{FrameFacts}
 use Rattle.codec_payload_c.specs.declared.media.ObuInfo.{ObuInfo}
+use Rattle.codec_payload_c.specs.declared.media.Vp9FrameInfo.{Vp9FrameInfo}
 
 -- the statuses of frames that are malformed
 abbrev pub media_status : MediaError → ℕ
@@ -81,6 +82,15 @@ frame_place total x = record { start = total - length x.1 - length x.0.speech; b
 abbrev pub TellsAmrWbFrame : ℕ → Result (Frame × List ℕ) MediaError → ℕ → AmrWbFrameInfo → AmrWbFrameInfo → Type 0
 TellsAmrWbFrame total (Ok x) status before info = (status ≡ 0) × (info ≡ frame_place total x)
 TellsAmrWbFrame total (Err e) status before info = (status ≡ media_status e) × (info ≡ before)
+
+abbrev pub vp9_place : ℕ × List ℕ → Vp9FrameInfo
+vp9_place x = record { start = x.0; bytes = length x.1 }
+
+-- a frame behind so many bytes; status 32 where there are not as many frames
+abbrev pub TellsVp9Frame : Result (Option (ℕ × List ℕ)) MediaError → ℕ → Vp9FrameInfo → Vp9FrameInfo → Type 0
+TellsVp9Frame (Ok (Some x)) status before info = (status ≡ 0) × (info ≡ vp9_place x)
+TellsVp9Frame (Ok None) status before info = (status ≡ 32) × (info ≡ before)
+TellsVp9Frame (Err e) status before info = (status ≡ media_status e) × (info ≡ before)
 
 -- by whether an offset is behind the end, and whether it is at the end or behind it
 abbrev pub IfWithin : Bool → Bool → Type 0 → Type 0 → Type 0 → Type 0

@@ -1,6 +1,7 @@
 //! Received packets put in order and together.
 
 ghost use Rattle.std.specs.Prelude.{◌≡◌, ◌≢◌, ◌&&◌, is_some, nat_le};
+ghost use Rattle.codec_payload_core.specs.Blanks.{passed_number};
 ghost use Rattle.codec_payload_c.specs.Buffers.{AnswersPop, AnswersPush, Counts, IsReceiverOf, IsToldBy, TellsUnit};
 ghost use Rattle.codec_payload_c.specs.Kinds.{Makes, OnReceiver, Refuses, is_receiver};
 ghost use Rattle.codec_payload_c.specs.Settings.{depack_set};
@@ -28,10 +29,8 @@ pub struct Received {
     pub number: u64,
     /// When it was received, by the caller's clock.
     pub received: u64,
-    /// In ticks of the RTP clock, modulo 2^32.
-    pub rtp_time: u32,
-    pub ssrc: u32,
-    pub payload_type: u8,
+    /// In ticks of the RTP clock. The low 32 bits are those of the RTP header.
+    pub rtp_time: u64,
     pub marker: bool,
 }
 
@@ -43,7 +42,7 @@ pub struct Unit {
     pub first: u64,
     /// The number of its last packet.
     pub last: u64,
-    /// In ticks of the RTP clock, modulo 2^32.
+    /// In ticks of the RTP clock, as it was pushed.
     pub rtp_time: u64,
     /// When the first of its packets was received, by the caller's clock.
     pub received: u64,
@@ -77,13 +76,13 @@ fn meta_of(packet: &Received, rate: Frequency) -> RtpMeta
 {
     RtpMeta {
         received: Ticks(packet.received),
-        time: MediaTime::new(u64::from(packet.rtp_time), rate),
+        time: MediaTime::new(packet.rtp_time, rate),
         seq_no: SeqNo(packet.number),
         header: RtpHeader {
-            payload_type: Pt::new_with_value(packet.payload_type),
+            payload_type: Pt::new_with_value(0),
             sequence_number: (packet.number % 65_536) as u16,
-            timestamp: packet.rtp_time,
-            ssrc: packet.ssrc,
+            timestamp: (packet.rtp_time % (1 << 32)) as u32,
+            ssrc: 0,
             marker: packet.marker,
             ext_vals: ExtensionValues::default(),
         },
@@ -160,7 +159,7 @@ impl Receiver {
 
 /// A buffer with these settings, in an empty handle.
 #[unsafe(no_mangle)]
-pub extern "C" fn cpl_buffer_new(
+pub extern "C" fn cpay_buffer_new(
     alloc: Global,
     handle: &mut Handle,
     spec: &Spec,
@@ -197,7 +196,7 @@ pub extern "C" fn cpl_buffer_new(
 
 /// A received packet goes in. Its payload is copied.
 #[unsafe(no_mangle)]
-pub extern "C" fn cpl_buffer_push(
+pub extern "C" fn cpay_buffer_push(
     alloc: Global,
     handle: &mut Handle,
     packet: &Received,
@@ -219,7 +218,7 @@ pub extern "C" fn cpl_buffer_push(
 
 /// The next unit, if its turn has come.
 #[unsafe(no_mangle)]
-pub extern "C" fn cpl_buffer_pop(
+pub extern "C" fn cpay_buffer_pop(
     alloc: Global,
     handle: &mut Handle,
     unit: &mut Unit,
@@ -241,9 +240,53 @@ pub extern "C" fn cpl_buffer_pop(
     answer
 }
 
+/// From now on a frame behind missing packets waits until more complete frames than that are held. What is held stays.
+#[unsafe(no_mangle)]
+pub extern "C" fn cpay_buffer_set_hold_back(
+    alloc: Global,
+    handle: &mut Handle,
+    hold_back: usize,
+) -> u32
+    ensures sets { OnReceiver handle.old.place.value (λ r s. (result ≡ 0) × (s ≡ record r { buffer = record r.buffer { hold_back = hold_back } })) handle.new.place.value }
+    ensures refused { Refuses is_receiver handle.old.place.value result handle.new.place.value }
+{
+    let Some(mut object) = handle.take(alloc) else {
+        return status::EMPTY;
+    };
+    let answer = match &mut *object {
+        Object::Receiver(receiver) => {
+            receiver.buffer.set_hold_back(hold_back);
+            status::OK
+        }
+        _ => status::OTHER_KIND,
+    };
+    handle.put(object);
+    answer
+}
+
+/// The packet of that number carries no media: where all below it have left, it is not waited for.
+#[unsafe(no_mangle)]
+pub extern "C" fn cpay_buffer_pass_number(alloc: Global, handle: &mut Handle, number: u64) -> u32
+    ensures passes { OnReceiver handle.old.place.value (λ r s. (result ≡ 0) × (s ≡ record r { buffer = passed_number r.buffer number })) handle.new.place.value }
+    ensures refused { Refuses is_receiver handle.old.place.value result handle.new.place.value }
+{
+    let Some(mut object) = handle.take(alloc) else {
+        return status::EMPTY;
+    };
+    let answer = match &mut *object {
+        Object::Receiver(receiver) => {
+            receiver.buffer.pass_number(SeqNo(number));
+            status::OK
+        }
+        _ => status::OTHER_KIND,
+    };
+    handle.put(object);
+    answer
+}
+
 /// How much a buffer holds.
 #[unsafe(no_mangle)]
-pub extern "C" fn cpl_buffer_counts(
+pub extern "C" fn cpay_buffer_counts(
     alloc: Global,
     handle: &mut Handle,
     counts: &mut BufferCountsInfo,

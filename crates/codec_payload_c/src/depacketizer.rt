@@ -45,7 +45,7 @@ impl Assembler {
 
 /// A depacketizer with these settings, in an empty handle.
 #[unsafe(no_mangle)]
-pub extern "C" fn cpl_depacketizer_new(alloc: Global, handle: &mut Handle, spec: &Spec) -> u32
+pub extern "C" fn cpay_depacketizer_new(alloc: Global, handle: &mut Handle, spec: &Spec) -> u32
     ensures { Makes (IsAssemblerOf (depack_set spec.now)) (is_some (depack_set spec.now)) handle.old.place.value result handle.new.place.value }
 {
     if let Some(object) = handle.take(alloc) {
@@ -71,7 +71,7 @@ pub extern "C" fn cpl_depacketizer_new(alloc: Global, handle: &mut Handle, spec:
 
 /// Reads a payload.
 #[unsafe(no_mangle)]
-pub extern "C" fn cpl_depacketize(alloc: Global, handle: &mut Handle, payload: &[u8]) -> u32
+pub extern "C" fn cpay_depacketize(alloc: Global, handle: &mut Handle, payload: &[u8]) -> u32
     ensures unpacks { OnAssembler handle.old.place.value (λ r s. Unpacks r payload.now result s) handle.new.place.value }
     ensures refused { Refuses is_assembler handle.old.place.value result handle.new.place.value }
 {
@@ -88,7 +88,7 @@ pub extern "C" fn cpl_depacketize(alloc: Global, handle: &mut Handle, payload: &
 
 /// Takes what the payloads since the last call gave.
 #[unsafe(no_mangle)]
-pub extern "C" fn cpl_depacketized(
+pub extern "C" fn cpay_depacketized(
     alloc: Global,
     handle: &mut Handle,
     size: &mut usize,

@@ -19,7 +19,7 @@ use std::alloc::Global;
 
 /// Whether a keyframe of VP8 starts in the payload.
 #[unsafe(no_mangle)]
-pub extern "C" fn cpl_vp8_is_keyframe(payload: &[u8]) -> bool
+pub extern "C" fn cpay_vp8_is_keyframe(payload: &[u8]) -> bool
     ensures { result ≡ is_vp8_keyframe payload.now }
 {
     detect_vp8_keyframe(payload)
@@ -27,7 +27,7 @@ pub extern "C" fn cpl_vp8_is_keyframe(payload: &[u8]) -> bool
 
 /// Whether the payload of VP9 says that its frame depends on no other.
 #[unsafe(no_mangle)]
-pub extern "C" fn cpl_vp9_is_keyframe(payload: &[u8]) -> bool
+pub extern "C" fn cpay_vp9_is_keyframe(payload: &[u8]) -> bool
     ensures { result ≡ is_key_payload payload.now }
 {
     detect_vp9_keyframe(payload)
@@ -35,7 +35,7 @@ pub extern "C" fn cpl_vp9_is_keyframe(payload: &[u8]) -> bool
 
 /// Whether the frame of VP9, without a descriptor, is a keyframe.
 #[unsafe(no_mangle)]
-pub extern "C" fn cpl_vp9_frame_is_keyframe(frame: &[u8]) -> bool
+pub extern "C" fn cpay_vp9_frame_is_keyframe(frame: &[u8]) -> bool
     ensures { result ≡ is_key_frame frame.now }
 {
     detect_vp9_keyframe_bitstream(frame)
@@ -43,7 +43,7 @@ pub extern "C" fn cpl_vp9_frame_is_keyframe(frame: &[u8]) -> bool
 
 /// Whether a new coded video sequence of AV1 starts in the payload.
 #[unsafe(no_mangle)]
-pub extern "C" fn cpl_av1_is_keyframe(payload: &[u8]) -> bool
+pub extern "C" fn cpay_av1_is_keyframe(payload: &[u8]) -> bool
     ensures { result ≡ is_av1_keyframe payload.now }
 {
     detect_av1_keyframe(payload)
@@ -51,7 +51,7 @@ pub extern "C" fn cpl_av1_is_keyframe(payload: &[u8]) -> bool
 
 /// Whether the payload begins a unit.
 #[unsafe(no_mangle)]
-pub extern "C" fn cpl_is_head(alloc: Global, codec: u32, payload: &[u8], is_head: &mut bool) -> u32
+pub extern "C" fn cpay_is_head(alloc: Global, codec: u32, payload: &[u8], is_head: &mut bool) -> u32
     ensures { Looks (depack_for (codec_numbered codec)) (λ d. head_of d payload.now) result is_head.old is_head.new }
 {
     let Some(depack) = CodecDepacketizer::from_codec(alloc, codec_of(codec)) else {
@@ -63,7 +63,7 @@ pub extern "C" fn cpl_is_head(alloc: Global, codec: u32, payload: &[u8], is_head
 
 /// Whether the payload, under this marker of its RTP header, ends a unit.
 #[unsafe(no_mangle)]
-pub extern "C" fn cpl_is_tail(
+pub extern "C" fn cpay_is_tail(
     alloc: Global,
     codec: u32,
     marker: bool,
@@ -82,7 +82,7 @@ pub extern "C" fn cpl_is_tail(
 /// The number nearest to the previous one whose low 16 bits are given; half the range goes forward. The first number is
 /// the 16 bits themselves.
 #[unsafe(no_mangle)]
-pub extern "C" fn cpl_extend_number(previous: u64, has_previous: bool, number: u16) -> u64
+pub extern "C" fn cpay_extend_number(previous: u64, has_previous: bool, number: u16) -> u64
     ensures { result ≡ extended 65536 (given_if has_previous previous) number }
 {
     let number = u64::from(number);

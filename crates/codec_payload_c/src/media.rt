@@ -5,8 +5,10 @@ ghost use Rattle.codec_payload_media.specs.AmrWbFrames.{frame_at};
 ghost use Rattle.codec_payload_media.specs.Av1Units.{obu_at};
 ghost use Rattle.codec_payload_media.specs.FrameInfo.{info_of};
 ghost use Rattle.codec_payload_media.specs.Av1Records.{av1c_bytes};
+ghost use Rattle.codec_payload_vpx.specs.Reading.{told};
+ghost use Rattle.codec_payload_vpx.specs.Vp9Superframes.{placed_in, unit_frames};
 ghost use Rattle.codec_payload_c.specs.Bytes.{filled};
-ghost use Rattle.codec_payload_c.specs.Media.{AtOffset, TellsAmrWbFrame, TellsFrame, TellsObu, WritesHead, WritesRecord, facts_of, header_in, media_status};
+ghost use Rattle.codec_payload_c.specs.Media.{AtOffset, TellsAmrWbFrame, TellsFrame, TellsObu, TellsVp9Frame, WritesHead, WritesRecord, facts_of, header_in, media_status};
 ghost use Rattle.codec_payload_c.specs.Settings.{codec_numbered};
 
 use crate::bytes::fill;
@@ -19,6 +21,7 @@ use codec_payload_media::av1::sequence_header::Av1SequenceHeader;
 use codec_payload_media::error::MediaError;
 use codec_payload_media::frame_info::{FrameInfo, frame_info};
 use codec_payload_media::opus::OpusHead;
+use codec_payload_media::vp9::frame_at;
 
 /// What a frame says of itself.
 #[repr(C)]
@@ -67,6 +70,16 @@ pub struct AmrWbFrameInfo {
     pub quality: bool,
 }
 
+/// A frame of a VP9 unit.
+#[repr(C)]
+#[derive(Clone, Copy)]
+pub struct Vp9FrameInfo {
+    /// Where it begins in the unit; the next frame begins behind its end.
+    pub start: usize,
+    /// How many bytes it has.
+    pub bytes: usize,
+}
+
 /// The status of a frame that is malformed.
 fn status_of(error: MediaError) -> u32
     ensures { result ≡ media_status error }
@@ -100,7 +113,7 @@ fn facts_of(info: &FrameInfo) -> FrameFacts
 
 /// What a frame of a codec says of itself.
 #[unsafe(no_mangle)]
-pub extern "C" fn cpl_frame_info(codec: u32, frame: &[u8], facts: &mut FrameFacts) -> u32
+pub extern "C" fn cpay_frame_info(codec: u32, frame: &[u8], facts: &mut FrameFacts) -> u32
     ensures { TellsFrame (info_of (codec_numbered codec) frame.now) result facts.old facts.new }
 {
     match frame_info(codec_of(codec), frame) {
@@ -114,7 +127,7 @@ pub extern "C" fn cpl_frame_info(codec: u32, frame: &[u8], facts: &mut FrameFact
 
 /// The OBU at an offset of a temporal unit.
 #[unsafe(no_mangle)]
-pub extern "C" fn cpl_av1_obu(unit: &[u8], offset: usize, info: &mut ObuInfo) -> u32
+pub extern "C" fn cpay_av1_obu(unit: &[u8], offset: usize, info: &mut ObuInfo) -> u32
     ensures { AtOffset unit.now offset (TellsObu (length unit.now) (obu_at (drop offset unit.now))) result info.old info.new }
 {
     let Some(rest) = unit.get(offset..) else {
@@ -147,7 +160,7 @@ pub extern "C" fn cpl_av1_obu(unit: &[u8], offset: usize, info: &mut ObuInfo) ->
 
 /// The frame at an offset of an AMR-WB unit in storage form.
 #[unsafe(no_mangle)]
-pub extern "C" fn cpl_amr_wb_frame(unit: &[u8], offset: usize, info: &mut AmrWbFrameInfo) -> u32
+pub extern "C" fn cpay_amr_wb_frame(unit: &[u8], offset: usize, info: &mut AmrWbFrameInfo) -> u32
     ensures { AtOffset unit.now offset (TellsAmrWbFrame (length unit.now) (frame_at (drop offset unit.now))) result info.old info.new }
 {
     let Some(rest) = unit.get(offset..) else {
@@ -167,6 +180,24 @@ pub extern "C" fn cpl_amr_wb_frame(unit: &[u8], offset: usize, info: &mut AmrWbF
         quality: frame.quality,
     };
     status::OK
+}
+
+/// The frame of that number of a VP9 unit, counted from 0.
+#[unsafe(no_mangle)]
+pub extern "C" fn cpay_vp9_frame(unit: &[u8], index: usize, info: &mut Vp9FrameInfo) -> u32
+    ensures { TellsVp9Frame (told (placed_in index) (unit_frames unit.now)) result info.old info.new }
+{
+    match frame_at(unit, index) {
+        Ok(Some(found)) => {
+            *info = Vp9FrameInfo {
+                start: found.start,
+                bytes: found.frame.len(),
+            };
+            status::OK
+        }
+        Ok(None) => status::NONE,
+        Err(error) => status_of(error),
+    }
 }
 
 /// The sequence header of an OBU that is one, and has nothing behind it, or the status that refuses it.
@@ -202,7 +233,7 @@ fn fill_record(header: &Av1SequenceHeader, obu: &[u8], bytes: &mut [u8]) -> bool
 
 /// The `av1C` record of a stream, from its sequence header OBU.
 #[unsafe(no_mangle)]
-pub extern "C" fn cpl_av1c(obu: &[u8], bytes: &mut [u8], size: &mut usize) -> u32
+pub extern "C" fn cpay_av1c(obu: &[u8], bytes: &mut [u8], size: &mut usize) -> u32
     ensures { WritesRecord obu.now (header_in obu.now) result bytes.old bytes.new size.old size.new }
 {
     let header = match header_in(obu) {
@@ -219,7 +250,7 @@ pub extern "C" fn cpl_av1c(obu: &[u8], bytes: &mut [u8], size: &mut usize) -> u3
 
 /// The identification header of an Opus stream.
 #[unsafe(no_mangle)]
-pub extern "C" fn cpl_opus_head(
+pub extern "C" fn cpay_opus_head(
     channels: u8,
     pre_skip: u16,
     input_sample_rate: u32,

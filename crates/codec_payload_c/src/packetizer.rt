@@ -76,7 +76,7 @@ impl Sender {
 
 /// A packetizer with these settings, in an empty handle.
 #[unsafe(no_mangle)]
-pub extern "C" fn cpl_packetizer_new(alloc: Global, handle: &mut Handle, spec: &Spec) -> u32
+pub extern "C" fn cpay_packetizer_new(alloc: Global, handle: &mut Handle, spec: &Spec) -> u32
     ensures { Makes (IsSenderOf (pack_set spec.now)) (is_some (pack_set spec.now)) handle.old.place.value result handle.new.place.value }
 {
     if let Some(object) = handle.take(alloc) {
@@ -103,7 +103,7 @@ pub extern "C" fn cpl_packetizer_new(alloc: Global, handle: &mut Handle, spec: &
 
 /// Cuts a frame, and says how many packets there are to take.
 #[unsafe(no_mangle)]
-pub extern "C" fn cpl_packetize(
+pub extern "C" fn cpay_packetize(
     alloc: Global,
     handle: &mut Handle,
     mtu: usize,
@@ -128,7 +128,7 @@ pub extern "C" fn cpl_packetize(
 
 /// Takes the next packet.
 #[unsafe(no_mangle)]
-pub extern "C" fn cpl_packet(
+pub extern "C" fn cpay_packet(
     alloc: Global,
     handle: &mut Handle,
     info: &mut PacketInfo,

@@ -61,7 +61,7 @@ fn wrap(
 
 /// A RED sender that has sent nothing, in an empty handle.
 #[unsafe(no_mangle)]
-pub extern "C" fn cpl_red_sender_new(
+pub extern "C" fn cpay_red_sender_new(
     alloc: Global,
     handle: &mut Handle,
     red_pt: u8,
@@ -94,7 +94,7 @@ pub extern "C" fn cpl_red_sender_new(
 
 /// Takes over new payload types and distances.
 #[unsafe(no_mangle)]
-pub extern "C" fn cpl_red_sync(
+pub extern "C" fn cpay_red_sync(
     alloc: Global,
     handle: &mut Handle,
     red_pt: u8,
@@ -117,7 +117,7 @@ pub extern "C" fn cpl_red_sync(
 
 /// The RED payload of a media payload, which is then remembered.
 #[unsafe(no_mangle)]
-pub extern "C" fn cpl_red_wrap(
+pub extern "C" fn cpay_red_wrap(
     alloc: Global,
     handle: &mut Handle,
     rtp_time: u32,

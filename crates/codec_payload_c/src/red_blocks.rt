@@ -86,7 +86,7 @@ fn blocks_from(alloc: Global, media: &[u8], older: &[RedOlder]) -> Result<Vec<Re
 
 /// A RED payload of the first 32 blocks that fit, and of the primary one.
 #[unsafe(no_mangle)]
-pub extern "C" fn cpl_red_encode(
+pub extern "C" fn cpay_red_encode(
     alloc: Global,
     primary_pt: u8,
     primary: &[u8],
@@ -137,7 +137,7 @@ fn give_block(blocks: &[RedBlock], index: usize, info: &mut RedBlockInfo, bytes:
 
 /// The block of that index, from 0, of a RED payload; the primary one is the last.
 #[unsafe(no_mangle)]
-pub extern "C" fn cpl_red_block(
+pub extern "C" fn cpay_red_block(
     alloc: Global,
     payload: &[u8],
     index: usize,
@@ -156,7 +156,7 @@ pub extern "C" fn cpl_red_block(
 
 /// The packet of that index, from 0, that the payload of a packet holds; the packet itself is the last.
 #[unsafe(no_mangle)]
-pub extern "C" fn cpl_red_recover(
+pub extern "C" fn cpay_red_recover(
     alloc: Global,
     primary_pt: u8,
     step: u32,

@@ -21,7 +21,7 @@ fn report_at(reports: &mut TelephoneEvents, index: usize) -> Option<TelephoneEve
 
 /// The report of that index, from 0, in a payload of reports.
 #[unsafe(no_mangle)]
-pub extern "C" fn cpl_tele_read(
+pub extern "C" fn cpay_tele_read(
     payload: &[u8],
     rate: u32,
     index: usize,
@@ -44,7 +44,7 @@ pub extern "C" fn cpl_tele_read(
 
 /// The four bytes of a report.
 #[unsafe(no_mangle)]
-pub extern "C" fn cpl_tele_write(event: &TeleEvent, rate: u32, bytes: &mut [u8]) -> u32
+pub extern "C" fn cpay_tele_write(event: &TeleEvent, rate: u32, bytes: &mut [u8]) -> u32
     ensures writes { WritesReport event.now rate result bytes.old bytes.new }
     ensures untouched { result ≢ 0 → bytes.new ≡ bytes.old }
 {

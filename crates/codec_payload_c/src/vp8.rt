@@ -94,7 +94,7 @@ fn patch_front(patch: &Vp8Patch, payload: &mut [u8])
 
 /// The fields of a payload's descriptor, and whether a keyframe starts in the payload.
 #[unsafe(no_mangle)]
-pub extern "C" fn cpl_vp8_fields(
+pub extern "C" fn cpay_vp8_fields(
     payload: &[u8],
     fields: &mut Vp8FieldsInfo,
     starts_keyframe: &mut bool,
@@ -122,7 +122,7 @@ pub extern "C" fn cpl_vp8_fields(
 /// Gives fields of a payload's descriptor new values, in place.
 #[tactic(auto, using(crate::proofs::PatchFront::reaches_payload, crate::proofs::PatchFront::is_patched))]
 #[unsafe(no_mangle)]
-pub extern "C" fn cpl_vp8_patch(payload: &mut [u8], values: &Vp8FieldsInfo) -> u32
+pub extern "C" fn cpay_vp8_patch(payload: &mut [u8], values: &Vp8FieldsInfo) -> u32
     ensures { PatchesTo (parsed payload.old) values.now result payload.old payload.new }
 {
     let descriptor = match Vp8Descriptor::parse(payload) {

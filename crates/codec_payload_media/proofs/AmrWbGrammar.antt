@@ -3,12 +3,12 @@ use Rattle.std.proofs.Common.{◌≡◌, ℕ, ◌+◌, ◌*◌, ◌/◌, ◌%◌
 use Rattle.std.proofs.lemmas.Bool.{eq-eqb, ne_eqb, le-ltb, ltb-false}
 use Rattle.std.proofs.lemmas.List.{take_at, drop_at, take-append-drop, length-take-le}
 use Rattle.codec_payload_base.specs.Flags.{AreBytes}
-use Rattle.codec_payload_media.specs.declared.error.MediaError.TheVariants as errors
-use Rattle.codec_payload_media.specs.BitFields.{bit_if}
+use Rattle.codec_payload_vpx.specs.declared.error.MediaError.TheVariants as errors
+use Rattle.codec_payload_vpx.specs.BitFields.{bit_if}
 use Rattle.codec_payload_media.specs.AmrWbFrames.{Frame, IsAmrWbFrame, frame_at, speech_length, with_speech}
 use Rattle.codec_payload_media.specs.Items.{AreSpelled, all_ok, items_at}
 use Rattle.codec_payload_media.proofs.AmrWbLemmas.{frame_shorter}
-use Rattle.codec_payload_media.proofs.ReadingLemmas.{bit_is, drop_bytes, guard_ok, ok_is}
+use Rattle.codec_payload_vpx.proofs.ReadingLemmas.{bit_is, drop_bytes, guard_ok, ok_is}
 use Rattle.codec_payload_media.proofs.SpellingLemmas.{all_again, all_spelled}
 
 abbrev header : ℕ → ℕ → Bool → ℕ → ℕ

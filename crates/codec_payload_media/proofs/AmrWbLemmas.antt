@@ -1,9 +1,9 @@
 -- Frames of AMR-WB have a byte or more.
 use Rattle.std.proofs.Common.{◌≡◌, ℕ, ◌/◌, ◌%◌, ◌<◌, ◌≤◌, List, [], ◌∷◌, length, take, drop, ltb, eqb, Option, Some, None, Ok, subst, arith}
 use Rattle.std.proofs.lemmas.List.{length-drop}
-use Rattle.codec_payload_media.specs.declared.error.MediaError.TheVariants as errors
+use Rattle.codec_payload_vpx.specs.declared.error.MediaError.TheVariants as errors
 use Rattle.codec_payload_media.specs.AmrWbFrames.{Frame, frame_at, speech_length, with_speech}
-use Rattle.codec_payload_media.proofs.ReadingLemmas.{guard_ok, ok_is}
+use Rattle.codec_payload_vpx.proofs.ReadingLemmas.{guard_ok, ok_is}
 
 speech_shorter : (byte : ℕ) (n : Option ℕ) (bytes : List ℕ) (x : Frame × List ℕ) → with_speech byte n bytes ≡ Ok x → length x.1 ≤ length bytes
 speech_shorter byte None bytes x e = cc

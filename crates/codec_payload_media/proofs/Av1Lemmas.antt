@@ -5,10 +5,10 @@ use Rattle.std.specs.Option.{option_map}
 use Rattle.std.proofs.lemmas.List.{length-drop}
 use Rattle.codec_payload_base.specs.Leb.{leb_front, leb_low}
 use Rattle.codec_payload_media.specs.declared.av1.obu.Av1Extension.{Av1Extension}
-use Rattle.codec_payload_media.specs.declared.error.MediaError.TheVariants as errors
-use Rattle.codec_payload_media.specs.Reading.{◌>>=◌}
+use Rattle.codec_payload_vpx.specs.declared.error.MediaError.TheVariants as errors
+use Rattle.codec_payload_vpx.specs.Reading.{◌>>=◌}
 use Rattle.codec_payload_media.specs.Av1Units.{Obu, obu_at, extension_at, sized}
-use Rattle.codec_payload_media.proofs.ReadingLemmas.{bind_ok, guard_ok, ok_is}
+use Rattle.codec_payload_vpx.proofs.ReadingLemmas.{bind_ok, guard_ok, ok_is}
 
 -- what follows a number that may be there is no longer
 abbrev Within : ℕ → Option (ℕ × List ℕ) → Type 0

@@ -1,7 +1,7 @@
 -- Items one after another: the first, and those behind it.
 use Rattle.std.proofs.Common.{◌≡◌, ℕ, zero, suc, ◌+◌, ◌<◌, ◌≤◌, List, [], ◌∷◌, length, Result, Ok, Err, true, false, eqb, refl, sym, ap, ◌∙◌, arith}
 use Rattle.std.proofs.lemmas.Bool.{eqb-true}
-use Rattle.codec_payload_media.specs.declared.error.MediaError.{MediaError}
+use Rattle.codec_payload_vpx.specs.declared.error.MediaError.{MediaError}
 use Rattle.codec_payload_media.specs.Items.{with_others, items_in, items_at, count_then, count_of}
 
 pub some_bytes : (bytes : List ℕ) → false ≡ eqb (length bytes) 0 → 0 < length bytes

@@ -5,10 +5,5 @@ pub mod ItemLemmas
 pub mod ObuGrammar
 pub mod OpusGrammar
 pub mod OpusLemmas
-pub mod ReadingLemmas
 pub mod SpellingLemmas
-pub mod SuperframeGrammar
-pub mod SuperframeLemmas
-pub mod SyntaxLemmas
 pub mod TemporalUnitLemmas
-pub mod Vp8Grammar

@@ -6,13 +6,13 @@ use Rattle.codec_payload_base.specs.Flags.{AreBytes}
 use Rattle.codec_payload_base.specs.Leb.{IsLeb128, leb128_value, leb_front, leb_low}
 use Rattle.codec_payload_base.proofs.LebLaws.{front_finds, front_stands, map_some}
 use Rattle.codec_payload_media.specs.declared.av1.obu.Av1Extension.{Av1Extension}
-use Rattle.codec_payload_media.specs.declared.error.MediaError.{MediaError}
-use Rattle.codec_payload_media.specs.declared.error.MediaError.TheVariants as errors
-use Rattle.codec_payload_media.specs.Reading.{◌>>=◌}
+use Rattle.codec_payload_vpx.specs.declared.error.MediaError.{MediaError}
+use Rattle.codec_payload_vpx.specs.declared.error.MediaError.TheVariants as errors
+use Rattle.codec_payload_vpx.specs.Reading.{◌>>=◌}
 use Rattle.codec_payload_media.specs.Items.{AreSpelled, all_ok, items_at}
 use Rattle.codec_payload_media.specs.Av1Units.{Obu, IsExtension, IsSizedObu, extension_at, extension_bit, obu_at, sized}
 use Rattle.codec_payload_media.proofs.Av1Lemmas.{obu_shorter}
-use Rattle.codec_payload_media.proofs.ReadingLemmas.{bind_ok, neither, drop_bytes, guard_ok, ok_is}
+use Rattle.codec_payload_vpx.proofs.ReadingLemmas.{bind_ok, neither, drop_bytes, guard_ok, ok_is}
 use Rattle.codec_payload_media.proofs.SpellingLemmas.{all_again, all_spelled}
 
 -- ---- sizes

@@ -6,13 +6,13 @@ use Rattle.std.proofs.lemmas.Bool.{and_parts, cases_lt, eq-eqb, ne_eqb, eqb-true
 use Rattle.std.proofs.lemmas.List.{take_at, drop_at, drop-drop, take-append-drop, length-take, length-take-le, length-drop}
 use Rattle.std.proofs.lemmas.List.Folds.{concat-append}
 use Rattle.codec_payload_base.specs.Flags.{AreBytes}
-use Rattle.codec_payload_media.specs.declared.error.MediaError.{MediaError}
-use Rattle.codec_payload_media.specs.declared.error.MediaError.TheVariants as errors
+use Rattle.codec_payload_vpx.specs.declared.error.MediaError.{MediaError}
+use Rattle.codec_payload_vpx.specs.declared.error.MediaError.TheVariants as errors
 use Rattle.codec_payload_media.specs.declared.opus.OpusPacket.{OpusPacket}
-use Rattle.codec_payload_media.specs.Reading.{◌>>=◌}
-use Rattle.codec_payload_media.specs.BitFields.{bit_if}
+use Rattle.codec_payload_vpx.specs.Reading.{◌>>=◌}
+use Rattle.codec_payload_vpx.specs.BitFields.{bit_if}
 use Rattle.codec_payload_media.specs.OpusPackets.{AreCoded, AreCounted, AreFrames, AreLengths, IsLength, IsOpusPacket, IsPadding, SaysPadding, alike, apart, counted_at, frames_at, frames_if, length_at, lengths_at, long_length, longest, most, opus_at, packet_of, ticks_of, unpadded, unpadded_if, with_last}
-use Rattle.codec_payload_media.proofs.ReadingLemmas.{bind_ok, bit_is, neither, drop_bytes, take_bytes, guard_ok, then_true, ok_is}
+use Rattle.codec_payload_vpx.proofs.ReadingLemmas.{bind_ok, bit_is, neither, drop_bytes, take_bytes, guard_ok, then_true, ok_is}
 
 abbrev Frames : Type 0
 Frames = List (List ℕ)

@@ -1,10 +1,10 @@
 -- Items one after another: what is spelled is read, and what is read is spelled.
 use Rattle.std.proofs.Common.{◌≡◌, ℕ, ◌<◌, List, [], ◌∷◌, length, Result, Ok, Err, refl, sym, ap, ◌∙◌, arith}
 use Rattle.codec_payload_base.specs.Flags.{AreBytes}
-use Rattle.codec_payload_media.specs.declared.error.MediaError.{MediaError}
+use Rattle.codec_payload_vpx.specs.declared.error.MediaError.{MediaError}
 use Rattle.codec_payload_media.specs.Items.{AreSpelled, all_ok, items_at, with_others}
 use Rattle.codec_payload_media.proofs.ItemLemmas.{items_more, items_none}
-use Rattle.codec_payload_media.proofs.ReadingLemmas.{ok_is}
+use Rattle.codec_payload_vpx.proofs.ReadingLemmas.{ok_is}
 
 heads : {A : Type 0} (x y : A) (xs ys : List A) → x ∷ xs ≡ y ∷ ys → (x ≡ y) × (xs ≡ ys)
 heads x y xs ys e = (cc, cc)

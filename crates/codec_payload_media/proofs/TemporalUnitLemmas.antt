@@ -1,7 +1,7 @@
 -- Temporal units, OBU by OBU.
 use Rattle.std.proofs.Common.{◌≡◌, ℕ, ◌<◌, List, length, true, false, is_some, Result, Ok, Err, ap, ◌∙◌, refl}
 use Rattle.codec_payload_media.specs.declared.av1.temporal_unit.Av1TemporalUnit.{Av1TemporalUnit}
-use Rattle.codec_payload_media.specs.declared.error.MediaError.{MediaError}
+use Rattle.codec_payload_vpx.specs.declared.error.MediaError.{MediaError}
 use Rattle.codec_payload_media.specs.Av1TemporalUnits.{unit_from, until_frame, with_obu}
 use Rattle.codec_payload_media.specs.Av1Units.{Obu, obu_at}
 use Rattle.codec_payload_media.specs.Items.{items_at}

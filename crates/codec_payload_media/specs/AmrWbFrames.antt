@@ -1,11 +1,11 @@
 -- Frames of AMR-WB in their storage form (RFC 4867, section 5.3): a bit of any value, the type (4 bits), the quality (1), two
 -- bits of any value, then the speech, in whole bytes.
 use Rattle.std.specs.Prelude.{◌≡◌, ◌<◌, ◌+◌, ◌++◌, ℕ, ◌*◌, ◌/◌, ◌%◌, ◌==◌, nat_lt, min, Bool, List, [], ◌∷◌, length, take, drop, slice_index_or, if◌then◌else◌, Option, Some, None, Result, Ok, Err}
-use Rattle.codec_payload_media.specs.BitFields.{bit_if}
-use Rattle.codec_payload_media.specs.declared.error.MediaError.{MediaError}
-use Rattle.codec_payload_media.specs.declared.error.MediaError.TheVariants as errors
+use Rattle.codec_payload_vpx.specs.BitFields.{bit_if}
+use Rattle.codec_payload_vpx.specs.declared.error.MediaError.{MediaError}
+use Rattle.codec_payload_vpx.specs.declared.error.MediaError.TheVariants as errors
 use Rattle.codec_payload_media.specs.declared.amr_wb.AmrWbFrame.{AmrWbFrame as LentFrame}
-use Rattle.codec_payload_media.specs.Reading.{told}
+use Rattle.codec_payload_vpx.specs.Reading.{told}
 use Rattle.codec_payload_base.specs.Flags.{AreBytes}
 use Rattle.codec_payload_media.specs.Items.{AreSpelled, all_ok, items_at, count_of}
 

@@ -1,7 +1,7 @@
 -- The operating point of an index in a sequence header (AV1 bitstream specification, section 5.5.1).
 use Rattle.std.specs.Prelude.{ℕ, ◌==◌, nat_lt, Bool, Option, Some, None}
 use Rattle.codec_payload_media.specs.declared.av1.sequence_header.Av1OperatingPoint.{Av1OperatingPoint}
-use Rattle.codec_payload_media.specs.Syntax.{Syntax, tells, field, branch, ◌>>=◌, flag}
+use Rattle.codec_payload_vpx.specs.Syntax.{Syntax, tells, field, branch, ◌>>=◌, flag}
 use Rattle.codec_payload_media.specs.Av1SequenceHeaders.{front, operating_point, other_points, reduced_point, timing_if}
 
 -- the one behind so many

@@ -2,7 +2,7 @@
 -- and seq_level_idx_0 (5); seq_tier_0, high_bitdepth, twelve_bit, monochrome, subsampling_x and subsampling_y (1 each) and
 -- chroma_sample_position (2); no initial presentation delay (a byte of 0); then the sequence header OBU.
 use Rattle.std.specs.Prelude.{ℕ, ◌+◌, ◌*◌, ◌%◌, ◌==◌, not, List, [], ◌∷◌, ◌++◌}
-use Rattle.codec_payload_media.specs.BitFields.{bit_if}
+use Rattle.codec_payload_vpx.specs.BitFields.{bit_if}
 use Rattle.codec_payload_media.specs.declared.av1.sequence_header.Av1SequenceHeader.{Av1SequenceHeader}
 
 unfoldable pub av1c_front : Av1SequenceHeader → List ℕ

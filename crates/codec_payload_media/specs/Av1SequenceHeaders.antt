@@ -1,13 +1,13 @@
 -- The sequence header of AV1, as the tables of the bitstream specification have it (section 5.5). Fields that are not told here
 -- are passed over.
 use Rattle.std.specs.Prelude.{ℕ, zero, suc, ◌+◌, ◌*◌, ◌==◌, ◌&&◌, not, nat_lt, Bool, true, false}
-use Rattle.codec_payload_media.specs.declared.error.MediaError.TheVariants as errors
+use Rattle.codec_payload_vpx.specs.declared.error.MediaError.TheVariants as errors
 use Rattle.codec_payload_media.specs.declared.av1.sequence_header.Av1Color.{Av1Color}
 use Rattle.codec_payload_media.specs.declared.av1.sequence_header.Av1ColorDescription.{Av1ColorDescription}
 use Rattle.codec_payload_media.specs.declared.av1.sequence_header.Av1OperatingPoint.{Av1OperatingPoint}
 use Rattle.codec_payload_media.specs.declared.av1.sequence_header.Front.{Front}
 use Rattle.codec_payload_media.specs.declared.av1.sequence_header.Av1SequenceHeader.{Av1SequenceHeader}
-use Rattle.codec_payload_media.specs.Syntax.{Syntax, tells, refuses, field, skips, branch, ◌>>=◌, flag}
+use Rattle.codec_payload_vpx.specs.Syntax.{Syntax, tells, refuses, field, skips, branch, ◌>>=◌, flag}
 
 -- uvlc, of which the value is not told: so many zeros, a one, and as many bits as zeros; 32 zeros are refused
 abbrev pub uvlc_from : ℕ → ℕ → Syntax ℕ

@@ -1,7 +1,7 @@
 -- Temporal units as far as their first frame header (AV1 bitstream specification, sections 5.3, 5.9.2 and 7.5).
 use Rattle.std.specs.Prelude.{ℕ, ◌==◌, ◌&&◌, ◌||◌, not, Bool, true, false, List, [], ◌∷◌, if◌then◌else◌, Option, Some, None, is_some, Result, Ok, Err}
 use Rattle.codec_payload_base.specs.Bits.{bits_of}
-use Rattle.codec_payload_media.specs.declared.error.MediaError.{MediaError}
+use Rattle.codec_payload_vpx.specs.declared.error.MediaError.{MediaError}
 use Rattle.codec_payload_media.specs.declared.av1.obu.Av1Extension.{Av1Extension}
 use Rattle.codec_payload_media.specs.declared.av1.sequence_header.Av1SequenceHeader.{Av1SequenceHeader}
 use Rattle.codec_payload_media.specs.declared.av1.temporal_unit.Av1FrameStart.{Av1FrameStart}
@@ -9,8 +9,8 @@ use Rattle.codec_payload_media.specs.declared.av1.temporal_unit.Av1TemporalUnit.
 use Rattle.codec_payload_media.specs.Av1SequenceHeaders.{sequence_header}
 use Rattle.codec_payload_media.specs.Av1Units.{Obu, obu_at}
 use Rattle.codec_payload_media.specs.Items.{items_at}
-use Rattle.codec_payload_media.specs.Reading.{told}
-use Rattle.codec_payload_media.specs.Syntax.{Syntax, tells, field, branch, ◌>>=◌, flag, told_by}
+use Rattle.codec_payload_vpx.specs.Reading.{told}
+use Rattle.codec_payload_vpx.specs.Syntax.{Syntax, tells, field, branch, ◌>>=◌, flag, told_by}
 
 abbrev pub new_frame : ℕ → Syntax Av1FrameStart
 new_frame layer = do

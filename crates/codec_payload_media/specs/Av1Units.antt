@@ -4,11 +4,11 @@
 use Rattle.std.specs.Prelude.{◌≡◌, ◌<◌, ◌≤◌, ◌+◌, ◌*◌, ◌++◌, ℕ, ◌/◌, ◌%◌, ◌==◌, ◌||◌, nat_lt, Bool, true, false, List, [], ◌∷◌, length, take, drop, if◌then◌else◌, Option, Some, None, Result, Ok, Err}
 use Rattle.codec_payload_base.specs.Flags.{AreBytes}
 use Rattle.codec_payload_base.specs.Leb.{IsLeb128, leb_low}
-use Rattle.codec_payload_media.specs.declared.error.MediaError.{MediaError}
-use Rattle.codec_payload_media.specs.declared.error.MediaError.TheVariants as errors
+use Rattle.codec_payload_vpx.specs.declared.error.MediaError.{MediaError}
+use Rattle.codec_payload_vpx.specs.declared.error.MediaError.TheVariants as errors
 use Rattle.codec_payload_media.specs.declared.av1.obu.Av1Extension.{Av1Extension}
 use Rattle.codec_payload_media.specs.declared.av1.obu.Av1Obu.{Av1Obu as LentObu}
-use Rattle.codec_payload_media.specs.Reading.{◌>>=◌, told}
+use Rattle.codec_payload_vpx.specs.Reading.{◌>>=◌, told}
 use Rattle.codec_payload_media.specs.Items.{AreSpelled, all_ok, items_at}
 
 pub record Obu : Type 0 where

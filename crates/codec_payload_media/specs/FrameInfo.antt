@@ -4,22 +4,22 @@ use Rattle.codec_payload_base.specs.declared.wire.Codec.{Codec}
 use Rattle.codec_payload_base.specs.declared.wire.Codec.TheVariants as codecs
 use Rattle.codec_payload_media.specs.declared.av1.sequence_header.Av1SequenceHeader.{Av1SequenceHeader}
 use Rattle.codec_payload_media.specs.declared.av1.temporal_unit.Av1TemporalUnit.{Av1TemporalUnit}
-use Rattle.codec_payload_media.specs.declared.error.MediaError.{MediaError}
+use Rattle.codec_payload_vpx.specs.declared.error.MediaError.{MediaError}
 use Rattle.codec_payload_media.specs.declared.frame_info.FrameInfo.{FrameInfo}
 use Rattle.codec_payload_media.specs.declared.frame_info.PictureSize.{PictureSize}
 use Rattle.codec_payload_media.specs.declared.opus.OpusPacket.{OpusPacket}
-use Rattle.codec_payload_media.specs.declared.vp8.Vp8FrameHeader.{Vp8FrameHeader}
-use Rattle.codec_payload_media.specs.declared.vp8.Vp8Keyframe.{Vp8Keyframe}
-use Rattle.codec_payload_media.specs.declared.vp9.Vp9FrameHeader.{Vp9FrameHeader}
-use Rattle.codec_payload_media.specs.declared.vp9.Vp9Picture.{Vp9Picture}
+use Rattle.codec_payload_vpx.specs.declared.vp8.Vp8FrameHeader.{Vp8FrameHeader}
+use Rattle.codec_payload_vpx.specs.declared.vp8.Vp8Keyframe.{Vp8Keyframe}
+use Rattle.codec_payload_vpx.specs.declared.vp9.Vp9FrameHeader.{Vp9FrameHeader}
+use Rattle.codec_payload_vpx.specs.declared.vp9.Vp9Picture.{Vp9Picture}
 use Rattle.codec_payload_base.specs.Bits.{bits_of}
-use Rattle.codec_payload_media.specs.Reading.{told}
-use Rattle.codec_payload_media.specs.Syntax.{told_by}
-use Rattle.codec_payload_media.specs.Vp9Frames.{frame_header}
+use Rattle.codec_payload_vpx.specs.Reading.{told}
+use Rattle.codec_payload_vpx.specs.Syntax.{told_by}
+use Rattle.codec_payload_vpx.specs.Vp9Frames.{frame_header}
 use Rattle.codec_payload_media.specs.AmrWbFrames.{unit_ticks}
 use Rattle.codec_payload_media.specs.Av1TemporalUnits.{is_shown_keyframe, unit_at}
 use Rattle.codec_payload_media.specs.OpusPackets.{opus_at}
-use Rattle.codec_payload_media.specs.Vp8Frames.{vp8_frame_at}
+use Rattle.codec_payload_vpx.specs.Vp8Frames.{vp8_frame_at}
 
 -- nothing is told
 abbrev pub nothing : FrameInfo

@@ -1,6 +1,6 @@
 -- Items one after another, up to the first that is malformed.
 use Rattle.std.specs.Prelude.{◌≡◌, ℕ, zero, suc, List, [], ◌∷◌, length, Result, Ok, Err}
-use Rattle.codec_payload_media.specs.declared.error.MediaError.{MediaError}
+use Rattle.codec_payload_vpx.specs.declared.error.MediaError.{MediaError}
 
 -- an item, and those behind it; or the fault, behind which there is none
 abbrev pub with_others : {A : Type 0} → (List ℕ → List (Result A MediaError)) → Result (A × List ℕ) MediaError → List (Result A MediaError)

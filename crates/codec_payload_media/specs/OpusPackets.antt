@@ -3,16 +3,16 @@ use Rattle.std.specs.Prelude.{◌≡◌, ◌≤◌, ◌<◌, ◌⊎◌, ℕ, zer
 use Rattle.std.specs.List.{AllByRecursion, concat}
 use Rattle.codec_payload_base.specs.Flags.{AreBytes}
 use Rattle.std.specs.Int.{w16, w32, to_le_bytes}
-use Rattle.codec_payload_media.specs.BitFields.{bit_if}
-use Rattle.codec_payload_media.specs.declared.error.MediaError.{MediaError}
-use Rattle.codec_payload_media.specs.declared.error.MediaError.TheVariants as errors
+use Rattle.codec_payload_vpx.specs.BitFields.{bit_if}
+use Rattle.codec_payload_vpx.specs.declared.error.MediaError.{MediaError}
+use Rattle.codec_payload_vpx.specs.declared.error.MediaError.TheVariants as errors
 use Rattle.codec_payload_media.specs.declared.opus.OpusHead.{OpusHead}
 use Rattle.codec_payload_media.specs.declared.opus.OpusPacket.{OpusPacket}
 use Rattle.codec_payload_media.specs.declared.opus.OpusMode.{OpusMode}
 use Rattle.codec_payload_media.specs.declared.opus.OpusMode.TheVariants as modes
 use Rattle.codec_payload_media.specs.declared.opus.OpusBandwidth.{OpusBandwidth}
 use Rattle.codec_payload_media.specs.declared.opus.OpusBandwidth.TheVariants as bandwidths
-use Rattle.codec_payload_media.specs.Reading.{◌>>=◌}
+use Rattle.codec_payload_vpx.specs.Reading.{◌>>=◌}
 
 -- ---- the first byte: the configuration (5 bits), stereo (1), the code (2); table 2 says what a configuration is
 

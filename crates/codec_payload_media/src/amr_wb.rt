@@ -3,9 +3,9 @@
 ghost use Rattle.std.specs.Prelude.{◌≡◌, ◌<◌};
 ghost use Rattle.codec_payload_media.specs.AmrWbFrames.{frame_at, frame_of, frames_left, speech_length, told_frame, unit_ticks, with_speech};
 ghost use Rattle.codec_payload_media.specs.Items.{count_of, items_at};
-ghost use Rattle.codec_payload_media.specs.Reading.{told};
+ghost use Rattle.codec_payload_vpx.specs.Reading.{told};
 
-use crate::error::MediaError;
+use codec_payload_vpx::error::MediaError;
 use std::marker::Model;
 
 /// How long a frame is, 20 ms, in ticks of the RTP clock of 16 kHz.

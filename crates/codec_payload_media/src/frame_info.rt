@@ -5,11 +5,11 @@ ghost use Rattle.codec_payload_media.specs.FrameInfo.{av1_info, info_of, lasts, 
 
 use crate::amr_wb::amr_wb_ticks;
 use crate::av1::temporal_unit::Av1TemporalUnit;
-use crate::error::MediaError;
 use crate::opus::OpusPacket;
-use crate::vp8::Vp8FrameHeader;
-use crate::vp9::Vp9FrameHeader;
 use codec_payload_base::wire::Codec;
+use codec_payload_vpx::error::MediaError;
+use codec_payload_vpx::vp8::Vp8FrameHeader;
+use codec_payload_vpx::vp9::Vp9FrameHeader;
 
 /// The size of a picture in pixels, as it is coded.
 #[derive(Clone, Copy, Debug, PartialEq, Eq)]

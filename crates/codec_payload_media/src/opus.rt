@@ -2,9 +2,9 @@
 
 ghost use Rattle.std.specs.Prelude.{◌≡◌, ◌*◌, ◌-◌, ◌≤◌, ◌<◌, length, IfOk};
 ghost use Rattle.codec_payload_media.specs.OpusPackets.{alike, apart, bandwidth_of, counted_at, frames_at, frames_if, head_bytes, length_at, lengths_at, longest, mode_of, opus_at, ticks_of, unpadded, unpadded_if};
-ghost use Rattle.codec_payload_media.specs.Reading.{told};
+ghost use Rattle.codec_payload_vpx.specs.Reading.{told};
 
-use crate::error::MediaError;
+use codec_payload_vpx::error::MediaError;
 
 /// The longest frame, in bytes.
 const MAX_FRAME_LEN: usize = 1275;

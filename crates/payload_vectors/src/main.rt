@@ -9,8 +9,6 @@ mod print;
 mod red_line;
 mod run;
 mod script;
-#[cfg(test)]
-mod tests;
 
 use run::{finish, run_lines};
 use std::io;

@@ -2,7 +2,7 @@
 
 ghost use Rattle.std.specs.Prelude.{◌≡◌, ◌≤◌, ◌++◌, OnOk};
 ghost use Rattle.codec_payload_media.specs.Av1Records.{av1c_bytes, av1c_front};
-ghost use Rattle.codec_payload_media.specs.BitFields.{bit_if};
+ghost use Rattle.codec_payload_vpx.specs.BitFields.{bit_if};
 
 use crate::av1::sequence_header::Av1SequenceHeader;
 use std::alloc::AllocError;

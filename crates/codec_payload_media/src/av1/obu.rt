@@ -4,9 +4,9 @@ ghost use Rattle.std.specs.Prelude.{◌≡◌};
 ghost use Rattle.codec_payload_base.specs.Leb.{leb_low};
 ghost use Rattle.codec_payload_base.specs.Answers.{Finds};
 ghost use Rattle.codec_payload_media.specs.Av1Units.{extension_at, obu_at, obu_of, obus_left, sized, told_obu};
-ghost use Rattle.codec_payload_media.specs.Reading.{told};
+ghost use Rattle.codec_payload_vpx.specs.Reading.{told};
 
-use crate::error::MediaError;
+use codec_payload_vpx::error::MediaError;
 use std::marker::Model;
 
 /// The type of a sequence header.

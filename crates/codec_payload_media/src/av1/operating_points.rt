@@ -3,15 +3,15 @@
 ghost use Rattle.std.specs.Prelude.{◌≡◌, ◌≤◌, Ok, IfOk, Option};
 ghost use Rattle.codec_payload_base.specs.Bits.{bits_of, left};
 ghost use Rattle.codec_payload_media.specs.Av1OperatingPoints.{long_point, numbered_point, point_behind, short_point};
-ghost use Rattle.codec_payload_media.specs.Syntax.{IsSpelled, paired, read, told_by};
+ghost use Rattle.codec_payload_vpx.specs.Syntax.{IsSpelled, paired, read, told_by};
 
 use crate::av1::sequence_header::{
     Av1OperatingPoint, read_front, read_operating_point, read_reduced_point, read_timing_if,
     skip_operating_points,
 };
-use crate::error::MediaError;
-use crate::fields::{read_field, read_flag};
 use codec_payload_base::bits::BitReader;
+use codec_payload_vpx::error::MediaError;
+use codec_payload_vpx::fields::{read_field, read_flag};
 
 /// The operating point behind so many.
 fn read_point_behind(

@@ -3,11 +3,11 @@
 ghost use Rattle.std.specs.Prelude.{◌≡◌, ◌≤◌, ◌+◌, ◌==◌, true, false, Ok, IfOk};
 ghost use Rattle.codec_payload_base.specs.Bits.{bits_of, left};
 ghost use Rattle.codec_payload_media.specs.Av1SequenceHeaders.{all_points, behind_points, bit_depth, color_config, color_description, decoder_model, decoder_model_if, description, display_delay, front, frame_ids, integer_vectors, is_srgb, largest_size, monochrome, operating_point, other_points, parameters, parameters_if, reduced_point, screen_tools, sequence_header, srgb, subsampling, timing, timing_if, told_subsampling, tools, uvlc_from, with_chroma};
-ghost use Rattle.codec_payload_media.specs.Syntax.{IsSpelled, branch, field, flag, paired, read, skips, tells, told_by};
+ghost use Rattle.codec_payload_vpx.specs.Syntax.{IsSpelled, branch, field, flag, paired, read, skips, tells, told_by};
 
-use crate::error::MediaError;
-use crate::fields::{read_field, read_flag, read_wide, skip_bits};
 use codec_payload_base::bits::BitReader;
+use codec_payload_vpx::error::MediaError;
+use codec_payload_vpx::fields::{read_field, read_flag, read_wide, skip_bits};
 
 /// An operating point: which layers are decoded, and what a decoder has to be capable of for them.
 #[derive(Clone, Copy, Debug, PartialEq, Eq)]

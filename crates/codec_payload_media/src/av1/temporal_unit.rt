@@ -4,13 +4,13 @@ ghost use Rattle.std.specs.Prelude.{◌≡◌};
 ghost use Rattle.codec_payload_base.specs.Bits.{bits_of, left};
 ghost use Rattle.codec_payload_media.specs.Av1TemporalUnits.{begins_sequence, empty_unit, existing_frame, frame_start, is_reduced, is_shown_keyframe, long_start, new_frame, still_frame, temporal_layer, unit_at, with_frame, with_header, with_obu};
 ghost use Rattle.codec_payload_media.specs.Av1Units.{obu_of};
-ghost use Rattle.codec_payload_media.specs.Syntax.{paired, read, told_by};
+ghost use Rattle.codec_payload_vpx.specs.Syntax.{paired, read, told_by};
 
 use crate::av1::obu::{Av1Extension, Av1Obu, OBU_SEQUENCE_HEADER, front_obu};
 use crate::av1::sequence_header::Av1SequenceHeader;
-use crate::error::MediaError;
-use crate::fields::{read_field, read_flag};
 use codec_payload_base::bits::BitReader;
+use codec_payload_vpx::error::MediaError;
+use codec_payload_vpx::fields::{read_field, read_flag};
 
 /// The type of a frame header.
 pub const OBU_FRAME_HEADER: u8 = 3;

@@ -1,7 +1,7 @@
 use Rattle.codec_payload_media.proofs.AmrWbGrammar.{frames_again, frames_spelled}
 use Rattle.codec_payload_media.proofs.ObuGrammar.{obus_again, obus_spelled}
 use Rattle.codec_payload_media.proofs.OpusGrammar.{opus_again, opus_taken}
-use Rattle.codec_payload_media.proofs.SuperframeGrammar.{superframe_again, superframe_taken}
+use Rattle.codec_payload_vpx.proofs.SuperframeGrammar.{superframe_again, superframe_taken}
 use Rattle.codec_payload_media.proofs.laws.reading_follows_the_grammars.Goals as goal
 
 pub returns-clause-amr_wb : goal.returns-clause-amr_wb

@@ -1,6 +1,6 @@
 use Rattle.std.proofs.Common.{◌∙◌}
 use Rattle.codec_payload_media.specs.Av1OperatingPoints.{numbered_point}
-use Rattle.codec_payload_media.proofs.SyntaxLemmas.{is_spelled, is_accepted}
+use Rattle.codec_payload_vpx.proofs.SyntaxLemmas.{is_spelled, is_accepted}
 use Rattle.codec_payload_media.proofs.av1.operating_points.operating_point.Goals as goal
 
 pub returns-clause-spelled : goal.returns-clause-spelled

@@ -1,6 +1,6 @@
 use Rattle.std.proofs.Common.{◌∙◌}
 use Rattle.codec_payload_media.specs.Av1SequenceHeaders.{sequence_header}
-use Rattle.codec_payload_media.proofs.SyntaxLemmas.{is_spelled, is_accepted}
+use Rattle.codec_payload_vpx.proofs.SyntaxLemmas.{is_spelled, is_accepted}
 use Rattle.codec_payload_media.proofs.av1.sequence_header.Av1SequenceHeader.parse.Goals as goal
 
 pub returns-clause-spelled : goal.returns-clause-spelled

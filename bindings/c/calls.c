@@ -1,0 +1,263 @@
+/* The calls of codec_payload.h over those that are proved, which take a handle of any kind and no NULL: here NULL with a length
+ * of 0 becomes a pointer to something, and with another length it is refused. Written by scripts/face_header.py --calls. */
+#include "codec_payload.h"
+
+typedef char status_is_four_bytes[sizeof(cpay_status) == 4 ? 1 : -1];
+
+/* Bytes of length 0 begin here. Nothing reads or writes it. */
+static uint64_t nothing[2];
+
+uint32_t cpay_version(void) { return CPAY_VERSION; }
+
+void proved_cpay_free(cpay_handle *handle);
+
+void cpay_packetizer_free(cpay_packetizer *packetizer) {
+    if (packetizer) proved_cpay_free(&packetizer->handle);
+}
+
+void cpay_buffer_free(cpay_buffer *buffer) {
+    if (buffer) proved_cpay_free(&buffer->handle);
+}
+
+void cpay_depacketizer_free(cpay_depacketizer *depacketizer) {
+    if (depacketizer) proved_cpay_free(&depacketizer->handle);
+}
+
+void cpay_red_sender_free(cpay_red_sender *sender) {
+    if (sender) proved_cpay_free(&sender->handle);
+}
+
+cpay_status proved_cpay_packetizer_new(cpay_handle *packetizer, const cpay_spec *spec);
+cpay_status cpay_packetizer_new(cpay_packetizer *packetizer, const cpay_spec *spec) {
+    return proved_cpay_packetizer_new(&packetizer->handle, spec);
+}
+
+cpay_status proved_cpay_packetize(cpay_handle *packetizer, size_t mtu, bool starts_talk_spurt, const uint8_t *frame,
+                                  size_t frame_len, size_t *count);
+cpay_status cpay_packetize(cpay_packetizer *packetizer, size_t mtu, bool starts_talk_spurt, const uint8_t *frame,
+                           size_t frame_len, size_t *count) {
+    if (!frame && frame_len) return CPAY_INVALID;
+    return proved_cpay_packetize(&packetizer->handle, mtu, starts_talk_spurt, frame ? frame : (const uint8_t *)nothing,
+                                 frame_len, count);
+}
+
+cpay_status proved_cpay_packet(cpay_handle *packetizer, cpay_packet_info *info, uint8_t *bytes, size_t bytes_len);
+cpay_status cpay_packet(cpay_packetizer *packetizer, cpay_packet_info *info, uint8_t *bytes, size_t bytes_len) {
+    if (!bytes && bytes_len) return CPAY_INVALID;
+    return proved_cpay_packet(&packetizer->handle, info, bytes ? bytes : (uint8_t *)nothing, bytes_len);
+}
+
+cpay_status proved_cpay_buffer_new(cpay_handle *buffer, const cpay_spec *spec, size_t hold_back, size_t limit);
+cpay_status cpay_buffer_new(cpay_buffer *buffer, const cpay_spec *spec, size_t hold_back, size_t limit) {
+    return proved_cpay_buffer_new(&buffer->handle, spec, hold_back, limit);
+}
+
+cpay_status proved_cpay_buffer_push(cpay_handle *buffer, const cpay_received *packet, const uint8_t *payload,
+                                    size_t payload_len);
+cpay_status cpay_buffer_push(cpay_buffer *buffer, const cpay_received *packet, const uint8_t *payload, size_t payload_len) {
+    if (!payload && payload_len) return CPAY_INVALID;
+    return proved_cpay_buffer_push(&buffer->handle, packet, payload ? payload : (const uint8_t *)nothing, payload_len);
+}
+
+cpay_status proved_cpay_buffer_pop(cpay_handle *buffer, cpay_unit *unit, uint8_t *bytes, size_t bytes_len);
+cpay_status cpay_buffer_pop(cpay_buffer *buffer, cpay_unit *unit, uint8_t *bytes, size_t bytes_len) {
+    if (!bytes && bytes_len) return CPAY_INVALID;
+    return proved_cpay_buffer_pop(&buffer->handle, unit, bytes ? bytes : (uint8_t *)nothing, bytes_len);
+}
+
+cpay_status proved_cpay_buffer_counts(cpay_handle *buffer, cpay_buffer_counts_info *counts);
+cpay_status cpay_buffer_counts(cpay_buffer *buffer, cpay_buffer_counts_info *counts) {
+    return proved_cpay_buffer_counts(&buffer->handle, counts);
+}
+
+cpay_status proved_cpay_buffer_set_hold_back(cpay_handle *buffer, size_t hold_back);
+cpay_status cpay_buffer_set_hold_back(cpay_buffer *buffer, size_t hold_back) {
+    return proved_cpay_buffer_set_hold_back(&buffer->handle, hold_back);
+}
+
+cpay_status proved_cpay_buffer_pass_number(cpay_handle *buffer, uint64_t number);
+cpay_status cpay_buffer_pass_number(cpay_buffer *buffer, uint64_t number) {
+    return proved_cpay_buffer_pass_number(&buffer->handle, number);
+}
+
+cpay_status proved_cpay_depacketizer_new(cpay_handle *depacketizer, const cpay_spec *spec);
+cpay_status cpay_depacketizer_new(cpay_depacketizer *depacketizer, const cpay_spec *spec) {
+    return proved_cpay_depacketizer_new(&depacketizer->handle, spec);
+}
+
+cpay_status proved_cpay_depacketize(cpay_handle *depacketizer, const uint8_t *payload, size_t payload_len);
+cpay_status cpay_depacketize(cpay_depacketizer *depacketizer, const uint8_t *payload, size_t payload_len) {
+    if (!payload && payload_len) return CPAY_INVALID;
+    return proved_cpay_depacketize(&depacketizer->handle, payload ? payload : (const uint8_t *)nothing, payload_len);
+}
+
+cpay_status proved_cpay_depacketized(cpay_handle *depacketizer, size_t *size, cpay_extra *extra, uint8_t *bytes,
+                                     size_t bytes_len);
+cpay_status cpay_depacketized(cpay_depacketizer *depacketizer, size_t *size, cpay_extra *extra, uint8_t *bytes,
+                              size_t bytes_len) {
+    if (!bytes && bytes_len) return CPAY_INVALID;
+    return proved_cpay_depacketized(&depacketizer->handle, size, extra, bytes ? bytes : (uint8_t *)nothing, bytes_len);
+}
+
+cpay_status proved_cpay_red_sender_new(cpay_handle *sender, uint8_t red_pt, uint8_t primary_pt, const uint32_t *distances,
+                                       size_t distances_len);
+cpay_status cpay_red_sender_new(cpay_red_sender *sender, uint8_t red_pt, uint8_t primary_pt, const uint32_t *distances,
+                                size_t distances_len) {
+    if (!distances && distances_len) return CPAY_INVALID;
+    return proved_cpay_red_sender_new(&sender->handle, red_pt, primary_pt, distances ? distances : (const uint32_t *)nothing,
+                                      distances_len);
+}
+
+cpay_status proved_cpay_red_sync(cpay_handle *sender, uint8_t red_pt, uint8_t primary_pt, const uint32_t *distances,
+                                 size_t distances_len);
+cpay_status cpay_red_sync(cpay_red_sender *sender, uint8_t red_pt, uint8_t primary_pt, const uint32_t *distances,
+                          size_t distances_len) {
+    if (!distances && distances_len) return CPAY_INVALID;
+    return proved_cpay_red_sync(&sender->handle, red_pt, primary_pt, distances ? distances : (const uint32_t *)nothing,
+                                distances_len);
+}
+
+cpay_status proved_cpay_red_wrap(cpay_handle *sender, uint32_t rtp_time, size_t budget, const uint8_t *payload,
+                                 size_t payload_len, uint8_t *bytes, size_t bytes_len, size_t *size);
+cpay_status cpay_red_wrap(cpay_red_sender *sender, uint32_t rtp_time, size_t budget, const uint8_t *payload, size_t payload_len,
+                          uint8_t *bytes, size_t bytes_len, size_t *size) {
+    if ((!payload && payload_len) || (!bytes && bytes_len)) return CPAY_INVALID;
+    return proved_cpay_red_wrap(&sender->handle, rtp_time, budget, payload ? payload : (const uint8_t *)nothing, payload_len,
+                                bytes ? bytes : (uint8_t *)nothing, bytes_len, size);
+}
+
+cpay_status proved_cpay_red_encode(uint8_t primary_pt, const uint8_t *primary, size_t primary_len, const cpay_red_older *older,
+                                   size_t older_len, const uint8_t *media, size_t media_len, uint8_t *bytes, size_t bytes_len,
+                                   size_t *size);
+cpay_status cpay_red_encode(uint8_t primary_pt, const uint8_t *primary, size_t primary_len, const cpay_red_older *older,
+                            size_t older_len, const uint8_t *media, size_t media_len, uint8_t *bytes, size_t bytes_len,
+                            size_t *size) {
+    if ((!primary && primary_len) || (!older && older_len) || (!media && media_len) || (!bytes && bytes_len)) return CPAY_INVALID;
+    return proved_cpay_red_encode(primary_pt, primary ? primary : (const uint8_t *)nothing, primary_len,
+                                  older ? older : (const cpay_red_older *)nothing, older_len,
+                                  media ? media : (const uint8_t *)nothing, media_len, bytes ? bytes : (uint8_t *)nothing,
+                                  bytes_len, size);
+}
+
+cpay_status proved_cpay_red_block(const uint8_t *payload, size_t payload_len, size_t index, cpay_red_block_info *info,
+                                  uint8_t *bytes, size_t bytes_len);
+cpay_status cpay_red_block(const uint8_t *payload, size_t payload_len, size_t index, cpay_red_block_info *info, uint8_t *bytes,
+                           size_t bytes_len) {
+    if ((!payload && payload_len) || (!bytes && bytes_len)) return CPAY_INVALID;
+    return proved_cpay_red_block(payload ? payload : (const uint8_t *)nothing, payload_len, index, info,
+                                 bytes ? bytes : (uint8_t *)nothing, bytes_len);
+}
+
+cpay_status proved_cpay_red_recover(uint8_t primary_pt, uint32_t step, uint64_t number, uint32_t rtp_time,
+                                    const uint8_t *payload, size_t payload_len, size_t index, cpay_recovered_info *info,
+                                    uint8_t *bytes, size_t bytes_len);
+cpay_status cpay_red_recover(uint8_t primary_pt, uint32_t step, uint64_t number, uint32_t rtp_time, const uint8_t *payload,
+                             size_t payload_len, size_t index, cpay_recovered_info *info, uint8_t *bytes, size_t bytes_len) {
+    if ((!payload && payload_len) || (!bytes && bytes_len)) return CPAY_INVALID;
+    return proved_cpay_red_recover(primary_pt, step, number, rtp_time, payload ? payload : (const uint8_t *)nothing,
+                                   payload_len, index, info, bytes ? bytes : (uint8_t *)nothing, bytes_len);
+}
+
+cpay_status proved_cpay_vp8_fields(const uint8_t *payload, size_t payload_len, cpay_vp8_fields_info *fields,
+                                   bool *starts_keyframe);
+cpay_status cpay_vp8_fields(const uint8_t *payload, size_t payload_len, cpay_vp8_fields_info *fields, bool *starts_keyframe) {
+    if (!payload && payload_len) return CPAY_INVALID;
+    return proved_cpay_vp8_fields(payload ? payload : (const uint8_t *)nothing, payload_len, fields, starts_keyframe);
+}
+
+cpay_status proved_cpay_vp8_patch(uint8_t *payload, size_t payload_len, const cpay_vp8_fields_info *values);
+cpay_status cpay_vp8_patch(uint8_t *payload, size_t payload_len, const cpay_vp8_fields_info *values) {
+    if (!payload && payload_len) return CPAY_INVALID;
+    return proved_cpay_vp8_patch(payload ? payload : (uint8_t *)nothing, payload_len, values);
+}
+
+cpay_status proved_cpay_tele_read(const uint8_t *payload, size_t payload_len, uint32_t rate, size_t index,
+                                  cpay_tele_event *event);
+cpay_status cpay_tele_read(const uint8_t *payload, size_t payload_len, uint32_t rate, size_t index, cpay_tele_event *event) {
+    if (!payload && payload_len) return CPAY_INVALID;
+    return proved_cpay_tele_read(payload ? payload : (const uint8_t *)nothing, payload_len, rate, index, event);
+}
+
+cpay_status proved_cpay_tele_write(const cpay_tele_event *event, uint32_t rate, uint8_t *bytes, size_t bytes_len);
+cpay_status cpay_tele_write(const cpay_tele_event *event, uint32_t rate, uint8_t *bytes, size_t bytes_len) {
+    if (!bytes && bytes_len) return CPAY_INVALID;
+    return proved_cpay_tele_write(event, rate, bytes ? bytes : (uint8_t *)nothing, bytes_len);
+}
+
+bool proved_cpay_vp8_is_keyframe(const uint8_t *payload, size_t payload_len);
+bool cpay_vp8_is_keyframe(const uint8_t *payload, size_t payload_len) {
+    if (!payload && payload_len) return false;
+    return proved_cpay_vp8_is_keyframe(payload ? payload : (const uint8_t *)nothing, payload_len);
+}
+
+bool proved_cpay_vp9_is_keyframe(const uint8_t *payload, size_t payload_len);
+bool cpay_vp9_is_keyframe(const uint8_t *payload, size_t payload_len) {
+    if (!payload && payload_len) return false;
+    return proved_cpay_vp9_is_keyframe(payload ? payload : (const uint8_t *)nothing, payload_len);
+}
+
+bool proved_cpay_vp9_frame_is_keyframe(const uint8_t *frame, size_t frame_len);
+bool cpay_vp9_frame_is_keyframe(const uint8_t *frame, size_t frame_len) {
+    if (!frame && frame_len) return false;
+    return proved_cpay_vp9_frame_is_keyframe(frame ? frame : (const uint8_t *)nothing, frame_len);
+}
+
+bool proved_cpay_av1_is_keyframe(const uint8_t *payload, size_t payload_len);
+bool cpay_av1_is_keyframe(const uint8_t *payload, size_t payload_len) {
+    if (!payload && payload_len) return false;
+    return proved_cpay_av1_is_keyframe(payload ? payload : (const uint8_t *)nothing, payload_len);
+}
+
+cpay_status proved_cpay_is_head(uint32_t codec, const uint8_t *payload, size_t payload_len, bool *is_head);
+cpay_status cpay_is_head(uint32_t codec, const uint8_t *payload, size_t payload_len, bool *is_head) {
+    if (!payload && payload_len) return CPAY_INVALID;
+    return proved_cpay_is_head(codec, payload ? payload : (const uint8_t *)nothing, payload_len, is_head);
+}
+
+cpay_status proved_cpay_is_tail(uint32_t codec, bool marker, const uint8_t *payload, size_t payload_len, bool *is_tail);
+cpay_status cpay_is_tail(uint32_t codec, bool marker, const uint8_t *payload, size_t payload_len, bool *is_tail) {
+    if (!payload && payload_len) return CPAY_INVALID;
+    return proved_cpay_is_tail(codec, marker, payload ? payload : (const uint8_t *)nothing, payload_len, is_tail);
+}
+
+uint64_t proved_cpay_extend_number(uint64_t previous, bool has_previous, uint16_t number);
+uint64_t cpay_extend_number(uint64_t previous, bool has_previous, uint16_t number) {
+    return proved_cpay_extend_number(previous, has_previous, number);
+}
+
+cpay_status proved_cpay_frame_info(uint32_t codec, const uint8_t *frame, size_t frame_len, cpay_frame_facts *facts);
+cpay_status cpay_frame_info(uint32_t codec, const uint8_t *frame, size_t frame_len, cpay_frame_facts *facts) {
+    if (!frame && frame_len) return CPAY_INVALID;
+    return proved_cpay_frame_info(codec, frame ? frame : (const uint8_t *)nothing, frame_len, facts);
+}
+
+cpay_status proved_cpay_av1_obu(const uint8_t *unit, size_t unit_len, size_t offset, cpay_obu_info *info);
+cpay_status cpay_av1_obu(const uint8_t *unit, size_t unit_len, size_t offset, cpay_obu_info *info) {
+    if (!unit && unit_len) return CPAY_INVALID;
+    return proved_cpay_av1_obu(unit ? unit : (const uint8_t *)nothing, unit_len, offset, info);
+}
+
+cpay_status proved_cpay_amr_wb_frame(const uint8_t *unit, size_t unit_len, size_t offset, cpay_amr_wb_frame_info *info);
+cpay_status cpay_amr_wb_frame(const uint8_t *unit, size_t unit_len, size_t offset, cpay_amr_wb_frame_info *info) {
+    if (!unit && unit_len) return CPAY_INVALID;
+    return proved_cpay_amr_wb_frame(unit ? unit : (const uint8_t *)nothing, unit_len, offset, info);
+}
+
+cpay_status proved_cpay_vp9_frame(const uint8_t *unit, size_t unit_len, size_t index, cpay_vp9_frame_info *info);
+cpay_status cpay_vp9_frame(const uint8_t *unit, size_t unit_len, size_t index, cpay_vp9_frame_info *info) {
+    if (!unit && unit_len) return CPAY_INVALID;
+    return proved_cpay_vp9_frame(unit ? unit : (const uint8_t *)nothing, unit_len, index, info);
+}
+
+cpay_status proved_cpay_av1c(const uint8_t *obu, size_t obu_len, uint8_t *bytes, size_t bytes_len, size_t *size);
+cpay_status cpay_av1c(const uint8_t *obu, size_t obu_len, uint8_t *bytes, size_t bytes_len, size_t *size) {
+    if ((!obu && obu_len) || (!bytes && bytes_len)) return CPAY_INVALID;
+    return proved_cpay_av1c(obu ? obu : (const uint8_t *)nothing, obu_len, bytes ? bytes : (uint8_t *)nothing, bytes_len, size);
+}
+
+cpay_status proved_cpay_opus_head(uint8_t channels, uint16_t pre_skip, uint32_t input_sample_rate, uint8_t *bytes,
+                                  size_t bytes_len);
+cpay_status cpay_opus_head(uint8_t channels, uint16_t pre_skip, uint32_t input_sample_rate, uint8_t *bytes, size_t bytes_len) {
+    if (!bytes && bytes_len) return CPAY_INVALID;
+    return proved_cpay_opus_head(channels, pre_skip, input_sample_rate, bytes ? bytes : (uint8_t *)nothing, bytes_len);
+}

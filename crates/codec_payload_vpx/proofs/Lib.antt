@@ -1,0 +1,5 @@
+pub mod ReadingLemmas
+pub mod SuperframeGrammar
+pub mod SuperframeLemmas
+pub mod SyntaxLemmas
+pub mod Vp8Grammar

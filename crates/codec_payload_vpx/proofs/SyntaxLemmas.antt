@@ -1,0 +1,177 @@
+-- Syntax tables: what is spelled is read, and what is read is spelled.
+use Rattle.std.proofs.Common.{◌≡◌, ℕ, zero, suc, ◌+◌, ◌-◌, ◌*◌, ◌%◌, ◌^◌, ◌<◌, ◌≤◌, List, [], ◌∷◌, ◌++◌, length, take, drop, true, false, ltb, Some, None, Result, Ok, Err, refl, sym, ap, ◌∙◌, subst, arith, append_assoc, length-append}
+use Rattle.std.specs.Prelude.{IfOk}
+use Rattle.std.specs.List.{AllByRecursion}
+use Rattle.std.proofs.lemmas.Bool.{le-ltb, lt-ltb, ltb-false}
+use Rattle.std.proofs.lemmas.Nat.{pow_pos, pow-add}
+use Rattle.std.proofs.lemmas.List.{take_at, drop_at, take-append-drop, length-take-le, drop-drop}
+use Rattle.std.proofs.Math.Nat.{mod-eq_of_lt, mod-lt}
+use Rattle.codec_payload_base.specs.Bits.{Reader, bits, bits_of, number_of, left, moved, ReadsBits}
+use Rattle.codec_payload_base.proofs.BitLemmas.{length-bits, bits-cat}
+use Rattle.codec_payload_base.proofs.BytesLemmas.{number_of-bits}
+use Rattle.codec_payload_vpx.specs.declared.error.MediaError.{MediaError}
+use Rattle.codec_payload_vpx.specs.declared.error.MediaError.TheVariants as errors
+use Rattle.codec_payload_vpx.specs.Syntax.{Syntax, tells, refuses, field, skips, branch, follows, then_read, read, Spells, IsSpelled, paired, without_rest, told_by}
+use Rattle.codec_payload_vpx.proofs.ReadingLemmas.{guard_ok, ok_is}
+
+-- ---- fields
+
+front_number : (n v : ℕ) (bs rest : List ℕ) → v < 2 ^ n → bs ≡ bits n v ++ rest → number_of (take n bs) ≡ v
+front_number n v bs rest small is =
+    ap (λ (t : List ℕ). number_of (take n t)) is ∙ ap number_of (take_at (bits n v) rest n (length-bits n v)) ∙ number_of-bits n v ∙ mod-eq_of_lt small
+
+field_again : (n v : ℕ) (bs rest : List ℕ) → v < 2 ^ n → bs ≡ bits n v ++ rest → read (field n) bs ≡ Ok (v, rest)
+field_again n v bs rest small is =
+    let behind : drop n bs ≡ rest = ap (drop n) is ∙ drop_at (bits n v) rest n (length-bits n v) in
+    rw (le-ltb (length bs) n (omega (arith, ap length is, length-append (bits n v) rest, length-bits n v)), front_number n v bs rest small is, behind) refl
+
+wide_bound : (m h l : ℕ) → h < 2 ^ m → l < 2 ^ 8 → h * 2 ^ 8 + l < 2 ^ (8 + m)
+wide_bound m h l small low =
+    let e : 2 ^ (8 + m) ≡ 2 ^ 8 * 2 ^ m = pow-add 2 8 m in
+    rw e (omega (arith, small, low))
+
+pub reads_field : (n v : ℕ) (old new : Reader) → ReadsBits n old new (Some v) → read (field n) (left old) ≡ Ok (v, left new)
+reads_field n v old new (small, front, _) = field_again n v (left old) (left new) small front
+
+pub reads_nothing : (n : ℕ) (old new : Reader) → ReadsBits n old new None → read (field n) (left old) ≡ Err errors.MissingBytes
+reads_nothing n old new (few, _) = rw (lt-ltb (length (left old)) n few) refl
+
+pub skips_there : (n : ℕ) (old new : Reader) → n ≤ length (left old) → new ≡ moved old n → read (skips n) (left old) ≡ Ok (0, left new)
+skips_there n old new enough is =
+    let behind : drop n (left old) ≡ left new = drop-drop n old.place (bits_of old.bytes) ∙ sym (ap left is) in
+    rw (le-ltb (length (left old)) n enough, behind) refl
+
+pub skips_nothing : (n : ℕ) (old : Reader) → length (left old) < n → read (skips n) (left old) ≡ Err errors.MissingBytes
+skips_nothing n old few = rw (lt-ltb (length (left old)) n few) refl
+
+-- a field of more than eight bits, in two parts
+pub reads_wide : (n h l : ℕ) (old middle new : Reader) → 8 ≤ n → ReadsBits (n - 8) old middle (Some h) → ReadsBits 8 middle new (Some l) → read (field n) (left old) ≡ Ok (h * 256 + l, left new)
+reads_wide n h l old middle new many (sh, fh, _) (sl, fl, _) =
+    let m : ℕ = n - 8 in
+    let e : 8 + m ≡ n = omega (arith, many) in
+    let front : left old ≡ bits (8 + m) (h * 2 ^ 8 + l) ++ left new =
+    fh ∙ ap (λ (t : List ℕ). bits m h ++ t) fl ∙ sym (append_assoc (bits m h) (bits 8 l) (left new)) ∙ ap (λ (t : List ℕ). t ++ left new) (sym (bits-cat 8 m h l sl)) in
+    let small : h * 2 ^ 8 + l < 2 ^ (8 + m) = wide_bound m h l sh sl in
+    ap (λ (k : ℕ). read (field k) (left old)) (sym e) ∙ field_again (8 + m) (h * 2 ^ 8 + l) (left old) (left new) small front
+
+pub reads_no_end : (n h : ℕ) (old middle new : Reader) → 8 ≤ n → ReadsBits (n - 8) old middle (Some h) → ReadsBits 8 middle new None → read (field n) (left old) ≡ Err errors.MissingBytes
+reads_no_end n h old middle new many (_, fh, _) (few, _) =
+    rw (lt-ltb (length (left old)) n (omega (arith, few, many, ap length fh, length-append (bits (n - 8) h) (left middle), length-bits (n - 8) h))) refl
+
+pub reads_no_front : (n : ℕ) (old new : Reader) → 8 ≤ n → ReadsBits (n - 8) old new None → read (field n) (left old) ≡ Err errors.MissingBytes
+reads_no_front n old new many (few, _) = rw (lt-ltb (length (left old)) n (omega (arith, few))) refl
+
+abbrev pub AreBits : List ℕ → Type 0
+AreBits bs = AllByRecursion (λ b. b < 2) bs
+
+bound_of : (bs : List ℕ) → bits (length bs) (number_of bs) ≡ bs → number_of bs < 2 ^ length bs
+bound_of bs e =
+    let n : ℕ = number_of bs in
+    let same : n ≡ n % 2 ^ length bs = sym (ap number_of e) ∙ number_of-bits (length bs) n in
+    subst (λ (k : ℕ). k < 2 ^ length bs) (sym same) (mod-lt n (pow_pos (length bs)))
+
+one_bit : (b : ℕ) → b < 2 → bits 1 b ≡ b ∷ []
+unfolding bits
+one_bit zero h = refl
+one_bit (suc zero) h = refl
+one_bit (suc (suc b)) h = absurd (omega (arith, h))
+
+pub number_bits : (bs : List ℕ) → AreBits bs → bits (length bs) (number_of bs) ≡ bs
+unfolding bits
+number_bits [] are = refl
+number_bits (b ∷ bs) (small, are) =
+    let e = number_bits bs are in
+    let n : ℕ = length bs in
+    let r : ℕ = number_of bs in
+    let next : n + 1 ≡ suc n = omega arith in
+    ap (λ (k : ℕ). bits k (b * 2 ^ n + r)) (sym next) ∙ bits-cat n 1 b r (bound_of bs e) ∙ ap (λ (t : List ℕ). t ++ bits n r) (one_bit b small) ∙ ap (λ (t : List ℕ). b ∷ t) e
+
+take_are : (n : ℕ) (bs : List ℕ) → AreBits bs → AreBits (take n bs)
+take_are zero bs are = tt
+take_are (suc n) [] are = tt
+take_are (suc n) (b ∷ bs) (small, are) = (small, take_are n bs are)
+
+pub drop_are : (n : ℕ) (bs : List ℕ) → AreBits bs → AreBits (drop n bs)
+drop_are zero bs are = are
+drop_are (suc n) [] are = tt
+drop_are (suc n) (b ∷ bs) (small, are) = drop_are n bs are
+
+append_are : (xs ys : List ℕ) → AreBits xs → AreBits ys → AreBits (xs ++ ys)
+append_are [] ys a b = b
+append_are (x ∷ xs) ys (small, a) b = (small, append_are xs ys a b)
+
+bits_are : (n v : ℕ) → AreBits (bits n v)
+unfolding bits
+bits_are zero v = tt
+bits_are (suc n) v = (omega arith, bits_are n v)
+
+pub bits_of_are : (bytes : List ℕ) → AreBits (bits_of bytes)
+bits_of_are [] = tt
+bits_of_are (b ∷ bytes) = append_are (bits 8 b) (bits_of bytes) (bits_are 8 b) (bits_of_are bytes)
+
+-- ---- tables
+
+pub spelled_again : {A : Type 0} (s : Syntax A) (bs : List ℕ) (x : A) (rest : List ℕ) → Spells s bs x rest → read s bs ≡ Ok (x, rest)
+spelled_again (tells y) bs x rest (e1, e2) = rw (e1, e2) refl
+spelled_again (refuses e) bs x rest is = absurd is
+spelled_again (field n) bs x rest (small, is) = field_again n x bs rest small is
+spelled_again (skips n) bs x rest (none, passed, long, is) =
+    let behind : drop n bs ≡ rest = ap (drop n) is ∙ drop_at passed rest n long in
+    rw (le-ltb (length bs) n (omega (arith, ap length is, length-append passed rest, long)), behind, none) refl
+spelled_again (branch true s t) bs x rest is = spelled_again s bs x rest is
+spelled_again (branch false s t) bs x rest is = spelled_again t bs x rest is
+spelled_again (follows s f) bs y rest (x, middle, first, second) = rw (spelled_again s bs x middle first) (spelled_again (f x) middle y rest second)
+
+abbrev Takes : {A : Type 0} → Syntax A → List ℕ → A → List ℕ → Type 0
+Takes s bs x rest = Spells s bs x rest × AreBits rest
+
+then_ok : {A B : Type 0} (r : Result (A × List ℕ) MediaError) (f : A → List ℕ → Result (B × List ℕ) MediaError) (y : B × List ℕ) → then_read r f ≡ Ok y → (x : A) × (middle : List ℕ) × (r ≡ Ok (x, middle)) × (f x middle ≡ Ok y)
+then_ok (Ok x) f y e = (x.0, x.1, refl, e)
+then_ok (Err d) f y e = absurd cc
+
+field_taken : (n : ℕ) (bs : List ℕ) → n ≤ length bs → AreBits bs → Takes (field n) bs (number_of (take n bs)) (drop n bs)
+field_taken n bs enough are =
+    let front : List ℕ = take n bs in
+    let long : length front ≡ n = length-take-le n bs enough in
+    let e : bits n (number_of front) ≡ front = ap (λ (k : ℕ). bits k (number_of front)) (sym long) ∙ number_bits front (take_are n bs are) in
+    let bound : number_of front < 2 ^ n = subst (λ (k : ℕ). number_of front < 2 ^ k) long (bound_of front (number_bits front (take_are n bs are))) in
+    ((bound, sym (take-append-drop n bs) ∙ ap (λ (t : List ℕ). t ++ drop n bs) (sym e)), drop_are n bs are)
+
+pub spelled_takes : {A : Type 0} (s : Syntax A) (bs : List ℕ) (x : A) (rest : List ℕ) → AreBits bs → read s bs ≡ Ok (x, rest) → Takes s bs x rest
+spelled_takes (tells y) bs x rest are e =
+    let same = ok_is (y, bs) (x, rest) e in
+    ((ap (λ p. p.0) same, ap (λ p. p.1) same), subst AreBits (ap (λ p. p.1) same) are)
+spelled_takes (refuses d) bs x rest are e = absurd cc
+spelled_takes (field n) bs x rest are e =
+    let g = guard_ok (ltb (length bs) n) errors.MissingBytes (Ok (number_of (take n bs), drop n bs)) (x, rest) e in
+    subst (λ (p : ℕ × List ℕ). Takes (field n) bs p.0 p.1) (ok_is (number_of (take n bs), drop n bs) (x, rest) g.1) (field_taken n bs (ltb-false _ _ g.0) are)
+spelled_takes (skips n) bs x rest are e =
+    let g = guard_ok (ltb (length bs) n) errors.MissingBytes (Ok (0, drop n bs)) (x, rest) e in
+    let enough : n ≤ length bs = ltb-false _ _ g.0 in
+    subst (λ (p : ℕ × List ℕ). Takes (skips n) bs p.0 p.1) (ok_is (0, drop n bs) (x, rest) g.1) ((refl, take n bs, length-take-le n bs enough, sym (take-append-drop n bs)), drop_are n bs are)
+spelled_takes (branch true s t) bs x rest are e = spelled_takes s bs x rest are e
+spelled_takes (branch false s t) bs x rest are e = spelled_takes t bs x rest are e
+spelled_takes (follows s f) bs y rest are e =
+    let a = then_ok (read s bs) (λ x rest. read (f x) rest) (y, rest) e in
+    let first = spelled_takes s bs a.0 a.1 are a.2 in
+    let second = spelled_takes (f a.0) a.1 y rest first.1 a.3 in
+    ((a.0, a.1, first.0, second.0), second.1)
+
+-- ---- readings of a table
+
+module _ {A : Type 0} (s : Syntax A) (bytes : List ℕ) where
+  pub is_spelled : (result : Result A MediaError) → result ≡ told_by s (bits_of bytes) → IfOk result (λ x. IsSpelled s (bits_of bytes) x)
+  is_spelled result e = of_read (read s (bits_of bytes)) refl result e
+    where
+      of_read : (r : Result (A × List ℕ) MediaError) → read s (bits_of bytes) ≡ r → (result : Result A MediaError) → result ≡ without_rest r → IfOk result (λ x. IsSpelled s (bits_of bytes) x)
+      of_read (Ok x) is (Ok y) e = subst (λ (z : A). IsSpelled s (bits_of bytes) z) (sym (ok_is y x.0 e)) (x.1, (spelled_takes s (bits_of bytes) x.0 x.1 (bits_of_are bytes) is).0)
+      of_read (Ok x) is (Err d) e = tt
+      of_read (Err d) is (Ok y) e = absurd cc
+      of_read (Err d) is (Err f) e = tt
+
+  pub is_accepted : (x : A) → IsSpelled s (bits_of bytes) x → told_by s (bits_of bytes) ≡ Ok x
+  is_accepted x (rest, is) = ap without_rest (spelled_again s (bits_of bytes) x rest is)
+
+pub of_paired : {A : Type 0} (s : Syntax A) (result : Result A MediaError) (bs rest : List ℕ) → paired result rest ≡ read s bs → result ≡ told_by s bs
+of_paired s (Ok x) bs rest e = ap without_rest e
+of_paired s (Err f) bs rest e = ap without_rest e

@@ -1,0 +1,7 @@
+//! What frames of VP8 and VP9 say of themselves, and how fields of so many bits are read.
+#![tactic(auto)]
+
+pub mod error;
+pub mod fields;
+pub mod vp8;
+pub mod vp9;

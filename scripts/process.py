@@ -1,0 +1,108 @@
+#!/usr/bin/env python3
+"""Runs payload_vectors as a process: every row of program_rows.py on a stack of 64 kilobytes, and streams that fail.
+
+Needs rt, which proves and builds the program first. The last line says how many runs went as promised; the status is 0 where all
+did.
+"""
+import os
+import resource
+import signal
+import socket
+import subprocess
+import sys
+import tempfile
+
+from program_rows import FIRST_OUTPUT, FIRST_RUN, OPUS, ROWS
+
+CRATE = os.path.join(os.path.dirname(os.path.dirname(os.path.realpath(__file__))), "crates", "payload_vectors")
+PROGRAM = os.path.join(CRATE, "out", "payload_vectors")
+STACK = 64 * 1024
+FAILED = b"input or output failed\n"
+
+
+def build():
+    with open(f"{CRATE}/stdin", "rb") as given:
+        built = subprocess.run(["rt", "run"], cwd=CRATE, stdin=given, stdout=subprocess.PIPE, stderr=subprocess.STDOUT, check=False)
+    if built.returncode != 0:
+        sys.exit(built.stdout.decode(errors="replace"))
+
+
+def small_stack():
+    resource.setrlimit(resource.RLIMIT_STACK, (STACK, STACK))
+
+
+def short_files():
+    """Files end after eight bytes, and a write behind that is an error and no signal."""
+    signal.signal(signal.SIGXFSZ, signal.SIG_IGN)
+    resource.setrlimit(resource.RLIMIT_FSIZE, (8, 8))
+
+
+def rows():
+    """How each row differs from what it should be."""
+    for row in ROWS:
+        given = row.given.encode() if isinstance(row.given, str) else row.given
+        ran = subprocess.run([PROGRAM], input=given, capture_output=True, preexec_fn=small_stack, check=False)
+        wanted = (row.output.encode(), row.status, row.message.encode())
+        yield row.name, wanted, (ran.stdout, ran.returncode, ran.stderr)
+
+
+def fails_at_a_read(text):
+    """The standard input gives a text, and the read behind it fails: the peer was closed with something unread."""
+    near, far = socket.socketpair()
+    far.send(b"?")
+    near.sendall(text)
+    near.close()
+    ran = subprocess.run([PROGRAM], stdin=far, capture_output=True, check=False)
+    far.close()
+    return ran.stdout, ran.returncode, ran.stderr
+
+
+def fails_at_a_write(given, limited):
+    """The standard output takes nothing, or eight bytes."""
+    with tempfile.TemporaryFile() as kept, open("/dev/full", "wb") as full:
+        ran = subprocess.run(
+            [PROGRAM],
+            input=given,
+            stdout=kept if limited else full,
+            stderr=subprocess.PIPE,
+            preexec_fn=short_files if limited else None,
+            check=False,
+        )
+        kept.seek(0)
+        return kept.read(), ran.returncode, ran.stderr
+
+
+def without_messages(given):
+    """The standard error takes nothing; the status is the same."""
+    with open("/dev/full", "wb") as full:
+        ran = subprocess.run([PROGRAM], input=given, stdout=subprocess.PIPE, stderr=full, check=False)
+        return ran.stdout, ran.returncode, b""
+
+
+def streams():
+    first = FIRST_RUN.encode()
+    with open("/proc/self/mem", "rb") as nothing:
+        ran = subprocess.run([PROGRAM], stdin=nothing, capture_output=True, check=False)
+    yield "the first read fails", (b"", 1, FAILED), (ran.stdout, ran.returncode, ran.stderr)
+    yield "the second read fails", (b"", 1, FAILED), fails_at_a_read(first)
+    yield "the first write fails", (b"", 1, FAILED), fails_at_a_write(first, limited=False)
+    yield "the second write fails", (FIRST_OUTPUT[:8].encode(), 1, FAILED), fails_at_a_write(first, limited=True)
+    yield "no message can be written", (b"", 2, b""), without_messages(f"{OPUS}pull\n".encode())
+
+
+def main():
+    build()
+    runs = promised = 0
+    for name, wanted, found in [*rows(), *streams()]:
+        runs += 1
+        if wanted == found:
+            promised += 1
+        else:
+            print(f"{name}: {[it[:200] if isinstance(it, bytes) else it for it in found]} in place of "
+                  f"{[it[:200] if isinstance(it, bytes) else it for it in wanted]}")
+    print(f"{runs} runs, {promised} as promised")
+    return 0 if runs == promised else 1
+
+
+if __name__ == "__main__":
+    sys.exit(main())

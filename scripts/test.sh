@@ -1,0 +1,83 @@
+#!/bin/sh
+# The test command: the proofs with all that rt runs beside them, and then each script that tests what they build.
+#
+#   scripts/test.sh              all of it
+#   scripts/test.sh --no-proofs  the scripts alone, over what was proved before
+#
+# Needs rt, a C and a C++ compiler, make, binutils, pkg-config, Python 3 and cargo; what is missing of Debian's packages is
+# installed where that may be done, and else named before anything starts. debhelper, lintian and doxygen are looked for
+# likewise; without them no Debian packages and manual pages are made. The last line is `N passed, N failed`; the status is 0
+# where nothing failed.
+set -u
+
+root=$(cd "$(dirname "$0")/.." && pwd)
+cd "$root" || exit 2
+work=$(mktemp -d)
+trap 'rm -rf "$work"' EXIT
+passed=0
+failed=0
+
+# wants PACKAGE COMMAND..: installs the package where a command is missing
+wants() {
+    package=$1
+    shift
+    for tool in "$@"; do
+        command -v "$tool" >/dev/null || absent="$absent $package"
+    done
+}
+
+absent=
+wants gcc cc
+wants g++ c++
+wants make make
+wants binutils ld objcopy nm
+wants pkg-config pkg-config
+wants python3 python3
+wants cargo cargo
+needed=$absent
+wants debhelper dh
+wants dpkg-dev dpkg-buildpackage
+wants fakeroot fakeroot
+wants lintian lintian
+wants doxygen doxygen
+if [ -n "$absent" ] && [ "$(id -u)" -eq 0 ] && command -v apt-get >/dev/null; then
+    # shellcheck disable=SC2086
+    { apt-get update && DEBIAN_FRONTEND=noninteractive apt-get install -y --no-install-recommends $absent; } >"$work/apt" 2>&1 ||
+        echo "not installed:$absent"
+    needed=$(for tool in cc c++ make ld objcopy nm pkg-config python3 cargo; do command -v "$tool" >/dev/null || echo "$tool"; done)
+fi
+command -v rt >/dev/null || needed="$needed rt"
+if [ -n "$needed" ]; then
+    echo "missing: $needed" >&2
+    exit 2
+fi
+
+# runs WORDS..: one script, which counts as one test
+runs() {
+    began=$(date +%s)
+    if "$@" >"$work/output" 2>&1; then
+        passed=$((passed + 1))
+        answer=ok
+    else
+        failed=$((failed + 1))
+        cat "$work/output"
+        answer=FAILED
+    fi
+    echo "$answer $* ($(($(date +%s) - began)) s): $(tail -n 1 "$work/output")"
+}
+
+if [ "${1:-}" != --no-proofs ]; then
+    rt ci 2>&1 | tee "$work/proofs"
+    counts=$(tail -n 1 "$work/proofs")
+    set -- $(printf '%s\n' "$counts" | sed -n 's/^\([0-9]*\) passed, \([0-9]*\) failed.*/\1 \2/p') '' ''
+    passed=${1:-0}
+    failed=${2:-1}
+    [ "$passed" -gt 0 ] || failed=1
+fi
+runs scripts/wrong_bodies.py --stale
+runs scripts/process.py
+runs scripts/refuse.sh
+runs scripts/allocations.sh
+runs scripts/faces.sh
+echo "$passed passed, $failed failed"
+[ "$failed" -eq 0 ]
