@@ -46,7 +46,7 @@ build_library() {
             objcopy --redefine-syms=names libcodec_payload_c.a &&
             printf 'CREATE all.a\nADDLIB libcodec_payload_c.a\nADDLIB liblibc_c.a\nADDMOD calls.o\nSAVE\nEND\n' | ar -M &&
             ld -r --whole-archive all.a -o all.o && objcopy --wildcard --keep-global-symbol='cpay_*' all.o codec_payload.o &&
-            ar rcs "$out/libcodec_payload.a" codec_payload.o)
+            ar rcs "$out/libcodec_payload.a" codec_payload.o) || fail "the archive is not made"
 }
 
 # compile NAME FLAGS..: builds bindings/c/NAME.c
@@ -140,13 +140,13 @@ command -v cargo >/dev/null || fail "there is no cargo; all but the Rust crates 
     cd "$root/bindings"
     CODEC_PAYLOAD_DIR=$out
     export CODEC_PAYLOAD_DIR
-    cargo test --offline --quiet --workspace &&
-        cargo package --offline --quiet --allow-dirty --workspace &&
-        if cargo clippy --version >/dev/null 2>&1; then
-            cargo clippy --offline --quiet --workspace --all-targets -- -D warnings
-        fi
+    cargo test --offline --quiet --workspace || exit 1
+    cargo package --offline --quiet --allow-dirty --workspace || exit 1
+    if cargo clippy --version >/dev/null 2>&1; then
+        cargo clippy --offline --quiet --workspace --all-targets -- -D warnings || exit 1
+    fi
     unset CODEC_PAYLOAD_DIR
-    RUSTDOCFLAGS="-D warnings" cargo doc --offline --quiet --no-deps --workspace
+    RUSTDOCFLAGS="-D warnings" cargo doc --offline --quiet --no-deps --workspace || exit 1
 ) >"$work/cargo.log" 2>&1 || {
     cat "$work/cargo.log" >&2
     fail "the Rust crates failed"

@@ -49,9 +49,12 @@ builds_by_pkg_config() {
     export PKG_CONFIG_PATH="$prefix/lib/pkgconfig"
     flags=$(pkg-config --cflags codec-payload)
     libraries=$(pkg-config --libs codec-payload)
-    "$compiler" -std=c11 $flags "$1" $libraries -o "$work/shared" && prints "$work/shared"
-    "$compiler" -std=c11 $flags "$1" "$prefix/lib/libcodec_payload.a" -o "$work/static" && prints "$work/static"
-    "$plus" -std=c++20 -x c++ $flags "$1" -x none $libraries -o "$work/plus" && prints "$work/plus"
+    "$compiler" -std=c11 $flags "$1" $libraries -o "$work/shared" || fail "the example is not built against the shared library"
+    prints "$work/shared"
+    "$compiler" -std=c11 $flags "$1" "$prefix/lib/libcodec_payload.a" -o "$work/static" || fail "the example is not built statically"
+    prints "$work/static"
+    "$plus" -std=c++20 -x c++ $flags "$1" -x none $libraries -o "$work/plus" || fail "the example is not built as C++"
+    prints "$work/plus"
 }
 
 # builds_by_cmake SOURCE

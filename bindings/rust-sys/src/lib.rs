@@ -237,7 +237,11 @@ unsafe extern "C" {
     pub fn cpay_buffer_set_hold_back(buffer: *mut Buffer, hold_back: usize) -> u32;
     pub fn cpay_buffer_pass_number(buffer: *mut Buffer, number: u64) -> u32;
     pub fn cpay_depacketizer_new(depacketizer: *mut Depacketizer, spec: *const Spec) -> u32;
-    pub fn cpay_depacketize(depacketizer: *mut Depacketizer, payload: *const u8, payload_len: usize) -> u32;
+    pub fn cpay_depacketize(
+        depacketizer: *mut Depacketizer,
+        payload: *const u8,
+        payload_len: usize,
+    ) -> u32;
     pub fn cpay_depacketized(
         depacketizer: *mut Depacketizer,
         size: *mut usize,
@@ -358,15 +362,19 @@ unsafe extern "C" {
         fields: *mut Vp8FieldsInfo,
         starts_keyframe: *mut bool,
     ) -> u32;
-    pub fn cpay_vp8_patch(payload: *mut u8, payload_len: usize, values: *const Vp8FieldsInfo)
-    -> u32;
+    pub fn cpay_vp8_patch(
+        payload: *mut u8,
+        payload_len: usize,
+        values: *const Vp8FieldsInfo,
+    ) -> u32;
     pub fn cpay_frame_info(
         codec: u32,
         frame: *const u8,
         frame_len: usize,
         facts: *mut FrameFacts,
     ) -> u32;
-    pub fn cpay_av1_obu(unit: *const u8, unit_len: usize, offset: usize, info: *mut ObuInfo) -> u32;
+    pub fn cpay_av1_obu(unit: *const u8, unit_len: usize, offset: usize, info: *mut ObuInfo)
+    -> u32;
     pub fn cpay_amr_wb_frame(
         unit: *const u8,
         unit_len: usize,

@@ -176,6 +176,34 @@ impl Settings {
         }
     }
 
+    /// The same with that first picture id, at most 32,767.
+    #[must_use]
+    pub fn with_first_id(mut self, first_id: u16) -> Settings {
+        self.first_id = first_id;
+        self
+    }
+
+    /// The same with AMR-WB octet-aligned or not.
+    #[must_use]
+    pub fn with_octet_align(mut self, octet_align: bool) -> Settings {
+        self.octet_align = octet_align;
+        self
+    }
+
+    /// The same with VP8 sent with picture ids or without.
+    #[must_use]
+    pub fn with_vp8_ids(mut self, vp8_ids: bool) -> Settings {
+        self.vp8_ids = vp8_ids;
+        self
+    }
+
+    /// The same with VP9 sent in the flexible mode or not.
+    #[must_use]
+    pub fn with_vp9_flexible(mut self, vp9_flexible: bool) -> Settings {
+        self.vp9_flexible = vp9_flexible;
+        self
+    }
+
     fn raw(&self) -> Spec {
         Spec {
             codec: self.codec as u32,
@@ -251,8 +279,9 @@ impl Packetizer {
         let mut payload = Vec::new();
         loop {
             // SAFETY: as in `packetize`.
-            let status =
-                unsafe { cpay_packet(self.0.raw(), &mut info, payload.as_mut_ptr(), payload.len()) };
+            let status = unsafe {
+                cpay_packet(self.0.raw(), &mut info, payload.as_mut_ptr(), payload.len())
+            };
             if status != TOO_SMALL {
                 told(status)?;
                 return Ok(Packet {
@@ -313,7 +342,8 @@ pub struct Counts {
 
 /// Puts received packets in order and together.
 ///
-/// It is an iterator over the units whose turn has come, which goes on after a push: `None` is not the end.
+/// It is an iterator over the units whose turn has come, which goes on after a push: `None` is not the end, so it is not fused.
+/// At the end of a stream [`drain`](Buffer::drain) gives what is left.
 #[derive(Debug)]
 pub struct Buffer(Handle<raw::Buffer>);
 
@@ -375,6 +405,15 @@ impl Buffer {
     pub fn set_hold_back(&mut self, hold_back: usize) {
         // SAFETY: a struct that is borrowed for the call. It holds a buffer, so the call succeeds.
         unsafe { cpay_buffer_set_hold_back(self.0.raw(), hold_back) };
+    }
+
+    /// What is left at the end of a stream: nothing is held back any more, so units behind a gap come too. Packets of frames that
+    /// lack others stay held.
+    ///
+    /// An item that is [`Error::OutOfMemory`] comes again until memory is found, so leave off there.
+    pub fn drain(&mut self) -> impl Iterator<Item = Result<Unit, Error>> + '_ {
+        self.set_hold_back(0);
+        std::iter::from_fn(|| self.pop())
     }
 
     /// The packet of that number came and carries no media, as one of padding alone: where all before it have left, it is not

@@ -7,7 +7,7 @@ use codec_payload::{
 };
 
 /// What is known of a packet of that number.
-fn received(number: u64, rtp_time: u32, marker: bool) -> Received {
+fn received(number: u64, rtp_time: u64, marker: bool) -> Received {
     Received {
         number,
         rtp_time,
@@ -64,6 +64,27 @@ fn hold_back() -> Result<(), Error> {
     buffer.push(&received(11, 960, false), &[0x0b])?;
     assert_eq!(row(&buffer.pop().unwrap()?), (13, 13, true, &[0x0d][..]));
     assert_eq!(buffer.counts()?.packets, 0);
+    Ok(())
+}
+
+/// Packet 11 is missing, and a hold-back of 9 waits for it until the end; a number without media is not waited for.
+#[test]
+fn end_of_a_stream() -> Result<(), Error> {
+    let mut buffer = Buffer::new(&Settings::new(Codec::Opus, 48_000), 9, 4_096)?;
+    for byte in [10, 12, 14] {
+        let number = u64::from(byte);
+        buffer.push(&received(number, 960 * number, false), &[byte])?;
+    }
+    assert_eq!(row(&buffer.pop().unwrap()?), (10, 10, true, &[10][..]));
+    assert_eq!(buffer.pop(), None);
+    buffer.pass_number(11);
+    assert_eq!(buffer.pop().unwrap()?.first, 12);
+    assert_eq!(buffer.pop(), None);
+    let left = buffer.drain().collect::<Result<Vec<_>, _>>()?;
+    assert_eq!(
+        left.iter().map(row).collect::<Vec<_>>(),
+        [(14, 14, false, &[14][..])]
+    );
     Ok(())
 }
 
@@ -265,7 +286,10 @@ fn frames() -> Result<(), Error> {
     let mut short = media::vp9_frames(&[0x84, 0x86, 0x01, 0xc1, 2, 2, 0xc1]);
     assert_eq!(short.next(), Some(Err(Error::FrameSizes)));
     assert_eq!(short.next(), None);
-    assert_eq!(media::vp9_frames(&[]).next(), Some(Err(Error::FrameTooShort)));
+    assert_eq!(
+        media::vp9_frames(&[]).next(),
+        Some(Err(Error::FrameTooShort))
+    );
 
     let mut sound = media::amr_wb_frames(&[0x70, 0x4c, 1, 2, 3, 4, 5]);
     assert_eq!(sound.next().unwrap()?.frame_type, 14);
