@@ -10,15 +10,15 @@ use Rattle.codec_payload_rtp.specs.declared.rtp.RtpError.{RtpError}
 use Rattle.codec_payload_rtp.specs.declared.values.ExtensionIds.{ExtensionIds}
 use Rattle.codec_payload_buffer.specs.Depack.{Depack}
 use Rattle.codec_payload_buffer.specs.Steps.{empty_buffer}
-use Rattle.codec_payload_stream.specs.Numbers.{Numbering, numbering_within}
-use Rattle.codec_payload_stream.specs.Receiving.{Receiving, Notes, Receives, next, no_packets}
-use Rattle.codec_payload_stream.specs.declared.numbers.WindowError.{WindowError}
-use Rattle.codec_payload_stream.specs.declared.numbers.WindowError.TheVariants as windows
+use Rattle.codec_payload_jitter.specs.Numbers.{Numbering, numbering_within}
+use Rattle.codec_payload_jitter.specs.Receiving.{Receiving, Notes, Receives, next, no_packets}
+use Rattle.codec_payload_jitter.specs.declared.numbers.WindowError.{WindowError}
+use Rattle.codec_payload_jitter.specs.declared.numbers.WindowError.TheVariants as windows
 use Rattle.codec_payload_stream.specs.declared.receiver.Settings.{Settings}
 use Rattle.codec_payload_stream.specs.declared.receiver.SettingsError.{SettingsError}
 use Rattle.codec_payload_stream.specs.declared.receiver.SettingsError.TheVariants as settings
-use Rattle.codec_payload_stream.specs.declared.jitter.Outcome.{Outcome}
-use Rattle.codec_payload_stream.specs.declared.jitter.Outcome.TheVariants as outcomes
+use Rattle.codec_payload_jitter.specs.declared.jitter.Outcome.{Outcome}
+use Rattle.codec_payload_jitter.specs.declared.jitter.Outcome.TheVariants as outcomes
 use Rattle.codec_payload_stream.specs.declared.receiver.Arrived.{Arrived}
 use Rattle.codec_payload_stream.specs.declared.receiver.Counters.{Counters}
 use Rattle.codec_payload_stream.specs.declared.receiver.Datagram.{Datagram as LentDatagram}

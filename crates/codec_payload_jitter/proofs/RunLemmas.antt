@@ -1,0 +1,211 @@
+-- Pushes into a jitter buffer are pushes into its buffer.
+use Rattle.std.proofs.Common.{◌≡◌, ◌∙◌, refl, ap, sym, subst, ℕ, List, [], ◌∷◌, map, Bool, true, false, Option, Some, None, length, cond, ltb}
+use Rattle.codec_payload_jitter.specs.declared.numbers.Extended.{Extended}
+use Rattle.codec_payload_jitter.specs.declared.numbers.Extended.TheVariants as extended
+use Rattle.codec_payload_buffer.specs.Depack.{Depack}
+use Rattle.codec_payload_buffer.specs.Held.{Held, number_of, placed}
+use Rattle.codec_payload_buffer.specs.Steps.{State, pushed, is_dropped, without_lowest, Pops}
+use Rattle.codec_payload_buffer.specs.Stretches.{after_pushes}
+use Rattle.codec_payload_jitter.specs.Numbers.{Numbering, low_bits, no_numbers, number_for, numbering_after, numbers_for, answer_for, numbering_with, without_restart, number_in, is_restart, GoOn, moved}
+use Rattle.codec_payload_jitter.specs.Receiving.{Receiving, Arrival, answer_in, Receives, ReceivesAs, TakesIn, settled, waiting_at, PopsWith}
+use Rattle.codec_payload_jitter.specs.Blanks.{passed_blanks, blanks_left}
+use Rattle.codec_payload_jitter.specs.Runs.{ReceivesAll, low_numbers, ArriveAs, AreStretches, AreTrueStretches, Answer, numbering_past, numbers_by_round, TurnWith, IsChain, GoOnByRound, AreChains}
+use Rattle.codec_payload_jitter.specs.declared.outcome.Outcome.{Outcome}
+use Rattle.codec_payload_jitter.proofs.NumbersLemmas.{are_true_numbers, none_restarts}
+
+lowest_depack : (s : State) (ps : List Held) → (without_lowest s ps).depack ≡ s.depack
+lowest_depack s [] = refl
+lowest_depack s (p ∷ ps) = refl
+
+pushed_depack : (s : State) (p : Held) → (pushed s p).depack ≡ s.depack
+pushed_depack s p = by_tests (is_dropped s (number_of p)) (ltb s.limit (length (placed p s.held)))
+  where
+    by_tests : (a b : Bool) → (cond a s (cond b (without_lowest (record s { held = placed p s.held }) (placed p s.held)) (record s { held = placed p s.held }))).depack ≡ s.depack
+    by_tests true b = refl
+    by_tests false true = lowest_depack (record s { held = placed p s.held }) (placed p s.held)
+    by_tests false false = refl
+
+-- the buffer takes the packet in under its number, if it has one
+abbrev pub TakesAt : ℕ → Arrival → Option ℕ → State → State → Type 0
+TakesAt rate a None s t = t ≡ s
+TakesAt rate a (Some n) s t = TakesIn rate a n s t
+
+takes_depack : (rate : ℕ) (a : Arrival) (number : Option ℕ) (s t : State) → TakesAt rate a number s t → t.depack ≡ s.depack
+takes_depack rate a None s t takes = ap (λ (x : State). x.depack) takes
+takes_depack rate a (Some n) s t takes = ap (λ (x : State). x.depack) takes.2 ∙ pushed_depack s takes.0
+
+-- what a push does, where no restart is told
+pub record IsOne (number : Option ℕ) (a : Arrival) (r t : Receiving) : Type 0 where
+  pub takes : TakesAt r.rate a number r.buffer t.buffer
+  pub rate : t.rate ≡ r.rate
+  pub blanks : t.blanks ≡ r.blanks
+
+one_as : (answer : Extended) (a : Arrival) (r t : Receiving) (outcome : Outcome) → is_restart answer ≡ false → ReceivesAs answer a r outcome t → IsOne (number_in answer) a r t
+one_as (extended.Number n) a r t outcome on got =
+    let all : t ≡ record got.0 { kept = None } = got.2 in
+    record {
+      takes = subst (λ (s : State). TakesIn r.rate a n r.buffer s) (sym (ap (λ (x : Receiving). x.buffer) all ∙ ap (λ (x : Receiving). x.buffer) got.1.3)) got.1.1;
+      rate = ap (λ (x : Receiving). x.rate) all ∙ ap (λ (x : Receiving). x.rate) got.1.3;
+      blanks = ap (λ (x : Receiving). x.blanks) all ∙ ap (λ (x : Receiving). x.blanks) got.1.3;
+    }
+one_as (extended.Restarted n) a r t outcome on got = cc
+one_as extended.Suspect a r t outcome on got = record {
+  takes = ap (λ (x : Receiving). x.buffer) got.1;
+  rate = ap (λ (x : Receiving). x.rate) got.1;
+  blanks = ap (λ (x : Receiving). x.blanks) got.1;
+}
+one_as extended.Spent a r t outcome on got = record {
+  takes = ap (λ (x : Receiving). x.buffer) got.1;
+  rate = ap (λ (x : Receiving). x.rate) got.1;
+  blanks = ap (λ (x : Receiving). x.blanks) got.1;
+}
+
+unless_restart : (answer : Extended) → is_restart answer ≡ false → without_restart answer ≡ answer
+unless_restart (extended.Number n) on = refl
+unless_restart (extended.Restarted n) on = cc
+unless_restart extended.Suspect on = refl
+unless_restart extended.Spent on = refl
+
+-- where no restart is told, by the numbering or by the caller, the answer is that of the numbering
+answer_is : (r : Receiving) (low : ℕ) → r.anew ≡ false → is_restart (answer_for r.numbering low) ≡ false → answer_in r low ≡ answer_for r.numbering low
+answer_is r low running on = rw running (by_ended r.ended)
+  where
+    by_ended : (b : Bool) → cond b (without_restart (answer_for r.numbering low)) (answer_for r.numbering low) ≡ answer_for r.numbering low
+    by_ended true = unless_restart (answer_for r.numbering low) on
+    by_ended false = refl
+
+-- one push
+pub record OneOf (a : Arrival) (r t : Receiving) : Type 0 where
+  pub one : IsOne (number_for r.numbering a.header.sequence_number) a r t
+  pub numbering : t.numbering ≡ numbering_after r.numbering a.header.sequence_number
+  pub running : t.anew ≡ false
+
+one_of : (a : Arrival) (r t : Receiving) (outcome : Outcome) → r.anew ≡ false → is_restart (answer_for r.numbering a.header.sequence_number) ≡ false
+    → Receives a r outcome t → OneOf a r t
+one_of a r t outcome running on receives =
+    let low = a.header.sequence_number in
+    let is : answer_in r low ≡ answer_for r.numbering low = answer_is r low running on in
+    let mid : Receiving = receives.0 in
+    let taken : ReceivesAs (answer_for r.numbering low) a r outcome mid = subst (λ (e : Extended). ReceivesAs e a r outcome mid) is receives.1 in
+    let one = one_as (answer_for r.numbering low) a r mid outcome on taken in
+    let number = number_for r.numbering low in
+    record {
+      one = record {
+        takes = subst (λ (s : State). TakesAt r.rate a number r.buffer s) (sym (ap (λ (x : Receiving). x.buffer) receives.2)) one.takes;
+        rate = ap (λ (x : Receiving). x.rate) receives.2 ∙ one.rate;
+        blanks = ap (λ (x : Receiving). x.blanks) receives.2 ∙ one.blanks;
+      };
+      numbering = ap (λ (x : Receiving). x.numbering) receives.2 ∙ ap (λ (e : Extended). numbering_with r.numbering e low) is;
+      running = ap (λ (x : Receiving). x.anew) receives.2;
+    }
+
+one_more : (a : Arrival) (arrivals : List Arrival) (rate : ℕ) (s m t : State) (number : Option ℕ) (numbers : List (Option ℕ)) (ps : List Held)
+    → TakesAt rate a number s m → ArriveAs s.depack rate arrivals numbers ps → t ≡ after_pushes m ps
+    → (qs : List Held) × ArriveAs s.depack rate (a ∷ arrivals) (number ∷ numbers) qs × (t ≡ after_pushes s qs)
+one_more a arrivals rate s m t None numbers ps takes arrive is = (ps, arrive, is ∙ ap (λ (x : State). after_pushes x ps) takes)
+one_more a arrivals rate s m t (Some n) numbers ps takes arrive is = (takes.0 ∷ ps, (takes.0, ps, refl, takes.1, arrive), is ∙ ap (λ (x : State). after_pushes x ps) takes.2)
+
+pub are_stretches : AreStretches
+are_stretches [] r t outcomes running on all = ([], refl, ap (λ (x : Receiving). x.buffer) all.1)
+are_stretches (a ∷ arrivals) r t outcomes running on all =
+    let mid : Receiving = all.2 in
+    let low : ℕ = a.header.sequence_number in
+    let one = one_of a r mid all.0 running on.0 all.4 in
+    let numbering : mid.numbering ≡ numbering_after r.numbering low = one.numbering in
+    let later = are_stretches arrivals mid t all.1 one.running (subst (λ (n : Numbering). GoOn n (low_numbers arrivals)) (sym numbering) on.1) all.5 in
+    let depack : mid.buffer.depack ≡ r.buffer.depack = takes_depack r.rate a (number_for r.numbering low) r.buffer mid.buffer one.one.takes in
+    let arrive : ArriveAs r.buffer.depack r.rate arrivals (numbers_for (numbering_after r.numbering low) (low_numbers arrivals)) later.0 =
+    subst (λ (d : Depack). ArriveAs d r.rate arrivals (numbers_for (numbering_after r.numbering low) (low_numbers arrivals)) later.0) depack
+    (subst (λ (k : ℕ). ArriveAs mid.buffer.depack k arrivals (numbers_for (numbering_after r.numbering low) (low_numbers arrivals)) later.0) one.one.rate
+    (subst (λ (n : Numbering). ArriveAs mid.buffer.depack mid.rate arrivals (numbers_for n (low_numbers arrivals)) later.0) numbering later.1)) in
+    one_more a arrivals r.rate r.buffer mid.buffer t.buffer (number_for r.numbering low) (numbers_for (numbering_after r.numbering low) (low_numbers arrivals)) later.0 one.one.takes arrive later.2
+
+pub are_true_stretches : AreTrueStretches
+are_true_stretches forward backward first ts arrivals r t outcomes running kept fresh fits near lows all =
+    let on : GoOn r.numbering (low_numbers arrivals) =
+    subst (λ (ns : List ℕ). GoOn r.numbering ns) (sym lows) (subst (λ (n : Numbering). GoOn n (map low_bits (first ∷ ts))) (sym fresh) (none_restarts forward backward kept first ts fits near)) in
+    let stretch = are_stretches arrivals r t outcomes running on all in
+    let numbers : numbers_for r.numbering (low_numbers arrivals) ≡ map (moved first) (first ∷ ts) =
+    ap (λ (n : Numbering). numbers_for n (low_numbers arrivals)) fresh ∙ ap (λ (ns : List ℕ). numbers_for (no_numbers forward backward) ns) lows ∙ are_true_numbers forward backward kept first ts fits near in
+    (stretch.0, subst (λ (ns : List (Option ℕ)). ArriveAs r.buffer.depack r.rate arrivals ns stretch.0) numbers stretch.1, stretch.2)
+
+-- Rounds
+
+-- pushes of a sender that does not restart leave all but numbering, buffer, the packet that is kept and counters
+pub record Stay (lows : List ℕ) (r t : Receiving) : Type 0 where
+  pub blanks : t.blanks ≡ r.blanks
+  pub rate : t.rate ≡ r.rate
+  pub numbering : t.numbering ≡ numbering_past r.numbering lows
+  pub running : t.anew ≡ false
+
+stay : (arrivals : List Arrival) (r t : Receiving) (outcomes : List Outcome) → r.anew ≡ false → GoOn r.numbering (low_numbers arrivals) → ReceivesAll arrivals r outcomes t → Stay (low_numbers arrivals) r t
+stay [] r t outcomes running on all = record {
+  running = ap (λ (x : Receiving). x.anew) all.1 ∙ running;
+  blanks = ap (λ (x : Receiving). x.blanks) all.1;
+  rate = ap (λ (x : Receiving). x.rate) all.1;
+  numbering = ap (λ (x : Receiving). x.numbering) all.1;
+}
+stay (a ∷ arrivals) r t outcomes running on all =
+    let one = one_of a r all.2 all.0 running on.0 all.4 in
+    let rest = stay arrivals all.2 t all.1 one.running (subst (λ (n : Numbering). GoOn n (low_numbers arrivals)) (sym one.numbering) on.1) all.5 in
+    record {
+      blanks = rest.blanks ∙ one.one.blanks;
+      rate = rest.rate ∙ one.one.rate;
+      numbering = rest.numbering ∙ ap (λ (n : Numbering). numbering_past n (low_numbers arrivals)) one.numbering;
+      running = rest.running;
+    }
+
+-- with nothing remembered, nothing is settled
+settled_none : (r : Receiving) → r.blanks ≡ [] → settled r ≡ r
+settled_none r none =
+    ap (λ (ns : List ℕ). record r { buffer = passed_blanks r.buffer ns; blanks = blanks_left r.buffer ns }) none ∙ ap (λ (ns : List ℕ). record r { blanks = ns }) (sym none)
+
+-- what a pop leaves as it was, and what it does to the buffer
+pub record IsTurn (wait : Option ℕ) (r : Receiving) (answer : Answer) (t : Receiving) : Type 0 where
+  pub turn : TurnWith wait r.buffer answer t.buffer
+  pub blanks : t.blanks ≡ r.blanks
+  pub rate : t.rate ≡ r.rate
+  pub numbering : t.numbering ≡ r.numbering
+  pub anew : t.anew ≡ r.anew
+
+turn_of : (wait : Option ℕ) (r : Receiving) (answer : Answer) (t : Receiving) → PopsWith wait r answer t → IsTurn wait r answer t
+turn_of None r answer t pops = record {
+  turn = (pops.0, ap (λ (x : Receiving). x.buffer) pops.1);
+  blanks = ap (λ (x : Receiving). x.blanks) pops.1;
+  rate = ap (λ (x : Receiving). x.rate) pops.1;
+  numbering = ap (λ (x : Receiving). x.numbering) pops.1;
+  anew = ap (λ (x : Receiving). x.anew) pops.1;
+}
+turn_of (Some h) r answer t pops = record {
+  turn = subst (λ (s : State). Pops (record r.buffer { hold_back = h }) answer s) (sym (ap (λ (x : Receiving). x.buffer) pops.2)) pops.1;
+  blanks = ap (λ (x : Receiving). x.blanks) pops.2;
+  rate = ap (λ (x : Receiving). x.rate) pops.2;
+  numbering = ap (λ (x : Receiving). x.numbering) pops.2;
+  anew = ap (λ (x : Receiving). x.anew) pops.2;
+}
+
+pub are_chains : AreChains
+are_chains [] r t answers running none on does = (does.0, ap (λ (x : Receiving). x.buffer) does.1)
+are_chains (round ∷ rounds) r t answers running none on does =
+    let mid : Receiving = does.1 in
+    let after : Receiving = does.3 in
+    let lows = low_numbers round.arrivals in
+    let wait : Option ℕ = waiting_at (settled mid) round.pop_at in
+    let stretch = are_stretches round.arrivals r mid does.0 running on.0 does.6 in
+    let stays = stay round.arrivals r mid does.0 running on.0 does.6 in
+    let no_blanks : mid.blanks ≡ [] = stays.blanks ∙ none in
+    let turn : IsTurn wait mid does.2 after = turn_of wait mid does.2 after (subst (λ (x : Receiving). PopsWith wait x does.2 after) (settled_none mid no_blanks) does.7) in
+    let rate : after.rate ≡ r.rate = turn.rate ∙ stays.rate in
+    let numbering : after.numbering ≡ numbering_past r.numbering lows = turn.numbering ∙ stays.numbering in
+    let rest = are_chains rounds after t does.4 (turn.anew ∙ stays.running) (turn.blanks ∙ no_blanks) (subst (λ (n : Numbering). GoOnByRound n rounds) (sym numbering) on.1) does.8 in (
+      stretch.0,
+      wait,
+      does.2,
+      after.buffer,
+      does.4,
+      does.5,
+      stretch.1,
+      subst (λ (s : State). TurnWith wait s does.2 after.buffer) stretch.2 turn.turn,
+      subst (λ (n : Numbering). IsChain r.rate rounds (numbers_by_round n rounds) after.buffer does.4 t.buffer) numbering
+          (subst (λ (k : ℕ). IsChain k rounds (numbers_by_round after.numbering rounds) after.buffer does.4 t.buffer) rate rest),
+    )

@@ -1,0 +1,37 @@
+use Rattle.std.proofs.Common.{ap, sym, subst, length}
+use Rattle.std.specs.Option.{option_map}
+use Rattle.codec_payload_jitter.specs.Receiving.{Receiving, Accepts, IsConserved, arrival_of, counted}
+use Rattle.codec_payload_jitter.specs.declared.outcome.PacketCounters.{PacketCounters}
+use Rattle.codec_payload_jitter.proofs.ReceivingLemmas.{conserved_in}
+use Rattle.codec_payload_jitter.proofs.jitter.JitterBuffer.accept.Goals as goal
+
+pub invariant_of-self-2 : goal.invariant_of-self-2
+invariant_of-self-2 g c =
+    let kept : IsConserved (counted c.self.inside.counters c.in_ok-outcome.outcome) (length c.take_in.new.buffer.held) =
+    conserved_in c.self.inside.clock_rate (arrival_of c.args.packet) c.args.number c.self.inside.buffer c.take_in.new.buffer c.in_ok-outcome.outcome c.self.inside.counters
+    c.in_ok-outcome.ensures.takes c.in_ok-outcome.ensures.outcome c.self.invariant in
+    subst (λ (k : PacketCounters). IsConserved k (length c.take_in.new.buffer.held)) (sym c.with_outcome-self-inside.ensures) kept
+
+pub returns-clause-ok : goal.returns-clause-ok
+returns-clause-ok g c =
+    let r : Receiving = record {
+      numbering = c.self.inside.numbers;
+      buffer = c.self.inside.buffer;
+      blanks = c.self.inside.blanks.items;
+      kept = option_map arrival_of c.self.inside.kept;
+      rate = c.self.inside.clock_rate;
+      patience = c.self.inside.patience;
+      ended = c.self.inside.ended;
+      counters = c.self.inside.counters;
+      lowest = c.self.inside.lowest;
+      anew = c.self.inside.anew;
+    } in
+    let after = c.take_in.new.buffer in
+    let t : Receiving = record r { buffer = after; counters = c.with_outcome-self-inside.result } in
+    let made : Accepts (arrival_of c.args.packet) c.args.number r c.in_ok-outcome.outcome t = (
+      after,
+      c.in_ok-outcome.ensures.takes,
+      c.in_ok-outcome.ensures.outcome,
+      ap (λ (k : PacketCounters). record r { buffer = after; counters = k }) c.with_outcome-self-inside.ensures,
+    ) in
+    subst (λ (x : Receiving). Accepts (arrival_of c.args.packet) c.args.number x c.in_ok-outcome.outcome t) c.self.view_is made

@@ -1,0 +1,228 @@
+-- Sequence numbers of 16 bits, extended to numbers that go on where they start anew.
+use Rattle.std.specs.Prelude.{◌≡◌, ℕ, ◌+◌, ◌-◌, ◌*◌, ◌/◌, ◌%◌, ◌^◌, ◌<◌, ◌≤◌, ◌==◌, ◌&&◌, nat_lt, nat_le, max, min, if◌then◌else◌, Bool, true, false, List, [], ◌∷◌, map, Option, Some, None, Result, Ok, Err, refl}
+use Rattle.codec_payload_jitter.specs.declared.numbers.Extended.{Extended}
+use Rattle.codec_payload_jitter.specs.declared.numbers.Extended.TheVariants as extended
+use Rattle.codec_payload_jitter.specs.declared.numbers.WindowError.{WindowError}
+use Rattle.codec_payload_jitter.specs.declared.numbers.WindowError.TheVariants as errors
+
+-- what is known of a stream's numbers: the greatest that was given; the latest packet that got none, where none got one
+-- since; and the windows: a packet may be less than `forward` ahead of the greatest, and at most `backward` behind it
+pub record Numbering : Type 0 where
+  pub greatest : Option ℕ
+  pub suspect : Option ℕ
+  pub forward : ℕ
+  pub backward : ℕ
+
+-- no packet came yet
+abbrev pub no_numbers : ℕ → ℕ → Numbering
+no_numbers forward backward = record { greatest = None; suspect = None; forward = forward; backward = backward }
+
+-- with these windows, where they are in range
+abbrev pub numbering_within : ℕ → ℕ → Result Numbering WindowError
+numbering_within forward backward =
+    if nat_lt 0 forward && nat_le forward 32768 then (if nat_lt backward forward then Ok (no_numbers forward backward) else Err errors.Backward) else Err errors.Forward
+
+-- at least 65536
+abbrev pub IsFar : Option ℕ → Type 0
+IsFar None = Unit {0}
+IsFar (Some g) = 65536 ≤ g
+
+-- what every numbering keeps: the windows do not meet, and numbers are far from 0
+pub record IsNumbering (s : Numbering) : Type 0 where
+  pub some : 0 < s.forward
+  pub apart : s.forward + s.backward ≤ 65536
+  pub order : s.backward < s.forward
+  pub far : IsFar s.greatest
+
+-- how far the next number with the low bits n is ahead of g, and the latest behind it
+abbrev pub ahead : ℕ → ℕ → ℕ
+ahead g n = (n + 65536 - g % 65536) % 65536
+
+abbrev pub behind : ℕ → ℕ → ℕ
+behind g n = (g + 65536 - n) % 65536
+
+-- n comes right after the one that is suspect
+abbrev pub follows_suspect : Option ℕ → ℕ → Bool
+follows_suspect None n = false
+follows_suspect (Some m) n = (m + 1) % 65536 == n
+
+-- an answer with that number, where 64 bits hold it
+abbrev pub fitting : (ℕ → Extended) → ℕ → Extended
+fitting kind x = if nat_lt x (2 ^ 64) then kind x else extended.Spent
+
+-- where the sender has restarted: above all numbers so far, at the next multiple of 65536
+abbrev pub anew : ℕ → ℕ → ℕ
+anew g n = (g / 65536 + 1) * 65536 + n
+
+-- what a packet gets, where g is the greatest number so far: the nearest with these low bits, where that is within the
+-- windows; else it is suspect, unless it comes right after one that is
+abbrev pub answer_near : Numbering → ℕ → ℕ → Extended
+answer_near s g n =
+    if nat_lt (ahead g n) s.forward then fitting extended.Number (g + ahead g n)
+    else (if nat_le (behind g n) s.backward then extended.Number (g - behind g n)
+    else (if follows_suspect s.suspect n then fitting extended.Restarted (anew g n) else extended.Suspect))
+
+abbrev pub answer_by : Numbering → Option ℕ → ℕ → Extended
+answer_by s None n = extended.Number (65536 + n)
+answer_by s (Some g) n = answer_near s g n
+
+-- what the next packet gets
+abbrev pub answer_for : Numbering → ℕ → Extended
+answer_for s n = answer_by s s.greatest n
+
+-- what the first packet of a sender that is known to have restarted gets: above all numbers so far
+abbrev pub answer_above : Option ℕ → ℕ → Extended
+answer_above None n = extended.Number (65536 + n)
+answer_above (Some g) n = fitting extended.Restarted (anew g n)
+
+abbrev pub answer_anew : Numbering → ℕ → Extended
+answer_anew s n = answer_above s.greatest n
+
+-- where no restart is looked for, what would be one is suspect
+abbrev pub without_restart : Extended → Extended
+without_restart (extended.Number x) = extended.Number x
+without_restart (extended.Restarted x) = extended.Suspect
+without_restart extended.Suspect = extended.Suspect
+without_restart extended.Spent = extended.Spent
+
+-- the number, if it is within the windows
+abbrev pub number_within : Extended → Option ℕ
+number_within (extended.Number x) = Some x
+number_within (extended.Restarted x) = None
+number_within extended.Suspect = None
+number_within extended.Spent = None
+
+-- the least number so far; a restart begins anew
+abbrev pub lesser : Option ℕ → ℕ → ℕ
+lesser None x = x
+lesser (Some l) x = min l x
+
+abbrev pub lowest_with : Option ℕ → Extended → Option ℕ
+lowest_with l (extended.Number x) = Some (lesser l x)
+lowest_with l (extended.Restarted x) = Some x
+lowest_with l extended.Suspect = l
+lowest_with l extended.Spent = l
+
+-- the number, if there is one
+abbrev pub number_in : Extended → Option ℕ
+number_in (extended.Number x) = Some x
+number_in (extended.Restarted x) = Some x
+number_in extended.Suspect = None
+number_in extended.Spent = None
+
+abbrev pub number_for : Numbering → ℕ → Option ℕ
+number_for s n = number_in (answer_for s n)
+
+abbrev pub greater : Option ℕ → ℕ → ℕ
+greater None x = x
+greater (Some g) x = max g x
+
+-- what is known then
+abbrev pub numbering_with : Numbering → Extended → ℕ → Numbering
+numbering_with s (extended.Number x) n = record s { greatest = Some (greater s.greatest x); suspect = None }
+numbering_with s (extended.Restarted x) n = record s { greatest = Some (greater s.greatest x); suspect = None }
+numbering_with s extended.Suspect n = record s { suspect = Some n }
+numbering_with s extended.Spent n = s
+
+abbrev pub numbering_after : Numbering → ℕ → Numbering
+numbering_after s n = numbering_with s (answer_for s n) n
+
+-- Runs
+
+-- the numbers of packets, one after another
+abbrev pub numbers_for : Numbering → List ℕ → List (Option ℕ)
+numbers_for s [] = []
+numbers_for s (n ∷ ns) = number_for s n ∷ numbers_for (numbering_after s n) ns
+
+-- the sender has restarted
+abbrev pub is_restart : Extended → Bool
+is_restart (extended.Number x) = false
+is_restart (extended.Restarted x) = true
+is_restart extended.Suspect = false
+is_restart extended.Spent = false
+
+-- of none of these packets a restart is told
+abbrev pub GoOn : Numbering → List ℕ → Type 0
+GoOn s [] = Unit {0}
+GoOn s (n ∷ ns) = (is_restart (answer_for s n) ≡ false) × GoOn (numbering_after s n) ns
+
+-- each true number is within the windows of the greatest true number before it, and 64 bits hold what it becomes
+abbrev pub StayNear : ℕ → ℕ → ℕ → List ℕ → Type 0
+StayNear forward backward g [] = Unit {0}
+StayNear forward backward g (t ∷ ts) = (t < g + forward) × (g ≤ t + backward) × (t + 65536 < 2 ^ 64) × StayNear forward backward (max g t) ts
+
+-- the low bits that a packet carries
+abbrev pub low_bits : ℕ → ℕ
+low_bits t = t % 65536
+
+-- a true number without the rounds before the first one, and with one round more
+abbrev pub moved : ℕ → ℕ → Option ℕ
+moved first t = Some (t + 65536 - 65536 * (first / 65536))
+
+-- of a sender that does not restart, whatever is lost, repeated or comes in another order, each packet gets its true
+-- number plus one constant
+abbrev pub AreTrueNumbers : Type 0
+AreTrueNumbers =
+    (forward backward : ℕ) → IsNumbering (no_numbers forward backward) → (first : ℕ) (ts : List ℕ) → first + 65536 < 2 ^ 64 → StayNear forward backward first ts
+    → numbers_for (no_numbers forward backward) (map low_bits (first ∷ ts)) ≡ map (moved first) (first ∷ ts)
+
+-- and no restart is told
+abbrev pub NoneRestarts : Type 0
+NoneRestarts =
+    (forward backward : ℕ) → IsNumbering (no_numbers forward backward) → (first : ℕ) (ts : List ℕ) → first + 65536 < 2 ^ 64 → StayNear forward backward first ts
+    → GoOn (no_numbers forward backward) (map low_bits (first ∷ ts))
+
+-- the second packet comes from before the first
+pub before-first : numbers_for (no_numbers 3000 1000) (0 ∷ 65535 ∷ 1 ∷ []) ≡ Some 65536 ∷ Some 65535 ∷ Some 65537 ∷ []
+before-first = refl
+
+-- the sender restarts
+pub starts-anew : numbers_for (no_numbers 3000 1000) (50000 ∷ 30000 ∷ 30001 ∷ 30002 ∷ []) ≡ Some 115536 ∷ None ∷ Some 161073 ∷ Some 161074 ∷ []
+starts-anew = refl
+
+-- a packet from elsewhere
+pub from-elsewhere : numbers_for (no_numbers 3000 1000) (50000 ∷ 30000 ∷ 50001 ∷ 30001 ∷ []) ≡ Some 115536 ∷ None ∷ Some 115537 ∷ None ∷ []
+from-elsewhere = refl
+
+-- the suspicion lasts until a number within the windows, or another suspect, comes
+pub another-suspect : numbers_for (no_numbers 3000 1000) (50000 ∷ 30000 ∷ 10000 ∷ 30001 ∷ 30002 ∷ []) ≡ Some 115536 ∷ None ∷ None ∷ None ∷ Some 161074 ∷ []
+another-suspect = refl
+
+-- at the borders of the windows
+pub at-borders : numbers_for (no_numbers 3000 1000) (50000 ∷ 52999 ∷ 55999 ∷ 51999 ∷ 51998 ∷ []) ≡ Some 115536 ∷ Some 118535 ∷ None ∷ Some 117535 ∷ None ∷ []
+at-borders = refl
+
+-- Senders that restart
+
+-- every number that is given is above g
+abbrev pub AllGivenAbove : ℕ → List (Option ℕ) → Type 0
+AllGivenAbove g [] = Unit {0}
+AllGivenAbove g (None ∷ numbers) = AllGivenAbove g numbers
+AllGivenAbove g (Some x ∷ numbers) = (g < x) × AllGivenAbove g numbers
+
+-- the packet of number n is not within the windows of g, and comes right after one that is suspect
+pub record StartsAnew (s : Numbering) (g n : ℕ) : Type 0 where
+  pub greatest : s.greatest ≡ Some g
+  pub ahead : s.forward ≤ ahead g n
+  pub behind : s.backward < behind g n
+  pub follows : follows_suspect s.suspect n ≡ true
+  pub low : n < 65536
+  pub fits : anew g n < 2 ^ 64
+
+-- where the sender has restarted, each number that is given from then on is above each that was given before
+abbrev pub NeverMix : Type 0
+NeverMix = (s : Numbering) (g n : ℕ) (ns : List ℕ) → IsNumbering s → StartsAnew s g n → AllGivenAbove g (numbers_for s (n ∷ ns))
+
+-- 64 bits hold each number
+abbrev pub FitAnew : ℕ → ℕ → List ℕ → Type 0
+FitAnew up first [] = Unit {0}
+FitAnew up first (t ∷ ts) = (t + up < 2 ^ 64 + first) × FitAnew up first ts
+
+-- and they are the true numbers of the restarted sender, moved by one constant
+abbrev pub moved_by : ℕ → ℕ → ℕ → Option ℕ
+moved_by up first t = Some (t + up - first)
+
+abbrev pub AreTrueAnew : Type 0
+AreTrueAnew =
+    (s : Numbering) (g first : ℕ) (ts : List ℕ) → IsNumbering s → StartsAnew s g (first % 65536) → FitAnew (anew g (first % 65536)) first (first ∷ ts) → StayNear s.forward s.backward first ts
+    → numbers_for s (map low_bits (first ∷ ts)) ≡ map (moved_by (anew g (first % 65536)) first) (first ∷ ts)

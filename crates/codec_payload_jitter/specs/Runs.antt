@@ -1,0 +1,96 @@
+-- Pushes into a jitter buffer, as pushes into its buffer under true numbers.
+use Rattle.std.specs.Prelude.{◌≡◌, ℕ, ◌+◌, ◌<◌, ◌^◌, false, List, [], ◌∷◌, map, Option, Some, None, Result}
+use Rattle.codec_payload_buffer.specs.Depack.{Depack}
+use Rattle.codec_payload_buffer.specs.Held.{Held}
+use Rattle.codec_payload_base.specs.declared.error.PacketError.{PacketError}
+use Rattle.codec_payload_buffer.specs.Release.{Release}
+use Rattle.codec_payload_buffer.specs.Steps.{State, IsArrived, Pops}
+use Rattle.codec_payload_buffer.specs.Stretches.{after_pushes}
+use Rattle.codec_payload_jitter.specs.Numbers.{Numbering, numbering_after, IsNumbering, no_numbers, numbers_for, low_bits, moved, GoOn, StayNear}
+use Rattle.codec_payload_jitter.specs.Receiving.{Receiving, Arrival, Receives, meta_for, settled, waiting_at, PopsWith}
+use Rattle.codec_payload_jitter.specs.declared.outcome.Outcome.{Outcome}
+
+-- pushes, one after another, with what they tell
+abbrev pub ReceivesAll : List Arrival → Receiving → List Outcome → Receiving → Type 0
+ReceivesAll [] r outcomes t = (outcomes ≡ []) × (t ≡ r)
+ReceivesAll (a ∷ arrivals) r outcomes t =
+    (outcome : Outcome) × (later : List Outcome) × (mid : Receiving) × (outcomes ≡ outcome ∷ later) × Receives a r outcome mid × ReceivesAll arrivals mid later t
+
+-- the low bits that they carry
+abbrev pub low_numbers : List Arrival → List ℕ
+low_numbers arrivals = map (λ (a : Arrival). a.header.sequence_number) arrivals
+
+-- the packets that come to the buffer, under these numbers; one without a number does not
+abbrev pub ArriveAs : Depack → ℕ → List Arrival → List (Option ℕ) → List Held → Type 0
+ArriveAs depack rate [] numbers ps = ps ≡ []
+ArriveAs depack rate (a ∷ arrivals) [] ps = ⊥
+ArriveAs depack rate (a ∷ arrivals) (None ∷ numbers) ps = ArriveAs depack rate arrivals numbers ps
+ArriveAs depack rate (a ∷ arrivals) (Some n ∷ numbers) ps =
+    (p : Held) × (rest : List Held) × (ps ≡ p ∷ rest) × IsArrived depack (meta_for a.now rate a.header n) a.bytes p × ArriveAs depack rate arrivals numbers rest
+
+-- pushes into a jitter buffer that was told of no restart, of a sender that does not restart, are pushes into its buffer, under the numbers of the numbering
+abbrev pub AreStretches : Type 0
+AreStretches =
+    (arrivals : List Arrival) (r t : Receiving) (outcomes : List Outcome) → r.anew ≡ false → GoOn r.numbering (low_numbers arrivals)
+    → ReceivesAll arrivals r outcomes t
+    → (ps : List Held) × ArriveAs r.buffer.depack r.rate arrivals (numbers_for r.numbering (low_numbers arrivals)) ps × (t.buffer ≡ after_pushes r.buffer ps)
+
+-- and where its numbers stay near each other, under its true numbers, moved by one constant
+abbrev pub AreTrueStretches : Type 0
+AreTrueStretches =
+    (forward backward first : ℕ) (ts : List ℕ) (arrivals : List Arrival) (r t : Receiving) (outcomes : List Outcome)
+    → r.anew ≡ false → IsNumbering (no_numbers forward backward) → r.numbering ≡ no_numbers forward backward → first + 65536 < 2 ^ 64 → StayNear forward backward first ts
+    → low_numbers arrivals ≡ map low_bits (first ∷ ts) → ReceivesAll arrivals r outcomes t
+    → (ps : List Held) × ArriveAs r.buffer.depack r.rate arrivals (map (moved first) (first ∷ ts)) ps × (t.buffer ≡ after_pushes r.buffer ps)
+
+-- Runs: packets that come, and a pop, round by round
+
+-- packets that come, and the time of the pop after them
+pub record Round : Type 0 where
+  pub arrivals : List Arrival
+  pub pop_at : ℕ
+
+-- what a pop answers
+abbrev pub Answer : Type 0
+Answer = Option (Result Release PacketError)
+
+-- a jitter buffer does the rounds
+abbrev pub DoesRounds : List Round → Receiving → List Answer → Receiving → Type 0
+DoesRounds [] r answers t = (answers ≡ []) × (t ≡ r)
+DoesRounds (round ∷ rounds) r answers t =
+    (outcomes : List Outcome) × (mid : Receiving) × (answer : Answer) × (after : Receiving) × (later : List Answer) × (answers ≡ answer ∷ later)
+    × ReceivesAll round.arrivals r outcomes mid × PopsWith (waiting_at (settled mid) round.pop_at) (settled mid) answer after × DoesRounds rounds after later t
+
+-- the numbering after these low bits
+abbrev pub numbering_past : Numbering → List ℕ → Numbering
+numbering_past s [] = s
+numbering_past s (n ∷ ns) = numbering_past (numbering_after s n) ns
+
+-- the numbers of the packets of each round
+abbrev pub numbers_by_round : Numbering → List Round → List (List (Option ℕ))
+numbers_by_round s [] = []
+numbers_by_round s (round ∷ rounds) = numbers_for s (low_numbers round.arrivals) ∷ numbers_by_round (numbering_past s (low_numbers round.arrivals)) rounds
+
+-- and no restart is told in any of them
+abbrev pub GoOnByRound : Numbering → List Round → Type 0
+GoOnByRound s [] = Unit {0}
+GoOnByRound s (round ∷ rounds) = GoOn s (low_numbers round.arrivals) × GoOnByRound (numbering_past s (low_numbers round.arrivals)) rounds
+
+-- a pop with that `hold_back`, or none is made
+abbrev pub TurnWith : Option ℕ → State → Answer → State → Type 0
+TurnWith None s answer t = (answer ≡ None) × (t ≡ s)
+TurnWith (Some hold_back) s answer t = Pops (record s { hold_back = hold_back }) answer t
+
+-- the buffer does them: in each round a stretch of pushes under these numbers, and a pop
+abbrev pub IsChain : ℕ → List Round → List (List (Option ℕ)) → State → List Answer → State → Type 0
+IsChain rate [] numbers s answers t = (answers ≡ []) × (t ≡ s)
+IsChain rate (round ∷ rounds) [] s answers t = ⊥
+IsChain rate (round ∷ rounds) (numbers ∷ more) s answers t =
+    (ps : List Held) × (wait : Option ℕ) × (answer : Answer) × (after : State) × (later : List Answer) × (answers ≡ answer ∷ later)
+    × ArriveAs s.depack rate round.arrivals numbers ps × TurnWith wait (after_pushes s ps) answer after × IsChain rate rounds more after later t
+
+-- the rounds of a jitter buffer, of a sender that does not restart and without numbers that carry no media, are turns of its buffer, each pop with a `hold_back` of its own
+abbrev pub AreChains : Type 0
+AreChains =
+    (rounds : List Round) (r t : Receiving) (answers : List Answer) → r.anew ≡ false → r.blanks ≡ [] → GoOnByRound r.numbering rounds → DoesRounds rounds r answers t
+    → IsChain r.rate rounds (numbers_by_round r.numbering rounds) r.buffer answers t.buffer

@@ -1,0 +1,9 @@
+//! Packets of one sender on their way into a buffer: sequence numbers of 16 bits are extended, and what is missing is waited
+//! for by a clock. A user names `codec_payload_stream`, which re-exports it.
+#![tactic(auto)]
+
+pub mod blanks;
+pub mod jitter;
+pub mod missing;
+pub mod numbers;
+pub mod outcome;

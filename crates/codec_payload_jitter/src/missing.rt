@@ -1,0 +1,85 @@
+//! The numbers that are missing in a jitter buffer.
+
+ghost use Rattle.std.specs.Prelude.{◌≡◌, ◌∷◌, ◌+◌, ◌<◌, ◌≤◌, [], MatchOption};
+ghost use Rattle.codec_payload_jitter.specs.Missing.{absent_between, missing_numbers};
+
+use crate::jitter::JitterBuffer;
+use codec_payload_buffer::codec::{Depacketizer, NoBox};
+use std::marker::Model;
+
+/// The numbers that are missing, in rising order. No step takes memory; one looks at each number that is held between this
+/// answer and the one before. See [`JitterBuffer::missing`].
+#[derive(Debug, Drop)]
+pub struct MissingNumbers<'a, B = NoBox> {
+    packets: &'a JitterBuffer<B>,
+    /// The least number that was not looked at.
+    next: u64,
+    /// The greatest number that came.
+    end: u64,
+    /// How many are told at most.
+    left: usize,
+}
+
+impl<'a, B> Model for MissingNumbers<'a, B> {
+    ghost use Rattle.std.specs.Prelude.{List, ℕ, take};
+    ghost use Rattle.codec_payload_jitter.specs.Missing.{absent_between};
+
+    ghost Value = { List ℕ };
+
+    ghost view = { λ s. take s.left (absent_between s.packets.now s.next s.end) };
+}
+
+impl<'a, B: Depacketizer> MissingNumbers<'a, B> {
+    /// What is missing there, at most so many.
+    pub(crate) fn of(packets: &'a JitterBuffer<B>, most: usize) -> Self
+        ensures { result ≡ missing_numbers packets.now most }
+    {
+        let (next, end) = match (packets.floor(), packets.greatest()) {
+            (Some(floor), Some(greatest)) => (floor.saturating_add(1), greatest),
+            _ => (0, 0),
+        };
+        MissingNumbers {
+            packets,
+            next,
+            end,
+            left: most,
+        }
+    }
+}
+
+/// The first number from `from` on and below `to` that is missing.
+#[tactic(auto, using(crate::proofs::MissingLemmas::absent_here, crate::proofs::MissingLemmas::absent_later, crate::proofs::MissingLemmas::absent_none))]
+fn first_absent<B: Depacketizer>(packets: &JitterBuffer<B>, from: u64, to: u64) -> Option<u64>
+    ensures first { MatchOption result (absent_between packets.now from to ≡ []) (λ n. absent_between packets.now from to ≡ n ∷ absent_between packets.now (n + 1) to) }
+    ensures within { MatchOption result (from ≡ from) (λ n. n < to) }
+{
+    for number in from..to {
+        if packets.is_absent(number) {
+            return Some(number);
+        }
+    }
+    None
+}
+
+impl<'a, B: Depacketizer> Iterator for MissingNumbers<'a, B> {
+    ghost use Rattle.std.specs.Iterator.{YieldsFirst, item_count};
+
+    type Item = u64;
+
+    ghost next_gives = { YieldsFirst (λ numbers. numbers) };
+
+    ghost remaining = { item_count (λ numbers. numbers) };
+
+    fn next(&mut self) -> Option<u64> {
+        if self.left == 0 {
+            return None;
+        }
+        let Some(number) = first_absent(self.packets, self.next, self.end) else {
+            self.left = 0;
+            return None;
+        };
+        self.left -= 1;
+        self.next = number + 1;
+        Some(number)
+    }
+}
