@@ -1,7 +1,6 @@
 -- The numbers that are missing, one after another.
-use Rattle.std.proofs.Common.{◌≡◌, ◌∙◌, refl, ap, ℕ, ◌+◌, ◌-◌, ◌<◌, ◌≤◌, List, [], ◌∷◌, Bool, true, false, suc, cond, arith}
-use Rattle.std.specs.List.{filter}
-use Rattle.codec_payload_jitter.specs.Missing.{is_absent, numbers_from, numbers_between, absent_between}
+use Rattle.std.proofs.Common.{◌≡◌, refl, ℕ, ◌+◌, ◌-◌, ◌<◌, ◌≤◌, [], ◌∷◌, Bool, true, false, suc, cond, arith}
+use Rattle.codec_payload_jitter.specs.Missing.{is_absent, numbers_between, absent_between}
 use Rattle.codec_payload_jitter.specs.Receiving.{Receiving}
 
 numbers_step : (low high : ℕ) → low < high → numbers_between low high ≡ low ∷ numbers_between (low + 1) high

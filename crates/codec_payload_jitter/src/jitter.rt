@@ -16,12 +16,8 @@ ghost use Rattle.codec_payload_jitter.specs.Runs.{AreChains, AreStretches, AreTr
 
 use crate::blanks::{is_late, is_noted, note_blank, pass_blanks};
 use crate::missing::MissingNumbers;
-use crate::numbers::{
-    Extended, SequenceNumbers, lowest_with, number_within, without_restart,
-};
-use crate::outcome::{
-    packets_in, units_in, with_again, with_kept, with_outcome, with_pop,
-};
+use crate::numbers::{Extended, SequenceNumbers, lowest_with, number_within, without_restart};
+use crate::outcome::{packets_in, units_in, with_again, with_kept, with_outcome, with_pop};
 pub use crate::outcome::{Outcome, PacketCounters};
 use codec_payload_base::error::PacketError;
 use codec_payload_base::wire::{Frequency, MediaTime, RtpHeader, SeqNo, Ticks};

@@ -4,9 +4,9 @@ use Rattle.codec_payload_base.specs.declared.wire.Ticks.{Ticks}
 use Rattle.codec_payload_rtp.specs.declared.values.ExtensionIds.{ExtensionIds}
 use Rattle.codec_payload_jitter.specs.Receiving.{Receiving, Arrival, Confirms, ReceivesAs, NotesAs, counted_again, next}
 use Rattle.codec_payload_stream.specs.Sessions.{Session, Datagram, RtcpPacket, Malformed, OfOthers, WithoutMedia, WithMedia, TakesDatagram, AnswersFor, Heard, IsSorted, arrived_with, ssrc_after}
-use Rattle.codec_payload_jitter.specs.declared.jitter.Outcome.{Outcome}
-use Rattle.codec_payload_jitter.specs.declared.jitter.Outcome.TheVariants as outcomes
-use Rattle.codec_payload_jitter.specs.declared.jitter.PacketCounters.{PacketCounters}
+use Rattle.codec_payload_jitter.specs.declared.outcome.Outcome.{Outcome}
+use Rattle.codec_payload_jitter.specs.declared.outcome.Outcome.TheVariants as outcomes
+use Rattle.codec_payload_jitter.specs.declared.outcome.PacketCounters.{PacketCounters}
 use Rattle.codec_payload_jitter.specs.declared.numbers.Extended.{Extended}
 use Rattle.codec_payload_jitter.specs.declared.numbers.Extended.TheVariants as extended
 use Rattle.codec_payload_stream.specs.declared.receiver.Arrived.{Arrived}

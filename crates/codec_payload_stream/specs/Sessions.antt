@@ -17,8 +17,8 @@ use Rattle.codec_payload_jitter.specs.declared.numbers.WindowError.TheVariants a
 use Rattle.codec_payload_stream.specs.declared.receiver.Settings.{Settings}
 use Rattle.codec_payload_stream.specs.declared.receiver.SettingsError.{SettingsError}
 use Rattle.codec_payload_stream.specs.declared.receiver.SettingsError.TheVariants as settings
-use Rattle.codec_payload_jitter.specs.declared.jitter.Outcome.{Outcome}
-use Rattle.codec_payload_jitter.specs.declared.jitter.Outcome.TheVariants as outcomes
+use Rattle.codec_payload_jitter.specs.declared.outcome.Outcome.{Outcome}
+use Rattle.codec_payload_jitter.specs.declared.outcome.Outcome.TheVariants as outcomes
 use Rattle.codec_payload_stream.specs.declared.receiver.Arrived.{Arrived}
 use Rattle.codec_payload_stream.specs.declared.receiver.Counters.{Counters}
 use Rattle.codec_payload_stream.specs.declared.receiver.Datagram.{Datagram as LentDatagram}

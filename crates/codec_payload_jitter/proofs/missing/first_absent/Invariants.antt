@@ -1,4 +1,4 @@
-use Rattle.std.proofs.Common.{◌≡◌, ◌≤◌}
+use Rattle.std.proofs.Common.{◌≡◌}
 use Rattle.codec_payload_jitter.specs.Missing.{absent_between}
 use Rattle.codec_payload_jitter.proofs.missing.first_absent.Given as goal
 
