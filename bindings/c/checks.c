@@ -1,4 +1,5 @@
 /* What each call answers: statuses, what waits, and what is told. Expected bytes are written out by the RFCs named. */
+#include "any.h"
 #include "codec_payload.h"
 
 #include <stdio.h>
@@ -17,16 +18,6 @@ static void check_at(bool holds, const char *what, int line) {
 #define CHECK(holds) check_at((holds), #holds, __LINE__)
 
 static bool same(const uint8_t *found, const char *wanted, size_t size) { return memcmp(found, wanted, size) == 0; }
-
-/* Memory of any kind, since a struct of one kind may reach a call of another behind a cast. */
-typedef union {
-    cpay_packetizer packetizer;
-    cpay_buffer buffer;
-    cpay_depacketizer depacketizer;
-    cpay_red_sender red_sender;
-} any;
-
-#define ANY_INIT { CPAY_INIT }
 
 static cpay_spec spec_of(uint32_t codec, uint32_t rate) {
     cpay_spec spec = {.codec = codec, .rate = rate};

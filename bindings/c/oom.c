@@ -3,6 +3,7 @@
  * one session, of each kind, again and again, and each time one allocation more gets its memory: the next one is
  * refused. The call that asked for it answers 17 and nothing else, is made once more, and the session then ends as it does
  * with all memory, and has given all of it back. Linked with -Wl,--wrap=malloc,--wrap=realloc,--wrap=free. */
+#include "any.h"
 #include "codec_payload.h"
 
 #include <stdio.h>
@@ -41,16 +42,6 @@ void __wrap_free(void *at) {
     if (at) kept--;
     __real_free(at);
 }
-
-/* Memory of any kind, since a struct of one kind may reach a call of another behind a cast. */
-typedef union {
-    cpay_packetizer packetizer;
-    cpay_buffer buffer;
-    cpay_depacketizer depacketizer;
-    cpay_red_sender red_sender;
-} any;
-
-#define ANY_INIT { CPAY_INIT }
 
 /* The status of a call; where it is 17, that of the same call once more. */
 #define AGAIN(status, call) \

@@ -1,0 +1,16 @@
+/* For tests: memory of any kind, since a struct of one kind may reach a call of another behind a cast. */
+#ifndef ANY_H
+#define ANY_H
+
+#include "codec_payload.h"
+
+typedef union {
+    cpay_packetizer packetizer;
+    cpay_buffer buffer;
+    cpay_depacketizer depacketizer;
+    cpay_red_sender red_sender;
+} any;
+
+#define ANY_INIT { CPAY_INIT }
+
+#endif
