@@ -1,6 +1,6 @@
 //! The numbers that are missing in a jitter buffer.
 
-ghost use Rattle.std.specs.Prelude.{◌≡◌, ◌∷◌, ◌+◌, ◌<◌, ◌≤◌, [], MatchOption};
+ghost use Rattle.std.specs.Prelude.{◌≡◌, ◌∷◌, ◌+◌, ◌<◌, ◌≤◌, [], IfSome, MatchOption};
 ghost use Rattle.codec_payload_jitter.specs.Missing.{absent_between, missing_numbers};
 
 use crate::jitter::JitterBuffer;
@@ -51,7 +51,7 @@ impl<'a, B: Depacketizer> MissingNumbers<'a, B> {
 #[tactic(auto, using(crate::proofs::MissingLemmas::absent_here, crate::proofs::MissingLemmas::absent_later, crate::proofs::MissingLemmas::absent_none))]
 fn first_absent<B: Depacketizer>(packets: &JitterBuffer<B>, from: u64, to: u64) -> Option<u64>
     ensures first { MatchOption result (absent_between packets.now from to ≡ []) (λ n. absent_between packets.now from to ≡ n ∷ absent_between packets.now (n + 1) to) }
-    ensures within { MatchOption result (from ≡ from) (λ n. n < to) }
+    ensures within { IfSome result (λ n. n < to) }
 {
     for number in from..to {
         if packets.is_absent(number) {
