@@ -118,7 +118,14 @@ typedef enum {
     CPAY_FRAME_TOO_SHORT = 38, /**< a frame ends before what its format says */
     CPAY_FRAME_MARKER = 39,    /**< a marker, a sync code or a start code of a frame is another than the standard's */
     CPAY_FRAME_RESERVED = 40,  /**< a field of a frame has a value that the standard reserves or forbids */
-    CPAY_FRAME_SIZES = 41      /**< a size in a frame does not fit to the bytes that are there */
+    CPAY_FRAME_SIZES = 41,     /**< a size in a frame does not fit to the bytes that are there */
+    CPAY_RTP_HEADER_TOO_SHORT = 42, /**< of 42 to 48, why a datagram is no RTP packet: it has fewer than 12 bytes */
+    CPAY_RTP_VERSION = 43,          /**< its version is another than 2 */
+    CPAY_RTP_CSRCS_TOO_SHORT = 44,  /**< it ends inside the contributing sources */
+    CPAY_RTP_EXTENSION_HEADER_TOO_SHORT = 45, /**< it ends inside the four bytes that announce its header extension */
+    CPAY_RTP_EXTENSION_TOO_SHORT = 46,        /**< it ends inside its header extension */
+    CPAY_RTP_PADDING_OF_ZERO = 47,            /**< it is padded by 0 bytes */
+    CPAY_RTP_PADDING_TOO_LONG = 48            /**< there is more padding than bytes are left behind the header */
 } cpay_status;
 
 /** Codecs. */
@@ -166,6 +173,14 @@ typedef struct {
     cpay_handle handle;
 } cpay_red_sender;
 
+typedef struct {
+    cpay_handle handle;
+} cpay_sender;
+
+typedef struct {
+    cpay_handle handle;
+} cpay_receiver;
+
 #define CPAY_INIT { { false, { NULL } } }
 
 /** Empties it, and gives back what it held. NULL and an empty one are let be. */
@@ -173,6 +188,8 @@ void cpay_packetizer_free(cpay_packetizer *packetizer);
 void cpay_buffer_free(cpay_buffer *buffer);
 void cpay_depacketizer_free(cpay_depacketizer *depacketizer);
 void cpay_red_sender_free(cpay_red_sender *sender);
+void cpay_sender_free(cpay_sender *sender);
+void cpay_receiver_free(cpay_receiver *receiver);
 
 /** A codec with its settings. What the codec does not have is not looked at, but `rate`, always, and `first_id`, by
  * cpay_packetizer_new of every codec. A buffer and a depacketizer do not look at `first_id`. */
@@ -295,6 +312,148 @@ CPAY_CHECKED cpay_status cpay_buffer_set_hold_back(cpay_buffer *buffer, size_t h
 /** The packet of that number came and carries no media, as one of padding alone: where all before it have left, it is not
  * waited for, and else nothing happens. */
 CPAY_CHECKED cpay_status cpay_buffer_pass_number(cpay_buffer *buffer, uint64_t number);
+
+/* ---- Datagrams: RTP packets (RFC 3550, section 5.1) ---- */
+
+/** Whether a datagram on a port for both is RTCP, by its second byte: 192 to 223 (RFC 5761, section 4). */
+bool cpay_is_rtcp(const uint8_t *datagram, size_t datagram_len);
+
+/** An RTP packet, by places in the bytes of the datagram. */
+typedef struct {
+    size_t extension_at;  /**< where the bytes of the header extension begin, behind its profile and its length */
+    size_t extension_len; /**< how many there are: a multiple of 4 */
+    size_t payload_at;    /**< where the payload begins */
+    size_t payload_len;   /**< how many bytes it has, without padding */
+    uint32_t timestamp;
+    uint32_t ssrc;
+    uint16_t sequence_number;
+    uint16_t extension_profile; /**< 0xBEDE, or 0x1000 to 0x100F: elements by RFC 8285, in its form of one or of two bytes */
+    uint8_t payload_type;       /**< 0 to 127 */
+    uint8_t csrc_count;         /**< 0 to 15 contributing sources, of four bytes each, from byte 12 */
+    uint8_t padding;            /**< how many bytes of padding stand behind the payload */
+    bool marker;
+    bool has_extension;
+} cpay_rtp_info;
+
+/** Reads a datagram as an RTP packet. CPAY_RTP_HEADER_TOO_SHORT to CPAY_RTP_PADDING_TOO_LONG where it is none: the first fault
+ * from left to right. Takes no memory. */
+CPAY_CHECKED cpay_status cpay_rtp_read(const uint8_t *datagram, size_t datagram_len, cpay_rtp_info *packet);
+
+/* ---- A sender: frames go in, the datagrams of one stream come out ---- */
+
+typedef struct {
+    cpay_spec spec;
+    size_t mtu;            /**< the most bytes of a payload; the header of 12 bytes comes on top */
+    uint32_t ssrc;         /**< any number, chosen at random (RFC 3550, section 8) */
+    uint16_t first_number; /**< the sequence number of the first packet, at random too */
+    uint8_t payload_type;  /**< 0 to 127 */
+} cpay_sender_settings;
+
+/** A sender, in an empty struct. CPAY_INVALID where cpay_packetizer_new says so, and for a payload type above 127. [m] */
+CPAY_CHECKED cpay_status cpay_sender_new(cpay_sender *sender, const cpay_sender_settings *settings);
+
+/** Cuts a frame into packets, and tells how many datagrams it has: see cpay_packetize. They take the place of those of the
+ * frame before, and use its memory. `rtp_time` is in ticks of the RTP clock; its low 32 bits are sent. After a fault there are no
+ * datagrams, and the sequence number is as before. [m] */
+CPAY_CHECKED cpay_status cpay_sender_send(cpay_sender *sender, uint64_t rtp_time, bool starts_talk_spurt, const uint8_t *frame,
+                                          size_t frame_len, size_t *count);
+
+/** The datagram at a place, from 0, of the frame that was sent last. CPAY_NONE past the last. Each can be asked for again until
+ * the next frame is sent. */
+CPAY_CHECKED cpay_status cpay_sender_datagram(cpay_sender *sender, size_t place, uint8_t *bytes, size_t bytes_len, size_t *size);
+
+/** What sender reports tell (RFC 3550, section 6.4.1). */
+typedef struct {
+    uint32_t packets;     /**< how many packets were sent, modulo 2^32 */
+    uint32_t octets;      /**< how many bytes of payload, modulo 2^32 */
+    uint32_t rtp_time;    /**< of the frame that was sent last */
+    uint16_t next_number; /**< the sequence number of the next packet */
+    bool has_rtp_time;    /**< a frame was sent */
+} cpay_sender_counts_info;
+
+CPAY_CHECKED cpay_status cpay_sender_counts(cpay_sender *sender, cpay_sender_counts_info *counts);
+
+/* ---- A receiver: datagrams of a socket go in, whole units of one stream come out in order ---- */
+
+/** Begin with CPAY_RECEIVER_SETTINGS, and set at least `spec` and `payload_type`. */
+typedef struct {
+    cpay_spec spec;
+    size_t hold_back;     /**< a complete frame behind a gap waits until more complete frames than that are held */
+    size_t start;         /**< the first frame waits until more complete frames than that are held */
+    size_t limit;         /**< how many packets are held at most, 1 to 65536 */
+    uint64_t max_wait;    /**< with has_max_wait: how long a complete frame waits at most, in ticks of the caller's clock */
+    uint32_t ssrc;        /**< with has_ssrc: the SSRC of the stream; else it is that of the first packet */
+    uint16_t forward;     /**< how far ahead of the greatest number a packet may be: less than this, 1 to 32768 */
+    uint16_t backward;    /**< how far behind it: at most this, and less than `forward` */
+    uint8_t payload_type; /**< 0 to 127 */
+    bool has_max_wait;
+    bool has_ssrc;
+} cpay_receiver_settings;
+
+/** No codec yet; 30 frames held back, 4096 packets held, and the windows of RFC 3550, appendix A.1, with 1000 behind. */
+#define CPAY_RECEIVER_SETTINGS { { 0, 0, 0, false, false, false }, 30, 0, 4096, 0, 0, 3000, 1000, 0, false, false }
+
+/** A receiver, in an empty struct. `no_media` are payload types that come under the stream's SSRC and numbers and carry no media
+ * of it: telephone events beside audio, comfort noise, forward error correction. CPAY_INVALID for a codec that is not there, a
+ * rate of 0, and a payload type, limit or window out of range. [m] */
+CPAY_CHECKED cpay_status cpay_receiver_new(cpay_receiver *receiver, const cpay_receiver_settings *settings,
+                                           const uint8_t *no_media, size_t no_media_len);
+
+/** What became of a datagram. */
+enum {
+    CPAY_HELD = 0,             /**< it is held */
+    CPAY_HELD_AND_EVICTED = 1, /**< there was no room: the lowest packet was evicted, which can be this one */
+    CPAY_DUPLICATE = 2,        /**< a packet of its number is held already; it was dropped */
+    CPAY_LATE = 3,             /**< all up to its number is done; it was dropped */
+    CPAY_SUSPECT = 4,          /**< its number is far from all others; it is kept until the next packet comes */
+    CPAY_RESTARTED = 5,        /**< the sender has restarted: it went in, and the suspect packet before it too */
+    CPAY_RESTARTED_ALONE = 6,  /**< the same, but the suspect packet had no media, or memory was wanting for it */
+    CPAY_NO_MEDIA = 7,         /**< padding alone, or a payload type without media; no frame waits for its number */
+    CPAY_OTHER_STREAM = 8,     /**< another SSRC or payload type */
+    CPAY_RTCP = 9              /**< RTCP on the same port */
+};
+
+/** Takes a datagram in, at that time in ticks of a clock of the caller's, and tells what became of it: CPAY_HELD and so on. Any
+ * bytes may be given. CPAY_RTP_HEADER_TOO_SHORT to CPAY_RTP_PADDING_TOO_LONG where they are no RTP packet: it is counted as
+ * malformed, and *outcome is not told. With CPAY_OUT_OF_MEMORY nothing has changed, and it can be given again. [m] */
+CPAY_CHECKED cpay_status cpay_receiver_receive(cpay_receiver *receiver, uint64_t now, const uint8_t *datagram,
+                                               size_t datagram_len, uint32_t *outcome);
+
+/** The next unit, if its turn has come at that time: see cpay_buffer_pop. [m] */
+CPAY_CHECKED cpay_status cpay_receiver_pop(cpay_receiver *receiver, uint64_t now, cpay_unit *unit, uint8_t *bytes,
+                                           size_t bytes_len);
+
+/** When a pop may give a unit without a datagram coming. CPAY_NONE where only a datagram can help. */
+CPAY_CHECKED cpay_status cpay_receiver_next_deadline(cpay_receiver *receiver, uint64_t *at);
+
+/** The stream has ended: from now on pops wait for nothing, and give all complete frames. Packets within the windows still go in;
+ * no restart is found any more. */
+CPAY_CHECKED cpay_status cpay_receiver_finish(cpay_receiver *receiver);
+
+/** How many datagrams came to what, modulo 2^64: `received` is the sum of rtcp, malformed, other_streams, no_media, duplicates,
+ * late, suspect, evicted, held, released and left. */
+typedef struct {
+    uint64_t received;
+    uint64_t rtcp;
+    uint64_t malformed; /**< neither RTCP nor RTP */
+    uint64_t other_streams;
+    uint64_t no_media;
+    uint64_t duplicates;
+    uint64_t late;
+    uint64_t suspect;
+    uint64_t evicted;
+    uint64_t released; /**< packets that went out in a unit */
+    uint64_t left;     /**< packets that left with a frame, and not in a unit: it was never complete, passed over, or refused */
+    uint64_t restarts; /**< how many times the sender has restarted */
+    uint64_t retransmitted;
+    uint64_t units;
+    size_t held;   /**< how many packets are held */
+    uint32_t ssrc; /**< with has_ssrc: the SSRC of the stream */
+    bool has_ssrc;
+    bool waiting; /**< a unit waits for enough of the caller's bytes; its packets are in `released` */
+} cpay_receiver_counts_info;
+
+CPAY_CHECKED cpay_status cpay_receiver_counts(cpay_receiver *receiver, cpay_receiver_counts_info *counts);
 
 /* ---- A depacketizer alone, for callers that order packets themselves ---- */
 
@@ -503,6 +662,13 @@ static inline const char *cpay_status_text(cpay_status status) {
     case CPAY_FRAME_MARKER: return "the frame has a wrong marker";
     case CPAY_FRAME_RESERVED: return "the frame has a reserved value";
     case CPAY_FRAME_SIZES: return "the frame has sizes that do not fit";
+    case CPAY_RTP_HEADER_TOO_SHORT: return "the RTP packet is shorter than its fixed header";
+    case CPAY_RTP_VERSION: return "the RTP version is not 2";
+    case CPAY_RTP_CSRCS_TOO_SHORT: return "the RTP packet ends inside its CSRCs";
+    case CPAY_RTP_EXTENSION_HEADER_TOO_SHORT: return "the RTP packet ends inside the header of its extension";
+    case CPAY_RTP_EXTENSION_TOO_SHORT: return "the RTP packet ends inside its extension";
+    case CPAY_RTP_PADDING_OF_ZERO: return "the RTP padding has no bytes";
+    case CPAY_RTP_PADDING_TOO_LONG: return "the RTP padding is longer than what is left";
     default: return "unknown status";
     }
 }

@@ -13,12 +13,13 @@ import os
 import re
 import sys
 
+CRATES = ["codec_payload_c", "codec_payload_handle"]
 ROOT = os.path.dirname(os.path.dirname(os.path.realpath(__file__)))
 NUMBERS = {"u8": "uint8_t", "u16": "uint16_t", "u32": "uint32_t", "u64": "uint64_t", "usize": "size_t", "bool": "bool"}
 # The one pointer that stands in a struct, which C sees as one to nothing that it knows.
 FLAT = {"*mut u8": "void *"}
 # What a handle of the library is in the header, by what lives in it. Each has a call of its own to free it.
-KINDS = ["cpay_packetizer", "cpay_buffer", "cpay_depacketizer", "cpay_red_sender"]
+KINDS = ["cpay_packetizer", "cpay_buffer", "cpay_depacketizer", "cpay_red_sender", "cpay_sender", "cpay_receiver"]
 HANDLE = [("cpay_handle", "handle")]
 VERSION = "cpay_version"
 EXPORT = re.compile(
@@ -85,9 +86,9 @@ def c_params(name, rust):
 def rattle():
     """Functions and structs that cross, as C has them, by the library's sources."""
     functions, structs, consts = {}, {}, {}
-    folder = f"{ROOT}/crates/codec_payload_c/src"
-    for file in sorted(os.listdir(folder)):
-        text = re.sub(r"//[^\n]*", "", read(f"crates/codec_payload_c/src/{file}"))
+    sources = [f"crates/{crate}/src/{file}" for crate in CRATES for file in sorted(os.listdir(f"{ROOT}/crates/{crate}/src"))]
+    for source in sources:
+        text = re.sub(r"//[^\n]*", "", read(source))
         for found in EXPORT.finditer(text):
             params = [it.split(":", 1) for it in split(found[2])]
             flat = [one for name, kind in params for one in c_params(name.strip(), kind.strip())]
@@ -101,10 +102,10 @@ def rattle():
                 array = re.fullmatch(r"\[(\w+); (\d+)\]", kind.strip())
                 fields.append((c_type(array[1]), f"{name.strip()}[{array[2]}]") if array else (c_type(kind), name.strip()))
             structs[c_name(found[1])] = fields
-        if file == "status.rt":
+        if source.endswith("/status.rt"):
             for found in re.finditer(r"const (\w+): u32 = (\d+);", text):
                 consts[found[1]] = int(found[2])
-    codecs = dict(re.findall(r"(\d+) => Codec::(\w+),", read("crates/codec_payload_c/src/settings.rt")))
+    codecs = dict(re.findall(r"(\d+) => Codec::(\w+),", read("crates/codec_payload_handle/src/settings.rt")))
     return functions, structs, consts, {name.lower(): int(number) for number, name in codecs.items()}
 
 

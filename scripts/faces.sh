@@ -7,7 +7,7 @@
 #
 # The tests: the header and the Rust crate's declarations against the library; the header as C99 and C11 and, where there is a
 # C++ compiler, as C++11 and C++20; that the compiler tells one kind of struct from another, and a status that is not looked at;
-# what each call answers (bindings/c/checks.c); scripts of payload_vectors through the library, compared byte for byte with the
+# what each call answers (bindings/c/checks.c, datagrams.c); scripts of payload_vectors through the library, compared byte for byte with the
 # program (bindings/c/vectors.c, inputs.py); allocations less frees after each kind of use, and each allocation of a session
 # refused in turn (bindings/c/oom.c); all of these also with the address and undefined-behaviour sanitizers; the Rust crates:
 # their tests, packages, lints, and documents without the library; and the installed library (install_test.sh).
@@ -89,6 +89,8 @@ run_c() {
     [ "$(head -n 1 "$work/example-out")" = "packets 0 to 2: a frame of 3000 bytes" ] || fail "the example printed something else"
     compile checks "$@"
     "$work/checks" || fail "bindings/c/checks.c failed"
+    compile datagrams "$@"
+    "$work/datagrams" || fail "bindings/c/datagrams.c failed"
     compile vectors "$@"
     compare_scripts
     compile oom "$@" -Wl,--wrap=malloc,--wrap=realloc,--wrap=free

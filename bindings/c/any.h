@@ -9,6 +9,8 @@ typedef union {
     cpay_buffer buffer;
     cpay_depacketizer depacketizer;
     cpay_red_sender red_sender;
+    cpay_sender sender;
+    cpay_receiver receiver;
 } any;
 
 #define ANY_INIT { CPAY_INIT }

@@ -27,6 +27,14 @@ void cpay_red_sender_free(cpay_red_sender *sender) {
     if (sender) proved_cpay_free(&sender->handle);
 }
 
+void cpay_sender_free(cpay_sender *sender) {
+    if (sender) proved_cpay_free(&sender->handle);
+}
+
+void cpay_receiver_free(cpay_receiver *receiver) {
+    if (receiver) proved_cpay_free(&receiver->handle);
+}
+
 cpay_status proved_cpay_packetizer_new(cpay_handle *packetizer, const cpay_spec *spec);
 cpay_status cpay_packetizer_new(cpay_packetizer *packetizer, const cpay_spec *spec) {
     return proved_cpay_packetizer_new(&packetizer->handle, spec);
@@ -78,6 +86,81 @@ cpay_status cpay_buffer_set_hold_back(cpay_buffer *buffer, size_t hold_back) {
 cpay_status proved_cpay_buffer_pass_number(cpay_handle *buffer, uint64_t number);
 cpay_status cpay_buffer_pass_number(cpay_buffer *buffer, uint64_t number) {
     return proved_cpay_buffer_pass_number(&buffer->handle, number);
+}
+
+bool proved_cpay_is_rtcp(const uint8_t *datagram, size_t datagram_len);
+bool cpay_is_rtcp(const uint8_t *datagram, size_t datagram_len) {
+    if (!datagram && datagram_len) return false;
+    return proved_cpay_is_rtcp(datagram ? datagram : (const uint8_t *)nothing, datagram_len);
+}
+
+cpay_status proved_cpay_rtp_read(const uint8_t *datagram, size_t datagram_len, cpay_rtp_info *packet);
+cpay_status cpay_rtp_read(const uint8_t *datagram, size_t datagram_len, cpay_rtp_info *packet) {
+    if (!datagram && datagram_len) return CPAY_INVALID;
+    return proved_cpay_rtp_read(datagram ? datagram : (const uint8_t *)nothing, datagram_len, packet);
+}
+
+cpay_status proved_cpay_sender_new(cpay_handle *sender, const cpay_sender_settings *settings);
+cpay_status cpay_sender_new(cpay_sender *sender, const cpay_sender_settings *settings) {
+    return proved_cpay_sender_new(&sender->handle, settings);
+}
+
+cpay_status proved_cpay_sender_send(cpay_handle *sender, uint64_t rtp_time, bool starts_talk_spurt, const uint8_t *frame,
+                                    size_t frame_len, size_t *count);
+cpay_status cpay_sender_send(cpay_sender *sender, uint64_t rtp_time, bool starts_talk_spurt, const uint8_t *frame,
+                             size_t frame_len, size_t *count) {
+    if (!frame && frame_len) return CPAY_INVALID;
+    return proved_cpay_sender_send(&sender->handle, rtp_time, starts_talk_spurt, frame ? frame : (const uint8_t *)nothing,
+                                   frame_len, count);
+}
+
+cpay_status proved_cpay_sender_datagram(cpay_handle *sender, size_t place, uint8_t *bytes, size_t bytes_len, size_t *size);
+cpay_status cpay_sender_datagram(cpay_sender *sender, size_t place, uint8_t *bytes, size_t bytes_len, size_t *size) {
+    if (!bytes && bytes_len) return CPAY_INVALID;
+    return proved_cpay_sender_datagram(&sender->handle, place, bytes ? bytes : (uint8_t *)nothing, bytes_len, size);
+}
+
+cpay_status proved_cpay_sender_counts(cpay_handle *sender, cpay_sender_counts_info *counts);
+cpay_status cpay_sender_counts(cpay_sender *sender, cpay_sender_counts_info *counts) {
+    return proved_cpay_sender_counts(&sender->handle, counts);
+}
+
+cpay_status proved_cpay_receiver_new(cpay_handle *receiver, const cpay_receiver_settings *settings, const uint8_t *no_media,
+                                     size_t no_media_len);
+cpay_status cpay_receiver_new(cpay_receiver *receiver, const cpay_receiver_settings *settings, const uint8_t *no_media,
+                              size_t no_media_len) {
+    if (!no_media && no_media_len) return CPAY_INVALID;
+    return proved_cpay_receiver_new(&receiver->handle, settings, no_media ? no_media : (const uint8_t *)nothing, no_media_len);
+}
+
+cpay_status proved_cpay_receiver_receive(cpay_handle *receiver, uint64_t now, const uint8_t *datagram, size_t datagram_len,
+                                         uint32_t *outcome);
+cpay_status cpay_receiver_receive(cpay_receiver *receiver, uint64_t now, const uint8_t *datagram, size_t datagram_len,
+                                  uint32_t *outcome) {
+    if (!datagram && datagram_len) return CPAY_INVALID;
+    return proved_cpay_receiver_receive(&receiver->handle, now, datagram ? datagram : (const uint8_t *)nothing, datagram_len,
+                                        outcome);
+}
+
+cpay_status proved_cpay_receiver_pop(cpay_handle *receiver, uint64_t now, cpay_unit *unit, uint8_t *bytes, size_t bytes_len);
+cpay_status cpay_receiver_pop(cpay_receiver *receiver, uint64_t now, cpay_unit *unit, uint8_t *bytes, size_t bytes_len) {
+    if (!bytes && bytes_len) return CPAY_INVALID;
+    return proved_cpay_receiver_pop(&receiver->handle, now, unit, bytes ? bytes : (uint8_t *)nothing, bytes_len);
+}
+
+cpay_status proved_cpay_receiver_next_deadline(cpay_handle *receiver, uint64_t *at);
+cpay_status cpay_receiver_next_deadline(cpay_receiver *receiver, uint64_t *at) {
+    return proved_cpay_receiver_next_deadline(&receiver->handle, at);
+}
+
+cpay_status proved_cpay_receiver_finish(cpay_handle *receiver);
+cpay_status cpay_receiver_finish(cpay_receiver *receiver) {
+    return proved_cpay_receiver_finish(&receiver->handle);
+}
+
+cpay_status proved_cpay_receiver_counts(cpay_handle *receiver, cpay_receiver_counts_info *counts);
+cpay_status cpay_receiver_counts(cpay_receiver *receiver, cpay_receiver_counts_info *counts) {
+    return proved_cpay_receiver_counts(&receiver->handle, counts);
 }
 
 cpay_status proved_cpay_depacketizer_new(cpay_handle *depacketizer, const cpay_spec *spec);

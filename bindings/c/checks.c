@@ -1,23 +1,7 @@
 /* What each call answers: statuses, what waits, and what is told. Expected bytes are written out by the RFCs named. */
 #include "any.h"
+#include "check.h"
 #include "codec_payload.h"
-
-#include <stdio.h>
-#include <stdlib.h>
-#include <string.h>
-
-static int checks, failures;
-
-static void check_at(bool holds, const char *what, int line) {
-    checks++;
-    if (holds) return;
-    failures++;
-    printf("checks.c:%d: %s does not hold\n", line, what);
-}
-
-#define CHECK(holds) check_at((holds), #holds, __LINE__)
-
-static bool same(const uint8_t *found, const char *wanted, size_t size) { return memcmp(found, wanted, size) == 0; }
 
 static cpay_spec spec_of(uint32_t codec, uint32_t rate) {
     cpay_spec spec = {.codec = codec, .rate = rate};
@@ -86,7 +70,14 @@ static void texts(void) {
         {41, "the frame has sizes that do not fit"},
         {5, "unknown status"},
         {18, "unknown status"},
-        {42, "unknown status"},
+        {42, "the RTP packet is shorter than its fixed header"},
+        {43, "the RTP version is not 2"},
+        {44, "the RTP packet ends inside its CSRCs"},
+        {45, "the RTP packet ends inside the header of its extension"},
+        {46, "the RTP packet ends inside its extension"},
+        {47, "the RTP padding has no bytes"},
+        {48, "the RTP padding is longer than what is left"},
+        {49, "unknown status"},
     };
     for (size_t i = 0; i < sizeof rows / sizeof *rows; i++)
         CHECK(strcmp(cpay_status_text((cpay_status)rows[i].status), rows[i].text) == 0);
@@ -473,6 +464,5 @@ int main(void) {
     pieces();
     nulls();
     frames();
-    printf("%d checks, %d failed\n", checks, failures);
-    return failures ? EXIT_FAILURE : EXIT_SUCCESS;
+    return checked();
 }

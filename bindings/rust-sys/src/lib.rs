@@ -51,6 +51,18 @@ pub struct RedSender {
 }
 
 #[repr(C)]
+#[derive(Debug)]
+pub struct Sender {
+    pub handle: Handle,
+}
+
+#[repr(C)]
+#[derive(Debug)]
+pub struct Receiver {
+    pub handle: Handle,
+}
+
+#[repr(C)]
 #[derive(Clone, Copy, Debug, Default)]
 pub struct Spec {
     pub codec: u32,
@@ -214,6 +226,83 @@ pub struct Vp9FrameInfo {
     pub bytes: usize,
 }
 
+#[repr(C)]
+#[derive(Clone, Copy, Debug, Default)]
+pub struct RtpInfo {
+    pub extension_at: usize,
+    pub extension_len: usize,
+    pub payload_at: usize,
+    pub payload_len: usize,
+    pub timestamp: u32,
+    pub ssrc: u32,
+    pub sequence_number: u16,
+    pub extension_profile: u16,
+    pub payload_type: u8,
+    pub csrc_count: u8,
+    pub padding: u8,
+    pub marker: bool,
+    pub has_extension: bool,
+}
+
+#[repr(C)]
+#[derive(Clone, Copy, Debug, Default)]
+pub struct SenderSettings {
+    pub spec: Spec,
+    pub mtu: usize,
+    pub ssrc: u32,
+    pub first_number: u16,
+    pub payload_type: u8,
+}
+
+#[repr(C)]
+#[derive(Clone, Copy, Debug, Default)]
+pub struct SenderCountsInfo {
+    pub packets: u32,
+    pub octets: u32,
+    pub rtp_time: u32,
+    pub next_number: u16,
+    pub has_rtp_time: bool,
+}
+
+#[repr(C)]
+#[derive(Clone, Copy, Debug, Default)]
+pub struct ReceiverSettings {
+    pub spec: Spec,
+    pub hold_back: usize,
+    pub start: usize,
+    pub limit: usize,
+    pub max_wait: u64,
+    pub ssrc: u32,
+    pub forward: u16,
+    pub backward: u16,
+    pub payload_type: u8,
+    pub has_max_wait: bool,
+    pub has_ssrc: bool,
+}
+
+#[repr(C)]
+#[derive(Clone, Copy, Debug, Default)]
+pub struct ReceiverCountsInfo {
+    pub received: u64,
+    pub rtcp: u64,
+    pub malformed: u64,
+    pub other_streams: u64,
+    pub no_media: u64,
+    pub duplicates: u64,
+    pub late: u64,
+    pub suspect: u64,
+    pub evicted: u64,
+    pub released: u64,
+    pub left: u64,
+    pub restarts: u64,
+    pub retransmitted: u64,
+    pub units: u64,
+    pub held: usize,
+    pub ssrc: u32,
+    pub has_ssrc: bool,
+    pub waiting: bool,
+}
+
 unsafe extern "C" {
     pub fn cpay_buffer_new(
         buffer: *mut Buffer,
@@ -253,6 +342,8 @@ unsafe extern "C" {
     pub fn cpay_buffer_free(buffer: *mut Buffer);
     pub fn cpay_depacketizer_free(depacketizer: *mut Depacketizer);
     pub fn cpay_red_sender_free(sender: *mut RedSender);
+    pub fn cpay_sender_free(sender: *mut Sender);
+    pub fn cpay_receiver_free(receiver: *mut Receiver);
     pub fn cpay_version() -> u32;
     pub fn cpay_vp8_is_keyframe(payload: *const u8, payload_len: usize) -> bool;
     pub fn cpay_vp9_is_keyframe(payload: *const u8, payload_len: usize) -> bool;
@@ -401,4 +492,46 @@ unsafe extern "C" {
         bytes: *mut u8,
         bytes_len: usize,
     ) -> u32;
+    pub fn cpay_is_rtcp(datagram: *const u8, datagram_len: usize) -> bool;
+    pub fn cpay_rtp_read(datagram: *const u8, datagram_len: usize, packet: *mut RtpInfo) -> u32;
+    pub fn cpay_sender_new(sender: *mut Sender, settings: *const SenderSettings) -> u32;
+    pub fn cpay_sender_send(
+        sender: *mut Sender,
+        rtp_time: u64,
+        starts_talk_spurt: bool,
+        frame: *const u8,
+        frame_len: usize,
+        count: *mut usize,
+    ) -> u32;
+    pub fn cpay_sender_datagram(
+        sender: *mut Sender,
+        place: usize,
+        bytes: *mut u8,
+        bytes_len: usize,
+        size: *mut usize,
+    ) -> u32;
+    pub fn cpay_sender_counts(sender: *mut Sender, counts: *mut SenderCountsInfo) -> u32;
+    pub fn cpay_receiver_new(
+        receiver: *mut Receiver,
+        settings: *const ReceiverSettings,
+        no_media: *const u8,
+        no_media_len: usize,
+    ) -> u32;
+    pub fn cpay_receiver_receive(
+        receiver: *mut Receiver,
+        now: u64,
+        datagram: *const u8,
+        datagram_len: usize,
+        outcome: *mut u32,
+    ) -> u32;
+    pub fn cpay_receiver_pop(
+        receiver: *mut Receiver,
+        now: u64,
+        unit: *mut Unit,
+        bytes: *mut u8,
+        bytes_len: usize,
+    ) -> u32;
+    pub fn cpay_receiver_next_deadline(receiver: *mut Receiver, at: *mut u64) -> u32;
+    pub fn cpay_receiver_finish(receiver: *mut Receiver) -> u32;
+    pub fn cpay_receiver_counts(receiver: *mut Receiver, counts: *mut ReceiverCountsInfo) -> u32;
 }

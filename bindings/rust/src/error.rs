@@ -40,6 +40,20 @@ pub enum Error {
     FrameReserved,
     /// A size in a frame does not fit to the bytes that are there.
     FrameSizes,
+    /// A datagram has fewer than the 12 bytes of an RTP header.
+    RtpHeaderTooShort,
+    /// The version of an RTP packet is another than 2.
+    RtpVersion,
+    /// An RTP packet ends inside its contributing sources.
+    RtpCsrcsTooShort,
+    /// An RTP packet ends inside the four bytes that announce its header extension.
+    RtpExtensionHeaderTooShort,
+    /// An RTP packet ends inside its header extension.
+    RtpExtensionTooShort,
+    /// An RTP packet is padded by 0 bytes.
+    RtpPaddingOfZero,
+    /// An RTP packet has more padding than bytes are left behind its header.
+    RtpPaddingTooLong,
     /// A status that this crate does not know.
     Unknown(u32),
 }
@@ -67,6 +81,13 @@ impl Error {
             39 => Error::FrameMarker,
             40 => Error::FrameReserved,
             41 => Error::FrameSizes,
+            42 => Error::RtpHeaderTooShort,
+            43 => Error::RtpVersion,
+            44 => Error::RtpCsrcsTooShort,
+            45 => Error::RtpExtensionHeaderTooShort,
+            46 => Error::RtpExtensionTooShort,
+            47 => Error::RtpPaddingOfZero,
+            48 => Error::RtpPaddingTooLong,
             status => Error::Unknown(status),
         }
     }
@@ -113,6 +134,17 @@ impl fmt::Display for Error {
             Error::FrameMarker => f.write_str("the frame has a wrong marker"),
             Error::FrameReserved => f.write_str("the frame has a reserved value"),
             Error::FrameSizes => f.write_str("the frame has sizes that do not fit"),
+            Error::RtpHeaderTooShort => {
+                f.write_str("the RTP packet is shorter than its fixed header")
+            }
+            Error::RtpVersion => f.write_str("the RTP version is not 2"),
+            Error::RtpCsrcsTooShort => f.write_str("the RTP packet ends inside its CSRCs"),
+            Error::RtpExtensionHeaderTooShort => {
+                f.write_str("the RTP packet ends inside the header of its extension")
+            }
+            Error::RtpExtensionTooShort => f.write_str("the RTP packet ends inside its extension"),
+            Error::RtpPaddingOfZero => f.write_str("the RTP padding has no bytes"),
+            Error::RtpPaddingTooLong => f.write_str("the RTP padding is longer than what is left"),
             Error::Unknown(status) => write!(f, "unknown status {status}"),
         }
     }

@@ -29,6 +29,8 @@ kind!(Packetizer, cpay_packetizer_free);
 kind!(Buffer, cpay_buffer_free);
 kind!(Depacketizer, cpay_depacketizer_free);
 kind!(RedSender, cpay_red_sender_free);
+kind!(Sender, cpay_sender_free);
+kind!(Receiver, cpay_receiver_free);
 
 /// One such struct, never copied. A call uses it by `&mut`, so one call at a time.
 #[derive(Debug)]

@@ -2,7 +2,8 @@
 //!
 //! A [`Packetizer`] cuts frames into payloads that keep an MTU. A [`Buffer`] takes received packets in any order and gives
 //! whole units back, in order; it is an [`Iterator`] over those that are ready. [`red`] has RFC 2198, [`vp8`] descriptors of
-//! VP8 payloads, [`telephone`] reports on telephone events, [`media`] what frames say of themselves.
+//! VP8 payloads, [`telephone`] reports on telephone events, [`media`] what frames say of themselves. [`datagrams`] has what stands
+//! between a socket and these: RTP packets, a sender and a receiver.
 //!
 //! ```
 //! use codec_payload::{Buffer, Codec, Error, Packetizer, Received, Settings};
@@ -29,6 +30,7 @@
 //!
 //! Each of them may go to another thread, and is used by one at a time.
 
+pub mod datagrams;
 mod error;
 mod extra;
 mod handle;

@@ -4,7 +4,7 @@ use Rattle.std.proofs.lemmas.Bool.{le-leb, lt-leb}
 use Rattle.std.proofs.lemmas.List.{drop-drop}
 use Rattle.codec_payload_media.specs.Av1Records.{av1c_bytes, av1c_front}
 use Rattle.codec_payload_media.specs.declared.av1.sequence_header.Av1SequenceHeader.{Av1SequenceHeader}
-use Rattle.codec_payload_c.specs.Bytes.{filled}
+use Rattle.codec_payload_handle.specs.Bytes.{filled}
 use Rattle.codec_payload_c.specs.Media.{WritesRecord}
 
 module _ (h : Av1SequenceHeader) (obu bytes : List ℕ) where

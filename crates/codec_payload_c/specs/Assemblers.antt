@@ -4,19 +4,17 @@ use Rattle.codec_payload_core.specs.Depack.{Depack, DepackStep, depack_of}
 use Rattle.codec_payload_core.specs.Faults.{fault_number}
 use Rattle.codec_payload_core.specs.declared.error.PacketError.{PacketError}
 use Rattle.codec_payload_core.specs.declared.interface.CodecExtra.TheVariants as told
-use Rattle.codec_payload_c.specs.Bytes.{filled}
-use Rattle.codec_payload_c.specs.Extras.{extra_told}
-use Rattle.codec_payload_c.specs.declared.extra.Extra.{Extra}
-use Rattle.codec_payload_c.specs.declared.object.Assembler.{Assembler}
-use Rattle.codec_payload_c.specs.declared.object.Object.{Object}
-use Rattle.codec_payload_c.specs.declared.object.Object.TheVariants as objects
+use Rattle.codec_payload_handle.specs.Bytes.{filled}
+use Rattle.codec_payload_handle.specs.Extras.{extra_told}
+use Rattle.codec_payload_handle.specs.declared.extra.Extra.{Extra}
+use Rattle.codec_payload_handle.specs.declared.object.Assembler.{Assembler}
+use Rattle.codec_payload_handle.specs.declared.object.Object.{Object}
+use Rattle.codec_payload_handle.specs.declared.object.Object.TheVariants as objects
 
 -- one with that depacketizer, which has put nothing together
 abbrev pub IsAssemblerOf : Option Depack → Object → Type 0
-IsAssemblerOf depack (objects.Sender _) = ⊥
 IsAssemblerOf depack (objects.Assembler r) = (Some (depack_of r.depack) ≡ depack) × (r.bytes.items ≡ []) × (r.extra ≡ told.None)
-IsAssemblerOf depack (objects.Receiver _) = ⊥
-IsAssemblerOf depack (objects.RedSender _) = ⊥
+IsAssemblerOf depack _ = ⊥
 
 -- a payload is read as the depacketizer reads it
 pub record Unpacks (r : Assembler) (payload : List ℕ) (status : ℕ) (s : Assembler) : Type 0 where

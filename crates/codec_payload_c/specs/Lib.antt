@@ -1,14 +1,12 @@
 pub mod Assemblers
 pub mod Buffers
-pub mod Bytes
-pub mod Extras
-pub mod Kinds
 pub mod Looks
 pub mod Media
-pub mod Owned
 pub mod RedCoding
 pub mod Reds
+pub mod RtpFields
 pub mod Senders
-pub mod Settings
+pub mod StreamReceivers
+pub mod StreamSenders
 pub mod Tele
 pub mod Vp8

@@ -14,8 +14,8 @@ use Rattle.codec_payload_media.specs.declared.frame_info.FrameInfo.{FrameInfo}
 use Rattle.codec_payload_media.specs.declared.frame_info.PictureSize.{PictureSize}
 use Rattle.codec_payload_media.specs.declared.opus.OpusHead.{OpusHead}
 use Rattle.codec_payload_core.specs.Bits.{bits_of}
-use Rattle.codec_payload_c.specs.Bytes.{filled}
-use Rattle.codec_payload_c.specs.Extras.{or_zero}
+use Rattle.codec_payload_handle.specs.Bytes.{filled}
+use Rattle.codec_payload_handle.specs.Extras.{or_zero}
 use Rattle.codec_payload_c.specs.declared.media.AmrWbFrameInfo.{AmrWbFrameInfo}
 use Rattle.codec_payload_c.specs.declared.media.FrameFacts.{FrameFacts}
 use Rattle.codec_payload_c.specs.declared.media.ObuInfo.{ObuInfo}

@@ -4,7 +4,7 @@ use Rattle.codec_payload_core.specs.RedBlocks.{Block, blocks_in}
 use Rattle.codec_payload_core.specs.RedPayload.{Red, Redundant, encoded}
 use Rattle.codec_payload_core.specs.RedReading.{red_at}
 use Rattle.codec_payload_core.specs.RedRecovery.{Receiver, RecoveredPacket, recovered}
-use Rattle.codec_payload_c.specs.Bytes.{filled}
+use Rattle.codec_payload_handle.specs.Bytes.{filled}
 use Rattle.codec_payload_c.specs.declared.red_blocks.RecoveredInfo.{RecoveredInfo}
 use Rattle.codec_payload_c.specs.declared.red_blocks.RedBlockInfo.{RedBlockInfo}
 use Rattle.codec_payload_c.specs.declared.red_blocks.RedOlder.{RedOlder}

@@ -1,15 +1,13 @@
 -- What the calls on a RED sender do.
 use Rattle.std.specs.Prelude.{◌≡◌, ◌≢◌, ◌⊎◌, ℕ, ◌<◌, max, if◌then◌else◌, List, [], ◌++◌, drop, length}
 use Rattle.codec_payload_core.specs.RedLevels.{Sender, is_accepted, output, recorded, synced}
-use Rattle.codec_payload_c.specs.declared.object.Object.{Object}
-use Rattle.codec_payload_c.specs.declared.object.Object.TheVariants as objects
+use Rattle.codec_payload_handle.specs.declared.object.Object.{Object}
+use Rattle.codec_payload_handle.specs.declared.object.Object.TheVariants as objects
 
 -- one that has sent nothing
 abbrev pub IsRedSenderOf : ℕ → ℕ → List ℕ → Object → Type 0
-IsRedSenderOf red_pt primary_pt distances (objects.Sender _) = ⊥
-IsRedSenderOf red_pt primary_pt distances (objects.Assembler _) = ⊥
-IsRedSenderOf red_pt primary_pt distances (objects.Receiver _) = ⊥
 IsRedSenderOf red_pt primary_pt distances (objects.RedSender r) = r ≡ record { red_pt = red_pt; primary_pt = primary_pt; distances = distances; history = [] }
+IsRedSenderOf red_pt primary_pt distances _ = ⊥
 
 -- the new types and distances, where these are accepted; else nothing changed
 pub record Syncs (r : Sender) (red_pt primary_pt : ℕ) (distances : List ℕ) (status : ℕ) (s : Sender) : Type 0 where

@@ -3,10 +3,10 @@ use Rattle.std.specs.Prelude.{◌≡◌, ◌≢◌, ℕ, ◌+◌, ◌==◌, ◌&
 use Rattle.codec_payload_core.specs.Faults.{fault_number}
 use Rattle.codec_payload_core.specs.Pack.{Pack, PackStep, pack_of, is_built_in, marker_of, talkspurt_of, nackable_of}
 use Rattle.codec_payload_core.specs.declared.error.PacketError.{PacketError}
-use Rattle.codec_payload_c.specs.Bytes.{filled}
-use Rattle.codec_payload_c.specs.declared.object.Object.{Object}
-use Rattle.codec_payload_c.specs.declared.object.Object.TheVariants as objects
-use Rattle.codec_payload_c.specs.declared.object.Sender.{Sender}
+use Rattle.codec_payload_handle.specs.Bytes.{filled}
+use Rattle.codec_payload_handle.specs.declared.object.Object.{Object}
+use Rattle.codec_payload_handle.specs.declared.object.Object.TheVariants as objects
+use Rattle.codec_payload_handle.specs.declared.object.Sender.{Sender}
 use Rattle.codec_payload_c.specs.declared.packetizer.PacketInfo.{PacketInfo}
 
 -- the packets of the latest frame
@@ -16,9 +16,7 @@ packets_in r = map (λ p. p.items) r.packets.items
 -- a sender with that packetizer and no packets
 abbrev pub IsSenderOf : Option Pack → Object → Type 0
 IsSenderOf pack (objects.Sender s) = (Some (pack_of s.pack) ≡ pack) × (packets_in s ≡ []) × (s.taken ≡ 0)
-IsSenderOf pack (objects.Assembler _) = ⊥
-IsSenderOf pack (objects.Receiver _) = ⊥
-IsSenderOf pack (objects.RedSender _) = ⊥
+IsSenderOf pack _ = ⊥
 
 -- A frame is cut: its packets are there to take, from the first, and those of the frame before are given up. A fault leaves
 -- the packets as they were.

@@ -2,9 +2,9 @@
 use Rattle.std.specs.Prelude.{◌≡◌, ℕ, nat_le, nat_lt, if◌then◌else◌, Bool, true, false, List, Option, Some, None, length, slice_get}
 use Rattle.codec_payload_core.specs.TelephoneReport.{are_reports, bytes_of_report, reports_of}
 use Rattle.codec_payload_core.specs.declared.interface.TelephoneEvent.{TelephoneEvent}
-use Rattle.codec_payload_c.specs.Bytes.{filled}
-use Rattle.codec_payload_c.specs.Extras.{event_told}
-use Rattle.codec_payload_c.specs.declared.extra.TeleEvent.{TeleEvent}
+use Rattle.codec_payload_handle.specs.Bytes.{filled}
+use Rattle.codec_payload_handle.specs.Extras.{event_told}
+use Rattle.codec_payload_handle.specs.declared.extra.TeleEvent.{TeleEvent}
 
 -- the report, if there is one; else status 32
 abbrev pub GivesReport : Option TelephoneEvent → ℕ → TeleEvent → TeleEvent → Type 0

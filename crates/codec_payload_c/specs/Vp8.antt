@@ -8,7 +8,7 @@ use Rattle.codec_payload_core.specs.declared.vp8.Vp8DescriptorError.{Vp8Descript
 use Rattle.codec_payload_core.specs.declared.vp8.Vp8DescriptorError.TheVariants as unread
 use Rattle.codec_payload_core.specs.declared.vp8.Vp8PatchError.{Vp8PatchError}
 use Rattle.codec_payload_core.specs.declared.vp8.Vp8PatchError.TheVariants as unpatched
-use Rattle.codec_payload_c.specs.Extras.{or_zero}
+use Rattle.codec_payload_handle.specs.Extras.{or_zero}
 use Rattle.codec_payload_c.specs.Looks.{given_if}
 use Rattle.codec_payload_c.specs.declared.vp8.Vp8FieldsInfo.{Vp8FieldsInfo}
 

@@ -2,20 +2,20 @@
 
 ghost use Rattle.std.specs.Prelude.{◌≡◌, ◌≢◌, ◌&&◌, is_some, nat_le};
 ghost use Rattle.codec_payload_core.specs.Blanks.{passed_number};
-ghost use Rattle.codec_payload_c.specs.Buffers.{AnswersPop, AnswersPush, Counts, IsReceiverOf, IsToldBy, TellsUnit};
-ghost use Rattle.codec_payload_c.specs.Kinds.{Makes, OnReceiver, Refuses, is_receiver};
-ghost use Rattle.codec_payload_c.specs.Settings.{depack_set};
+ghost use Rattle.codec_payload_c.specs.Buffers.{AnswersPush, Counts, IsReceiverOf, IsToldBy, PopsUnit};
+ghost use Rattle.codec_payload_handle.specs.Kinds.{Makes, OnReceiver, Refuses, is_receiver};
+ghost use Rattle.codec_payload_handle.specs.Settings.{depack_set};
 
-use crate::bytes::fill;
-use crate::extra::{Extra, extra_of};
-use crate::handle::Handle;
-use crate::object::{Object, Receiver};
-use crate::settings::{Spec, depacketizer_of};
-use crate::status;
-use codec_payload_core::buffer::{Depacketized, DepacketizingBuffer, RtpMeta};
+use codec_payload_core::buffer::{DepacketizingBuffer, RtpMeta};
 use codec_payload_core::wire::{
     ExtensionValues, Frequency, MediaTime, Pt, RtpHeader, SeqNo, Ticks,
 };
+use codec_payload_handle::bytes::fill;
+use codec_payload_handle::handle::Handle;
+use codec_payload_handle::object::{Object, Receiver};
+use codec_payload_handle::settings::{Spec, depacketizer_of};
+use codec_payload_handle::status;
+use codec_payload_handle::unit::{Unit, unit_of};
 use std::alloc::Global;
 
 /// How many packets a buffer holds at most.
@@ -32,28 +32,6 @@ pub struct Received {
     /// In ticks of the RTP clock. The low 32 bits are those of the RTP header.
     pub rtp_time: u64,
     pub marker: bool,
-}
-
-/// What is known of a unit.
-#[repr(C)]
-#[derive(Drop)]
-pub struct Unit {
-    /// The number of its first packet.
-    pub first: u64,
-    /// The number of its last packet.
-    pub last: u64,
-    /// In ticks of the RTP clock, as it was pushed.
-    pub rtp_time: u64,
-    /// When the first of its packets was received, by the caller's clock.
-    pub received: u64,
-    /// How many bytes it has.
-    pub bytes: usize,
-    /// Whether it follows the unit before it.
-    pub contiguous: bool,
-    /// Whether its first packet has the marker, which audio sets where a talk spurt starts.
-    pub starts_talk_spurt: bool,
-    /// What its payloads told besides.
-    pub extra: Extra,
 }
 
 /// How much a buffer holds.
@@ -90,70 +68,51 @@ fn meta_of(packet: &Received, rate: Frequency) -> RtpMeta
     }
 }
 
-/// What is known of a unit, as C has it.
-fn unit_of(unit: &Depacketized) -> Unit
-    ensures { TellsUnit unit.now result }
+/// A packet goes in.
+fn push(receiver: &mut Receiver, alloc: Global, packet: &Received, payload: &[u8]) -> u32
+    ensures { AnswersPush receiver.old packet.now payload.now result receiver.new }
 {
-    let numbers = unit.seq_range();
-    Unit {
-        first: numbers.start().0,
-        last: numbers.end().0,
-        rtp_time: unit.time.numer(),
-        received: unit.first_network_time().0,
-        bytes: unit.bytes.len(),
-        contiguous: unit.contiguous,
-        starts_talk_spurt: unit.start_of_talkspurt(),
-        extra: extra_of(&unit.codec_extra),
+    let meta = meta_of(packet, receiver.rate);
+    let Ok(data) = Vec::from_slice(alloc, payload) else {
+        return status::OUT_OF_MEMORY;
+    };
+    match receiver.buffer.push(meta, data) {
+        Ok(()) => status::OK,
+        Err(fault) => u32::from(fault.number()),
     }
 }
 
-impl Receiver {
-    /// A packet goes in.
-    fn push(&mut self, alloc: Global, packet: &Received, payload: &[u8]) -> u32
-        ensures { AnswersPush self.old packet.now payload.now result self.new }
-    {
-        let meta = meta_of(packet, self.rate);
-        let Ok(data) = Vec::from_slice(alloc, payload) else {
-            return status::OUT_OF_MEMORY;
-        };
-        match self.buffer.push(meta, data) {
-            Ok(()) => status::OK,
-            Err(fault) => u32::from(fault.number()),
+/// The next unit, from the buffer or from the call before, into the caller's bytes.
+fn pop(receiver: &mut Receiver, unit: &mut Unit, bytes: &mut [u8]) -> u32
+    ensures { PopsUnit receiver.old result unit.old unit.new bytes.old bytes.new receiver.new }
+{
+    if receiver.waiting.is_none() {
+        match receiver.buffer.pop() {
+            None => return status::NONE,
+            Some(Err(fault)) => return u32::from(fault.number()),
+            Some(Ok(next)) => receiver.waiting = Some(next),
         }
     }
-
-    /// The next unit, from the buffer or from the call before, into the caller's bytes.
-    fn pop(&mut self, unit: &mut Unit, bytes: &mut [u8]) -> u32
-        ensures { AnswersPop self.old result unit.old unit.new bytes.old bytes.new self.new }
-    {
-        if self.waiting.is_none() {
-            match self.buffer.pop() {
-                None => return status::NONE,
-                Some(Err(fault)) => return u32::from(fault.number()),
-                Some(Ok(next)) => self.waiting = Some(next),
-            }
-        }
-        let Some(next) = &self.waiting else {
-            return status::NONE;
-        };
-        *unit = unit_of(next);
-        if !fill(bytes, &next.bytes) {
-            return status::TOO_SMALL;
-        }
-        self.waiting = None;
-        status::OK
+    let Some(next) = &receiver.waiting else {
+        return status::NONE;
+    };
+    *unit = unit_of(next);
+    if !fill(bytes, &next.bytes) {
+        return status::TOO_SMALL;
     }
+    receiver.waiting = None;
+    status::OK
+}
 
-    /// How much is held.
-    fn counts(&self) -> BufferCountsInfo
-        ensures { Counts self.now result }
-    {
-        BufferCountsInfo {
-            held: self.buffer.held(),
-            ready: self.buffer.ready(),
-            limit: self.buffer.limit(),
-            waiting: self.waiting.is_some(),
-        }
+/// How much is held.
+fn counts_of(receiver: &Receiver) -> BufferCountsInfo
+    ensures { Counts receiver.now result }
+{
+    BufferCountsInfo {
+        held: receiver.buffer.held(),
+        ready: receiver.buffer.ready(),
+        limit: receiver.buffer.limit(),
+        waiting: receiver.waiting.is_some(),
     }
 }
 
@@ -209,7 +168,7 @@ pub extern "C" fn cpay_buffer_push(
         return status::EMPTY;
     };
     let answer = match &mut *object {
-        Object::Receiver(receiver) => receiver.push(alloc, packet, payload),
+        Object::Receiver(receiver) => push(receiver, alloc, packet, payload),
         _ => status::OTHER_KIND,
     };
     handle.put(object);
@@ -224,7 +183,7 @@ pub extern "C" fn cpay_buffer_pop(
     unit: &mut Unit,
     bytes: &mut [u8],
 ) -> u32
-    ensures pops { OnReceiver handle.old.place.value (λ r s. AnswersPop r result unit.old unit.new bytes.old bytes.new s) handle.new.place.value }
+    ensures pops { OnReceiver handle.old.place.value (λ r s. PopsUnit r result unit.old unit.new bytes.old bytes.new s) handle.new.place.value }
     ensures refused { Refuses is_receiver handle.old.place.value result handle.new.place.value }
     ensures untouched { result ≢ 0 → bytes.new ≡ bytes.old }
     ensures untold { result ≢ 0 → result ≢ 33 → unit.new ≡ unit.old }
@@ -233,7 +192,7 @@ pub extern "C" fn cpay_buffer_pop(
         return status::EMPTY;
     };
     let answer = match &mut *object {
-        Object::Receiver(receiver) => receiver.pop(unit, bytes),
+        Object::Receiver(receiver) => pop(receiver, unit, bytes),
         _ => status::OTHER_KIND,
     };
     handle.put(object);
@@ -300,7 +259,7 @@ pub extern "C" fn cpay_buffer_counts(
     };
     let answer = match &mut *object {
         Object::Receiver(receiver) => {
-            *counts = receiver.counts();
+            *counts = counts_of(receiver);
             status::OK
         }
         _ => status::OTHER_KIND,

@@ -2,45 +2,43 @@
 
 ghost use Rattle.std.specs.Prelude.{◌≡◌, ◌≢◌, is_some};
 ghost use Rattle.codec_payload_c.specs.Assemblers.{IsAssemblerOf, Takes, Unpacks};
-ghost use Rattle.codec_payload_c.specs.Kinds.{Makes, OnAssembler, Refuses, is_assembler};
-ghost use Rattle.codec_payload_c.specs.Settings.{depack_set};
+ghost use Rattle.codec_payload_handle.specs.Kinds.{Makes, OnAssembler, Refuses, is_assembler};
+ghost use Rattle.codec_payload_handle.specs.Settings.{depack_set};
 
-use crate::bytes::fill;
-use crate::extra::{Extra, extra_of};
-use crate::handle::Handle;
-use crate::object::{Assembler, Object};
-use crate::settings::{Spec, depacketizer_of};
-use crate::status;
 use codec_payload_core::codec::{CodecExtra, Depacketizer};
+use codec_payload_handle::bytes::fill;
+use codec_payload_handle::extra::{Extra, extra_of};
+use codec_payload_handle::handle::Handle;
+use codec_payload_handle::object::{Assembler, Object};
+use codec_payload_handle::settings::{Spec, depacketizer_of};
+use codec_payload_handle::status;
 use std::alloc::Global;
 
-impl Assembler {
-    /// Reads a payload, and appends what it carries to what was put together.
-    fn depacketize(&mut self, payload: &[u8]) -> u32
-        ensures { Unpacks self.old payload.now result self.new }
+/// Reads a payload, and appends what it carries to what was put together.
+fn depacketize(assembler: &mut Assembler, payload: &[u8]) -> u32
+    ensures { Unpacks assembler.old payload.now result assembler.new }
+{
+    match assembler
+        .depack
+        .depacketize(payload, &mut assembler.bytes, &mut assembler.extra)
     {
-        match self
-            .depack
-            .depacketize(payload, &mut self.bytes, &mut self.extra)
-        {
-            Ok(()) => status::OK,
-            Err(fault) => u32::from(fault.number()),
-        }
+        Ok(()) => status::OK,
+        Err(fault) => u32::from(fault.number()),
     }
+}
 
-    /// Hands out what was put together, and begins anew.
-    fn take(&mut self, size: &mut usize, extra: &mut Extra, bytes: &mut [u8]) -> u32
-        ensures { Takes self.old result size.new extra.new bytes.old bytes.new self.new }
-    {
-        *size = self.bytes.len();
-        *extra = extra_of(&self.extra);
-        if !fill(bytes, &self.bytes) {
-            return status::TOO_SMALL;
-        }
-        self.bytes.clear();
-        self.extra = CodecExtra::None;
-        status::OK
+/// Hands out what was put together, and begins anew.
+fn take(assembler: &mut Assembler, size: &mut usize, extra: &mut Extra, bytes: &mut [u8]) -> u32
+    ensures { Takes assembler.old result size.new extra.new bytes.old bytes.new assembler.new }
+{
+    *size = assembler.bytes.len();
+    *extra = extra_of(&assembler.extra);
+    if !fill(bytes, &assembler.bytes) {
+        return status::TOO_SMALL;
     }
+    assembler.bytes.clear();
+    assembler.extra = CodecExtra::None;
+    status::OK
 }
 
 /// A depacketizer with these settings, in an empty handle.
@@ -79,7 +77,7 @@ pub extern "C" fn cpay_depacketize(alloc: Global, handle: &mut Handle, payload: 
         return status::EMPTY;
     };
     let answer = match &mut *object {
-        Object::Assembler(assembler) => assembler.depacketize(payload),
+        Object::Assembler(assembler) => depacketize(assembler, payload),
         _ => status::OTHER_KIND,
     };
     handle.put(object);
@@ -105,7 +103,7 @@ pub extern "C" fn cpay_depacketized(
         return status::EMPTY;
     };
     let answer = match &mut *object {
-        Object::Assembler(assembler) => assembler.take(size, extra, bytes),
+        Object::Assembler(assembler) => take(assembler, size, extra, bytes),
         _ => status::OTHER_KIND,
     };
     handle.put(object);

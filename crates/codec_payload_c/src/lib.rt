@@ -2,18 +2,15 @@
 #![tactic(auto)]
 
 mod buffer;
-mod bytes;
 mod depacketizer;
-mod extra;
-mod handle;
+mod free;
 mod looks;
-mod loose;
 mod media;
-mod object;
 mod packetizer;
+mod receiver;
 mod red;
 mod red_blocks;
-mod settings;
-mod status;
+mod rtp;
+mod sender;
 mod tele;
 mod vp8;

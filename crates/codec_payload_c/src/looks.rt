@@ -7,14 +7,14 @@ ghost use Rattle.codec_payload_core.specs.Extended.{extended};
 ghost use Rattle.codec_payload_core.specs.Vp8Keyframe.{is_keyframe as is_vp8_keyframe};
 ghost use Rattle.codec_payload_core.specs.Vp9Keyframe.{is_key_frame, is_key_payload};
 ghost use Rattle.codec_payload_c.specs.Looks.{Looks, given_if};
-ghost use Rattle.codec_payload_c.specs.Settings.{codec_numbered};
+ghost use Rattle.codec_payload_handle.specs.Settings.{codec_numbered};
 
-use crate::settings::codec_of;
-use crate::status;
 use codec_payload_core::av1::detect_av1_keyframe;
 use codec_payload_core::codec::{CodecDepacketizer, Depacketizer};
 use codec_payload_core::vp8::detect_vp8_keyframe;
 use codec_payload_core::vp9::{detect_vp9_keyframe, detect_vp9_keyframe_bitstream};
+use codec_payload_handle::settings::codec_of;
+use codec_payload_handle::status;
 use std::alloc::Global;
 
 /// Whether a keyframe of VP8 starts in the payload.

@@ -7,13 +7,13 @@ ghost use Rattle.codec_payload_media.specs.FrameInfo.{info_of};
 ghost use Rattle.codec_payload_media.specs.Av1Records.{av1c_bytes};
 ghost use Rattle.codec_payload_vpx.specs.Reading.{told};
 ghost use Rattle.codec_payload_vpx.specs.Vp9Superframes.{placed_in, unit_frames};
-ghost use Rattle.codec_payload_c.specs.Bytes.{filled};
+ghost use Rattle.codec_payload_handle.specs.Bytes.{filled};
 ghost use Rattle.codec_payload_c.specs.Media.{AtOffset, TellsAmrWbFrame, TellsFrame, TellsObu, TellsVp9Frame, WritesHead, WritesRecord, facts_of, header_in, media_status};
-ghost use Rattle.codec_payload_c.specs.Settings.{codec_numbered};
+ghost use Rattle.codec_payload_handle.specs.Settings.{codec_numbered};
 
-use crate::bytes::fill;
-use crate::settings::codec_of;
-use crate::status;
+use codec_payload_handle::bytes::fill;
+use codec_payload_handle::settings::codec_of;
+use codec_payload_handle::status;
 use codec_payload_media::amr_wb::front_frame;
 use codec_payload_media::av1::av1c::{AV1C_FRONT_LEN, av1c_front};
 use codec_payload_media::av1::obu::{OBU_SEQUENCE_HEADER, front_obu};

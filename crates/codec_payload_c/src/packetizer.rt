@@ -1,16 +1,16 @@
 //! Frames cut into packets.
 
 ghost use Rattle.std.specs.Prelude.{◌≡◌, ◌≢◌, ◌≤◌, is_some, length};
-ghost use Rattle.codec_payload_c.specs.Kinds.{Makes, OnSender, Refuses, is_sender};
+ghost use Rattle.codec_payload_handle.specs.Kinds.{Makes, OnSender, Refuses, is_sender};
 ghost use Rattle.codec_payload_c.specs.Senders.{CutsFrame, GivesPacket, IsSenderOf};
-ghost use Rattle.codec_payload_c.specs.Settings.{pack_set};
+ghost use Rattle.codec_payload_handle.specs.Settings.{pack_set};
 
-use crate::bytes::fill;
-use crate::handle::Handle;
-use crate::object::{Object, Sender};
-use crate::settings::{Spec, packetizer_of};
-use crate::status;
 use codec_payload_core::codec::Packetizer;
+use codec_payload_handle::bytes::fill;
+use codec_payload_handle::handle::Handle;
+use codec_payload_handle::object::{Object, Sender};
+use codec_payload_handle::settings::{Spec, packetizer_of};
+use codec_payload_handle::status;
 use std::alloc::Global;
 
 /// What is known of a packet besides its bytes.
@@ -25,53 +25,51 @@ pub struct PacketInfo {
     pub nackable: bool,
 }
 
-impl Sender {
-    /// Cuts a frame. Packets of the frame before that were not taken are given up.
-    fn packetize(
-        &mut self,
-        alloc: Global,
-        mtu: usize,
-        starts_talk_spurt: bool,
-        frame: &[u8],
-        count: &mut usize,
-    ) -> u32
-        ensures cuts { CutsFrame self.old mtu starts_talk_spurt frame.now result count.new self.new }
-        ensures untold { result ≢ 0 → count.new ≡ count.old }
-    {
-        match self.pack.packetize(alloc, mtu, frame) {
-            Ok(packets) => {
-                *count = packets.len();
-                self.packets = packets;
-                self.taken = 0;
-                self.marked = starts_talk_spurt && self.pack.marks_talkspurt();
-                status::OK
-            }
-            Err(fault) => u32::from(fault.number()),
+/// Cuts a frame. Packets of the frame before that were not taken are given up.
+fn packetize(
+    sender: &mut Sender,
+    alloc: Global,
+    mtu: usize,
+    starts_talk_spurt: bool,
+    frame: &[u8],
+    count: &mut usize,
+) -> u32
+    ensures cuts { CutsFrame sender.old mtu starts_talk_spurt frame.now result count.new sender.new }
+    ensures untold { result ≢ 0 → count.new ≡ count.old }
+{
+    match sender.pack.packetize(alloc, mtu, frame) {
+        Ok(packets) => {
+            *count = packets.len();
+            sender.packets = packets;
+            sender.taken = 0;
+            sender.marked = starts_talk_spurt && sender.pack.marks_talkspurt();
+            status::OK
         }
+        Err(fault) => u32::from(fault.number()),
     }
+}
 
-    /// The next packet.
-    fn packet(&mut self, info: &mut PacketInfo, bytes: &mut [u8]) -> u32
-        ensures gives { GivesPacket self.old result info.new bytes.old bytes.new self.new }
-        ensures untold { result ≢ 0 → result ≢ 33 → info.new ≡ info.old }
-    {
-        let Some(payload) = self.packets.get(self.taken) else {
-            return status::NONE;
-        };
-        let last = self.packets.len() - self.taken == 1;
-        let previous = match self.taken.checked_sub(1) {
-            Some(before) => Some(self.packets[before].as_slice()),
-            None => None,
-        };
-        info.bytes = payload.len();
-        info.marker = self.pack.is_marker(payload, previous, last) || self.marked;
-        info.nackable = self.pack.nackable();
-        if !fill(bytes, payload) {
-            return status::TOO_SMALL;
-        }
-        self.taken += 1;
-        status::OK
+/// The next packet.
+fn packet(sender: &mut Sender, info: &mut PacketInfo, bytes: &mut [u8]) -> u32
+    ensures gives { GivesPacket sender.old result info.new bytes.old bytes.new sender.new }
+    ensures untold { result ≢ 0 → result ≢ 33 → info.new ≡ info.old }
+{
+    let Some(payload) = sender.packets.get(sender.taken) else {
+        return status::NONE;
+    };
+    let last = sender.packets.len() - sender.taken == 1;
+    let previous = match sender.taken.checked_sub(1) {
+        Some(before) => Some(sender.packets[before].as_slice()),
+        None => None,
+    };
+    info.bytes = payload.len();
+    info.marker = sender.pack.is_marker(payload, previous, last) || sender.marked;
+    info.nackable = sender.pack.nackable();
+    if !fill(bytes, payload) {
+        return status::TOO_SMALL;
     }
+    sender.taken += 1;
+    status::OK
 }
 
 /// A packetizer with these settings, in an empty handle.
@@ -119,7 +117,7 @@ pub extern "C" fn cpay_packetize(
         return status::EMPTY;
     };
     let answer = match &mut *object {
-        Object::Sender(sender) => sender.packetize(alloc, mtu, starts_talk_spurt, frame, count),
+        Object::Sender(sender) => packetize(sender, alloc, mtu, starts_talk_spurt, frame, count),
         _ => status::OTHER_KIND,
     };
     handle.put(object);
@@ -143,7 +141,7 @@ pub extern "C" fn cpay_packet(
         return status::EMPTY;
     };
     let answer = match &mut *object {
-        Object::Sender(sender) => sender.packet(info, bytes),
+        Object::Sender(sender) => packet(sender, info, bytes),
         _ => status::OTHER_KIND,
     };
     handle.put(object);

@@ -2,15 +2,15 @@
 
 ghost use Rattle.std.specs.Prelude.{◌≡◌, ◌≢◌};
 ghost use Rattle.codec_payload_core.specs.RedLevels.{is_accepted};
-ghost use Rattle.codec_payload_c.specs.Kinds.{Makes, OnRedSender, Refuses, is_red_sender};
+ghost use Rattle.codec_payload_handle.specs.Kinds.{Makes, OnRedSender, Refuses, is_red_sender};
 ghost use Rattle.codec_payload_c.specs.Reds.{IsRedSenderOf, Syncs, Wraps};
 
-use crate::bytes::fill;
-use crate::handle::Handle;
-use crate::object::Object;
-use crate::status;
 use codec_payload_core::red::RedSender;
 use codec_payload_core::wire::Pt;
+use codec_payload_handle::bytes::fill;
+use codec_payload_handle::handle::Handle;
+use codec_payload_handle::object::Object;
+use codec_payload_handle::status;
 use std::alloc::Global;
 
 /// Takes over payload types and distances, where these are accepted.

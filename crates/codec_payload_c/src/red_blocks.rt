@@ -4,10 +4,10 @@ ghost use Rattle.std.specs.Prelude.{◌≡◌, ◌≢◌, ◌⊎◌, All, IfErr,
 ghost use Rattle.codec_payload_core.specs.RedBlocks.{blocks_of, redundant_of};
 ghost use Rattle.codec_payload_c.specs.RedCoding.{GivesBlock, IsWithin, ReadsBlock, Recovers, WritesBlocks, cut_from};
 
-use crate::bytes::fill;
-use crate::status;
 use codec_payload_core::red::{RedBlock, RedDecoder, RedEncoder, RedReceiver, RedundantBlock};
 use codec_payload_core::wire::SeqNo;
+use codec_payload_handle::bytes::fill;
+use codec_payload_handle::status;
 use std::alloc::Global;
 
 /// A block of older media, to be written before the primary one. Its bytes stand in the caller's media.

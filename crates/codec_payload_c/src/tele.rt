@@ -3,11 +3,11 @@
 ghost use Rattle.std.specs.Prelude.{◌≡◌, ◌≢◌, slice_get};
 ghost use Rattle.codec_payload_c.specs.Tele.{ReadsReport, WritesReport};
 
-use crate::bytes::fill;
-use crate::extra::{TeleEvent, event_of};
-use crate::status;
 use codec_payload_core::tele::{TelephoneEvent, TelephoneEvents};
 use codec_payload_core::wire::Frequency;
+use codec_payload_handle::bytes::fill;
+use codec_payload_handle::extra::{TeleEvent, event_of};
+use codec_payload_handle::status;
 
 /// The fault of that number: the payload is not one or more whole reports.
 const NO_REPORTS: u32 = 15;

@@ -5,10 +5,10 @@ ghost use Rattle.codec_payload_core.specs.Vp8Descriptor.{parsed};
 ghost use Rattle.codec_payload_core.specs.Vp8Patch.{Patches, Reaches, patch_for, patched};
 ghost use Rattle.codec_payload_c.specs.Vp8.{PatchesTo, ReadsTo, builder_of, descriptor_status, patch_status};
 
-use crate::status;
 use codec_payload_core::vp8::{
     Vp8Descriptor, Vp8DescriptorError, Vp8Patch, Vp8PatchBuilder, Vp8PatchError,
 };
+use codec_payload_handle::status;
 
 /// The fault of that number.
 const SHORT_PACKET: u32 = 1;

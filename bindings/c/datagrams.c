@@ -1,0 +1,332 @@
+/* Datagrams: RTP packets by RFC 3550, a sender, and a receiver on the streams that break receivers: numbers that wrap, begin
+ * anew or carry no media, and the end of a stream. Expected bytes are written out by the RFCs named. */
+#include "any.h"
+#include "check.h"
+#include "codec_payload.h"
+
+enum { TYPE = 111, EVENTS = 101, SSRC = 0x01020304 };
+
+static cpay_spec opus(void) {
+    cpay_spec spec = {.codec = CPAY_OPUS, .rate = 48000};
+    return spec;
+}
+
+static cpay_receiver_settings settings_of(cpay_spec spec) {
+    cpay_receiver_settings settings = CPAY_RECEIVER_SETTINGS;
+    settings.spec = spec;
+    settings.payload_type = TYPE;
+    return settings;
+}
+
+static cpay_receiver receiver_of(const cpay_receiver_settings *settings) {
+    static const uint8_t no_media[] = {EVENTS};
+    cpay_receiver receiver = CPAY_INIT;
+    CHECK(cpay_receiver_new(&receiver, settings, no_media, 1) == CPAY_OK);
+    return receiver;
+}
+
+/* An RTP packet of 12 bytes of header and `size` of payload, each the low byte of its number. */
+static size_t packet(uint8_t *out, uint8_t type, uint16_t number, uint32_t time, size_t size) {
+    const uint8_t header[12] = {0x80, type, (uint8_t)(number >> 8), (uint8_t)number, (uint8_t)(time >> 24), (uint8_t)(time >> 16),
+                                (uint8_t)(time >> 8), (uint8_t)time, SSRC >> 24, SSRC >> 16 & 255, SSRC >> 8 & 255, SSRC & 255};
+    memcpy(out, header, sizeof header);
+    memset(out + 12, (uint8_t)number, size);
+    return 12 + size;
+}
+
+/* What became of a packet of that type and number, whose time is 960 a number. */
+static uint32_t came(cpay_receiver *receiver, uint64_t now, uint8_t type, uint16_t number) {
+    uint8_t bytes[16];
+    uint32_t outcome = 99;
+    size_t size = packet(bytes, type, number, (uint32_t)number * 960, 2);
+    CHECK(cpay_receiver_receive(receiver, now, bytes, size, &outcome) == CPAY_OK);
+    return outcome;
+}
+
+/* The number of the next unit, modulo 65536; or -1 where there is none. */
+static long next(cpay_receiver *receiver, uint64_t now) {
+    uint8_t bytes[8];
+    cpay_unit unit = {0};
+    cpay_status status = cpay_receiver_pop(receiver, now, &unit, bytes, sizeof bytes);
+    if (status == CPAY_NONE) return -1;
+    CHECK(status == CPAY_OK && unit.bytes == 2 && bytes[0] == (uint8_t)unit.first && bytes[1] == bytes[0]);
+    return (long)(unit.first % 65536);
+}
+
+static cpay_receiver_counts_info counts_of(cpay_receiver *receiver) {
+    cpay_receiver_counts_info c = {0};
+    CHECK(cpay_receiver_counts(receiver, &c) == CPAY_OK);
+    CHECK(c.received == c.rtcp + c.malformed + c.other_streams + c.no_media + c.duplicates + c.late + c.suspect + c.evicted + c.held +
+                            c.released + c.left);
+    return c;
+}
+
+/* Every field of the header; extension and padding; each fault. */
+static void packets(void) {
+    /* V=2, P, X, two CSRCs; M, type 96; an extension of one word; three bytes of payload; two of padding. */
+    static const uint8_t whole[] = {0xb2, 0xe0, 0x12, 0x34, 1, 2, 3, 4, 5, 6, 7, 8, 9, 9, 9, 9, 8, 8, 8, 8,
+                                    0xbe, 0xde, 0, 1, 0x10, 0xaa, 0, 0, 'a', 'b', 'c', 0, 2};
+    static const struct {
+        const char *name;
+        size_t size;
+        cpay_status status;
+        uint8_t bytes[24];
+    } rows[] = {
+        {"nothing", 0, CPAY_RTP_HEADER_TOO_SHORT, {0}},
+        {"11 bytes", 11, CPAY_RTP_HEADER_TOO_SHORT, {0x80}},
+        {"version 1", 12, CPAY_RTP_VERSION, {0x40}},
+        {"version 3", 12, CPAY_RTP_VERSION, {0xc0}},
+        {"a CSRC of 3 bytes", 15, CPAY_RTP_CSRCS_TOO_SHORT, {0x81}},
+        {"3 bytes that announce", 15, CPAY_RTP_EXTENSION_HEADER_TOO_SHORT, {0x90}},
+        {"an extension of 3 bytes", 19, CPAY_RTP_EXTENSION_TOO_SHORT, {0x90, 0, 0, 0, 0, 0, 0, 0, 0, 0, 0, 0, 0, 0, 0, 1}},
+        {"padding of 0", 13, CPAY_RTP_PADDING_OF_ZERO, {0xa0}},
+        {"padding of 2 in 1", 13, CPAY_RTP_PADDING_TOO_LONG, {0xa0, 0, 0, 0, 0, 0, 0, 0, 0, 0, 0, 0, 2}},
+        {"padding of nothing", 12, CPAY_RTP_PADDING_TOO_LONG, {0xa0}},
+        {"no payload", 12, CPAY_OK, {0x80}},
+    };
+    cpay_rtp_info info = {.ssrc = 7};
+    for (size_t i = 0; i < sizeof rows / sizeof *rows; i++) {
+        cpay_rtp_info untold = {.ssrc = 7};
+        cpay_status status = cpay_rtp_read(rows[i].bytes, rows[i].size, &untold);
+        if (status != rows[i].status) printf("%s: %u\n", rows[i].name, (unsigned)status);
+        CHECK(status == rows[i].status && untold.ssrc == (status ? 7u : 0u));
+    }
+    CHECK(cpay_rtp_read(NULL, 0, &info) == CPAY_RTP_HEADER_TOO_SHORT);
+    CHECK(cpay_rtp_read(NULL, 1, &info) == CPAY_INVALID);
+    CHECK(cpay_rtp_read(whole, sizeof whole, &info) == CPAY_OK);
+    CHECK(info.marker && info.payload_type == 96 && info.sequence_number == 0x1234);
+    CHECK(info.timestamp == 0x01020304 && info.ssrc == 0x05060708 && info.csrc_count == 2);
+    CHECK(info.has_extension && info.extension_profile == 0xbede && info.extension_at == 24 && info.extension_len == 4);
+    CHECK(info.payload_at == 28 && info.payload_len == 3 && info.padding == 2 && same(whole + info.payload_at, "abc", 3));
+    for (size_t size = 0; size < sizeof whole - 2; size++) CHECK(cpay_rtp_read(whole, size, &info) != CPAY_OK);
+    CHECK(cpay_is_rtcp((const uint8_t *)"\x80\xc8", 2) && cpay_is_rtcp((const uint8_t *)"\0\xc0", 2));
+    CHECK(cpay_is_rtcp((const uint8_t *)"\0\xdf", 2) && !cpay_is_rtcp((const uint8_t *)"\x80\xe0", 2));
+    CHECK(!cpay_is_rtcp((const uint8_t *)"\x80\xbf", 2) && !cpay_is_rtcp((const uint8_t *)"\xc8", 1) && !cpay_is_rtcp(NULL, 0));
+}
+
+/* Settings out of range, and calls on what is empty or of another kind. */
+static void settings(void) {
+    any it = ANY_INIT;
+    cpay_receiver_settings right = settings_of(opus()), wrong;
+    cpay_sender_settings sends = {.spec = opus(), .mtu = 100, .payload_type = TYPE};
+    cpay_receiver_counts_info counts = {.held = 7};
+    cpay_sender_counts_info sent = {.packets = 7};
+    cpay_unit unit = {.first = 7};
+    uint8_t bytes[4] = {7, 7, 7, 7};
+    uint32_t outcome = 7;
+    uint64_t at = 7;
+    size_t count = 7;
+#define REFUSED(field, value) \
+    wrong = right; \
+    wrong.field = (value); \
+    CHECK(cpay_receiver_new(&it.receiver, &wrong, NULL, 0) == CPAY_INVALID)
+    REFUSED(payload_type, 128);
+    REFUSED(limit, 0);
+    REFUSED(limit, 65537);
+    REFUSED(forward, 0);
+    REFUSED(forward, 32769);
+    REFUSED(backward, 3000);
+    REFUSED(spec.rate, 0);
+    REFUSED(spec.codec, 6);
+    sends.payload_type = 128;
+    CHECK(cpay_sender_new(&it.sender, &sends) == CPAY_INVALID);
+    sends.payload_type = TYPE;
+    for (int kind = 0; kind < 2; kind++) {
+        cpay_status status = kind == 0 ? CPAY_EMPTY : CPAY_OTHER_KIND;
+        if (kind == 1) CHECK(cpay_sender_new(&it.sender, &sends) == CPAY_OK);
+        CHECK(cpay_receiver_receive(&it.receiver, 0, bytes, 4, &outcome) == status);
+        CHECK(cpay_receiver_pop(&it.receiver, 0, &unit, bytes, 4) == status);
+        CHECK(cpay_receiver_next_deadline(&it.receiver, &at) == status);
+        CHECK(cpay_receiver_finish(&it.receiver) == status);
+        CHECK(cpay_receiver_counts(&it.receiver, &counts) == status);
+    }
+    CHECK(cpay_receiver_new(&it.receiver, &right, NULL, 0) == CPAY_FULL);
+    cpay_sender_free(&it.sender);
+    cpay_sender_free(&it.sender);
+    for (int kind = 0; kind < 2; kind++) {
+        cpay_status status = kind == 0 ? CPAY_EMPTY : CPAY_OTHER_KIND;
+        if (kind == 1) CHECK(cpay_receiver_new(&it.receiver, &right, NULL, 0) == CPAY_OK);
+        CHECK(cpay_sender_send(&it.sender, 0, false, bytes, 4, &count) == status);
+        CHECK(cpay_sender_datagram(&it.sender, 0, bytes, 4, &count) == status);
+        CHECK(cpay_sender_counts(&it.sender, &sent) == status);
+    }
+    CHECK(cpay_sender_new(&it.sender, &sends) == CPAY_FULL);
+    CHECK(same(bytes, "\7\7\7\7", 4) && outcome == 7 && at == 7 && count == 7 && counts.held == 7 && sent.packets == 7 && unit.first == 7);
+    cpay_receiver_free(&it.receiver);
+}
+
+/* A frame of VP8 in two packets, byte by byte (RFC 3550, section 5.1; RFC 7741, section 4.2). */
+static void sending(void) {
+    cpay_sender sender = CPAY_INIT;
+    cpay_sender_settings settings = {.spec = {.codec = CPAY_VP8, .rate = 90000}, .mtu = 4, .ssrc = SSRC, .first_number = 0xffff,
+                                     .payload_type = 96};
+    cpay_sender_counts_info counts = {0};
+    uint8_t bytes[64];
+    size_t count = 0, size = 0;
+    CHECK(cpay_sender_new(&sender, &settings) == CPAY_OK);
+    CHECK(cpay_sender_counts(&sender, &counts) == CPAY_OK);
+    CHECK(counts.packets == 0 && !counts.has_rtp_time && counts.next_number == 0xffff);
+    CHECK(cpay_sender_send(&sender, 0x100000005, false, (const uint8_t *)"abcde", 5, &count) == CPAY_OK && count == 2);
+    CHECK(cpay_sender_datagram(&sender, 0, bytes, 15, &size) == CPAY_TOO_SMALL && size == 16);
+    CHECK(cpay_sender_datagram(&sender, 0, bytes, sizeof bytes, &size) == CPAY_OK && size == 16);
+    CHECK(same(bytes, "\x80\x60\xff\xff\0\0\0\5\1\2\3\4\x10" "abc", 16));
+    CHECK(cpay_sender_datagram(&sender, 1, bytes, sizeof bytes, &size) == CPAY_OK && size == 15);
+    CHECK(same(bytes, "\x80\xe0\0\0\0\0\0\5\1\2\3\4\0" "de", 15));
+    CHECK(cpay_sender_datagram(&sender, 2, bytes, sizeof bytes, &size) == CPAY_NONE && size == 15);
+    CHECK(cpay_sender_counts(&sender, &counts) == CPAY_OK);
+    CHECK(counts.packets == 2 && counts.octets == 7 && counts.has_rtp_time && counts.rtp_time == 5 && counts.next_number == 1);
+    CHECK(cpay_sender_send(&sender, 6, false, NULL, 0, &count) == CPAY_OK && count == 0);
+    CHECK(cpay_sender_datagram(&sender, 0, bytes, sizeof bytes, &size) == CPAY_NONE);
+    cpay_sender_free(&sender);
+}
+
+/* The first number is 0, and the one before it comes second. */
+static void first_numbers_swapped(void) {
+    cpay_receiver_settings settings = settings_of(opus());
+    settings.start = 1;
+    cpay_receiver receiver = receiver_of(&settings);
+    CHECK(came(&receiver, 0, TYPE, 0) == CPAY_HELD);
+    CHECK(next(&receiver, 0) == -1);
+    CHECK(came(&receiver, 1, TYPE, 65535) == CPAY_HELD);
+    CHECK(next(&receiver, 1) == 65535 && next(&receiver, 1) == 0 && next(&receiver, 1) == -1);
+    CHECK(came(&receiver, 2, TYPE, 1) == CPAY_HELD && next(&receiver, 2) == 1);
+    CHECK(counts_of(&receiver).released == 3);
+    cpay_receiver_free(&receiver);
+}
+
+/* The sender begins anew at 30000 behind 50000: one packet is suspect, and the next confirms it. */
+static void restarts(void) {
+    cpay_receiver_settings settings = settings_of(opus());
+    settings.hold_back = 0;
+    cpay_receiver receiver = receiver_of(&settings);
+    CHECK(came(&receiver, 0, TYPE, 50000) == CPAY_HELD && next(&receiver, 0) == 50000);
+    CHECK(came(&receiver, 1, TYPE, 30000) == CPAY_SUSPECT && next(&receiver, 1) == -1);
+    CHECK(came(&receiver, 2, TYPE, 30001) == CPAY_RESTARTED);
+    CHECK(next(&receiver, 2) == 30000 && next(&receiver, 2) == 30001);
+    cpay_receiver_counts_info counts = counts_of(&receiver);
+    CHECK(counts.restarts == 1 && counts.suspect == 0 && counts.released == 3);
+    cpay_receiver_free(&receiver);
+}
+
+/* Each tenth packet is padding, and some are telephone events: neither is a gap. */
+static void without_media(void) {
+    cpay_receiver_settings settings = settings_of(opus());
+    cpay_receiver receiver = receiver_of(&settings);
+    uint8_t padding[13];
+    uint32_t outcome = 99;
+    long units = 0;
+    for (uint16_t number = 100; number < 200; number++) {
+        if (number % 10 == 0) {
+            (void)packet(padding, TYPE, number, 0, 1);
+            padding[0] |= 0x20;
+            padding[12] = 1;
+            CHECK(cpay_receiver_receive(&receiver, number, padding, 13, &outcome) == CPAY_OK && outcome == CPAY_NO_MEDIA);
+        } else if (number % 10 == 5) {
+            CHECK(came(&receiver, number, EVENTS, number) == CPAY_NO_MEDIA);
+        } else {
+            CHECK(came(&receiver, number, TYPE, number) == CPAY_HELD);
+        }
+        while (next(&receiver, number) >= 0) units++;
+    }
+    cpay_receiver_counts_info counts = counts_of(&receiver);
+    CHECK(units == 80 && counts.units == 80 && counts.no_media == 20 && counts.held == 0);
+    cpay_receiver_free(&receiver);
+}
+
+/* A gap at the end of a stream: what is behind it waits, comes at its deadline, or when the stream has ended. */
+static void ends(void) {
+    cpay_receiver_settings settings = settings_of(opus());
+    settings.has_max_wait = true;
+    settings.max_wait = 50;
+    cpay_receiver receiver = receiver_of(&settings);
+    uint64_t at = 0;
+    CHECK(came(&receiver, 10, TYPE, 7) == CPAY_HELD && next(&receiver, 10) == 7);
+    CHECK(cpay_receiver_next_deadline(&receiver, &at) == CPAY_NONE);
+    CHECK(came(&receiver, 20, TYPE, 9) == CPAY_HELD && next(&receiver, 20) == -1);
+    CHECK(cpay_receiver_next_deadline(&receiver, &at) == CPAY_OK && at == 70);
+    CHECK(next(&receiver, 69) == -1 && next(&receiver, 70) == 9);
+    CHECK(came(&receiver, 80, TYPE, 12) == CPAY_HELD && next(&receiver, 80) == -1);
+    CHECK(cpay_receiver_finish(&receiver) == CPAY_OK);
+    CHECK(next(&receiver, 80) == 12 && next(&receiver, 80) == -1);
+    CHECK(came(&receiver, 81, TYPE, 11) == CPAY_LATE && came(&receiver, 82, TYPE, 12) == CPAY_LATE);
+    cpay_receiver_free(&receiver);
+}
+
+/* What is not of the stream is told and counted, and changes nothing. */
+static void others(void) {
+    cpay_receiver_settings settings = settings_of(opus());
+    cpay_receiver receiver = receiver_of(&settings);
+    uint8_t bytes[16];
+    uint32_t outcome = 99;
+    size_t size = packet(bytes, TYPE, 5, 0, 2);
+    CHECK(came(&receiver, 0, TYPE, 4) == CPAY_HELD && came(&receiver, 0, TYPE, 4) == CPAY_DUPLICATE);
+    CHECK(came(&receiver, 0, 96, 5) == CPAY_OTHER_STREAM);
+    bytes[11] ^= 1;
+    CHECK(cpay_receiver_receive(&receiver, 0, bytes, size, &outcome) == CPAY_OK && outcome == CPAY_OTHER_STREAM);
+    bytes[1] = 200;
+    CHECK(cpay_receiver_receive(&receiver, 0, bytes, size, &outcome) == CPAY_OK && outcome == CPAY_RTCP);
+    bytes[0] = 0;
+    bytes[1] = 0;
+    outcome = 99;
+    CHECK(cpay_receiver_receive(&receiver, 0, bytes, size, &outcome) == CPAY_RTP_VERSION && outcome == 99);
+    CHECK(cpay_receiver_receive(&receiver, 0, NULL, 0, &outcome) == CPAY_RTP_HEADER_TOO_SHORT);
+    cpay_receiver_counts_info counts = counts_of(&receiver);
+    CHECK(counts.received == 7 && counts.duplicates == 1 && counts.other_streams == 2 && counts.rtcp == 1 && counts.malformed == 2);
+    CHECK(counts.held == 1 && counts.has_ssrc && counts.ssrc == SSRC);
+    cpay_receiver_free(&receiver);
+}
+
+/* A unit waits for enough of the caller's bytes, and is told meanwhile. */
+static void small_room(void) {
+    cpay_receiver_settings settings = settings_of(opus());
+    cpay_receiver receiver = receiver_of(&settings);
+    cpay_unit unit = {0};
+    uint8_t bytes[2] = {0, 0};
+    CHECK(came(&receiver, 3, TYPE, 65535) == CPAY_HELD);
+    CHECK(cpay_receiver_pop(&receiver, 3, &unit, bytes, 1) == CPAY_TOO_SMALL && unit.bytes == 2 && bytes[0] == 0);
+    CHECK(counts_of(&receiver).waiting);
+    CHECK(cpay_receiver_pop(&receiver, 3, &unit, NULL, 0) == CPAY_TOO_SMALL);
+    CHECK(cpay_receiver_pop(&receiver, 3, &unit, bytes, 2) == CPAY_OK && bytes[0] == 255 && unit.received == 3);
+    CHECK(!counts_of(&receiver).waiting && cpay_receiver_pop(&receiver, 3, &unit, bytes, 2) == CPAY_NONE);
+    cpay_receiver_free(&receiver);
+}
+
+/* AMR-WB with 23 frames a packet, one of ten packets lost: with a longest wait of a second no unit waits longer. */
+static void amr_wb(void) {
+    cpay_spec spec = {.codec = CPAY_AMR_WB, .rate = 16000, .octet_align = true};
+    cpay_receiver_settings settings = settings_of(spec);
+    settings.has_max_wait = true;
+    settings.max_wait = 1000;
+    cpay_receiver receiver = receiver_of(&settings);
+    uint8_t bytes[12 + 1 + 23 + 23 * 17], unit_bytes[23 * 18];
+    cpay_unit unit = {0};
+    uint32_t outcome = 99;
+    int units = 0;
+    for (uint16_t number = 0; number < 10; number++) {
+        size_t size = packet(bytes, TYPE, number, (uint32_t)number * 23 * 320, 1 + 23 + 23 * 17);
+        bytes[12] = 0xf0; /* no mode is asked for; then the table of contents: 6.6 kbit/s, undamaged, the last without F */
+        for (int frame = 0; frame < 23; frame++) bytes[13 + frame] = frame < 22 ? 0x84 : 0x04;
+        uint64_t now = (uint64_t)number * 460;
+        if (number != 4) CHECK(cpay_receiver_receive(&receiver, now, bytes, size, &outcome) == CPAY_OK && outcome == CPAY_HELD);
+        while (cpay_receiver_pop(&receiver, now, &unit, unit_bytes, sizeof unit_bytes) == CPAY_OK) {
+            CHECK(now - unit.received < 1460 && unit.bytes == 23 * 18);
+            units++;
+        }
+    }
+    CHECK(units == 9);
+    cpay_receiver_free(&receiver);
+}
+
+int main(void) {
+    packets();
+    settings();
+    sending();
+    first_numbers_swapped();
+    restarts();
+    without_media();
+    ends();
+    others();
+    small_room();
+    amr_wb();
+    return checked();
+}

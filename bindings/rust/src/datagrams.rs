@@ -1,0 +1,552 @@
+//! RTP packets (RFC 3550), a sender and a receiver of one stream each: what stands between a socket and frames.
+//!
+//! None of these opens a socket or reads a clock. A [`Receiver`] takes every datagram that came, whatever it is, and counts it.
+//!
+//! ```
+//! use codec_payload::datagrams::{Outcome, Receiver, ReceiverSettings, Sender, SenderSettings};
+//! use codec_payload::{Codec, Error, Settings};
+//!
+//! # fn main() -> Result<(), Error> {
+//! let codec = Settings::new(Codec::Vp8, 90_000);
+//! let mut sender = Sender::new(&SenderSettings::new(codec, 96, 0x1234_5678))?;
+//! let mut receiver = Receiver::new(&ReceiverSettings::new(codec, 96))?;
+//! for datagram in sender.send(3_000, false, &[0; 3_000])? {
+//!     // This is what goes to a socket, and comes from another at a moment of the caller's clock:
+//!     assert_eq!(receiver.receive(7, &datagram)?, Outcome::Held);
+//! }
+//! let unit = receiver.pop(7).unwrap()?;
+//! assert_eq!(unit.bytes.len(), 3_000);
+//! assert_eq!(receiver.counts()?.released, 3);
+//! # Ok(())
+//! # }
+//! ```
+
+use crate::error::{Error, NONE, TOO_SMALL, told};
+use crate::handle::Handle;
+use crate::raw::{
+    self, RtpInfo, cpay_is_rtcp, cpay_receiver_counts, cpay_receiver_finish, cpay_receiver_new,
+    cpay_receiver_next_deadline, cpay_receiver_pop, cpay_receiver_receive, cpay_rtp_read,
+    cpay_sender_counts, cpay_sender_datagram, cpay_sender_new, cpay_sender_send,
+};
+use crate::{Settings, Unit};
+
+/// Whether a datagram on a port for both is RTCP, by its second byte: 192 to 223 (RFC 5761, section 4).
+#[must_use]
+pub fn is_rtcp(datagram: &[u8]) -> bool {
+    // SAFETY: the pointer and the length are those of one slice.
+    unsafe { cpay_is_rtcp(datagram.as_ptr(), datagram.len()) }
+}
+
+/// The header extension of a packet (RFC 3550, section 5.3.1).
+#[derive(Clone, Copy, Debug, PartialEq, Eq)]
+pub struct Extension<'a> {
+    /// The 16 bits that the profile defines: 0xBEDE and 0x1000 to 0x100F announce elements (RFC 8285).
+    pub profile: u16,
+    /// Whole words of four bytes.
+    pub bytes: &'a [u8],
+}
+
+/// An RTP packet. It borrows from the datagram.
+#[derive(Clone, Copy, Debug, PartialEq, Eq)]
+pub struct RtpPacket<'a> {
+    /// The marker bit.
+    pub marker: bool,
+    /// The payload type, 0 to 127.
+    pub payload_type: u8,
+    /// The sequence number.
+    pub sequence_number: u16,
+    /// The RTP time.
+    pub timestamp: u32,
+    /// The synchronization source.
+    pub ssrc: u32,
+    /// The contributing sources, of four bytes each.
+    pub csrcs: &'a [u8],
+    /// The header extension.
+    pub extension: Option<Extension<'a>>,
+    /// The payload, without padding.
+    pub payload: &'a [u8],
+    /// How many bytes of padding stand behind the payload.
+    pub padding: u8,
+}
+
+impl<'a> RtpPacket<'a> {
+    /// The packet that a datagram is. It takes no memory.
+    ///
+    /// # Errors
+    ///
+    /// [`Error::RtpHeaderTooShort`] to [`Error::RtpPaddingTooLong`]: the first fault from left to right.
+    pub fn parse(datagram: &'a [u8]) -> Result<RtpPacket<'a>, Error> {
+        let mut told_packet = RtpInfo::default();
+        // SAFETY: the pointer and the length are those of one slice, and all is borrowed for the call.
+        told(unsafe { cpay_rtp_read(datagram.as_ptr(), datagram.len(), &mut told_packet) })?;
+        let part = |at: usize, len: usize| &datagram[at..at + len];
+        Ok(RtpPacket {
+            marker: told_packet.marker,
+            payload_type: told_packet.payload_type,
+            sequence_number: told_packet.sequence_number,
+            timestamp: told_packet.timestamp,
+            ssrc: told_packet.ssrc,
+            csrcs: part(12, 4 * usize::from(told_packet.csrc_count)),
+            extension: told_packet.has_extension.then(|| Extension {
+                profile: told_packet.extension_profile,
+                bytes: part(told_packet.extension_at, told_packet.extension_len),
+            }),
+            payload: part(told_packet.payload_at, told_packet.payload_len),
+            padding: told_packet.padding,
+        })
+    }
+}
+
+/// What a sender is made of.
+#[derive(Clone, Copy, Debug, PartialEq, Eq, Hash)]
+#[non_exhaustive]
+pub struct SenderSettings {
+    /// The codec.
+    pub codec: Settings,
+    /// The payload type, 0 to 127.
+    pub payload_type: u8,
+    /// The synchronization source: any number, chosen at random (RFC 3550, section 8).
+    pub ssrc: u32,
+    /// The sequence number of the first packet, at random too.
+    pub first_number: u16,
+    /// The most bytes of a payload; the header of 12 bytes comes on top.
+    pub mtu: usize,
+}
+
+impl SenderSettings {
+    /// That stream, with payloads of at most 1,200 bytes, from number 0 on.
+    #[must_use]
+    pub fn new(codec: Settings, payload_type: u8, ssrc: u32) -> SenderSettings {
+        SenderSettings {
+            codec,
+            payload_type,
+            ssrc,
+            first_number: 0,
+            mtu: 1_200,
+        }
+    }
+
+    /// The same with that number of the first packet.
+    #[must_use]
+    pub fn with_first_number(mut self, first_number: u16) -> SenderSettings {
+        self.first_number = first_number;
+        self
+    }
+
+    /// The same with payloads of at most so many bytes.
+    #[must_use]
+    pub fn with_mtu(mut self, mtu: usize) -> SenderSettings {
+        self.mtu = mtu;
+        self
+    }
+}
+
+/// What sender reports tell (RFC 3550, section 6.4.1).
+#[derive(Clone, Copy, Debug, PartialEq, Eq)]
+pub struct SenderCounts {
+    /// How many packets were sent, modulo 2^32.
+    pub packets: u32,
+    /// How many bytes of payload, modulo 2^32.
+    pub octets: u32,
+    /// The RTP time of the frame that was sent last.
+    pub rtp_time: Option<u32>,
+    /// The sequence number of the next packet.
+    pub next_number: u16,
+}
+
+/// Makes the datagrams of one stream.
+#[derive(Debug)]
+pub struct Sender(Handle<raw::Sender>);
+
+impl Sender {
+    /// A sender by its settings.
+    ///
+    /// # Errors
+    ///
+    /// [`Error::Invalid`] where [`Packetizer::new`](crate::Packetizer::new) says so and for a payload type above 127, and
+    /// [`Error::OutOfMemory`].
+    pub fn new(settings: &SenderSettings) -> Result<Sender, Error> {
+        let settings = raw::SenderSettings {
+            spec: settings.codec.raw(),
+            mtu: settings.mtu,
+            ssrc: settings.ssrc,
+            first_number: settings.first_number,
+            payload_type: settings.payload_type,
+        };
+        let mut handle = Handle::empty();
+        // SAFETY: an empty handle, and a struct that is borrowed for the call.
+        told(unsafe { cpay_sender_new(handle.raw(), &settings) })?;
+        Ok(Sender(handle))
+    }
+
+    /// The datagrams of a frame, whose time is in ticks of the RTP clock: its low 32 bits are sent. See
+    /// [`Packetizer::packetize`](crate::Packetizer::packetize).
+    ///
+    /// # Errors
+    ///
+    /// As of [`Packetizer::packetize`](crate::Packetizer::packetize). No sequence number is used up then.
+    pub fn send(
+        &mut self,
+        rtp_time: u64,
+        starts_talk_spurt: bool,
+        frame: &[u8],
+    ) -> Result<Vec<Vec<u8>>, Error> {
+        let mut count = 0;
+        // SAFETY: the pointer and the length are those of one slice, and all is borrowed for the call.
+        told(unsafe {
+            cpay_sender_send(
+                self.0.raw(),
+                rtp_time,
+                starts_talk_spurt,
+                frame.as_ptr(),
+                frame.len(),
+                &mut count,
+            )
+        })?;
+        (0..count).map(|place| self.datagram(place)).collect()
+    }
+
+    /// The datagram at a place, whose size is asked for first.
+    fn datagram(&mut self, place: usize) -> Result<Vec<u8>, Error> {
+        let mut bytes = Vec::new();
+        let mut size = 0;
+        loop {
+            // SAFETY: as in `send`.
+            let status = unsafe {
+                cpay_sender_datagram(
+                    self.0.raw(),
+                    place,
+                    bytes.as_mut_ptr(),
+                    bytes.len(),
+                    &mut size,
+                )
+            };
+            if status != TOO_SMALL {
+                told(status)?;
+                return Ok(bytes);
+            }
+            bytes.resize(size, 0);
+        }
+    }
+
+    /// What sender reports tell.
+    ///
+    /// # Errors
+    ///
+    /// None today.
+    pub fn counts(&mut self) -> Result<SenderCounts, Error> {
+        let mut counts = raw::SenderCountsInfo::default();
+        // SAFETY: as in `send`.
+        told(unsafe { cpay_sender_counts(self.0.raw(), &mut counts) })?;
+        Ok(SenderCounts {
+            packets: counts.packets,
+            octets: counts.octets,
+            rtp_time: counts.has_rtp_time.then_some(counts.rtp_time),
+            next_number: counts.next_number,
+        })
+    }
+}
+
+/// What a receiver is made of.
+#[derive(Clone, Debug, PartialEq, Eq, Hash)]
+#[non_exhaustive]
+pub struct ReceiverSettings {
+    /// The codec.
+    pub codec: Settings,
+    /// The payload type, 0 to 127.
+    pub payload_type: u8,
+    /// Payload types that come under the stream's SSRC and numbers and carry no media of it: telephone events beside audio,
+    /// comfort noise, forward error correction.
+    pub no_media: Vec<u8>,
+    /// The SSRC of the stream. `None`: that of its first packet.
+    pub ssrc: Option<u32>,
+    /// A complete frame behind a gap waits until more complete frames than that are held.
+    pub hold_back: usize,
+    /// The first frame waits until more complete frames than that are held.
+    pub start: usize,
+    /// How long a complete frame waits at most, in ticks of the caller's clock.
+    pub max_wait: Option<u64>,
+    /// How many packets are held at most, 1 to 65,536.
+    pub limit: usize,
+    /// How far ahead of the greatest number a packet may be: less than this, 1 to 32,768.
+    pub forward: u16,
+    /// How far behind it: at most this, and less than `forward`.
+    pub backward: u16,
+}
+
+impl ReceiverSettings {
+    /// That stream, with 30 frames held back, at most 4,096 packets held, and windows of 3,000 (RFC 3550, appendix A.1) and 1,000.
+    #[must_use]
+    pub fn new(codec: Settings, payload_type: u8) -> ReceiverSettings {
+        ReceiverSettings {
+            codec,
+            payload_type,
+            no_media: Vec::new(),
+            ssrc: None,
+            hold_back: 30,
+            start: 0,
+            max_wait: None,
+            limit: 4_096,
+            forward: 3_000,
+            backward: 1_000,
+        }
+    }
+
+    /// The same with these payload types without media.
+    #[must_use]
+    pub fn with_no_media(mut self, no_media: &[u8]) -> ReceiverSettings {
+        self.no_media = no_media.to_vec();
+        self
+    }
+
+    /// The same with that SSRC.
+    #[must_use]
+    pub fn with_ssrc(mut self, ssrc: u32) -> ReceiverSettings {
+        self.ssrc = Some(ssrc);
+        self
+    }
+
+    /// The same with so many complete frames held back behind a gap, and so many waited for before the first.
+    #[must_use]
+    pub fn with_hold_back(mut self, hold_back: usize, start: usize) -> ReceiverSettings {
+        self.hold_back = hold_back;
+        self.start = start;
+        self
+    }
+
+    /// The same with that longest wait, in ticks of the caller's clock.
+    #[must_use]
+    pub fn with_max_wait(mut self, max_wait: u64) -> ReceiverSettings {
+        self.max_wait = Some(max_wait);
+        self
+    }
+
+    /// The same with at most so many packets held.
+    #[must_use]
+    pub fn with_limit(mut self, limit: usize) -> ReceiverSettings {
+        self.limit = limit;
+        self
+    }
+
+    /// The same with these windows ahead of the greatest number and behind it.
+    #[must_use]
+    pub fn with_windows(mut self, forward: u16, backward: u16) -> ReceiverSettings {
+        self.forward = forward;
+        self.backward = backward;
+        self
+    }
+
+    fn raw(&self) -> raw::ReceiverSettings {
+        raw::ReceiverSettings {
+            spec: self.codec.raw(),
+            hold_back: self.hold_back,
+            start: self.start,
+            limit: self.limit,
+            max_wait: self.max_wait.unwrap_or(0),
+            ssrc: self.ssrc.unwrap_or(0),
+            forward: self.forward,
+            backward: self.backward,
+            payload_type: self.payload_type,
+            has_max_wait: self.max_wait.is_some(),
+            has_ssrc: self.ssrc.is_some(),
+        }
+    }
+}
+
+/// What became of a datagram.
+#[derive(Clone, Copy, Debug, PartialEq, Eq, Hash)]
+#[non_exhaustive]
+pub enum Outcome {
+    /// It is held.
+    Held,
+    /// There was no room: the lowest packet was evicted, which can be this one.
+    HeldAndEvicted,
+    /// A packet of its number is held already; it was dropped.
+    Duplicate,
+    /// All up to its number is done; it was dropped.
+    Late,
+    /// Its number is far from all others. It is kept until the next packet comes.
+    Suspect,
+    /// The sender has restarted: it went in, and the suspect packet before it too.
+    Restarted,
+    /// The same, but the suspect packet had no media, or memory was wanting for it.
+    RestartedAlone,
+    /// Padding alone, or a payload type without media. No frame waits for its number.
+    NoMedia,
+    /// Another SSRC or payload type.
+    OtherStream,
+    /// RTCP on the same port.
+    Rtcp,
+    /// An outcome that this crate does not know.
+    Unknown(u32),
+}
+
+impl Outcome {
+    fn of(number: u32) -> Outcome {
+        match number {
+            0 => Outcome::Held,
+            1 => Outcome::HeldAndEvicted,
+            2 => Outcome::Duplicate,
+            3 => Outcome::Late,
+            4 => Outcome::Suspect,
+            5 => Outcome::Restarted,
+            6 => Outcome::RestartedAlone,
+            7 => Outcome::NoMedia,
+            8 => Outcome::OtherStream,
+            9 => Outcome::Rtcp,
+            number => Outcome::Unknown(number),
+        }
+    }
+}
+
+/// How many datagrams came to what, modulo 2^64: `received` is the sum of `rtcp`, `malformed`, `other_streams`, `no_media`,
+/// `duplicates`, `late`, `suspect`, `evicted`, `held`, `released` and `left`.
+#[derive(Clone, Copy, Debug, PartialEq, Eq)]
+#[non_exhaustive]
+pub struct ReceiverCounts {
+    /// All datagrams but those for which memory was wanting.
+    pub received: u64,
+    /// RTCP on the same port.
+    pub rtcp: u64,
+    /// Neither RTCP nor RTP.
+    pub malformed: u64,
+    /// Packets of another SSRC or payload type.
+    pub other_streams: u64,
+    /// Packets without media.
+    pub no_media: u64,
+    /// Packets whose number was held.
+    pub duplicates: u64,
+    /// Packets that came when all up to their number was done.
+    pub late: u64,
+    /// Suspect packets that did not go in.
+    pub suspect: u64,
+    /// Packets that left for want of room.
+    pub evicted: u64,
+    /// Packets that went out in a unit.
+    pub released: u64,
+    /// Packets that left with a frame, and not in a unit: it was never complete, passed over, or refused.
+    pub left: u64,
+    /// How many times the sender has restarted.
+    pub restarts: u64,
+    /// Packets that were missing and came again.
+    pub retransmitted: u64,
+    /// How many units went out.
+    pub units: u64,
+    /// How many packets are held.
+    pub held: usize,
+    /// The SSRC of the stream, once it is known.
+    pub ssrc: Option<u32>,
+}
+
+/// Takes the datagrams of one stream in, and gives its units in order.
+#[derive(Debug)]
+pub struct Receiver(Handle<raw::Receiver>);
+
+impl Receiver {
+    /// A receiver by its settings.
+    ///
+    /// # Errors
+    ///
+    /// [`Error::Invalid`] for a rate of 0 and for a payload type, limit or window out of range, and [`Error::OutOfMemory`].
+    pub fn new(settings: &ReceiverSettings) -> Result<Receiver, Error> {
+        let mut handle = Handle::empty();
+        // SAFETY: an empty handle, a struct that is borrowed for the call, and the pointer and length of one slice.
+        told(unsafe {
+            cpay_receiver_new(
+                handle.raw(),
+                &settings.raw(),
+                settings.no_media.as_ptr(),
+                settings.no_media.len(),
+            )
+        })?;
+        Ok(Receiver(handle))
+    }
+
+    /// Takes a datagram in, at that time in ticks of the caller's clock, and says what became of it. Any bytes may be given.
+    ///
+    /// # Errors
+    ///
+    /// [`Error::RtpHeaderTooShort`] to [`Error::RtpPaddingTooLong`] for what is no RTP packet, which is counted as malformed, and
+    /// [`Error::OutOfMemory`], after which nothing has changed.
+    pub fn receive(&mut self, now: u64, datagram: &[u8]) -> Result<Outcome, Error> {
+        let mut outcome = 0;
+        // SAFETY: the pointer and the length are those of one slice, and all is borrowed for the call.
+        told(unsafe {
+            cpay_receiver_receive(
+                self.0.raw(),
+                now,
+                datagram.as_ptr(),
+                datagram.len(),
+                &mut outcome,
+            )
+        })?;
+        Ok(Outcome::of(outcome))
+    }
+
+    /// The next unit, if its turn has come at that time. After an `Err` the next call goes on, as that of
+    /// [`Buffer::pop`](crate::Buffer::pop).
+    pub fn pop(&mut self, now: u64) -> Option<Result<Unit, Error>> {
+        let mut told_unit = raw::Unit::default();
+        let mut bytes = Vec::new();
+        loop {
+            // SAFETY: as in `receive`.
+            let status = unsafe {
+                cpay_receiver_pop(
+                    self.0.raw(),
+                    now,
+                    &mut told_unit,
+                    bytes.as_mut_ptr(),
+                    bytes.len(),
+                )
+            };
+            match status {
+                NONE => return None,
+                TOO_SMALL => bytes.resize(told_unit.bytes, 0),
+                status => return Some(told(status).map(|()| Unit::of(&told_unit, bytes))),
+            }
+        }
+    }
+
+    /// When [`pop`](Receiver::pop) may give a unit without a datagram coming. `None`: only a datagram can help.
+    pub fn next_deadline(&mut self) -> Option<u64> {
+        let mut at = 0;
+        // SAFETY: as in `receive`.
+        let status = unsafe { cpay_receiver_next_deadline(self.0.raw(), &mut at) };
+        (status == 0).then_some(at)
+    }
+
+    /// The stream has ended: from now on pops wait for nothing, and give all complete frames. No restart is found any more.
+    pub fn finish(&mut self) {
+        // SAFETY: a struct that is borrowed for the call. It holds a receiver, so the call succeeds.
+        unsafe { cpay_receiver_finish(self.0.raw()) };
+    }
+
+    /// How many datagrams came to what.
+    ///
+    /// # Errors
+    ///
+    /// None today.
+    pub fn counts(&mut self) -> Result<ReceiverCounts, Error> {
+        let mut counts = raw::ReceiverCountsInfo::default();
+        // SAFETY: as in `receive`.
+        told(unsafe { cpay_receiver_counts(self.0.raw(), &mut counts) })?;
+        Ok(ReceiverCounts {
+            received: counts.received,
+            rtcp: counts.rtcp,
+            malformed: counts.malformed,
+            other_streams: counts.other_streams,
+            no_media: counts.no_media,
+            duplicates: counts.duplicates,
+            late: counts.late,
+            suspect: counts.suspect,
+            evicted: counts.evicted,
+            released: counts.released,
+            left: counts.left,
+            restarts: counts.restarts,
+            retransmitted: counts.retransmitted,
+            units: counts.units,
+            held: counts.held,
+            ssrc: counts.has_ssrc.then_some(counts.ssrc),
+        })
+    }
+}

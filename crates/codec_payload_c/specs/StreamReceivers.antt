@@ -1,0 +1,123 @@
+-- What the calls on a receiver of datagrams do.
+use Rattle.std.specs.Prelude.{◌≡◌, ◌≢◌, ℕ, ◌&&◌, nat_le, nat_lt, Bool, true, false, Option, Some, None, Result, Ok, Err, List, is_some, length}
+use Rattle.codec_payload_core.specs.Depack.{Depack}
+use Rattle.codec_payload_jitter.specs.Receiving.{PopsWith, deadline_of, settled, waiting_at}
+use Rattle.codec_payload_jitter.specs.declared.jitter.Patience.{Patience}
+use Rattle.codec_payload_jitter.specs.declared.outcome.Outcome.{Outcome}
+use Rattle.codec_payload_jitter.specs.declared.outcome.Outcome.TheVariants as outcomes
+use Rattle.codec_payload_jitter.specs.Receiving.{Receiving}
+use Rattle.codec_payload_rtp.specs.declared.values.ExtensionIds.{ExtensionIds}
+use Rattle.codec_payload_stream.specs.Sessions.{Session, Heard, datagram_at, session_by}
+use Rattle.codec_payload_stream.specs.declared.receiver.ReceiveError.{ReceiveError}
+use Rattle.codec_payload_stream.specs.declared.receiver.ReceiveError.TheVariants as errors
+use Rattle.codec_payload_stream.specs.declared.receiver.Settings.{Settings}
+use Rattle.codec_payload_base.specs.declared.wire.Ticks.{Ticks}
+use Rattle.codec_payload_handle.specs.Popping.{Answer, AnswersPop}
+use Rattle.codec_payload_handle.specs.declared.object.Object.{Object}
+use Rattle.codec_payload_handle.specs.declared.object.Object.TheVariants as objects
+use Rattle.codec_payload_handle.specs.declared.object.StreamReceiver.{StreamReceiver}
+use Rattle.codec_payload_handle.specs.declared.unit.Unit.{Unit as CUnit}
+use Rattle.codec_payload_c.specs.Looks.{given_if}
+use Rattle.codec_payload_c.specs.RtpFields.{rtp_status}
+use Rattle.codec_payload_c.specs.declared.receiver.ReceiverCountsInfo.{ReceiverCountsInfo}
+use Rattle.codec_payload_c.specs.declared.receiver.ReceiverSettings.{ReceiverSettings}
+
+-- the payload type, the limit and the windows are in range
+abbrev pub is_in_range : ReceiverSettings → Bool
+is_in_range s =
+    nat_le s.payload_type 127 && nat_le 1 s.limit && nat_le s.limit 65536
+    && nat_lt 0 s.forward && nat_le s.forward 32768 && nat_lt s.backward s.forward
+
+abbrev pub no_ids : ExtensionIds
+no_ids = record { abs_capture_time = None; video_orientation = None; video_content_type = None; video_timing = None; layers_allocation = None; audio_level = None }
+
+abbrev pub patience_set : ReceiverSettings → Patience
+patience_set s = record { hold_back = s.hold_back; start = s.start; max_wait = given_if s.has_max_wait s.max_wait }
+
+-- the settings of a receiver, as C gave them
+pub record AreSettings (s : ReceiverSettings) (types : List ℕ) (t : Settings) : Type 0 where
+  pub payload_type : t.payload_type ≡ s.payload_type
+  pub no_media : t.no_media.items ≡ types
+  pub ssrc : t.ssrc ≡ given_if s.has_ssrc s.ssrc
+  pub ids : t.extension_ids ≡ no_ids
+  pub clock_rate : t.clock_rate ≡ s.spec.rate
+  pub patience : t.patience ≡ patience_set s
+  pub limit : t.limit ≡ s.limit
+  pub forward : t.forward ≡ s.forward
+  pub backward : t.backward ≡ s.backward
+
+-- a new receiver by these settings
+pub record IsNewStream (s : ReceiverSettings) (no_media : List ℕ) (depack : Option Depack) (r : StreamReceiver) : Type 0 where
+  pub settings : Settings
+  pub are : AreSettings s no_media settings
+  pub by : Depack
+  pub depack_is : depack ≡ Some by
+  pub made : session_by settings by ≡ Ok r.receiver
+  pub waiting : r.waiting ≡ None
+
+abbrev pub IsStreamReceiverOf : ReceiverSettings → List ℕ → Option Depack → Object → Type 0
+IsStreamReceiverOf s no_media depack (objects.StreamReceiver r) = IsNewStream s no_media depack r
+IsStreamReceiverOf s no_media depack _ = ⊥
+
+-- the numbers of outcomes
+abbrev pub outcome_number : Outcome → ℕ
+outcome_number outcomes.Held = 0
+outcome_number outcomes.HeldAndEvicted = 1
+outcome_number outcomes.Duplicate = 2
+outcome_number outcomes.Late = 3
+outcome_number outcomes.Suspect = 4
+outcome_number (outcomes.Restarted true) = 5
+outcome_number (outcomes.Restarted false) = 6
+outcome_number outcomes.NoMedia = 7
+outcome_number outcomes.OtherStream = 8
+outcome_number outcomes.Rtcp = 9
+
+-- what is told of an answer
+abbrev pub Tells : Result Outcome ReceiveError → ℕ → (before after : ℕ) → Type 0
+Tells (Ok outcome) status before after = (status ≡ 0) × (after ≡ outcome_number outcome)
+Tells (Err errors.OutOfMemory) status before after = (status ≡ 17) × (after ≡ before)
+Tells (Err (errors.Rtp e)) status before after = (status ≡ rtp_status e) × (after ≡ before)
+
+-- a datagram is received
+pub record Takes (r : StreamReceiver) (now : ℕ) (bytes : List ℕ) (status before after : ℕ) (s : StreamReceiver) : Type 0 where
+  pub at : Ticks
+  pub at_is : at.0 ≡ now
+  pub answer : Result Outcome ReceiveError
+  pub heard : Heard at (datagram_at r.receiver.payload_type r.receiver.no_media r.receiver.ssrc bytes) r.receiver answer s.receiver
+  pub tells : Tells answer status before after
+  pub waiting : s.waiting ≡ r.waiting
+
+-- a pop at that time
+abbrev pub PopsAt : ℕ → Session → Answer → Session → Type 0
+PopsAt now s answer t = (packets : Receiving) × PopsWith (waiting_at (settled s.packets) now) (settled s.packets) answer packets × (t ≡ record s { packets = packets })
+
+-- the next unit of a receiver
+abbrev pub PopsUnit : StreamReceiver → ℕ → ℕ → (unit_before unit : CUnit) (before bytes : List ℕ) → StreamReceiver → Type 0
+PopsUnit r now status unit_before unit before bytes s =
+    AnswersPop (s.receiver ≡ r.receiver) (λ answer. PopsAt now r.receiver answer s.receiver) status
+    (record { waited = r.waiting; waits = s.waiting; unit_before = unit_before; unit = unit; before = before; bytes = bytes })
+
+-- a number, if there is one; else status 32
+abbrev pub TellsNumber : Option ℕ → ℕ → (before after : ℕ) → Type 0
+TellsNumber (Some n) status before after = (status ≡ 0) × (after ≡ n)
+TellsNumber None status before after = (status ≡ 32) × (after ≡ before)
+
+-- how many datagrams came to what
+pub record TellsCounts (r : StreamReceiver) (c : ReceiverCountsInfo) : Type 0 where
+  pub received : c.received ≡ r.receiver.arrived.received
+  pub rtcp : c.rtcp ≡ r.receiver.arrived.rtcp
+  pub malformed : c.malformed ≡ r.receiver.arrived.malformed
+  pub other_streams : c.other_streams ≡ r.receiver.arrived.other_streams
+  pub no_media : c.no_media ≡ r.receiver.packets.counters.no_media
+  pub duplicates : c.duplicates ≡ r.receiver.packets.counters.duplicates
+  pub late : c.late ≡ r.receiver.packets.counters.late
+  pub suspect : c.suspect ≡ r.receiver.packets.counters.suspect
+  pub evicted : c.evicted ≡ r.receiver.packets.counters.evicted
+  pub released : c.released ≡ r.receiver.packets.counters.released
+  pub left : c.left ≡ r.receiver.packets.counters.left
+  pub restarts : c.restarts ≡ r.receiver.packets.counters.restarts
+  pub retransmitted : c.retransmitted ≡ r.receiver.packets.counters.retransmitted
+  pub units : c.units ≡ r.receiver.packets.counters.units
+  pub held : c.held ≡ length r.receiver.packets.buffer.held
+  pub waiting : c.waiting ≡ is_some r.waiting
+  pub ssrc : r.receiver.ssrc ≡ given_if c.has_ssrc c.ssrc

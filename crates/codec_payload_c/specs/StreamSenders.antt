@@ -1,0 +1,59 @@
+-- What the calls on a sender of datagrams do.
+use Rattle.std.specs.Prelude.{◌≡◌, ◌≢◌, ℕ, ◌==◌, nat_le, if◌then◌else◌, Bool, List, Option, Some, None, IfSome, length, slice_get}
+use Rattle.codec_payload_base.specs.declared.error.PacketError.{PacketError}
+use Rattle.codec_payload_core.specs.Extensions.{no_values}
+use Rattle.codec_payload_core.specs.Faults.{fault_number}
+use Rattle.codec_payload_core.specs.Pack.{Pack}
+use Rattle.codec_payload_sender.specs.Datagrams.{Sample}
+use Rattle.codec_payload_sender.specs.Senders.{Sending, Sends, Refuses as RefusesSample, sender_by}
+use Rattle.codec_payload_sender.specs.declared.sender.SenderSettings.{SenderSettings as Settings}
+use Rattle.codec_payload_handle.specs.Bytes.{filled}
+use Rattle.codec_payload_handle.specs.declared.object.Object.{Object}
+use Rattle.codec_payload_handle.specs.declared.object.Object.TheVariants as objects
+use Rattle.codec_payload_handle.specs.declared.object.StreamSender.{StreamSender}
+use Rattle.codec_payload_c.specs.Looks.{given_if}
+use Rattle.codec_payload_c.specs.StreamReceivers.{no_ids}
+use Rattle.codec_payload_c.specs.declared.sender.SenderCountsInfo.{SenderCountsInfo}
+use Rattle.codec_payload_c.specs.declared.sender.SenderSettings.{SenderSettings}
+
+-- the settings of a sender, as C gave them
+abbrev pub settings_for : SenderSettings → Settings
+settings_for s = record {
+  ssrc = s.ssrc;
+  payload_type = s.payload_type;
+  first_number = s.first_number;
+  clock_rate = s.spec.rate;
+  mtu = s.mtu;
+  tailroom = 0;
+  extension_ids = no_ids;
+}
+
+-- a new sender by these settings
+abbrev pub IsStreamSenderOf : SenderSettings → Option Pack → Object → Type 0
+IsStreamSenderOf s pack (objects.StreamSender r) = IfSome pack (λ p. (r.sender ≡ sender_by (settings_for s) p) × (r.rate ≡ s.spec.rate))
+IsStreamSenderOf s pack _ = ⊥
+
+-- a frame with its time, without values of header extensions
+abbrev pub sample_given : StreamSender → ℕ → Bool → List ℕ → Sample
+sample_given r rtp_time starts frame = record { rtp_time = record { numer = rtp_time; rate = r.rate }; bytes = frame; start_of_talk_spurt = starts; ext_vals = no_values }
+
+-- A frame is sent: its datagrams take the place of those of the frame before. After a fault there are none.
+pub record SendsFrame (r : StreamSender) (sample : Sample) (status before count : ℕ) (s : StreamSender) : Type 0 where
+  pub ok : status ≡ 0 → Sends r.sender sample s.sender
+  pub counted : status ≡ 0 → count ≡ length s.sender.datagrams
+  pub fault : status ≢ 0 → (e : PacketError) × (status ≡ fault_number e) × RefusesSample r.sender sample e s.sender
+  pub untold : status ≢ 0 → count ≡ before
+  pub rate : s.rate ≡ r.rate
+
+-- a datagram into the caller's bytes: 0 where there is one for which they are enough, 33 where they are too few, 32 where there is none
+abbrev pub GivesDatagram : Option (List ℕ) → ℕ → (before bytes : List ℕ) → (size_before size : ℕ) → Type 0
+GivesDatagram None status before bytes size_before size = (status ≡ 32) × (bytes ≡ before) × (size ≡ size_before)
+GivesDatagram (Some d) status before bytes size_before size =
+    (status ≡ (if nat_le (length d) (length before) then 0 else 33)) × (bytes ≡ filled d before) × (size ≡ length d)
+
+-- what sender reports tell
+pub record TellsCounts (r : StreamSender) (c : SenderCountsInfo) : Type 0 where
+  pub packets : c.packets ≡ r.sender.counts.packets
+  pub octets : c.octets ≡ r.sender.counts.octets
+  pub rtp_time : r.sender.counts.rtp_time ≡ given_if c.has_rtp_time c.rtp_time
+  pub next_number : c.next_number ≡ r.sender.stream.number

@@ -1,0 +1,389 @@
+//! The datagrams of one stream go in, and units come out.
+
+ghost use Rattle.std.specs.Prelude.{◌≡◌, ◌≢◌, ◌&&◌, is_some, Bool, IfErr, IfOk, Option};
+ghost use Rattle.codec_payload_core.specs.Depack.{depack_of};
+ghost use Rattle.codec_payload_jitter.specs.Receiving.{deadline_of};
+ghost use Rattle.codec_payload_c.specs.StreamReceivers.{AreSettings, IsNewStream, IsStreamReceiverOf, PopsUnit, Takes, TellsCounts, TellsNumber, is_in_range, outcome_number};
+ghost use Rattle.codec_payload_handle.specs.Kinds.{Makes, OnStreamReceiver, Refuses, is_stream_receiver};
+ghost use Rattle.codec_payload_handle.specs.Settings.{depack_set};
+
+use crate::rtp::status_of;
+use codec_payload_core::codec::CodecDepacketizer;
+use codec_payload_core::wire::{Frequency, Ticks};
+use codec_payload_handle::bytes::fill;
+use codec_payload_handle::handle::Handle;
+use codec_payload_handle::object::{Object, StreamReceiver};
+use codec_payload_handle::settings::{Spec, depacketizer_of};
+use codec_payload_handle::status;
+use codec_payload_handle::unit::{Unit, unit_of};
+use codec_payload_jitter::jitter::Patience;
+use codec_payload_jitter::outcome::Outcome;
+use codec_payload_rtp::values::ExtensionIds;
+use codec_payload_stream::receiver::{ReceiveError, Receiver, Settings};
+use std::alloc::Global;
+
+/// What a receiver is made of.
+#[repr(C)]
+#[derive(Drop)]
+pub struct ReceiverSettings {
+    pub spec: Spec,
+    /// A complete frame behind a gap waits until more complete frames than that are held.
+    pub hold_back: usize,
+    /// The first frame waits until more complete frames than that are held.
+    pub start: usize,
+    /// How many packets are held at most, 1 to 65,536.
+    pub limit: usize,
+    /// How long a complete frame waits behind a gap, in ticks of the caller's clock.
+    pub max_wait: u64,
+    pub ssrc: u32,
+    /// How far ahead of the greatest number a packet may be: less than this, 1 to 32,768.
+    pub forward: u16,
+    /// How far behind it: at most this, and less than `forward`.
+    pub backward: u16,
+    /// 0 to 127.
+    pub payload_type: u8,
+    /// Whether `max_wait` is set; else frames wait for as long as `hold_back` and `start` say.
+    pub has_max_wait: bool,
+    /// Whether `ssrc` is set; else it is that of the first packet of the stream.
+    pub has_ssrc: bool,
+}
+
+/// How many datagrams came to what, each modulo 2^64.
+#[repr(C)]
+#[derive(Drop)]
+pub struct ReceiverCountsInfo {
+    pub received: u64,
+    pub rtcp: u64,
+    pub malformed: u64,
+    pub other_streams: u64,
+    pub no_media: u64,
+    pub duplicates: u64,
+    pub late: u64,
+    pub suspect: u64,
+    pub evicted: u64,
+    /// Packets that went out in a unit.
+    pub released: u64,
+    /// Packets that left with a frame, and not in a unit.
+    pub left: u64,
+    pub restarts: u64,
+    pub retransmitted: u64,
+    pub units: u64,
+    /// How many packets are held.
+    pub held: usize,
+    pub ssrc: u32,
+    /// Whether the SSRC of the stream is known.
+    pub has_ssrc: bool,
+    /// Whether a unit waits for enough of the caller's bytes.
+    pub waiting: bool,
+}
+
+/// Whether the payload type, the limit and the windows are in range.
+fn is_in_range(settings: &ReceiverSettings) -> bool
+    ensures { result ≡ is_in_range settings.now }
+{
+    settings.payload_type <= 127
+        && 1 <= settings.limit
+        && settings.limit <= 65_536
+        && 0 < settings.forward
+        && settings.forward <= 32_768
+        && settings.backward < settings.forward
+}
+
+/// The settings as the receiver has them.
+fn settings_of(settings: &ReceiverSettings, clock_rate: Frequency, no_media: Vec<u8>) -> Settings
+    requires { clock_rate ≡ settings.now.spec.rate }
+    ensures { AreSettings settings.now no_media.items result }
+{
+    Settings {
+        payload_type: settings.payload_type,
+        no_media,
+        ssrc: if settings.has_ssrc {
+            Some(settings.ssrc)
+        } else {
+            None
+        },
+        extension_ids: ExtensionIds::default(),
+        clock_rate,
+        patience: Patience {
+            hold_back: settings.hold_back,
+            start: settings.start,
+            max_wait: if settings.has_max_wait {
+                Some(settings.max_wait)
+            } else {
+                None
+            },
+        },
+        limit: settings.limit,
+        forward: settings.forward,
+        backward: settings.backward,
+    }
+}
+
+/// The number of an outcome.
+fn number_of(outcome: Outcome) -> u32
+    ensures { result ≡ outcome_number outcome }
+{
+    match outcome {
+        Outcome::Held => 0,
+        Outcome::HeldAndEvicted => 1,
+        Outcome::Duplicate => 2,
+        Outcome::Late => 3,
+        Outcome::Suspect => 4,
+        Outcome::Restarted(true) => 5,
+        Outcome::Restarted(false) => 6,
+        Outcome::NoMedia => 7,
+        Outcome::OtherStream => 8,
+        Outcome::Rtcp => 9,
+    }
+}
+
+/// A datagram goes in.
+fn receive(stream: &mut StreamReceiver, now: u64, datagram: &[u8], outcome: &mut u32) -> u32
+    ensures { Takes stream.old now datagram.now result outcome.old outcome.new stream.new }
+{
+    match stream.receiver.receive(Ticks(now), datagram) {
+        Ok(told) => {
+            *outcome = number_of(told);
+            status::OK
+        }
+        Err(ReceiveError::Rtp(fault)) => status_of(fault),
+        Err(ReceiveError::OutOfMemory) => status::OUT_OF_MEMORY,
+    }
+}
+
+/// The next unit, from the receiver or from the call before, into the caller's bytes.
+fn pop(stream: &mut StreamReceiver, now: u64, unit: &mut Unit, bytes: &mut [u8]) -> u32
+    ensures { PopsUnit stream.old now result unit.old unit.new bytes.old bytes.new stream.new }
+{
+    if stream.waiting.is_none() {
+        match stream.receiver.pop(Ticks(now)) {
+            None => return status::NONE,
+            Some(Err(fault)) => return u32::from(fault.number()),
+            Some(Ok(next)) => stream.waiting = Some(next),
+        }
+    }
+    let Some(next) = &stream.waiting else {
+        return status::NONE;
+    };
+    *unit = unit_of(next);
+    if !fill(bytes, &next.bytes) {
+        return status::TOO_SMALL;
+    }
+    stream.waiting = None;
+    status::OK
+}
+
+/// How many datagrams came to what.
+fn counts_of(stream: &StreamReceiver) -> ReceiverCountsInfo
+    ensures { TellsCounts stream.now result }
+{
+    let counters = stream.receiver.counters();
+    let packets = counters.packets;
+    let ssrc = stream.receiver.ssrc();
+    ReceiverCountsInfo {
+        received: counters.received,
+        rtcp: counters.rtcp,
+        malformed: counters.malformed,
+        other_streams: counters.other_streams,
+        no_media: packets.no_media,
+        duplicates: packets.duplicates,
+        late: packets.late,
+        suspect: packets.suspect,
+        evicted: packets.evicted,
+        released: packets.released,
+        left: packets.left,
+        restarts: packets.restarts,
+        retransmitted: packets.retransmitted,
+        units: packets.units,
+        held: stream.receiver.held(),
+        ssrc: ssrc.unwrap_or(0),
+        has_ssrc: ssrc.is_some(),
+        waiting: stream.waiting.is_some(),
+    }
+}
+
+/// A receiver by settings that are in range.
+fn stream_by(
+    alloc: Global,
+    settings: &ReceiverSettings,
+    depack: CodecDepacketizer,
+    clock_rate: Frequency,
+    no_media: &[u8],
+) -> Result<StreamReceiver, u32>
+    requires rate { clock_rate ≡ settings.now.spec.rate }
+    requires range { is_in_range settings.now ≡ Bool.true }
+    ensures ok { IfOk result (λ r. IsNewStream settings.now no_media.now (Option.Some (depack_of depack)) r) }
+    ensures err { IfErr result (λ status. status ≡ 17) }
+{
+    let Ok(no_media) = Vec::from_slice(alloc, no_media) else {
+        return Err(status::OUT_OF_MEMORY);
+    };
+    let settings = settings_of(settings, clock_rate, no_media);
+    match Receiver::new(alloc, depack, settings) {
+        Ok(receiver) => Ok(StreamReceiver {
+            receiver,
+            waiting: None,
+        }),
+        // Settings in range are never refused.
+        Err(_) => Err(status::OUT_OF_MEMORY),
+    }
+}
+
+/// A receiver by these settings, with these payload types without media, in an empty handle.
+#[unsafe(no_mangle)]
+pub extern "C" fn cpay_receiver_new(
+    alloc: Global,
+    handle: &mut Handle,
+    settings: &ReceiverSettings,
+    no_media: &[u8],
+) -> u32
+    ensures { Makes (IsStreamReceiverOf settings.now no_media.now (depack_set settings.now.spec)) (is_some (depack_set settings.now.spec) && is_in_range settings.now)
+        handle.old.place.value result handle.new.place.value }
+{
+    if let Some(object) = handle.take(alloc) {
+        handle.put(object);
+        return status::FULL;
+    }
+    let (Some(depack), Some(rate)) = (
+        depacketizer_of(alloc, &settings.spec),
+        Frequency::make(settings.spec.rate),
+    ) else {
+        return status::INVALID;
+    };
+    if !is_in_range(settings) {
+        return status::INVALID;
+    }
+    let stream = match stream_by(alloc, settings, depack, rate, no_media) {
+        Ok(stream) => stream,
+        Err(status) => return status,
+    };
+    match Box::new(alloc, Object::StreamReceiver(stream)) {
+        Ok(object) => {
+            handle.put(object);
+            status::OK
+        }
+        Err(_) => status::OUT_OF_MEMORY,
+    }
+}
+
+/// Takes a datagram in, at that time.
+#[unsafe(no_mangle)]
+pub extern "C" fn cpay_receiver_receive(
+    alloc: Global,
+    handle: &mut Handle,
+    now: u64,
+    datagram: &[u8],
+    outcome: &mut u32,
+) -> u32
+    ensures receives { OnStreamReceiver handle.old.place.value (λ r s. Takes r now datagram.now result outcome.old outcome.new s) handle.new.place.value }
+    ensures refused { Refuses is_stream_receiver handle.old.place.value result handle.new.place.value }
+    ensures untold { result ≢ 0 → outcome.new ≡ outcome.old }
+{
+    let Some(mut object) = handle.take(alloc) else {
+        return status::EMPTY;
+    };
+    let answer = match &mut *object {
+        Object::StreamReceiver(stream) => receive(stream, now, datagram, outcome),
+        _ => status::OTHER_KIND,
+    };
+    handle.put(object);
+    answer
+}
+
+/// The next unit, if its turn has come at that time.
+#[unsafe(no_mangle)]
+pub extern "C" fn cpay_receiver_pop(
+    alloc: Global,
+    handle: &mut Handle,
+    now: u64,
+    unit: &mut Unit,
+    bytes: &mut [u8],
+) -> u32
+    ensures pops { OnStreamReceiver handle.old.place.value (λ r s. PopsUnit r now result unit.old unit.new bytes.old bytes.new s) handle.new.place.value }
+    ensures refused { Refuses is_stream_receiver handle.old.place.value result handle.new.place.value }
+    ensures untouched { result ≢ 0 → bytes.new ≡ bytes.old }
+    ensures untold { result ≢ 0 → result ≢ 33 → unit.new ≡ unit.old }
+{
+    let Some(mut object) = handle.take(alloc) else {
+        return status::EMPTY;
+    };
+    let answer = match &mut *object {
+        Object::StreamReceiver(stream) => pop(stream, now, unit, bytes),
+        _ => status::OTHER_KIND,
+    };
+    handle.put(object);
+    answer
+}
+
+/// When a pop may give a unit without a datagram coming.
+#[unsafe(no_mangle)]
+pub extern "C" fn cpay_receiver_next_deadline(
+    alloc: Global,
+    handle: &mut Handle,
+    at: &mut u64,
+) -> u32
+    ensures tells { OnStreamReceiver handle.old.place.value (λ r s. (s ≡ r) × TellsNumber (deadline_of r.receiver.packets) result at.old at.new) handle.new.place.value }
+    ensures refused { Refuses is_stream_receiver handle.old.place.value result handle.new.place.value }
+    ensures untold { result ≢ 0 → at.new ≡ at.old }
+{
+    let Some(mut object) = handle.take(alloc) else {
+        return status::EMPTY;
+    };
+    let answer = match &mut *object {
+        Object::StreamReceiver(stream) => match stream.receiver.next_deadline() {
+            Some(deadline) => {
+                *at = deadline.0;
+                status::OK
+            }
+            None => status::NONE,
+        },
+        _ => status::OTHER_KIND,
+    };
+    handle.put(object);
+    answer
+}
+
+/// The stream has ended: from now on pops wait for nothing.
+#[unsafe(no_mangle)]
+pub extern "C" fn cpay_receiver_finish(alloc: Global, handle: &mut Handle) -> u32
+    ensures ends { OnStreamReceiver handle.old.place.value (λ r s. (result ≡ 0) × (s ≡ record r { receiver = record r.receiver { packets = record r.receiver.packets { ended = Bool.true; anew = Bool.false } } })) handle.new.place.value }
+    ensures refused { Refuses is_stream_receiver handle.old.place.value result handle.new.place.value }
+{
+    let Some(mut object) = handle.take(alloc) else {
+        return status::EMPTY;
+    };
+    let answer = match &mut *object {
+        Object::StreamReceiver(stream) => {
+            stream.receiver.finish();
+            status::OK
+        }
+        _ => status::OTHER_KIND,
+    };
+    handle.put(object);
+    answer
+}
+
+/// How many datagrams came to what.
+#[unsafe(no_mangle)]
+pub extern "C" fn cpay_receiver_counts(
+    alloc: Global,
+    handle: &mut Handle,
+    counts: &mut ReceiverCountsInfo,
+) -> u32
+    ensures tells { OnStreamReceiver handle.old.place.value (λ r s. (result ≡ 0) × (s ≡ r) × TellsCounts r counts.new) handle.new.place.value }
+    ensures refused { Refuses is_stream_receiver handle.old.place.value result handle.new.place.value }
+    ensures untold { result ≢ 0 → counts.new ≡ counts.old }
+{
+    let Some(mut object) = handle.take(alloc) else {
+        return status::EMPTY;
+    };
+    let answer = match &mut *object {
+        Object::StreamReceiver(stream) => {
+            *counts = counts_of(stream);
+            status::OK
+        }
+        _ => status::OTHER_KIND,
+    };
+    handle.put(object);
+    answer
+}

@@ -1,0 +1,103 @@
+-- What a handle holds before and after a call.
+use Rattle.std.specs.Prelude.{◌≡◌, ◌⊎◌, ℕ, Bool, true, false, Option, Some, None}
+use Rattle.codec_payload_core.specs.RedLevels.{Sender as RedSender}
+use Rattle.codec_payload_handle.specs.declared.object.Assembler.{Assembler}
+use Rattle.codec_payload_handle.specs.declared.object.Object.{Object}
+use Rattle.codec_payload_handle.specs.declared.object.Object.TheVariants as objects
+use Rattle.codec_payload_handle.specs.declared.object.Receiver.{Receiver}
+use Rattle.codec_payload_handle.specs.declared.object.Sender.{Sender}
+use Rattle.codec_payload_handle.specs.declared.object.StreamReceiver.{StreamReceiver}
+use Rattle.codec_payload_handle.specs.declared.object.StreamSender.{StreamSender}
+
+-- where the handle holds a sender, it holds one afterwards, to which this was done
+abbrev pub StaysSender : (Sender → Type 0) → Option Object → Type 0
+StaysSender Done (Some (objects.Sender s)) = Done s
+StaysSender Done _ = ⊥
+
+abbrev pub OnSender : Option Object → (Sender → Sender → Type 0) → Option Object → Type 0
+OnSender (Some (objects.Sender r)) Does after = StaysSender (Does r) after
+OnSender _ Does after = Unit {0}
+
+-- the same of an assembler
+abbrev pub StaysAssembler : (Assembler → Type 0) → Option Object → Type 0
+StaysAssembler Done (Some (objects.Assembler s)) = Done s
+StaysAssembler Done _ = ⊥
+
+abbrev pub OnAssembler : Option Object → (Assembler → Assembler → Type 0) → Option Object → Type 0
+OnAssembler (Some (objects.Assembler r)) Does after = StaysAssembler (Does r) after
+OnAssembler _ Does after = Unit {0}
+
+-- the same of a receiver
+abbrev pub StaysReceiver : (Receiver → Type 0) → Option Object → Type 0
+StaysReceiver Done (Some (objects.Receiver s)) = Done s
+StaysReceiver Done _ = ⊥
+
+abbrev pub OnReceiver : Option Object → (Receiver → Receiver → Type 0) → Option Object → Type 0
+OnReceiver (Some (objects.Receiver r)) Does after = StaysReceiver (Does r) after
+OnReceiver _ Does after = Unit {0}
+
+-- the same of a RED sender
+abbrev pub StaysRedSender : (RedSender → Type 0) → Option Object → Type 0
+StaysRedSender Done (Some (objects.RedSender s)) = Done s
+StaysRedSender Done _ = ⊥
+
+abbrev pub OnRedSender : Option Object → (RedSender → RedSender → Type 0) → Option Object → Type 0
+OnRedSender (Some (objects.RedSender r)) Does after = StaysRedSender (Does r) after
+OnRedSender _ Does after = Unit {0}
+
+-- the same of a sender of datagrams
+abbrev pub StaysStreamSender : (StreamSender → Type 0) → Option Object → Type 0
+StaysStreamSender Done (Some (objects.StreamSender s)) = Done s
+StaysStreamSender Done _ = ⊥
+
+abbrev pub OnStreamSender : Option Object → (StreamSender → StreamSender → Type 0) → Option Object → Type 0
+OnStreamSender (Some (objects.StreamSender r)) Does after = StaysStreamSender (Does r) after
+OnStreamSender _ Does after = Unit {0}
+
+-- the same of a receiver of datagrams
+abbrev pub StaysStreamReceiver : (StreamReceiver → Type 0) → Option Object → Type 0
+StaysStreamReceiver Done (Some (objects.StreamReceiver s)) = Done s
+StaysStreamReceiver Done _ = ⊥
+
+abbrev pub OnStreamReceiver : Option Object → (StreamReceiver → StreamReceiver → Type 0) → Option Object → Type 0
+OnStreamReceiver (Some (objects.StreamReceiver r)) Does after = StaysStreamReceiver (Does r) after
+OnStreamReceiver _ Does after = Unit {0}
+
+abbrev pub is_sender : Object → Bool
+is_sender (objects.Sender _) = true
+is_sender _ = false
+
+abbrev pub is_assembler : Object → Bool
+is_assembler (objects.Assembler _) = true
+is_assembler _ = false
+
+abbrev pub is_receiver : Object → Bool
+is_receiver (objects.Receiver _) = true
+is_receiver _ = false
+
+abbrev pub is_red_sender : Object → Bool
+is_red_sender (objects.RedSender _) = true
+is_red_sender _ = false
+
+abbrev pub is_stream_sender : Object → Bool
+is_stream_sender (objects.StreamSender _) = true
+is_stream_sender _ = false
+
+abbrev pub is_stream_receiver : Object → Bool
+is_stream_receiver (objects.StreamReceiver _) = true
+is_stream_receiver _ = false
+
+-- an empty handle is status 34, and one that holds something of another kind 35; the handle stays as it is
+abbrev pub Refuses : (Object → Bool) → Option Object → ℕ → Option Object → Type 0
+Refuses is_kind None status after = (status ≡ 34) × (after ≡ None)
+Refuses is_kind (Some object) status after = is_kind object ≡ false → (status ≡ 35) × (after ≡ Some object)
+
+-- A call that makes something: a full handle is status 36 and stays. Into an empty one comes what is made, with status 0;
+-- else it stays empty, with status 37 where nothing can be made, and 17 only where something can
+abbrev pub MakesIn : (Object → Type 0) → Bool → ℕ → Option Object → Type 0
+MakesIn Made can status (Some object) = (status ≡ 0) × (can ≡ true) × Made object
+MakesIn Made can status None = ((status ≡ 37) × (can ≡ false)) ⊎ ((status ≡ 17) × (can ≡ true))
+
+abbrev pub Makes : (Object → Type 0) → Bool → Option Object → ℕ → Option Object → Type 0
+Makes Made can (Some object) status after = (status ≡ 36) × (after ≡ Some object)
+Makes Made can None status after = MakesIn Made can status after

@@ -1,0 +1,7 @@
+pub mod Bytes
+pub mod Extras
+pub mod Kinds
+pub mod Owned
+pub mod Popping
+pub mod Settings
+pub mod Units

@@ -1,0 +1,41 @@
+-- Packetizers and depacketizers by their settings.
+use Rattle.std.specs.Prelude.{ℕ, Bool, true, false, ◌&&◌, ◌==◌, nat_lt, if◌then◌else◌, Option, Some, None, option_map}
+use Rattle.codec_payload_core.specs.Depack.{Depack, depack_for, configured_depack}
+use Rattle.codec_payload_core.specs.Pack.{Pack, Vp8Pack, pack_for, configured}
+use Rattle.codec_payload_core.specs.declared.interface.Vp9PacketizerMode.{Vp9PacketizerMode}
+use Rattle.codec_payload_core.specs.declared.interface.Vp9PacketizerMode.TheVariants as modes
+use Rattle.codec_payload_core.specs.declared.wire.Codec.{Codec}
+use Rattle.codec_payload_core.specs.declared.wire.Codec.TheVariants as codecs
+use Rattle.codec_payload_handle.specs.declared.settings.Spec.{Spec}
+
+-- the codec of a number; 6 to 8 are kept for the codecs of H.26x, which are not there
+abbrev pub codec_numbered : ℕ → Codec
+codec_numbered n =
+    if n == 0 then codecs.Opus
+    else if n == 1 then codecs.PCMU
+    else if n == 2 then codecs.PCMA
+    else if n == 3 then codecs.G722
+    else if n == 4 then codecs.CN
+    else if n == 5 then codecs.AmrWb
+    else if n == 9 then codecs.Vp8
+    else if n == 10 then codecs.Vp9
+    else if n == 11 then codecs.Av1
+    else if n == 12 then codecs.Null
+    else if n == 13 then codecs.Tele
+    else codecs.Unknown
+
+abbrev pub mode_set : Bool → Vp9PacketizerMode
+mode_set true = modes.Flexible
+mode_set false = modes.NonFlexible
+
+-- the packetizer that is made, if one is: the rate is above 0, the picture id has at most 15 bits, and the codec has one
+abbrev pub pack_set : Spec → Option Pack
+pack_set s =
+    if nat_lt 0 s.rate && nat_lt s.first_id 32768
+    then if s.vp8_ids && (s.codec == 9) then Some (Vp8Pack (Some s.first_id))
+    else option_map (configured s.octet_align) (pack_for (mode_set s.vp9_flexible) s.first_id (codec_numbered s.codec))
+    else None
+
+-- the depacketizer that is made, if one is
+abbrev pub depack_set : Spec → Option Depack
+depack_set s = if nat_lt 0 s.rate then option_map (configured_depack s.octet_align s.rate) (depack_for (codec_numbered s.codec)) else None

@@ -1,0 +1,17 @@
+-- What is known of a unit, as C has it.
+use Rattle.std.specs.Prelude.{◌≡◌, length}
+use Rattle.codec_payload_core.specs.Release.{Release, IsFirst, IsLast, IsReceivedFirst}
+use Rattle.codec_payload_core.specs.declared.buffer.RtpMeta.{RtpMeta}
+use Rattle.codec_payload_handle.specs.Extras.{extra_told}
+use Rattle.codec_payload_handle.specs.declared.unit.Unit.{Unit as CUnit}
+
+-- what is told of a unit
+pub record TellsUnit (u : Release) (unit : CUnit) : Type 0 where
+  pub first : (m : RtpMeta) × IsFirst u.metas m × (unit.first ≡ m.seq_no.0)
+  pub last : (m : RtpMeta) × IsLast u.metas m × (unit.last ≡ m.seq_no.0)
+  pub rtp_time : unit.rtp_time ≡ u.time.numer
+  pub received : (m : RtpMeta) × IsReceivedFirst u.metas m × (unit.received ≡ m.received.0)
+  pub bytes : unit.bytes ≡ length u.bytes
+  pub contiguous : unit.contiguous ≡ u.contiguous
+  pub starts : (m : RtpMeta) × IsFirst u.metas m × (unit.starts_talk_spurt ≡ m.header.marker)
+  pub extra : unit.extra ≡ extra_told u.codec_extra

@@ -1,0 +1,121 @@
+//! The handle under which C holds a value of this library.
+
+ghost use Rattle.std.specs.Prelude.{◌≡◌, Option, Some, None, option_map, is_some, IsSome, IsNone};
+ghost use Rattle.codec_payload_handle.specs.declared.object.Object.{Object as Held};
+
+use crate::loose::Loose;
+use crate::object::Object;
+use std::alloc::Global;
+use std::marker::Model;
+use std::{mem, ptr};
+
+/// One pointer, to a value on the heap or to nothing. It has no `Drop`, so that none is given up with what it owns.
+#[repr(C)]
+pub struct Place {
+    at: *mut u8,
+    ghost value: { Option Held },
+}
+
+impl Model for Place {
+    ghost use Rattle.codec_payload_handle.specs.Owned.{owns_object};
+
+    ghost also_owns = { λ p. owns_object p.at p.value };
+}
+
+// It may go to another thread with what it owns.
+unsafe impl Send for Place {}
+
+impl Place {
+    fn none() -> Place
+        ensures { result.value ≡ None }
+    {
+        Place {
+            at: ptr::null_mut(),
+        }
+    }
+
+    /// A place of nothing is given up.
+    fn gone(self)
+        requires { IsNone self.value }
+    {
+        let Place { at: _ } = self;
+    }
+
+    fn of_loose(loose: Loose<Object, Global>) -> Place
+        ensures { result.value ≡ Some loose.value }
+    {
+        let Loose { at, alloc: _ } = loose;
+        Place { at: at as *mut u8 }
+    }
+
+    fn into_loose(self, alloc: Global) -> Loose<Object, Global>
+        requires { IsSome self.value }
+        ensures { self.value ≡ Some result.value }
+    {
+        let Place { at } = self;
+        let at = at as *mut Object;
+        Loose { at, alloc }
+    }
+
+    fn of(value: Box<Object>) -> Place
+        ensures { result.value ≡ Some value.value }
+    {
+        Place::of_loose(Loose::of(value))
+    }
+
+    fn into_box(self, alloc: Global) -> Box<Object>
+        requires { IsSome self.value }
+        ensures { self.value ≡ Some result.value }
+    {
+        self.into_loose(alloc).into_box()
+    }
+}
+
+/// What C keeps in its own memory. All zero bytes are an empty handle.
+#[repr(C)]
+pub struct Handle {
+    full: bool,
+    place: Place,
+    ghost sound: { full ≡ is_some place.value },
+}
+
+impl Handle {
+    /// What the handle holds, which it then holds no more.
+    pub fn take(&mut self, alloc: Global) -> Option<Box<Object>>
+        ensures value { option_map (λ b. b.value) result ≡ self.old.place.value }
+        ensures empty { self.new.place.value ≡ None }
+    {
+        let empty = Handle {
+            full: false,
+            place: Place::none(),
+        };
+        let Handle { full, place } = mem::replace(self, empty);
+        if full {
+            Some(place.into_box(alloc))
+        } else {
+            place.gone();
+            None
+        }
+    }
+
+    /// An empty handle holds the value from then on.
+    pub fn put(&mut self, value: Box<Object>)
+        requires { self.old.place.value ≡ None }
+        ensures { self.new.place.value ≡ Some value.value }
+    {
+        let holding = Handle {
+            full: true,
+            place: Place::of(value),
+        };
+        let Handle { full: _, place } = mem::replace(self, holding);
+        place.gone();
+    }
+}
+
+/// Asks for a value that may go to another thread.
+fn may_leave<T: Send>(_value: &T) {}
+
+/// A handle may go to another thread.
+pub fn handle_may_leave(handle: &Handle) {
+    may_leave(handle);
+}

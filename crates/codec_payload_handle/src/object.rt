@@ -1,0 +1,60 @@
+//! What a handle can hold.
+
+use codec_payload_core::buffer::{Depacketized, DepacketizingBuffer};
+use codec_payload_core::codec::{CodecDepacketizer, CodecExtra, CodecPacketizer};
+use codec_payload_core::red::RedSender;
+use codec_payload_core::wire::Frequency;
+use codec_payload_sender::sender::Sender as DatagramSender;
+use codec_payload_stream::receiver::Receiver as DatagramReceiver;
+
+/// A packetizer, and the packets of its latest frame.
+#[derive(Drop)]
+pub struct Sender {
+    pub pack: CodecPacketizer,
+    pub packets: Vec<Vec<u8>>,
+    /// How many of the packets were taken.
+    pub taken: usize,
+    /// Whether the packets are marked as those that start a talk spurt.
+    pub marked: bool,
+}
+
+/// A depacketizer, and what was put together so far.
+#[derive(Drop)]
+pub struct Assembler {
+    pub depack: CodecDepacketizer,
+    pub bytes: Vec<u8>,
+    pub extra: CodecExtra,
+}
+
+/// A buffer, and the unit that it gave and the caller had no room for.
+#[derive(Drop)]
+pub struct Receiver {
+    pub buffer: DepacketizingBuffer,
+    pub waiting: Option<Depacketized>,
+    pub rate: Frequency,
+}
+
+/// A sender of datagrams.
+#[derive(Drop)]
+pub struct StreamSender {
+    pub sender: DatagramSender,
+    pub rate: Frequency,
+}
+
+/// A receiver of datagrams, and the unit that it gave and the caller had no room for.
+#[derive(Drop)]
+pub struct StreamReceiver {
+    pub receiver: DatagramReceiver,
+    pub waiting: Option<Depacketized>,
+}
+
+/// A value behind a handle.
+#[derive(Drop)]
+pub enum Object {
+    Sender(Sender),
+    Assembler(Assembler),
+    Receiver(Receiver),
+    RedSender(RedSender),
+    StreamSender(StreamSender),
+    StreamReceiver(StreamReceiver),
+}

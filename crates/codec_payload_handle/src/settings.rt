@@ -1,0 +1,100 @@
+//! What a packetizer and a depacketizer are made from.
+
+ghost use Rattle.std.specs.Prelude.{◌≡◌, option_map};
+ghost use Rattle.codec_payload_core.specs.Pack.{pack_of};
+ghost use Rattle.codec_payload_core.specs.Depack.{depack_of};
+ghost use Rattle.codec_payload_handle.specs.Settings.{codec_numbered, depack_set, mode_set, pack_set};
+
+use codec_payload_core::codec::{CodecDepacketizer, CodecPacketizer, Vp9PacketizerMode};
+use codec_payload_core::vp8::Vp8Packetizer;
+use codec_payload_core::wire::{Codec, CodecSpec, Frequency};
+use std::alloc::Global;
+
+/// The greatest picture id of 15 bits.
+const MAX_PICTURE_ID: u16 = 32_767;
+
+/// A codec with its settings.
+#[repr(C)]
+#[derive(Drop)]
+pub struct Spec {
+    /// The codec by its number.
+    pub codec: u32,
+    /// The rate of the RTP clock in hertz, above 0.
+    pub rate: u32,
+    /// The first picture id of VP9, and of VP8 with picture ids: at most 32,767.
+    pub first_id: u16,
+    /// Whether AMR-WB payloads are octet-aligned.
+    pub octet_align: bool,
+    /// Whether VP8 is sent with picture ids.
+    pub vp8_ids: bool,
+    /// Whether VP9 is sent in the flexible mode.
+    pub vp9_flexible: bool,
+}
+
+/// The codec of that number.
+pub fn codec_of(number: u32) -> Codec
+    ensures { result ≡ codec_numbered number }
+{
+    match number {
+        0 => Codec::Opus,
+        1 => Codec::PCMU,
+        2 => Codec::PCMA,
+        3 => Codec::G722,
+        4 => Codec::CN,
+        5 => Codec::AmrWb,
+        9 => Codec::Vp8,
+        10 => Codec::Vp9,
+        11 => Codec::Av1,
+        12 => Codec::Null,
+        13 => Codec::Tele,
+        _ => Codec::Unknown,
+    }
+}
+
+/// The mode of VP9.
+fn mode_of(flexible: bool) -> Vp9PacketizerMode
+    ensures { result ≡ mode_set flexible }
+{
+    if flexible {
+        Vp9PacketizerMode::Flexible
+    } else {
+        Vp9PacketizerMode::NonFlexible
+    }
+}
+
+/// The packetizer of the codec with these settings, if there is one.
+pub fn packetizer_of(spec: &Spec) -> Option<CodecPacketizer>
+    ensures { option_map pack_of result ≡ pack_set spec.now }
+{
+    let clock_rate = Frequency::make(spec.rate)?;
+    if spec.first_id > MAX_PICTURE_ID {
+        return None;
+    }
+    let codec = codec_of(spec.codec);
+    if spec.vp8_ids && spec.codec == 9 {
+        let pack = Vp8Packetizer::with_picture_id(spec.first_id);
+        return Some(CodecPacketizer::Vp8(pack));
+    }
+    let mut pack = CodecPacketizer::new(codec, mode_of(spec.vp9_flexible), spec.first_id)?;
+    pack.configure_for(&CodecSpec {
+        codec,
+        clock_rate,
+        octet_align: spec.octet_align,
+    });
+    Some(pack)
+}
+
+/// The depacketizer of the codec with these settings, if there is one.
+pub fn depacketizer_of(alloc: Global, spec: &Spec) -> Option<CodecDepacketizer>
+    ensures { option_map depack_of result ≡ depack_set spec.now }
+{
+    let clock_rate = Frequency::make(spec.rate)?;
+    let codec = codec_of(spec.codec);
+    let mut depack = CodecDepacketizer::from_codec(alloc, codec)?;
+    depack.configure_for(&CodecSpec {
+        codec,
+        clock_rate,
+        octet_align: spec.octet_align,
+    });
+    Some(depack)
+}

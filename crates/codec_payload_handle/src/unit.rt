@@ -1,0 +1,45 @@
+//! What is known of a unit, as C has it.
+
+ghost use Rattle.codec_payload_handle.specs.Units.{TellsUnit};
+
+use crate::extra::{Extra, extra_of};
+use codec_payload_core::buffer::Depacketized;
+
+/// What is known of a unit.
+#[repr(C)]
+#[derive(Drop)]
+pub struct Unit {
+    /// The number of its first packet.
+    pub first: u64,
+    /// The number of its last packet.
+    pub last: u64,
+    /// In ticks of the RTP clock, as it was pushed.
+    pub rtp_time: u64,
+    /// When the first of its packets was received, by the caller's clock.
+    pub received: u64,
+    /// How many bytes it has.
+    pub bytes: usize,
+    /// Whether it follows the unit before it.
+    pub contiguous: bool,
+    /// Whether its first packet has the marker, which audio sets where a talk spurt starts.
+    pub starts_talk_spurt: bool,
+    /// What its payloads told besides.
+    pub extra: Extra,
+}
+
+/// What is known of a unit, as C has it.
+pub fn unit_of(unit: &Depacketized) -> Unit
+    ensures { TellsUnit unit.now result }
+{
+    let numbers = unit.seq_range();
+    Unit {
+        first: numbers.start().0,
+        last: numbers.end().0,
+        rtp_time: unit.time.numer(),
+        received: unit.first_network_time().0,
+        bytes: unit.bytes.len(),
+        contiguous: unit.contiguous,
+        starts_talk_spurt: unit.start_of_talkspurt(),
+        extra: extra_of(&unit.codec_extra),
+    }
+}
