@@ -7,10 +7,11 @@
 #
 # The tests: the header and the Rust crate's declarations against the library; the header as C99 and C11 and, where there is a
 # C++ compiler, as C++11 and C++20; that the compiler tells one kind of struct from another, and a status that is not looked at;
-# what each call answers (bindings/c/checks.c, datagrams.c); scripts of payload_vectors through the library, compared byte for byte with the
-# program (bindings/c/vectors.c, inputs.py); allocations less frees after each kind of use, and each allocation of a session
-# refused in turn (bindings/c/oom.c); all of these also with the address and undefined-behaviour sanitizers; the Rust crates:
-# their tests, packages, lints, and documents without the library; and the installed library (install_test.sh).
+# what each call answers (bindings/c/checks.c, datagrams.c); a stream over UDP on loopback (loopback.c, and the same in Rust);
+# scripts of payload_vectors through the library, compared byte for byte with the program (vectors.c, inputs.py); allocations
+# less frees after each kind of use, and each allocation of a session refused in turn (oom.c); all of these also with the
+# address and undefined-behaviour sanitizers; the Rust crates: their tests, packages, lints, and documents without the library;
+# and the installed library (install_test.sh).
 #
 # Needs rt, a C compiler ($CC or cc) with its sanitizers, binutils and Python 3; for the Rust crate cargo of 1.85 or later; for
 # what is installed make, pkg-config and a C++ compiler. No network.
@@ -91,6 +92,9 @@ run_c() {
     "$work/checks" || fail "bindings/c/checks.c failed"
     compile datagrams "$@"
     "$work/datagrams" || fail "bindings/c/datagrams.c failed"
+    compile loopback "$@"
+    "$work/loopback" >"$work/loopback-out" || fail "bindings/c/loopback.c failed"
+    tail -n 1 "$work/loopback-out" | grep -qx '1278000 bytes of frames, 64 gaps' || fail "bindings/c/loopback.c printed something else"
     compile vectors "$@"
     compare_scripts
     compile oom "$@" -Wl,--wrap=malloc,--wrap=realloc,--wrap=free
@@ -143,6 +147,7 @@ command -v cargo >/dev/null || fail "there is no cargo; all but the Rust crates 
     CODEC_PAYLOAD_DIR=$out
     export CODEC_PAYLOAD_DIR
     cargo test --offline --quiet --workspace || exit 1
+    [ "$(cargo run --offline --quiet --example loopback | tail -n 1)" = "$(tail -n 1 "$work/loopback-out")" ] || exit 1
     cargo package --offline --quiet --allow-dirty --workspace || exit 1
     if cargo clippy --version >/dev/null 2>&1; then
         cargo clippy --offline --quiet --workspace --all-targets -- -D warnings || exit 1
