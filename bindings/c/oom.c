@@ -147,6 +147,55 @@ static int red(int *met) {
     return kept == before ? 0 : 7;
 }
 
+/* A stream of datagrams: frames in three packets, padding alone, and a sender that begins anew. */
+static int datagrams(int *met) {
+    long before = kept;
+    cpay_spec spec = {.codec = CPAY_VP8, .rate = 90000};
+    cpay_sender_settings sends = {.spec = spec, .mtu = MTU, .ssrc = 7, .payload_type = 96};
+    cpay_receiver_settings receives = CPAY_RECEIVER_SETTINGS;
+    cpay_sender sender = CPAY_INIT;
+    cpay_receiver receiver = CPAY_INIT;
+    cpay_receiver_counts_info counts = {0};
+    cpay_unit unit = {0};
+    static uint8_t frame[FRAME], bytes[FRAME];
+    static const uint8_t no_media[1] = {101};
+    uint64_t received = 0;
+    uint32_t outcome = 0;
+    cpay_status status;
+    receives.spec = spec;
+    receives.payload_type = 96;
+    receives.hold_back = 0;
+    AGAIN(status, cpay_receiver_new(&receiver, &receives, no_media, 1));
+    if (status) return 1;
+    for (uint32_t i = 0; i < 2 * FRAMES; i++) {
+        size_t count = 0, size = 0;
+        bool whole = true;
+        if (i % FRAMES == 0) {
+            cpay_sender_free(&sender);
+            sends.first_number = (uint16_t)(20000 * i);
+            AGAIN(status, cpay_sender_new(&sender, &sends));
+            if (status) return 2;
+        }
+        AGAIN(status, cpay_sender_send(&sender, 3000 * i, false, frame, FRAME, &count));
+        if (status || count != 4) return 3;
+        for (size_t k = 0; k < count; k++, received++) {
+            if (cpay_sender_datagram(&sender, k, bytes, FRAME, &size)) return 4;
+            AGAIN(status, cpay_receiver_receive(&receiver, i, bytes, size, &outcome));
+            if (status) return 5;
+            /* A suspect packet for which memory was wanting once it could go in is given up, and that is told. */
+            if (outcome == CPAY_RESTARTED_ALONE) whole = !refused, (*met)++;
+        }
+        AGAIN(status, cpay_receiver_pop(&receiver, i, &unit, bytes, 1));
+        if (!whole && status == CPAY_NONE) continue;
+        if (status != CPAY_TOO_SMALL || unit.bytes != FRAME) return 6;
+        if (cpay_receiver_pop(&receiver, i, &unit, bytes, FRAME) || memcmp(bytes, frame, FRAME)) return 7;
+    }
+    if (cpay_receiver_counts(&receiver, &counts) || counts.received != received || counts.restarts != 1) return 8;
+    cpay_sender_free(&sender);
+    cpay_receiver_free(&receiver);
+    return kept == before ? 0 : 9;
+}
+
 /* Frees what is made in a struct of any kind, and tells whether that took memory, and all it took since `before` came back. */
 static bool gives_back(any *it, long before) {
     bool took = kept > before;
@@ -224,7 +273,8 @@ static int session(int *met) {
         int ended = video(codecs[i], met);
         if (ended) return 100 * (int)codecs[i] + ended;
     }
-    return red(met);
+    int ended = red(met);
+    return ended ? ended : datagrams(met);
 }
 
 int main(void) {
