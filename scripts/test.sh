@@ -4,7 +4,7 @@
 #   scripts/test.sh              all of it
 #   scripts/test.sh --no-proofs  the scripts alone, over what was proved before
 #
-# Needs rt, a C and a C++ compiler, make, binutils, pkg-config, Python 3 and cargo; what is missing of Debian's packages is
+# Needs rt, a C and a C++ compiler, make, binutils, pkg-config, Python 3, cargo and valgrind; what is missing of Debian's packages is
 # installed where that may be done, and else named before anything starts. debhelper, lintian and doxygen are looked for
 # likewise; without them no Debian packages and manual pages are made. The last line is `N passed, N failed`; the status is 0
 # where nothing failed.
@@ -34,6 +34,7 @@ wants binutils ld objcopy nm
 wants pkg-config pkg-config
 wants python3 python3
 wants cargo cargo
+wants valgrind valgrind
 needed=$absent
 wants debhelper dh
 wants dpkg-dev dpkg-buildpackage
@@ -44,7 +45,7 @@ if [ -n "$absent" ] && [ "$(id -u)" -eq 0 ] && command -v apt-get >/dev/null; th
     # shellcheck disable=SC2086
     { apt-get update && DEBIAN_FRONTEND=noninteractive apt-get install -y --no-install-recommends $absent; } >"$work/apt" 2>&1 ||
         echo "not installed:$absent"
-    needed=$(for tool in cc c++ make ld objcopy nm pkg-config python3 cargo; do command -v "$tool" >/dev/null || echo "$tool"; done)
+    needed=$(for tool in cc c++ make ld objcopy nm pkg-config python3 cargo valgrind; do command -v "$tool" >/dev/null || echo "$tool"; done)
 fi
 command -v rt >/dev/null || needed="$needed rt"
 if [ -n "$needed" ]; then
@@ -79,5 +80,6 @@ runs scripts/process.py
 runs scripts/refuse.sh
 runs scripts/allocations.sh
 runs scripts/faces.sh
+runs scripts/instructions.sh
 echo "$passed passed, $failed failed"
 [ "$failed" -eq 0 ]
