@@ -26,11 +26,13 @@ use Rattle.codec_payload_stream.specs.declared.receiver.Datagram.TheVariants as 
 use Rattle.codec_payload_stream.specs.declared.receiver.ReceiveError.{ReceiveError}
 use Rattle.codec_payload_stream.specs.declared.receiver.ReceiveError.TheVariants as errors
 
--- a receiver, as contracts see it: the payload type of the stream and those without media, its SSRC, if it is known, the ids of
--- header extensions, the jitter buffer, and how many datagrams came to what before it
+-- a receiver, as contracts see it: the payload type of the stream and those without media, the SSRC that the settings name, if
+-- they do, and that of the stream, if it is known, the ids of header extensions, the jitter buffer, and how many datagrams came to
+-- what before it
 pub record Session : Type 0 where
   pub payload_type : ℕ
   pub no_media : List ℕ
+  pub named : Option ℕ
   pub ssrc : Option ℕ
   pub ids : ExtensionIds
   pub packets : Receiving
@@ -168,6 +170,7 @@ abbrev pub session_with : Settings → Depack → Numbering → Session
 session_with s depack numbering = record {
   payload_type = s.payload_type;
   no_media = s.no_media.items;
+  named = s.ssrc;
   ssrc = s.ssrc;
   ids = s.extension_ids;
   packets = no_packets numbering (empty_buffer s.patience.hold_back s.limit depack) s.clock_rate s.patience;

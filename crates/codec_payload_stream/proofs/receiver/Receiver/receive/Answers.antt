@@ -19,6 +19,7 @@ returns g c =
     let s : Session = record {
       payload_type = c.self.inside.payload_type;
       no_media = c.self.inside.no_media.items;
+      named = c.self.inside.named;
       ssrc = c.self.inside.ssrc;
       ids = c.self.inside.ids;
       packets = c.self.inside.packets;
