@@ -90,6 +90,8 @@ pub fn receiver_of(
         payload_type: 96,
         no_media: vec![in alloc; 101]?,
         ssrc: None,
+        red: None,
+        retransmission: None,
         extension_ids: ExtensionIds::default(),
         clock_rate: Frequency::FORTY_EIGHT_KHZ,
         patience,
