@@ -10,7 +10,7 @@ use Rattle.codec_payload_jitter.specs.declared.outcome.Outcome.{Outcome}
 use Rattle.codec_payload_jitter.specs.declared.outcome.Outcome.TheVariants as outcomes
 use Rattle.codec_payload_jitter.specs.declared.outcome.PacketCounters.{PacketCounters}
 use Rattle.codec_payload_stream.specs.Kinds.{Kinds, Carrier, Datagram, RtcpPacket, Malformed, OfOthers, WithoutMedia, WithMedia, InRed, Again, AgainEmpty}
-use Rattle.codec_payload_stream.specs.Sessions.{Session, TakesDatagram, TakesPrimaryIf, RecoversOr, RecoversBlock, RecoversAll, RecoversUnless, AnswersFor, Heard, IsSorted, arrived_with, ssrc_after, packet_in, is_suspect, error_of}
+use Rattle.codec_payload_stream.specs.Sessions.{Session, TakesDatagram, TakesPrimaryIf, RecoversOr, RecoversBlock, RecoversAll, RecoversUnless, AnswersFor, Heard, IsSorted, arrived_with, ssrc_after, packet_in, is_suspect, error_of, observed_in}
 use Rattle.codec_payload_stream.specs.declared.datagram.Malformation.{Malformation}
 use Rattle.codec_payload_stream.specs.declared.datagram.Malformation.TheVariants as malformations
 use Rattle.codec_payload_stream.specs.declared.receiver.Arrived.{Arrived}
@@ -177,7 +177,7 @@ not_memory (Again it) o is = cc
 not_memory AgainEmpty o is = cc
 
 pub heard : (now : Ticks) (d : Datagram) (s t : Session) (o : Outcome) (packets : Receiving) (answer : Result Outcome ReceiveError) → TakesDatagram s.stream now d s.packets o packets → AnswersFor d o answer
-    → t ≡ record s { ssrc = ssrc_after s.ssrc d; packets = packets; arrived = arrived_with s.arrived d } → Heard now d s answer t
+    → t ≡ record s { ssrc = ssrc_after s.ssrc d; packets = packets; arrived = arrived_with s.arrived d; reception = observed_in s.reception now.0 d } → Heard now d s answer t
 heard now d s t o packets (Ok told) takes answers left = record { outcome = o; packets = packets; takes = takes; answers = answers; left = left }
 heard now d s t o packets (Err (errors.Rtp e)) takes answers left = record { outcome = o; packets = packets; takes = takes; answers = answers; left = left }
 heard now d s t o packets (Err errors.Red) takes answers left = record { outcome = o; packets = packets; takes = takes; answers = answers; left = left }

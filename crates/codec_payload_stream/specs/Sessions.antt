@@ -16,6 +16,7 @@ use Rattle.codec_payload_jitter.specs.declared.outcome.Outcome.{Outcome}
 use Rattle.codec_payload_jitter.specs.declared.outcome.Outcome.TheVariants as outcomes
 use Rattle.codec_payload_jitter.specs.declared.outcome.PacketCounters.{PacketCounters}
 use Rattle.codec_payload_stream.specs.Kinds.{Kinds, Carrier, Datagram, RtcpPacket, Malformed, OfOthers, WithoutMedia, WithMedia, InRed, Again, AgainEmpty, block_header, header_for, original_header}
+use Rattle.codec_payload_stream.specs.Reports.{Reception, no_reception, observed}
 use Rattle.codec_payload_stream.specs.declared.datagram.Malformation.{Malformation}
 use Rattle.codec_payload_stream.specs.declared.datagram.Malformation.TheVariants as malformations
 use Rattle.codec_payload_stream.specs.declared.datagram.RedStream.{RedStream}
@@ -30,7 +31,8 @@ use Rattle.codec_payload_stream.specs.declared.receiver.SettingsError.{SettingsE
 use Rattle.codec_payload_stream.specs.declared.receiver.SettingsError.TheVariants as settings
 
 -- a receiver, as contracts see it: what tells the datagrams of the stream, the SSRC that the settings name, if they do, and that of
--- the stream, if it is known, the jitter buffer, how many datagrams came to what before it, and the RTP time of the latest unit
+-- the stream, if it is known, the jitter buffer, how many datagrams came to what before it, the RTP time of the latest unit, what
+-- came of the sender, and what that begins with
 pub record Session : Type 0 where
   pub stream : Kinds
   pub named : Option ℕ
@@ -38,6 +40,8 @@ pub record Session : Type 0 where
   pub packets : Receiving
   pub arrived : Arrived
   pub time : Option ℕ
+  pub reception : Reception
+  pub no_reception : Reception
 
 -- Each is accounted for
 
@@ -153,13 +157,24 @@ AnswersFor (InRed c) outcome answer = answer ≡ Ok outcome
 AnswersFor (Again o) outcome answer = answer ≡ Ok outcome
 AnswersFor AgainEmpty outcome answer = answer ≡ Ok outcome
 
+-- the packets of the stream's sender are counted for reports, as they came: not those that were sent again apart
+abbrev pub observed_in : Reception → ℕ → Datagram → Reception
+observed_in r now (WithoutMedia h) = observed r now h.sequence_number h.timestamp
+observed_in r now (WithMedia p) = observed r now p.header.sequence_number p.header.timestamp
+observed_in r now (InRed c) = observed r now c.header.sequence_number c.header.timestamp
+observed_in r now RtcpPacket = r
+observed_in r now (Malformed e) = r
+observed_in r now OfOthers = r
+observed_in r now (Again o) = r
+observed_in r now AgainEmpty = r
+
 -- a datagram is received, and its outcome told
 pub record Hears (now : Ticks) (d : Datagram) (s : Session) (answer : Result Outcome ReceiveError) (t : Session) : Type 0 where
   pub outcome : Outcome
   pub packets : Receiving
   pub takes : TakesDatagram s.stream now d s.packets outcome packets
   pub answers : AnswersFor d outcome answer
-  pub left : t ≡ record s { ssrc = ssrc_after s.ssrc d; packets = packets; arrived = arrived_with s.arrived d }
+  pub left : t ≡ record s { ssrc = ssrc_after s.ssrc d; packets = packets; arrived = arrived_with s.arrived d; reception = observed_in s.reception now.0 d }
 
 -- where memory was wanting, nothing has changed
 abbrev pub Heard : Ticks → Datagram → Session → Result Outcome ReceiveError → Session → Type 0
@@ -205,6 +220,8 @@ session_with s depack red numbering = record {
   packets = no_packets numbering (empty_buffer s.patience.hold_back s.limit depack) s.clock_rate s.patience;
   arrived = nothing_arrived;
   time = None;
+  reception = no_reception numbering s.tick_rate s.clock_rate;
+  no_reception = no_reception numbering s.tick_rate s.clock_rate;
 }
 
 abbrev pub session_within : Settings → Depack → Option RedStream → Result Numbering WindowError → Result Session SettingsError

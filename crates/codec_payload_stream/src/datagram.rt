@@ -7,9 +7,10 @@ ghost use Rattle.codec_payload_red.specs.RedRecovery.{packet_of as recovered_of}
 ghost use Rattle.codec_payload_rtp.specs.RtpValues.{header_of, packet_of};
 ghost use Rattle.codec_payload_jitter.specs.Receiving.{Receives, ReceivesAgain};
 ghost use Rattle.codec_payload_stream.specs.Kinds.{again_kind, block_header, carrier_of, datagram_at, datagram_of, header_for, is_among, is_other, is_padding_only, is_sent_again, kind_for, media_kind, original_header, original_of, red_kind, red_of, ssrc_or};
-ghost use Rattle.codec_payload_stream.specs.Sessions.{RecoversAll, RecoversOr, TakesDatagram, TakesPrimary, TakesRed, is_suspect, ssrc_after};
+ghost use Rattle.codec_payload_stream.specs.Sessions.{RecoversAll, RecoversOr, TakesDatagram, TakesPrimary, TakesRed, is_suspect, observed_in, ssrc_after};
 
 use crate::receiver::Retransmission;
+use crate::reports::ReceptionStatistics;
 use codec_payload_base::error::PacketError;
 use codec_payload_base::wire::{ExtensionValues, Pt, RtpHeader as Header, SeqNo, Ticks};
 use codec_payload_buffer::codec::Depacketizer;
@@ -437,5 +438,22 @@ pub(crate) fn ssrc_after(ssrc: Option<u32>, datagram: &Datagram<'_>) -> Option<u
         Datagram::NoMedia(packet) | Datagram::Media(packet) => Some(packet.header.ssrc),
         Datagram::Red(red) => Some(red.packet.header.ssrc),
         _ => ssrc,
+    }
+}
+
+/// A packet of the stream's sender came.
+pub(crate) fn observe(statistics: &mut ReceptionStatistics, now: Ticks, datagram: &Datagram<'_>)
+    ensures { statistics.new ≡ observed_in statistics.old now.0 (datagram_of datagram.now) }
+{
+    match datagram {
+        Datagram::NoMedia(packet) | Datagram::Media(packet) => {
+            let header = &packet.header;
+            statistics.observe(now, header.sequence_number, header.timestamp);
+        }
+        Datagram::Red(red) => {
+            let header = &red.packet.header;
+            statistics.observe(now, header.sequence_number, header.timestamp);
+        }
+        _ => {}
     }
 }

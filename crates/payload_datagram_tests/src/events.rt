@@ -94,6 +94,7 @@ pub fn receiver_of(
         retransmission: None,
         extension_ids: ExtensionIds::default(),
         clock_rate: Frequency::FORTY_EIGHT_KHZ,
+        tick_rate: Frequency::make(1_000).ok_or("a rate")?,
         patience,
         limit,
         forward: 3_000,

@@ -1,6 +1,7 @@
 use Rattle.std.proofs.Common.{◌≡◌, ◌∙◌, ℕ, ap, sym, subst, Option}
 use Rattle.codec_payload_stream.specs.Kinds.{Datagram, datagram_of, datagram_at}
-use Rattle.codec_payload_stream.specs.Sessions.{Heard, IsSorted, Session, arrived_with, ssrc_after}
+use Rattle.codec_payload_stream.specs.Sessions.{Heard, IsSorted, Session, arrived_with, observed_in, ssrc_after}
+use Rattle.codec_payload_stream.specs.Reports.{Reception}
 use Rattle.codec_payload_stream.specs.declared.receiver.Arrived.{Arrived}
 use Rattle.codec_payload_stream.proofs.SessionLemmas.{heard, takes_balanced}
 use Rattle.codec_payload_stream.proofs.receiver.Receiver.receive.Goals as goal
@@ -21,13 +22,16 @@ returns g c =
       packets = c.self.inside.packets;
       arrived = c.self.inside.arrived;
       time = c.self.inside.times;
+      reception = c.self.inside.statistics;
+      no_reception = c.self.inside.no_statistics;
     } in
     let d : Datagram = datagram_of c.in-Ok.datagram in
     let after = c.take.new.packets in
-    let t : Session = record s { ssrc = c.ssrc_after-self-inside.result; packets = after; arrived = c.with_datagram-self-inside.result } in
-    let left : t ≡ record s { ssrc = ssrc_after s.ssrc d; packets = after; arrived = arrived_with s.arrived d } =
-    ap (λ (o : Option ℕ). record s { ssrc = o; packets = after; arrived = c.with_datagram-self-inside.result }) c.ssrc_after-self-inside.ensures
-    ∙ ap (λ (a : Arrived). record s { ssrc = ssrc_after s.ssrc d; packets = after; arrived = a }) c.with_datagram-self-inside.ensures in
+    let t : Session = record s { ssrc = c.ssrc_after-self-inside.result; packets = after; arrived = c.with_datagram-self-inside.result; reception = c.observe.new.statistics } in
+    let left : t ≡ record s { ssrc = ssrc_after s.ssrc d; packets = after; arrived = arrived_with s.arrived d; reception = observed_in s.reception c.args.now.0 d } =
+    ap (λ (o : Option ℕ). record s { ssrc = o; packets = after; arrived = c.with_datagram-self-inside.result; reception = c.observe.new.statistics }) c.ssrc_after-self-inside.ensures
+    ∙ ap (λ (a : Arrived). record s { ssrc = ssrc_after s.ssrc d; packets = after; arrived = a; reception = c.observe.new.statistics }) c.with_datagram-self-inside.ensures
+    ∙ ap (λ (x : Reception). record s { ssrc = ssrc_after s.ssrc d; packets = after; arrived = arrived_with s.arrived d; reception = x }) c.observe.ensures in
     let made : Heard c.args.now d s c.answer_for.result t = heard c.args.now d s t c.in-Ok-take.outcome after c.answer_for.result c.in-Ok-take.ensures.ok c.answer_for.ensures left in
     let is : d ≡ datagram_at s.stream s.ssrc c.args.bytes.now = c.in-Ok.ensures.ok in
     subst (λ (x : Session). Heard c.args.now (datagram_at x.stream x.ssrc c.args.bytes.now) x c.answer_for.result t) c.self.view_is
