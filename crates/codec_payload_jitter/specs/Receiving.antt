@@ -95,6 +95,10 @@ goes_in outcomes.Rtcp = false
 abbrev pub counted_in_again : PacketCounters → Outcome → PacketCounters
 counted_in_again c outcome = if goes_in outcome then record c { retransmitted = next c.retransmitted } else c
 
+-- one more packet that never came went in, as another one carried it
+abbrev pub counted_recovered : PacketCounters → PacketCounters
+counted_recovered c = record c { recovered = next c.recovered }
+
 -- one more restart
 abbrev pub counted_restart : PacketCounters → PacketCounters
 counted_restart c = record c { restarts = next c.restarts }
@@ -206,6 +210,21 @@ ReceivesAgainAs (Some n) a r outcome t =
 abbrev pub ReceivesAgain : Arrival → Receiving → Outcome → Receiving → Type 0
 ReceivesAgain a r outcome t = ReceivesAgainAs (number_again r a.header.sequence_number) a r outcome t
 
+-- a packet that another one carried: where its number is within the windows and it is missing, it goes in like another; else
+-- nothing changes
+abbrev pub RecoversIf : Bool → ℕ → Arrival → Receiving → Bool → Receiving → Type 0
+RecoversIf false n a r went_in t = (went_in ≡ false) × (t ≡ r)
+RecoversIf true n a r went_in t =
+    (outcome : Outcome) × (mid : Receiving) × GoesOn n a r outcome mid × (went_in ≡ true)
+    × (t ≡ numbered r (extended.Number n) a.header.sequence_number (record mid { counters = counted_recovered mid.counters }))
+
+abbrev pub RecoversAs : Option ℕ → Arrival → Receiving → Bool → Receiving → Type 0
+RecoversAs None a r went_in t = (went_in ≡ false) × (t ≡ r)
+RecoversAs (Some n) a r went_in t = RecoversIf (goes_in (outcome_at r.buffer n)) n a r went_in t
+
+abbrev pub Recovers : Arrival → Receiving → Bool → Receiving → Type 0
+Recovers a r went_in t = RecoversAs (number_again r a.header.sequence_number) a r went_in t
+
 -- a number without media, by what it came to
 abbrev pub NotesAs : Extended → Receiving → Receiving → Type 0
 NotesAs (extended.Number n) r t = t ≡ record r { blanks = noted_blank n r.blanks; kept = None; counters = counted r.counters outcomes.NoMedia }
@@ -266,7 +285,7 @@ PopsWith (Some hold_back) r answer t =
     × (t ≡ record r { buffer = buffer; counters = counted_pop r.counters (units_in answer) (released_packets answer) (length r.buffer.held - length buffer.held) })
 
 abbrev pub no_counts : PacketCounters
-no_counts = record { pushed = 0; released = 0; left = 0; no_media = 0; duplicates = 0; late = 0; suspect = 0; evicted = 0; restarts = 0; retransmitted = 0; units = 0 }
+no_counts = record { pushed = 0; released = 0; left = 0; no_media = 0; duplicates = 0; late = 0; suspect = 0; evicted = 0; restarts = 0; retransmitted = 0; recovered = 0; units = 0 }
 
 -- nothing came so far
 abbrev pub no_packets : Numbering → State → ℕ → Patience → Receiving

@@ -9,7 +9,7 @@ ghost use Rattle.codec_payload_buffer.specs.Frames.{frames};
 ghost use Rattle.codec_payload_buffer.specs.Steps.{empty_buffer, is_at_most};
 ghost use Rattle.codec_payload_jitter.specs.Numbers.{no_numbers, number_in};
 ghost use Rattle.codec_payload_jitter.specs.Missing.{floor_of, is_absent, missing_numbers};
-ghost use Rattle.codec_payload_jitter.specs.Receiving.{Accepts, Confirms, GoesOn, NotesAs, ReceivesAs, ReceivesAgain, Restarts, answer_in, begun_anew, number_again, counted_in_again, GoesInAgain, IsConserved, Notes, PopsWith, Receives, TakesIn, arrival_of, counted, counted_again, counted_pop, counted_restart, deadline_by, deadline_of, is_overdue, is_pressed, is_starting, no_packets, outcome_at, restarted, settled, trusted, units_in, waiting_at};
+ghost use Rattle.codec_payload_jitter.specs.Receiving.{Accepts, Confirms, GoesOn, NotesAs, ReceivesAs, ReceivesAgain, Recovers, RecoversAs, Restarts, answer_in, goes_in, begun_anew, number_again, counted_in_again, counted_recovered, GoesInAgain, IsConserved, Notes, PopsWith, Receives, TakesIn, arrival_of, counted, counted_again, counted_pop, counted_restart, deadline_by, deadline_of, is_overdue, is_pressed, is_starting, no_packets, outcome_at, restarted, settled, trusted, units_in, waiting_at};
 ghost use Rattle.codec_payload_jitter.specs.Blanks.{noted_blank};
 ghost use Rattle.codec_payload_jitter.specs.declared.outcome.Outcome.TheVariants as outcomes;
 ghost use Rattle.codec_payload_jitter.specs.Runs.{AreChains, AreStretches, AreTrueStretches};
@@ -17,7 +17,9 @@ ghost use Rattle.codec_payload_jitter.specs.Runs.{AreChains, AreStretches, AreTr
 use crate::blanks::{is_late, is_noted, note_blank, pass_blanks};
 use crate::missing::MissingNumbers;
 use crate::numbers::{Extended, SequenceNumbers, lowest_with, number_within, without_restart};
-use crate::outcome::{packets_in, units_in, with_again, with_kept, with_outcome, with_pop};
+use crate::outcome::{
+    goes_in, packets_in, units_in, with_again, with_kept, with_outcome, with_pop, with_recovered,
+};
 pub use crate::outcome::{Outcome, PacketCounters};
 use codec_payload_base::error::PacketError;
 use codec_payload_base::wire::{Frequency, MediaTime, RtpHeader, SeqNo, Ticks};
@@ -204,6 +206,42 @@ impl<B: Depacketizer> JitterBuffer<B> {
         Ok(outcome)
     }
 
+    /// Takes in a packet that never came and that another one carried, as a block of RED (RFC 2198): where its number lies within
+    /// the windows and it is missing, it goes in like another, and is counted as recovered; else nothing changes. It confirms no
+    /// restart, and none is suspected for it. Tells whether it went in. The only fault is want of memory; nothing has changed
+    /// then.
+    pub fn push_recovered(
+        &mut self,
+        now: Ticks,
+        header: RtpHeader,
+        payload: Vec<u8>,
+    ) -> Result<bool, PacketError>
+        ensures ok { IfOk result (λ went_in. Recovers (record { now = now; header = header; bytes = payload.items }) self.old went_in self.new) }
+        ensures err { OnErr result (self.new ≡ self.old) }
+        ensures fault { IfErr result (λ f. f ≡ OutOfMemory) }
+    {
+        let low = header.sequence_number;
+        let Some(number) = self.number_again(low) else {
+            return Ok(false);
+        };
+        if !self.would_go_in(number) {
+            return Ok(false);
+        }
+        let answer = Extended::Number(number);
+        let mut numbers = self.numbers;
+        numbers.take(answer, low);
+        let lowest = lowest_with(self.lowest, answer);
+        let packet = KeptPacket {
+            received: now,
+            header,
+            payload,
+        };
+        self.go_on(number, packet)?;
+        self.count_recovered();
+        self.go_behind(numbers, lowest);
+        Ok(true)
+    }
+
     /// A packet came that has no number of this sender's: one that is sent again and has nothing in it (RFC 4588, section 4).
     pub fn push_nothing(&mut self)
         ensures { self.new ≡ record self.old { counters = counted self.old.counters outcomes.NoMedia } }
@@ -339,6 +377,13 @@ impl<B: Depacketizer> JitterBuffer<B> {
         number_within(self.numbers.answer_for(low))
     }
 
+    /// Whether a packet of that number would go in.
+    fn would_go_in(&self, number: u64) -> bool
+        ensures { result ≡ goes_in (outcome_at self.now.buffer number) }
+    {
+        goes_in(outcome_in(&self.buffer, SeqNo(number)))
+    }
+
     /// Goes on with these numbers.
     fn go_behind(&mut self, numbers: SequenceNumbers, lowest: Option<u64>)
         ensures { self.new ≡ record self.old { numbering = numbers; lowest = lowest; anew = false } }
@@ -417,6 +462,13 @@ impl<B: Depacketizer> JitterBuffer<B> {
         ensures { self.new ≡ record self.old { counters = counted_in_again self.old.counters outcome } }
     {
         self.counters = with_again(self.counters, outcome);
+    }
+
+    /// One more packet that never came went in.
+    fn count_recovered(&mut self)
+        ensures { self.new ≡ record self.old { counters = counted_recovered self.old.counters } }
+    {
+        self.counters = with_recovered(self.counters);
     }
 
     /// One more packet has no media.

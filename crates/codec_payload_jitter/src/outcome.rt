@@ -2,7 +2,7 @@
 
 ghost use Rattle.std.specs.Prelude.{◌≡◌, ◌≤◌};
 ghost use Rattle.codec_payload_buffer.specs.Blanks.{released_packets};
-ghost use Rattle.codec_payload_jitter.specs.Receiving.{come_to, counted, counted_again, counted_in_again, counted_pop, goes_in, no_counts, units_in};
+ghost use Rattle.codec_payload_jitter.specs.Receiving.{come_to, counted, counted_again, counted_in_again, counted_pop, counted_recovered, goes_in, no_counts, units_in};
 
 use codec_payload_base::error::PacketError;
 use codec_payload_buffer::buffer::Depacketized;
@@ -35,7 +35,7 @@ pub enum Outcome {
 /// How many packets came to what, each modulo 2^64.
 #[derive(Clone, Copy, Debug, PartialEq, Eq)]
 pub struct PacketCounters {
-    /// Came in, whatever became of them.
+    /// Came in, whatever became of them, or were recovered.
     pub pushed: u64,
     /// Went out in a unit.
     pub released: u64,
@@ -54,6 +54,10 @@ pub struct PacketCounters {
     ///
     /// [`JitterBuffer::push_again`]: crate::jitter::JitterBuffer::push_again
     pub retransmitted: u64,
+    /// Packets that never came, and went in as another one carried them, by a call of [`JitterBuffer::push_recovered`].
+    ///
+    /// [`JitterBuffer::push_recovered`]: crate::jitter::JitterBuffer::push_recovered
+    pub recovered: u64,
     /// How many units went out.
     pub units: u64,
 }
@@ -74,6 +78,7 @@ impl PacketCounters {
             evicted: 0,
             restarts: 0,
             retransmitted: 0,
+            recovered: 0,
             units: 0,
         }
     }
@@ -120,6 +125,14 @@ pub(crate) fn with_again(mut counters: PacketCounters, outcome: Outcome) -> Pack
     if goes_in(outcome) {
         counters.retransmitted = counters.retransmitted.wrapping_add(1);
     }
+    counters
+}
+
+/// One more packet that never came went in.
+pub(crate) fn with_recovered(mut counters: PacketCounters) -> PacketCounters
+    ensures { result ≡ counted_recovered counters }
+{
+    counters.recovered = counters.recovered.wrapping_add(1);
     counters
 }
 

@@ -33,6 +33,13 @@ impl RtpTimes {
         RtpTimes { last: None }
     }
 
+    /// The time that was told last, extended.
+    pub fn last(&self) -> Option<u64>
+        ensures { result ≡ self.now }
+    {
+        self.last
+    }
+
     /// The time of a packet or a unit, in ticks of the RTP clock, modulo 2^64.
     #[tactic(auto, using(crate::proofs::TimeLemmas::low_bits))]
     pub fn extend(&mut self, timestamp: u32) -> u64

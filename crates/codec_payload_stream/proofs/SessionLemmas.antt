@@ -1,80 +1,185 @@
 -- Every datagram is accounted for.
-use Rattle.std.proofs.Common.{◌≡◌, ◌∙◌, refl, ap, ℕ, Bool, true, false, Option, Some, None, Result, Ok, Err, arith}
+use Rattle.std.proofs.Common.{◌≡◌, ◌⊎◌, ◌∙◌, refl, ap, sym, subst, inl, inr, cond, ℕ, ◌+◌, ◌%◌, ◌^◌, List, [], ◌∷◌, Bool, true, false, Option, Some, None, Result, Ok, Err, arith, eqb}
 use Rattle.codec_payload_base.specs.declared.wire.Ticks.{Ticks}
-use Rattle.codec_payload_rtp.specs.declared.values.ExtensionIds.{ExtensionIds}
-use Rattle.codec_payload_jitter.specs.Receiving.{Receiving, Arrival, Confirms, ReceivesAs, NotesAs, counted_again, next}
-use Rattle.codec_payload_stream.specs.Sessions.{Session, Datagram, RtcpPacket, Malformed, OfOthers, WithoutMedia, WithMedia, TakesDatagram, AnswersFor, Heard, IsSorted, arrived_with, ssrc_after}
+use Rattle.codec_payload_red.specs.RedBlocks.{Block}
+use Rattle.codec_payload_red.specs.RedRecovery.{RecoveredPacket}
+use Rattle.codec_payload_jitter.specs.Receiving.{Receiving, Arrival, Confirms, ReceivesAs, ReceivesAgainAs, RecoversAs, RecoversIf, NotesAs, Accepts, counted, counted_again, counted_in_again, goes_in, next, number_again, outcome_at}
+use Rattle.codec_payload_jitter.specs.declared.numbers.Extended.{Extended}
+use Rattle.codec_payload_jitter.specs.declared.numbers.Extended.TheVariants as extended
 use Rattle.codec_payload_jitter.specs.declared.outcome.Outcome.{Outcome}
 use Rattle.codec_payload_jitter.specs.declared.outcome.Outcome.TheVariants as outcomes
 use Rattle.codec_payload_jitter.specs.declared.outcome.PacketCounters.{PacketCounters}
-use Rattle.codec_payload_jitter.specs.declared.numbers.Extended.{Extended}
-use Rattle.codec_payload_jitter.specs.declared.numbers.Extended.TheVariants as extended
+use Rattle.codec_payload_stream.specs.Kinds.{Kinds, Carrier, Datagram, RtcpPacket, Malformed, OfOthers, WithoutMedia, WithMedia, InRed, Again, AgainEmpty}
+use Rattle.codec_payload_stream.specs.Sessions.{Session, TakesDatagram, TakesPrimaryIf, RecoversOr, RecoversBlock, RecoversAll, RecoversUnless, AnswersFor, Heard, IsSorted, arrived_with, ssrc_after, packet_in, is_suspect, error_of, observed_in}
+use Rattle.codec_payload_stream.specs.declared.datagram.Malformation.{Malformation}
+use Rattle.codec_payload_stream.specs.declared.datagram.Malformation.TheVariants as malformations
 use Rattle.codec_payload_stream.specs.declared.receiver.Arrived.{Arrived}
 use Rattle.codec_payload_stream.specs.declared.receiver.ReceiveError.{ReceiveError}
 use Rattle.codec_payload_stream.specs.declared.receiver.ReceiveError.TheVariants as errors
 
--- how many packets were pushed, once that datagram came
-abbrev pub pushed_after : Datagram → ℕ → ℕ
-pushed_after RtcpPacket n = n
-pushed_after (Malformed e) n = n
-pushed_after OfOthers n = n
-pushed_after (WithoutMedia p) n = next n
-pushed_after (WithMedia p) n = next n
+-- how many packets were pushed, and how many of them recovered
+pub record Balance : Type 0 where
+  pub pushed : ℕ
+  pub recovered : ℕ
 
-again_pushed : (c : PacketCounters) (o : Outcome) → (counted_again c o).pushed ≡ c.pushed
-again_pushed c outcomes.Held = refl
-again_pushed c outcomes.HeldAndEvicted = refl
-again_pushed c outcomes.Duplicate = refl
-again_pushed c outcomes.Late = refl
-again_pushed c outcomes.Suspect = refl
-again_pushed c (outcomes.Restarted with_kept) = refl
-again_pushed c outcomes.NoMedia = refl
-again_pushed c outcomes.OtherStream = refl
-again_pushed c outcomes.Rtcp = refl
+abbrev pub balance : PacketCounters → Balance
+balance c = record { pushed = c.pushed; recovered = c.recovered }
 
-abbrev pub pushed_of : Receiving → ℕ
-pushed_of r = r.counters.pushed
+abbrev pub balance_of : Receiving → Balance
+balance_of r = balance r.counters
 
-confirms_pushed : (n : ℕ) (k : Option Arrival) (r t : Receiving) (with_kept : Bool) → Confirms n k r with_kept t → pushed_of t ≡ pushed_of r
-confirms_pushed n None r t with_kept got = ap pushed_of got.1
-confirms_pushed n (Some a) r t true got = ap pushed_of got.2 ∙ again_pushed r.counters _
-confirms_pushed n (Some a) r t false got = ap pushed_of got
+-- one more was pushed
+abbrev pub one_pushed : Balance → Balance
+one_pushed b = record { pushed = next b.pushed; recovered = b.recovered }
 
-receives_as_pushed : (answer : Extended) (a : Arrival) (r t : Receiving) (o : Outcome) → ReceivesAs answer a r o t → pushed_of t ≡ next (pushed_of r)
-receives_as_pushed (extended.Number n) a r t o got = ap pushed_of got.2 ∙ ap pushed_of got.1.3
-receives_as_pushed (extended.Restarted n) a r t o got = confirms_pushed n got.1.kept _ t got.2 got.4 ∙ ap pushed_of got.3.3
-receives_as_pushed extended.Suspect a r t o got = ap pushed_of got.1
-receives_as_pushed extended.Spent a r t o got = ap pushed_of got.1
+-- one more was recovered
+abbrev pub one_recovered : Balance → Balance
+one_recovered b = record { pushed = next b.pushed; recovered = next b.recovered }
 
-notes_as_pushed : (answer : Extended) (r t : Receiving) → NotesAs answer r t → pushed_of t ≡ next (pushed_of r)
-notes_as_pushed (extended.Number n) r t got = ap pushed_of got
-notes_as_pushed (extended.Restarted n) r t got = confirms_pushed n r.kept _ t got.0 got.1
-notes_as_pushed extended.Suspect r t got = ap pushed_of got
-notes_as_pushed extended.Spent r t got = ap pushed_of got
+again_balance : (c : PacketCounters) (o : Outcome) → balance (counted_again c o) ≡ balance c
+again_balance c outcomes.Held = refl
+again_balance c outcomes.HeldAndEvicted = refl
+again_balance c outcomes.Duplicate = refl
+again_balance c outcomes.Late = refl
+again_balance c outcomes.Suspect = refl
+again_balance c (outcomes.Restarted with_kept) = refl
+again_balance c outcomes.NoMedia = refl
+again_balance c outcomes.OtherStream = refl
+again_balance c outcomes.Rtcp = refl
 
-pub takes_pushed : (ids : ExtensionIds) (now : Ticks) (d : Datagram) (r t : Receiving) (o : Outcome) → TakesDatagram ids now d r o t → pushed_of t ≡ pushed_after d (pushed_of r)
-takes_pushed ids now RtcpPacket r t o got = ap pushed_of got.1
-takes_pushed ids now (Malformed e) r t o got = ap pushed_of got
-takes_pushed ids now OfOthers r t o got = ap pushed_of got.1
-takes_pushed ids now (WithoutMedia p) r t o got = ap pushed_of got.1.2 ∙ notes_as_pushed _ r got.1.0 got.1.1
-takes_pushed ids now (WithMedia p) r t o got = ap pushed_of got.2 ∙ receives_as_pushed _ _ r got.0 o got.1
+confirms_balance : (n : ℕ) (k : Option Arrival) (r t : Receiving) (with_kept : Bool) → Confirms n k r with_kept t → balance_of t ≡ balance_of r
+confirms_balance n None r t with_kept got = ap balance_of got.1
+confirms_balance n (Some a) r t true got = ap balance_of got.2 ∙ again_balance r.counters _
+confirms_balance n (Some a) r t false got = ap balance_of got
 
-pub sorted_after : (a : Arrived) (d : Datagram) (n : ℕ) → IsSorted a n → IsSorted (arrived_with a d) (pushed_after d n)
-sorted_after a RtcpPacket n kept = omega (arith, kept)
-sorted_after a (Malformed e) n kept = omega (arith, kept)
-sorted_after a OfOthers n kept = omega (arith, kept)
-sorted_after a (WithoutMedia p) n kept = omega (arith, kept)
-sorted_after a (WithMedia p) n kept = omega (arith, kept)
+counted_balance : (c : PacketCounters) (o : Outcome) → balance (counted c o) ≡ one_pushed (balance c)
+counted_balance c outcomes.Held = refl
+counted_balance c outcomes.HeldAndEvicted = refl
+counted_balance c outcomes.Duplicate = refl
+counted_balance c outcomes.Late = refl
+counted_balance c outcomes.Suspect = refl
+counted_balance c (outcomes.Restarted with_kept) = refl
+counted_balance c outcomes.NoMedia = refl
+counted_balance c outcomes.OtherStream = refl
+counted_balance c outcomes.Rtcp = refl
+
+accepts_balance : (a : Arrival) (n : ℕ) (r t : Receiving) (o : Outcome) → Accepts a n r o t → balance_of t ≡ one_pushed (balance_of r)
+accepts_balance a n r t o got = ap balance_of got.3 ∙ counted_balance r.counters o
+
+receives_as_balance : (answer : Extended) (a : Arrival) (r t : Receiving) (o : Outcome) → ReceivesAs answer a r o t → balance_of t ≡ one_pushed (balance_of r)
+receives_as_balance (extended.Number n) a r t o got = ap balance_of got.2 ∙ accepts_balance a n r got.0 o got.1
+receives_as_balance (extended.Restarted n) a r t o got = confirms_balance n got.1.kept _ t got.2 got.4 ∙ accepts_balance a n r got.1 got.0 got.3
+receives_as_balance extended.Suspect a r t o got = ap balance_of got.1
+receives_as_balance extended.Spent a r t o got = ap balance_of got.1
+
+notes_as_balance : (answer : Extended) (r t : Receiving) → NotesAs answer r t → balance_of t ≡ one_pushed (balance_of r)
+notes_as_balance (extended.Number n) r t got = ap balance_of got
+notes_as_balance (extended.Restarted n) r t got = confirms_balance n r.kept _ t got.0 got.1
+notes_as_balance extended.Suspect r t got = ap balance_of got
+notes_as_balance extended.Spent r t got = ap balance_of got
+
+in_again_balance : (c : PacketCounters) (o : Outcome) → balance (counted_in_again c o) ≡ balance c
+in_again_balance c o = by_test (goes_in o)
+  where
+    by_test : (b : Bool) → balance (cond b (record c { retransmitted = next c.retransmitted }) c) ≡ balance c
+    by_test true = refl
+    by_test false = refl
+
+receives_again_balance : (number : Option ℕ) (a : Arrival) (r t : Receiving) (o : Outcome) → ReceivesAgainAs number a r o t → balance_of t ≡ one_pushed (balance_of r)
+receives_again_balance None a r t o got = ap balance_of got.1
+receives_again_balance (Some n) a r t o got =
+    ap balance_of got.2 ∙ in_again_balance got.0.counters o ∙ ap balance_of got.1.2 ∙ accepts_balance a n r got.1.0 o got.1.1
+
+-- a packet that another one carried went in or it did not
+abbrev pub Recovered : Receiving → Receiving → Type 0
+Recovered r t = (balance_of t ≡ balance_of r) ⊎ (balance_of t ≡ one_recovered (balance_of r))
+
+recovers_if_balance : (b : Bool) (n : ℕ) (a : Arrival) (r t : Receiving) (went_in : Bool) → RecoversIf b n a r went_in t → Recovered r t
+recovers_if_balance false n a r t went_in got = inl (ap balance_of got.1)
+recovers_if_balance true n a r t went_in got =
+    let in_mid : balance_of got.1 ≡ one_pushed (balance_of r) = ap balance_of got.2.2 ∙ accepts_balance a n r got.2.0 got.0 got.2.1 in
+    inr (ap balance_of got.4 ∙ ap (λ (b : Balance). record { pushed = b.pushed; recovered = next b.recovered }) in_mid)
+
+recovers_as_balance : (number : Option ℕ) (a : Arrival) (r t : Receiving) (went_in : Bool) → RecoversAs number a r went_in t → Recovered r t
+recovers_as_balance None a r t went_in got = inl (ap balance_of got.1)
+recovers_as_balance (Some n) a r t went_in got = recovers_if_balance (goes_in (outcome_at r.buffer n)) n a r t went_in got
+
+recovers_or_balance : (b : Bool) (a : Arrival) (r t : Receiving) → RecoversOr b a r t → Recovered r t
+recovers_or_balance true a r t got = recovers_as_balance (number_again r a.header.sequence_number) a r t got.0 got.1
+recovers_or_balance false a r t got = inl (ap balance_of got)
+
+block_balance : (s : Kinds) (now : Ticks) (ssrc : ℕ) (x : Option RecoveredPacket) (r t : Receiving) → RecoversBlock s now ssrc x r t → Recovered r t
+block_balance s now ssrc None r t got = inl (ap balance_of got)
+block_balance s now ssrc (Some x) r t got = recovers_or_balance got.0 _ r t got.1
+
+-- Each is accounted for
+
+-- the same, by the balance
+abbrev pub IsBalanced : Arrived → Balance → Type 0
+IsBalanced a b = (a.received + b.recovered) % 2 ^ 64 ≡ (b.pushed + a.rtcp + a.malformed + a.other_streams) % 2 ^ 64
+
+recovered_balanced : (a : Arrived) (r t : Receiving) → Recovered r t → IsBalanced a (balance_of r) → IsBalanced a (balance_of t)
+recovered_balanced a r t (inl same) kept = subst (λ (b : Balance). IsBalanced a b) (sym same) kept
+recovered_balanced a r t (inr one) kept =
+    let after : IsBalanced a (one_recovered (balance_of r)) = omega (arith, kept) in
+    subst (λ (b : Balance). IsBalanced a b) (sym one) after
+
+all_balanced : (a : Arrived) (s : Kinds) (now : Ticks) (c : Carrier) (blocks : List Block) (r t : Receiving) → RecoversAll s now c blocks r t → IsBalanced a (balance_of r) → IsBalanced a (balance_of t)
+all_balanced a s now c [] r t got kept = subst (λ (x : Receiving). IsBalanced a (balance_of x)) (sym got) kept
+all_balanced a s now c (b ∷ bs) r t got kept =
+    all_balanced a s now c bs got.0 t got.2 (recovered_balanced a r got.0 (block_balance s now c.header.ssrc (packet_in c b) r got.0 got.1) kept)
+
+unless_balanced : (a : Arrived) (suspect : Bool) (s : Kinds) (now : Ticks) (c : Carrier) (r t : Receiving) → RecoversUnless suspect s now c r t → IsBalanced a (balance_of r) → IsBalanced a (balance_of t)
+unless_balanced a true s now c r t got kept = subst (λ (x : Receiving). IsBalanced a (balance_of x)) (sym got) kept
+unless_balanced a false s now c r t got kept = all_balanced a s now c c.older r t got kept
+
+primary_balance : (b : Bool) (s : Kinds) (now : Ticks) (c : Carrier) (r t : Receiving) (o : Outcome) → TakesPrimaryIf b s now c r o t → balance_of t ≡ one_pushed (balance_of r)
+primary_balance true s now c r t o got = ap balance_of got.2 ∙ receives_as_balance _ _ r got.0 o got.1
+primary_balance false s now c r t o got = ap balance_of got.1.2 ∙ notes_as_balance _ r got.1.0 got.1.1
+
+-- one more was received, and pushed
+pushed_balanced : (a : Arrived) (r t : Receiving) → balance_of t ≡ one_pushed (balance_of r) → IsBalanced a (balance_of r) → IsBalanced (record a { received = next a.received }) (balance_of t)
+pushed_balanced a r t one kept =
+    let after : IsBalanced (record a { received = next a.received }) (one_pushed (balance_of r)) = omega (arith, kept) in
+    subst (λ (b : Balance). IsBalanced (record a { received = next a.received }) b) (sym one) after
+
+-- one more was received, and not pushed
+apart_balanced : (a a' : Arrived) (r t : Receiving) → t ≡ r → IsBalanced a' (balance_of r) → IsBalanced a' (balance_of t)
+apart_balanced a a' r t same kept = subst (λ (x : Receiving). IsBalanced a' (balance_of x)) (sym same) kept
+
+pub takes_balanced : (s : Kinds) (now : Ticks) (a : Arrived) (d : Datagram) (r t : Receiving) (o : Outcome) → TakesDatagram s now d r o t → IsSorted a r.counters → IsSorted (arrived_with a d) t.counters
+takes_balanced s now a RtcpPacket r t o got kept = apart_balanced a (arrived_with a RtcpPacket) r t got.1 (omega (arith, kept))
+takes_balanced s now a (Malformed e) r t o got kept = apart_balanced a (arrived_with a (Malformed e)) r t got (omega (arith, kept))
+takes_balanced s now a OfOthers r t o got kept = apart_balanced a (arrived_with a OfOthers) r t got.1 (omega (arith, kept))
+takes_balanced s now a (WithoutMedia h) r t o got kept = pushed_balanced a r t (ap balance_of got.1.2 ∙ notes_as_balance _ r got.1.0 got.1.1) kept
+takes_balanced s now a (WithMedia p) r t o got kept = pushed_balanced a r t (ap balance_of got.2 ∙ receives_as_balance _ _ r got.0 o got.1) kept
+takes_balanced s now a (InRed c) r t o got kept =
+    unless_balanced (record a { received = next a.received }) (is_suspect o) s now c got.0 t got.2
+    (pushed_balanced a r got.0 (primary_balance (eqb c.primary.pt s.payload_type) s now c r got.0 o got.1) kept)
+takes_balanced s now a (Again it) r t o got kept = pushed_balanced a r t (receives_again_balance _ _ r t o got) kept
+takes_balanced s now a AgainEmpty r t o got kept = pushed_balanced a r t (ap balance_of got.1) kept
+
+-- Answers
+
+not_memory_of : (e : Malformation) → error_of e ≡ errors.OutOfMemory → ⊥
+not_memory_of (malformations.Rtp e) is = cc
+not_memory_of malformations.Red is = cc
+not_memory_of malformations.Retransmission is = cc
 
 not_memory : (d : Datagram) (o : Outcome) → AnswersFor d o (Err errors.OutOfMemory) → ⊥
 not_memory RtcpPacket o is = cc
-not_memory (Malformed e) o is = cc
+not_memory (Malformed e) o is = not_memory_of e (cc)
 not_memory OfOthers o is = cc
-not_memory (WithoutMedia p) o is = cc
+not_memory (WithoutMedia h) o is = cc
 not_memory (WithMedia p) o is = cc
+not_memory (InRed c) o is = cc
+not_memory (Again it) o is = cc
+not_memory AgainEmpty o is = cc
 
-pub heard : (now : Ticks) (d : Datagram) (s t : Session) (o : Outcome) (packets : Receiving) (answer : Result Outcome ReceiveError) → TakesDatagram s.ids now d s.packets o packets → AnswersFor d o answer
-    → t ≡ record s { ssrc = ssrc_after s.ssrc d; packets = packets; arrived = arrived_with s.arrived d } → Heard now d s answer t
+pub heard : (now : Ticks) (d : Datagram) (s t : Session) (o : Outcome) (packets : Receiving) (answer : Result Outcome ReceiveError) → TakesDatagram s.stream now d s.packets o packets → AnswersFor d o answer
+    → t ≡ record s { ssrc = ssrc_after s.ssrc d; packets = packets; arrived = arrived_with s.arrived d; reception = observed_in s.reception now.0 d } → Heard now d s answer t
 heard now d s t o packets (Ok told) takes answers left = record { outcome = o; packets = packets; takes = takes; answers = answers; left = left }
 heard now d s t o packets (Err (errors.Rtp e)) takes answers left = record { outcome = o; packets = packets; takes = takes; answers = answers; left = left }
+heard now d s t o packets (Err errors.Red) takes answers left = record { outcome = o; packets = packets; takes = takes; answers = answers; left = left }
+heard now d s t o packets (Err errors.Retransmission) takes answers left = record { outcome = o; packets = packets; takes = takes; answers = answers; left = left }
 heard now d s t o packets (Err errors.OutOfMemory) takes answers left = absurd (not_memory d o answers)

@@ -1,90 +1,47 @@
--- A receiver: which datagrams belong to its stream, and each of them accounted for.
-use Rattle.std.specs.Prelude.{◌≡◌, ℕ, ◌+◌, ◌%◌, ◌^◌, ◌==◌, ◌||◌, ◌&&◌, not, nat_le, nat_lt, if◌then◌else◌, Bool, false, List, [], ◌∷◌, Option, Some, None, Result, Ok, Err, length}
+-- A receiver: each datagram, and each of them accounted for.
+use Rattle.std.specs.Prelude.{◌≡◌, ℕ, ◌+◌, ◌%◌, ◌^◌, ◌==◌, ◌&&◌, not, nat_le, nat_lt, if◌then◌else◌, Bool, true, false, List, [], ◌∷◌, Option, Some, None, Result, Ok, Err}
+use Rattle.codec_payload_base.specs.declared.error.PacketError.{PacketError}
 use Rattle.codec_payload_base.specs.declared.wire.Ticks.{Ticks}
-use Rattle.codec_payload_base.specs.declared.wire.RtpHeader.{RtpHeader}
-use Rattle.codec_payload_rtp.specs.ExtensionFormats.{values_in, elements_of}
-use Rattle.codec_payload_rtp.specs.RtpPackets.{Header, Packet, is_rtcp}
-use Rattle.codec_payload_rtp.specs.RtpReading.{rtp_at}
-use Rattle.codec_payload_rtp.specs.RtpValues.{packet_of}
-use Rattle.codec_payload_rtp.specs.declared.rtp.RtpError.{RtpError}
-use Rattle.codec_payload_rtp.specs.declared.values.ExtensionIds.{ExtensionIds}
+use Rattle.codec_payload_red.specs.RedBlocks.{Block}
+use Rattle.codec_payload_red.specs.RedRecovery.{RecoveredPacket, recovered_from}
+use Rattle.codec_payload_rtp.specs.ExtendedTimes.{extended_time}
 use Rattle.codec_payload_buffer.specs.Depack.{Depack}
+use Rattle.codec_payload_buffer.specs.Release.{Release}
 use Rattle.codec_payload_buffer.specs.Steps.{empty_buffer}
 use Rattle.codec_payload_jitter.specs.Numbers.{Numbering, numbering_within}
-use Rattle.codec_payload_jitter.specs.Receiving.{Receiving, Notes, Receives, next, no_packets}
+use Rattle.codec_payload_jitter.specs.Receiving.{Receiving, Arrival, Notes, Receives, ReceivesAgain, Recovers, counted, next, no_packets}
 use Rattle.codec_payload_jitter.specs.declared.numbers.WindowError.{WindowError}
 use Rattle.codec_payload_jitter.specs.declared.numbers.WindowError.TheVariants as windows
+use Rattle.codec_payload_jitter.specs.declared.outcome.Outcome.{Outcome}
+use Rattle.codec_payload_jitter.specs.declared.outcome.Outcome.TheVariants as outcomes
+use Rattle.codec_payload_jitter.specs.declared.outcome.PacketCounters.{PacketCounters}
+use Rattle.codec_payload_stream.specs.Kinds.{Kinds, Carrier, Datagram, RtcpPacket, Malformed, OfOthers, WithoutMedia, WithMedia, InRed, Again, AgainEmpty, block_header, header_for, original_header}
+use Rattle.codec_payload_stream.specs.Reports.{Reception, no_reception, observed}
+use Rattle.codec_payload_stream.specs.declared.datagram.Malformation.{Malformation}
+use Rattle.codec_payload_stream.specs.declared.datagram.Malformation.TheVariants as malformations
+use Rattle.codec_payload_stream.specs.declared.datagram.RedStream.{RedStream}
+use Rattle.codec_payload_stream.specs.declared.receiver.Arrived.{Arrived}
+use Rattle.codec_payload_stream.specs.declared.receiver.Counters.{Counters}
+use Rattle.codec_payload_stream.specs.declared.receiver.ReceiveError.{ReceiveError}
+use Rattle.codec_payload_stream.specs.declared.receiver.ReceiveError.TheVariants as errors
+use Rattle.codec_payload_stream.specs.declared.receiver.RedSettings.{RedSettings}
+use Rattle.codec_payload_stream.specs.declared.receiver.Retransmission.{Retransmission}
 use Rattle.codec_payload_stream.specs.declared.receiver.Settings.{Settings}
 use Rattle.codec_payload_stream.specs.declared.receiver.SettingsError.{SettingsError}
 use Rattle.codec_payload_stream.specs.declared.receiver.SettingsError.TheVariants as settings
-use Rattle.codec_payload_jitter.specs.declared.outcome.Outcome.{Outcome}
-use Rattle.codec_payload_jitter.specs.declared.outcome.Outcome.TheVariants as outcomes
-use Rattle.codec_payload_stream.specs.declared.receiver.Arrived.{Arrived}
-use Rattle.codec_payload_stream.specs.declared.receiver.Counters.{Counters}
-use Rattle.codec_payload_stream.specs.declared.receiver.Datagram.{Datagram as LentDatagram}
-use Rattle.codec_payload_stream.specs.declared.receiver.Datagram.TheVariants as lent
-use Rattle.codec_payload_stream.specs.declared.receiver.ReceiveError.{ReceiveError}
-use Rattle.codec_payload_stream.specs.declared.receiver.ReceiveError.TheVariants as errors
 
--- a receiver, as contracts see it: the payload type of the stream and those without media, its SSRC, if it is known, the ids of
--- header extensions, the jitter buffer, and how many datagrams came to what before it
+-- a receiver, as contracts see it: what tells the datagrams of the stream, the SSRC that the settings name, if they do, and that of
+-- the stream, if it is known, the jitter buffer, how many datagrams came to what before it, the RTP time of the latest unit, what
+-- came of the sender, and what that begins with
 pub record Session : Type 0 where
-  pub payload_type : ℕ
-  pub no_media : List ℕ
+  pub stream : Kinds
+  pub named : Option ℕ
   pub ssrc : Option ℕ
-  pub ids : ExtensionIds
   pub packets : Receiving
   pub arrived : Arrived
-
--- Which datagrams belong to the stream
-
--- what a datagram is to a stream
-pub data Datagram : Type 0 where
-  RtcpPacket : Datagram
-  Malformed : RtpError → Datagram
-  OfOthers : Datagram
-  WithoutMedia : Packet → Datagram
-  WithMedia : Packet → Datagram
-
-abbrev pub datagram_of : LentDatagram → Datagram
-datagram_of lent.Rtcp = RtcpPacket
-datagram_of (lent.Malformed e) = Malformed e
-datagram_of lent.OtherStream = OfOthers
-datagram_of (lent.NoMedia p) = WithoutMedia (packet_of p)
-datagram_of (lent.Media p) = WithMedia (packet_of p)
-
--- the type is one of these
-abbrev pub is_among : ℕ → List ℕ → Bool
-is_among payload_type [] = false
-is_among payload_type (t ∷ ts) = (t == payload_type) || is_among payload_type ts
-
--- it is another SSRC than the one that is known
-abbrev pub is_other : Option ℕ → ℕ → Bool
-is_other None ssrc = false
-is_other (Some known) ssrc = not (known == ssrc)
-
--- there is padding and nothing else
-abbrev pub is_padding_only : Packet → Bool
-is_padding_only p = nat_lt 0 p.padding && (length p.payload == 0)
-
--- of a packet of the stream's payload type
-abbrev pub media_kind : Packet → Datagram
-media_kind p = if is_padding_only p then WithoutMedia p else WithMedia p
-
--- by SSRC and payload type
-abbrev pub kind_for : ℕ → List ℕ → Option ℕ → Packet → Datagram
-kind_for payload_type no_media ssrc p =
-    if is_other ssrc p.header.ssrc then OfOthers
-    else (if p.header.payload_type == payload_type then media_kind p
-    else (if is_among p.header.payload_type no_media then WithoutMedia p else OfOthers))
-
-abbrev pub kind_read : ℕ → List ℕ → Option ℕ → Result Packet RtpError → Datagram
-kind_read payload_type no_media ssrc (Err e) = Malformed e
-kind_read payload_type no_media ssrc (Ok p) = kind_for payload_type no_media ssrc p
-
--- of any bytes
-abbrev pub datagram_at : ℕ → List ℕ → Option ℕ → List ℕ → Datagram
-datagram_at payload_type no_media ssrc bytes = if is_rtcp bytes then RtcpPacket else kind_read payload_type no_media ssrc (rtp_at bytes)
+  pub time : Option ℕ
+  pub reception : Reception
+  pub no_reception : Reception
 
 -- Each is accounted for
 
@@ -93,94 +50,193 @@ abbrev pub arrived_with : Arrived → Datagram → Arrived
 arrived_with a RtcpPacket = record a { received = next a.received; rtcp = next a.rtcp }
 arrived_with a (Malformed e) = record a { received = next a.received; malformed = next a.malformed }
 arrived_with a OfOthers = record a { received = next a.received; other_streams = next a.other_streams }
-arrived_with a (WithoutMedia p) = record a { received = next a.received }
+arrived_with a (WithoutMedia h) = record a { received = next a.received }
 arrived_with a (WithMedia p) = record a { received = next a.received }
+arrived_with a (InRed c) = record a { received = next a.received }
+arrived_with a (Again o) = record a { received = next a.received }
+arrived_with a AgainEmpty = record a { received = next a.received }
 
--- each datagram is RTCP, no RTP packet, of another stream, or was pushed
-abbrev pub IsSorted : Arrived → ℕ → Type 0
-IsSorted a pushed = a.received ≡ (pushed + a.rtcp + a.malformed + a.other_streams) % 2 ^ 64
+-- each datagram is RTCP, malformed, of another stream, or was pushed; and besides those that were received there are those that
+-- others carried
+abbrev pub IsSorted : Arrived → PacketCounters → Type 0
+IsSorted a c = (a.received + c.recovered) % 2 ^ 64 ≡ (c.pushed + a.rtcp + a.malformed + a.other_streams) % 2 ^ 64
 
--- Nothing is lost in silence: each datagram that was received was RTCP, no RTP packet, of another stream, without media,
--- there already, late, suspect or evicted, or it is held, or it went out in a unit, or left with a frame and not in a unit;
--- counted modulo 2^64
+-- Nothing is lost in silence: each datagram that was received, and each packet that was recovered, was RTCP, malformed, of another
+-- stream, without media, there already, late, suspect or evicted, or it is held, or it went out in a unit, or left with a frame and
+-- not in a unit; counted modulo 2^64
 abbrev pub IsAccountedFor : Counters → ℕ → Type 0
 IsAccountedFor c held =
-    c.received ≡ (c.rtcp + c.malformed + c.other_streams + c.packets.no_media + c.packets.duplicates + c.packets.late + c.packets.suspect + c.packets.evicted
+    (c.received + c.packets.recovered) % 2 ^ 64
+    ≡ (c.rtcp + c.malformed + c.other_streams + c.packets.no_media + c.packets.duplicates + c.packets.late + c.packets.suspect + c.packets.evicted
     + held + c.packets.released + c.packets.left) % 2 ^ 64
 
 -- Receiving
 
--- the header of a packet, as payloads have it
-abbrev pub header_for : ExtensionIds → Header → RtpHeader
-header_for ids h = record {
-  payload_type = h.payload_type;
-  sequence_number = h.sequence_number;
-  timestamp = h.timestamp;
-  ssrc = h.ssrc;
-  marker = h.marker;
-  ext_vals = values_in ids (elements_of h.extension);
-}
-
 -- the SSRC of the first packet is that of the stream
 abbrev pub ssrc_after : Option ℕ → Datagram → Option ℕ
-ssrc_after ssrc (WithoutMedia p) = Some p.header.ssrc
+ssrc_after ssrc (WithoutMedia h) = Some h.ssrc
 ssrc_after ssrc (WithMedia p) = Some p.header.ssrc
+ssrc_after ssrc (InRed c) = Some c.header.ssrc
 ssrc_after ssrc RtcpPacket = ssrc
 ssrc_after ssrc (Malformed e) = ssrc
 ssrc_after ssrc OfOthers = ssrc
+ssrc_after ssrc (Again o) = ssrc
+ssrc_after ssrc AgainEmpty = ssrc
+
+-- a packet that another one carried goes in where it is missing; where memory is wanting for it, nothing changes
+abbrev pub RecoversOr : Bool → Arrival → Receiving → Receiving → Type 0
+RecoversOr true a r t = (went_in : Bool) × Recovers a r went_in t
+RecoversOr false a r t = t ≡ r
+
+-- the packet that a block is, if it is one
+abbrev pub RecoversBlock : Kinds → Ticks → ℕ → Option RecoveredPacket → Receiving → Receiving → Type 0
+RecoversBlock s now ssrc None r t = t ≡ r
+RecoversBlock s now ssrc (Some x) r t = (with_memory : Bool) × RecoversOr with_memory (record { now = now; header = block_header s ssrc x; bytes = x.bytes }) r t
+
+-- the numbers of blocks are told from that of the packet; 65,536 on top keeps those before it above 0
+abbrev pub packet_in : Carrier → Block → Option RecoveredPacket
+packet_in c b = recovered_from c.receiver (65536 + c.header.sequence_number) c.header.timestamp b
+
+-- each of the blocks, in order
+abbrev pub RecoversAll : Kinds → Ticks → Carrier → List Block → Receiving → Receiving → Type 0
+RecoversAll s now c [] r t = t ≡ r
+RecoversAll s now c (b ∷ bs) r t = (mid : Receiving) × RecoversBlock s now c.header.ssrc (packet_in c b) r mid × RecoversAll s now c bs mid t
+
+-- what the packet itself is: its primary block, where that is media of the stream
+abbrev pub TakesPrimaryIf : Bool → Kinds → Ticks → Carrier → Receiving → Outcome → Receiving → Type 0
+TakesPrimaryIf true s now c r outcome t = Receives (record { now = now; header = header_for s c.header; bytes = c.primary.payload }) r outcome t
+TakesPrimaryIf false s now c r outcome t = (outcome ≡ outcomes.NoMedia) × Notes c.header.sequence_number r t
+
+abbrev pub TakesPrimary : Kinds → Ticks → Carrier → Receiving → Outcome → Receiving → Type 0
+TakesPrimary s now c r outcome t = TakesPrimaryIf (c.primary.pt == s.payload_type) s now c r outcome t
+
+abbrev pub is_suspect : Outcome → Bool
+is_suspect outcomes.Suspect = true
+is_suspect outcomes.Held = false
+is_suspect outcomes.HeldAndEvicted = false
+is_suspect outcomes.Duplicate = false
+is_suspect outcomes.Late = false
+is_suspect outcomes.NoMedia = false
+is_suspect (outcomes.Restarted _) = false
+is_suspect outcomes.OtherStream = false
+is_suspect outcomes.Rtcp = false
+
+-- of a suspect packet nothing is recovered
+abbrev pub RecoversUnless : Bool → Kinds → Ticks → Carrier → Receiving → Receiving → Type 0
+RecoversUnless true s now c r t = t ≡ r
+RecoversUnless false s now c r t = RecoversAll s now c c.older r t
+
+-- a packet of RED: first what it is itself, and then what it carries
+abbrev pub TakesRed : Kinds → Ticks → Carrier → Receiving → Outcome → Receiving → Type 0
+TakesRed s now c r outcome t = (mid : Receiving) × TakesPrimary s now c r outcome mid × RecoversUnless (is_suspect outcome) s now c mid t
 
 -- the jitter buffer takes in what is its stream's
-abbrev pub TakesDatagram : ExtensionIds → Ticks → Datagram → Receiving → Outcome → Receiving → Type 0
-TakesDatagram ids now RtcpPacket r outcome t = (outcome ≡ outcomes.Rtcp) × (t ≡ r)
-TakesDatagram ids now (Malformed e) r outcome t = t ≡ r
-TakesDatagram ids now OfOthers r outcome t = (outcome ≡ outcomes.OtherStream) × (t ≡ r)
-TakesDatagram ids now (WithoutMedia p) r outcome t = (outcome ≡ outcomes.NoMedia) × Notes p.header.sequence_number r t
-TakesDatagram ids now (WithMedia p) r outcome t = Receives (record { now = now; header = header_for ids p.header; bytes = p.payload }) r outcome t
+abbrev pub TakesDatagram : Kinds → Ticks → Datagram → Receiving → Outcome → Receiving → Type 0
+TakesDatagram s now RtcpPacket r outcome t = (outcome ≡ outcomes.Rtcp) × (t ≡ r)
+TakesDatagram s now (Malformed e) r outcome t = t ≡ r
+TakesDatagram s now OfOthers r outcome t = (outcome ≡ outcomes.OtherStream) × (t ≡ r)
+TakesDatagram s now (WithoutMedia h) r outcome t = (outcome ≡ outcomes.NoMedia) × Notes h.sequence_number r t
+TakesDatagram s now (WithMedia p) r outcome t = Receives (record { now = now; header = header_for s p.header; bytes = p.payload }) r outcome t
+TakesDatagram s now (InRed c) r outcome t = TakesRed s now c r outcome t
+TakesDatagram s now (Again o) r outcome t = ReceivesAgain (record { now = now; header = original_header s o; bytes = o.bytes }) r outcome t
+TakesDatagram s now AgainEmpty r outcome t = (outcome ≡ outcomes.NoMedia) × (t ≡ record r { counters = counted r.counters outcomes.NoMedia })
 
--- the fault that is told of a datagram, if it is no RTP packet
+-- the fault that is told of a malformed datagram
+abbrev pub error_of : Malformation → ReceiveError
+error_of (malformations.Rtp e) = errors.Rtp e
+error_of malformations.Red = errors.Red
+error_of malformations.Retransmission = errors.Retransmission
+
 abbrev pub AnswersFor : Datagram → Outcome → Result Outcome ReceiveError → Type 0
-AnswersFor (Malformed e) outcome answer = answer ≡ Err (errors.Rtp e)
+AnswersFor (Malformed e) outcome answer = answer ≡ Err (error_of e)
 AnswersFor RtcpPacket outcome answer = answer ≡ Ok outcome
 AnswersFor OfOthers outcome answer = answer ≡ Ok outcome
-AnswersFor (WithoutMedia p) outcome answer = answer ≡ Ok outcome
+AnswersFor (WithoutMedia h) outcome answer = answer ≡ Ok outcome
 AnswersFor (WithMedia p) outcome answer = answer ≡ Ok outcome
+AnswersFor (InRed c) outcome answer = answer ≡ Ok outcome
+AnswersFor (Again o) outcome answer = answer ≡ Ok outcome
+AnswersFor AgainEmpty outcome answer = answer ≡ Ok outcome
+
+-- the packets of the stream's sender are counted for reports, as they came: not those that were sent again apart
+abbrev pub observed_in : Reception → ℕ → Datagram → Reception
+observed_in r now (WithoutMedia h) = observed r now h.sequence_number h.timestamp
+observed_in r now (WithMedia p) = observed r now p.header.sequence_number p.header.timestamp
+observed_in r now (InRed c) = observed r now c.header.sequence_number c.header.timestamp
+observed_in r now RtcpPacket = r
+observed_in r now (Malformed e) = r
+observed_in r now OfOthers = r
+observed_in r now (Again o) = r
+observed_in r now AgainEmpty = r
 
 -- a datagram is received, and its outcome told
 pub record Hears (now : Ticks) (d : Datagram) (s : Session) (answer : Result Outcome ReceiveError) (t : Session) : Type 0 where
   pub outcome : Outcome
   pub packets : Receiving
-  pub takes : TakesDatagram s.ids now d s.packets outcome packets
+  pub takes : TakesDatagram s.stream now d s.packets outcome packets
   pub answers : AnswersFor d outcome answer
-  pub left : t ≡ record s { ssrc = ssrc_after s.ssrc d; packets = packets; arrived = arrived_with s.arrived d }
+  pub left : t ≡ record s { ssrc = ssrc_after s.ssrc d; packets = packets; arrived = arrived_with s.arrived d; reception = observed_in s.reception now.0 d }
 
 -- where memory was wanting, nothing has changed
 abbrev pub Heard : Ticks → Datagram → Session → Result Outcome ReceiveError → Session → Type 0
 Heard now d s (Err errors.OutOfMemory) t = t ≡ s
 Heard now d s (Err (errors.Rtp e)) t = Hears now d s (Err (errors.Rtp e)) t
+Heard now d s (Err errors.Red) t = Hears now d s (Err errors.Red) t
+Heard now d s (Err errors.Retransmission) t = Hears now d s (Err errors.Retransmission) t
 Heard now d s (Ok outcome) t = Hears now d s (Ok outcome) t
+
+-- Pops
+
+-- the RTP time of the latest unit, extended to one that does not wrap: the nearest to that of the unit before
+abbrev pub time_with : Option ℕ → Option (Result Release PacketError) → Option ℕ
+time_with time None = time
+time_with time (Some (Err fault)) = time
+time_with time (Some (Ok unit)) = Some (extended_time time (unit.time.numer % 2 ^ 32))
 
 -- New receivers
 
 abbrev pub nothing_arrived : Arrived
 nothing_arrived = record { received = 0; rtcp = 0; malformed = 0; other_streams = 0 }
 
-abbrev pub session_with : Settings → Depack → Numbering → Session
-session_with s depack numbering = record {
-  payload_type = s.payload_type;
-  no_media = s.no_media.items;
+-- RED has a payload type of its own, and a step of 1 to 16,383 ticks
+abbrev pub red_by : ℕ → RedSettings → Result (Option RedStream) SettingsError
+red_by payload_type red =
+    if nat_le red.payload_type 127 && not (red.payload_type == payload_type)
+    then (if nat_lt 0 red.step && nat_le red.step 16383 then Ok (Some (record { payload_type = red.payload_type; receiver = record { primary_pt = payload_type % 128; step = red.step } })) else Err settings.RedStep)
+    else Err settings.RedPayloadType
+
+abbrev pub red_within : ℕ → Option RedSettings → Result (Option RedStream) SettingsError
+red_within payload_type None = Ok None
+red_within payload_type (Some red) = red_by payload_type red
+
+abbrev pub retransmission_fits : Option Retransmission → Bool
+retransmission_fits None = true
+retransmission_fits (Some r) = nat_le r.payload_type 127
+
+abbrev pub session_with : Settings → Depack → Option RedStream → Numbering → Session
+session_with s depack red numbering = record {
+  stream = record { payload_type = s.payload_type; no_media = s.no_media.items; red = red; retransmission = s.retransmission; ids = s.extension_ids };
+  named = s.ssrc;
   ssrc = s.ssrc;
-  ids = s.extension_ids;
   packets = no_packets numbering (empty_buffer s.patience.hold_back s.limit depack) s.clock_rate s.patience;
   arrived = nothing_arrived;
+  time = None;
+  reception = no_reception numbering s.tick_rate s.clock_rate;
+  no_reception = no_reception numbering s.tick_rate s.clock_rate;
 }
 
-abbrev pub session_within : Settings → Depack → Result Numbering WindowError → Result Session SettingsError
-session_within s depack (Ok numbering) = Ok (session_with s depack numbering)
-session_within s depack (Err windows.Forward) = Err settings.Forward
-session_within s depack (Err windows.Backward) = Err settings.Backward
+abbrev pub session_within : Settings → Depack → Option RedStream → Result Numbering WindowError → Result Session SettingsError
+session_within s depack red (Ok numbering) = Ok (session_with s depack red numbering)
+session_within s depack red (Err windows.Forward) = Err settings.Forward
+session_within s depack red (Err windows.Backward) = Err settings.Backward
+
+abbrev pub session_in : Settings → Depack → Result (Option RedStream) SettingsError → Result Session SettingsError
+session_in s depack (Err fault) = Err fault
+session_in s depack (Ok red) = session_within s depack red (numbering_within s.forward s.backward)
 
 -- of settings in range; else the first that is not is told
 abbrev pub session_by : Settings → Depack → Result Session SettingsError
 session_by s depack =
-    if nat_le s.payload_type 127 then (if nat_le 1 s.limit && nat_le s.limit 65536 then session_within s depack (numbering_within s.forward s.backward) else Err settings.Limit)
+    if nat_le s.payload_type 127 then (if nat_le 1 s.limit && nat_le s.limit 65536
+    then (if retransmission_fits s.retransmission then session_in s depack (red_within s.payload_type s.red) else Err settings.RetransmissionPayloadType)
+    else Err settings.Limit)
     else Err settings.PayloadType

@@ -34,8 +34,11 @@ fn receiver_of(alloc: Global) -> Result<Receiver<NoBox>, Fail> {
         payload_type: 96,
         no_media: Vec::new(alloc),
         ssrc: Some(7),
+        red: None,
+        retransmission: None,
         extension_ids: ExtensionIds::default(),
         clock_rate: Frequency::make(16_000).ok_or("a rate")?,
+        tick_rate: Frequency::make(1_000).ok_or("a rate")?,
         patience: Patience {
             hold_back: 30,
             start: 0,

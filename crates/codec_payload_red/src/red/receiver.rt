@@ -78,8 +78,8 @@ impl RedReceiver {
         self.primary_pt
     }
 
-    /// The packet that a block is, if it is one.
-    fn recover_block<'a>(
+    /// The packet that one block of a payload is, if it is one: as [`RedReceiver::recover`] has it. Takes no memory.
+    pub fn recover_block<'a>(
         &self,
         seq_no: SeqNo,
         rtp_time: u32,

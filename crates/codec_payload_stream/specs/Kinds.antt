@@ -1,0 +1,179 @@
+-- Which datagrams belong to a stream.
+use Rattle.std.specs.Prelude.{ℕ, ◌+◌, ◌*◌, ◌%◌, ◌==◌, ◌||◌, ◌&&◌, not, nat_lt, if◌then◌else◌, Bool, true, false, List, [], ◌∷◌, map, Option, Some, None, Result, Ok, Err, length}
+use Rattle.codec_payload_base.specs.Extensions.{no_values}
+use Rattle.codec_payload_base.specs.declared.wire.RtpHeader.{RtpHeader}
+use Rattle.codec_payload_red.specs.RedBlocks.{Block, block_of, blocks_of, older}
+use Rattle.codec_payload_red.specs.RedPayload.{Red}
+use Rattle.codec_payload_red.specs.RedReading.{red_at}
+use Rattle.codec_payload_red.specs.RedRecovery.{Receiver, RecoveredPacket}
+use Rattle.codec_payload_rtp.specs.ExtensionFormats.{values_in, elements_of}
+use Rattle.codec_payload_rtp.specs.RtpPackets.{Header, Packet, is_rtcp}
+use Rattle.codec_payload_rtp.specs.RtpReading.{rtp_at}
+use Rattle.codec_payload_rtp.specs.RtpValues.{header_of, packet_of}
+use Rattle.codec_payload_rtp.specs.declared.rtp.RtpError.{RtpError}
+use Rattle.codec_payload_rtp.specs.declared.values.ExtensionIds.{ExtensionIds}
+use Rattle.codec_payload_stream.specs.declared.datagram.Datagram.{Datagram as LentDatagram}
+use Rattle.codec_payload_stream.specs.declared.datagram.Datagram.TheVariants as lent
+use Rattle.codec_payload_stream.specs.declared.datagram.Malformation.{Malformation}
+use Rattle.codec_payload_stream.specs.declared.datagram.Malformation.TheVariants as malformations
+use Rattle.codec_payload_stream.specs.declared.datagram.RedPacket.{RedPacket}
+use Rattle.codec_payload_stream.specs.declared.datagram.RedStream.{RedStream}
+use Rattle.codec_payload_stream.specs.declared.datagram.SentAgain.{SentAgain as LentSentAgain}
+use Rattle.codec_payload_stream.specs.declared.receiver.Retransmission.{Retransmission}
+
+-- what tells the datagrams of a stream: its payload type, the types without media, how it is sent in RED, if it is, under what its
+-- packets are sent again, if they are, and the ids of header extensions
+pub record Kinds : Type 0 where
+  pub payload_type : ℕ
+  pub no_media : List ℕ
+  pub red : Option RedStream
+  pub retransmission : Option Retransmission
+  pub ids : ExtensionIds
+
+-- a packet that was sent again: the header that came, the number and the SSRC that it had first, and its payload
+pub record Original : Type 0 where
+  pub header : Header
+  pub number : ℕ
+  pub ssrc : ℕ
+  pub bytes : List ℕ
+
+-- a packet of RED: its header, what tells the numbers of its blocks, the primary block, and those before it
+pub record Carrier : Type 0 where
+  pub header : Header
+  pub receiver : Receiver
+  pub primary : Block
+  pub older : List Block
+
+-- what a datagram is to a stream
+pub data Datagram : Type 0 where
+  RtcpPacket : Datagram
+  Malformed : Malformation → Datagram
+  OfOthers : Datagram
+  WithoutMedia : Header → Datagram
+  WithMedia : Packet → Datagram
+  InRed : Carrier → Datagram
+  Again : Original → Datagram
+  AgainEmpty : Datagram
+
+abbrev pub original_of : LentSentAgain → Original
+original_of s = record { header = header_of s.header; number = s.number; ssrc = s.ssrc; bytes = s.payload.now }
+
+abbrev pub carrier_of : RedPacket → Carrier
+carrier_of r = record { header = header_of r.packet.header; receiver = r.receiver; primary = block_of r.primary; older = blocks_of r.older.items }
+
+abbrev pub datagram_of : LentDatagram → Datagram
+datagram_of lent.Rtcp = RtcpPacket
+datagram_of (lent.Malformed e) = Malformed e
+datagram_of lent.OtherStream = OfOthers
+datagram_of (lent.NoMedia p) = WithoutMedia (header_of p.header)
+datagram_of (lent.Media p) = WithMedia (packet_of p)
+datagram_of (lent.Red r) = InRed (carrier_of r)
+datagram_of (lent.SentAgain s) = Again (original_of s)
+datagram_of lent.Nothing = AgainEmpty
+
+-- the type is one of these
+abbrev pub is_among : ℕ → List ℕ → Bool
+is_among payload_type [] = false
+is_among payload_type (t ∷ ts) = (t == payload_type) || is_among payload_type ts
+
+-- it is another SSRC than the one that is known
+abbrev pub is_other : Option ℕ → ℕ → Bool
+is_other None ssrc = false
+is_other (Some known) ssrc = not (known == ssrc)
+
+-- there is padding and nothing else
+abbrev pub is_padding_only : Packet → Bool
+is_padding_only p = nat_lt 0 p.padding && (length p.payload == 0)
+
+-- of a packet of the stream's payload type
+abbrev pub media_kind : Packet → Datagram
+media_kind p = if is_padding_only p then WithoutMedia p.header else WithMedia p
+
+-- Packets of RED (RFC 2198)
+
+-- what reads payloads of that type, if it is that of RED
+abbrev pub red_of : Option RedStream → ℕ → Option Receiver
+red_of None payload_type = None
+red_of (Some red) payload_type = if red.payload_type == payload_type then Some red.receiver else None
+
+-- the block that is the packet's own
+abbrev pub primary_of : Red → Block
+primary_of r = record { pt = r.pt; timestamp_offset = 0; payload = r.primary; is_primary = true }
+
+abbrev pub red_read : Receiver → Header → Option Red → Datagram
+red_read receiver h None = Malformed malformations.Red
+red_read receiver h (Some r) = InRed (record { header = h; receiver = receiver; primary = primary_of r; older = map older r.redundant })
+
+abbrev pub red_kind : Receiver → Packet → Datagram
+red_kind receiver p = if is_padding_only p then WithoutMedia p.header else red_read receiver p.header (red_at p.payload)
+
+-- Packets that are sent again (RFC 4588, section 4)
+
+abbrev pub is_sent_again : Option Retransmission → Header → Bool
+is_sent_again None h = false
+is_sent_again (Some r) h = (r.ssrc == h.ssrc) && (r.payload_type == h.payload_type)
+
+-- the SSRC of the stream, or where that is not known, the one that came
+abbrev pub ssrc_or : Option ℕ → ℕ → ℕ
+ssrc_or None ssrc = ssrc
+ssrc_or (Some known) ssrc = known
+
+-- the first two bytes are the number that the packet had first; one without payload is padding
+abbrev pub again_read : Option ℕ → Header → List ℕ → Datagram
+again_read known h [] = AgainEmpty
+again_read known h (high ∷ []) = Malformed malformations.Retransmission
+again_read known h (high ∷ low ∷ bytes) = Again (record { header = h; number = high * 256 + low; ssrc = ssrc_or known h.ssrc; bytes = bytes })
+
+abbrev pub again_kind : Option ℕ → Packet → Datagram
+again_kind known p = again_read known p.header p.payload
+
+-- Any datagram
+
+-- of the stream's payload type, in RED, without media, or of another type
+abbrev pub own_kind : Kinds → Option Receiver → Packet → Datagram
+own_kind s (Some receiver) p = red_kind receiver p
+own_kind s None p = if is_among p.header.payload_type s.no_media then WithoutMedia p.header else OfOthers
+
+-- by SSRC and payload type
+abbrev pub kind_for : Kinds → Option ℕ → Packet → Datagram
+kind_for s ssrc p =
+    if is_sent_again s.retransmission p.header then again_kind ssrc p
+    else (if is_other ssrc p.header.ssrc then OfOthers
+    else (if p.header.payload_type == s.payload_type then media_kind p
+    else own_kind s (red_of s.red p.header.payload_type) p))
+
+abbrev pub kind_read : Kinds → Option ℕ → Result Packet RtpError → Datagram
+kind_read s ssrc (Err e) = Malformed (malformations.Rtp e)
+kind_read s ssrc (Ok p) = kind_for s ssrc p
+
+-- of any bytes
+abbrev pub datagram_at : Kinds → Option ℕ → List ℕ → Datagram
+datagram_at s ssrc bytes = if is_rtcp bytes then RtcpPacket else kind_read s ssrc (rtp_at bytes)
+
+-- Headers
+
+-- the header of a packet, as payloads of the stream have it
+abbrev pub header_for : Kinds → Header → RtpHeader
+header_for s h = record {
+  payload_type = s.payload_type;
+  sequence_number = h.sequence_number;
+  timestamp = h.timestamp;
+  ssrc = h.ssrc;
+  marker = h.marker;
+  ext_vals = values_in s.ids (elements_of h.extension);
+}
+
+-- the one that a packet which was sent again had first: its marker, time and extension are as they are
+abbrev pub original_header : Kinds → Original → RtpHeader
+original_header s o = record (header_for s o.header) { sequence_number = o.number; ssrc = o.ssrc }
+
+-- of a packet that another one carried neither marker nor values are known
+abbrev pub block_header : Kinds → ℕ → RecoveredPacket → RtpHeader
+block_header s ssrc x = record {
+  payload_type = s.payload_type;
+  sequence_number = x.seq_no % 65536;
+  timestamp = x.time;
+  ssrc = ssrc;
+  marker = false;
+  ext_vals = no_values;
+}

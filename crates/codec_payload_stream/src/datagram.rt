@@ -1,0 +1,459 @@
+//! Which datagrams belong to a stream, and what the jitter buffer does with each.
+
+ghost use Rattle.std.specs.Prelude.{◌≡◌, IfOk, OnErr, IfErr};
+ghost use Rattle.codec_payload_base.specs.declared.error.PacketError.TheVariants.{OutOfMemory};
+ghost use Rattle.codec_payload_red.specs.RedBlocks.{blocks_of};
+ghost use Rattle.codec_payload_red.specs.RedRecovery.{packet_of as recovered_of};
+ghost use Rattle.codec_payload_rtp.specs.RtpValues.{header_of, packet_of};
+ghost use Rattle.codec_payload_jitter.specs.Receiving.{Receives, ReceivesAgain};
+ghost use Rattle.codec_payload_stream.specs.Kinds.{again_kind, block_header, carrier_of, datagram_at, datagram_of, header_for, is_among, is_other, is_padding_only, is_sent_again, kind_for, media_kind, original_header, original_of, red_kind, red_of, ssrc_or};
+ghost use Rattle.codec_payload_stream.specs.Sessions.{RecoversAll, RecoversOr, TakesDatagram, TakesPrimary, TakesRed, is_suspect, observed_in, ssrc_after};
+
+use crate::receiver::Retransmission;
+use crate::reports::ReceptionStatistics;
+use codec_payload_base::error::PacketError;
+use codec_payload_base::wire::{ExtensionValues, Pt, RtpHeader as Header, SeqNo, Ticks};
+use codec_payload_buffer::codec::Depacketizer;
+use codec_payload_jitter::jitter::{JitterBuffer, Outcome};
+use codec_payload_red::red::{Recovered, RedBlock, RedDecoder, RedReceiver};
+use codec_payload_rtp::rtp::{RtpError, RtpHeader, RtpPacket, is_rtcp};
+use codec_payload_rtp::values::ExtensionIds;
+use std::alloc::Global;
+use std::marker::Model;
+
+/// Why a datagram is none of any stream.
+#[derive(Clone, Copy, Debug)]
+pub(crate) enum Malformation {
+    /// It is no RTP packet.
+    Rtp(RtpError),
+    /// It is a packet of RED, and its payload is none.
+    Red,
+    /// It is a packet that was sent again, and its payload ends before the number that it had first.
+    Retransmission,
+}
+
+/// A packet of RED.
+#[derive(Debug, Drop)]
+pub(crate) struct RedPacket<'a> {
+    packet: RtpPacket<'a>,
+    receiver: RedReceiver,
+    primary: RedBlock<'a>,
+    older: Vec<RedBlock<'a>>,
+}
+
+/// A packet that was sent again (RFC 4588, section 4).
+#[derive(Clone, Copy, Debug)]
+pub(crate) struct SentAgain<'a> {
+    /// The header that came.
+    header: RtpHeader<'a>,
+    /// The number that the packet had first.
+    number: u16,
+    /// The SSRC that it had first.
+    ssrc: u32,
+    /// The payload that it had first.
+    payload: &'a [u8],
+}
+
+/// What a datagram is to a stream.
+#[derive(Debug, Drop)]
+pub(crate) enum Datagram<'a> {
+    Rtcp,
+    Malformed(Malformation),
+    OtherStream,
+    NoMedia(RtpPacket<'a>),
+    Media(RtpPacket<'a>),
+    Red(RedPacket<'a>),
+    SentAgain(SentAgain<'a>),
+    /// It is a packet that was sent again and has nothing in it.
+    Nothing,
+}
+
+/// How a stream is sent in RED.
+#[derive(Clone, Copy, Debug)]
+pub(crate) struct RedStream {
+    pub(crate) payload_type: u8,
+    pub(crate) receiver: RedReceiver,
+}
+
+/// What tells the datagrams of a stream.
+#[derive(Debug, Drop)]
+pub(crate) struct Stream {
+    pub(crate) alloc: Global,
+    pub(crate) payload_type: u8,
+    pub(crate) no_media: Vec<u8>,
+    pub(crate) red: Option<RedStream>,
+    pub(crate) retransmission: Option<Retransmission>,
+    pub(crate) ids: ExtensionIds,
+}
+
+impl Model for Stream {
+    ghost use Rattle.codec_payload_stream.specs.Kinds.{Kinds};
+
+    ghost Value = { Kinds };
+
+    ghost view = { λ s. record {
+      payload_type = s.payload_type;
+      no_media = s.no_media.items;
+      red = s.red;
+      retransmission = s.retransmission;
+      ids = s.ids;
+    } };
+}
+
+/// Whether the payload type is one of these.
+fn is_among(payload_type: u8, types: &[u8]) -> bool
+    ensures { result ≡ is_among payload_type types.now }
+{
+    for t in types {
+        if *t == payload_type {
+            return true;
+        }
+    }
+    false
+}
+
+/// Whether it is another SSRC than the one that is known.
+fn is_other(known: Option<u32>, ssrc: u32) -> bool
+    ensures { result ≡ is_other known ssrc }
+{
+    match known {
+        Some(known) => known != ssrc,
+        None => false,
+    }
+}
+
+/// Whether it is a packet that was sent again.
+fn is_sent_again(retransmission: Option<Retransmission>, header: &RtpHeader<'_>) -> bool
+    ensures { result ≡ is_sent_again retransmission (header_of header.now) }
+{
+    match retransmission {
+        Some(it) => it.ssrc == header.ssrc && it.payload_type == header.payload_type,
+        None => false,
+    }
+}
+
+/// Whether there is padding and nothing else.
+fn is_padding_only(packet: &RtpPacket<'_>) -> bool
+    ensures { result ≡ is_padding_only (packet_of packet.now) }
+{
+    0 < packet.padding && packet.payload.is_empty()
+}
+
+/// A packet of the stream's payload type.
+fn media_kind<'a>(packet: RtpPacket<'a>) -> Datagram<'a>
+    ensures { datagram_of result ≡ media_kind (packet_of packet.entry) }
+{
+    if is_padding_only(&packet) {
+        Datagram::NoMedia(packet)
+    } else {
+        Datagram::Media(packet)
+    }
+}
+
+/// The SSRC of the stream, or where that is not known, the one that came.
+fn ssrc_or(known: Option<u32>, ssrc: u32) -> u32
+    ensures { result ≡ ssrc_or known ssrc }
+{
+    match known {
+        Some(known) => known,
+        None => ssrc,
+    }
+}
+
+/// A packet that was sent again.
+fn again_kind<'a>(known: Option<u32>, packet: RtpPacket<'a>) -> Datagram<'a>
+    ensures { datagram_of result ≡ again_kind known (packet_of packet.entry) }
+{
+    match packet.payload {
+        [] => Datagram::Nothing,
+        [_] => Datagram::Malformed(Malformation::Retransmission),
+        [high, low, payload @ ..] => Datagram::SentAgain(SentAgain {
+            header: packet.header,
+            number: u16::from(*high) * 256 + u16::from(*low),
+            ssrc: ssrc_or(known, packet.header.ssrc),
+            payload,
+        }),
+    }
+}
+
+/// A packet of RED.
+fn red_kind<'a>(
+    alloc: Global,
+    receiver: RedReceiver,
+    packet: RtpPacket<'a>,
+) -> Result<Datagram<'a>, PacketError>
+    ensures ok { IfOk result (λ d. datagram_of d ≡ red_kind receiver (packet_of packet.entry)) }
+    ensures fault { IfErr result (λ f. f ≡ OutOfMemory) }
+{
+    if is_padding_only(&packet) {
+        return Ok(Datagram::NoMedia(packet));
+    }
+    let mut blocks = match RedDecoder::decode(alloc, packet.payload) {
+        Ok(blocks) => blocks,
+        Err(PacketError::OutOfMemory) => return Err(PacketError::OutOfMemory),
+        Err(_) => return Ok(Datagram::Malformed(Malformation::Red)),
+    };
+    let Some(primary) = blocks.pop() else {
+        return Ok(Datagram::Malformed(Malformation::Red));
+    };
+    Ok(Datagram::Red(RedPacket {
+        packet,
+        receiver,
+        primary,
+        older: blocks,
+    }))
+}
+
+impl Stream {
+    /// What a datagram is to the stream, whose SSRC is that, if it is known.
+    pub(crate) fn sort<'a>(
+        &self,
+        ssrc: Option<u32>,
+        bytes: &'a [u8],
+    ) -> Result<Datagram<'a>, PacketError>
+        ensures ok { IfOk result (λ d. datagram_of d ≡ datagram_at self.now ssrc bytes.now) }
+        ensures fault { IfErr result (λ f. f ≡ OutOfMemory) }
+    {
+        if is_rtcp(bytes) {
+            return Ok(Datagram::Rtcp);
+        }
+        match RtpPacket::parse(bytes) {
+            Ok(packet) => self.kind_of(ssrc, packet),
+            Err(fault) => Ok(Datagram::Malformed(Malformation::Rtp(fault))),
+        }
+    }
+
+    /// What an RTP packet is to the stream.
+    fn kind_of<'a>(
+        &self,
+        ssrc: Option<u32>,
+        packet: RtpPacket<'a>,
+    ) -> Result<Datagram<'a>, PacketError>
+        ensures ok { IfOk result (λ d. datagram_of d ≡ kind_for self.now ssrc (packet_of packet.entry)) }
+        ensures fault { IfErr result (λ f. f ≡ OutOfMemory) }
+    {
+        let payload_type = packet.header.payload_type;
+        if is_sent_again(self.retransmission, &packet.header) {
+            return Ok(again_kind(ssrc, packet));
+        }
+        if is_other(ssrc, packet.header.ssrc) {
+            return Ok(Datagram::OtherStream);
+        }
+        if payload_type == self.payload_type {
+            return Ok(media_kind(packet));
+        }
+        if let Some(receiver) = self.red_of(payload_type) {
+            return red_kind(self.alloc, receiver, packet);
+        }
+        if is_among(payload_type, &self.no_media) {
+            Ok(Datagram::NoMedia(packet))
+        } else {
+            Ok(Datagram::OtherStream)
+        }
+    }
+
+    /// What reads payloads of that type, if it is that of RED.
+    fn red_of(&self, payload_type: u8) -> Option<RedReceiver>
+        ensures { result ≡ red_of self.now.red payload_type }
+    {
+        match self.red {
+            Some(red) if red.payload_type == payload_type => Some(red.receiver),
+            _ => None,
+        }
+    }
+
+    /// The header of a packet, as payloads of the stream have it.
+    fn header_for(&self, header: &RtpHeader<'_>) -> Header
+        ensures { result ≡ header_for self.now (header_of header.now) }
+    {
+        Header {
+            payload_type: Pt::new_with_value(self.payload_type),
+            sequence_number: header.sequence_number,
+            timestamp: header.timestamp,
+            ssrc: header.ssrc,
+            marker: header.marker,
+            ext_vals: self.ids.values(&header.extension),
+        }
+    }
+
+    /// The jitter buffer takes in a packet with media.
+    fn push_packet<B: Depacketizer>(
+        &self,
+        packets: &mut JitterBuffer<B>,
+        now: Ticks,
+        header: &RtpHeader<'_>,
+        payload: &[u8],
+    ) -> Result<Outcome, PacketError>
+        ensures ok { IfOk result (λ outcome. Receives (record { now = now; header = header_for self.now (header_of header.now); bytes = payload.now }) packets.old outcome packets.new) }
+        ensures err { OnErr result (packets.new ≡ packets.old) }
+        ensures fault { IfErr result (λ f. f ≡ OutOfMemory) }
+    {
+        let payload = Vec::from_slice(self.alloc, payload)?;
+        packets.push(now, self.header_for(header), payload)
+    }
+
+    /// The jitter buffer takes in a packet that was sent again, under the number that it had first.
+    fn push_again<B: Depacketizer>(
+        &self,
+        packets: &mut JitterBuffer<B>,
+        now: Ticks,
+        sent: &SentAgain<'_>,
+    ) -> Result<Outcome, PacketError>
+        ensures ok { IfOk result (λ outcome. ReceivesAgain (record { now = now; header = original_header self.now (original_of sent.now); bytes = sent.now.payload.now }) packets.old outcome packets.new) }
+        ensures err { OnErr result (packets.new ≡ packets.old) }
+        ensures fault { IfErr result (λ f. f ≡ OutOfMemory) }
+    {
+        let payload = Vec::from_slice(self.alloc, sent.payload)?;
+        let mut header = self.header_for(&sent.header);
+        header.sequence_number = sent.number;
+        header.ssrc = sent.ssrc;
+        packets.push_again(now, header, payload)
+    }
+
+    /// The jitter buffer takes in the packet that carries blocks: its primary block, where that is media of the stream.
+    fn push_primary<B: Depacketizer>(
+        &self,
+        packets: &mut JitterBuffer<B>,
+        now: Ticks,
+        red: &RedPacket<'_>,
+    ) -> Result<Outcome, PacketError>
+        ensures ok { IfOk result (λ outcome. TakesPrimary self.now now (carrier_of red.now) packets.old outcome packets.new) }
+        ensures err { OnErr result (packets.new ≡ packets.old) }
+        ensures fault { IfErr result (λ f. f ≡ OutOfMemory) }
+    {
+        let header = &red.packet.header;
+        if red.primary.pt == self.payload_type {
+            self.push_packet(packets, now, header, red.primary.payload)
+        } else {
+            packets.push_blank(header.sequence_number)?;
+            Ok(Outcome::NoMedia)
+        }
+    }
+
+    /// The header of a packet that another one carried.
+    fn block_header(&self, ssrc: u32, recovered: &Recovered<'_>) -> Header
+        ensures { result ≡ block_header self.now ssrc (recovered_of recovered.now) }
+    {
+        Header {
+            payload_type: Pt::new_with_value(self.payload_type),
+            sequence_number: (recovered.seq_no.0 % 65_536) as u16,
+            timestamp: recovered.rtp_time,
+            ssrc,
+            marker: false,
+            ext_vals: ExtensionValues::default(),
+        }
+    }
+
+    /// The jitter buffer takes in a packet that another one carried, where that is missing. Whether there was memory.
+    fn recover<B: Depacketizer>(
+        &self,
+        packets: &mut JitterBuffer<B>,
+        now: Ticks,
+        ssrc: u32,
+        recovered: &Recovered<'_>,
+    ) -> bool
+        ensures { RecoversOr result (record { now = now; header = block_header self.now ssrc (recovered_of recovered.now); bytes = recovered.now.payload.now }) packets.old packets.new }
+    {
+        let Ok(payload) = Vec::from_slice(self.alloc, recovered.payload) else {
+            return false;
+        };
+        packets
+            .push_recovered(now, self.block_header(ssrc, recovered), payload)
+            .is_ok()
+    }
+
+    /// The jitter buffer takes in the packets that the older blocks of a packet are, where they are missing.
+    fn recover_all<B: Depacketizer>(
+        &self,
+        packets: &mut JitterBuffer<B>,
+        now: Ticks,
+        red: &RedPacket<'_>,
+    )
+        ensures { RecoversAll self.now now (carrier_of red.now) (blocks_of red.now.older.items) packets.old packets.new }
+    {
+        let header = &red.packet.header;
+        let number = SeqNo(65_536 + u64::from(header.sequence_number));
+        for block in &red.older {
+            let found = red.receiver.recover_block(number, header.timestamp, block);
+            if let Some(recovered) = found {
+                let _with_memory = self.recover(packets, now, header.ssrc, &recovered);
+            }
+        }
+    }
+
+    /// The jitter buffer takes in a packet of RED: what it is itself, and unless that is suspect, what it carries.
+    fn push_red<B: Depacketizer>(
+        &self,
+        packets: &mut JitterBuffer<B>,
+        now: Ticks,
+        red: &RedPacket<'_>,
+    ) -> Result<Outcome, PacketError>
+        ensures ok { IfOk result (λ outcome. TakesRed self.now now (carrier_of red.now) packets.old outcome packets.new) }
+        ensures err { OnErr result (packets.new ≡ packets.old) }
+        ensures fault { IfErr result (λ f. f ≡ OutOfMemory) }
+    {
+        let outcome = self.push_primary(packets, now, red)?;
+        if outcome != Outcome::Suspect {
+            self.recover_all(packets, now, red);
+        }
+        Ok(outcome)
+    }
+
+    /// The jitter buffer takes in what is its stream's.
+    pub(crate) fn take<B: Depacketizer>(
+        &self,
+        packets: &mut JitterBuffer<B>,
+        now: Ticks,
+        datagram: &Datagram<'_>,
+    ) -> Result<Outcome, PacketError>
+        ensures ok { IfOk result (λ outcome. TakesDatagram self.now now (datagram_of datagram.now) packets.old outcome packets.new) }
+        ensures err { OnErr result (packets.new ≡ packets.old) }
+        ensures fault { IfErr result (λ f. f ≡ OutOfMemory) }
+    {
+        match datagram {
+            Datagram::Rtcp | Datagram::Malformed(_) => Ok(Outcome::Rtcp),
+            Datagram::OtherStream => Ok(Outcome::OtherStream),
+            Datagram::NoMedia(packet) => {
+                packets.push_blank(packet.header.sequence_number)?;
+                Ok(Outcome::NoMedia)
+            }
+            Datagram::Media(packet) => {
+                self.push_packet(packets, now, &packet.header, packet.payload)
+            }
+            Datagram::Red(red) => self.push_red(packets, now, red),
+            Datagram::SentAgain(sent) => self.push_again(packets, now, sent),
+            Datagram::Nothing => {
+                packets.push_nothing();
+                Ok(Outcome::NoMedia)
+            }
+        }
+    }
+}
+
+/// The SSRC of the stream, once that datagram came.
+pub(crate) fn ssrc_after(ssrc: Option<u32>, datagram: &Datagram<'_>) -> Option<u32>
+    ensures { result ≡ ssrc_after ssrc (datagram_of datagram.now) }
+{
+    match datagram {
+        Datagram::NoMedia(packet) | Datagram::Media(packet) => Some(packet.header.ssrc),
+        Datagram::Red(red) => Some(red.packet.header.ssrc),
+        _ => ssrc,
+    }
+}
+
+/// A packet of the stream's sender came.
+pub(crate) fn observe(statistics: &mut ReceptionStatistics, now: Ticks, datagram: &Datagram<'_>)
+    ensures { statistics.new ≡ observed_in statistics.old now.0 (datagram_of datagram.now) }
+{
+    match datagram {
+        Datagram::NoMedia(packet) | Datagram::Media(packet) => {
+            let header = &packet.header;
+            statistics.observe(now, header.sequence_number, header.timestamp);
+        }
+        Datagram::Red(red) => {
+            let header = &red.packet.header;
+            statistics.observe(now, header.sequence_number, header.timestamp);
+        }
+        _ => {}
+    }
+}
