@@ -1,22 +1,37 @@
 /** @file
- * codec_payload: RTP payloads of media frames, for C and C++.
+ * codec_payload: RTP payloads of media frames, and the datagrams that carry them, for C and C++.
  *
- * A packetizer cuts frames into RTP payloads that keep an MTU. A buffer takes received packets in any order and gives whole
- * frames back, in order. There are Opus, G.711, G.722, AMR-WB, comfort noise, telephone events, VP8, VP9 and AV1, payloads that
- * carry whatever they are given, and RED. RTP headers, sockets, clocks and threads are the caller's. The library is proved: on
- * any bytes it neither crashes nor reads out of bounds. docs/FORMATS.md has the formats and the buffer's rules.
+ * A sender cuts the frames of one stream into datagrams, and a receiver takes the datagrams of a socket, in any order and with
+ * whatever else comes, and gives whole frames back, in order. Below them stand a packetizer and a buffer for callers that write
+ * and read RTP headers themselves, depacketizers alone, and RED. Sockets, clocks and threads are the caller's. The library is
+ * proved: on any bytes it neither crashes nor reads out of bounds. docs/FORMATS.md has the formats and the buffer's rules,
+ * docs/C.md how it is used.
+ *
+ * FRAMES. What a frame, and a unit, is for each codec, the rate of its RTP clock, and what becomes of one that is longer than the
+ * MTU:
+ *
+ *   CPAY_OPUS              48000  a packet of Opus (RFC 6716)                                 pieces
+ *   CPAY_PCMU, CPAY_PCMA    8000  samples of a byte each, any number (RFC 3551)               pieces
+ *   CPAY_G722               8000  two samples of 16 kHz a byte, any number (RFC 3551)         pieces
+ *   CPAY_CN                 8000  a level, and coefficients (RFC 3389)                        CPAY_PAYLOAD_TOO_LARGE
+ *   CPAY_AMR_WB            16000  frames in storage form, without the file's magic (RFC 4867) CPAY_PAYLOAD_TOO_LARGE
+ *   CPAY_TELE              audio  whole reports of four bytes (RFC 4733)                      CPAY_PAYLOAD_TOO_LARGE
+ *   CPAY_VP8               90000  a frame (RFC 6386)                                          pieces
+ *   CPAY_VP9               90000  a frame or a superframe (VP9 bitstream, Annex B)            pieces
+ *   CPAY_AV1               90000  a temporal unit: OBUs with their sizes (AV1, section 5.2)   pieces
+ *   CPAY_NULL                any  any bytes                                                   one payload, as long as it is
  *
  * STATUSES. A call answers a status, but for the few that answer a bool or a number. 0 is success, 1 to 17 are faults of
  * payloads and of memory, 32 to 41 are the library's own; the enum below has them all, with names. On every status but 0 the
  * caller's bytes stay as they are; and on every status but 0 and CPAY_TOO_SMALL so does all else that a call tells: structs,
  * sizes, counts and bools.
  *
- * KINDS. A packetizer, a depacketizer, a buffer and a RED sender each live in a struct of their kind, which is the caller's own
- * memory: begin with CPAY_INIT, make something in it by the call named *_new, and end with the one named *_free, which empties
- * it. To free an empty one does nothing, so freeing twice is no error; another call on an empty one is CPAY_EMPTY, and one on a
- * struct that holds something of another kind, as behind a cast, is CPAY_OTHER_KIND. Never write into one, and never copy one
- * that is full: of two copies neither the library nor anybody can tell that the other was freed. It may be moved in memory, as
- * long as one of the two places is forgotten.
+ * KINDS. A packetizer, a depacketizer, a buffer, a RED sender, a sender and a receiver each live in a struct of their kind,
+ * which is the caller's own memory: begin with CPAY_INIT, make something in it by the call named *_new, and end with the one
+ * named *_free, which empties it. To free an empty one does nothing, so freeing twice is no error; another call on an empty
+ * one is CPAY_EMPTY, and one on a struct that holds something of another kind, as behind a cast, is CPAY_OTHER_KIND. Never
+ * write into one, and never copy one that is full: of two copies neither the library nor anybody can tell that the other was
+ * freed. It may be moved in memory, as long as one of the two places is forgotten.
  *
  * MEMORY. The library takes memory by the program's malloc and realloc and gives it back by free, and only in calls marked [m].
  * These have to come from one allocator and to align blocks to 16 bytes, as all do. Where memory is refused a call answers
@@ -41,28 +56,39 @@
 #include "codec_payload.h"
 #include <stdio.h>
 
+/* A datagram that came from a socket at that time goes in. What is no RTP packet is counted, and the stream goes on. */
+static cpay_status take(cpay_receiver *receiver, uint64_t now, const uint8_t *datagram, size_t size) {
+    uint32_t outcome = 0;
+    cpay_status status = cpay_receiver_receive(receiver, now, datagram, size, &outcome);
+    if (status == CPAY_OK || status == CPAY_OUT_OF_MEMORY) return status;
+    printf("passed over: %s\n", cpay_status_text(status));
+    return CPAY_OK;
+}
+
 int main(void) {
-    static uint8_t frame[3000], bytes[3000];
-    cpay_spec spec = {.codec = CPAY_VP8, .rate = 90000, .vp8_ids = true};
-    cpay_packetizer sender = CPAY_INIT;
-    cpay_buffer receiver = CPAY_INIT;
-    cpay_packet_info packet = {0};
+    static uint8_t frame[3000], datagram[1500], bytes[3000];
+    cpay_spec vp8 = {.codec = CPAY_VP8, .rate = 90000};
+    cpay_sender_settings sends = {.spec = vp8, .mtu = 1200, .ssrc = 0x12345678, .payload_type = 96};
+    cpay_receiver_settings receives = CPAY_RECEIVER_SETTINGS;
+    cpay_sender sender = CPAY_INIT;
+    cpay_receiver receiver = CPAY_INIT;
     cpay_unit unit = {0};
-    size_t count = 0;
-    cpay_status status = cpay_packetizer_new(&sender, &spec);
-    if (!status) status = cpay_buffer_new(&receiver, &spec, 30, 4096);
-    if (!status) status = cpay_packetize(&sender, 1200, false, frame, sizeof frame, &count);
-    for (uint64_t number = 0; !status && number < count; number++) {
-        status = cpay_packet(&sender, &packet, bytes, sizeof bytes);
-        /* A sender puts the bytes behind an RTP header here, and a receiver has read this: */
-        cpay_received received = {.number = number, .rtp_time = 3000, .marker = packet.marker};
-        if (!status) status = cpay_buffer_push(&receiver, &received, bytes, packet.bytes);
+    size_t count = 0, size = 0;
+    receives.spec = vp8;
+    receives.payload_type = 96;
+    cpay_status status = cpay_sender_new(&sender, &sends);
+    if (!status) status = cpay_receiver_new(&receiver, &receives, NULL, 0);
+    if (!status) status = take(&receiver, 0, (const uint8_t *)"hello", 5);
+    if (!status) status = cpay_sender_send(&sender, 3000, false, frame, sizeof frame, &count);
+    for (size_t place = 0; !status && place < count; place++) {
+        status = cpay_sender_datagram(&sender, place, datagram, sizeof datagram, &size);
+        if (!status) status = take(&receiver, 20, datagram, size);
     }
-    while (!status && !(status = cpay_buffer_pop(&receiver, &unit, bytes, sizeof bytes)))
+    while (!status && !(status = cpay_receiver_pop(&receiver, 20, &unit, bytes, sizeof bytes)))
         printf("packets %u to %u: a frame of %zu bytes\n", (unsigned)unit.first, (unsigned)unit.last, unit.bytes);
     printf("%s\n", cpay_status_text(status));
-    cpay_packetizer_free(&sender);
-    cpay_buffer_free(&receiver);
+    cpay_sender_free(&sender);
+    cpay_receiver_free(&receiver);
     return status != CPAY_NONE;
 }
 #endif
@@ -125,7 +151,8 @@ typedef enum {
     CPAY_RTP_EXTENSION_HEADER_TOO_SHORT = 45, /**< it ends inside the four bytes that announce its header extension */
     CPAY_RTP_EXTENSION_TOO_SHORT = 46,        /**< it ends inside its header extension */
     CPAY_RTP_PADDING_OF_ZERO = 47,            /**< it is padded by 0 bytes */
-    CPAY_RTP_PADDING_TOO_LONG = 48            /**< there is more padding than bytes are left behind the header */
+    CPAY_RTP_PADDING_TOO_LONG = 48,           /**< there is more padding than bytes are left behind the header */
+    CPAY_RTX_TOO_SHORT = 49 /**< a packet that was sent again ends inside the number that it had first (RFC 4588) */
 } cpay_status;
 
 /** Codecs. */
@@ -353,8 +380,8 @@ typedef struct {
 CPAY_CHECKED cpay_status cpay_sender_new(cpay_sender *sender, const cpay_sender_settings *settings);
 
 /** Cuts a frame into packets, and tells how many datagrams it has: see cpay_packetize. They take the place of those of the
- * frame before, and use its memory. `rtp_time` is in ticks of the RTP clock; its low 32 bits are sent. After a fault there are no
- * datagrams, and the sequence number is as before. [m] */
+ * frame before, and use its memory. `rtp_time` is in ticks of the RTP clock; its low 32 bits are sent. After a fault there are
+ * no datagrams, and the sequence number is as before. [m] */
 CPAY_CHECKED cpay_status cpay_sender_send(cpay_sender *sender, uint64_t rtp_time, bool starts_talk_spurt, const uint8_t *frame,
                                           size_t frame_len, size_t *count);
 
@@ -378,24 +405,33 @@ CPAY_CHECKED cpay_status cpay_sender_counts(cpay_sender *sender, cpay_sender_cou
 /** Begin with CPAY_RECEIVER_SETTINGS, and set at least `spec` and `payload_type`. */
 typedef struct {
     cpay_spec spec;
-    size_t hold_back;     /**< a complete frame behind a gap waits until more complete frames than that are held */
-    size_t start;         /**< the first frame waits until more complete frames than that are held */
-    size_t limit;         /**< how many packets are held at most, 1 to 65536 */
-    uint64_t max_wait;    /**< with has_max_wait: how long a complete frame waits at most, in ticks of the caller's clock */
-    uint32_t ssrc;        /**< with has_ssrc: the SSRC of the stream; else it is that of the first packet */
-    uint16_t forward;     /**< how far ahead of the greatest number a packet may be: less than this, 1 to 32768 */
-    uint16_t backward;    /**< how far behind it: at most this, and less than `forward` */
-    uint8_t payload_type; /**< 0 to 127 */
+    size_t hold_back;         /**< a complete frame behind a gap waits until more complete frames than that are held */
+    size_t start;             /**< the first frame waits until more complete frames than that are held */
+    size_t limit;             /**< how many packets are held at most, 1 to 65536 */
+    uint64_t max_wait;        /**< with has_max_wait: how long a complete frame waits at most, in ticks of the caller's clock */
+    uint32_t ssrc;            /**< with has_ssrc: the SSRC of the stream; else it is that of the first packet */
+    uint32_t tick_rate;       /**< how many ticks of the caller's clock a second has, above 0: for the jitter of reports alone */
+    uint32_t red_step;        /**< with has_red: how many ticks of the RTP clock packets are apart, 1 to 16383 */
+    uint32_t rtx_ssrc;        /**< with has_rtx: the SSRC under which packets are sent again */
+    uint16_t forward;         /**< how far ahead of the greatest number a packet may be: less than this, 1 to 32768 */
+    uint16_t backward;        /**< how far behind it: at most this, and less than `forward` */
+    uint8_t payload_type;     /**< 0 to 127 */
+    uint8_t red_payload_type; /**< with has_red: that of RED, another than `payload_type`, which its blocks have */
+    uint8_t rtx_payload_type; /**< with has_rtx: that of packets that are sent again */
     bool has_max_wait;
     bool has_ssrc;
+    bool has_red; /**< the stream is sent in RED (RFC 2198): what its packets repeat goes in where it is missing */
+    bool has_rtx; /**< packets are sent again in a stream of their own (RFC 4588) */
 } cpay_receiver_settings;
 
-/** No codec yet; 30 frames held back, 4096 packets held, and the windows of RFC 3550, appendix A.1, with 1000 behind. */
-#define CPAY_RECEIVER_SETTINGS { { 0, 0, 0, false, false, false }, 30, 0, 4096, 0, 0, 3000, 1000, 0, false, false }
+/** No codec yet; 30 frames held back, 4096 packets held, a clock of milliseconds, and the windows of RFC 3550, appendix A.1,
+ * with 1000 behind. */
+#define CPAY_RECEIVER_SETTINGS \
+    { { 0, 0, 0, false, false, false }, 30, 0, 4096, 0, 0, 1000, 0, 0, 3000, 1000, 0, 0, 0, false, false, false, false }
 
-/** A receiver, in an empty struct. `no_media` are payload types that come under the stream's SSRC and numbers and carry no media
- * of it: telephone events beside audio, comfort noise, forward error correction. CPAY_INVALID for a codec that is not there, a
- * rate of 0, and a payload type, limit or window out of range. [m] */
+/** A receiver, in an empty struct. `no_media` are payload types that come under the stream's SSRC and numbers and carry no
+ * media of it: telephone events beside audio, comfort noise, forward error correction. CPAY_INVALID for a codec that is not
+ * there, a rate of 0, and a payload type, limit, step or window out of range. [m] */
 CPAY_CHECKED cpay_status cpay_receiver_new(cpay_receiver *receiver, const cpay_receiver_settings *settings,
                                            const uint8_t *no_media, size_t no_media_len);
 
@@ -407,7 +443,8 @@ enum {
     CPAY_LATE = 3,             /**< all up to its number is done; it was dropped */
     CPAY_SUSPECT = 4,          /**< its number is far from all others; it is kept until the next packet comes */
     CPAY_RESTARTED = 5,        /**< the sender has restarted: it went in, and the suspect packet before it too */
-    CPAY_RESTARTED_ALONE = 6,  /**< the same, but the suspect packet had no media, or memory was wanting for it */
+    CPAY_RESTARTED_ALONE = 6,  /**< the same, and no other packet: the suspect one had no media, memory was wanting for it, or
+                                    there was none, since cpay_receiver_restart told of the restart */
     CPAY_NO_MEDIA = 7,         /**< padding alone, or a payload type without media; no frame waits for its number */
     CPAY_OTHER_STREAM = 8,     /**< another SSRC or payload type */
     CPAY_RTCP = 9              /**< RTCP on the same port */
@@ -415,23 +452,41 @@ enum {
 
 /** Takes a datagram in, at that time in ticks of a clock of the caller's, and tells what became of it: CPAY_HELD and so on. Any
  * bytes may be given. CPAY_RTP_HEADER_TOO_SHORT to CPAY_RTP_PADDING_TOO_LONG where they are no RTP packet: it is counted as
- * malformed, and *outcome is not told. With CPAY_OUT_OF_MEMORY nothing has changed, and it can be given again. [m] */
+ * malformed, and *outcome is not told; likewise CPAY_RED_CORRUPTED and CPAY_RTX_TOO_SHORT. Of a packet in RED the outcome is
+ * that of its primary block. With CPAY_OUT_OF_MEMORY nothing has changed, and it can be given again. [m] */
 CPAY_CHECKED cpay_status cpay_receiver_receive(cpay_receiver *receiver, uint64_t now, const uint8_t *datagram,
                                                size_t datagram_len, uint32_t *outcome);
 
-/** The next unit, if its turn has come at that time: see cpay_buffer_pop. [m] */
+/** The next unit, if its turn has come at that time: see cpay_buffer_pop. Its rtp_time does not wrap: that of the first unit is
+ * the timestamp of its packets plus 2^32, and each later one the nearest to that of the unit before with its timestamp. [m] */
 CPAY_CHECKED cpay_status cpay_receiver_pop(cpay_receiver *receiver, uint64_t now, cpay_unit *unit, uint8_t *bytes,
                                            size_t bytes_len);
 
 /** When a pop may give a unit without a datagram coming. CPAY_NONE where only a datagram can help. */
 CPAY_CHECKED cpay_status cpay_receiver_next_deadline(cpay_receiver *receiver, uint64_t *at);
 
-/** The stream has ended: from now on pops wait for nothing, and give all complete frames. Packets within the windows still go in;
- * no restart is found any more. */
+/** The stream has ended: from now on pops wait for nothing, and give all complete frames. Packets within the windows still go
+ * in; no restart is found until cpay_receiver_restart. */
 CPAY_CHECKED cpay_status cpay_receiver_finish(cpay_receiver *receiver);
 
-/** How many datagrams came to what, modulo 2^64: `received` is the sum of rtcp, malformed, other_streams, no_media, duplicates,
- * late, suspect, evicted, held, released and left. */
+/** The sender begins anew, as signalling or a new SSRC tells: the next packet of the stream gets a number above all others, and
+ * pops wait again. Where the settings name no SSRC, the stream's is again that of the first packet that comes. */
+CPAY_CHECKED cpay_status cpay_receiver_restart(cpay_receiver *receiver);
+
+/** What a receiver report tells (RFC 3550, section 6.4.1 and appendix A). */
+typedef struct {
+    int32_t cumulative_lost; /**< packets that did not come, less those that came more than once: 24 bits with a sign */
+    uint32_t highest;        /**< the greatest sequence number, and above its 16 bits how often numbers have wrapped */
+    uint32_t jitter;         /**< in ticks of the RTP clock */
+    uint8_t fraction_lost;   /**< of the packets since the report before, in 256ths */
+} cpay_report_info;
+
+/** A report on the packets of the stream's sender as they came. CPAY_NONE where none came. The next one begins its fraction
+ * here. */
+CPAY_CHECKED cpay_status cpay_receiver_report(cpay_receiver *receiver, cpay_report_info *report);
+
+/** How many datagrams came to what, modulo 2^64: `received` and `recovered` together are the sum of rtcp, malformed,
+ * other_streams, no_media, duplicates, late, suspect, evicted, held, released and left. */
 typedef struct {
     uint64_t received;
     uint64_t rtcp;
@@ -445,7 +500,8 @@ typedef struct {
     uint64_t released; /**< packets that went out in a unit */
     uint64_t left;     /**< packets that left with a frame, and not in a unit: it was never complete, passed over, or refused */
     uint64_t restarts; /**< how many times the sender has restarted */
-    uint64_t retransmitted;
+    uint64_t retransmitted; /**< packets that were missing and came again */
+    uint64_t recovered;     /**< packets that were missing and that others in RED carried; they are on the left of the sum */
     uint64_t units;
     size_t held;   /**< how many packets are held */
     uint32_t ssrc; /**< with has_ssrc: the SSRC of the stream */
@@ -669,6 +725,7 @@ static inline const char *cpay_status_text(cpay_status status) {
     case CPAY_RTP_EXTENSION_TOO_SHORT: return "the RTP packet ends inside its extension";
     case CPAY_RTP_PADDING_OF_ZERO: return "the RTP padding has no bytes";
     case CPAY_RTP_PADDING_TOO_LONG: return "the RTP padding is longer than what is left";
+    case CPAY_RTX_TOO_SHORT: return "the retransmission has no original sequence number";
     default: return "unknown status";
     }
 }

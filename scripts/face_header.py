@@ -15,7 +15,7 @@ import sys
 
 CRATES = ["codec_payload_c", "codec_payload_handle"]
 ROOT = os.path.dirname(os.path.dirname(os.path.realpath(__file__)))
-NUMBERS = {"u8": "uint8_t", "u16": "uint16_t", "u32": "uint32_t", "u64": "uint64_t", "usize": "size_t", "bool": "bool"}
+NUMBERS = {"u8": "uint8_t", "u16": "uint16_t", "u32": "uint32_t", "u64": "uint64_t", "i32": "int32_t", "usize": "size_t", "bool": "bool"}
 # The one pointer that stands in a struct, which C sees as one to nothing that it knows.
 FLAT = {"*mut u8": "void *"}
 # What a handle of the library is in the header, by what lives in it. Each has a call of its own to free it.

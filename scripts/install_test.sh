@@ -41,7 +41,7 @@ exports() {
 # prints PROGRAM: the example says how its one frame came back
 prints() {
     LD_LIBRARY_PATH=$prefix/lib "$1" >"$work/printed" || fail "$1 did not end well"
-    [ "$(head -n 1 "$work/printed")" = "packets 0 to 2: a frame of 3000 bytes" ] || fail "$1 printed something else"
+    [ "$(sed -n 2p "$work/printed")" = "packets 65536 to 65538: a frame of 3000 bytes" ] || fail "$1 printed something else"
 }
 
 # builds_by_pkg_config SOURCE: as C and as C++, against the shared library and against the archive

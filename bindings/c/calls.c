@@ -158,6 +158,16 @@ cpay_status cpay_receiver_finish(cpay_receiver *receiver) {
     return proved_cpay_receiver_finish(&receiver->handle);
 }
 
+cpay_status proved_cpay_receiver_restart(cpay_handle *receiver);
+cpay_status cpay_receiver_restart(cpay_receiver *receiver) {
+    return proved_cpay_receiver_restart(&receiver->handle);
+}
+
+cpay_status proved_cpay_receiver_report(cpay_handle *receiver, cpay_report_info *report);
+cpay_status cpay_receiver_report(cpay_receiver *receiver, cpay_report_info *report) {
+    return proved_cpay_receiver_report(&receiver->handle, report);
+}
+
 cpay_status proved_cpay_receiver_counts(cpay_handle *receiver, cpay_receiver_counts_info *counts);
 cpay_status cpay_receiver_counts(cpay_receiver *receiver, cpay_receiver_counts_info *counts) {
     return proved_cpay_receiver_counts(&receiver->handle, counts);

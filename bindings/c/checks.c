@@ -77,7 +77,8 @@ static void texts(void) {
         {46, "the RTP packet ends inside its extension"},
         {47, "the RTP padding has no bytes"},
         {48, "the RTP padding is longer than what is left"},
-        {49, "unknown status"},
+        {49, "the retransmission has no original sequence number"},
+        {50, "unknown status"},
     };
     for (size_t i = 0; i < sizeof rows / sizeof *rows; i++)
         CHECK(strcmp(cpay_status_text((cpay_status)rows[i].status), rows[i].text) == 0);

@@ -56,8 +56,8 @@ static long next(cpay_receiver *receiver, uint64_t now) {
 static cpay_receiver_counts_info counts_of(cpay_receiver *receiver) {
     cpay_receiver_counts_info c = {0};
     CHECK(cpay_receiver_counts(receiver, &c) == CPAY_OK);
-    CHECK(c.received == c.rtcp + c.malformed + c.other_streams + c.no_media + c.duplicates + c.late + c.suspect + c.evicted + c.held +
-                            c.released + c.left);
+    uint64_t dropped = c.no_media + c.duplicates + c.late + c.suspect + c.evicted;
+    CHECK(c.received + c.recovered == c.rtcp + c.malformed + c.other_streams + dropped + c.held + c.released + c.left);
     return c;
 }
 
@@ -111,6 +111,7 @@ static void settings(void) {
     cpay_sender_settings sends = {.spec = opus(), .mtu = 100, .payload_type = TYPE};
     cpay_receiver_counts_info counts = {.held = 7};
     cpay_sender_counts_info sent = {.packets = 7};
+    cpay_report_info report = {.highest = 7};
     cpay_unit unit = {.first = 7};
     uint8_t bytes[4] = {7, 7, 7, 7};
     uint32_t outcome = 7;
@@ -126,8 +127,16 @@ static void settings(void) {
     REFUSED(forward, 0);
     REFUSED(forward, 32769);
     REFUSED(backward, 3000);
+    REFUSED(tick_rate, 0);
     REFUSED(spec.rate, 0);
     REFUSED(spec.codec, 6);
+    right.has_red = right.has_rtx = true;
+    right.red_step = 1;
+    REFUSED(red_step, 0);
+    REFUSED(red_step, 16384);
+    REFUSED(red_payload_type, 128);
+    REFUSED(red_payload_type, TYPE);
+    REFUSED(rtx_payload_type, 128);
     sends.payload_type = 128;
     CHECK(cpay_sender_new(&it.sender, &sends) == CPAY_INVALID);
     sends.payload_type = TYPE;
@@ -138,6 +147,8 @@ static void settings(void) {
         CHECK(cpay_receiver_pop(&it.receiver, 0, &unit, bytes, 4) == status);
         CHECK(cpay_receiver_next_deadline(&it.receiver, &at) == status);
         CHECK(cpay_receiver_finish(&it.receiver) == status);
+        CHECK(cpay_receiver_restart(&it.receiver) == status);
+        CHECK(cpay_receiver_report(&it.receiver, &report) == status);
         CHECK(cpay_receiver_counts(&it.receiver, &counts) == status);
     }
     CHECK(cpay_receiver_new(&it.receiver, &right, NULL, 0) == CPAY_FULL);
@@ -151,7 +162,8 @@ static void settings(void) {
         CHECK(cpay_sender_counts(&it.sender, &sent) == status);
     }
     CHECK(cpay_sender_new(&it.sender, &sends) == CPAY_FULL);
-    CHECK(same(bytes, "\7\7\7\7", 4) && outcome == 7 && at == 7 && count == 7 && counts.held == 7 && sent.packets == 7 && unit.first == 7);
+    CHECK(same(bytes, "\7\7\7\7", 4) && outcome == 7 && at == 7 && count == 7 && unit.first == 7);
+    CHECK(counts.held == 7 && sent.packets == 7 && report.highest == 7);
     cpay_receiver_free(&it.receiver);
 }
 
@@ -317,6 +329,105 @@ static void amr_wb(void) {
     cpay_receiver_free(&receiver);
 }
 
+/* After the end of a stream the next one begins by a call, under another SSRC and from any number. */
+static void told_anew(void) {
+    cpay_receiver_settings settings = settings_of(opus());
+    cpay_receiver receiver = receiver_of(&settings);
+    uint8_t bytes[16];
+    uint32_t outcome = 99;
+    size_t size = packet(bytes, TYPE, 40000, 0, 2);
+    CHECK(came(&receiver, 0, TYPE, 7) == CPAY_HELD && cpay_receiver_finish(&receiver) == CPAY_OK && next(&receiver, 0) == 7);
+    bytes[8] ^= 1;
+    CHECK(cpay_receiver_receive(&receiver, 1, bytes, size, &outcome) == CPAY_OK && outcome == CPAY_OTHER_STREAM);
+    CHECK(cpay_receiver_restart(&receiver) == CPAY_OK);
+    CHECK(cpay_receiver_receive(&receiver, 2, bytes, size, &outcome) == CPAY_OK && outcome == CPAY_RESTARTED_ALONE);
+    CHECK(counts_of(&receiver).restarts == 1 && counts_of(&receiver).ssrc == (SSRC ^ 0x01000000));
+    cpay_receiver_free(&receiver);
+}
+
+/* RFC 2198: of three packets, each of which repeats the one before, the second is lost and recovered from the third. */
+static void red(void) {
+    cpay_receiver_settings settings = settings_of(opus());
+    cpay_red_sender sender = CPAY_INIT;
+    static const uint32_t distances[1] = {1};
+    uint8_t bytes[64];
+    uint32_t outcome = 99;
+    size_t size = 0;
+    settings.has_red = true;
+    settings.red_payload_type = 63;
+    settings.red_step = 960;
+    cpay_receiver receiver = receiver_of(&settings);
+    CHECK(cpay_red_sender_new(&sender, 63, TYPE, distances, 1) == CPAY_OK);
+    for (uint16_t number = 10; number < 13; number++) {
+        uint8_t media[2] = {(uint8_t)number, (uint8_t)number};
+        (void)packet(bytes, 63, number, number * 960u, 0);
+        CHECK(cpay_red_wrap(&sender, number * 960u, 40, media, 2, bytes + 12, sizeof bytes - 12, &size) == CPAY_OK);
+        if (number == 11) continue;
+        CHECK(cpay_receiver_receive(&receiver, 0, bytes, 12 + size, &outcome) == CPAY_OK && outcome == CPAY_HELD);
+    }
+    CHECK(next(&receiver, 0) == 10 && next(&receiver, 0) == 11 && next(&receiver, 0) == 12);
+    CHECK(counts_of(&receiver).recovered == 1 && counts_of(&receiver).received == 2);
+    size = packet(bytes, 63, 13, 0, 1); /* the header of an older block, of which three bytes are missing */
+    bytes[12] = 0x80 | TYPE;
+    CHECK(cpay_receiver_receive(&receiver, 0, bytes, size, &outcome) == CPAY_RED_CORRUPTED && counts_of(&receiver).malformed == 1);
+    cpay_red_sender_free(&sender);
+    cpay_receiver_free(&receiver);
+}
+
+/* RFC 4588, section 4: the original number of two bytes stands before the payload, under another SSRC and payload type. */
+static void sent_again(void) {
+    cpay_receiver_settings settings = settings_of(opus());
+    uint8_t bytes[20];
+    uint32_t outcome = 99;
+    settings.has_rtx = true;
+    settings.rtx_ssrc = 0x0a0b0c0d;
+    settings.rtx_payload_type = 112;
+    cpay_receiver receiver = receiver_of(&settings);
+    CHECK(came(&receiver, 0, TYPE, 65535) == CPAY_HELD && came(&receiver, 0, TYPE, 1) == CPAY_HELD);
+    CHECK(next(&receiver, 0) == 65535 && next(&receiver, 0) == -1);
+    size_t size = packet(bytes, 112, 500, 0, 4);
+    memcpy(bytes + 8, "\x0a\x0b\x0c\x0d", 4);
+    memset(bytes + 12, 0, 4);
+    CHECK(cpay_receiver_receive(&receiver, 0, bytes, size, &outcome) == CPAY_OK && outcome == CPAY_HELD);
+    CHECK(next(&receiver, 0) == 0 && next(&receiver, 0) == 1 && counts_of(&receiver).retransmitted == 1);
+    CHECK(cpay_receiver_receive(&receiver, 0, bytes, 12, &outcome) == CPAY_OK && outcome == CPAY_NO_MEDIA);
+    CHECK(cpay_receiver_receive(&receiver, 0, bytes, 13, &outcome) == CPAY_RTX_TOO_SHORT);
+    cpay_receiver_free(&receiver);
+}
+
+/* Times of units go on over the wrap of 32 bits. */
+static void times(void) {
+    cpay_receiver_settings settings = settings_of(opus());
+    cpay_receiver receiver = receiver_of(&settings);
+    static const uint32_t timestamps[3] = {0xfffffc40, 0, 960};
+    uint8_t bytes[16];
+    uint32_t outcome = 99;
+    cpay_unit unit = {0};
+    for (uint16_t number = 0; number < 3; number++) {
+        size_t size = packet(bytes, TYPE, number, timestamps[number], 2);
+        CHECK(cpay_receiver_receive(&receiver, number, bytes, size, &outcome) == CPAY_OK && outcome == CPAY_HELD);
+        CHECK(cpay_receiver_pop(&receiver, number, &unit, bytes, 2) == CPAY_OK);
+        CHECK(unit.rtp_time == 0x1fffffc40 + 960ull * number);
+    }
+    cpay_receiver_free(&receiver);
+}
+
+/* RFC 3550, appendix A.3: of numbers 50000 to 50003 one did not come; then one of four. */
+static void reports(void) {
+    cpay_receiver_settings settings = settings_of(opus());
+    cpay_receiver receiver = receiver_of(&settings);
+    cpay_report_info report = {.highest = 7};
+    CHECK(cpay_receiver_report(&receiver, &report) == CPAY_NONE && report.highest == 7);
+    for (uint16_t number = 50000; number < 50004; number++)
+        if (number != 50001) CHECK(came(&receiver, number * 20u, TYPE, number) == CPAY_HELD);
+    CHECK(cpay_receiver_report(&receiver, &report) == CPAY_OK);
+    CHECK(report.cumulative_lost == 1 && report.fraction_lost == 64 && report.highest == 50003 && report.jitter == 0);
+    CHECK(cpay_receiver_report(&receiver, &report) == CPAY_OK && report.fraction_lost == 0 && report.cumulative_lost == 1);
+    CHECK(came(&receiver, 50003 * 20u, TYPE, 50003) == CPAY_DUPLICATE);
+    CHECK(cpay_receiver_report(&receiver, &report) == CPAY_OK && report.cumulative_lost == 0);
+    cpay_receiver_free(&receiver);
+}
+
 int main(void) {
     packets();
     settings();
@@ -328,5 +439,10 @@ int main(void) {
     others();
     small_room();
     amr_wb();
+    told_anew();
+    red();
+    sent_again();
+    times();
+    reports();
     return checked();
 }

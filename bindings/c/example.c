@@ -1,27 +1,38 @@
 #include "codec_payload.h"
 #include <stdio.h>
 
+/* A datagram that came from a socket at that time goes in. What is no RTP packet is counted, and the stream goes on. */
+static cpay_status take(cpay_receiver *receiver, uint64_t now, const uint8_t *datagram, size_t size) {
+    uint32_t outcome = 0;
+    cpay_status status = cpay_receiver_receive(receiver, now, datagram, size, &outcome);
+    if (status == CPAY_OK || status == CPAY_OUT_OF_MEMORY) return status;
+    printf("passed over: %s\n", cpay_status_text(status));
+    return CPAY_OK;
+}
+
 int main(void) {
-    static uint8_t frame[3000], bytes[3000];
-    cpay_spec spec = {.codec = CPAY_VP8, .rate = 90000, .vp8_ids = true};
-    cpay_packetizer sender = CPAY_INIT;
-    cpay_buffer receiver = CPAY_INIT;
-    cpay_packet_info packet = {0};
+    static uint8_t frame[3000], datagram[1500], bytes[3000];
+    cpay_spec vp8 = {.codec = CPAY_VP8, .rate = 90000};
+    cpay_sender_settings sends = {.spec = vp8, .mtu = 1200, .ssrc = 0x12345678, .payload_type = 96};
+    cpay_receiver_settings receives = CPAY_RECEIVER_SETTINGS;
+    cpay_sender sender = CPAY_INIT;
+    cpay_receiver receiver = CPAY_INIT;
     cpay_unit unit = {0};
-    size_t count = 0;
-    cpay_status status = cpay_packetizer_new(&sender, &spec);
-    if (!status) status = cpay_buffer_new(&receiver, &spec, 30, 4096);
-    if (!status) status = cpay_packetize(&sender, 1200, false, frame, sizeof frame, &count);
-    for (uint64_t number = 0; !status && number < count; number++) {
-        status = cpay_packet(&sender, &packet, bytes, sizeof bytes);
-        /* A sender puts the bytes behind an RTP header here, and a receiver has read this: */
-        cpay_received received = {.number = number, .rtp_time = 3000, .marker = packet.marker};
-        if (!status) status = cpay_buffer_push(&receiver, &received, bytes, packet.bytes);
+    size_t count = 0, size = 0;
+    receives.spec = vp8;
+    receives.payload_type = 96;
+    cpay_status status = cpay_sender_new(&sender, &sends);
+    if (!status) status = cpay_receiver_new(&receiver, &receives, NULL, 0);
+    if (!status) status = take(&receiver, 0, (const uint8_t *)"hello", 5);
+    if (!status) status = cpay_sender_send(&sender, 3000, false, frame, sizeof frame, &count);
+    for (size_t place = 0; !status && place < count; place++) {
+        status = cpay_sender_datagram(&sender, place, datagram, sizeof datagram, &size);
+        if (!status) status = take(&receiver, 20, datagram, size);
     }
-    while (!status && !(status = cpay_buffer_pop(&receiver, &unit, bytes, sizeof bytes)))
+    while (!status && !(status = cpay_receiver_pop(&receiver, 20, &unit, bytes, sizeof bytes)))
         printf("packets %u to %u: a frame of %zu bytes\n", (unsigned)unit.first, (unsigned)unit.last, unit.bytes);
     printf("%s\n", cpay_status_text(status));
-    cpay_packetizer_free(&sender);
-    cpay_buffer_free(&receiver);
+    cpay_sender_free(&sender);
+    cpay_receiver_free(&receiver);
     return status != CPAY_NONE;
 }

@@ -273,11 +273,27 @@ pub struct ReceiverSettings {
     pub limit: usize,
     pub max_wait: u64,
     pub ssrc: u32,
+    pub tick_rate: u32,
+    pub red_step: u32,
+    pub rtx_ssrc: u32,
     pub forward: u16,
     pub backward: u16,
     pub payload_type: u8,
+    pub red_payload_type: u8,
+    pub rtx_payload_type: u8,
     pub has_max_wait: bool,
     pub has_ssrc: bool,
+    pub has_red: bool,
+    pub has_rtx: bool,
+}
+
+#[repr(C)]
+#[derive(Clone, Copy, Debug, Default)]
+pub struct ReportInfo {
+    pub cumulative_lost: i32,
+    pub highest: u32,
+    pub jitter: u32,
+    pub fraction_lost: u8,
 }
 
 #[repr(C)]
@@ -296,6 +312,7 @@ pub struct ReceiverCountsInfo {
     pub left: u64,
     pub restarts: u64,
     pub retransmitted: u64,
+    pub recovered: u64,
     pub units: u64,
     pub held: usize,
     pub ssrc: u32,
@@ -533,5 +550,7 @@ unsafe extern "C" {
     ) -> u32;
     pub fn cpay_receiver_next_deadline(receiver: *mut Receiver, at: *mut u64) -> u32;
     pub fn cpay_receiver_finish(receiver: *mut Receiver) -> u32;
+    pub fn cpay_receiver_restart(receiver: *mut Receiver) -> u32;
+    pub fn cpay_receiver_report(receiver: *mut Receiver, report: *mut ReportInfo) -> u32;
     pub fn cpay_receiver_counts(receiver: *mut Receiver, counts: *mut ReceiverCountsInfo) -> u32;
 }

@@ -25,8 +25,9 @@ use crate::error::{Error, NONE, TOO_SMALL, told};
 use crate::handle::Handle;
 use crate::raw::{
     self, RtpInfo, cpay_is_rtcp, cpay_receiver_counts, cpay_receiver_finish, cpay_receiver_new,
-    cpay_receiver_next_deadline, cpay_receiver_pop, cpay_receiver_receive, cpay_rtp_read,
-    cpay_sender_counts, cpay_sender_datagram, cpay_sender_new, cpay_sender_send,
+    cpay_receiver_next_deadline, cpay_receiver_pop, cpay_receiver_receive, cpay_receiver_report,
+    cpay_receiver_restart, cpay_rtp_read, cpay_sender_counts, cpay_sender_datagram,
+    cpay_sender_new, cpay_sender_send,
 };
 use crate::{Settings, Unit};
 
@@ -247,6 +248,24 @@ impl Sender {
     }
 }
 
+/// How a stream is sent in RED (RFC 2198): each packet carries some of the media before it once more.
+#[derive(Clone, Copy, Debug, PartialEq, Eq, Hash)]
+pub struct RedSettings {
+    /// The payload type of RED, 0 to 127, and another than that of the stream, which its blocks have.
+    pub payload_type: u8,
+    /// How many ticks of the RTP clock packets are apart, 1 to 16,383.
+    pub step: u32,
+}
+
+/// Under what packets of the stream are sent again (RFC 4588).
+#[derive(Clone, Copy, Debug, PartialEq, Eq, Hash)]
+pub struct Retransmission {
+    /// Its SSRC.
+    pub ssrc: u32,
+    /// Its payload type, 0 to 127.
+    pub payload_type: u8,
+}
+
 /// What a receiver is made of.
 #[derive(Clone, Debug, PartialEq, Eq, Hash)]
 #[non_exhaustive]
@@ -260,6 +279,12 @@ pub struct ReceiverSettings {
     pub no_media: Vec<u8>,
     /// The SSRC of the stream. `None`: that of its first packet.
     pub ssrc: Option<u32>,
+    /// How the stream is sent in RED, if it is.
+    pub red: Option<RedSettings>,
+    /// Under what packets are sent again, if they are.
+    pub retransmission: Option<Retransmission>,
+    /// How many ticks of the caller's clock a second has, above 0: for the jitter of reports alone.
+    pub tick_rate: u32,
     /// A complete frame behind a gap waits until more complete frames than that are held.
     pub hold_back: usize,
     /// The first frame waits until more complete frames than that are held.
@@ -275,7 +300,7 @@ pub struct ReceiverSettings {
 }
 
 impl ReceiverSettings {
-    /// That stream, with 30 frames held back, at most 4,096 packets held, and windows of 3,000 (RFC 3550, appendix A.1) and 1,000.
+    /// That stream, with 30 frames held back, at most 4,096 packets held, a clock of milliseconds, and windows of 3,000 (RFC 3550, appendix A.1) and 1,000.
     #[must_use]
     pub fn new(codec: Settings, payload_type: u8) -> ReceiverSettings {
         ReceiverSettings {
@@ -283,6 +308,9 @@ impl ReceiverSettings {
             payload_type,
             no_media: Vec::new(),
             ssrc: None,
+            red: None,
+            retransmission: None,
+            tick_rate: 1_000,
             hold_back: 30,
             start: 0,
             max_wait: None,
@@ -303,6 +331,27 @@ impl ReceiverSettings {
     #[must_use]
     pub fn with_ssrc(mut self, ssrc: u32) -> ReceiverSettings {
         self.ssrc = Some(ssrc);
+        self
+    }
+
+    /// The same, sent in RED.
+    #[must_use]
+    pub fn with_red(mut self, red: RedSettings) -> ReceiverSettings {
+        self.red = Some(red);
+        self
+    }
+
+    /// The same, with packets that are sent again under these.
+    #[must_use]
+    pub fn with_retransmission(mut self, retransmission: Retransmission) -> ReceiverSettings {
+        self.retransmission = Some(retransmission);
+        self
+    }
+
+    /// The same with a clock of so many ticks a second.
+    #[must_use]
+    pub fn with_tick_rate(mut self, tick_rate: u32) -> ReceiverSettings {
+        self.tick_rate = tick_rate;
         self
     }
 
@@ -344,11 +393,18 @@ impl ReceiverSettings {
             limit: self.limit,
             max_wait: self.max_wait.unwrap_or(0),
             ssrc: self.ssrc.unwrap_or(0),
+            tick_rate: self.tick_rate,
+            red_step: self.red.map_or(0, |red| red.step),
+            rtx_ssrc: self.retransmission.map_or(0, |rtx| rtx.ssrc),
             forward: self.forward,
             backward: self.backward,
             payload_type: self.payload_type,
+            red_payload_type: self.red.map_or(0, |red| red.payload_type),
+            rtx_payload_type: self.retransmission.map_or(0, |rtx| rtx.payload_type),
             has_max_wait: self.max_wait.is_some(),
             has_ssrc: self.ssrc.is_some(),
+            has_red: self.red.is_some(),
+            has_rtx: self.retransmission.is_some(),
         }
     }
 }
@@ -369,7 +425,8 @@ pub enum Outcome {
     Suspect,
     /// The sender has restarted: it went in, and the suspect packet before it too.
     Restarted,
-    /// The same, but the suspect packet had no media, or memory was wanting for it.
+    /// The same, and no other packet: the suspect one had no media, memory was wanting for it, or there was none, since
+    /// [`Receiver::restart`] told of the restart.
     RestartedAlone,
     /// Padding alone, or a payload type without media. No frame waits for its number.
     NoMedia,
@@ -399,8 +456,8 @@ impl Outcome {
     }
 }
 
-/// How many datagrams came to what, modulo 2^64: `received` is the sum of `rtcp`, `malformed`, `other_streams`, `no_media`,
-/// `duplicates`, `late`, `suspect`, `evicted`, `held`, `released` and `left`.
+/// How many datagrams came to what, modulo 2^64: `received` and `recovered` together are the sum of `rtcp`, `malformed`,
+/// `other_streams`, `no_media`, `duplicates`, `late`, `suspect`, `evicted`, `held`, `released` and `left`.
 #[derive(Clone, Copy, Debug, PartialEq, Eq)]
 #[non_exhaustive]
 pub struct ReceiverCounts {
@@ -430,12 +487,27 @@ pub struct ReceiverCounts {
     pub restarts: u64,
     /// Packets that were missing and came again.
     pub retransmitted: u64,
+    /// Packets that were missing and that others in RED carried.
+    pub recovered: u64,
     /// How many units went out.
     pub units: u64,
     /// How many packets are held.
     pub held: usize,
     /// The SSRC of the stream, once it is known.
     pub ssrc: Option<u32>,
+}
+
+/// What a receiver report tells (RFC 3550, section 6.4.1 and appendix A).
+#[derive(Clone, Copy, Debug, PartialEq, Eq)]
+pub struct Report {
+    /// Packets that did not come, less those that came more than once: -8,388,608 to 8,388,607.
+    pub cumulative_lost: i32,
+    /// The greatest sequence number, and above its 16 bits how often numbers have wrapped.
+    pub highest: u32,
+    /// In ticks of the RTP clock.
+    pub jitter: u32,
+    /// Of the packets since the report before those that did not come, in 256ths.
+    pub fraction_lost: u8,
 }
 
 /// Takes the datagrams of one stream in, and gives its units in order.
@@ -466,8 +538,8 @@ impl Receiver {
     ///
     /// # Errors
     ///
-    /// [`Error::RtpHeaderTooShort`] to [`Error::RtpPaddingTooLong`] for what is no RTP packet, which is counted as malformed, and
-    /// [`Error::OutOfMemory`], after which nothing has changed.
+    /// [`Error::RtpHeaderTooShort`] to [`Error::RtpPaddingTooLong`] for what is no RTP packet, [`Error::RedCorrupted`] and
+    /// [`Error::RtxTooShort`], each of which is counted as malformed, and [`Error::OutOfMemory`], after which nothing has changed.
     pub fn receive(&mut self, now: u64, datagram: &[u8]) -> Result<Outcome, Error> {
         let mut outcome = 0;
         // SAFETY: the pointer and the length are those of one slice, and all is borrowed for the call.
@@ -483,7 +555,8 @@ impl Receiver {
         Ok(Outcome::of(outcome))
     }
 
-    /// The next unit, if its turn has come at that time. After an `Err` the next call goes on, as that of
+    /// The next unit, if its turn has come at that time. Its time does not wrap: that of the first unit is the timestamp of its
+    /// packets plus 2^32, and each later one the nearest to that of the unit before with its timestamp. After an `Err` the next call goes on, as that of
     /// [`Buffer::pop`](crate::Buffer::pop).
     pub fn pop(&mut self, now: u64) -> Option<Result<Unit, Error>> {
         let mut told_unit = raw::Unit::default();
@@ -515,10 +588,31 @@ impl Receiver {
         (status == 0).then_some(at)
     }
 
-    /// The stream has ended: from now on pops wait for nothing, and give all complete frames. No restart is found any more.
+    /// The stream has ended: from now on pops wait for nothing, and give all complete frames. No restart is found
+    /// until [`restart`](Receiver::restart).
     pub fn finish(&mut self) {
         // SAFETY: a struct that is borrowed for the call. It holds a receiver, so the call succeeds.
         unsafe { cpay_receiver_finish(self.0.raw()) };
+    }
+
+    /// The sender begins anew, as signalling or a new SSRC tells: the next packet of the stream gets a number above all others, and
+    /// pops wait again. Where the settings name no SSRC, the stream's is again that of the first packet that comes.
+    pub fn restart(&mut self) {
+        // SAFETY: as in `finish`.
+        unsafe { cpay_receiver_restart(self.0.raw()) };
+    }
+
+    /// A report on the packets of the stream's sender as they came, or `None` where none came. The next one begins its fraction here.
+    pub fn report(&mut self) -> Option<Report> {
+        let mut report = raw::ReportInfo::default();
+        // SAFETY: as in `receive`.
+        let status = unsafe { cpay_receiver_report(self.0.raw(), &mut report) };
+        (status == 0).then_some(Report {
+            cumulative_lost: report.cumulative_lost,
+            highest: report.highest,
+            jitter: report.jitter,
+            fraction_lost: report.fraction_lost,
+        })
     }
 
     /// How many datagrams came to what.
@@ -544,6 +638,7 @@ impl Receiver {
             left: counts.left,
             restarts: counts.restarts,
             retransmitted: counts.retransmitted,
+            recovered: counts.recovered,
             units: counts.units,
             held: counts.held,
             ssrc: counts.has_ssrc.then_some(counts.ssrc),

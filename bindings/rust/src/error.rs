@@ -54,6 +54,8 @@ pub enum Error {
     RtpPaddingOfZero,
     /// An RTP packet has more padding than bytes are left behind its header.
     RtpPaddingTooLong,
+    /// A packet that was sent again ends inside the number that it had first.
+    RtxTooShort,
     /// A status that this crate does not know.
     Unknown(u32),
 }
@@ -88,6 +90,7 @@ impl Error {
             46 => Error::RtpExtensionTooShort,
             47 => Error::RtpPaddingOfZero,
             48 => Error::RtpPaddingTooLong,
+            49 => Error::RtxTooShort,
             status => Error::Unknown(status),
         }
     }
@@ -145,6 +148,7 @@ impl fmt::Display for Error {
             Error::RtpExtensionTooShort => f.write_str("the RTP packet ends inside its extension"),
             Error::RtpPaddingOfZero => f.write_str("the RTP padding has no bytes"),
             Error::RtpPaddingTooLong => f.write_str("the RTP padding is longer than what is left"),
+            Error::RtxTooShort => f.write_str("the retransmission has no original sequence number"),
             Error::Unknown(status) => write!(f, "unknown status {status}"),
         }
     }

@@ -22,7 +22,7 @@ fn accounted(counts: &ReceiverCounts) -> bool {
         counts.released,
         counts.left,
     ];
-    counts.received == parts.iter().sum()
+    counts.received + counts.recovered == parts.iter().sum()
 }
 
 /// 200 frames of VP8 in three packets each, over the wrap of numbers: every seventh datagram is lost, every fifth comes twice, and

@@ -7,6 +7,7 @@ use Rattle.codec_payload_core.specs.Held.{Held}
 use Rattle.codec_payload_core.specs.Steps.{State, Pops, IsArrived, empty_buffer, pushed}
 use Rattle.codec_payload_core.specs.declared.buffer.RtpMeta.{RtpMeta}
 use Rattle.codec_payload_handle.specs.Popping.{AnswersPop}
+use Rattle.codec_payload_handle.specs.Units.{TellsUnit}
 use Rattle.codec_payload_c.specs.declared.buffer.BufferCountsInfo.{BufferCountsInfo}
 use Rattle.codec_payload_c.specs.declared.buffer.Received.{Received}
 use Rattle.codec_payload_handle.specs.declared.unit.Unit.{Unit as CUnit}
@@ -50,7 +51,7 @@ pub record AnswersPush (r : Receiver) (packet : Received) (payload : List ℕ) (
 -- the next unit of a buffer
 abbrev pub PopsUnit : Receiver → ℕ → (unit_before unit : CUnit) (before bytes : List ℕ) → Receiver → Type 0
 PopsUnit r status unit_before unit before bytes s =
-    AnswersPop (s.buffer ≡ r.buffer) (λ answer. Pops r.buffer answer s.buffer) status
+    AnswersPop (s.buffer ≡ r.buffer) (λ answer. Pops r.buffer answer s.buffer) TellsUnit status
     (record { waited = r.waiting; waits = s.waiting; unit_before = unit_before; unit = unit; before = before; bytes = bytes })
     × (s.rate ≡ r.rate)
 

@@ -1,18 +1,24 @@
 -- What the calls on a receiver of datagrams do.
-use Rattle.std.specs.Prelude.{◌≡◌, ◌≢◌, ℕ, ◌&&◌, nat_le, nat_lt, Bool, true, false, Option, Some, None, Result, Ok, Err, List, is_some, length}
+use Rattle.std.specs.Prelude.{◌≡◌, ◌≢◌, ℕ, ◌&&◌, ◌||◌, ◌==◌, not, nat_le, nat_lt, if◌then◌else◌, Bool, true, false, Option, Some, None, Result, Ok, Err, List, is_some, length}
 use Rattle.codec_payload_core.specs.Depack.{Depack}
-use Rattle.codec_payload_jitter.specs.Receiving.{PopsWith, deadline_of, settled, waiting_at}
+use Rattle.codec_payload_jitter.specs.Receiving.{PopsWith, begun_anew, deadline_of, settled, waiting_at}
 use Rattle.codec_payload_jitter.specs.declared.jitter.Patience.{Patience}
 use Rattle.codec_payload_jitter.specs.declared.outcome.Outcome.{Outcome}
 use Rattle.codec_payload_jitter.specs.declared.outcome.Outcome.TheVariants as outcomes
 use Rattle.codec_payload_jitter.specs.Receiving.{Receiving}
 use Rattle.codec_payload_rtp.specs.declared.values.ExtensionIds.{ExtensionIds}
-use Rattle.codec_payload_stream.specs.Sessions.{Session, Heard, datagram_at, session_by}
+use Rattle.codec_payload_stream.specs.Kinds.{datagram_at}
+use Rattle.codec_payload_stream.specs.Sessions.{Session, Heard, session_by, time_with}
 use Rattle.codec_payload_stream.specs.declared.receiver.ReceiveError.{ReceiveError}
 use Rattle.codec_payload_stream.specs.declared.receiver.ReceiveError.TheVariants as errors
+use Rattle.codec_payload_stream.specs.declared.receiver.RedSettings.{RedSettings}
+use Rattle.codec_payload_stream.specs.declared.receiver.Retransmission.{Retransmission}
 use Rattle.codec_payload_stream.specs.declared.receiver.Settings.{Settings}
+use Rattle.codec_payload_stream.specs.declared.reports.ReceptionReport.{ReceptionReport}
 use Rattle.codec_payload_base.specs.declared.wire.Ticks.{Ticks}
+use Rattle.codec_payload_core.specs.Release.{Release}
 use Rattle.codec_payload_handle.specs.Popping.{Answer, AnswersPop}
+use Rattle.codec_payload_handle.specs.Units.{TellsUnit}
 use Rattle.codec_payload_handle.specs.declared.object.Object.{Object}
 use Rattle.codec_payload_handle.specs.declared.object.Object.TheVariants as objects
 use Rattle.codec_payload_handle.specs.declared.object.StreamReceiver.{StreamReceiver}
@@ -21,12 +27,22 @@ use Rattle.codec_payload_c.specs.Looks.{given_if}
 use Rattle.codec_payload_c.specs.RtpFields.{rtp_status}
 use Rattle.codec_payload_c.specs.declared.receiver.ReceiverCountsInfo.{ReceiverCountsInfo}
 use Rattle.codec_payload_c.specs.declared.receiver.ReceiverSettings.{ReceiverSettings}
+use Rattle.codec_payload_c.specs.declared.receiver.ReportInfo.{ReportInfo}
 
--- the payload type, the limit and the windows are in range
+-- RED, where there is any: another payload type than that of the stream, and the step of times
+abbrev pub red_in_range : ReceiverSettings → Bool
+red_in_range s = not s.has_red || (nat_le s.red_payload_type 127 && not (s.red_payload_type == s.payload_type) && nat_le 1 s.red_step && nat_le s.red_step 16383)
+
+-- packets that are sent again, where there are any
+abbrev pub rtx_in_range : ReceiverSettings → Bool
+rtx_in_range s = not s.has_rtx || nat_le s.rtx_payload_type 127
+
+-- the payload types, the limit, the windows and the rates are in range
 abbrev pub is_in_range : ReceiverSettings → Bool
 is_in_range s =
     nat_le s.payload_type 127 && nat_le 1 s.limit && nat_le s.limit 65536
     && nat_lt 0 s.forward && nat_le s.forward 32768 && nat_lt s.backward s.forward
+    && nat_lt 0 s.tick_rate && red_in_range s && rtx_in_range s
 
 abbrev pub no_ids : ExtensionIds
 no_ids = record { abs_capture_time = None; video_orientation = None; video_content_type = None; video_timing = None; layers_allocation = None; audio_level = None }
@@ -34,13 +50,22 @@ no_ids = record { abs_capture_time = None; video_orientation = None; video_conte
 abbrev pub patience_set : ReceiverSettings → Patience
 patience_set s = record { hold_back = s.hold_back; start = s.start; max_wait = given_if s.has_max_wait s.max_wait }
 
+abbrev pub red_set : ReceiverSettings → Option RedSettings
+red_set s = if s.has_red then Some (record { payload_type = s.red_payload_type; step = s.red_step }) else None
+
+abbrev pub rtx_set : ReceiverSettings → Option Retransmission
+rtx_set s = if s.has_rtx then Some (record { ssrc = s.rtx_ssrc; payload_type = s.rtx_payload_type }) else None
+
 -- the settings of a receiver, as C gave them
 pub record AreSettings (s : ReceiverSettings) (types : List ℕ) (t : Settings) : Type 0 where
   pub payload_type : t.payload_type ≡ s.payload_type
   pub no_media : t.no_media.items ≡ types
   pub ssrc : t.ssrc ≡ given_if s.has_ssrc s.ssrc
+  pub red : t.red ≡ red_set s
+  pub retransmission : t.retransmission ≡ rtx_set s
   pub ids : t.extension_ids ≡ no_ids
   pub clock_rate : t.clock_rate ≡ s.spec.rate
+  pub tick_rate : t.tick_rate ≡ s.tick_rate
   pub patience : t.patience ≡ patience_set s
   pub limit : t.limit ≡ s.limit
   pub forward : t.forward ≡ s.forward
@@ -77,24 +102,35 @@ abbrev pub Tells : Result Outcome ReceiveError → ℕ → (before after : ℕ) 
 Tells (Ok outcome) status before after = (status ≡ 0) × (after ≡ outcome_number outcome)
 Tells (Err errors.OutOfMemory) status before after = (status ≡ 17) × (after ≡ before)
 Tells (Err (errors.Rtp e)) status before after = (status ≡ rtp_status e) × (after ≡ before)
+Tells (Err errors.Red) status before after = (status ≡ 14) × (after ≡ before)
+Tells (Err errors.Retransmission) status before after = (status ≡ 49) × (after ≡ before)
 
 -- a datagram is received
 pub record Takes (r : StreamReceiver) (now : ℕ) (bytes : List ℕ) (status before after : ℕ) (s : StreamReceiver) : Type 0 where
   pub at : Ticks
   pub at_is : at.0 ≡ now
   pub answer : Result Outcome ReceiveError
-  pub heard : Heard at (datagram_at r.receiver.payload_type r.receiver.no_media r.receiver.ssrc bytes) r.receiver answer s.receiver
+  pub heard : Heard at (datagram_at r.receiver.stream r.receiver.ssrc bytes) r.receiver answer s.receiver
   pub tells : Tells answer status before after
   pub waiting : s.waiting ≡ r.waiting
 
 -- a pop at that time
 abbrev pub PopsAt : ℕ → Session → Answer → Session → Type 0
-PopsAt now s answer t = (packets : Receiving) × PopsWith (waiting_at (settled s.packets) now) (settled s.packets) answer packets × (t ≡ record s { packets = packets })
+PopsAt now s answer t = (packets : Receiving) × PopsWith (waiting_at (settled s.packets) now) (settled s.packets) answer packets × (t ≡ record s { packets = packets; time = time_with s.time answer })
+
+-- the time of a unit without wrapping, as the receiver has it
+abbrev pub time_or : ℕ → Option ℕ → ℕ
+time_or time None = time
+time_or time (Some t) = t
+
+-- what is told of a unit whose time does not wrap
+abbrev pub TellsTimed : Option ℕ → Release → CUnit → Type 0
+TellsTimed time u unit = TellsUnit u (record unit { rtp_time = u.time.numer }) × (unit.rtp_time ≡ time_or u.time.numer time)
 
 -- the next unit of a receiver
 abbrev pub PopsUnit : StreamReceiver → ℕ → ℕ → (unit_before unit : CUnit) (before bytes : List ℕ) → StreamReceiver → Type 0
 PopsUnit r now status unit_before unit before bytes s =
-    AnswersPop (s.receiver ≡ r.receiver) (λ answer. PopsAt now r.receiver answer s.receiver) status
+    AnswersPop (s.receiver ≡ r.receiver) (λ answer. PopsAt now r.receiver answer s.receiver) (TellsTimed s.receiver.time) status
     (record { waited = r.waiting; waits = s.waiting; unit_before = unit_before; unit = unit; before = before; bytes = bytes })
 
 -- a number, if there is one; else status 32
@@ -117,7 +153,18 @@ pub record TellsCounts (r : StreamReceiver) (c : ReceiverCountsInfo) : Type 0 wh
   pub left : c.left ≡ r.receiver.packets.counters.left
   pub restarts : c.restarts ≡ r.receiver.packets.counters.restarts
   pub retransmitted : c.retransmitted ≡ r.receiver.packets.counters.retransmitted
+  pub recovered : c.recovered ≡ r.receiver.packets.counters.recovered
   pub units : c.units ≡ r.receiver.packets.counters.units
   pub held : c.held ≡ length r.receiver.packets.buffer.held
   pub waiting : c.waiting ≡ is_some r.waiting
   pub ssrc : r.receiver.ssrc ≡ given_if c.has_ssrc c.ssrc
+
+-- what a receiver report tells
+abbrev pub TellsReport : Option ReceptionReport → ℕ → (before after : ReportInfo) → Type 0
+TellsReport None status before after = (status ≡ 32) × (after ≡ before)
+TellsReport (Some x) status before after =
+    (status ≡ 0) × (after ≡ record { cumulative_lost = x.cumulative_lost; highest = x.highest; jitter = x.jitter; fraction_lost = x.fraction_lost })
+
+-- the sender begins anew
+abbrev pub anew : Session → Session
+anew s = record s { ssrc = s.named; packets = begun_anew s.packets; reception = s.no_reception }

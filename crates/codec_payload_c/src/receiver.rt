@@ -3,11 +3,13 @@
 ghost use Rattle.std.specs.Prelude.{◌≡◌, ◌≢◌, ◌&&◌, is_some, Bool, IfErr, IfOk, Option};
 ghost use Rattle.codec_payload_core.specs.Depack.{depack_of};
 ghost use Rattle.codec_payload_jitter.specs.Receiving.{deadline_of};
-ghost use Rattle.codec_payload_c.specs.StreamReceivers.{AreSettings, IsNewStream, IsStreamReceiverOf, PopsUnit, Takes, TellsCounts, TellsNumber, is_in_range, outcome_number};
+ghost use Rattle.codec_payload_stream.specs.Reports.{report_of, reported};
+ghost use Rattle.codec_payload_c.specs.StreamReceivers.{AreSettings, IsNewStream, IsStreamReceiverOf, PopsUnit, Takes, TellsCounts, TellsNumber, TellsReport, TellsTimed, anew, is_in_range, outcome_number, red_in_range, red_set, rtx_in_range, rtx_set};
 ghost use Rattle.codec_payload_handle.specs.Kinds.{Makes, OnStreamReceiver, Refuses, is_stream_receiver};
 ghost use Rattle.codec_payload_handle.specs.Settings.{depack_set};
 
 use crate::rtp::status_of;
+use codec_payload_core::buffer::Depacketized;
 use codec_payload_core::codec::CodecDepacketizer;
 use codec_payload_core::wire::{Frequency, Ticks};
 use codec_payload_handle::bytes::fill;
@@ -19,7 +21,9 @@ use codec_payload_handle::unit::{Unit, unit_of};
 use codec_payload_jitter::jitter::Patience;
 use codec_payload_jitter::outcome::Outcome;
 use codec_payload_rtp::values::ExtensionIds;
-use codec_payload_stream::receiver::{ReceiveError, Receiver, Settings};
+use codec_payload_stream::receiver::{
+    ReceiveError, Receiver, RedSettings, Retransmission, Settings,
+};
 use std::alloc::Global;
 
 /// What a receiver is made of.
@@ -36,16 +40,30 @@ pub struct ReceiverSettings {
     /// How long a complete frame waits behind a gap, in ticks of the caller's clock.
     pub max_wait: u64,
     pub ssrc: u32,
+    /// How many ticks of the caller's clock a second has, for reports.
+    pub tick_rate: u32,
+    /// How many ticks of the RTP clock packets in RED are apart, 1 to 16,383.
+    pub red_step: u32,
+    /// Under which SSRC packets are sent again.
+    pub rtx_ssrc: u32,
     /// How far ahead of the greatest number a packet may be: less than this, 1 to 32,768.
     pub forward: u16,
     /// How far behind it: at most this, and less than `forward`.
     pub backward: u16,
     /// 0 to 127.
     pub payload_type: u8,
+    /// That of RED: 0 to 127, and another than that of the stream.
+    pub red_payload_type: u8,
+    /// That of packets that are sent again, 0 to 127.
+    pub rtx_payload_type: u8,
     /// Whether `max_wait` is set; else frames wait for as long as `hold_back` and `start` say.
     pub has_max_wait: bool,
     /// Whether `ssrc` is set; else it is that of the first packet of the stream.
     pub has_ssrc: bool,
+    /// Whether the stream is sent in RED.
+    pub has_red: bool,
+    /// Whether packets are sent again.
+    pub has_rtx: bool,
 }
 
 /// How many datagrams came to what, each modulo 2^64.
@@ -67,6 +85,7 @@ pub struct ReceiverCountsInfo {
     pub left: u64,
     pub restarts: u64,
     pub retransmitted: u64,
+    pub recovered: u64,
     pub units: u64,
     /// How many packets are held.
     pub held: usize,
@@ -77,7 +96,39 @@ pub struct ReceiverCountsInfo {
     pub waiting: bool,
 }
 
-/// Whether the payload type, the limit and the windows are in range.
+/// What a receiver report tells (RFC 3550, section 6.4.1).
+#[repr(C)]
+#[derive(Drop)]
+pub struct ReportInfo {
+    /// How many of all packets did not come, less those that came more than once.
+    pub cumulative_lost: i32,
+    /// The greatest sequence number, and above its 16 bits how often numbers have wrapped.
+    pub highest: u32,
+    /// In ticks of the RTP clock.
+    pub jitter: u32,
+    /// How many of the packets since the report before did not come, in 256ths.
+    pub fraction_lost: u8,
+}
+
+/// Whether RED is in range, if there is any.
+fn red_in_range(settings: &ReceiverSettings) -> bool
+    ensures { result ≡ red_in_range settings.now }
+{
+    !settings.has_red
+        || settings.red_payload_type <= 127
+            && settings.red_payload_type != settings.payload_type
+            && 1 <= settings.red_step
+            && settings.red_step <= 16_383
+}
+
+/// Whether packets that are sent again are in range, if there are any.
+fn rtx_in_range(settings: &ReceiverSettings) -> bool
+    ensures { result ≡ rtx_in_range settings.now }
+{
+    !settings.has_rtx || settings.rtx_payload_type <= 127
+}
+
+/// Whether the payload types, the limit, the windows and the rates are in range.
 fn is_in_range(settings: &ReceiverSettings) -> bool
     ensures { result ≡ is_in_range settings.now }
 {
@@ -87,11 +138,46 @@ fn is_in_range(settings: &ReceiverSettings) -> bool
         && 0 < settings.forward
         && settings.forward <= 32_768
         && settings.backward < settings.forward
+        && 0 < settings.tick_rate
+        && red_in_range(settings)
+        && rtx_in_range(settings)
+}
+
+/// How the stream is sent in RED.
+fn red_of(settings: &ReceiverSettings) -> Option<RedSettings>
+    ensures { result ≡ red_set settings.now }
+{
+    if !settings.has_red {
+        return None;
+    }
+    Some(RedSettings {
+        payload_type: settings.red_payload_type,
+        step: settings.red_step,
+    })
+}
+
+/// Under what packets are sent again.
+fn retransmission_of(settings: &ReceiverSettings) -> Option<Retransmission>
+    ensures { result ≡ rtx_set settings.now }
+{
+    if !settings.has_rtx {
+        return None;
+    }
+    Some(Retransmission {
+        ssrc: settings.rtx_ssrc,
+        payload_type: settings.rtx_payload_type,
+    })
 }
 
 /// The settings as the receiver has them.
-fn settings_of(settings: &ReceiverSettings, clock_rate: Frequency, no_media: Vec<u8>) -> Settings
-    requires { clock_rate ≡ settings.now.spec.rate }
+fn settings_of(
+    settings: &ReceiverSettings,
+    clock_rate: Frequency,
+    tick_rate: Frequency,
+    no_media: Vec<u8>,
+) -> Settings
+    requires clock { clock_rate ≡ settings.now.spec.rate }
+    requires ticks { tick_rate ≡ settings.now.tick_rate }
     ensures { AreSettings settings.now no_media.items result }
 {
     Settings {
@@ -102,8 +188,11 @@ fn settings_of(settings: &ReceiverSettings, clock_rate: Frequency, no_media: Vec
         } else {
             None
         },
+        red: red_of(settings),
+        retransmission: retransmission_of(settings),
         extension_ids: ExtensionIds::default(),
         clock_rate,
+        tick_rate,
         patience: Patience {
             hold_back: settings.hold_back,
             start: settings.start,
@@ -147,7 +236,20 @@ fn receive(stream: &mut StreamReceiver, now: u64, datagram: &[u8], outcome: &mut
             status::OK
         }
         Err(ReceiveError::Rtp(fault)) => status_of(fault),
+        Err(ReceiveError::Red) => status::RED_CORRUPTED,
+        Err(ReceiveError::Retransmission) => status::RTX_TOO_SHORT,
         Err(ReceiveError::OutOfMemory) => status::OUT_OF_MEMORY,
+    }
+}
+
+/// What is known of a unit whose time does not wrap.
+fn timed_unit(unit: &Depacketized, time: Option<u64>) -> Unit
+    ensures { TellsTimed time unit.now result }
+{
+    let told = unit_of(unit);
+    match time {
+        Some(rtp_time) => Unit { rtp_time, ..told },
+        None => told,
     }
 }
 
@@ -165,7 +267,7 @@ fn pop(stream: &mut StreamReceiver, now: u64, unit: &mut Unit, bytes: &mut [u8])
     let Some(next) = &stream.waiting else {
         return status::NONE;
     };
-    *unit = unit_of(next);
+    *unit = timed_unit(next, stream.receiver.unit_time());
     if !fill(bytes, &next.bytes) {
         return status::TOO_SMALL;
     }
@@ -194,6 +296,7 @@ fn counts_of(stream: &StreamReceiver) -> ReceiverCountsInfo
         left: packets.left,
         restarts: packets.restarts,
         retransmitted: packets.retransmitted,
+        recovered: packets.recovered,
         units: packets.units,
         held: stream.receiver.held(),
         ssrc: ssrc.unwrap_or(0),
@@ -218,7 +321,10 @@ fn stream_by(
     let Ok(no_media) = Vec::from_slice(alloc, no_media) else {
         return Err(status::OUT_OF_MEMORY);
     };
-    let settings = settings_of(settings, clock_rate, no_media);
+    let Some(tick_rate) = Frequency::make(settings.tick_rate) else {
+        return Err(status::OUT_OF_MEMORY);
+    };
+    let settings = settings_of(settings, clock_rate, tick_rate, no_media);
     match Receiver::new(alloc, depack, settings) {
         Ok(receiver) => Ok(StreamReceiver {
             receiver,
@@ -357,6 +463,59 @@ pub extern "C" fn cpay_receiver_finish(alloc: Global, handle: &mut Handle) -> u3
             stream.receiver.finish();
             status::OK
         }
+        _ => status::OTHER_KIND,
+    };
+    handle.put(object);
+    answer
+}
+
+/// The sender begins anew: the next packet of the stream gets a number above all others.
+#[unsafe(no_mangle)]
+pub extern "C" fn cpay_receiver_restart(alloc: Global, handle: &mut Handle) -> u32
+    ensures begins { OnStreamReceiver handle.old.place.value (λ r s. (result ≡ 0) × (s ≡ record r { receiver = anew r.receiver })) handle.new.place.value }
+    ensures refused { Refuses is_stream_receiver handle.old.place.value result handle.new.place.value }
+{
+    let Some(mut object) = handle.take(alloc) else {
+        return status::EMPTY;
+    };
+    let answer = match &mut *object {
+        Object::StreamReceiver(stream) => {
+            stream.receiver.restart();
+            status::OK
+        }
+        _ => status::OTHER_KIND,
+    };
+    handle.put(object);
+    answer
+}
+
+/// What a receiver report tells. The next report begins its fraction here.
+#[unsafe(no_mangle)]
+pub extern "C" fn cpay_receiver_report(
+    alloc: Global,
+    handle: &mut Handle,
+    report: &mut ReportInfo,
+) -> u32
+    ensures tells { OnStreamReceiver handle.old.place.value (λ r s. (s ≡ record r { receiver = record r.receiver { reception = reported r.receiver.reception } }) × TellsReport (report_of r.receiver.reception) result report.old report.new) handle.new.place.value }
+    ensures refused { Refuses is_stream_receiver handle.old.place.value result handle.new.place.value }
+    ensures untold { result ≢ 0 → report.new ≡ report.old }
+{
+    let Some(mut object) = handle.take(alloc) else {
+        return status::EMPTY;
+    };
+    let answer = match &mut *object {
+        Object::StreamReceiver(stream) => match stream.receiver.report() {
+            Some(told) => {
+                *report = ReportInfo {
+                    cumulative_lost: told.cumulative_lost,
+                    highest: told.highest,
+                    jitter: told.jitter,
+                    fraction_lost: told.fraction_lost,
+                };
+                status::OK
+            }
+            None => status::NONE,
+        },
         _ => status::OTHER_KIND,
     };
     handle.put(object);

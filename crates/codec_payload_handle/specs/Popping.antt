@@ -4,14 +4,14 @@ use Rattle.codec_payload_core.specs.Faults.{fault_number}
 use Rattle.codec_payload_core.specs.Release.{Release}
 use Rattle.codec_payload_core.specs.declared.error.PacketError.{PacketError}
 use Rattle.codec_payload_handle.specs.Bytes.{filled}
-use Rattle.codec_payload_handle.specs.Units.{TellsUnit}
 use Rattle.codec_payload_handle.specs.declared.unit.Unit.{Unit as CUnit}
 
 -- what a pop answers with
 abbrev pub Answer : Type 0
 Answer = Option (Result Release PacketError)
 
--- `Stays`: nothing was popped. `Popped`: a pop answered so. That unit waited already, or a pop gives it now.
+-- `Stays`: nothing was popped. `Popped`: a pop answered so. `Told`: that is what is told of a unit.
+-- That unit waited already, or a pop gives it now.
 abbrev pub Comes : (Stays : Type 0) (Popped : Answer → Type 0) (waited : Option Release) → Release → Type 0
 Comes Stays Popped waited u = ((waited ≡ Some u) × Stays) ⊎ ((waited ≡ None) × Popped (Some (Ok u)))
 
@@ -25,19 +25,19 @@ pub record Handing : Type 0 where
   pub bytes : List ℕ
 
 -- a unit came, is told, and its bytes stand at the front of the caller's
-pub record Gives (Stays : Type 0) (Popped : Answer → Type 0) (h : Handing) : Type 0 where
+pub record Gives (Stays : Type 0) (Popped : Answer → Type 0) (Told : Release → CUnit → Type 0) (h : Handing) : Type 0 where
   pub release : Release
   pub comes : Comes Stays Popped h.waited release
-  pub tells : TellsUnit release h.unit
+  pub tells : Told release h.unit
   pub room : length release.bytes ≤ length h.before
   pub writes : h.bytes ≡ filled release.bytes h.before
   pub gone : h.waits ≡ None
 
 -- a unit came, is told, and waits, since the caller's bytes are too few
-pub record Keeps (Stays : Type 0) (Popped : Answer → Type 0) (h : Handing) : Type 0 where
+pub record Keeps (Stays : Type 0) (Popped : Answer → Type 0) (Told : Release → CUnit → Type 0) (h : Handing) : Type 0 where
   pub release : Release
   pub comes : Comes Stays Popped h.waited release
-  pub tells : TellsUnit release h.unit
+  pub tells : Told release h.unit
   pub room : length h.before < length release.bytes
   pub untouched : h.bytes ≡ h.before
   pub waits : h.waits ≡ Some release
@@ -57,9 +57,9 @@ pub record GivesFault (Popped : Answer → Type 0) (status : ℕ) (h : Handing) 
   pub none_waits : h.waits ≡ None
 
 -- the next unit, by what is answered
-pub record AnswersPop (Stays : Type 0) (Popped : Answer → Type 0) (status : ℕ) (h : Handing) : Type 0 where
-  pub ok : status ≡ 0 → Gives Stays Popped h
-  pub too_small : status ≡ 33 → Keeps Stays Popped h
+pub record AnswersPop (Stays : Type 0) (Popped : Answer → Type 0) (Told : Release → CUnit → Type 0) (status : ℕ) (h : Handing) : Type 0 where
+  pub ok : status ≡ 0 → Gives Stays Popped Told h
+  pub too_small : status ≡ 33 → Keeps Stays Popped Told h
   pub none : status ≡ 32 → GivesNone Popped h
   pub fault : status ≢ 0 → status ≢ 32 → status ≢ 33 → GivesFault Popped status h
   pub untold : status ≢ 0 → status ≢ 33 → (h.unit ≡ h.unit_before) × (h.bytes ≡ h.before)

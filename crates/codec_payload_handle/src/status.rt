@@ -3,6 +3,9 @@
 pub const OK: u32 = 0;
 
 /// The fault of that number.
+pub const RED_CORRUPTED: u32 = 14;
+
+/// The fault of that number.
 pub const OUT_OF_MEMORY: u32 = 17;
 
 /// There is none: no unit has its turn, no packet is left, no block or report has that index.
@@ -55,3 +58,6 @@ pub const RTP_PADDING_OF_ZERO: u32 = 47;
 
 /// The last byte of an RTP packet says more padding than there is behind the header.
 pub const RTP_PADDING_TOO_LONG: u32 = 48;
+
+/// A packet that was sent again ends inside the number that it had first.
+pub const RTX_TOO_SHORT: u32 = 49;
