@@ -1,3 +1,4 @@
+pub mod ReaderLemmas
 pub mod ReadingLemmas
 pub mod SuperframeGrammar
 pub mod SuperframeLemmas

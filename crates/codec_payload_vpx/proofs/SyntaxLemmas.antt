@@ -1,12 +1,12 @@
 -- Syntax tables: what is spelled is read, and what is read is spelled.
-use Rattle.std.proofs.Common.{◌≡◌, ℕ, zero, suc, ◌+◌, ◌-◌, ◌*◌, ◌%◌, ◌^◌, ◌<◌, ◌≤◌, List, [], ◌∷◌, ◌++◌, length, take, drop, true, false, ltb, Some, None, Result, Ok, Err, refl, sym, ap, ◌∙◌, subst, arith, append_assoc, length-append}
+use Rattle.std.proofs.Common.{◌≡◌, ℕ, zero, suc, ◌+◌, ◌*◌, ◌%◌, ◌^◌, ◌<◌, ◌≤◌, List, [], ◌∷◌, ◌++◌, length, take, drop, true, false, ltb, Result, Ok, Err, refl, sym, ap, ◌∙◌, subst, arith, length-append}
 use Rattle.std.specs.Prelude.{IfOk}
 use Rattle.std.specs.List.{AllByRecursion}
-use Rattle.std.proofs.lemmas.Bool.{le-ltb, lt-ltb, ltb-false}
-use Rattle.std.proofs.lemmas.Nat.{pow_pos, pow-add}
-use Rattle.std.proofs.lemmas.List.{take_at, drop_at, take-append-drop, length-take-le, drop-drop}
+use Rattle.std.proofs.lemmas.Bool.{le-ltb, ltb-false}
+use Rattle.std.proofs.lemmas.Nat.{pow_pos}
+use Rattle.std.proofs.lemmas.List.{take_at, drop_at, take-append-drop, length-take-le}
 use Rattle.std.proofs.Math.Nat.{mod-eq_of_lt, mod-lt}
-use Rattle.codec_payload_base.specs.Bits.{Reader, bits, bits_of, number_of, left, moved, ReadsBits}
+use Rattle.codec_payload_base.specs.Bits.{bits, bits_of, number_of}
 use Rattle.codec_payload_base.proofs.BitLemmas.{length-bits, bits-cat}
 use Rattle.codec_payload_base.proofs.BytesLemmas.{number_of-bits}
 use Rattle.codec_payload_vpx.specs.declared.error.MediaError.{MediaError}
@@ -20,46 +20,10 @@ front_number : (n v : ℕ) (bs rest : List ℕ) → v < 2 ^ n → bs ≡ bits n 
 front_number n v bs rest small is =
     ap (λ (t : List ℕ). number_of (take n t)) is ∙ ap number_of (take_at (bits n v) rest n (length-bits n v)) ∙ number_of-bits n v ∙ mod-eq_of_lt small
 
-field_again : (n v : ℕ) (bs rest : List ℕ) → v < 2 ^ n → bs ≡ bits n v ++ rest → read (field n) bs ≡ Ok (v, rest)
+pub field_again : (n v : ℕ) (bs rest : List ℕ) → v < 2 ^ n → bs ≡ bits n v ++ rest → read (field n) bs ≡ Ok (v, rest)
 field_again n v bs rest small is =
     let behind : drop n bs ≡ rest = ap (drop n) is ∙ drop_at (bits n v) rest n (length-bits n v) in
     rw (le-ltb (length bs) n (omega (arith, ap length is, length-append (bits n v) rest, length-bits n v)), front_number n v bs rest small is, behind) refl
-
-wide_bound : (m h l : ℕ) → h < 2 ^ m → l < 2 ^ 8 → h * 2 ^ 8 + l < 2 ^ (8 + m)
-wide_bound m h l small low =
-    let e : 2 ^ (8 + m) ≡ 2 ^ 8 * 2 ^ m = pow-add 2 8 m in
-    rw e (omega (arith, small, low))
-
-pub reads_field : (n v : ℕ) (old new : Reader) → ReadsBits n old new (Some v) → read (field n) (left old) ≡ Ok (v, left new)
-reads_field n v old new (small, front, _) = field_again n v (left old) (left new) small front
-
-pub reads_nothing : (n : ℕ) (old new : Reader) → ReadsBits n old new None → read (field n) (left old) ≡ Err errors.MissingBytes
-reads_nothing n old new (few, _) = rw (lt-ltb (length (left old)) n few) refl
-
-pub skips_there : (n : ℕ) (old new : Reader) → n ≤ length (left old) → new ≡ moved old n → read (skips n) (left old) ≡ Ok (0, left new)
-skips_there n old new enough is =
-    let behind : drop n (left old) ≡ left new = drop-drop n old.place (bits_of old.bytes) ∙ sym (ap left is) in
-    rw (le-ltb (length (left old)) n enough, behind) refl
-
-pub skips_nothing : (n : ℕ) (old : Reader) → length (left old) < n → read (skips n) (left old) ≡ Err errors.MissingBytes
-skips_nothing n old few = rw (lt-ltb (length (left old)) n few) refl
-
--- a field of more than eight bits, in two parts
-pub reads_wide : (n h l : ℕ) (old middle new : Reader) → 8 ≤ n → ReadsBits (n - 8) old middle (Some h) → ReadsBits 8 middle new (Some l) → read (field n) (left old) ≡ Ok (h * 256 + l, left new)
-reads_wide n h l old middle new many (sh, fh, _) (sl, fl, _) =
-    let m : ℕ = n - 8 in
-    let e : 8 + m ≡ n = omega (arith, many) in
-    let front : left old ≡ bits (8 + m) (h * 2 ^ 8 + l) ++ left new =
-    fh ∙ ap (λ (t : List ℕ). bits m h ++ t) fl ∙ sym (append_assoc (bits m h) (bits 8 l) (left new)) ∙ ap (λ (t : List ℕ). t ++ left new) (sym (bits-cat 8 m h l sl)) in
-    let small : h * 2 ^ 8 + l < 2 ^ (8 + m) = wide_bound m h l sh sl in
-    ap (λ (k : ℕ). read (field k) (left old)) (sym e) ∙ field_again (8 + m) (h * 2 ^ 8 + l) (left old) (left new) small front
-
-pub reads_no_end : (n h : ℕ) (old middle new : Reader) → 8 ≤ n → ReadsBits (n - 8) old middle (Some h) → ReadsBits 8 middle new None → read (field n) (left old) ≡ Err errors.MissingBytes
-reads_no_end n h old middle new many (_, fh, _) (few, _) =
-    rw (lt-ltb (length (left old)) n (omega (arith, few, many, ap length fh, length-append (bits (n - 8) h) (left middle), length-bits (n - 8) h))) refl
-
-pub reads_no_front : (n : ℕ) (old new : Reader) → 8 ≤ n → ReadsBits (n - 8) old new None → read (field n) (left old) ≡ Err errors.MissingBytes
-reads_no_front n old new many (few, _) = rw (lt-ltb (length (left old)) n (omega (arith, few))) refl
 
 abbrev pub AreBits : List ℕ → Type 0
 AreBits bs = AllByRecursion (λ b. b < 2) bs

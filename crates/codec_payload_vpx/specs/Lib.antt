@@ -1,4 +1,5 @@
 pub mod BitFields
+pub mod FieldReaders
 pub mod Reading
 pub mod Syntax
 pub mod Vp8Frames

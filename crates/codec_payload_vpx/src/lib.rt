@@ -3,5 +3,6 @@
 
 pub mod error;
 pub mod fields;
+pub mod reader;
 pub mod vp8;
 pub mod vp9;

@@ -1,15 +1,16 @@
 //! VP9 frames (VP9 bitstream and decoding process specification, sections 6.2 and 7.2).
 
 ghost use Rattle.std.specs.Prelude.{◌≡◌, Ok, IfOk};
-ghost use Rattle.codec_payload_base.specs.Bits.{bits_of, left};
+ghost use Rattle.codec_payload_base.specs.Bits.{bits_of};
+ghost use Rattle.codec_payload_vpx.specs.FieldReaders.{left};
 ghost use Rattle.codec_payload_vpx.specs.Syntax.{IsSpelled, paired, read, told_by};
 ghost use Rattle.codec_payload_vpx.specs.Vp9Frames.{bit_depth, coded_frame, color_config, frame_header, inter_frame, is_odd, intra_color, intra_flag, intra_picture, key_frame, keyframe_picture, picture, picture_if, profile_at, render_size, reset_if, rgb_color, shown_again, side, sync_code, with_subsampling, yuv_color};
 
 mod superframe;
 
 use crate::error::MediaError;
-use crate::fields::{expect_field, read_field, read_flag, read_u16};
-use codec_payload_base::bits::BitReader;
+use crate::fields::{expect_field, read_field, read_flag, read_wide};
+use crate::reader::FieldReader;
 pub use superframe::{Vp9FrameAt, Vp9Frames, frame_at};
 
 /// How the colors of a picture are told.
@@ -59,7 +60,8 @@ pub struct Vp9FrameHeader {
 }
 
 /// The code before colors and sizes, `49 83 42`.
-fn read_sync_code(reader: &mut BitReader<'_>) -> Result<u8, MediaError>
+#[inline(always)]
+fn read_sync_code(reader: &mut FieldReader<'_>) -> Result<u8, MediaError>
     ensures { paired result (left reader.new) ≡ read sync_code (left reader.old) }
 {
     expect_field(reader, 8, 0x49, MediaError::WrongMarker)?;
@@ -68,7 +70,8 @@ fn read_sync_code(reader: &mut BitReader<'_>) -> Result<u8, MediaError>
 }
 
 /// How many bits a color value has.
-fn read_bit_depth(reader: &mut BitReader<'_>, profile: u8) -> Result<u8, MediaError>
+#[inline(always)]
+fn read_bit_depth(reader: &mut FieldReader<'_>, profile: u8) -> Result<u8, MediaError>
     ensures { paired result (left reader.new) ≡ read (bit_depth profile) (left reader.old) }
 {
     if profile < 2 {
@@ -79,6 +82,7 @@ fn read_bit_depth(reader: &mut BitReader<'_>, profile: u8) -> Result<u8, MediaEr
 }
 
 /// Whether a profile has other subsampling than 4:2:0.
+#[inline(always)]
 fn is_odd(profile: u8) -> bool
     ensures { result ≡ is_odd profile }
 {
@@ -86,7 +90,12 @@ fn is_odd(profile: u8) -> bool
 }
 
 /// The color of RGB.
-fn read_rgb(reader: &mut BitReader<'_>, profile: u8, bit_depth: u8) -> Result<Vp9Color, MediaError>
+#[inline(always)]
+fn read_rgb(
+    reader: &mut FieldReader<'_>,
+    profile: u8,
+    bit_depth: u8,
+) -> Result<Vp9Color, MediaError>
     ensures { paired result (left reader.new) ≡ read (rgb_color profile bit_depth) (left reader.old) }
 {
     if !is_odd(profile) {
@@ -103,8 +112,9 @@ fn read_rgb(reader: &mut BitReader<'_>, profile: u8, bit_depth: u8) -> Result<Vp
 }
 
 /// The color of a profile that tells its subsampling.
+#[inline(always)]
 fn read_subsampling(
-    reader: &mut BitReader<'_>,
+    reader: &mut FieldReader<'_>,
     bit_depth: u8,
     color_space: u8,
     full_range: bool,
@@ -127,8 +137,9 @@ fn read_subsampling(
 }
 
 /// The color of another space than RGB.
+#[inline(always)]
 fn read_yuv(
-    reader: &mut BitReader<'_>,
+    reader: &mut FieldReader<'_>,
     profile: u8,
     bit_depth: u8,
     color_space: u8,
@@ -149,7 +160,8 @@ fn read_yuv(
 }
 
 /// The color.
-fn read_color(reader: &mut BitReader<'_>, profile: u8) -> Result<Vp9Color, MediaError>
+#[inline(always)]
+fn read_color(reader: &mut FieldReader<'_>, profile: u8) -> Result<Vp9Color, MediaError>
     ensures { paired result (left reader.new) ≡ read (color_config profile) (left reader.old) }
 {
     let bit_depth = read_bit_depth(reader, profile)?;
@@ -162,16 +174,18 @@ fn read_color(reader: &mut BitReader<'_>, profile: u8) -> Result<Vp9Color, Media
 }
 
 /// A width or a height.
-fn read_side(reader: &mut BitReader<'_>) -> Result<u32, MediaError>
+#[inline(always)]
+fn read_side(reader: &mut FieldReader<'_>) -> Result<u32, MediaError>
     ensures { paired result (left reader.new) ≡ read side (left reader.old) }
 {
-    let less = read_u16(reader)?;
+    let less = read_wide(reader, 16)?;
     Ok(u32::from(less) + 1)
 }
 
 /// The size at which a picture of that size is to be shown.
+#[inline(always)]
 fn read_render_size(
-    reader: &mut BitReader<'_>,
+    reader: &mut FieldReader<'_>,
     width: u32,
     height: u32,
 ) -> Result<(u32, u32), MediaError>
@@ -186,7 +200,8 @@ fn read_render_size(
 }
 
 /// The picture of that color.
-fn read_picture(reader: &mut BitReader<'_>, color: Vp9Color) -> Result<Vp9Picture, MediaError>
+#[inline(always)]
+fn read_picture(reader: &mut FieldReader<'_>, color: Vp9Color) -> Result<Vp9Picture, MediaError>
     ensures { paired result (left reader.new) ≡ read (picture color) (left reader.old) }
 {
     let width = read_side(reader)?;
@@ -202,7 +217,11 @@ fn read_picture(reader: &mut BitReader<'_>, color: Vp9Color) -> Result<Vp9Pictur
 }
 
 /// The picture of a keyframe.
-fn read_keyframe_picture(reader: &mut BitReader<'_>, profile: u8) -> Result<Vp9Picture, MediaError>
+#[inline(always)]
+fn read_keyframe_picture(
+    reader: &mut FieldReader<'_>,
+    profile: u8,
+) -> Result<Vp9Picture, MediaError>
     ensures { paired result (left reader.new) ≡ read (keyframe_picture profile) (left reader.old) }
 {
     read_sync_code(reader)?;
@@ -211,7 +230,8 @@ fn read_keyframe_picture(reader: &mut BitReader<'_>, profile: u8) -> Result<Vp9P
 }
 
 /// The color of an intra-only frame.
-fn read_intra_color(reader: &mut BitReader<'_>, profile: u8) -> Result<Vp9Color, MediaError>
+#[inline(always)]
+fn read_intra_color(reader: &mut FieldReader<'_>, profile: u8) -> Result<Vp9Color, MediaError>
     ensures { paired result (left reader.new) ≡ read (intra_color profile) (left reader.old) }
 {
     if profile != 0 {
@@ -227,7 +247,8 @@ fn read_intra_color(reader: &mut BitReader<'_>, profile: u8) -> Result<Vp9Color,
 }
 
 /// The picture of an intra-only frame.
-fn read_intra_picture(reader: &mut BitReader<'_>, profile: u8) -> Result<Vp9Picture, MediaError>
+#[inline(always)]
+fn read_intra_picture(reader: &mut FieldReader<'_>, profile: u8) -> Result<Vp9Picture, MediaError>
     ensures { paired result (left reader.new) ≡ read (intra_picture profile) (left reader.old) }
 {
     read_sync_code(reader)?;
@@ -237,8 +258,9 @@ fn read_intra_picture(reader: &mut BitReader<'_>, profile: u8) -> Result<Vp9Pict
 }
 
 /// The picture, if the frame is intra-only.
+#[inline(always)]
 fn read_picture_if(
-    reader: &mut BitReader<'_>,
+    reader: &mut FieldReader<'_>,
     intra_only: bool,
     profile: u8,
 ) -> Result<Option<Vp9Picture>, MediaError>
@@ -252,7 +274,8 @@ fn read_picture_if(
 }
 
 /// Whether a frame that is no keyframe is intra-only.
-fn read_intra_flag(reader: &mut BitReader<'_>, shown: bool) -> Result<bool, MediaError>
+#[inline(always)]
+fn read_intra_flag(reader: &mut FieldReader<'_>, shown: bool) -> Result<bool, MediaError>
     ensures { paired result (left reader.new) ≡ read (intra_flag shown) (left reader.old) }
 {
     if shown {
@@ -262,7 +285,8 @@ fn read_intra_flag(reader: &mut BitReader<'_>, shown: bool) -> Result<bool, Medi
 }
 
 /// Which contexts are reset, if it is told.
-fn read_reset_if(reader: &mut BitReader<'_>, there: bool) -> Result<u8, MediaError>
+#[inline(always)]
+fn read_reset_if(reader: &mut FieldReader<'_>, there: bool) -> Result<u8, MediaError>
     ensures { paired result (left reader.new) ≡ read (reset_if there) (left reader.old) }
 {
     if there { read_field(reader, 2) } else { Ok(0) }
@@ -270,8 +294,9 @@ fn read_reset_if(reader: &mut BitReader<'_>, there: bool) -> Result<u8, MediaErr
 
 impl Vp9FrameHeader {
     /// A frame that is no keyframe.
+    #[inline(always)]
     fn read_inter(
-        reader: &mut BitReader<'_>,
+        reader: &mut FieldReader<'_>,
         profile: u8,
         shown: bool,
         error_resilient: bool,
@@ -293,8 +318,9 @@ impl Vp9FrameHeader {
     }
 
     /// A keyframe.
+    #[inline(always)]
     fn read_key(
-        reader: &mut BitReader<'_>,
+        reader: &mut FieldReader<'_>,
         profile: u8,
         shown: bool,
         error_resilient: bool,
@@ -314,7 +340,8 @@ impl Vp9FrameHeader {
     }
 
     /// A frame that is coded.
-    fn read_coded(reader: &mut BitReader<'_>, profile: u8) -> Result<Vp9FrameHeader, MediaError>
+    #[inline(always)]
+    fn read_coded(reader: &mut FieldReader<'_>, profile: u8) -> Result<Vp9FrameHeader, MediaError>
         ensures { paired result (left reader.new) ≡ read (coded_frame profile) (left reader.old) }
     {
         let inter = read_flag(reader)?;
@@ -328,7 +355,11 @@ impl Vp9FrameHeader {
     }
 
     /// A frame that is shown again.
-    fn read_existing(reader: &mut BitReader<'_>, profile: u8) -> Result<Vp9FrameHeader, MediaError>
+    #[inline(always)]
+    fn read_existing(
+        reader: &mut FieldReader<'_>,
+        profile: u8,
+    ) -> Result<Vp9FrameHeader, MediaError>
         ensures { paired result (left reader.new) ≡ read (shown_again profile) (left reader.old) }
     {
         let index = read_field(reader, 3)?;
@@ -345,7 +376,8 @@ impl Vp9FrameHeader {
     }
 
     /// The profile, with the bit that is reserved behind profile 3.
-    fn read_profile(reader: &mut BitReader<'_>) -> Result<u8, MediaError>
+    #[inline(always)]
+    fn read_profile(reader: &mut FieldReader<'_>) -> Result<u8, MediaError>
         ensures { paired result (left reader.new) ≡ read profile_at (left reader.old) }
     {
         let low = read_field(reader, 1)?;
@@ -359,7 +391,8 @@ impl Vp9FrameHeader {
 
     /// The front of the header.
     #[tactic(auto, unfolding(crate::specs::Vp9Frames::frame_header))]
-    fn read_fields(reader: &mut BitReader<'_>) -> Result<Vp9FrameHeader, MediaError>
+    #[inline(always)]
+    fn read_fields(reader: &mut FieldReader<'_>) -> Result<Vp9FrameHeader, MediaError>
         ensures { paired result (left reader.new) ≡ read frame_header (left reader.old) }
     {
         expect_field(reader, 2, 2, MediaError::WrongMarker)?;
@@ -375,7 +408,7 @@ impl Vp9FrameHeader {
     fn read(frame: &[u8]) -> Result<Vp9FrameHeader, MediaError>
         ensures { result ≡ told_by frame_header (bits_of frame.now) }
     {
-        let mut reader = BitReader::new(frame);
+        let mut reader = FieldReader::new(frame);
         Vp9FrameHeader::read_fields(&mut reader)
     }
 

@@ -1,21 +1,22 @@
 //! The operating points of a sequence header (section 5.5.1).
 
 ghost use Rattle.std.specs.Prelude.{◌≡◌, ◌≤◌, Ok, IfOk, Option};
-ghost use Rattle.codec_payload_base.specs.Bits.{bits_of, left};
+ghost use Rattle.codec_payload_base.specs.Bits.{bits_of};
 ghost use Rattle.codec_payload_media.specs.Av1OperatingPoints.{long_point, numbered_point, point_behind, short_point};
+ghost use Rattle.codec_payload_vpx.specs.FieldReaders.{left};
 ghost use Rattle.codec_payload_vpx.specs.Syntax.{IsSpelled, paired, read, told_by};
 
 use crate::av1::sequence_header::{
     Av1OperatingPoint, read_front, read_operating_point, read_reduced_point, read_timing_if,
     skip_operating_points,
 };
-use codec_payload_base::bits::BitReader;
 use codec_payload_vpx::error::MediaError;
 use codec_payload_vpx::fields::{read_field, read_flag};
+use codec_payload_vpx::reader::FieldReader;
 
 /// The operating point behind so many.
 fn read_point_behind(
-    reader: &mut BitReader<'_>,
+    reader: &mut FieldReader<'_>,
     index: u8,
     delay: u8,
     display: bool,
@@ -30,7 +31,7 @@ fn read_point_behind(
 
 /// The operating point of an index, of a header of the long form.
 fn read_long_point(
-    reader: &mut BitReader<'_>,
+    reader: &mut FieldReader<'_>,
     index: u8,
 ) -> Result<Option<Av1OperatingPoint>, MediaError>
     ensures { paired result (left reader.new) ≡ read (long_point index) (left reader.old) }
@@ -47,7 +48,7 @@ fn read_long_point(
 
 /// The operating point of an index, of a header of the short form.
 fn read_short_point(
-    reader: &mut BitReader<'_>,
+    reader: &mut FieldReader<'_>,
     index: u8,
 ) -> Result<Option<Av1OperatingPoint>, MediaError>
     ensures { paired result (left reader.new) ≡ read (short_point index) (left reader.old) }
@@ -59,7 +60,7 @@ fn read_short_point(
 /// The operating point of an index.
 #[tactic(auto, unfolding(crate::specs::Av1OperatingPoints::numbered_point))]
 fn read_numbered_point(
-    reader: &mut BitReader<'_>,
+    reader: &mut FieldReader<'_>,
     index: u8,
 ) -> Result<Option<Av1OperatingPoint>, MediaError>
     ensures { paired result (left reader.new) ≡ read (numbered_point index) (left reader.old) }
@@ -76,7 +77,7 @@ fn read_numbered_point(
 fn read_payload(payload: &[u8], index: u8) -> Result<Option<Av1OperatingPoint>, MediaError>
     ensures { result ≡ told_by (numbered_point index) (bits_of payload.now) }
 {
-    let mut reader = BitReader::new(payload);
+    let mut reader = FieldReader::new(payload);
     read_numbered_point(&mut reader, index)
 }
 

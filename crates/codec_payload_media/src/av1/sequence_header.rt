@@ -1,13 +1,14 @@
 //! The sequence header (section 5.5).
 
 ghost use Rattle.std.specs.Prelude.{◌≡◌, ◌≤◌, ◌+◌, ◌==◌, true, false, Ok, IfOk};
-ghost use Rattle.codec_payload_base.specs.Bits.{bits_of, left};
+ghost use Rattle.codec_payload_base.specs.Bits.{bits_of};
 ghost use Rattle.codec_payload_media.specs.Av1SequenceHeaders.{all_points, behind_points, bit_depth, color_config, color_description, decoder_model, decoder_model_if, description, display_delay, front, frame_ids, integer_vectors, is_srgb, largest_size, monochrome, operating_point, other_points, parameters, parameters_if, reduced_point, screen_tools, sequence_header, srgb, subsampling, timing, timing_if, told_subsampling, tools, uvlc_from, with_chroma};
+ghost use Rattle.codec_payload_vpx.specs.FieldReaders.{left};
 ghost use Rattle.codec_payload_vpx.specs.Syntax.{IsSpelled, branch, field, flag, paired, read, skips, tells, told_by};
 
-use codec_payload_base::bits::BitReader;
 use codec_payload_vpx::error::MediaError;
 use codec_payload_vpx::fields::{read_field, read_flag, read_wide, skip_bits};
+use codec_payload_vpx::reader::FieldReader;
 
 /// An operating point: which layers are decoded, and what a decoder has to be capable of for them.
 #[derive(Clone, Copy, Debug, PartialEq, Eq)]
@@ -73,7 +74,7 @@ pub struct Av1SequenceHeader {
 }
 
 /// A number of unknown length behind so many zeros.
-fn skip_uvlc(reader: &mut BitReader<'_>, most: u8, zeros: usize) -> Result<u8, MediaError>
+fn skip_uvlc(reader: &mut FieldReader<'_>, most: u8, zeros: usize) -> Result<u8, MediaError>
     requires { most + zeros ≤ 32 }
     ensures { paired result (left reader.new) ≡ read (uvlc_from most zeros) (left reader.old) }
 {
@@ -87,7 +88,7 @@ fn skip_uvlc(reader: &mut BitReader<'_>, most: u8, zeros: usize) -> Result<u8, M
 }
 
 /// Bits that are passed over, if they are there.
-fn skip_if(reader: &mut BitReader<'_>, there: bool, bits: usize) -> Result<u8, MediaError>
+fn skip_if(reader: &mut FieldReader<'_>, there: bool, bits: usize) -> Result<u8, MediaError>
     ensures { paired result (left reader.new) ≡ read (branch there (skips bits) (tells 0)) (left reader.old) }
 {
     if there {
@@ -98,14 +99,14 @@ fn skip_if(reader: &mut BitReader<'_>, there: bool, bits: usize) -> Result<u8, M
 }
 
 /// A bit, if it is there.
-fn read_flag_if(reader: &mut BitReader<'_>, there: bool) -> Result<bool, MediaError>
+fn read_flag_if(reader: &mut FieldReader<'_>, there: bool) -> Result<bool, MediaError>
     ensures { paired result (left reader.new) ≡ read (branch there flag (tells false)) (left reader.old) }
 {
     if there { read_flag(reader) } else { Ok(false) }
 }
 
 /// The decoder model, of which the length of delays is told.
-fn read_decoder_model(reader: &mut BitReader<'_>) -> Result<u8, MediaError>
+fn read_decoder_model(reader: &mut FieldReader<'_>) -> Result<u8, MediaError>
     ensures value { paired result (left reader.new) ≡ read decoder_model (left reader.old) }
     ensures most { IfOk result (λ n. n ≤ 32) }
 {
@@ -115,7 +116,7 @@ fn read_decoder_model(reader: &mut BitReader<'_>) -> Result<u8, MediaError>
 }
 
 /// The length of delays, or 0 where there is no decoder model.
-fn read_decoder_model_if(reader: &mut BitReader<'_>, there: bool) -> Result<u8, MediaError>
+fn read_decoder_model_if(reader: &mut FieldReader<'_>, there: bool) -> Result<u8, MediaError>
     ensures value { paired result (left reader.new) ≡ read (decoder_model_if there) (left reader.old) }
     ensures most { IfOk result (λ n. n ≤ 32) }
 {
@@ -127,7 +128,7 @@ fn read_decoder_model_if(reader: &mut BitReader<'_>, there: bool) -> Result<u8, 
 }
 
 /// A number of unknown length, if it is there.
-fn skip_uvlc_if(reader: &mut BitReader<'_>, there: bool) -> Result<u8, MediaError>
+fn skip_uvlc_if(reader: &mut FieldReader<'_>, there: bool) -> Result<u8, MediaError>
     ensures { paired result (left reader.new) ≡ read (branch there (uvlc_from 32 0) (tells 0)) (left reader.old) }
 {
     if there {
@@ -138,7 +139,7 @@ fn skip_uvlc_if(reader: &mut BitReader<'_>, there: bool) -> Result<u8, MediaErro
 }
 
 /// Timing and the decoder model: the length of its delays.
-fn read_timing(reader: &mut BitReader<'_>) -> Result<u8, MediaError>
+fn read_timing(reader: &mut FieldReader<'_>) -> Result<u8, MediaError>
     ensures value { paired result (left reader.new) ≡ read timing (left reader.old) }
     ensures most { IfOk result (λ n. n ≤ 32) }
 {
@@ -150,7 +151,7 @@ fn read_timing(reader: &mut BitReader<'_>) -> Result<u8, MediaError>
 }
 
 /// The length of delays, or 0 where there is no timing.
-pub(crate) fn read_timing_if(reader: &mut BitReader<'_>, there: bool) -> Result<u8, MediaError>
+pub(crate) fn read_timing_if(reader: &mut FieldReader<'_>, there: bool) -> Result<u8, MediaError>
     ensures value { paired result (left reader.new) ≡ read (timing_if there) (left reader.old) }
     ensures most { IfOk result (λ n. n ≤ 32) }
 {
@@ -158,7 +159,7 @@ pub(crate) fn read_timing_if(reader: &mut BitReader<'_>, there: bool) -> Result<
 }
 
 /// The parameters of an operating point, if there is a decoder model.
-fn skip_parameters_if(reader: &mut BitReader<'_>, delay: u8) -> Result<u8, MediaError>
+fn skip_parameters_if(reader: &mut FieldReader<'_>, delay: u8) -> Result<u8, MediaError>
     requires { delay ≤ 32 }
     ensures { paired result (left reader.new) ≡ read (branch (delay == 0) (tells 0) (parameters delay)) (left reader.old) }
 {
@@ -170,7 +171,7 @@ fn skip_parameters_if(reader: &mut BitReader<'_>, delay: u8) -> Result<u8, Media
 }
 
 /// The delay of an operating point, if delays are told.
-fn skip_display_delay_if(reader: &mut BitReader<'_>, told: bool) -> Result<u8, MediaError>
+fn skip_display_delay_if(reader: &mut FieldReader<'_>, told: bool) -> Result<u8, MediaError>
     ensures { paired result (left reader.new) ≡ read (branch told display_delay (tells 0)) (left reader.old) }
 {
     if !told {
@@ -183,7 +184,7 @@ fn skip_display_delay_if(reader: &mut BitReader<'_>, told: bool) -> Result<u8, M
 /// An operating point.
 #[tactic(auto, unfolding(crate::specs::Av1SequenceHeaders::operating_point))]
 pub(crate) fn read_operating_point(
-    reader: &mut BitReader<'_>,
+    reader: &mut FieldReader<'_>,
     delay: u8,
     display: bool,
 ) -> Result<Av1OperatingPoint, MediaError>
@@ -204,7 +205,7 @@ pub(crate) fn read_operating_point(
 
 /// So many operating points are passed over.
 pub(crate) fn skip_operating_points(
-    reader: &mut BitReader<'_>,
+    reader: &mut FieldReader<'_>,
     count: u8,
     delay: u8,
     display: bool,
@@ -220,7 +221,9 @@ pub(crate) fn skip_operating_points(
 }
 
 /// The first operating point, and how many there are.
-fn read_operating_points(reader: &mut BitReader<'_>) -> Result<(Av1OperatingPoint, u8), MediaError>
+fn read_operating_points(
+    reader: &mut FieldReader<'_>,
+) -> Result<(Av1OperatingPoint, u8), MediaError>
     ensures { paired result (left reader.new) ≡ read all_points (left reader.old) }
 {
     let there = read_flag(reader)?;
@@ -234,7 +237,7 @@ fn read_operating_points(reader: &mut BitReader<'_>) -> Result<(Av1OperatingPoin
 
 /// The one operating point of a short header.
 pub(crate) fn read_reduced_point(
-    reader: &mut BitReader<'_>,
+    reader: &mut FieldReader<'_>,
 ) -> Result<(Av1OperatingPoint, u8), MediaError>
     ensures { paired result (left reader.new) ≡ read reduced_point (left reader.old) }
 {
@@ -248,7 +251,7 @@ pub(crate) fn read_reduced_point(
 }
 
 /// The largest width and height.
-fn read_largest_size(reader: &mut BitReader<'_>) -> Result<(u32, u32), MediaError>
+fn read_largest_size(reader: &mut FieldReader<'_>) -> Result<(u32, u32), MediaError>
     ensures { paired result (left reader.new) ≡ read largest_size (left reader.old) }
 {
     let across = read_field(reader, 4)?;
@@ -259,7 +262,7 @@ fn read_largest_size(reader: &mut BitReader<'_>) -> Result<(u32, u32), MediaErro
 }
 
 /// The lengths of frame ids, if the header is of the long form.
-fn skip_frame_ids(reader: &mut BitReader<'_>, reduced: bool) -> Result<u8, MediaError>
+fn skip_frame_ids(reader: &mut FieldReader<'_>, reduced: bool) -> Result<u8, MediaError>
     ensures { paired result (left reader.new) ≡ read (branch reduced (tells 0) frame_ids) (left reader.old) }
 {
     if reduced {
@@ -270,7 +273,7 @@ fn skip_frame_ids(reader: &mut BitReader<'_>, reduced: bool) -> Result<u8, Media
 }
 
 /// Whether motion vectors are whole, if it is told.
-fn skip_integer_vectors_if(reader: &mut BitReader<'_>, there: bool) -> Result<u8, MediaError>
+fn skip_integer_vectors_if(reader: &mut FieldReader<'_>, there: bool) -> Result<u8, MediaError>
     ensures { paired result (left reader.new) ≡ read (branch there integer_vectors (tells 0)) (left reader.old) }
 {
     if !there {
@@ -281,7 +284,7 @@ fn skip_integer_vectors_if(reader: &mut BitReader<'_>, there: bool) -> Result<u8
 }
 
 /// Whether there may be tools for screens.
-fn read_screen_tools(reader: &mut BitReader<'_>) -> Result<bool, MediaError>
+fn read_screen_tools(reader: &mut FieldReader<'_>) -> Result<bool, MediaError>
     ensures { paired result (left reader.new) ≡ read screen_tools (left reader.old) }
 {
     if read_flag(reader)? {
@@ -292,7 +295,7 @@ fn read_screen_tools(reader: &mut BitReader<'_>) -> Result<bool, MediaError>
 
 /// Tools, if the header is of the long form.
 #[tactic(auto, unfolding(crate::specs::Av1SequenceHeaders::tools))]
-fn skip_tools(reader: &mut BitReader<'_>, reduced: bool) -> Result<u8, MediaError>
+fn skip_tools(reader: &mut FieldReader<'_>, reduced: bool) -> Result<u8, MediaError>
     ensures { paired result (left reader.new) ≡ read (branch reduced (tells 0) tools) (left reader.old) }
 {
     if reduced {
@@ -307,7 +310,7 @@ fn skip_tools(reader: &mut BitReader<'_>, reduced: bool) -> Result<u8, MediaErro
 }
 
 /// How many bits a color value has.
-fn read_bit_depth(reader: &mut BitReader<'_>, profile: u8) -> Result<u8, MediaError>
+fn read_bit_depth(reader: &mut FieldReader<'_>, profile: u8) -> Result<u8, MediaError>
     ensures { paired result (left reader.new) ≡ read (bit_depth profile) (left reader.old) }
 {
     let high = read_flag(reader)?;
@@ -319,7 +322,7 @@ fn read_bit_depth(reader: &mut BitReader<'_>, profile: u8) -> Result<u8, MediaEr
 }
 
 /// Where colors stand.
-fn read_description(reader: &mut BitReader<'_>) -> Result<Av1ColorDescription, MediaError>
+fn read_description(reader: &mut FieldReader<'_>) -> Result<Av1ColorDescription, MediaError>
     ensures { paired result (left reader.new) ≡ read color_description (left reader.old) }
 {
     if !read_flag(reader)? {
@@ -341,7 +344,7 @@ fn read_description(reader: &mut BitReader<'_>) -> Result<Av1ColorDescription, M
 
 /// The subsampling in both directions.
 fn read_subsampling(
-    reader: &mut BitReader<'_>,
+    reader: &mut FieldReader<'_>,
     profile: u8,
     bit_depth: u8,
 ) -> Result<(bool, bool), MediaError>
@@ -362,7 +365,7 @@ fn read_subsampling(
 }
 
 /// A field of two bits, if it is there.
-fn read_position_if(reader: &mut BitReader<'_>, there: bool) -> Result<u8, MediaError>
+fn read_position_if(reader: &mut FieldReader<'_>, there: bool) -> Result<u8, MediaError>
     ensures { paired result (left reader.new) ≡ read (branch there (field 2) (tells 0)) (left reader.old) }
 {
     if there { read_field(reader, 2) } else { Ok(0) }
@@ -370,7 +373,7 @@ fn read_position_if(reader: &mut BitReader<'_>, there: bool) -> Result<u8, Media
 
 /// The color of gray pictures.
 fn read_monochrome(
-    reader: &mut BitReader<'_>,
+    reader: &mut FieldReader<'_>,
     bit_depth: u8,
     description: Av1ColorDescription,
 ) -> Result<Av1Color, MediaError>
@@ -390,7 +393,7 @@ fn read_monochrome(
 
 /// The color of sRGB.
 fn read_srgb(
-    reader: &mut BitReader<'_>,
+    reader: &mut FieldReader<'_>,
     bit_depth: u8,
     description: Av1ColorDescription,
 ) -> Result<Av1Color, MediaError>
@@ -410,7 +413,7 @@ fn read_srgb(
 
 /// The color of other pictures.
 fn read_chroma(
-    reader: &mut BitReader<'_>,
+    reader: &mut FieldReader<'_>,
     profile: u8,
     bit_depth: u8,
     description: Av1ColorDescription,
@@ -441,7 +444,7 @@ fn is_srgb(description: Av1ColorDescription) -> bool
 
 /// The color.
 #[tactic(auto, unfolding(crate::specs::Av1SequenceHeaders::color_config))]
-fn read_color(reader: &mut BitReader<'_>, profile: u8) -> Result<Av1Color, MediaError>
+fn read_color(reader: &mut FieldReader<'_>, profile: u8) -> Result<Av1Color, MediaError>
     ensures { paired result (left reader.new) ≡ read (color_config profile) (left reader.old) }
 {
     let bit_depth = read_bit_depth(reader, profile)?;
@@ -465,7 +468,7 @@ pub(crate) struct Front {
 }
 
 /// The front of a header.
-pub(crate) fn read_front(reader: &mut BitReader<'_>) -> Result<Front, MediaError>
+pub(crate) fn read_front(reader: &mut FieldReader<'_>) -> Result<Front, MediaError>
     ensures { paired result (left reader.new) ≡ read front (left reader.old) }
 {
     let profile = read_field(reader, 3)?;
@@ -483,7 +486,7 @@ pub(crate) fn read_front(reader: &mut BitReader<'_>) -> Result<Front, MediaError
 
 /// The operating points of a header of that form.
 fn read_points(
-    reader: &mut BitReader<'_>,
+    reader: &mut FieldReader<'_>,
     reduced: bool,
 ) -> Result<(Av1OperatingPoint, u8), MediaError>
     ensures { paired result (left reader.new) ≡ read (branch reduced reduced_point all_points) (left reader.old) }
@@ -498,7 +501,7 @@ fn read_points(
 impl Av1SequenceHeader {
     /// What stands behind the operating points.
     fn read_behind(
-        reader: &mut BitReader<'_>,
+        reader: &mut FieldReader<'_>,
         fields: Front,
         points: (Av1OperatingPoint, u8),
     ) -> Result<Av1SequenceHeader, MediaError>
@@ -526,7 +529,7 @@ impl Av1SequenceHeader {
 
     /// The fields of a header.
     #[tactic(auto, unfolding(crate::specs::Av1SequenceHeaders::sequence_header))]
-    fn read_fields(reader: &mut BitReader<'_>) -> Result<Av1SequenceHeader, MediaError>
+    fn read_fields(reader: &mut FieldReader<'_>) -> Result<Av1SequenceHeader, MediaError>
         ensures { paired result (left reader.new) ≡ read sequence_header (left reader.old) }
     {
         let front = read_front(reader)?;
@@ -538,7 +541,7 @@ impl Av1SequenceHeader {
     fn read(payload: &[u8]) -> Result<Av1SequenceHeader, MediaError>
         ensures { result ≡ told_by sequence_header (bits_of payload.now) }
     {
-        let mut reader = BitReader::new(payload);
+        let mut reader = FieldReader::new(payload);
         Av1SequenceHeader::read_fields(&mut reader)
     }
 

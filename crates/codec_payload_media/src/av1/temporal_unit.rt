@@ -1,16 +1,17 @@
 //! What a temporal unit tells up to its first frame header (sections 5.3, 5.9.2 and 7.5).
 
 ghost use Rattle.std.specs.Prelude.{◌≡◌};
-ghost use Rattle.codec_payload_base.specs.Bits.{bits_of, left};
+ghost use Rattle.codec_payload_base.specs.Bits.{bits_of};
 ghost use Rattle.codec_payload_media.specs.Av1TemporalUnits.{begins_sequence, empty_unit, existing_frame, frame_start, is_reduced, is_shown_keyframe, long_start, new_frame, still_frame, temporal_layer, unit_at, with_frame, with_header, with_obu};
 ghost use Rattle.codec_payload_media.specs.Av1Units.{obu_of};
+ghost use Rattle.codec_payload_vpx.specs.FieldReaders.{left};
 ghost use Rattle.codec_payload_vpx.specs.Syntax.{paired, read, told_by};
 
 use crate::av1::obu::{Av1Extension, Av1Obu, OBU_SEQUENCE_HEADER, front_obu};
 use crate::av1::sequence_header::Av1SequenceHeader;
-use codec_payload_base::bits::BitReader;
 use codec_payload_vpx::error::MediaError;
 use codec_payload_vpx::fields::{read_field, read_flag};
+use codec_payload_vpx::reader::FieldReader;
 
 /// The type of a frame header.
 pub const OBU_FRAME_HEADER: u8 = 3;
@@ -57,7 +58,7 @@ impl Av1FrameStart {
     }
 
     /// A new frame.
-    fn read_new(reader: &mut BitReader<'_>, temporal_id: u8) -> Result<Av1FrameStart, MediaError>
+    fn read_new(reader: &mut FieldReader<'_>, temporal_id: u8) -> Result<Av1FrameStart, MediaError>
         ensures { paired result (left reader.new) ≡ read (new_frame temporal_id) (left reader.old) }
     {
         let kind = read_field(reader, 2)?;
@@ -71,7 +72,7 @@ impl Av1FrameStart {
     }
 
     /// The front of a frame header.
-    fn read_long(reader: &mut BitReader<'_>, temporal_id: u8) -> Result<Av1FrameStart, MediaError>
+    fn read_long(reader: &mut FieldReader<'_>, temporal_id: u8) -> Result<Av1FrameStart, MediaError>
         ensures { paired result (left reader.new) ≡ read (long_start temporal_id) (left reader.old) }
     {
         if read_flag(reader)? {
@@ -87,7 +88,7 @@ impl Av1FrameStart {
         if reduced {
             return Ok(Av1FrameStart::still(temporal_id));
         }
-        let mut reader = BitReader::new(payload);
+        let mut reader = FieldReader::new(payload);
         Av1FrameStart::read_long(&mut reader, temporal_id)
     }
 

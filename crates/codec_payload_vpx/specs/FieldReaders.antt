@@ -1,0 +1,22 @@
+-- Readers of fields: bits that were taken out of the bytes, and the bytes behind them.
+use Rattle.std.specs.Prelude.{ℕ, ◌+◌, ◌*◌, ◌^◌, List, [], ◌∷◌, ◌++◌, length, Result, Ok, Err}
+use Rattle.codec_payload_base.specs.Bits.{bits_of}
+use Rattle.codec_payload_vpx.specs.declared.error.MediaError.{MediaError}
+
+pub record Unread : Type 0 where
+  pub held : List ℕ
+  pub behind : List ℕ
+
+-- the bits that are left
+abbrev pub left : Unread → List ℕ
+left r = r.held ++ bits_of r.behind
+
+-- the number that bytes say, high byte first
+abbrev pub be_number : List ℕ → ℕ
+be_number [] = 0
+be_number (b ∷ bs) = b * 2 ^ (8 * length bs) + be_number bs
+
+-- what a reader has left behind bits that were passed over
+abbrev pub passed : Result Unread MediaError → Result (ℕ × List ℕ) MediaError
+passed (Ok r) = Ok (0, left r)
+passed (Err f) = Err f

@@ -1,0 +1,173 @@
+//! A reader of fields of so many bits, the highest of each byte first.
+
+ghost use Rattle.std.specs.Prelude.{◌≡◌, ◌*◌, ◌<◌, ◌≤◌, ◌^◌, ◌++◌, [], length, take, drop, true, false, IfOk};
+ghost use Rattle.codec_payload_base.specs.Bits.{bits, bits_of};
+ghost use Rattle.codec_payload_vpx.specs.FieldReaders.{be_number, left, passed};
+ghost use Rattle.codec_payload_vpx.specs.Syntax.{field, paired, read, skips};
+
+use crate::error::MediaError;
+use std::marker::Model;
+
+/// A number of at most four bytes, high byte first.
+#[inline(always)]
+fn be_number(bytes: &[u8]) -> u32
+    requires { length bytes.now ≤ 4 }
+    ensures { result ≡ be_number bytes.now }
+{
+    match bytes {
+        [] => 0,
+        [b0] => u32::from(*b0),
+        [b0, b1] => u32::from_be_bytes([0, 0, *b0, *b1]),
+        [b0, b1, b2] => u32::from_be_bytes([0, *b0, *b1, *b2]),
+        [b0, b1, b2, b3, ..] => u32::from_be_bytes([*b0, *b1, *b2, *b3]),
+    }
+}
+
+/// The number of those bytes at most, which has as many bits.
+#[inline(always)]
+fn front_number(bytes: &[u8]) -> u32
+    requires { length bytes.now ≤ 4 }
+    ensures says { bits (8 * length bytes.now) result ≡ bits_of bytes.now }
+    ensures small { result < 2 ^ (8 * length bytes.now) }
+{
+    be_number(bytes)
+}
+
+/// Four bytes from the front, or all where there are fewer, and what is behind them.
+#[inline(always)]
+fn cut_four(bytes: &[u8]) -> (&[u8], &[u8])
+    ensures front { result.0.now ≡ take 4 bytes.now }
+    ensures rest { result.1.now ≡ drop 4 bytes.now }
+{
+    if bytes.len() <= 4 {
+        return (bytes, &[]);
+    }
+    bytes.split_at(4)
+}
+
+/// Reads fields from the bytes that it borrows. It takes no memory.
+#[derive(Debug, Drop)]
+pub struct FieldReader<'a> {
+    /// The bits that were taken out of the bytes and are not read, lowest in a number.
+    window: u64,
+    /// How many these are.
+    held: usize,
+    /// The bytes behind them.
+    behind: &'a [u8],
+}
+
+impl<'a> Model for FieldReader<'a> {
+    ghost use Rattle.std.specs.Prelude.{◌≤◌};
+    ghost use Rattle.codec_payload_base.specs.Bits.{bits};
+    ghost use Rattle.codec_payload_vpx.specs.FieldReaders.{Unread};
+
+    ghost Value = { Unread };
+
+    ghost view = { λ r. record { held = bits r.held r.window; behind = r.behind.now } };
+
+    ghost invariant = { λ r. r.held ≤ 48 };
+}
+
+impl<'a> FieldReader<'a> {
+    /// A reader at the first bit of `bytes`.
+    #[inline(always)]
+    #[tactic(auto, using(crate::proofs::ReaderLemmas::none_held))]
+    pub fn new(bytes: &'a [u8]) -> FieldReader<'a>
+        ensures { left result ≡ bits_of bytes.now }
+    {
+        FieldReader {
+            window: 0,
+            held: 0,
+            behind: bytes,
+        }
+    }
+
+    /// Takes bits out of four bytes more, or of all where there are fewer.
+    #[inline(always)]
+    fn fill(&mut self)
+        requires { length self.old.held ≤ 16 }
+        ensures same { left self.new ≡ left self.old }
+        ensures many { length self.new.held < 32 → self.new.behind ≡ [] }
+    {
+        let (front, rest) = cut_four(self.behind);
+        let more = 8 * front.len();
+        let before = self.window % (1 << self.held);
+        self.window = (before << more) + u64::from(front_number(front));
+        self.held += more;
+        self.behind = rest;
+    }
+
+    /// Whether there are so many bits, which are then held.
+    #[inline(always)]
+    fn hold(&mut self, count: usize) -> bool
+        requires { count ≤ 16 }
+        ensures same { left self.new ≡ left self.old }
+        ensures enough { result ≡ true → count ≤ length self.new.held }
+        ensures few { result ≡ false → length (left self.new) < count }
+    {
+        if count <= self.held {
+            return true;
+        }
+        self.fill();
+        count <= self.held
+    }
+
+    /// The next bits, which are held, as a number.
+    #[inline(always)]
+    fn split(&mut self, count: usize) -> u64
+        requires { count ≤ length self.old.held }
+        ensures value { self.old.held ≡ bits count result ++ self.new.held }
+        ensures below { result < 2 ^ count }
+        ensures behind { self.new.behind ≡ self.old.behind }
+    {
+        self.held -= count;
+        (self.window >> self.held) % (1 << count)
+    }
+
+    /// The next bits as a number.
+    #[inline(always)]
+    pub fn take_bits(&mut self, count: usize) -> Result<u64, MediaError>
+        requires { count ≤ 16 }
+        ensures value { paired result (left self.new) ≡ read (field count) (left self.old) }
+        ensures below { IfOk result (λ v. v < 2 ^ count) }
+    {
+        if self.hold(count) {
+            Ok(self.split(count))
+        } else {
+            Err(MediaError::MissingBytes)
+        }
+    }
+
+    /// So many bits are passed over.
+    #[inline(always)]
+    pub fn skip_bits(&mut self, count: usize) -> Result<u8, MediaError>
+        ensures { paired result (left self.new) ≡ read (skips count) (left self.old) }
+    {
+        if count <= self.held {
+            self.split(count);
+            return Ok(0);
+        }
+        match behind_bits(count - self.held, self.behind) {
+            Ok(reader) => {
+                *self = reader;
+                Ok(0)
+            }
+            Err(fault) => Err(fault),
+        }
+    }
+}
+
+/// A reader behind so many bits.
+fn behind_bits(count: usize, bytes: &[u8]) -> Result<FieldReader<'_>, MediaError>
+    ensures { passed result ≡ read (skips count) (bits_of bytes.now) }
+{
+    if bytes.len() < count / 8 {
+        return Err(MediaError::MissingBytes);
+    }
+    let (_, rest) = bytes.split_at(count / 8);
+    let mut reader = FieldReader::new(rest);
+    match reader.take_bits(count % 8) {
+        Ok(_) => Ok(reader),
+        Err(fault) => Err(fault),
+    }
+}
