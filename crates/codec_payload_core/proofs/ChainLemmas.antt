@@ -91,7 +91,7 @@ module _ (c : Setting) where
   abbrev pub Filling : State → State → Type 0
   Filling start s = IsFilling c.known c.clock_rate c.first c.kind c.faithful c.splits c.units c.lawful c.numbered start s
 
-  abbrev Exactly : ℕ → List SentUnit → State → Type 0
+  abbrev pub Exactly : ℕ → List SentUnit → State → Type 0
   Exactly k rest s = IsExactly c.known c.clock_rate c.first c.kind c.faithful c.splits c.units k rest s
 
   -- pushes while an unused buffer is filled
@@ -115,7 +115,7 @@ module _ (c : Setting) where
       }
 
   -- the row is full at the first pop
-  full_at_pop : (start s : State) → Filling start s → MayGo c.units start.depack start.contiguity → ((k : ℕ) → k < count c → has_number (c.first + k) s.held ≡ true) → Exactly 0 c.units s
+  pub full_at_pop : (start s : State) → Filling start s → MayGo c.units start.depack start.contiguity → ((k : ℕ) → k < count c → has_number (c.first + k) s.held ≡ true) → Exactly 0 c.units s
   full_at_pop start s filling may there = record {
     row = full_row c.known c.clock_rate c.first c.kind c.faithful c.splits c.units c.lawful c.numbered start s filling there;
     rises = filling.beyond.rises;

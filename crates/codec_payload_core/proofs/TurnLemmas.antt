@@ -119,7 +119,7 @@ module _ (c : Setting) where
   pub passed_beyond : (from : ℕ) (s t : State) (over : List Segment) → Beyond from s → Passes s over t → Beyond from t
   passed_beyond from s t over beyond passes = beyond_passes c.known c.clock_rate c.first c.kind c.faithful c.splits c.units c.lawful c.numbered from s t over beyond passes
 
-  pop_is : (from : ℕ) (s t : State) (over : List Segment) (a : Answer) → Beyond from s → PopsOver s over a t → a ≢ Some (Err faults.OutOfMemory) → IsPop s t over a
+  pub pop_is : (from : ℕ) (s t : State) (over : List Segment) (a : Answer) → Beyond from s → PopsOver s over a t → a ≢ Some (Err faults.OutOfMemory) → IsPop s t over a
   pop_is from s t over None beyond pop found = waits pop.0 pop.1
   pop_is from s t over (Some (Ok r)) beyond pop found = releases pop.0 pop.1 pop.2
   pop_is from s t over (Some (Err fault)) beyond pop found = elim pop.2 [
@@ -135,7 +135,7 @@ module _ (c : Setting) where
       (frame.place + 1, (released_at c.known c.clock_rate c.first c.kind c.faithful c.splits c.units c.lawful c.numbered from mid t r there out).2)
   popped_beyond from s t over (Some (Err fault)) beyond pop = elim pop [ ]
 
-  pop_in_order : (from : ℕ) (s t : State) (over : List Segment) (a : Answer) (answers : List Answer) → Beyond from s → IsPop s t over a → ((n : ℕ) → Beyond n t → InOrder c.known c.splits c.units n answers) → InOrder c.known c.splits c.units from (a ∷ answers)
+  pub pop_in_order : (from : ℕ) (s t : State) (over : List Segment) (a : Answer) (answers : List Answer) → Beyond from s → IsPop s t over a → ((n : ℕ) → Beyond n t → InOrder c.known c.splits c.units n answers) → InOrder c.known c.splits c.units from (a ∷ answers)
   pop_in_order from s t over None answers beyond (waits passes nothing) later = later from (passed_beyond from s t over beyond passes)
   pop_in_order from s t over (Some (Ok r)) answers beyond (releases mid passes out) later =
       let is = released c.known c.clock_rate c.first c.kind c.faithful c.splits c.units c.lawful c.numbered from mid t r (passed_beyond from s mid over beyond passes) out in

@@ -3,6 +3,7 @@
 ghost use Rattle.std.specs.Prelude.{◌≡◌, ◌≢◌, ◌∷◌, ◌++◌, ◌⊎◌, [], List, ◌≤◌, ◌^◌, ◌↔◌, map, IfOk, IfErr, IfSome, IsNone, OnOk, OnErr, Option, Result};
 ghost use Rattle.std.specs.Result.{result_err};
 ghost use Rattle.codec_payload_base.specs.declared.error.PacketError.TheVariants.{OutOfMemory};
+ghost use Rattle.codec_payload_core.specs.Arrivals.{ReleaseInOrder};
 ghost use Rattle.codec_payload_core.specs.Packets.{Packet, packet_of};
 ghost use Rattle.codec_payload_core.specs.RedOrder.{OnlySetsCountInRed};
 ghost use Rattle.codec_payload_core.specs.RedPromises.{KeepsRedPromises, LeavesSender, ran_in_red, protection_of};
@@ -335,4 +336,11 @@ pub fn order_of_runs()
 /// but the marker and the values of header extensions, which are not known of a packet that was recovered.
 pub fn order_of_red_runs()
     ensures { OnlySetsCountInRed }
+{}
+
+/// Whatever comes of the packets that a run sends to an unused buffer that reads them, in whatever order and however often, and
+/// however many complete frames each pop waits for: both halves of the theorem hold of what the pops answer. So does a receiver
+/// keep them that is no part of a run.
+pub fn release_in_order()
+    ensures { ReleaseInOrder }
 {}
