@@ -7,8 +7,8 @@
 #include <stddef.h>
 #include <stdint.h>
 
-/* A file, whose format is told by the ending of its name. It is begun once each of its tracks has begun, or once so much waits
- * that the others are given up; what waits until then is held, and bounded. */
+/* A file, whose format is told by the ending of its name. One of several tracks is begun once each of them has begun and it is
+ * known how they lie in time, or once ten seconds or 16 MiB wait; tracks that have not begun by then are given up. */
 typedef struct writer writer;
 
 /* What a track is, as its first frame tells. */
@@ -19,6 +19,7 @@ typedef struct {
     int channels;
     int width; /* of video, in pixels */
     int height;
+    int64_t received; /* when its first frame came, in nanoseconds of the capture's clock */
     const uint8_t *configuration; /* what the container wants of the codec, as av1C; copied */
     size_t configuration_len;
 } writer_track;
@@ -26,7 +27,6 @@ typedef struct {
 typedef struct {
     int64_t time;     /* in ticks of the track's clock, from 0 at the beginning of the track */
     int64_t duration; /* in these ticks, or 0 where it is not known */
-    int64_t offset;   /* nanoseconds from the beginning of the file to that of the track */
     bool keyframe;
     bool damaged; /* what it refers to may lack */
     const uint8_t *bytes;
@@ -41,6 +41,10 @@ bool writer_has(const writer *file, size_t track);
 
 /* A track begins. false where its codec has no place in the format of the file, which is said. */
 bool writer_begin(writer *file, size_t track, const writer_track *info);
+
+/* When a track began by the clock of its sender, in nanoseconds. Tracks are put together by these where all have them, and else
+ * by when their first frames came. It counts until the file is begun. */
+void writer_synchronize(writer *file, size_t track, int64_t began);
 
 /* A frame of a track that has begun. Times of a track rise; one that does not is moved behind the one before. false where the
  * file cannot be written any more, which is said once. */
