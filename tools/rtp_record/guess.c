@@ -26,7 +26,7 @@ static bool gives_pictures(const stream *it, uint32_t number) {
     return status == CPAY_NONE && sized && !malformed;
 }
 
-/* Whether times go on in steps of Opus: 2.5 to 120 ms of 48 kHz, one packet a time. */
+/* Whether times mostly go on by what the packets before last as Opus, one packet a time. */
 static bool steps_as_opus(const stream *it) {
     size_t steps = 0;
     uint32_t before = 0;
@@ -37,7 +37,7 @@ static bool steps_as_opus(const stream *it) {
         if (cpay_rtp_read(kept->bytes, kept->size, &packet)) return false;
         if (cpay_frame_info(CPAY_OPUS, kept->bytes + packet.payload_at, packet.payload_len, &facts)) return false;
         uint32_t step = packet.timestamp - before;
-        if (i > 0 && (step == 0 || step % 120 != 0)) return false;
+        if (i > 0 && step == 0) return false;
         if (i > 0 && step == facts.duration) steps++;
         before = packet.timestamp;
     }
