@@ -1,0 +1,29 @@
+/* Messages for people, on the standard error stream. */
+#ifndef RTP_RECORD_MESSAGE_H
+#define RTP_RECORD_MESSAGE_H
+
+#include <stdint.h>
+
+#if defined(__GNUC__)
+#define PRINTF_LIKE(text, first) __attribute__((__format__(__printf__, text, first)))
+#else
+#define PRINTF_LIKE(text, first)
+#endif
+
+/* Something failed: it is said, and counted. */
+void complain(const char *format, ...) PRINTF_LIKE(1, 2);
+
+/* Something is worth to be known, and is no failure. */
+void remark(const char *format, ...) PRINTF_LIKE(1, 2);
+
+/* How many times something failed. */
+unsigned long complaints(void);
+
+/* Whether remarks are said (the default), and progress lines, which are for terminals alone. */
+void messages_quiet(void);
+
+/* A line that says how far the reading is, in place of the one before: at most twice a second. `size` is that of the whole
+ * capture, or 0. */
+void progress(uint64_t bytes, uint64_t size, uint64_t packets);
+
+#endif

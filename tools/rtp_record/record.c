@@ -1,0 +1,222 @@
+#include "record.h"
+
+#include "message.h"
+#include "timeline.h"
+#include "unit.h"
+
+#include <codec_payload.h>
+#include <stdlib.h>
+#include <string.h>
+
+enum {
+    TYPES = 128,
+    CLOCK = 1000000000, /* ticks of the capture's clock in a second */
+};
+
+struct record {
+    record_stream stream;
+    record_options options;
+    uint8_t no_media[TYPES];
+    writer *file;
+    size_t track;
+    cpay_receiver receiver;
+    timeline times;
+    record_totals totals;
+    uint8_t *bytes; /* of a unit, as many as the largest so far */
+    size_t room;
+    int64_t last_time;
+    int64_t last_duration;
+    bool begun;
+    bool lacking; /* a frame is missing since the latest keyframe */
+    bool failed;
+};
+
+static bool fail(record *it, const char *what) {
+    if (!it->failed) complain("stream %08x: %s", (unsigned)it->stream.ssrc, what);
+    it->failed = true;
+    return false;
+}
+
+static bool receives(record *it) {
+    cpay_receiver_settings settings = CPAY_RECEIVER_SETTINGS;
+    const codec_use *use = &it->stream.use;
+    settings.spec.codec = use->codec->library;
+    settings.spec.rate = use->rate;
+    settings.spec.octet_align = use->octet_align;
+    settings.payload_type = it->stream.payload_type;
+    settings.has_ssrc = true;
+    settings.ssrc = it->stream.ssrc;
+    settings.start = 1;
+    /* A capture has all that ever came: a gap is waited for by the clock, for as long as a jitter buffer might. */
+    settings.hold_back = SIZE_MAX;
+    settings.has_max_wait = true;
+    settings.max_wait = 2ull * CLOCK;
+    settings.tick_rate = CLOCK;
+    if (it->stream.has_red) {
+        settings.has_red = true;
+        settings.red_payload_type = it->stream.red_payload_type;
+        settings.red_step = use->rate / 50;
+    }
+    cpay_status status = cpay_receiver_new(&it->receiver, &settings, it->no_media, it->stream.no_media_len);
+    return status == CPAY_OK || fail(it, cpay_status_text(status));
+}
+
+record *record_open(const record_stream *stream, writer *file, size_t track, const record_options *options) {
+    record *it = calloc(1, sizeof *it);
+    if (!it) {
+        complain("stream %08x: out of memory", (unsigned)stream->ssrc);
+        return NULL;
+    }
+    it->stream = *stream;
+    it->options = *options;
+    it->file = file;
+    it->track = track;
+    if (it->stream.no_media_len > TYPES) it->stream.no_media_len = TYPES;
+    if (it->stream.no_media_len > 0) memcpy(it->no_media, stream->no_media, it->stream.no_media_len);
+    it->stream.no_media = it->no_media;
+    timeline_begin(&it->times, stream->use.rate);
+    if (receives(it)) return it;
+    free(it);
+    return NULL;
+}
+
+/* Whether a frame is written: from the first keyframe on, and with --clean not behind a lost one. */
+static bool is_wanted(record *it, const unit_facts *facts, bool follows) {
+    if (!facts->video) return true;
+    if (facts->keyframe) it->lacking = false;
+    else if (!follows || !it->begun) it->lacking = true;
+    if (!it->begun && !facts->keyframe && !(it->options.all && facts->width > 0)) return false;
+    return !(it->options.clean && it->lacking);
+}
+
+/* The track begins with this frame, which tells what it is. */
+static bool begin(record *it, const unit_facts *facts, uint64_t received, size_t size) {
+    uint8_t configuration[UNIT_CONFIGURATION];
+    writer_track track = {
+        .codec = it->stream.use.codec->ffmpeg,
+        .clock_rate = it->stream.use.rate,
+        .sample_rate = it->stream.use.codec->sample_rate,
+        .channels = it->stream.use.channels > 0 ? it->stream.use.channels : 1,
+        .width = (int)facts->width,
+        .height = (int)facts->height,
+        .configuration = configuration,
+    };
+    track.received = (int64_t)received;
+    track.configuration_len = unit_configuration(&it->stream.use, it->bytes, size, configuration);
+    it->begun = writer_begin(it->file, it->track, &track);
+    return it->begun || fail(it, "it does not become a track of the file");
+}
+
+static bool put(record *it, int64_t time, int64_t duration, const unit_facts *facts, unit_part part) {
+    writer_frame frame = {
+        .time = time,
+        .duration = duration,
+        .keyframe = !facts->video || facts->keyframe,
+        .damaged = facts->video && it->lacking,
+        .bytes = part.bytes,
+        .size = part.size,
+    };
+    if (!writer_write(it->file, it->track, &frame)) return fail(it, "its frames cannot be written any more");
+    it->totals.frames++;
+    it->totals.bytes += part.size;
+    it->totals.seconds = (double)(time + duration) / it->stream.use.rate;
+    it->last_time = time;
+    it->last_duration = duration;
+    return true;
+}
+
+/* Frames without media in place of those that were lost, where the codec has such. */
+static bool fill_gap(record *it, int64_t until, const unit_facts *facts) {
+    unit_part part;
+    int64_t duration = 0;
+    if (!it->options.fill || it->totals.frames == 0 || !unit_silence(&it->stream.use, &part, &duration)) return true;
+    for (int64_t time = it->last_time + it->last_duration; time + duration <= until; time += duration) {
+        if (until - time > 60 * (int64_t)it->stream.use.rate) break; /* no gap, but a time that has jumped */
+        if (!put(it, time, duration, facts, part)) return false;
+        it->totals.filled++;
+    }
+    return true;
+}
+
+/* A unit becomes frames of the track: one, but of AMR-WB as many as it has. */
+static bool take_unit(record *it, const cpay_unit *unit) {
+    unit_facts facts;
+    if (!unit_look(&it->stream.use, it->bytes, unit->bytes, &facts)) {
+        it->totals.refused++;
+        it->lacking = true;
+        return true;
+    }
+    bool follows = unit->contiguous && it->totals.frames + it->totals.skipped > 0;
+    if (!follows && it->begun) it->totals.gaps++;
+    if (!is_wanted(it, &facts, follows)) {
+        it->totals.skipped++;
+        return true;
+    }
+    if (!it->begun && !begin(it, &facts, unit->received, unit->bytes)) return false;
+    int64_t time = timeline_at(&it->times, unit->rtp_time, unit->received), began;
+    if (timeline_began(&it->times, &began)) writer_synchronize(it->file, it->track, began);
+    if (!follows && !fill_gap(it, time, &facts)) return false;
+    unit_parts parts;
+    unit_split(&parts, &it->stream.use, it->bytes, unit->bytes);
+    for (unit_part part; unit_next(&parts, &part);) {
+        if (!put(it, time, parts.duration, &facts, part)) return false;
+        time += parts.duration;
+    }
+    return true;
+}
+
+/* Takes all units whose turn has come. */
+static bool take_units(record *it, uint64_t now) {
+    while (!it->failed) {
+        cpay_unit unit = {0};
+        cpay_status status = cpay_receiver_pop(&it->receiver, now, &unit, it->bytes, it->room);
+        if (status == CPAY_NONE) return true;
+        if (status == CPAY_OUT_OF_MEMORY) return fail(it, "out of memory");
+        if (status == CPAY_TOO_SMALL) {
+            uint8_t *grown = realloc(it->bytes, unit.bytes);
+            if (!grown) return fail(it, "out of memory");
+            it->bytes = grown;
+            it->room = unit.bytes;
+        } else if (status == CPAY_OK) {
+            if (!take_unit(it, &unit)) return false;
+        } else {
+            it->totals.refused++;
+            it->lacking = true;
+        }
+    }
+    return false;
+}
+
+bool record_datagram(record *it, uint64_t now, const uint8_t *datagram, size_t size) {
+    uint32_t outcome = 0;
+    if (it->failed) return false;
+    if (cpay_receiver_receive(&it->receiver, now, datagram, size, &outcome) == CPAY_OUT_OF_MEMORY)
+        return fail(it, "out of memory");
+    return take_units(it, now);
+}
+
+void record_sender_report(record *it, uint64_t ntp, uint32_t rtp_time) { timeline_report(&it->times, ntp, rtp_time); }
+
+/* What the library counted goes into the totals. */
+static void count(record *it) {
+    cpay_receiver_counts_info counts = {0};
+    cpay_report_info report = {0};
+    if (cpay_receiver_report(&it->receiver, &report) == CPAY_OK && report.cumulative_lost > 0)
+        it->totals.lost = (uint64_t)report.cumulative_lost;
+    if (cpay_receiver_counts(&it->receiver, &counts)) return;
+    it->totals.recovered = counts.recovered;
+    it->totals.duplicates = counts.duplicates;
+    it->totals.late = counts.late;
+    it->totals.restarts = counts.restarts;
+}
+
+bool record_close(record *it, record_totals *totals) {
+    if (!it->failed && cpay_receiver_finish(&it->receiver) == CPAY_OK) take_units(it, UINT64_MAX);
+    count(it);
+    *totals = it->totals;
+    bool whole = !it->failed;
+    cpay_receiver_free(&it->receiver);
+    free(it->bytes);
+    free(it);
+    return whole;
+}

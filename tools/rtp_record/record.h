@@ -1,0 +1,60 @@
+/* One stream of RTP becomes frames of a track: the library's receiver puts its packets in order and together. */
+#ifndef RTP_RECORD_RECORD_H
+#define RTP_RECORD_RECORD_H
+
+#include "codec.h"
+#include "writer.h"
+#include <stdbool.h>
+#include <stddef.h>
+#include <stdint.h>
+
+typedef struct {
+    bool all;   /* write frames before the first keyframe too */
+    bool clean; /* leave frames out whose references may lack, up to the next keyframe */
+    bool fill;  /* put "no data" frames of AMR-WB and silence of G.711 where packets are lost */
+} record_options;
+
+/* A stream, as it was found. */
+typedef struct {
+    codec_use use; /* a codec with media */
+    uint32_t ssrc;
+    uint8_t payload_type;
+    bool has_red; /* it is sent in RED, whose payload type this is */
+    uint8_t red_payload_type;
+    const uint8_t *no_media; /* payload types that come under its SSRC and carry no media of it */
+    size_t no_media_len;
+} record_stream;
+
+/* What was written, and what was not. */
+typedef struct {
+    uint64_t frames;  /* written */
+    uint64_t bytes;   /* of these frames */
+    uint64_t gaps;    /* frames that do not follow the one before */
+    uint64_t skipped; /* frames before the first keyframe, or left out as damaged */
+    uint64_t refused; /* units that the codec's format refuses */
+    uint64_t filled;  /* frames that were put where packets are lost */
+    double seconds;   /* from the first frame to the last */
+    uint64_t lost;    /* packets that never came, by their numbers */
+    uint64_t recovered;
+    uint64_t duplicates;
+    uint64_t late;
+    uint64_t restarts;
+} record_totals;
+
+typedef struct record record;
+
+/* A stream that becomes that track of a file. NULL where the library does not take it or memory is wanting, which is said. */
+record *record_open(const record_stream *stream, writer *file, size_t track, const record_options *options);
+
+/* A UDP payload of the stream's SSRC, whatever its payload type, that came at that time in nanoseconds. false where the file
+ * cannot be written any more. */
+bool record_datagram(record *it, uint64_t now, const uint8_t *datagram, size_t size);
+
+/* A sender report of the stream's SSRC: the same moment as an NTP time, seconds since 1900 in the upper 32 bits, and as RTP time.
+ * The first one puts the tracks of a file together in time. */
+void record_sender_report(record *it, uint64_t ntp, uint32_t rtp_time);
+
+/* The stream ends: what is held comes out. *totals is written; the file stays open. false where something failed. */
+bool record_close(record *it, record_totals *totals);
+
+#endif

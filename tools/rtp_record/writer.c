@@ -1,0 +1,244 @@
+#include "writer.h"
+
+#include "message.h"
+
+#include <libavcodec/avcodec.h>
+#include <libavformat/avformat.h>
+#include <stdlib.h>
+#include <string.h>
+
+enum {
+    MOST_TRACKS = 16,
+    MOST_WAITING = 16 << 20, /* bytes that wait at most until it is known how tracks lie in time */
+};
+
+/* and so long */
+static const int64_t LONGEST_WAIT = 10000000000;
+
+/* A packet that waits, and those behind it. */
+typedef struct waiting {
+    struct waiting *next;
+    AVPacket *packet;
+} waiting;
+
+/* Times are in nanoseconds. */
+typedef struct {
+    bool begun;
+    bool given_up; /* the file was begun without it */
+    bool synchronized;
+    int64_t received;  /* when it began: by the capture's clock, and by the sender's */
+    int64_t began;
+    int64_t offset;    /* from the beginning of the file */
+    AVRational base;
+    AVStream *stream;
+    int64_t last; /* time of its latest packet, in the time base of its stream */
+    bool has_last;
+} track;
+
+struct writer {
+    char *path;
+    AVFormatContext *format; /* from the first track that begins */
+    size_t tracks;
+    track track[MOST_TRACKS];
+    bool begun; /* the header is written */
+    bool failed;
+    waiting *first, **end; /* until then */
+    size_t waiting_bytes;
+};
+
+static const AVRational NANOSECONDS = {1, 1000000000};
+
+static bool fail(writer *file, const char *what, int error) {
+    char text[AV_ERROR_MAX_STRING_SIZE] = "";
+    if (file->failed) return false;
+    file->failed = true;
+    if (error) av_strerror(error, text, sizeof text);
+    complain("%s: %s%s%s", file->path, what, error ? ": " : "", text);
+    return false;
+}
+
+writer *writer_new(const char *path, size_t tracks) {
+    writer *file = calloc(1, sizeof *file);
+    if (file) file->path = strdup(path);
+    if (!file || !file->path) {
+        complain("%s: out of memory", path);
+        free(file);
+        return NULL;
+    }
+    file->tracks = tracks < MOST_TRACKS ? tracks : MOST_TRACKS;
+    file->end = &file->first;
+    return file;
+}
+
+bool writer_has(const writer *file, size_t number) { return file->track[number].begun; }
+
+/* What is known of a track goes into its stream. */
+static bool describe(writer *file, AVStream *stream, const writer_track *info) {
+    AVCodecParameters *codec = stream->codecpar;
+    codec->codec_id = info->codec;
+    codec->codec_type = avcodec_get_type(info->codec);
+    codec->sample_rate = info->sample_rate;
+    codec->width = info->width;
+    codec->height = info->height;
+    if (codec->codec_type == AVMEDIA_TYPE_AUDIO) {
+        av_channel_layout_default(&codec->ch_layout, info->channels);
+        codec->bits_per_coded_sample = av_get_bits_per_sample(info->codec);
+        codec->block_align = codec->bits_per_coded_sample * info->channels / 8;
+    }
+    if (info->configuration_len == 0) return true;
+    codec->extradata = av_mallocz(info->configuration_len + AV_INPUT_BUFFER_PADDING_SIZE);
+    if (!codec->extradata) return fail(file, "out of memory", 0);
+    memcpy(codec->extradata, info->configuration, info->configuration_len);
+    codec->extradata_size = (int)info->configuration_len;
+    return true;
+}
+
+/* Gives a packet to the file, in the time base of its stream, behind the one before. */
+static bool put(writer *file, AVPacket *packet) {
+    track *to = NULL;
+    for (size_t i = 0; i < file->tracks; i++)
+        if (file->track[i].stream && file->track[i].stream->index == packet->stream_index) to = &file->track[i];
+    if (!to) return fail(file, "a packet of no track", 0);
+    packet->pts += to->offset;
+    packet->dts = packet->pts;
+    av_packet_rescale_ts(packet, NANOSECONDS, to->stream->time_base);
+    if (to->has_last && packet->pts <= to->last) packet->pts = to->last + 1;
+    packet->dts = packet->pts;
+    to->last = packet->pts;
+    to->has_last = true;
+    int error = av_interleaved_write_frame(file->format, packet);
+    return error < 0 ? fail(file, "cannot be written", error) : true;
+}
+
+static bool all(const writer *file, bool synchronized) {
+    for (size_t i = 0; i < file->tracks; i++)
+        if (!file->track[i].begun || (synchronized && !file->track[i].synchronized)) return false;
+    return true;
+}
+
+/* Puts the tracks that have begun together in time, the first at 0. */
+static void put_together(writer *file) {
+    bool by_senders = all(file, true);
+    int64_t first = INT64_MAX;
+    for (size_t i = 0; i < file->tracks; i++) {
+        track *it = &file->track[i];
+        it->given_up = !it->begun;
+        it->offset = by_senders ? it->began : it->received;
+        if (it->begun && it->offset < first) first = it->offset;
+    }
+    for (size_t i = 0; i < file->tracks; i++) file->track[i].offset -= first;
+}
+
+/* Opens the file and writes its header, then what waits. Tracks that have not begun are given up. */
+static bool begin_file(writer *file) {
+    int error;
+    put_together(file);
+    file->begun = true;
+    if ((error = avio_open(&file->format->pb, file->path, AVIO_FLAG_WRITE)) < 0) return fail(file, "cannot be made", error);
+    /* What is written plays though the program is ended: clusters and pages of at most a second. */
+    file->format->flush_packets = 1;
+    AVDictionary *options = NULL;
+    av_dict_set(&options, "cluster_time_limit", "1000", 0);
+    error = avformat_write_header(file->format, &options);
+    av_dict_free(&options);
+    if (error < 0) return fail(file, "the format does not take it", error);
+    while (file->first && !file->failed) {
+        waiting *it = file->first;
+        file->first = it->next;
+        put(file, it->packet);
+        av_packet_free(&it->packet);
+        free(it);
+    }
+    return !file->failed;
+}
+
+void writer_synchronize(writer *file, size_t number, int64_t began) {
+    if (file->track[number].synchronized) return;
+    file->track[number].synchronized = true;
+    file->track[number].began = began;
+}
+
+bool writer_begin(writer *file, size_t number, const writer_track *info) {
+    track *it = &file->track[number];
+    if (file->failed || it->begun || it->given_up) return !file->failed && it->begun;
+    if (!file->format) {
+        int error = avformat_alloc_output_context2(&file->format, NULL, strstr(file->path, ".awb") ? "amr" : NULL, file->path);
+        if (error < 0) return fail(file, "no format is known by its ending", error);
+    }
+    if (avformat_query_codec(file->format->oformat, info->codec, FF_COMPLIANCE_NORMAL) == 0) {
+        complain("%s: the format %s does not take %s", file->path, file->format->oformat->name, avcodec_get_name(info->codec));
+        it->given_up = true;
+        return false;
+    }
+    it->stream = avformat_new_stream(file->format, NULL);
+    if (!it->stream || !describe(file, it->stream, info)) return fail(file, "out of memory", 0);
+    it->base = (AVRational){1, (int)info->clock_rate};
+    it->stream->time_base = it->base;
+    it->received = info->received;
+    it->begun = true;
+    return true;
+}
+
+/* A packet of a frame, with its time in nanoseconds from the beginning of its track. */
+static AVPacket *packet_of(const track *of, const writer_frame *frame) {
+    AVPacket *packet = av_packet_alloc();
+    if (!packet || av_new_packet(packet, (int)frame->size) < 0) {
+        av_packet_free(&packet);
+        return NULL;
+    }
+    memcpy(packet->data, frame->bytes, frame->size);
+    packet->stream_index = of->stream->index;
+    packet->pts = packet->dts = av_rescale_q(frame->time, of->base, NANOSECONDS);
+    packet->duration = av_rescale_q(frame->duration, of->base, NANOSECONDS);
+    if (frame->keyframe) packet->flags |= AV_PKT_FLAG_KEY;
+    if (frame->damaged) packet->flags |= AV_PKT_FLAG_CORRUPT;
+    return packet;
+}
+
+/* A packet waits until it is known how tracks lie in time, or too much waits. */
+static bool hold(writer *file, AVPacket *packet) {
+    waiting *it = calloc(1, sizeof *it);
+    if (!it) {
+        av_packet_free(&packet);
+        return fail(file, "out of memory", 0);
+    }
+    it->packet = packet;
+    *file->end = it;
+    file->end = &it->next;
+    file->waiting_bytes += (size_t)packet->size;
+    return (file->waiting_bytes < MOST_WAITING && packet->pts < LONGEST_WAIT) || begin_file(file);
+}
+
+bool writer_write(writer *file, size_t number, const writer_frame *frame) {
+    const track *to = &file->track[number];
+    if (file->failed || !to->begun || frame->size > INT32_MAX) return false;
+    AVPacket *packet = packet_of(to, frame);
+    if (!packet) return fail(file, "out of memory", 0);
+    if (!file->begun && all(file, file->tracks > 1) && !begin_file(file)) {
+        av_packet_free(&packet);
+        return false;
+    }
+    if (!file->begun) return hold(file, packet);
+    bool put_in = put(file, packet);
+    av_packet_free(&packet);
+    return put_in;
+}
+
+bool writer_close(writer *file) {
+    if (file->format && !file->failed && (file->begun || (file->first && begin_file(file)))) {
+        int error = av_write_trailer(file->format);
+        if (error < 0) fail(file, "cannot be ended", error);
+    }
+    while (file->first) {
+        waiting *it = file->first;
+        file->first = it->next;
+        av_packet_free(&it->packet);
+        free(it);
+    }
+    if (file->format && file->format->pb && avio_closep(&file->format->pb) < 0) fail(file, "cannot be written", 0);
+    avformat_free_context(file->format);
+    bool whole = !file->failed;
+    free(file->path);
+    free(file);
+    return whole;
+}
