@@ -1,7 +1,8 @@
 #!/usr/bin/env python3
-"""Runs payload_vectors as a process: every row of program_rows.py on a stack of 64 kilobytes, and streams that fail.
+"""Runs payload_vectors and payload_datagrams as processes: every row of program_rows.py and datagram_rows.py on a stack of 64
+kilobytes, and of the first streams that fail.
 
-Needs rt, which proves and builds the program first. The last line says how many runs went as promised; the status is 0 where all
+Needs rt, which proves and builds the programs first. The last line says how many runs went as promised; the status is 0 where all
 did.
 """
 import os
@@ -12,19 +13,29 @@ import subprocess
 import sys
 import tempfile
 
-from program_rows import FIRST_OUTPUT, FIRST_RUN, OPUS, ROWS
+import datagram_rows
+import program_rows
+from program_rows import FIRST_OUTPUT, FIRST_RUN, OPUS
 
-CRATE = os.path.join(os.path.dirname(os.path.dirname(os.path.realpath(__file__))), "crates", "payload_vectors")
-PROGRAM = os.path.join(CRATE, "out", "payload_vectors")
+CRATES = os.path.join(os.path.dirname(os.path.dirname(os.path.realpath(__file__))), "crates")
+ROWS = {"payload_vectors": program_rows.ROWS, "payload_datagrams": datagram_rows.ROWS}
+
+
+def built(name):
+    return os.path.join(CRATES, name, "out", name)
+
+
+PROGRAM = built("payload_vectors")
 STACK = 64 * 1024
 FAILED = b"input or output failed\n"
 
 
-def build():
-    with open(f"{CRATE}/stdin", "rb") as given:
-        built = subprocess.run(["rt", "run"], cwd=CRATE, stdin=given, stdout=subprocess.PIPE, stderr=subprocess.STDOUT, check=False)
-    if built.returncode != 0:
-        sys.exit(built.stdout.decode(errors="replace"))
+def build(name):
+    crate = os.path.join(CRATES, name)
+    with open(f"{crate}/stdin", "rb") as given:
+        ran = subprocess.run(["rt", "run"], cwd=crate, stdin=given, stdout=subprocess.PIPE, stderr=subprocess.STDOUT, check=False)
+    if ran.returncode != 0:
+        sys.exit(ran.stdout.decode(errors="replace"))
 
 
 def small_stack():
@@ -37,11 +48,11 @@ def short_files():
     resource.setrlimit(resource.RLIMIT_FSIZE, (8, 8))
 
 
-def rows():
-    """How each row differs from what it should be."""
-    for row in ROWS:
+def rows(name):
+    """What each row of a program should be, and what it is."""
+    for row in ROWS[name]:
         given = row.given.encode() if isinstance(row.given, str) else row.given
-        ran = subprocess.run([PROGRAM], input=given, capture_output=True, preexec_fn=small_stack, check=False)
+        ran = subprocess.run([built(name)], input=given, capture_output=True, preexec_fn=small_stack, check=False)
         wanted = (row.output.encode(), row.status, row.message.encode())
         yield row.name, wanted, (ran.stdout, ran.returncode, ran.stderr)
 
@@ -91,9 +102,10 @@ def streams():
 
 
 def main():
-    build()
+    for program in ROWS:
+        build(program)
     runs = promised = 0
-    for name, wanted, found in [*rows(), *streams()]:
+    for name, wanted, found in [*rows("payload_vectors"), *rows("payload_datagrams"), *streams()]:
         runs += 1
         if wanted == found:
             promised += 1

@@ -1,4 +1,2 @@
 pub mod DistanceLemmas
-pub mod HexFieldLemmas
-pub mod Limits
 pub mod LineLemmas

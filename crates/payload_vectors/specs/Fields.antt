@@ -1,16 +1,13 @@
 -- The fields of lines.
 use Rattle.std.specs.Prelude.{◌≡◌, ℕ, ◌+◌, ◌^◌, ◌<◌, ◌⊎◌, IsSome, if◌then◌else◌, Bool, List, codes, Option, Some, None}
 use Rattle.std.specs.Str.{bytes_eq}
-use Rattle.std.specs.Str.Parse.{IsNumeral, digits_value}
+use Rattle.std.specs.Str.Parse.{digits_value}
 use Rattle.codec_payload_core.specs.declared.interface.Vp9PacketizerMode.{Vp9PacketizerMode}
 use Rattle.codec_payload_core.specs.declared.interface.Vp9PacketizerMode.TheVariants as modes
 use Rattle.codec_payload_core.specs.declared.wire.Codec.{Codec}
 use Rattle.codec_payload_core.specs.declared.wire.Codec.TheVariants as codecs
-use Rattle.payload_vectors.specs.HexField.{hex_field_of}
-
--- a number is one decimal digit or more, and nothing else, whose value is below the limit
-abbrev pub IsNumber : ℕ → List ℕ → Type 0
-IsNumber limit text = IsNumeral 10 text × (digits_value 10 text < limit)
+use Rattle.payload_lines.specs.HexField.{hex_field_of}
+use Rattle.payload_lines.specs.Numbers.{IsNumber}
 
 -- the codec that a name stands for
 abbrev pub codec_of : List ℕ → Option Codec

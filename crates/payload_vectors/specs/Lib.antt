@@ -1,5 +1,4 @@
 pub mod Fields
-pub mod HexField
 pub mod Line
 pub mod Program
 pub mod RedFields

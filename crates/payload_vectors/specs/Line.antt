@@ -4,8 +4,9 @@ use Rattle.std.specs.List.{slice_split}
 use Rattle.std.specs.Option.{SomeIff}
 use Rattle.std.specs.Str.Parse.{digits_value}
 use Rattle.codec_payload_core.specs.declared.schedule.Step.TheVariants.{Pop, Push, Send}
-use Rattle.payload_vectors.specs.Fields.{AreSample, AreSetup, IsLimitField, IsNumber, codec_of, names_octet_aligned, names_vp8_ids, vp9_mode_of}
-use Rattle.payload_vectors.specs.HexField.{hex_field_of}
+use Rattle.payload_vectors.specs.Fields.{AreSample, AreSetup, IsLimitField, codec_of, names_octet_aligned, names_vp8_ids, vp9_mode_of}
+use Rattle.payload_lines.specs.HexField.{hex_field_of}
+use Rattle.payload_lines.specs.Numbers.{IsNumber}
 use Rattle.payload_vectors.specs.RedFields.{AreRed, SpellsDistances}
 use Rattle.payload_vectors.specs.declared.line.Line.{Line}
 use Rattle.payload_vectors.specs.declared.line.Line.TheVariants as lines

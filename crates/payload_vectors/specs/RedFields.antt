@@ -3,7 +3,7 @@ use Rattle.std.specs.Prelude.{◌≡◌, ◌≢◌, ◌==◌, ◌⊎◌, ◌<◌
 use Rattle.std.specs.List.{slice_split}
 use Rattle.std.specs.Str.Parse.{digits_value}
 use Rattle.codec_payload_core.specs.RedLevels.{is_accepted}
-use Rattle.payload_vectors.specs.Fields.{IsNumber}
+use Rattle.payload_lines.specs.Numbers.{IsNumber}
 
 -- the numbers of a field, with one comma between two
 abbrev pub parts_of : List ℕ → List (List ℕ)

@@ -1,11 +1,9 @@
 //! The fields of lines.
 
-ghost use Rattle.std.specs.Prelude.{ℕ, ◌≡◌, ◌⊎◌, ◌↔◌, ◌^◌, codes, IsSome, IfSome, Some, false, true};
-ghost use Rattle.std.specs.Option.{SomeIff};
-ghost use Rattle.std.specs.Str.Parse.{digits_value};
+ghost use Rattle.std.specs.Prelude.{ℕ, ◌≡◌, IsSome, IfSome};
 ghost use Rattle.codec_payload_core.specs.Depack.{depack_for};
 ghost use Rattle.codec_payload_core.specs.Pack.{pack_for};
-ghost use Rattle.payload_vectors.specs.Fields.{IsNumber, codec_of, names_octet_aligned, names_vp8_ids, vp9_mode_of};
+ghost use Rattle.payload_vectors.specs.Fields.{codec_of, names_octet_aligned, names_vp8_ids, vp9_mode_of};
 ghost use Rattle.codec_payload_core.specs.declared.interface.Vp9PacketizerMode.{Vp9PacketizerMode as Mode};
 
 use codec_payload_core::codec::Vp9PacketizerMode;
@@ -54,35 +52,5 @@ pub fn vp9_mode(name: &str) -> Vp9PacketizerMode
     match name {
         "vp9-flex" => Vp9PacketizerMode::Flexible,
         _ => Vp9PacketizerMode::NonFlexible,
-    }
-}
-
-/// The number that decimal digits spell, where it fits: a sign is refused, and leading zeros are not.
-pub fn decimal(field: &str) -> Option<u64>
-    ensures { SomeIff result (IsNumber (2 ^ 64) field.now) (digits_value 10 field.now) }
-{
-    if field.starts_with('+') {
-        return None;
-    }
-    field.parse().ok()
-}
-
-/// The same of a number that is an index or a length.
-pub fn count(field: &str) -> Option<usize>
-    ensures { SomeIff result (IsNumber (2 ^ 64) field.now) (digits_value 10 field.now) }
-{
-    usize::try_from(decimal(field)?).ok()
-}
-
-/// Whether the field is `1`, where it is `0` or `1`.
-pub fn truth(field: &str) -> Option<bool>
-    ensures found { IsSome result ↔ ((field.now ≡ codes "0") ⊎ (field.now ≡ codes "1")) }
-    ensures no { (result ≡ Some false) ↔ (field.now ≡ codes "0") }
-    ensures yes { (result ≡ Some true) ↔ (field.now ≡ codes "1") }
-{
-    match field {
-        "0" => Some(false),
-        "1" => Some(true),
-        _ => None,
     }
 }

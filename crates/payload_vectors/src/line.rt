@@ -6,12 +6,13 @@ ghost use Rattle.codec_payload_core.specs.Depack.{depack_for};
 ghost use Rattle.codec_payload_core.specs.Pack.{pack_for};
 ghost use Rattle.payload_vectors.specs.Fields.{AreSetup, IsLimitField};
 
-use crate::digits::hex_field;
-use crate::fields::{codec_named, count, decimal, has_vp8_ids, is_octet_aligned, truth, vp9_mode};
+use crate::fields::{codec_named, has_vp8_ids, is_octet_aligned, vp9_mode};
 use crate::red_line::RedSetup;
 use codec_payload_core::codec::Vp9PacketizerMode;
 use codec_payload_core::schedule::Step;
 use codec_payload_core::wire::{Codec, Frequency};
+use payload_lines::digits::hex_field;
+use payload_lines::numbers::{count, decimal, truth};
 use std::alloc::{AllocError, Global};
 
 /// The greatest number that the first packet may have.

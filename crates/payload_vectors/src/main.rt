@@ -2,7 +2,6 @@
 //! `run_lines` does the work, and `finish` tells how it ended; here are the streams alone.
 #![tactic(auto)]
 
-mod digits;
 mod fields;
 mod line;
 mod print;
@@ -10,7 +9,8 @@ mod red_line;
 mod run;
 mod script;
 
-use run::{finish, run_lines};
+use payload_lines::streams::finish;
+use run::run_lines;
 use std::io;
 use std::process::ExitCode;
 

@@ -1,10 +1,10 @@
 //! The lines of the output.
 
-use crate::digits::hex_text;
 use codec_payload_core::buffer::Depacketized;
 use codec_payload_core::error::PacketError;
 use codec_payload_core::payload::OutgoingPacket;
 use codec_payload_core::schedule::{Run, Sent};
+use payload_lines::digits::hex_text;
 use std::alloc::{AllocError, Global};
 use std::fmt::Write;
 

@@ -3,11 +3,11 @@
 ghost use Rattle.std.specs.Prelude.{◌≡◌, ◌<◌, ◌≤◌, ◌↔◌, ◌++◌, ◌^◌, ℕ, List, IsTrue, IsSome, IsNone, IfOk, IfSome, length, map};
 ghost use Rattle.std.specs.Str.Parse.{digits_value};
 ghost use Rattle.codec_payload_core.specs.RedLevels.{is_accepted};
-ghost use Rattle.payload_vectors.specs.Fields.{IsNumber};
+ghost use Rattle.payload_lines.specs.Numbers.{IsNumber};
 ghost use Rattle.payload_vectors.specs.RedFields.{AreNumbers, AreRed, SpellsDistances, IsDistances};
 
-use crate::fields::{count, decimal};
 use codec_payload_core::red::RedSender;
+use payload_lines::numbers::{count, decimal};
 use std::alloc::{AllocError, Global};
 
 /// The most distances that a sender takes: they rise strictly, from 1 to 8.

@@ -3,8 +3,8 @@
 ghost use Rattle.std.specs.Prelude.{◌≡◌, ◌≢◌, ◌≤◌, ◌<◌, ◌^◌, ℕ, [], length, true, false, Some, option_map, IfOk, IfErr, IfSome, OnOk};
 ghost use Rattle.codec_payload_core.specs.Depack.{configured_depack, depack_for};
 ghost use Rattle.codec_payload_core.specs.Pack.{Vp8Pack, configured, pack_for};
-ghost use Rattle.payload_vectors.specs.Program.{IsFaultOf, status_of};
-ghost use Rattle.payload_vectors.specs.declared.run.ProgramFault.TheVariants.{BadLine, OutOfMemory, TooLong};
+ghost use Rattle.payload_lines.specs.Ends.{status_of};
+ghost use Rattle.payload_lines.specs.declared.streams.ProgramFault.TheVariants.{BadLine, OutOfMemory, TooLong};
 
 use crate::line::{Limit, Setup};
 use crate::print::printed;
@@ -18,86 +18,15 @@ use codec_payload_core::red::{RedReceiver, RedSender};
 use codec_payload_core::schedule::{RedRun, Run, run_schedule};
 use codec_payload_core::vp8::Vp8Packetizer;
 use codec_payload_core::wire::{CodecSpec, Pt};
-use std::alloc::{AllocError, AllocFailed, Global};
-use std::io;
-use std::io::{ErrorKind, Read, Write};
-use thiserror::Error;
+use payload_lines::streams::{ProgramFault, read_below};
+use std::alloc::Global;
+use std::io::{Read, Write};
 
 /// The greatest length of the input, in bytes.
 const INPUT_LIMIT: usize = 1_048_576;
 
 /// The payload type of packets in RED.
 const RED_PAYLOAD_TYPE: u8 = 63;
-
-/// Why the program gives up. Each text is one line.
-#[derive(Debug, PartialEq, Eq, Drop, Error)]
-pub enum ProgramFault {
-    /// The number, from 1, of the first line that is none of the program's, or 1 where there is no line.
-    #[error("bad line {0}")]
-    BadLine(usize),
-    /// The input has more than 1,048,576 bytes. No line was looked at.
-    #[error("input too long")]
-    TooLong,
-    #[error("out of memory")]
-    OutOfMemory,
-    #[error("input or output failed")]
-    Io,
-}
-
-impl ProgramFault {
-    /// The exit status.
-    pub fn status(&self) -> u8
-        ensures { result ≡ status_of self.now }
-    {
-        match self {
-            ProgramFault::BadLine(_) | ProgramFault::TooLong => 2,
-            ProgramFault::OutOfMemory | ProgramFault::Io => 1,
-        }
-    }
-}
-
-impl From<AllocError> for ProgramFault {
-    ghost from_gives = { λ _ fault. fault ≡ OutOfMemory };
-
-    fn from(_e: AllocError) -> ProgramFault {
-        ProgramFault::OutOfMemory
-    }
-}
-
-impl<T: Drop> From<AllocFailed<T>> for ProgramFault {
-    ghost from_gives = { λ _ fault. fault ≡ OutOfMemory };
-
-    fn from(_e: AllocFailed<T>) -> ProgramFault {
-        ProgramFault::OutOfMemory
-    }
-}
-
-impl From<io::Error> for ProgramFault {
-    ghost from_gives = { IsFaultOf };
-
-    fn from(e: io::Error) -> ProgramFault {
-        if e.kind() == ErrorKind::OutOfMemory {
-            ProgramFault::OutOfMemory
-        } else {
-            ProgramFault::Io
-        }
-    }
-}
-
-/// All of the input, which is to be shorter than the limit, in bytes.
-fn read_below<R: Read>(alloc: Global, input: &mut R, limit: usize) -> Result<Vec<u8>, ProgramFault>
-    ensures all { IfOk result (λ bytes. IfSome (R.remaining input.old) (λ text. bytes.items ≡ text)) }
-    ensures below { IfOk result (λ bytes. length bytes.items < limit) }
-    ensures too_long { result ≡ Err TooLong → IfSome (R.remaining input.old) (λ text. limit ≤ length text) }
-    ensures no_line { (line : ℕ) → result ≢ Err (BadLine line) }
-{
-    let mut bytes = Vec::new(alloc);
-    input.take(limit as u64).read_to_end(&mut bytes)?;
-    if bytes.len() >= limit {
-        return Err(ProgramFault::TooLong);
-    }
-    Ok(bytes)
-}
 
 /// Reads all of the input, runs its steps, and writes what was sent and what came out. Nothing is written before all of
 /// it is there to be written; a write that fails leaves a beginning of it.
@@ -119,19 +48,6 @@ pub fn run_lines<R: Read, W: Write>(
     output.write_all(text.as_bytes())?;
     output.flush()?;
     Ok(())
-}
-
-/// Tells how the program ended: answers the exit status, and writes a fault as one line of `messages`. The status is the
-/// same where that line cannot be written.
-pub fn finish<W: Write>(answer: Result<(), ProgramFault>, messages: &mut W) -> u8
-    ensures done { OnOk answer ((result ≡ 0) × (messages.new ≡ messages.old)) }
-    ensures fault { IfErr answer (λ fault. result ≡ status_of fault) }
-{
-    let Err(fault) = answer else {
-        return 0;
-    };
-    let _ = writeln!(messages, "{fault}");
-    fault.status()
 }
 
 /// What the setup says of the codec.

@@ -5,9 +5,9 @@ ghost use Rattle.payload_vectors.specs.Program.{IsLineFault};
 
 use crate::line::{Limit, Line, Setup};
 use crate::red_line::RedSetup;
-use crate::run::ProgramFault;
 use codec_payload_core::schedule::Step;
 use codec_payload_core::wire::{ExtensionValues, MediaTime, Pt, Ticks, ToPayload};
+use payload_lines::streams::{ProgramFault, text_of};
 use std::alloc::{AllocError, Global};
 
 /// The payload type of the samples.
@@ -70,12 +70,9 @@ impl Script {
 
 /// The line that the bytes spell, whose last is a newline.
 fn parse_line(alloc: Global, bytes: &[u8]) -> Result<Option<Line>, AllocError> {
-    let Some((b'\n', text)) = bytes.split_last() else {
-        return Ok(None);
-    };
-    match std::str::from_utf8(text) {
-        Ok(text) => Line::parse(alloc, text),
-        Err(_) => Ok(None),
+    match text_of(bytes) {
+        Some(text) => Line::parse(alloc, text),
+        None => Ok(None),
     }
 }
 

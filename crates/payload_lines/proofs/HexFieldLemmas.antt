@@ -11,7 +11,7 @@ use Rattle.hex.specs.Hex.{IsBytes, decode_of, decode_pairs, digit_or_error, enco
 use Rattle.hex.specs.declared.error.FromHexError.{FromHexError}
 use Rattle.hex.proofs.HexLemmas.{decode_of-digits, decode_of-encode_lower, decode_of-even, decode_of-ok, decode_of-same, length-encode_with}
 use Rattle.hex.proofs.Pairs.{cons_byte, decode_pairs-ok_pair}
-use Rattle.payload_vectors.specs.HexField.{bytes_of_pairs, digit_of, hex_field_of, is_hex_pairs}
+use Rattle.payload_lines.specs.HexField.{bytes_of_pairs, digit_of, hex_field_of, is_hex_pairs}
 
 -- a digit reads as its value
 value_at-digit : (c i : ℕ) (o : Option ℕ) → is_some o ≡ true → digit_or_error c i o ≡ Ok (unwrap_or o 0)

@@ -2,7 +2,7 @@
 
 ghost use Rattle.std.specs.Prelude.{◌≡◌, ◌≢◌, [], codes, Some, None, IfOk, IfSome, MatchOption, string_bytes};
 ghost use Rattle.hex.specs.Hex.{decode_of, encode_lower};
-ghost use Rattle.payload_vectors.specs.HexField.{hex_field_of};
+ghost use Rattle.payload_lines.specs.HexField.{hex_field_of};
 
 use hex::FromHexError;
 use std::alloc::{AllocError, Global};

@@ -1,6 +1,6 @@
 use Rattle.std.proofs.Common.{rules, arith}
-use Rattle.payload_vectors.proofs.HexFieldLemmas.{IfOk-hex_field_of}
-use Rattle.payload_vectors.proofs.digits.hex_text.Goals as goal
+use Rattle.payload_lines.proofs.HexFieldLemmas.{IfOk-hex_field_of}
+use Rattle.payload_lines.proofs.digits.hex_text.Goals as goal
 
 pub returns-else-is_empty-clause-read_back : goal.returns-else-is_empty-clause-read_back
 returns-else-is_empty-clause-read_back c =

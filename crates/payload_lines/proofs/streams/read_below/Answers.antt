@@ -1,6 +1,6 @@
 use Rattle.std.proofs.Common.{rules, ◌<◌, length}
-use Rattle.payload_vectors.proofs.Limits.{all_were_given}
-use Rattle.payload_vectors.proofs.run.read_below.Goals as goal
+use Rattle.payload_lines.proofs.Limits.{all_were_given}
+use Rattle.payload_lines.proofs.streams.read_below.Goals as goal
 
 pub returns-clause-all : goal.returns-clause-all
 returns-clause-all g c =

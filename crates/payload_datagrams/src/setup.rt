@@ -1,0 +1,148 @@
+//! What a receiver and a sender are made of.
+
+use codec_payload_base::wire::{Codec, CodecSpec, Frequency};
+use codec_payload_buffer::codec::{CodecDepacketizer, CodecPacketizer, NoBox};
+use codec_payload_rtp::values::ExtensionIds;
+use codec_payload_sender::sender::{Sender, SenderError, SenderSettings};
+use codec_payload_stream::jitter::Patience;
+use codec_payload_stream::receiver::{
+    Receiver, RedSettings, Retransmission, Settings, SettingsError,
+};
+use std::alloc::{AllocError, Global};
+
+/// A codec, and the payload type under which it comes.
+#[derive(Clone, Copy, Debug)]
+pub struct Stream {
+    pub spec: CodecSpec,
+    pub payload_type: u8,
+}
+
+/// What a line sets of a receiver.
+#[derive(Clone, Copy, Debug)]
+pub enum Setting {
+    Wait(Patience),
+    Limit(usize),
+    Windows { forward: u16, backward: u16 },
+    Ssrc(u32),
+    NoMedia(u8),
+    Red(RedSettings),
+    Again(Retransmission),
+    TickRate(Frequency),
+}
+
+/// What a receiver is to be made of.
+#[derive(Debug, Drop)]
+pub struct Draft {
+    spec: CodecSpec,
+    settings: Settings,
+}
+
+impl Draft {
+    /// The settings of a stream where no line sets others.
+    pub fn new(alloc: Global, stream: Stream, tick_rate: Frequency) -> Draft {
+        Draft {
+            spec: stream.spec,
+            settings: Settings {
+                payload_type: stream.payload_type,
+                no_media: Vec::new(alloc),
+                ssrc: None,
+                red: None,
+                retransmission: None,
+                extension_ids: ExtensionIds::default(),
+                clock_rate: stream.spec.clock_rate,
+                tick_rate,
+                patience: Patience {
+                    hold_back: 30,
+                    start: 0,
+                    max_wait: None,
+                },
+                limit: 4_096,
+                forward: 3_000,
+                backward: 1_000,
+            },
+        }
+    }
+
+    /// One setting more.
+    pub fn set(&mut self, setting: Setting) -> Result<(), AllocError> {
+        let settings = &mut self.settings;
+        match setting {
+            Setting::Wait(patience) => settings.patience = patience,
+            Setting::Limit(limit) => settings.limit = limit,
+            Setting::Windows { forward, backward } => {
+                settings.forward = forward;
+                settings.backward = backward;
+            }
+            Setting::Ssrc(ssrc) => settings.ssrc = Some(ssrc),
+            Setting::NoMedia(payload_type) => {
+                if settings.no_media.push(payload_type).is_err() {
+                    return Err(AllocError);
+                }
+            }
+            Setting::Red(red) => settings.red = Some(red),
+            Setting::Again(retransmission) => settings.retransmission = Some(retransmission),
+            Setting::TickRate(rate) => settings.tick_rate = rate,
+        }
+        Ok(())
+    }
+
+    /// The receiver, or which setting is out of range. `None` for a codec that has no depacketizer.
+    pub fn receiver(self, alloc: Global) -> Option<Result<Receiver<NoBox>, SettingsError>> {
+        let mut depack: CodecDepacketizer<NoBox> = CodecDepacketizer::from_codec(
+            alloc,
+            self.spec.codec,
+        )?;
+        depack.configure_for(&self.spec);
+        Some(Receiver::new(alloc, depack, self.settings))
+    }
+}
+
+/// What a sender is made of.
+#[derive(Clone, Copy, Debug)]
+pub struct SenderSetup {
+    pub stream: Stream,
+    pub ssrc: u32,
+    pub first_number: u16,
+    pub mtu: usize,
+}
+
+impl SenderSetup {
+    /// The rate of the RTP clock.
+    pub fn rate(&self) -> Frequency {
+        self.stream.spec.clock_rate
+    }
+}
+
+/// The sender, or which setting is out of range. `None` for a codec that has no packetizer.
+pub fn sender_of(alloc: Global, setup: SenderSetup) -> Option<Result<Sender<NoBox>, SenderError>> {
+    let mut pack: CodecPacketizer<NoBox> = CodecPacketizer::from_codec(setup.stream.spec.codec)?;
+    pack.configure_for(&setup.stream.spec);
+    let settings = SenderSettings {
+        ssrc: setup.ssrc,
+        payload_type: setup.stream.payload_type,
+        first_number: setup.first_number,
+        clock_rate: setup.stream.spec.clock_rate,
+        mtu: setup.mtu,
+        tailroom: 0,
+        extension_ids: ExtensionIds::default(),
+    };
+    Some(Sender::new(alloc, pack, settings))
+}
+
+/// The codec of that name.
+pub fn codec_named(name: &str) -> Option<Codec> {
+    match name {
+        "opus" => Some(Codec::Opus),
+        "pcmu" => Some(Codec::PCMU),
+        "pcma" => Some(Codec::PCMA),
+        "g722" => Some(Codec::G722),
+        "cn" => Some(Codec::CN),
+        "amrwb" | "amrwb-octet" => Some(Codec::AmrWb),
+        "vp8" => Some(Codec::Vp8),
+        "vp9" => Some(Codec::Vp9),
+        "av1" => Some(Codec::Av1),
+        "tele" => Some(Codec::Tele),
+        "null" => Some(Codec::Null),
+        _ => None,
+    }
+}
