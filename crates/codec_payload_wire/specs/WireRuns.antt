@@ -1,0 +1,98 @@
+-- What the steps of a run over datagrams do, one after another.
+use Rattle.std.specs.Prelude.{◌≡◌, ◌≢◌, ℕ, ◌<◌, ◌^◌, false, true, List, [], ◌∷◌, ◌++◌, Option, Some, None, Result, Err, MatchOption, length, map, slice_get}
+use Rattle.std.specs.Global.{Vec}
+use Rattle.codec_payload_base.specs.declared.error.PacketError.{PacketError}
+use Rattle.codec_payload_base.specs.declared.error.PacketError.TheVariants as faults
+use Rattle.codec_payload_base.specs.declared.wire.Ticks.{Ticks}
+use Rattle.codec_payload_core.specs.Schedule.{Answer}
+use Rattle.codec_payload_core.specs.Sending.{Sample}
+use Rattle.codec_payload_jitter.specs.Receiving.{Receiving, PopsWith, settled, waiting_at}
+use Rattle.codec_payload_jitter.specs.declared.outcome.Outcome.{Outcome}
+use Rattle.codec_payload_sender.specs.Datagrams.{Sample as SentNow}
+use Rattle.codec_payload_sender.specs.Senders.{Sending, Sends, Refuses}
+use Rattle.codec_payload_stream.specs.Kinds.{datagram_at}
+use Rattle.codec_payload_stream.specs.Sessions.{Session, Heard, time_with}
+use Rattle.codec_payload_stream.specs.declared.receiver.ReceiveError.{ReceiveError}
+use Rattle.codec_payload_stream.specs.declared.receiver.ReceiveError.TheVariants as refusals
+use Rattle.codec_payload_wire.specs.declared.run.DatagramRun.{DatagramRun}
+use Rattle.codec_payload_wire.specs.declared.run.DatagramStep.{DatagramStep}
+use Rattle.codec_payload_wire.specs.declared.run.DatagramStep.TheVariants as steps
+use Rattle.codec_payload_wire.specs.declared.run.SentSample.{SentSample}
+
+-- a sender, a receiver, the datagrams that were sent so far, and what came of the steps: the entries of sends, the receipts of
+-- datagrams that were delivered, and the answers of pops
+pub record Wire : Type 0 where
+  pub sending : Sending
+  pub session : Session
+  pub datagrams : List (List ℕ)
+  pub sends : List SentSample
+  pub receipts : List (Result Outcome ReceiveError)
+  pub pops : List Answer
+
+-- datagrams, without where they lie in memory
+abbrev pub bytes_in : List (Vec ℕ) → List (List ℕ)
+bytes_in = map (λ (v : Vec ℕ). v.items)
+
+abbrev pub wire_of : Sending → Session → DatagramRun → Wire
+wire_of sending session run = record {
+  sending = sending;
+  session = session;
+  datagrams = bytes_in run.datagrams.items;
+  sends = run.sends.items;
+  receipts = run.receipts.items;
+  pops = run.pops.items;
+}
+
+-- before any step
+abbrev pub begins : Sending → Session → Wire
+begins sending session = record { sending = sending; session = session; datagrams = []; sends = []; receipts = []; pops = [] }
+
+-- what a sender takes of a sample: the payload type is its own
+abbrev pub sent_sample : Sample → SentNow
+sent_sample s = record { rtp_time = s.rtp_time; bytes = s.bytes; start_of_talk_spurt = s.start_of_talk_spurt; ext_vals = s.ext_vals }
+
+-- the sample was sent, or refused by the packetizer, which sends nothing
+abbrev pub SendsOrRefuses : SentNow → Sending → Option PacketError → Sending → Type 0
+SendsOrRefuses sample s None t = Sends s sample t
+SendsOrRefuses sample s (Some fault) t = (fault ≢ faults.OutOfMemory) × Refuses s sample fault t
+
+-- and its datagrams come behind those that were sent before
+pub record SendsIt (sample : Sample) (s : Sending) (before : List (List ℕ)) (entry : SentSample) (t : Sending) (after : List (List ℕ)) : Type 0 where
+  pub sends : SendsOrRefuses (sent_sample sample) s entry.fault t
+  pub gained : after ≡ before ++ t.datagrams
+  pub count : entry.count ≡ length t.datagrams
+  pub few : length after < 2 ^ 63
+
+-- what is received, or told of a datagram that is none of the stream
+abbrev pub Receipt : Type 0
+Receipt = Result Outcome ReceiveError
+
+-- a datagram is given to the receiver
+abbrev pub Delivers : Ticks → List ℕ → Session → Receipt → Session → Type 0
+Delivers now bytes s receipt t = (receipt ≢ Err refusals.OutOfMemory) × Heard now (datagram_at s.stream s.ssrc bytes) s receipt t
+
+-- a pop of the receiver
+abbrev pub PopsUnit : Ticks → Session → Answer → Session → Type 0
+PopsUnit now s answer t =
+    (packets : Receiving) × PopsWith (waiting_at (settled s.packets) now.0) (settled s.packets) answer packets × (t ≡ record s { packets = packets; time = time_with s.time answer })
+
+abbrev pub ended : Session → Session
+ended s = record s { packets = record s.packets { ended = true; anew = false } }
+
+-- one step: a `Send` that names a sample gets an entry, a `Deliver` that names a datagram a receipt, and each `Pop` an answer
+abbrev pub DoesStep : List Sample → DatagramStep → Wire → Wire → Type 0
+DoesStep samples (steps.Send i) s t =
+    MatchOption (slice_get samples i) (t ≡ s) (λ sample.
+    (entry : SentSample) × SendsIt sample s.sending s.datagrams entry t.sending t.datagrams
+    × (t ≡ record s { sending = t.sending; datagrams = t.datagrams; sends = s.sends ++ entry ∷ [] }))
+DoesStep samples (steps.Deliver k now) s t =
+    MatchOption (slice_get s.datagrams k) (t ≡ s) (λ bytes.
+    (receipt : Receipt) × (session : Session) × Delivers now bytes s.session receipt session × (t ≡ record s { session = session; receipts = s.receipts ++ receipt ∷ [] }))
+DoesStep samples (steps.Pop now) s t =
+    (answer : Answer) × (session : Session) × (answer ≢ Some (Err faults.OutOfMemory)) × PopsUnit now s.session answer session × (t ≡ record s { session = session; pops = s.pops ++ answer ∷ [] })
+DoesStep samples steps.Finish s t = t ≡ record s { session = ended s.session }
+
+-- the steps, in order
+abbrev pub Runs : List Sample → List DatagramStep → Wire → Wire → Type 0
+Runs samples [] s t = t ≡ s
+Runs samples (step ∷ later) s t = (mid : Wire) × DoesStep samples step s mid × Runs samples later mid t

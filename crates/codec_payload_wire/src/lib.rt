@@ -1,0 +1,4 @@
+//! Whole runs over datagrams: samples are sent, some of their datagrams are delivered, in any order, and units are popped.
+#![tactic(auto)]
+
+pub mod run;

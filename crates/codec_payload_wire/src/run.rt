@@ -1,0 +1,216 @@
+//! Whole runs over datagrams: samples are sent, some of their datagrams are delivered, in any order, and units are popped.
+
+ghost use Rattle.std.specs.Prelude.{◌≡◌, ◌≢◌, ◌<◌, ◌^◌, ◌++◌, ◌∷◌, [], List, length, map, IfOk, IfErr, OnOk, Option, Result};
+ghost use Rattle.std.specs.Result.{result_err};
+ghost use Rattle.codec_payload_base.specs.declared.error.PacketError.TheVariants.{OutOfMemory};
+ghost use Rattle.codec_payload_core.specs.Sending.{sample_of};
+ghost use Rattle.codec_payload_jitter.specs.declared.outcome.Outcome.{Outcome as Told};
+ghost use Rattle.codec_payload_stream.specs.declared.receiver.ReceiveError.{ReceiveError as Refusal};
+ghost use Rattle.codec_payload_stream.specs.declared.receiver.ReceiveError.TheVariants as refusals;
+ghost use Rattle.codec_payload_core.specs.Schedule.{Answer};
+ghost use Rattle.codec_payload_stream.specs.Kinds.{datagram_at};
+ghost use Rattle.codec_payload_stream.specs.Sessions.{Heard};
+ghost use Rattle.codec_payload_wire.specs.WireRuns.{DoesStep, PopsUnit, Runs, SendsIt, SendsOrRefuses, begins, bytes_in, sent_sample, wire_of};
+ghost use Rattle.codec_payload_wire.specs.declared.run.SentSample.{SentSample as Entry};
+
+use codec_payload_base::error::PacketError;
+use codec_payload_base::wire::{Ticks, ToPayload};
+use codec_payload_buffer::buffer::Depacketized;
+use codec_payload_buffer::codec::{Depacketizer, Packetizer};
+use codec_payload_sender::sender::{Sample, Sender};
+use codec_payload_stream::outcome::Outcome;
+use codec_payload_stream::receiver::{ReceiveError, Receiver};
+use std::alloc::Global;
+
+/// One step of a run over datagrams.
+#[derive(Clone, Copy, Debug, PartialEq, Eq)]
+pub enum DatagramStep {
+    /// Sends the sample of that index. Passed over where there is no such sample.
+    Send(usize),
+    /// Gives the receiver the datagram of that index, from 0, of those that were sent so far, at that time. Passed over where
+    /// there is no such datagram.
+    Deliver { datagram: usize, now: Ticks },
+    /// Pops, at that time.
+    Pop { now: Ticks },
+    /// The stream has ended: see [`Receiver::finish`].
+    Finish,
+}
+
+/// What came of the steps.
+#[derive(Debug, Drop)]
+pub struct DatagramRun {
+    /// All datagrams that were sent, in order.
+    pub datagrams: Vec<Vec<u8>>,
+    /// One entry for each `Send` step that names a sample, in order.
+    pub sends: Vec<SentSample>,
+    /// What became of the datagram of each `Deliver` step that names one, in order.
+    pub receipts: Vec<Result<Outcome, ReceiveError>>,
+    /// What each `Pop` step was answered, in order.
+    pub pops: Vec<Option<Result<Depacketized, PacketError>>>,
+}
+
+/// What came of a `Send` step.
+#[derive(Debug, Drop)]
+pub struct SentSample {
+    /// How many datagrams it sent.
+    pub count: usize,
+    /// Why nothing was sent, if the sample was refused.
+    pub fault: Option<PacketError>,
+}
+
+/// Does the steps in order: sends samples, delivers datagrams that were sent, and pops.
+///
+/// A `Send` whose sample the packetizer refuses is noted with the fault, and the run goes on. Want of memory ends the run: the
+/// sender and the receiver are then as the refused call left them, and what came of the steps before is given up. Room for an
+/// entry is found before its step begins, so no unit is popped that cannot be answered.
+///
+/// Each datagram is copied once, out of the sender's memory.
+pub fn run_datagrams<P: Packetizer, D: Depacketizer>(
+    alloc: Global,
+    sender: &mut Sender<P>,
+    receiver: &mut Receiver<D>,
+    samples: &[ToPayload],
+    steps: &[DatagramStep],
+) -> Result<DatagramRun, PacketError>
+    ensures runs { IfOk result (λ run. Runs (map sample_of samples.now) steps.now (begins sender.old receiver.old) (wire_of sender.new receiver.new run)) }
+    ensures fault { IfErr result (λ fault. fault ≡ OutOfMemory) }
+{
+    let mut run = DatagramRun {
+        datagrams: Vec::new(alloc),
+        sends: Vec::new(alloc),
+        receipts: Vec::new(alloc),
+        pops: Vec::new(alloc),
+    };
+    for step in steps {
+        do_step(alloc, sender, receiver, samples, *step, &mut run)?;
+    }
+    Ok(run)
+}
+
+/// Does one step, and notes what came of it.
+fn do_step<P: Packetizer, D: Depacketizer>(
+    alloc: Global,
+    sender: &mut Sender<P>,
+    receiver: &mut Receiver<D>,
+    samples: &[ToPayload],
+    step: DatagramStep,
+    run: &mut DatagramRun,
+) -> Result<(), PacketError>
+    ensures ok { OnOk result (DoesStep (map sample_of samples.now) step (wire_of sender.old receiver.old run.old) (wire_of sender.new receiver.new run.new)) }
+    ensures fault { IfErr result (λ fault. fault ≡ OutOfMemory) }
+{
+    match step {
+        DatagramStep::Send(sample) => {
+            let Some(sample) = samples.get(sample) else {
+                return Ok(());
+            };
+            run.sends.reserve(1)?;
+            let entry = send_step(alloc, sender, sample, &mut run.datagrams)?;
+            run.sends.push(entry).unwrap();
+            Ok(())
+        }
+        DatagramStep::Deliver { datagram, now } => {
+            let Some(bytes) = run.datagrams.get(datagram) else {
+                return Ok(());
+            };
+            run.receipts.reserve(1)?;
+            let receipt = deliver(receiver, now, bytes)?;
+            run.receipts.push(receipt).unwrap();
+            Ok(())
+        }
+        DatagramStep::Pop { now } => {
+            run.pops.reserve(1)?;
+            let answer = pop_at(receiver, now)?;
+            run.pops.push(answer).unwrap();
+            Ok(())
+        }
+        DatagramStep::Finish => {
+            receiver.finish();
+            Ok(())
+        }
+    }
+}
+
+/// Sends a sample, and copies its datagrams behind those before.
+fn send_step<P: Packetizer>(
+    alloc: Global,
+    sender: &mut Sender<P>,
+    sample: &ToPayload,
+    datagrams: &mut Vec<Vec<u8>>,
+) -> Result<SentSample, PacketError>
+    ensures ok { IfOk result (λ entry. SendsIt (sample_of sample.now) sender.old (bytes_in datagrams.old.items) entry sender.new (bytes_in datagrams.new.items)) }
+    ensures fault { IfErr result (λ fault. fault ≡ OutOfMemory) }
+{
+    let fault = send(sender, sample)?;
+    copy_datagrams(alloc, sender, datagrams)?;
+    Ok(SentSample {
+        count: sender.len(),
+        fault,
+    })
+}
+
+/// Sends a sample. Why it was refused, if it was; want of memory is no refusal.
+fn send<P: Packetizer>(
+    sender: &mut Sender<P>,
+    sample: &ToPayload,
+) -> Result<Option<PacketError>, PacketError>
+    ensures ok { IfOk result (λ fault. SendsOrRefuses (sent_sample (sample_of sample.now)) sender.old fault sender.new) }
+    ensures fault { IfErr result (λ fault. fault ≡ OutOfMemory) }
+{
+    let sample = Sample {
+        rtp_time: sample.rtp_time,
+        bytes: &sample.bytes,
+        start_of_talk_spurt: sample.start_of_talk_spurt,
+        ext_vals: sample.ext_vals,
+    };
+    match sender.send(&sample) {
+        Ok(()) => Ok(None),
+        Err(PacketError::OutOfMemory) => Err(PacketError::OutOfMemory),
+        Err(fault) => Ok(Some(fault)),
+    }
+}
+
+/// Copies the datagrams of the sample that was sent last behind those before.
+fn copy_datagrams<P: Packetizer>(
+    alloc: Global,
+    sender: &Sender<P>,
+    datagrams: &mut Vec<Vec<u8>>,
+) -> Result<(), PacketError>
+    ensures ok { OnOk result (bytes_in datagrams.new.items ≡ bytes_in datagrams.old.items ++ sender.now.datagrams) }
+    ensures few { length (bytes_in datagrams.new.items) < 2 ^ 63 }
+    ensures fault { IfErr result (λ fault. fault ≡ OutOfMemory) }
+{
+    for place in 0..sender.len() {
+        datagrams.push(Vec::from_slice(alloc, sender.datagram(place))?)?;
+    }
+    Ok(())
+}
+
+/// Gives the receiver a datagram. Want of memory is no receipt.
+fn deliver<D: Depacketizer>(
+    receiver: &mut Receiver<D>,
+    now: Ticks,
+    bytes: &[u8],
+) -> Result<Result<Outcome, ReceiveError>, PacketError>
+    ensures ok { IfOk result (λ receipt. (receipt ≢ Result.Err refusals.OutOfMemory) × Heard now (datagram_at receiver.old.stream receiver.old.ssrc bytes.now) receiver.old receipt receiver.new) }
+    ensures fault { IfErr result (λ fault. fault ≡ OutOfMemory) }
+{
+    match receiver.receive(now, bytes) {
+        Err(ReceiveError::OutOfMemory) => Err(PacketError::OutOfMemory),
+        receipt => Ok(receipt),
+    }
+}
+
+/// Pops. Want of memory is no answer.
+fn pop_at<D: Depacketizer>(
+    receiver: &mut Receiver<D>,
+    now: Ticks,
+) -> Result<Option<Result<Depacketized, PacketError>>, PacketError>
+    ensures ok { IfOk result (λ answer. (answer ≢ Option.Some (Result.Err OutOfMemory)) × PopsUnit now receiver.old answer receiver.new) }
+    ensures fault { IfErr result (λ fault. fault ≡ OutOfMemory) }
+{
+    match receiver.pop(now) {
+        Some(Err(PacketError::OutOfMemory)) => Err(PacketError::OutOfMemory),
+        answer => Ok(answer),
+    }
+}
