@@ -6,7 +6,8 @@
 #
 # Needs rt, a C and a C++ compiler, make, binutils, pkg-config, Python 3, cargo and valgrind; what is missing of Debian's packages is
 # installed where that may be done, and else named before anything starts. debhelper, lintian and doxygen are looked for
-# likewise; without them no Debian packages and manual pages are made. The last line is `N passed, N failed`; the status is 0
+# likewise; without them no Debian packages and manual pages are made, and without libpcap, libavformat and ffmpeg the recorder is
+# not tested. The last line is `N passed, N failed`; the status is 0
 # where nothing failed.
 set -u
 
@@ -36,6 +37,9 @@ wants python3 python3
 wants cargo cargo
 wants valgrind valgrind
 needed=$absent
+pkg-config --exists libpcap 2>/dev/null || absent="$absent libpcap-dev"
+pkg-config --exists libavformat 2>/dev/null || absent="$absent libavformat-dev libavcodec-dev libavutil-dev"
+wants ffmpeg ffmpeg ffprobe
 wants debhelper dh
 wants dpkg-dev dpkg-buildpackage
 wants fakeroot fakeroot
@@ -81,5 +85,10 @@ runs scripts/refuse.sh
 runs scripts/allocations.sh
 runs scripts/faces.sh
 runs scripts/instructions.sh
+if pkg-config --exists libpcap libavformat libavcodec libavutil && command -v ffmpeg >/dev/null; then
+    runs tools/rtp_record/test.sh
+else
+    echo "skipped tools/rtp_record/test.sh: tools/rtp_record/install.sh installs what it needs"
+fi
 echo "$passed passed, $failed failed"
 [ "$failed" -eq 0 ]
