@@ -4,8 +4,8 @@
 The header is written by hand. This reads both and compares every function: its name, its answer, and of each parameter
 the name and the type; every struct that crosses: its fields in order with their types; and the numbers of the statuses and of
 the codecs. A handle of the library is in C a struct of its kind, so that the compiler tells one kind from another. Of
-bindings/rust-sys/src/lib.rs it compares the same functions and structs. The example in the header is the text of
-bindings/c/example.c. The last line says how many functions and structs are the same; the status is 0 where all are.
+bindings/rust-sys/src/lib.rs it compares the same functions and structs. The example in the header, and in docs/C.md, is
+the text of bindings/c/example.c. The last line says how many functions and structs are the same; the status is 0 where all are.
 
 bindings/c/calls.c, which lets NULL go with a length of 0, is what `face_header.py --calls` prints, and that is compared too.
 """
@@ -242,6 +242,8 @@ def main():
     ]
     if f"#if 0\n{read('bindings/c/example.c')}#endif\n" not in read("include/codec_payload.h"):
         wrong.append("header: the example is not that of bindings/c/example.c")
+    if f"```c\n{read('bindings/c/example.c')}```\n" not in read("docs/C.md"):
+        wrong.append("docs/C.md: the example is not that of bindings/c/example.c")
     wrong += [f"header: {kind} is not one handle" for kind in KINDS if written_structs.get(kind) != HANDLE]
     if read("bindings/c/calls.c") != calls(as_written):
         wrong.append("bindings/c/calls.c is not what face_header.py --calls prints")
