@@ -27,7 +27,7 @@ soname = libcodec_payload.so.0
 shared = $(out)/libcodec_payload.so.$(VERSION)
 cmake = $(LIBDIR)/cmake/codec-payload
 name = codec-payload-$(VERSION)
-documents = README.md docs/FORMATS.md
+documents = README.md docs/C.md docs/DATAGRAMS.md docs/FORMATS.md
 manual = $(out)/man/man3
 shipped = Makefile include packaging bindings/c/example.c $(documents) $(archive)
 
