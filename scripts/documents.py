@@ -13,7 +13,8 @@ block of code has a language, by which it is tested:
   rust     checked by cargo, and run where the library is built
   rattle   stands, word for word, in a crate that the gate proves
   antt     stands, word for word, in the definitions of a crate
-  text     is an input or an output of a program, which its own tests run; or a picture of names that stand in the sources
+  text     is an input or an output of a program, which its own tests run; or a picture of names that stand in the sources; or lines
+           of fields, whose bits are whole bytes
   sh       each command is run here, or by the script of scripts/test.sh that is listed below beside it
 
 Needs a C compiler, $CC or cc; cargo of 1.85 or later for what is Rust. The last line says what passed; the status is 0 where all
@@ -179,12 +180,21 @@ def versions():
     header = dict(re.findall(r"^#define CPAY_VERSION_(MAJOR|MINOR|PATCH) (\d+)$", read("include/codec_payload.h"), re.M))
     version = ".".join(header[it] for it in ("MAJOR", "MINOR", "PATCH"))
     for path in ("bindings/Cargo.toml", "bindings/rust/Cargo.toml", "bindings/rust-sys/Cargo.toml"):
-        for found in re.findall(r'(?:^|\W)version = "([^"]*)"', read(path)):
+        for found in re.findall(r'(?<![\w-])version = "([^"]*)"', read(path)):
             if found != version:
                 yield f"{path}: version {found}, and the header has {version}"
     releases = re.findall(r"^## (\d+\.\d+\.\d+)", read("CHANGELOG.md"), re.M)
     if version not in releases:
         yield f"CHANGELOG.md has no {version}, which is the version of the header"
+
+
+def counts(pages):
+    """Numbers of things in the sources that pages tell."""
+    unsafe = sum(read(it).count("unsafe {") for it in files(".rs") if it.startswith("bindings/rust/src/"))
+    for page in pages:
+        for told in re.findall(r"(\d+)\s+`unsafe` blocks", read(page)):
+            if int(told) != unsafe:
+                yield f"{page}: {told} `unsafe` blocks, and bindings/rust/src has {unsafe}"
 
 
 def figures():
@@ -256,6 +266,19 @@ def stands_in(block, paths):
     return any(used(block.text) <= used(it) for it in texts)
 
 
+def whole_bytes(block):
+    """Lines of fields, as `X R PID(3)`, have whole bytes: a name without a number is one bit."""
+    for line in block.text.strip().split("\n"):
+        fields = re.split(r" {3,}", line.strip())[0]
+        if not re.fullmatch(r"(?:[A-Za-z_]\w*(?:=\d)?(?:\(\d+(?: or \d+)?\))?(?: |$))+", fields):
+            return f"neither an input nor an output of a program, nor a picture, nor fields of bytes: {line}"
+        bits = [re.findall(r"\d+", it[1]) or ["1"] for it in re.findall(r"(\w+(?:=\d)?)(\([^)]*\))?", re.sub(r"=\d", "", fields)) if it[0]]
+        for case in range(max(len(it) for it in bits)):
+            if sum(int(it[min(case, len(it) - 1)]) for it in bits) % 8:
+                return f"these fields are no whole bytes: {line}"
+    return ""
+
+
 def tested_text(block):
     rows = [*program_rows.ROWS, *datagram_rows.ROWS]
     known = [it for row in rows for it in (row.given, row.output)]
@@ -263,7 +286,7 @@ def tested_text(block):
     if block.text in known:
         return ""
     if "►" not in block.text:
-        return "neither an input nor an output of a program, nor a picture"
+        return whole_bytes(block)
     sources = "\n".join(read(it) for it in files(".rt"))
     names = [part for it in re.findall(r"\w+(?:::\w+)*", block.text) if re.search(r"[a-z][A-Z]|_|::|^[A-Z]\w*[a-z]", it) for part in it.split("::")]
     missing = [it for it in names if not re.search(rf"\b{it}\b", sources)]
@@ -359,7 +382,7 @@ def main(words):
         return 0
     pages = files(".md")
     wrong = [
-        *links(pages), *named_pages(), *lines(pages), *crate_table(), *versions(), *figures(), *pictures(pages), *blocks(pages),
+        *links(pages), *named_pages(), *lines(pages), *crate_table(), *versions(), *counts(pages), *figures(), *pictures(pages), *blocks(pages),
         *commands(pages),
     ]
     count = sum(len(blocks_and_rest(it)[0]) for it in pages)
