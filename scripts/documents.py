@@ -197,6 +197,17 @@ def counts(pages):
                 yield f"{page}: {told} `unsafe` blocks, and bindings/rust/src has {unsafe}"
 
 
+def additions():
+    """The laws of the ported crates, which are public functions without a parameter, stand among what is added."""
+    ported = "base audio vp8 vp9 av1 red buffer core".split()
+    page = read("docs/DIFFERENCES.md")
+    for path in files(".rt"):
+        if path.split("/")[1].removeprefix("codec_payload_") in ported:
+            for law in re.findall(r"^pub fn (\w+)\(\)", read(path), re.M):
+                if f"`{law}`" not in page:
+                    yield f"docs/DIFFERENCES.md does not name {law} of {path}"
+
+
 def figures():
     rows = [it for it in read("README.md").split("\n") if re.match(r"\| `[a-z0-9-]+` \| \d", it)]
     for row in rows:
@@ -382,7 +393,7 @@ def main(words):
         return 0
     pages = files(".md")
     wrong = [
-        *links(pages), *named_pages(), *lines(pages), *crate_table(), *versions(), *counts(pages), *figures(), *pictures(pages), *blocks(pages),
+        *links(pages), *named_pages(), *lines(pages), *crate_table(), *versions(), *counts(pages), *additions(), *figures(), *pictures(pages), *blocks(pages),
         *commands(pages),
     ]
     count = sum(len(blocks_and_rest(it)[0]) for it in pages)
