@@ -30,6 +30,7 @@ import tempfile
 import textwrap
 
 import datagram_rows
+import pictures as drawn
 import program_rows
 
 ROOT = os.path.dirname(os.path.dirname(os.path.realpath(__file__)))
@@ -224,8 +225,10 @@ def pictures(pages):
             yield f"docs/pictures/{name}: no page shows it"
         if os.path.getsize(path) > PICTURE_BYTES:
             yield f"docs/pictures/{name} has {os.path.getsize(path)} bytes"
-        if f'"{name.removesuffix(".svg")}"' not in read("scripts/pictures.py"):
-            yield f"docs/pictures/{name}: scripts/pictures.py does not make it"
+        if name.removesuffix(".svg") not in drawn.PICTURES:
+            yield f"docs/pictures/{name}: scripts/pictures.py does not draw it"
+        elif not read(path).endswith(drawn.made_of(name.removesuffix(".svg"))):
+            yield f"docs/pictures/{name} is not of today's data: call scripts/pictures.py"
 
 
 def ran(words, **named):
