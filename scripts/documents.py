@@ -58,6 +58,11 @@ RUN_ELSEWHERE = {
     "scripts/instructions.sh": ("scripts/test.sh", "runs scripts/instructions.sh"),
     "scripts/wrong_bodies.py": ("scripts/test.sh", "runs scripts/wrong_bodies.py --stale"),
     "scripts/bench.sh": ("scripts/allocations.sh", "payload_bench"),
+    "scripts/examples.py": ("scripts/test.sh", "runs scripts/examples.py"),
+    "cc -Iinclude examples/": ("scripts/examples.py", "examples/{name}.c"),
+    "bindings/out/gateway": ("scripts/examples.py", 'programs["gateway", language]'),
+    "CODEC_PAYLOAD_DIR=$PWD/out cargo run --offline --example": ("scripts/examples.py", '"--example", name'),
+    "cd bindings": ("scripts/examples.py", 'cwd=f"{ROOT}/bindings"'),
     "scripts/pictures.py": ("scripts/documents.py", "scripts/pictures.py"),
     "make install": ("scripts/install_test.sh", "install PREFIX="),
     "make man": ("scripts/install_test.sh", "doxygen"),
@@ -322,7 +327,7 @@ def tested_sh(block):
                 return f"{path} does not run: {command}"
             script = command.split()[0]
             aim = os.path.join(ROOT, "tools/rtp_record" if block.page.startswith("tools/rtp_record") else "", script)
-            if "/" in script and not script.endswith("/rtp_record") and not os.path.exists(aim):
+            if "/" in script and not script.endswith("/rtp_record") and not script.startswith("bindings/out/") and not os.path.exists(aim):
                 return f"there is no {script}"
     return ""
 
