@@ -325,7 +325,7 @@ def tested_sh(block):
             path, words = RUN_ELSEWHERE[max(begins, key=len)]
             if words not in read(path):
                 return f"{path} does not run: {command}"
-            script = command.split()[0]
+            script = re.sub(r"^\w+=\S+ ", "", command).split()[0]
             aim = os.path.join(ROOT, "tools/rtp_record" if block.page.startswith("tools/rtp_record") else "", script)
             if "/" in script and not script.endswith("/rtp_record") and not script.startswith("bindings/out/") and not os.path.exists(aim):
                 return f"there is no {script}"
