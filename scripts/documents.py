@@ -381,7 +381,7 @@ def wrap(page):
     for line in read(page).split("\n"):
         fence = FENCE.match(line)
         code = code != bool(fence)
-        if code or fence or not line.strip() or re.match(r"[|#]", line):
+        if code or fence or not line.strip() or re.match(r"[|#!]", line):
             flush()
             text.append(line)
             continue
