@@ -12,6 +12,9 @@
 
 enum { RECORD = 16, ETHERNET = 14, UDP = 8, MOST = 65536, MOST_FRAME = 1 << 22 };
 
+/* How a capture begins, by the unit of its times. */
+static const uint32_t MICROSECONDS = 0xa1b2c3d4, NANOSECONDS = 0xa1b23c4d;
+
 typedef struct {
     cpay_receiver receiver;
     FILE *file;
@@ -87,13 +90,15 @@ static void record(recording *it, FILE *capture, unsigned port) {
     static uint8_t head[RECORD], packet[MOST];
     uint8_t file_head[24];
     uint64_t now = 0;
+    uint32_t magic = 0;
     require(fread(file_head, sizeof file_head, 1, capture) == 1, "the capture is empty");
-    require(little(file_head) == 0xa1b2c3d4 && little(file_head + 20) == 1, "no classic capture of Ethernet");
+    magic = little(file_head);
+    require((magic == MICROSECONDS || magic == NANOSECONDS) && little(file_head + 20) == 1, "no classic capture of Ethernet");
     while (fread(head, sizeof head, 1, capture) == 1) {
         size_t size = little(head + 8), payload_size = 0;
         uint32_t outcome = 0;
         require(size <= sizeof packet && fread(packet, 1, size, capture) == size, "the capture is cut off");
-        now = (uint64_t)little(head) * 1000 + little(head + 4) / 1000;
+        now = (uint64_t)little(head) * 1000 + little(head + 4) / (magic == NANOSECONDS ? 1000000 : 1000);
         const uint8_t *payload = udp_payload(packet, size, port, &payload_size);
         if (!payload) continue;
         cpay_status status = cpay_receiver_receive(&it->receiver, now, payload, payload_size, &outcome);

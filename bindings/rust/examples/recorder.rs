@@ -15,6 +15,9 @@ use std::io::{BufWriter, Write};
 
 const ETHERNET: usize = 14;
 const UDP: usize = 8;
+/// How a capture begins, by the unit of its times.
+const MICROSECONDS: u32 = 0xa1b2_c3d4;
+const NANOSECONDS: u32 = 0xa1b2_3c4d;
 
 fn little(bytes: &[u8]) -> Option<u32> {
     Some(u32::from_le_bytes(bytes.get(..4)?.try_into().ok()?))
@@ -26,18 +29,15 @@ fn big(bytes: &[u8], at: usize) -> Option<usize> {
     )))
 }
 
-/// The packets of a capture, each with its time in milliseconds.
-fn packets(capture: &[u8]) -> impl Iterator<Item = (u64, &[u8])> {
+/// The packets of a capture, each with its time in milliseconds. `parts` is how many parts of a second a millisecond has.
+fn packets(capture: &[u8], parts: u64) -> impl Iterator<Item = (u64, &[u8])> {
     let mut rest = capture.get(24..).unwrap_or_default();
     std::iter::from_fn(move || {
-        let (seconds, micros, size) = (little(rest)?, little(&rest[4..])?, little(&rest[8..])?);
+        let (seconds, part, size) = (little(rest)?, little(&rest[4..])?, little(&rest[8..])?);
         let end = 16 + usize::try_from(size).ok()?;
         let packet = rest.get(16..end)?;
         rest = &rest[end..];
-        Some((
-            u64::from(seconds) * 1_000 + u64::from(micros) / 1_000,
-            packet,
-        ))
+        Some((u64::from(seconds) * 1_000 + u64::from(part) / parts, packet))
     })
 }
 
@@ -99,9 +99,11 @@ fn main() -> Result<(), Box<dyn Error>> {
         return Err("usage: recorder CAPTURE PORT PAYLOAD-TYPE FILE".into());
     };
     let (capture, port) = (fs::read(capture)?, port.parse()?);
-    if little(&capture) != Some(0xa1b2_c3d4) || capture.get(20) != Some(&1) {
-        return Err("no classic capture of Ethernet".into());
-    }
+    let parts = match (little(&capture), capture.get(20)) {
+        (Some(MICROSECONDS), Some(1)) => 1_000,
+        (Some(NANOSECONDS), Some(1)) => 1_000_000,
+        _ => return Err("no classic capture of Ethernet".into()),
+    };
     let codec = Settings::new(Codec::Vp8, 90_000);
     let settings = ReceiverSettings::new(codec, payload_type.parse()?).with_max_wait(500);
     let mut receiver = Receiver::new(&settings)?;
@@ -111,7 +113,7 @@ fn main() -> Result<(), Box<dyn Error>> {
         first_time: 0,
     };
     let mut now = 0;
-    for (at, packet) in packets(&capture) {
+    for (at, packet) in packets(&capture, parts) {
         now = at;
         if let Some(payload) = udp_payload(packet, port) {
             // What is no packet of the stream is counted, and the stream goes on.
