@@ -44,9 +44,11 @@ def built(folder):
 
 
 def frames_in(path):
-    """The MD5 of each frame of an IVF file of VP8."""
+    """The MD5 of each frame of an IVF file of VP8; none of an empty one."""
     with open(path, "rb") as file:
         data = file.read()
+    if not data:
+        return []
     signature, version, at, codec, width, height = struct.unpack_from("<4sHH4sHH", data)
     assert (signature, version, at, codec) == (b"DKIF", 0, 32, b"VP80") and width and height, data[:32]
     found = []
