@@ -194,15 +194,6 @@ def versions():
         yield f"CHANGELOG.md has no {version}, which is the version of the header"
 
 
-def counts(pages):
-    """Numbers of things in the sources that pages tell."""
-    unsafe = sum(read(it).count("unsafe {") for it in files(".rs") if it.startswith("bindings/rust/src/"))
-    for page in pages:
-        for told in re.findall(r"(\d+)\s+`unsafe` blocks", read(page)):
-            if int(told) != unsafe:
-                yield f"{page}: {told} `unsafe` blocks, and bindings/rust/src has {unsafe}"
-
-
 def additions():
     """The laws of the ported crates, which are public functions without a parameter, stand among what is added."""
     ported = "base audio vp8 vp9 av1 red buffer core".split()
@@ -401,7 +392,7 @@ def main(words):
         return 0
     pages = files(".md")
     wrong = [
-        *links(pages), *named_pages(), *lines(pages), *crate_table(), *versions(), *counts(pages), *additions(), *figures(), *pictures(pages), *blocks(pages),
+        *links(pages), *named_pages(), *lines(pages), *crate_table(), *versions(), *additions(), *figures(), *pictures(pages), *blocks(pages),
         *commands(pages),
     ]
     count = sum(len(blocks_and_rest(it)[0]) for it in pages)
