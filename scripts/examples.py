@@ -3,11 +3,11 @@
 
 The gateways fail by themselves unless exactly the frames come that some datagram carried, and print the same in both languages.
 The recorders write the VP8 capture of tools/rtp_record under each condition of its tests, and what they write are the encoder's
-frames, by their MD5s: those of which every packet came. The streams over UDP are run by scripts/faces.sh, the examples for Rattle
-by rt ci.
+frames, by their MD5s: those of which every packet came. The streams over UDP are run by scripts/faces.sh, the examples for
+Rattle by rt ci.
 
-Needs the library as scripts/faces.sh library builds it, a C compiler with sanitizers, $CC or cc, and cargo of 1.85 or later. The
-last line says what passed; the status is 0 where all did.
+Needs the library as scripts/faces.sh library builds it, a C compiler with sanitizers, $CC or cc, and cargo of 1.85 or later.
+The last line says what passed; the status is 0 where all did.
 """
 import hashlib
 import os
@@ -78,8 +78,8 @@ def recorders(programs, folder):
         given, path = f"{folder}/given.pcap", f"{folder}/frames.ivf"
         capture.write(given, come)
         for language in ("C", "Rust"):
-            ran = subprocess.run([programs["recorder", language], given, PORT, PAYLOAD_TYPE, path], capture_output=True, text=True,
-                                 check=False)
+            words = [programs["recorder", language], given, PORT, PAYLOAD_TYPE, path]
+            ran = subprocess.run(words, capture_output=True, text=True, check=False)
             found = [] if ran.returncode else frames_in(path)
             if found != wanted or ran.stdout != f"{len(wanted)} frames\n":
                 yield (f"the recorder in {language}, {condition.__name__}: {len(wanted)} frames are wanted, and it wrote "
@@ -92,8 +92,8 @@ def main():
     with tempfile.TemporaryDirectory() as folder:
         programs = built(folder)
         wrong = [*gateways(programs), *recorders(programs, folder)]
-    print("\n".join([*wrong, f"examples: the gateways, and the recorders under {len(conditions.ALL)} conditions, in C and Rust: "
-                     f"{f'{len(wrong)} faults' if wrong else 'all passed'}"]))
+    told = f"examples: the gateways, and the recorders under {len(conditions.ALL)} conditions, in C and Rust"
+    print("\n".join([*wrong, f"{told}: {f'{len(wrong)} faults' if wrong else 'all passed'}"]))
     return 1 if wrong else 0
 
 
