@@ -2,7 +2,8 @@
 """Tests the documents of the repository.
 
   scripts/documents.py                 all checks
-  scripts/documents.py --wrap FILE..   wraps anew each paragraph of a page that has a line of more than 128 characters
+  scripts/documents.py --wrap FILE..   wraps anew each paragraph of these pages, or of all, that has a line of more than 128
+                                       characters
 
 Each relative link, each anchor and each named page is there; README.md has at most 170 lines; no line outside of code and
 tables is longer than 128 characters; the crates that docs/ARCHITECTURE.md lists are those of crates.txt; the version is the
@@ -410,9 +411,9 @@ def wrap(page):
 
 def main(words):
     if words[:1] == ["--wrap"]:
-        for page in words[1:]:
-            wrapped = wrap(os.path.abspath(page))
-            with open(page, "w", encoding="utf-8") as it:
+        for path in [os.path.abspath(it) for it in words[1:]] or [f"{ROOT}/{it}" for it in files(".md")]:
+            wrapped = wrap(path)
+            with open(path, "w", encoding="utf-8") as it:
                 it.write(wrapped)
         return 0
     pages = files(".md")
