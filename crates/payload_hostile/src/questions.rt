@@ -6,7 +6,7 @@ use codec_payload_core::av1::{detect_av1_keyframe, leb_128_size};
 use codec_payload_core::codec::{Depacketizer, Vp8CodecExtra, Vp9CodecExtra};
 use codec_payload_core::contiguity::{Vp8Contiguity, Vp9Contiguity};
 use codec_payload_core::error::PacketError;
-use codec_payload_core::vp8::{detect_vp8_keyframe, Vp8Descriptor};
+use codec_payload_core::vp8::{Vp8Descriptor, detect_vp8_keyframe};
 use codec_payload_core::vp9::{detect_vp9_keyframe, detect_vp9_keyframe_bitstream};
 use std::alloc::{AllocError, Global};
 use std::fmt::Write;
@@ -17,7 +17,11 @@ fn put_bool(text: &mut String, value: bool) -> Result<(), AllocError> {
 }
 
 /// Asks of each payload whether it begins a unit, and whether it ends one in a packet without the marker and in one with it.
-pub fn asks_for_ends(alloc: Global, text: &mut String, example: &Example) -> Result<(), PacketError> {
+pub fn asks_for_ends(
+    alloc: Global,
+    text: &mut String,
+    example: &Example,
+) -> Result<(), PacketError> {
     let Some(depacketizer) = example.depacketizer(alloc) else {
         return Ok(());
     };
@@ -85,11 +89,23 @@ pub fn asks_for_contiguity(text: &mut String) -> Result<(), PacketError> {
     let mut of_vp9 = Vp9Contiguity::new();
     text.push_str("contiguity")?;
     for id in [7, 9] {
-        let (goes, follows) = of_vp8.check(&Vp8CodecExtra { picture_id: Some(id), ..vp8 }, true);
+        let (goes, follows) = of_vp8.check(
+            &Vp8CodecExtra {
+                picture_id: Some(id),
+                ..vp8
+            },
+            true,
+        );
         text.push_str(" ")?;
         put_bool(text, goes)?;
         put_bool(text, follows)?;
-        let (goes, follows) = of_vp9.check(&Vp9CodecExtra { picture_id: Some(id), ..vp9 }, true);
+        let (goes, follows) = of_vp9.check(
+            &Vp9CodecExtra {
+                picture_id: Some(id),
+                ..vp9
+            },
+            true,
+        );
         put_bool(text, goes)?;
         put_bool(text, follows)?;
     }
