@@ -27,9 +27,11 @@ soname = libcodec_payload.so.0
 shared = $(out)/libcodec_payload.so.$(VERSION)
 cmake = $(LIBDIR)/cmake/codec-payload
 name = codec-payload-$(VERSION)
-documents = README.md docs/C.md docs/DATAGRAMS.md docs/FORMATS.md
+documents = README.md CHANGELOG.md
+pages = $(wildcard docs/*.md)
+pictures = $(wildcard docs/pictures/*.svg)
 manual = $(out)/man/man3
-shipped = Makefile include packaging bindings/c/example.c $(documents) $(archive)
+shipped = Makefile include packaging bindings/c/example.c $(documents) $(pages) $(pictures) $(archive)
 
 all: $(archive) $(shared)
 
@@ -58,7 +60,10 @@ install: all
 	sed -e 's|@VERSION@|$(VERSION)|' packaging/codec-payload-config-version.cmake.in \
 	    >$(DESTDIR)$(cmake)/codec-payload-config-version.cmake
 	$(INSTALL) -m 644 packaging/codec-payload-config.cmake $(DESTDIR)$(cmake)
+	$(INSTALL) -d $(DESTDIR)$(DOCDIR)/docs/pictures
 	$(INSTALL) -m 644 $(documents) $(DESTDIR)$(DOCDIR)
+	$(INSTALL) -m 644 $(pages) $(DESTDIR)$(DOCDIR)/docs
+	$(INSTALL) -m 644 $(pictures) $(DESTDIR)$(DOCDIR)/docs/pictures
 	if [ -d $(manual) ]; then \
 	    $(INSTALL) -d $(DESTDIR)$(MANDIR)/man3 && $(INSTALL) -m 644 $(manual)/* $(DESTDIR)$(MANDIR)/man3; \
 	fi

@@ -132,6 +132,16 @@ LIMITS = [
     ]
 ]
 
+# Three units of two packets each, of which packet 11 comes behind 12, and 13 does not come. docs/PROGRAM.md has it, and
+# scripts/pictures.py draws it.
+UNDER_LOSS = Row(
+    "three units, a packet lost and one late",
+    "codec vp8 90000 0 10 0\nsample 0 0 909090\nsample 3000 0 919191\nsample 6000 0 929292\nsend 0 3\nsend 1 3\nsend 2 3\n"
+    "push 0\npop\npush 2\npop\npush 1\npop\npush 4\npop\npush 5\npop\npop\n",
+    "sent 2\npacket 10 0 109090\npacket 11 1 0090\nsent 2\npacket 12 0 109191\npacket 13 1 0091\n"
+    "sent 2\npacket 14 0 109292\npacket 15 1 0092\nnone\nnone\nunit 10 11 1 909090\nnone\nunit 14 15 0 929292\nnone\n",
+)
+
 # Two packets of three and two bytes, 960 ticks apart, of which the second comes: with the first in it, it has 10 bytes. The
 # number of the first is told by the step.
 FIRST_ALONE = "sent 1\npacket 7 0 60010203\nsent 1\npacket 8 0 600405\n"
@@ -269,4 +279,4 @@ BAD = (
     ]
 )
 
-ROWS = [*RUNS, *HOLD_BACKS, *LIMITS, *REDS, *ACCEPTED, *BAD]
+ROWS = [*RUNS, *HOLD_BACKS, *LIMITS, UNDER_LOSS, *REDS, *ACCEPTED, *BAD]

@@ -84,6 +84,8 @@ runs scripts/process.py
 runs scripts/refuse.sh
 runs scripts/allocations.sh
 runs scripts/faces.sh
+runs scripts/documents.py
+runs scripts/examples.py
 runs scripts/instructions.sh
 if pkg-config --exists libpcap libavformat libavcodec libavutil && command -v ffmpeg >/dev/null; then
     runs tools/rtp_record/test.sh

@@ -1,4 +1,4 @@
-//! The rows that the repository's README and its program's tests have, through the crate.
+//! The rows that docs/PROGRAM.md and the program's tests have, through the crate.
 
 use codec_payload::{
     Buffer, Codec, Depacketizer, Error, Extra, Packet, Packetizer, Received, Settings, Unit,
@@ -28,7 +28,7 @@ fn payloads(packets: &[Packet]) -> Vec<(bool, &[u8])> {
         .collect()
 }
 
-/// One Opus sample of three bytes, cut at an MTU of 2 into packets 10 and 11: the first run of the README.
+/// One Opus sample of three bytes, cut at an MTU of 2 into packets 10 and 11: the first run of docs/PROGRAM.md.
 #[test]
 fn first_run() -> Result<(), Error> {
     let settings = Settings::new(Codec::Opus, 48_000);

@@ -1,4 +1,4 @@
-//! The example of an audio gateway in the README.
+//! The example of an audio gateway in docs/RATTLE.md.
 
 use crate::asserts::assert_bytes;
 use crate::library::{buffer_of, payloader_of, sample};

@@ -1,4 +1,4 @@
-//! The worked examples of the buffer, of payloaders and of whole runs, the programs of README.md, and hostile input, as tests
+//! The worked examples of the buffer, of payloaders and of whole runs, the programs of docs/RATTLE.md, and hostile input, as tests
 //! over `codec_payload_core` alone.
 #![tactic(auto)]
 

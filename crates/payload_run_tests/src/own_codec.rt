@@ -1,4 +1,4 @@
-//! A codec of a caller's own, as the README has it.
+//! A codec of a caller's own, as docs/RATTLE.md has it.
 
 ghost use Rattle.std.specs.Prelude.{[], ⊤, false, true};
 

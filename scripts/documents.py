@@ -1,0 +1,404 @@
+#!/usr/bin/env python3
+"""Tests the documents of the repository.
+
+  scripts/documents.py                 all checks
+  scripts/documents.py --wrap FILE..   wraps anew each paragraph of a page that has a line of more than 128 characters
+
+Each relative link, each anchor and each named page is there; README.md has at most 170 lines; no line outside of code and tables
+is longer than 128 characters; the crates that docs/ARCHITECTURE.md lists are those of crates.txt; the version is the same wherever
+it stands; each row of figures in README.md is one of docs/PERFORMANCE.md; each picture is named by a page, and is light. Each
+block of code has a language, by which it is tested:
+
+  c        compiled, and linked and run where the library is built (scripts/faces.sh library)
+  rust     checked by cargo, and run where the library is built
+  rattle   stands, word for word, in a crate that the gate proves
+  antt     stands, word for word, in the definitions of a crate
+  text     is an input or an output of a program, which its own tests run; or a picture of names that stand in the sources; or lines
+           of fields, whose bits are whole bytes
+  sh       each command is run here, or by the script of scripts/test.sh that is listed below beside it
+
+Needs a C compiler, $CC or cc; cargo of 1.85 or later for what is Rust. The last line says what passed; the status is 0 where all
+did.
+"""
+import glob
+import os
+import re
+import shutil
+import subprocess
+import sys
+import tempfile
+import textwrap
+
+import datagram_rows
+import pictures as drawn
+import program_rows
+
+ROOT = os.path.dirname(os.path.dirname(os.path.realpath(__file__)))
+LIBRARY = f"{ROOT}/bindings/out"
+WIDTH = 128
+README_LINES = 170
+PICTURE_BYTES = 80_000
+FENCE = re.compile(r"^( *)```(.*)$")
+# Commands of the documents that are run here, in the root of the repository: none needs what is built, and each is quick.
+RUN_HERE = ["scripts/wrong_bodies.py --stale", "scripts/face_header.py", "scripts/documents.py"]
+# All others: how a command begins, and the file that runs it, with the words by which it does.
+RUN_ELSEWHERE = {
+    "scripts/test.sh": ("scripts/test.sh", "scripts/test.sh --no-proofs"),
+    "rt ci": ("scripts/test.sh", "rt ci"),
+    "rt try": ("scripts/process.py", '["rt", "run"]'),
+    "rt run": ("scripts/process.py", '["rt", "run"]'),
+    "rt check": ("scripts/wrong_bodies.py", '"rt", "check"'),
+    "rt fmt": ("scripts/documents.py", "rt fmt"),
+    "rt test": ("scripts/documents.py", "rt test"),
+    "rt version": ("scripts/documents.py", "rt version"),
+    "scripts/faces.sh": ("scripts/test.sh", "runs scripts/faces.sh"),
+    "scripts/process.py": ("scripts/test.sh", "runs scripts/process.py"),
+    "scripts/refuse.sh": ("scripts/test.sh", "runs scripts/refuse.sh"),
+    "scripts/allocations.sh": ("scripts/test.sh", "runs scripts/allocations.sh"),
+    "scripts/instructions.sh": ("scripts/test.sh", "runs scripts/instructions.sh"),
+    "scripts/wrong_bodies.py": ("scripts/test.sh", "runs scripts/wrong_bodies.py --stale"),
+    "scripts/bench.sh": ("scripts/allocations.sh", "payload_bench"),
+    "scripts/examples.py": ("scripts/test.sh", "runs scripts/examples.py"),
+    "cc -Iinclude examples/": ("scripts/examples.py", "examples/{name}.c"),
+    "bindings/out/gateway": ("scripts/examples.py", 'programs["gateway", language]'),
+    "CODEC_PAYLOAD_DIR=$PWD/out cargo run --offline --example": ("scripts/examples.py", '"--example", name'),
+    "cd bindings": ("scripts/examples.py", 'cwd=f"{ROOT}/bindings"'),
+    "scripts/pictures.py": ("scripts/documents.py", "scripts/pictures.py"),
+    "make install": ("scripts/install_test.sh", "install PREFIX="),
+    "make man": ("scripts/install_test.sh", "doxygen"),
+    "make dist": ("scripts/install_test.sh", "dist"),
+    "make deb": ("scripts/install_test.sh", "deb"),
+    "make -C tools/rtp_record": ("tools/rtp_record/test.sh", "make -s all"),
+    "make": ("tools/rtp_record/test.sh", "make -s all"),
+    "cc program.c": ("scripts/install_test.sh", "pkg-config --cflags codec-payload"),
+    "export CODEC_PAYLOAD_DIR": ("scripts/faces.sh", "export CODEC_PAYLOAD_DIR"),
+    "cd bindings/rust": ("scripts/faces.sh", "cargo test --offline"),
+    "cargo test": ("scripts/faces.sh", "cargo test --offline"),
+    "cargo run": ("scripts/faces.sh", "cargo run --offline"),
+    "tools/rtp_record/install.sh": ("scripts/test.sh", "tools/rtp_record/install.sh"),
+    "tools/rtp_record/rtp_record": ("scripts/test.sh", "runs tools/rtp_record/test.sh"),
+    "./install.sh": ("scripts/test.sh", "tools/rtp_record/install.sh"),
+    "./rtp_record": ("scripts/test.sh", "runs tools/rtp_record/test.sh"),
+    "../../scripts/faces.sh": ("scripts/test.sh", "runs scripts/faces.sh"),
+    "cd crates/": ("scripts/process.py", '["rt", "run"]'),
+}
+
+
+def read(path):
+    with open(path if os.path.isabs(path) else f"{ROOT}/{path}", encoding="utf-8") as it:
+        return it.read()
+
+
+def files(*endings):
+    """The files of the repository with these endings, without what was built."""
+    found = []
+    for folder, below, names in os.walk(ROOT):
+        below[:] = sorted(it for it in below if it not in ("out", "target", ".git", "__pycache__", "recorded"))
+        found += [os.path.relpath(f"{folder}/{it}", ROOT) for it in sorted(names) if it.endswith(endings)]
+    return found
+
+
+class Block:
+    """A block of code: its page, the number of its first line, its language and its text."""
+
+    def __init__(self, page, line, language, text):
+        self.page, self.line, self.language, self.text = page, line, language, text
+
+    def __str__(self):
+        return f"{self.page}:{self.line}"
+
+
+def blocks_and_rest(page):
+    """The blocks of code of a page, and its other lines with their numbers."""
+    blocks, rest, opened = [], [], None
+    for number, line in enumerate(read(page).split("\n"), 1):
+        fence = FENCE.match(line)
+        if opened is None and fence:
+            opened = (number + 1, fence[2].strip(), [], len(fence[1]))
+        elif opened and fence and not fence[2]:
+            blocks.append(Block(page, opened[0], opened[1], "".join(f"{it[opened[3]:]}\n" for it in opened[2])))
+            opened = None
+        elif opened:
+            opened[2].append(line)
+        else:
+            rest.append((number, line))
+    return blocks, rest
+
+
+def anchors(page):
+    """The anchors of a page's headings, as GitHub makes them."""
+    found = []
+    for _, line in blocks_and_rest(page)[1]:
+        heading = re.match(r"#+ (.*)", line)
+        if heading:
+            plain = re.sub(r"[`*]|\]\([^)]*\)|\[", "", heading[1]).strip().lower()
+            name = re.sub(r"[^\w\- ]", "", plain).replace(" ", "-")
+            found.append(f"{name}-{found.count(name)}" if name in found else name)
+    return found
+
+
+def links(pages):
+    for page in pages:
+        for number, line in blocks_and_rest(page)[1]:
+            for target in re.findall(r"\]\(([^)\s]+)\)", re.sub(r"`[^`]*`", "", line)):
+                if re.match(r"[a-z]+:", target):
+                    continue
+                path, _, anchor = target.partition("#")
+                aim = os.path.normpath(os.path.join(os.path.dirname(page), path)) if path else page
+                if not os.path.exists(f"{ROOT}/{aim}"):
+                    yield f"{page}:{number}: there is no {target}"
+                elif anchor and anchor not in anchors(aim):
+                    yield f"{page}:{number}: {aim} has no heading {anchor}"
+
+
+def named_pages():
+    """Pages, and headings of them, that are named in the text of any file."""
+    for name in files(".md", ".py", ".sh", ".c", ".h", ".rs", ".rt", ".antt", "Makefile"):
+        text = read(name)
+        for path in set(re.findall(r"\bdocs/[A-Z_]+\.md\b", text)):
+            if not os.path.exists(f"{ROOT}/{path}"):
+                yield f"{name}: names {path}, which is not there"
+        for path, heading in re.findall(r"\b(docs/[A-Z]+\.md), \"([^\"]+)\"", text):
+            if os.path.exists(f"{ROOT}/{path}") and not re.search(rf"^#+ {re.escape(heading)}$", read(path), re.M):
+                yield f"{name}: {path} has no heading {heading}"
+
+
+def lines(pages):
+    for page in pages:
+        for number, line in blocks_and_rest(page)[1]:
+            if len(line) > WIDTH and not line.startswith("|") and not re.match(r"^!\[[^]]*\]\(\S+\)$", line):
+                yield f"{page}:{number}: {len(line)} characters"
+    count = read("README.md").count("\n")
+    if count > README_LINES:
+        yield f"README.md has {count} lines, and not {README_LINES} at most"
+
+
+def crate_table():
+    listed = [it.split(":")[0].split()[0] for it in read("crates.txt").split("\n") if it.strip() and not it.startswith("#")]
+    table = re.findall(r"^\| (`[a-z_0-9`, ]+`) \| .*\| .*\| .*\|$", read("docs/ARCHITECTURE.md"), re.M)
+    named = [it for row in table for it in re.findall(r"`((?:codec_)?payload_[a-z_0-9]+)`", row)]
+    for crate in sorted({*listed, *named}):
+        if listed.count(crate) != 1 or named.count(crate) != 1:
+            yield f"{crate}: {listed.count(crate)} times in crates.txt, {named.count(crate)} times in the table of docs/ARCHITECTURE.md"
+
+
+def versions():
+    header = dict(re.findall(r"^#define CPAY_VERSION_(MAJOR|MINOR|PATCH) (\d+)$", read("include/codec_payload.h"), re.M))
+    version = ".".join(header[it] for it in ("MAJOR", "MINOR", "PATCH"))
+    for path in ("bindings/Cargo.toml", "bindings/rust/Cargo.toml", "bindings/rust-sys/Cargo.toml"):
+        for found in re.findall(r'(?<![\w-])version = "([^"]*)"', read(path)):
+            if found != version:
+                yield f"{path}: version {found}, and the header has {version}"
+    releases = re.findall(r"^## (\d+\.\d+\.\d+)", read("CHANGELOG.md"), re.M)
+    if version not in releases:
+        yield f"CHANGELOG.md has no {version}, which is the version of the header"
+
+
+def additions():
+    """The laws of the ported crates, which are public functions without a parameter, stand among what is added."""
+    ported = "base audio vp8 vp9 av1 red buffer core".split()
+    page = read("docs/DIFFERENCES.md")
+    for path in files(".rt"):
+        if path.split("/")[1].removeprefix("codec_payload_") in ported:
+            for law in re.findall(r"^pub fn (\w+)\(\)", read(path), re.M):
+                if f"`{law}`" not in page:
+                    yield f"docs/DIFFERENCES.md does not name {law} of {path}"
+
+
+def figures():
+    rows = [it for it in read("README.md").split("\n") if re.match(r"\| `[a-z0-9-]+` \| \d", it)]
+    for row in rows:
+        if row not in read("docs/PERFORMANCE.md").split("\n"):
+            yield f"README.md: docs/PERFORMANCE.md has no row {row}"
+    if not rows:
+        yield "README.md has no row of figures"
+
+
+def pictures(pages):
+    for path in glob.glob(f"{ROOT}/docs/pictures/*"):
+        name = os.path.basename(path)
+        if not any(f"pictures/{name})" in read(page) for page in pages):
+            yield f"docs/pictures/{name}: no page shows it"
+        if os.path.getsize(path) > PICTURE_BYTES:
+            yield f"docs/pictures/{name} has {os.path.getsize(path)} bytes"
+        if name.removesuffix(".svg") not in drawn.PICTURES:
+            yield f"docs/pictures/{name}: scripts/pictures.py does not draw it"
+        elif not read(path).endswith(drawn.made_of(name.removesuffix(".svg"))):
+            yield f"docs/pictures/{name} is not of today's data: call scripts/pictures.py"
+
+
+def ran(words, **named):
+    """Nothing where a command ends well, else what it said."""
+    done = subprocess.run(words, stdout=subprocess.PIPE, stderr=subprocess.STDOUT, check=False, **named)
+    return "" if done.returncode == 0 else done.stdout.decode(errors="replace") or f"status {done.returncode}"
+
+
+def compiled_c(block, work):
+    source = f"{work}/block.c"
+    whole = block.text if "#include" in block.text else f'#include "codec_payload.h"\n{block.text}'
+    with open(source, "w", encoding="utf-8") as it:
+        it.write(whole)
+    words = [os.environ.get("CC", "cc"), "-std=c99", "-Wall", "-Wextra", "-Werror", f"-I{ROOT}/include", source]
+    archive = f"{LIBRARY}/libcodec_payload.a"
+    if "int main(" not in whole or not os.path.exists(archive):
+        return ran([*words, "-fsyntax-only"])
+    return ran([*words, archive, "-o", f"{work}/block"]) or ran([f"{work}/block"])
+
+
+def checked_rust(block, work):
+    lines_of_it = [re.sub(r"^# ?(?!\[)", "", it) for it in block.text.split("\n")]
+    whole = "\n".join(lines_of_it)
+    if "fn main()" not in whole:
+        whole = f"fn main() -> Result<(), codec_payload::Error> {{\n{whole}}}\n".replace("Ok::<(), codec_payload::Error>(())", "Ok(())")
+    os.makedirs(f"{work}/page/src", exist_ok=True)
+    with open(f"{work}/page/src/main.rs", "w", encoding="utf-8") as it:
+        it.write(whole)
+    with open(f"{work}/page/Cargo.toml", "w", encoding="utf-8") as it:
+        it.write(f'[package]\nname = "page"\nversion = "0.0.0"\nedition = "2024"\n\n[dependencies]\ncodec-payload = {{ path = "{ROOT}/bindings/rust" }}\n')
+    built = os.path.exists(f"{LIBRARY}/libcodec_payload.a")
+    named = {**os.environ, "CARGO_TARGET_DIR": f"{work}/target", **({"CODEC_PAYLOAD_DIR": LIBRARY} if built else {})}
+    return ran(["cargo", "run" if built else "check", "--offline", "--quiet"], cwd=f"{work}/page", env=named)
+
+
+def stands_in(block, paths):
+    """Whether the block stands in one of these files, whatever its indentation is. Of `use` lines each name is used there."""
+    texts = [read(it) for it in paths]
+    if any(block.text in it or textwrap.dedent(block.text) in textwrap.dedent(it) for it in texts):
+        return True
+    uses = re.findall(r"^use ([\w:]+)::(?:\{([^}]*)\}|(\w+));$", block.text, re.M)
+    if not uses or len(uses) != block.text.count(";"):
+        return False
+
+    def used(text):
+        return {(path, name.strip()) for path, many, one in re.findall(r"^use ([\w:]+)::(?:\{([^}]*)\}|(\w+));$", text, re.M | re.S)
+                for name in (many or one).split(",") if name.strip()}
+
+    return any(used(block.text) <= used(it) for it in texts)
+
+
+def whole_bytes(block):
+    """Lines of fields, as `X R PID(3)`, have whole bytes: a name without a number is one bit."""
+    for line in block.text.strip().split("\n"):
+        fields = re.split(r" {3,}", line.strip())[0]
+        if not re.fullmatch(r"(?:[A-Za-z_]\w*(?:=\d)?(?:\(\d+(?: or \d+)?\))?(?: |$))+", fields):
+            return f"neither an input nor an output of a program, nor a picture, nor fields of bytes: {line}"
+        bits = [re.findall(r"\d+", it[1]) or ["1"] for it in re.findall(r"(\w+(?:=\d)?)(\([^)]*\))?", re.sub(r"=\d", "", fields)) if it[0]]
+        for case in range(max(len(it) for it in bits)):
+            if sum(int(it[min(case, len(it) - 1)]) for it in bits) % 8:
+                return f"these fields are no whole bytes: {line}"
+    return ""
+
+
+def tested_text(block):
+    rows = [*program_rows.ROWS, *datagram_rows.ROWS]
+    known = [it for row in rows for it in (row.given, row.output)]
+    known += [read(it) for it in glob.glob(f"{ROOT}/crates/*/std*")]
+    if block.text in known:
+        return ""
+    if "►" not in block.text:
+        return whole_bytes(block)
+    sources = "\n".join(read(it) for it in files(".rt"))
+    names = [part for it in re.findall(r"\w+(?:::\w+)*", block.text) if re.search(r"[a-z][A-Z]|_|::|^[A-Z]\w*[a-z]", it) for part in it.split("::")]
+    missing = [it for it in names if not re.search(rf"\b{it}\b", sources)]
+    return f"no source has {', '.join(missing)}" if missing else ""
+
+
+def tested_sh(block):
+    """Each command of a block is one that is run here, or that the listed file runs."""
+    for line in block.text.split("\n"):
+        bare = re.sub(r"(^|\s)#.*", "", line).strip().strip("()")
+        for command in filter(None, (it.strip() for it in re.split(r"&&|;|\|", bare))):
+            if command in RUN_HERE:
+                continue
+            begins = [it for it in RUN_ELSEWHERE if command == it or command.startswith(it)]
+            if not begins:
+                return f"no test runs: {command}"
+            path, words = RUN_ELSEWHERE[max(begins, key=len)]
+            if words not in read(path):
+                return f"{path} does not run: {command}"
+            script = re.sub(r"^\w+=\S+ ", "", command).split()[0]
+            aim = os.path.join(ROOT, "tools/rtp_record" if block.page.startswith("tools/rtp_record") else "", script)
+            if "/" in script and not script.endswith("/rtp_record") and not script.startswith("bindings/out/") and not os.path.exists(aim):
+                return f"there is no {script}"
+    return ""
+
+
+def blocks(pages):
+    tests = {
+        "c": compiled_c,
+        "rust": checked_rust,
+        "rattle": lambda it, _: "" if stands_in(it, files(".rt")) else "stands in no source",
+        "antt": lambda it, _: "" if stands_in(it, files(".antt")) else "stands in no definition",
+        "text": lambda it, _: tested_text(it),
+        "sh": lambda it, _: tested_sh(it),
+    }
+    with tempfile.TemporaryDirectory() as work:
+        for block in (it for page in pages for it in blocks_and_rest(page)[0]):
+            if block.language not in tests:
+                yield f"{block}: no test for a block of {block.language or 'no language'}"
+            elif block.language == "rust" and not shutil.which("cargo"):
+                yield f"{block}: cargo is not there"
+            else:
+                said = tests[block.language](block, work)
+                if said:
+                    yield f"{block}: {said}"
+
+
+def commands(pages):
+    """The commands of the documents that are quick, run."""
+    named = "\n".join(block.text for page in pages for block in blocks_and_rest(page)[0] if block.language == "sh")
+    for command in RUN_HERE:
+        if command in named and command != "scripts/documents.py":
+            said = ran(command.split(), cwd=ROOT)
+            if said:
+                yield f"{command}: {said}"
+
+
+def wrap(page):
+    """The text of a page with each paragraph wrapped anew that has a line which is too long."""
+    text, paragraph, code = [], [], False
+
+    def flush():
+        if any(len(it) > WIDTH for it in paragraph):
+            bullet = re.match(r"( *(?:[-*]|\d+\.) +)?( *)", paragraph[0])
+            begin = bullet[1] or bullet[2]
+            words = " ".join(it.strip() for it in [paragraph[0][len(begin):], *paragraph[1:]])
+            text.extend(textwrap.wrap(words, WIDTH, initial_indent=begin, subsequent_indent=" " * len(begin),
+                                      break_long_words=False, break_on_hyphens=False))
+        else:
+            text.extend(paragraph)
+        paragraph.clear()
+
+    for line in read(page).split("\n"):
+        fence = FENCE.match(line)
+        code = code != bool(fence)
+        if code or fence or not line.strip() or re.match(r"[|#!]", line):
+            flush()
+            text.append(line)
+            continue
+        if re.match(r" *([-*]|\d+\.) ", line):
+            flush()
+        paragraph.append(line)
+    flush()
+    return "\n".join(text)
+
+
+def main(words):
+    if words[:1] == ["--wrap"]:
+        for page in words[1:]:
+            wrapped = wrap(os.path.abspath(page))
+            with open(page, "w", encoding="utf-8") as it:
+                it.write(wrapped)
+        return 0
+    pages = files(".md")
+    wrong = [
+        *links(pages), *named_pages(), *lines(pages), *crate_table(), *versions(), *additions(), *figures(), *pictures(pages), *blocks(pages),
+        *commands(pages),
+    ]
+    count = sum(len(blocks_and_rest(it)[0]) for it in pages)
+    print("\n".join([*wrong, f"documents: {len(pages)} pages with {count} blocks of code: {f'{len(wrong)} faults' if wrong else 'all passed'}"]))
+    return 1 if wrong else 0
+
+
+if __name__ == "__main__":
+    sys.exit(main(sys.argv[1:]))

@@ -1,0 +1,101 @@
+#!/usr/bin/env python3
+"""Builds and runs the examples for C and Rust over the library, and compares what comes of them.
+
+The gateways fail by themselves unless exactly the frames come that some datagram carried, and print the same in both languages.
+The recorders write the VP8 capture of tools/rtp_record under each condition of its tests, and what they write are the encoder's
+frames, by their MD5s: those of which every packet came. The streams over UDP are run by scripts/faces.sh, the examples for Rattle
+by rt ci.
+
+Needs the library as scripts/faces.sh library builds it, a C compiler with sanitizers, $CC or cc, and cargo of 1.85 or later. The
+last line says what passed; the status is 0 where all did.
+"""
+import hashlib
+import os
+import struct
+import subprocess
+import sys
+import tempfile
+
+ROOT = os.path.dirname(os.path.dirname(os.path.realpath(__file__)))
+OUT = f"{ROOT}/bindings/out"
+sys.path.insert(0, f"{ROOT}/tools/rtp_record/tests")
+
+import capture  # noqa: E402  (the folder is known only now)
+import conditions  # noqa: E402
+import test_captures  # noqa: E402
+
+NAMES = ["gateway", "recorder"]
+PORT, PAYLOAD_TYPE = "15004", "96"
+C_FLAGS = ["-std=c99", "-pedantic", "-Wall", "-Wextra", "-Wconversion", "-Werror", "-O1", "-g", "-fsanitize=address,undefined",
+           "-fno-sanitize-recover=all"]
+
+
+def built(folder):
+    """The programs, by name and language."""
+    programs = {}
+    for name in NAMES:
+        programs[name, "C"] = f"{folder}/{name}"
+        subprocess.run([os.environ.get("CC", "cc"), *C_FLAGS, f"-I{ROOT}/include", f"{ROOT}/examples/{name}.c",
+                        f"{OUT}/libcodec_payload.a", "-o", programs[name, "C"]], check=True)
+        subprocess.run(["cargo", "build", "--offline", "--quiet", "--example", name], cwd=f"{ROOT}/bindings",
+                       env={**os.environ, "CODEC_PAYLOAD_DIR": OUT, "CARGO_TARGET_DIR": f"{folder}/target"}, check=True)
+        programs[name, "Rust"] = f"{folder}/target/debug/examples/{name}"
+    return programs
+
+
+def frames_in(path):
+    """The MD5 of each frame of an IVF file of VP8; none of an empty one."""
+    with open(path, "rb") as file:
+        data = file.read()
+    if not data:
+        return []
+    signature, version, at, codec, width, height = struct.unpack_from("<4sHH4sHH", data)
+    assert (signature, version, at, codec) == (b"DKIF", 0, 32, b"VP80") and width and height, data[:32]
+    found = []
+    while at < len(data):
+        size, _ = struct.unpack_from("<IQ", data, at)
+        found.append(hashlib.md5(data[at + 12 : at + 12 + size]).hexdigest())
+        at += 12 + size
+    return found
+
+
+def gateways(programs):
+    told = {}
+    for language in ("C", "Rust"):
+        ran = subprocess.run([programs["gateway", language]], capture_output=True, text=True, check=False)
+        told[language] = ran.stdout
+        if ran.returncode:
+            yield f"the gateway in {language}: status {ran.returncode}: {ran.stdout}{ran.stderr}"
+    if told["C"] != told["Rust"]:
+        yield f"the gateways print {told['C']!r} and {told['Rust']!r}"
+
+
+def recorders(programs, folder):
+    packets = capture.media_of(capture.read(f"{test_captures.CAPTURES}/vp8.pcap"))
+    for condition in conditions.ALL:
+        come, there = condition(packets)
+        wanted = test_captures.wanted_of("vp8", packets, there)
+        given, path = f"{folder}/given.pcap", f"{folder}/frames.ivf"
+        capture.write(given, come)
+        for language in ("C", "Rust"):
+            ran = subprocess.run([programs["recorder", language], given, PORT, PAYLOAD_TYPE, path], capture_output=True, text=True,
+                                 check=False)
+            found = [] if ran.returncode else frames_in(path)
+            if found != wanted or ran.stdout != f"{len(wanted)} frames\n":
+                yield (f"the recorder in {language}, {condition.__name__}: {len(wanted)} frames are wanted, and it wrote "
+                       f"{len(found)}: {ran.stdout}{ran.stderr}")
+
+
+def main():
+    if not os.path.exists(f"{OUT}/libcodec_payload.a"):
+        subprocess.run([f"{ROOT}/scripts/faces.sh", "library"], check=True, stdout=subprocess.DEVNULL)
+    with tempfile.TemporaryDirectory() as folder:
+        programs = built(folder)
+        wrong = [*gateways(programs), *recorders(programs, folder)]
+    print("\n".join([*wrong, f"examples: the gateways, and the recorders under {len(conditions.ALL)} conditions, in C and Rust: "
+                     f"{f'{len(wrong)} faults' if wrong else 'all passed'}"]))
+    return 1 if wrong else 0
+
+
+if __name__ == "__main__":
+    sys.exit(main())
