@@ -10,6 +10,7 @@ ghost use Rattle.codec_payload_stream.specs.declared.receiver.ReceiveError.TheVa
 ghost use Rattle.codec_payload_core.specs.Schedule.{Answer};
 ghost use Rattle.codec_payload_stream.specs.Kinds.{datagram_at};
 ghost use Rattle.codec_payload_stream.specs.Sessions.{Heard};
+ghost use Rattle.codec_payload_wire.specs.Releases.{ReleaseOverDatagrams};
 ghost use Rattle.codec_payload_wire.specs.WireRuns.{DoesStep, PopsUnit, Runs, SendsIt, SendsOrRefuses, begins, bytes_in, sent_sample, wire_of};
 ghost use Rattle.codec_payload_wire.specs.declared.run.SentSample.{SentSample as Entry};
 
@@ -214,3 +215,10 @@ fn pop_at<D: Depacketizer>(
         answer => Ok(answer),
     }
 }
+
+/// Whatever of the datagrams of a run is lost, repeated or comes in another order: where it comes within the windows of the
+/// receiver's numbers, the units are those of the samples, in order, each at most once and whole; and where all comes before the
+/// stream ends, and pops come after that, all of them.
+pub fn release_over_datagrams()
+    ensures { ReleaseOverDatagrams }
+{}

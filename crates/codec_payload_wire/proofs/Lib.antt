@@ -1,0 +1,6 @@
+pub mod EventLemmas
+pub mod ReadingLemmas
+pub mod ReceivingLemmas
+pub mod ReleaseLemmas
+pub mod SendingLemmas
+pub mod StepLemmas

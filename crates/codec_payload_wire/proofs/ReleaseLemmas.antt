@@ -1,0 +1,192 @@
+-- What a run over datagrams releases: what it sends, what comes of it, and the law of the buffer, put together.
+use Rattle.std.proofs.Common.{◌≡◌, ◌∙◌, refl, sym, ap, subst, ℕ, ◌+◌, ◌-◌, ◌*◌, ◌/◌, ◌%◌, ◌^◌, ◌<◌, List, [], ◌∷◌, map, true, false, Some, length, arith}
+use Rattle.std.proofs.lemmas.Option.{same_Some}
+use Rattle.codec_payload_buffer.proofs.MemberLemmas.{contains_in, in_contains}
+use Rattle.codec_payload_buffer.specs.ContiguityTable.{contiguity_for}
+use Rattle.codec_payload_buffer.specs.Depack.{is_codec, kind_of_depack}
+use Rattle.codec_payload_buffer.specs.Pack.{Pack, G711Pack, G722Pack, OpusPack, ComfortNoisePack, TelePack, Vp8Pack, Vp9Pack, Av1Pack, AmrWbPack, NullPack, BoxedPack, is_built_in}
+use Rattle.codec_payload_buffer.specs.declared.buffer.unit.RtpMeta.{RtpMeta}
+use Rattle.codec_payload_core.proofs.ArrivalLemmas.{release_in_order}
+use Rattle.codec_payload_core.specs.Arrivals.{AllArriveFirst, Arrives, Meets, ReleasesArrivals, Tells}
+use Rattle.codec_payload_core.specs.Arrivals as core
+use Rattle.codec_payload_core.specs.Headline.{IsUnused}
+use Rattle.codec_payload_core.specs.Packets.{Packet}
+use Rattle.codec_payload_core.specs.Schedule.{Answer, RunState}
+use Rattle.codec_payload_core.specs.Sending.{Sample}
+use Rattle.codec_payload_core.specs.ToldIds.{read_by}
+use Rattle.codec_payload_core.specs.Units.{payloads_by, may_split}
+use Rattle.codec_payload_jitter.proofs.NumbersLemmas.{are_true_numbers, none_restarts}
+use Rattle.codec_payload_jitter.specs.Numbers.{GoOn, IsNumbering, Numbering, answer_for, numbering_after, is_restart, low_bits, moved, no_numbers, number_for, number_in, numbers_for}
+use Rattle.codec_payload_jitter.specs.Receiving.{Receiving}
+use Rattle.codec_payload_jitter.specs.declared.numbers.Extended.{Extended}
+use Rattle.codec_payload_jitter.specs.declared.numbers.Extended.TheVariants as extended
+use Rattle.codec_payload_sender.specs.Senders.{Sending}
+use Rattle.codec_payload_stream.specs.Sessions.{Session}
+use Rattle.codec_payload_wire.proofs.EventLemmas.{Brings, IsMet, all_told, delivery_of, met, order_told, split_at_end}
+use Rattle.codec_payload_wire.proofs.ReceivingLemmas.{AllNumbered, IsListening}
+use Rattle.codec_payload_wire.proofs.SendingLemmas.{SendsRun, running, same_count, sends_run}
+use Rattle.codec_payload_wire.proofs.StepLemmas.{ComesTo, Takes, comes_to}
+use Rattle.codec_payload_wire.specs.Releases.{AllComeFirst, AreDatagrams, AreNear, IsDelivery, IsWithinWindows, ReleaseOverDatagrams, ReleasesUnits, delivered, received_steps, sending_steps}
+use Rattle.codec_payload_wire.specs.WireRuns.{Runs, Wire, begins}
+use Rattle.codec_payload_wire.specs.declared.run.DatagramStep.{DatagramStep}
+use Rattle.codec_payload_wire.specs.declared.run.DatagramStep.TheVariants as steps
+use Rattle.codec_payload_wire.specs.declared.run.SentSample.{SentSample}
+
+-- Numbers
+
+number_is : (e : Extended) (n : ℕ) → number_in e ≡ Some n → is_restart e ≡ false → e ≡ extended.Number n
+number_is (extended.Number m) n is on = ap (λ (x : ℕ). extended.Number x) (same_Some m n is)
+number_is (extended.Restarted m) n is on = absurd (cc)
+number_is extended.Suspect n is on = absurd (cc)
+number_is extended.Spent n is on = absurd (cc)
+
+-- the true numbers of the datagrams of these indices, where that of the first that was sent is `number`
+abbrev trues : ℕ → List ℕ → List ℕ
+trues number ks = map (λ (j : ℕ). number + j) ks
+
+-- what is the number of the first that was sent, where these are the true numbers but for one constant
+all_numbered : (number first reach : ℕ) (s : Numbering) (ks : List ℕ) → first + 65536 * (reach / 65536) ≡ number + 65536 → numbers_for s (map low_bits (trues number ks)) ≡ map (moved reach) (trues number ks)
+    → GoOn s (map low_bits (trues number ks)) → AllNumbered first s ks
+all_numbered number first reach s [] is numbers on = tt
+all_numbered number first reach s (k ∷ ks) is numbers on =
+    let low : ℕ = (number + k) % 65536 in
+    let head : number_for s low ≡ Some (number + k + 65536 - 65536 * (reach / 65536)) = cc in
+    let rest : numbers_for (numbering_after s low) (map low_bits (trues number ks)) ≡ map (moved reach) (trues number ks) = cc in
+    let same_low : low ≡ (first + k) % 2 ^ 16 = omega (arith, is) in
+    let same : number + k + 65536 - 65536 * (reach / 65536) ≡ first + k = omega (arith, is) in
+    let answer : answer_for s low ≡ extended.Number (first + k) = number_is (answer_for s low) _ head on.0 ∙ ap (λ (x : ℕ). extended.Number x) same in
+    subst (λ (n : ℕ). (answer_for s n ≡ extended.Number (first + k)) × AllNumbered first (numbering_after s n) ks) same_low
+    (answer, all_numbered number first reach (numbering_after s low) ks is rest on.1)
+
+-- the number of the first datagram that was sent, as the receiver extends those of these indices
+abbrev first_for : ℕ → List ℕ → ℕ
+first_for number [] = number % 65536
+first_for number (k ∷ ks) = number + 65536 - 65536 * ((number + k) / 65536)
+
+first_small : (forward backward number : ℕ) (ks : List ℕ) → AreNear forward backward number ks → first_for number ks < 2 ^ 32
+first_small forward backward number [] near = omega arith
+first_small forward backward number (k ∷ ks) near = omega (arith, near.0)
+
+first_low : (forward backward number : ℕ) (ks : List ℕ) → AreNear forward backward number ks → number % 2 ^ 16 ≡ (first_for number ks + 0) % 2 ^ 16
+first_low forward backward number [] near = omega arith
+first_low forward backward number (k ∷ ks) near = omega (arith, near.0)
+
+numbered_near : (forward backward number : ℕ) (ks : List ℕ) → IsNumbering (no_numbers forward backward) → AreNear forward backward number ks → AllNumbered (first_for number ks) (no_numbers forward backward) ks
+numbered_near forward backward number [] windows near = tt
+numbered_near forward backward number (k ∷ ks) windows near =
+    let fits : number + k + 65536 < 2 ^ 64 = omega (arith, near.0) in
+    all_numbered number (first_for number (k ∷ ks)) (number + k) (no_numbers forward backward) (k ∷ ks) (omega (arith, near.0))
+    (are_true_numbers forward backward windows (number + k) (trues number ks) fits near.1) (none_restarts forward backward windows (number + k) (trues number ks) fits near.1)
+
+-- a depacketizer of what a packetizer of a codec makes is one of a codec
+of_codec : (p : Pack) → is_built_in p ≡ true → is_codec (payloads_by p) ≡ true
+of_codec G711Pack built_in = refl
+of_codec G722Pack built_in = refl
+of_codec OpusPack built_in = refl
+of_codec NullPack built_in = refl
+of_codec (Vp8Pack id) built_in = refl
+of_codec (Vp9Pack sender) built_in = refl
+of_codec ComfortNoisePack built_in = refl
+of_codec TelePack built_in = refl
+of_codec Av1Pack built_in = refl
+of_codec (AmrWbPack octet) built_in = refl
+of_codec BoxedPack built_in = absurd (cc)
+
+-- The theorem
+
+module _ (samples : List Sample) (all_steps : List DatagramStep) (sender : Sending) (receiver : Session) (t : Wire) (run : Runs samples all_steps (begins sender receiver) t)
+    (within : IsWithinWindows samples all_steps sender receiver t.sends) where
+  abbrev received : List DatagramStep
+  received = received_steps samples 0 all_steps t.sends
+
+  abbrev rate : ℕ
+  rate = sender.stream.clock_rate
+
+  abbrev first : ℕ
+  first = first_for sender.stream.number (delivered received)
+
+  comes : ComesTo samples all_steps (begins sender receiver) t
+  comes = comes_to samples all_steps (begins sender receiver) t run
+
+  takes : Takes received t.datagrams receiver t.pops t.session
+  takes = subst (λ (answers : List Answer). Takes received t.datagrams receiver answers t.session) (sym comes.pops)
+      (subst (λ (sends : List SentSample). Takes (received_steps samples 0 all_steps sends) t.datagrams receiver comes.answers t.session) (sym comes.sends) comes.takes)
+
+  listening : IsListening sender.stream receiver
+  listening = record {
+    payload_type = within.one_stream.payload_type;
+    ssrc = within.one_stream.ssrc;
+    not_again = within.one_stream.not_again;
+    rate = within.one_stream.clock_rate;
+    running = ap (λ (x : Receiving). x.anew) within.nothing_came.packets;
+    no_blanks = ap (λ (x : Receiving). x.blanks) within.nothing_came.packets;
+    of_codec = ap is_codec within.one_stream.alike ∙ of_codec sender.pack within.one_stream.built_in;
+  }
+
+  numbers : AllNumbered first receiver.packets.numbering (delivered received)
+  numbers = subst (λ (n : Numbering). AllNumbered first n (delivered received)) (sym (ap (λ (x : Receiving). x.numbering) within.nothing_came.packets))
+      (numbered_near within.nothing_came.forward within.nothing_came.backward sender.stream.number (delivered received) within.nothing_came.windows within.near)
+
+  sent : SendsRun receiver.packets.buffer sender.stream sender.mtu first 0 samples all_steps (begins sender receiver) t []
+  sent = sends_run receiver.packets.buffer sender.stream sender.mtu first (first_small within.nothing_came.forward within.nothing_came.backward sender.stream.number (delivered received) within.near) samples 0 all_steps (begins sender receiver) t []
+      (record {
+        mtu = refl;
+        built_in = within.one_stream.built_in;
+        kept = refl;
+        number = first_low within.nothing_came.forward within.nothing_came.backward sender.stream.number (delivered received) within.near;
+        reads = tt;
+        numbered = tt;
+        few = omega arith;
+      }) run
+
+  come : IsMet rate sent.all received receiver t.pops t.session
+  come = met sender.stream within.one_stream.not_rtcp first sent.all t.datagrams sent.at.reads sent.at.numbered received receiver t.session t.pops listening numbers takes
+
+  abbrev start : RunState
+  start = running receiver.packets.buffer first rate sender []
+
+  unused : IsUnused start
+  unused = record {
+    built_in = within.one_stream.built_in;
+    nothing_sent = refl;
+    nothing_held = ap (λ (x : Receiving). x.buffer.held) within.nothing_came.packets;
+    no_cutoff = ap (λ (x : Receiving). x.buffer.cutoff) within.nothing_came.packets;
+    no_mark = ap (λ (x : Receiving). x.buffer.mark) within.nothing_came.packets;
+    alike = within.one_stream.alike;
+    nothing_read = ap (λ (x : Receiving). read_by x.buffer.depack) within.nothing_came.packets ∙ within.nothing_came.nothing_read;
+    nothing_kept = ap (λ (x : Receiving). x.buffer.contiguity) within.nothing_came.packets ∙ sym (ap (λ (x : Receiving). contiguity_for (kind_of_depack x.buffer.depack)) within.nothing_came.packets);
+  }
+
+  releases : ReleasesArrivals samples (sending_steps sender.mtu all_steps) start (running receiver.packets.buffer first rate t.sending sent.all) come.events t.pops
+  releases = release_in_order samples (sending_steps sender.mtu all_steps) start (running receiver.packets.buffer first rate t.sending sent.all) sent.entries [] sent.runs unused within.readable
+      come.events t.pops t.session.packets.buffer come.meets
+
+  told : (k : ℕ) (q : Packet) (m : RtpMeta) → core.IsMet rate come.events k q m → IsDelivery rate received k q m
+  told k q m known = (contains_in (steps.Deliver k m.received) received (delivery_of receiver.packets.ended received come.events k m come.brings (in_contains (Arrives k m) come.events known.0)), known.1)
+
+  all_come : AllComeFirst receiver.packets.buffer.limit (length t.datagrams) received → AllArriveFirst receiver.packets.buffer.limit sent.all come.events
+  all_come come_first =
+      let split = split_at_end receiver.packets.ended come_first.before come_first.after come.events come_first.no_pops (subst (λ (es : List DatagramStep). Brings receiver.packets.ended es come.events) come_first.whole come.brings) in
+      let count : length sent.all ≡ length t.datagrams = same_count sender.stream sent.all t.datagrams sent.at.reads in
+      record {
+        few = omega (arith, come_first.few, count);
+        before = split.first;
+        after = split.rest;
+        whole = split.whole;
+        no_pops = split.only;
+        each = λ k l. split.has k (in_contains k (delivered come_first.before) (come_first.each k (omega (arith, l, count))));
+        made = split.made;
+      }
+
+  releases_units : ReleasesUnits samples all_steps (begins sender receiver) t
+  releases_units = record {
+    units = releases.units;
+    canonical = releases.canonical;
+    datagrams = subst (λ (ps : List Packet). AreDatagrams sender.stream ps t.datagrams) (sym releases.packets) sent.at.reads;
+    ends = releases.ends;
+    in_order = order_told (core.IsMet rate come.events) (IsDelivery rate received) told (may_split sender.pack) releases.units 0 t.pops releases.in_order;
+    exactly = λ come_first. all_told (core.IsMet rate come.events) (IsDelivery rate received) told 0 releases.units t.pops (releases.exactly (all_come come_first));
+  }
+
+pub release_over_datagrams : ReleaseOverDatagrams
+release_over_datagrams samples all_steps sender receiver t run within = releases_units samples all_steps sender receiver t run within
