@@ -1,4 +1,5 @@
 pub mod EventLemmas
+pub mod NewReceivers
 pub mod ReadingLemmas
 pub mod ReceivingLemmas
 pub mod ReleaseLemmas

@@ -36,7 +36,7 @@ header_types (f ∷ s ∷ s1 ∷ s0 ∷ t3 ∷ t2 ∷ t1 ∷ t0 ∷ c3 ∷ c2 �
     let b = bind_ok (extension_at extended a.0.1) (λ extension. Ok (record { marker = eqb (s / 128) 1; payload_type = s % 128; sequence_number = sequence; timestamp = time; ssrc = ssrc; csrcs = a.0.0; extension = extension.0 }, padded, extension.1)) x a.2 in
     let h : Header = record { marker = eqb (s / 128) 1; payload_type = s % 128; sequence_number = sequence; timestamp = time; ssrc = ssrc; csrcs = a.0.0; extension = b.0.0 } in
     let both = and_parts (leb 192 s) (leb s 223) rtcp in
-    subst (λ (y : Header × Bool × List ℕ). Types y.0.payload_type) (ok_is (h, padded, b.0.1) x b.2)
+    subst (λ (y : Header × Bool × List ℕ). Types y.0.payload_type) {x = (h, padded, b.0.1)} (ok_is (h, padded, b.0.1) x b.2)
     (omega (arith, leb-true 192 s both.0, leb-true s 223 both.1), omega (arith, leb-true 192 s both.0, leb-true s 223 both.1))
 header_types bytes x e rtcp = cc
 

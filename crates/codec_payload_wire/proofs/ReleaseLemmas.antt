@@ -3,7 +3,7 @@ use Rattle.std.proofs.Common.{◌≡◌, ◌∙◌, refl, sym, ap, subst, ℕ, �
 use Rattle.std.proofs.lemmas.Option.{same_Some}
 use Rattle.codec_payload_buffer.proofs.MemberLemmas.{contains_in, in_contains}
 use Rattle.codec_payload_buffer.specs.ContiguityTable.{contiguity_for}
-use Rattle.codec_payload_buffer.specs.Depack.{is_codec, kind_of_depack}
+use Rattle.codec_payload_buffer.specs.Depack.{is_built_in_depack, is_codec, kind_of_depack}
 use Rattle.codec_payload_buffer.specs.Pack.{Pack, G711Pack, G722Pack, OpusPack, ComfortNoisePack, TelePack, Vp8Pack, Vp9Pack, Av1Pack, AmrWbPack, NullPack, BoxedPack, is_built_in}
 use Rattle.codec_payload_buffer.specs.declared.buffer.unit.RtpMeta.{RtpMeta}
 use Rattle.codec_payload_core.proofs.ArrivalLemmas.{release_in_order}
@@ -17,16 +17,17 @@ use Rattle.codec_payload_core.specs.ToldIds.{read_by}
 use Rattle.codec_payload_core.specs.Units.{payloads_by, may_split}
 use Rattle.codec_payload_jitter.proofs.NumbersLemmas.{are_true_numbers, none_restarts}
 use Rattle.codec_payload_jitter.specs.Numbers.{GoOn, IsNumbering, Numbering, answer_for, numbering_after, is_restart, low_bits, moved, no_numbers, number_for, number_in, numbers_for}
-use Rattle.codec_payload_jitter.specs.Receiving.{Receiving}
 use Rattle.codec_payload_jitter.specs.declared.numbers.Extended.{Extended}
 use Rattle.codec_payload_jitter.specs.declared.numbers.Extended.TheVariants as extended
 use Rattle.codec_payload_sender.specs.Senders.{Sending}
+use Rattle.codec_payload_stream.specs.Kinds.{is_other}
 use Rattle.codec_payload_stream.specs.Sessions.{Session}
 use Rattle.codec_payload_wire.proofs.EventLemmas.{Brings, IsMet, all_told, delivery_of, met, order_told, split_at_end}
+use Rattle.codec_payload_wire.proofs.NewReceivers.{IsBegun, new_is_begun}
 use Rattle.codec_payload_wire.proofs.ReceivingLemmas.{AllNumbered, IsListening}
 use Rattle.codec_payload_wire.proofs.SendingLemmas.{SendsRun, running, same_count, sends_run}
 use Rattle.codec_payload_wire.proofs.StepLemmas.{ComesTo, Takes, comes_to}
-use Rattle.codec_payload_wire.specs.Releases.{AllComeFirst, AreDatagrams, AreNear, IsDelivery, IsWithinWindows, ReleaseOverDatagrams, ReleasesUnits, delivered, received_steps, sending_steps}
+use Rattle.codec_payload_wire.specs.Releases.{is_sent_again_by, AllComeFirst, AreDatagrams, ComeNear, IsDelivery, IsWithinWindows, ReleaseOverDatagrams, ReleasesUnits, delivered, received_steps, sending_steps}
 use Rattle.codec_payload_wire.specs.WireRuns.{Runs, Wire, begins}
 use Rattle.codec_payload_wire.specs.declared.run.DatagramStep.{DatagramStep}
 use Rattle.codec_payload_wire.specs.declared.run.DatagramStep.TheVariants as steps
@@ -63,15 +64,15 @@ abbrev first_for : ℕ → List ℕ → ℕ
 first_for number [] = number % 65536
 first_for number (k ∷ ks) = number + 65536 - 65536 * ((number + k) / 65536)
 
-first_small : (forward backward number : ℕ) (ks : List ℕ) → AreNear forward backward number ks → first_for number ks < 2 ^ 32
+first_small : (forward backward number : ℕ) (ks : List ℕ) → ComeNear forward backward number ks → first_for number ks < 2 ^ 32
 first_small forward backward number [] near = omega arith
 first_small forward backward number (k ∷ ks) near = omega (arith, near.0)
 
-first_low : (forward backward number : ℕ) (ks : List ℕ) → AreNear forward backward number ks → number % 2 ^ 16 ≡ (first_for number ks + 0) % 2 ^ 16
+first_low : (forward backward number : ℕ) (ks : List ℕ) → ComeNear forward backward number ks → number % 2 ^ 16 ≡ (first_for number ks + 0) % 2 ^ 16
 first_low forward backward number [] near = omega arith
 first_low forward backward number (k ∷ ks) near = omega (arith, near.0)
 
-numbered_near : (forward backward number : ℕ) (ks : List ℕ) → IsNumbering (no_numbers forward backward) → AreNear forward backward number ks → AllNumbered (first_for number ks) (no_numbers forward backward) ks
+numbered_near : (forward backward number : ℕ) (ks : List ℕ) → IsNumbering (no_numbers forward backward) → ComeNear forward backward number ks → AllNumbered (first_for number ks) (no_numbers forward backward) ks
 numbered_near forward backward number [] windows near = tt
 numbered_near forward backward number (k ∷ ks) windows near =
     let fits : number + k + 65536 < 2 ^ 64 = omega (arith, near.0) in
@@ -112,28 +113,37 @@ module _ (samples : List Sample) (all_steps : List DatagramStep) (sender : Sendi
   takes = subst (λ (answers : List Answer). Takes received t.datagrams receiver answers t.session) (sym comes.pops)
       (subst (λ (sends : List SentSample). Takes (received_steps samples 0 all_steps sends) t.datagrams receiver comes.answers t.session) (sym comes.sends) comes.takes)
 
+  abbrev forward : ℕ
+  forward = within.settings.forward
+
+  abbrev backward : ℕ
+  backward = within.settings.backward
+
+  begun : IsBegun within.settings within.depack receiver
+  begun = new_is_begun within.settings within.depack receiver within.new
+
   listening : IsListening sender.stream receiver
   listening = record {
-    payload_type = within.one_stream.payload_type;
-    ssrc = within.one_stream.ssrc;
-    not_again = within.one_stream.not_again;
-    rate = within.one_stream.clock_rate;
-    running = ap (λ (x : Receiving). x.anew) within.nothing_came.packets;
-    no_blanks = ap (λ (x : Receiving). x.blanks) within.nothing_came.packets;
-    of_codec = ap is_codec within.one_stream.alike ∙ of_codec sender.pack within.one_stream.built_in;
+    payload_type = ap (λ (x : Session). x.stream.payload_type) begun.is ∙ within.one_stream.payload_type;
+    ssrc = ap (λ (x : Session). is_other x.ssrc sender.stream.ssrc) begun.is ∙ within.one_stream.ssrc;
+    not_again = ap (λ (x : Session). is_sent_again_by x.stream.retransmission sender.stream) begun.is ∙ within.one_stream.not_again;
+    rate = ap (λ (x : Session). x.packets.rate) begun.is ∙ within.one_stream.clock_rate;
+    running = ap (λ (x : Session). x.packets.anew) begun.is;
+    no_blanks = ap (λ (x : Session). x.packets.blanks) begun.is;
+    of_codec = ap (λ (x : Session). is_built_in_depack x.packets.buffer.depack) begun.is ∙ (ap is_codec within.one_stream.alike ∙ of_codec sender.pack within.one_stream.built_in);
   }
 
   numbers : AllNumbered first receiver.packets.numbering (delivered received)
-  numbers = subst (λ (n : Numbering). AllNumbered first n (delivered received)) (sym (ap (λ (x : Receiving). x.numbering) within.nothing_came.packets))
-      (numbered_near within.nothing_came.forward within.nothing_came.backward sender.stream.number (delivered received) within.nothing_came.windows within.near)
+  numbers = subst (λ (n : Numbering). AllNumbered first n (delivered received)) (sym (ap (λ (x : Session). x.packets.numbering) begun.is))
+      (numbered_near forward backward sender.stream.number (delivered received) begun.windows within.near)
 
   sent : SendsRun receiver.packets.buffer sender.stream sender.mtu first 0 samples all_steps (begins sender receiver) t []
-  sent = sends_run receiver.packets.buffer sender.stream sender.mtu first (first_small within.nothing_came.forward within.nothing_came.backward sender.stream.number (delivered received) within.near) samples 0 all_steps (begins sender receiver) t []
+  sent = sends_run receiver.packets.buffer sender.stream sender.mtu first (first_small forward backward sender.stream.number (delivered received) within.near) samples 0 all_steps (begins sender receiver) t []
       (record {
         mtu = refl;
         built_in = within.one_stream.built_in;
         kept = refl;
-        number = first_low within.nothing_came.forward within.nothing_came.backward sender.stream.number (delivered received) within.near;
+        number = first_low forward backward sender.stream.number (delivered received) within.near;
         reads = tt;
         numbered = tt;
         few = omega arith;
@@ -149,12 +159,12 @@ module _ (samples : List Sample) (all_steps : List DatagramStep) (sender : Sendi
   unused = record {
     built_in = within.one_stream.built_in;
     nothing_sent = refl;
-    nothing_held = ap (λ (x : Receiving). x.buffer.held) within.nothing_came.packets;
-    no_cutoff = ap (λ (x : Receiving). x.buffer.cutoff) within.nothing_came.packets;
-    no_mark = ap (λ (x : Receiving). x.buffer.mark) within.nothing_came.packets;
-    alike = within.one_stream.alike;
-    nothing_read = ap (λ (x : Receiving). read_by x.buffer.depack) within.nothing_came.packets ∙ within.nothing_came.nothing_read;
-    nothing_kept = ap (λ (x : Receiving). x.buffer.contiguity) within.nothing_came.packets ∙ sym (ap (λ (x : Receiving). contiguity_for (kind_of_depack x.buffer.depack)) within.nothing_came.packets);
+    nothing_held = ap (λ (x : Session). x.packets.buffer.held) begun.is;
+    no_cutoff = ap (λ (x : Session). x.packets.buffer.cutoff) begun.is;
+    no_mark = ap (λ (x : Session). x.packets.buffer.mark) begun.is;
+    alike = ap (λ (x : Session). kind_of_depack x.packets.buffer.depack) begun.is ∙ within.one_stream.alike;
+    nothing_read = ap (λ (x : Session). read_by x.packets.buffer.depack) begun.is ∙ within.one_stream.nothing_read;
+    nothing_kept = ap (λ (x : Session). x.packets.buffer.contiguity) begun.is ∙ sym (ap (λ (x : Session). contiguity_for (kind_of_depack x.packets.buffer.depack)) begun.is);
   }
 
   releases : ReleasesArrivals samples (sending_steps sender.mtu all_steps) start (running receiver.packets.buffer first rate t.sending sent.all) come.events t.pops

@@ -2,7 +2,6 @@
 use Rattle.std.specs.Prelude.{◌≡◌, ℕ, ◌+◌, ◌%◌, ◌^◌, ◌<◌, ◌≤◌, ◌⊎◌, ◌==◌, ◌&&◌, nat_lt, if◌then◌else◌, Bool, true, false, List, [], ◌∷◌, ◌++◌, Option, Some, None, Ok, Contains, length, map, slice_get}
 use Rattle.codec_payload_buffer.specs.Depack.{Depack, kind_of_depack}
 use Rattle.codec_payload_buffer.specs.Pack.{is_built_in}
-use Rattle.codec_payload_buffer.specs.Steps.{empty_buffer}
 use Rattle.codec_payload_buffer.specs.declared.buffer.unit.RtpMeta.{RtpMeta}
 use Rattle.codec_payload_core.specs.Arrivals.{Tells}
 use Rattle.codec_payload_core.specs.Exact.{AnswersAll}
@@ -14,16 +13,15 @@ use Rattle.codec_payload_core.specs.ToldIds.{read_by}
 use Rattle.codec_payload_core.specs.Units.{payloads_by, may_split}
 use Rattle.codec_payload_core.specs.declared.schedule.Step.{Step}
 use Rattle.codec_payload_core.specs.declared.schedule.Step.TheVariants as run_steps
-use Rattle.codec_payload_jitter.specs.Numbers.{IsNumbering, StayNear, no_numbers}
-use Rattle.codec_payload_jitter.specs.Receiving.{no_packets}
-use Rattle.codec_payload_jitter.specs.declared.jitter.Patience.{Patience}
+use Rattle.codec_payload_jitter.specs.Numbers.{StayNear}
 use Rattle.codec_payload_rtp.specs.RtpReading.{rtp_at}
 use Rattle.codec_payload_sender.specs.Datagrams.{header_with}
 use Rattle.codec_payload_sender.specs.Senders.{Sending}
 use Rattle.codec_payload_sender.specs.declared.sender.Stream.{Stream}
 use Rattle.codec_payload_stream.specs.Kinds.{is_other}
-use Rattle.codec_payload_stream.specs.Sessions.{Session}
+use Rattle.codec_payload_stream.specs.Sessions.{Session, session_by}
 use Rattle.codec_payload_stream.specs.declared.receiver.Retransmission.{Retransmission}
+use Rattle.codec_payload_stream.specs.declared.receiver.Settings.{Settings}
 use Rattle.codec_payload_wire.specs.WireRuns.{Runs, Wire, begins}
 use Rattle.codec_payload_wire.specs.declared.run.DatagramStep.{DatagramStep}
 use Rattle.codec_payload_wire.specs.declared.run.DatagramStep.TheVariants as steps
@@ -93,42 +91,33 @@ abbrev pub is_sent_again_by : Option Retransmission → Stream → Bool
 is_sent_again_by None stream = false
 is_sent_again_by (Some r) stream = (r.ssrc == stream.ssrc) && (r.payload_type == stream.payload_type)
 
--- a sender of a codec, and a receiver of its stream: it reads what the packetizer makes, and takes the sender's packets for neither
--- RTCP (RFC 5761, section 4) nor another stream, nor for packets that are sent again
-pub record AreOfOneStream (sender : Sending) (receiver : Session) : Type 0 where
+-- a sender of a codec, and the settings and the depacketizer of a receiver of its stream: this reads what the packetizer makes, and
+-- takes the sender's packets for neither RTCP (RFC 5761, section 4) nor another stream, nor for packets that are sent again
+pub record AreOfOneStream (sender : Sending) (settings : Settings) (depack : Depack) : Type 0 where
   pub built_in : is_built_in sender.pack ≡ true
-  pub alike : kind_of_depack receiver.packets.buffer.depack ≡ payloads_by sender.pack
-  pub clock_rate : receiver.packets.rate ≡ sender.stream.clock_rate
-  pub payload_type : receiver.stream.payload_type ≡ sender.stream.payload_type
-  pub not_rtcp : (sender.stream.payload_type < 64) ⊎ (95 < sender.stream.payload_type)
-  pub ssrc : is_other receiver.ssrc sender.stream.ssrc ≡ false
-  pub not_again : is_sent_again_by receiver.stream.retransmission sender.stream ≡ false
-
--- to the receiver nothing came so far
-pub record NothingCame (receiver : Session) : Type 0 where
-  pub forward : ℕ
-  pub backward : ℕ
-  pub windows : IsNumbering (no_numbers forward backward)
-  pub depack : Depack
-  pub hold_back : ℕ
-  pub limit : ℕ
-  pub patience : Patience
-  pub rate : ℕ
-  pub packets : receiver.packets ≡ no_packets (no_numbers forward backward) (empty_buffer hold_back limit depack) rate patience
+  pub alike : kind_of_depack depack ≡ payloads_by sender.pack
   pub nothing_read : read_by depack ≡ None
+  pub clock_rate : settings.clock_rate ≡ sender.stream.clock_rate
+  pub payload_type : settings.payload_type ≡ sender.stream.payload_type
+  pub not_rtcp : (sender.stream.payload_type < 64) ⊎ (95 < sender.stream.payload_type)
+  pub ssrc : is_other settings.ssrc sender.stream.ssrc ≡ false
+  pub not_again : is_sent_again_by settings.retransmission sender.stream ≡ false
 
--- the datagrams of these indices come within the windows: the number of each lies within those of the greatest before it. The number
--- of the first that was sent is `number`, and the first that comes is one of the first 65,536, or less than twice as many
-abbrev pub AreNear : ℕ → ℕ → ℕ → List ℕ → Type 0
-AreNear forward backward number [] = Unit {0}
-AreNear forward backward number (k ∷ ks) = (number + k < 131072) × StayNear forward backward (number + k) (map (λ (j : ℕ). number + j) ks)
+-- the datagrams of these indices come within the windows: the number of each lies within those of the greatest before it. The next
+-- number of the sender was `number`, and that of the first that comes is less than 131,072, as it is of each of the first 65,536
+abbrev pub ComeNear : ℕ → ℕ → ℕ → List ℕ → Type 0
+ComeNear forward backward number [] = Unit {0}
+ComeNear forward backward number (k ∷ ks) = (number + k < 131072) × StayNear forward backward (number + k) (map (λ (j : ℕ). number + j) ks)
 
--- the samples can be read again, and all that comes lies within the windows
+-- the receiver is as `Receiver::new` makes it, for the stream of the sender; the samples can be read again; and all that is delivered
+-- comes within the windows
 pub record IsWithinWindows (samples : List Sample) (all_steps : List DatagramStep) (sender : Sending) (receiver : Session) (sends : List SentSample) : Type 0 where
-  pub one_stream : AreOfOneStream sender receiver
-  pub nothing_came : NothingCame receiver
+  pub settings : Settings
+  pub depack : Depack
+  pub new : session_by settings depack ≡ Ok receiver
+  pub one_stream : AreOfOneStream sender settings depack
   pub readable : AreReadable sender.pack samples
-  pub near : AreNear nothing_came.forward nothing_came.backward sender.stream.number (delivered (received_steps samples 0 all_steps sends))
+  pub near : ComeNear settings.forward settings.backward sender.stream.number (delivered (received_steps samples 0 all_steps sends))
 
 -- Promises
 
