@@ -1,6 +1,6 @@
 -- What a run over datagrams releases: what it sends, what comes of it, and the law of the buffer, put together.
-use Rattle.std.proofs.Common.{◌≡◌, ◌∙◌, refl, sym, ap, subst, ℕ, ◌+◌, ◌-◌, ◌*◌, ◌/◌, ◌%◌, ◌^◌, ◌<◌, List, [], ◌∷◌, map, true, false, Some, length, arith}
-use Rattle.std.proofs.lemmas.Option.{same_Some}
+use Rattle.std.proofs.Common.{◌≡◌, ◌∙◌, refl, sym, ap, subst, ℕ, ◌+◌, ◌-◌, ◌*◌, ◌/◌, ◌%◌, ◌^◌, ◌<◌, max, List, [], ◌∷◌, map, true, false, Some, length, arith}
+use Rattle.std.proofs.lemmas.Option.{same_Some, slice_get_within}
 use Rattle.codec_payload_buffer.proofs.MemberLemmas.{contains_in, in_contains}
 use Rattle.codec_payload_buffer.specs.ContiguityTable.{contiguity_for}
 use Rattle.codec_payload_buffer.specs.Depack.{is_built_in_depack, is_codec, kind_of_depack}
@@ -16,7 +16,7 @@ use Rattle.codec_payload_core.specs.Sending.{Sample}
 use Rattle.codec_payload_core.specs.ToldIds.{read_by}
 use Rattle.codec_payload_core.specs.Units.{payloads_by, may_split}
 use Rattle.codec_payload_jitter.proofs.NumbersLemmas.{are_true_numbers, none_restarts}
-use Rattle.codec_payload_jitter.specs.Numbers.{GoOn, IsNumbering, Numbering, answer_for, numbering_after, is_restart, low_bits, moved, no_numbers, number_for, number_in, numbers_for}
+use Rattle.codec_payload_jitter.specs.Numbers.{StayNear, GoOn, IsNumbering, Numbering, answer_for, numbering_after, is_restart, low_bits, moved, no_numbers, number_for, number_in, numbers_for}
 use Rattle.codec_payload_jitter.specs.declared.numbers.Extended.{Extended}
 use Rattle.codec_payload_jitter.specs.declared.numbers.Extended.TheVariants as extended
 use Rattle.codec_payload_sender.specs.Senders.{Sending}
@@ -27,8 +27,8 @@ use Rattle.codec_payload_wire.proofs.NewReceivers.{IsBegun, new_is_begun}
 use Rattle.codec_payload_wire.proofs.ReceivingLemmas.{AllNumbered, IsListening}
 use Rattle.codec_payload_wire.proofs.SendingLemmas.{SendsRun, running, same_count, sends_run}
 use Rattle.codec_payload_wire.proofs.StepLemmas.{ComesTo, Takes, comes_to}
-use Rattle.codec_payload_wire.specs.Releases.{is_sent_again_by, AllComeFirst, AreDatagrams, ComeNear, IsDelivery, IsWithinWindows, ReleaseOverDatagrams, ReleasesUnits, delivered, received_steps, sending_steps}
-use Rattle.codec_payload_wire.specs.WireRuns.{Runs, Wire, begins}
+use Rattle.codec_payload_wire.specs.Releases.{is_sent_again_by, AllComeFirst, AreDatagrams, ComeWithin, StayWithin, IsDelivery, IsWithinWindows, ReleaseOverDatagrams, ReleasesUnits, delivered, received_steps, sending_steps}
+use Rattle.codec_payload_wire.specs.WireRuns.{ended, Runs, Wire, begins}
 use Rattle.codec_payload_wire.specs.declared.run.DatagramStep.{DatagramStep}
 use Rattle.codec_payload_wire.specs.declared.run.DatagramStep.TheVariants as steps
 use Rattle.codec_payload_wire.specs.declared.run.SentSample.{SentSample}
@@ -64,20 +64,49 @@ abbrev first_for : ℕ → List ℕ → ℕ
 first_for number [] = number % 65536
 first_for number (k ∷ ks) = number + 65536 - 65536 * ((number + k) / 65536)
 
-first_small : (forward backward number : ℕ) (ks : List ℕ) → ComeNear forward backward number ks → first_for number ks < 2 ^ 32
-first_small forward backward number [] near = omega arith
-first_small forward backward number (k ∷ ks) near = omega (arith, near.0)
+-- a number of 16 bits is in question
+first_small : (forward backward number : ℕ) (ks : List ℕ) → number < 65536 → ComeWithin forward backward ks → first_for number ks < 2 ^ 32
+first_small forward backward number [] low within = omega arith
+first_small forward backward number (k ∷ ks) low within = omega (arith, low, within.0)
 
-first_low : (forward backward number : ℕ) (ks : List ℕ) → ComeNear forward backward number ks → number % 2 ^ 16 ≡ (first_for number ks + 0) % 2 ^ 16
-first_low forward backward number [] near = omega arith
-first_low forward backward number (k ∷ ks) near = omega (arith, near.0)
+first_low : (forward backward number : ℕ) (ks : List ℕ) → ComeWithin forward backward ks → number % 2 ^ 16 ≡ (first_for (number % 65536) ks + 0) % 2 ^ 16
+first_low forward backward number [] within = omega arith
+first_low forward backward number (k ∷ ks) within = omega (arith, within.0)
 
-numbered_near : (forward backward number : ℕ) (ks : List ℕ) → IsNumbering (no_numbers forward backward) → ComeNear forward backward number ks → AllNumbered (first_for number ks) (no_numbers forward backward) ks
-numbered_near forward backward number [] windows near = tt
-numbered_near forward backward number (k ∷ ks) windows near =
-    let fits : number + k + 65536 < 2 ^ 64 = omega (arith, near.0) in
-    all_numbered number (first_for number (k ∷ ks)) (number + k) (no_numbers forward backward) (k ∷ ks) (omega (arith, near.0))
-    (are_true_numbers forward backward windows (number + k) (trues number ks) fits near.1) (none_restarts forward backward windows (number + k) (trues number ks) fits near.1)
+-- all of them are below a number
+abbrev AllBelow : ℕ → List ℕ → Type 0
+AllBelow bound [] = Unit {0}
+AllBelow bound (k ∷ ks) = (k < bound) × AllBelow bound ks
+
+-- as those of datagrams are that were sent
+takes_below : (later : List DatagramStep) (datagrams : List (List ℕ)) (s t : Session) (answers : List Answer) → Takes later datagrams s answers t → AllBelow (length datagrams) (delivered later)
+takes_below [] datagrams s t answers takes = tt
+takes_below (steps.Send i ∷ later) datagrams s t answers takes = takes_below later datagrams s t answers takes
+takes_below (steps.Deliver k now ∷ later) datagrams s t answers takes = (slice_get_within datagrams k takes.0 takes.1, takes_below later datagrams takes.3 t answers takes.5)
+takes_below (steps.Pop now ∷ later) datagrams s t answers takes = takes_below later datagrams takes.2 t takes.1 takes.6
+takes_below (steps.Finish ∷ later) datagrams s t answers takes = takes_below later datagrams (ended s) t answers takes
+
+max_more : (number g k : ℕ) → max (number + g) (number + k) ≡ number + max g k
+max_more number g k = omega arith
+
+-- what is told of indices holds of numbers
+stay_near : (forward backward number bound g : ℕ) (ks : List ℕ) → number < 65536 → bound < 2 ^ 63 → AllBelow bound ks → StayWithin forward backward g ks → StayNear forward backward (number + g) (trues number ks)
+stay_near forward backward number bound g [] low few below within = tt
+stay_near forward backward number bound g (k ∷ ks) low few below within = (
+  omega (arith, within.0),
+  omega (arith, within.1),
+  omega (arith, low, few, below.0),
+  subst (λ (m : ℕ). StayNear forward backward m (trues number ks)) (sym (max_more number g k)) (stay_near forward backward number bound (max g k) ks low few below.1 within.2),
+)
+
+numbered_within : (forward backward number bound : ℕ) (ks : List ℕ) → IsNumbering (no_numbers forward backward) → number < 65536 → bound < 2 ^ 63 → AllBelow bound ks → ComeWithin forward backward ks
+    → AllNumbered (first_for number ks) (no_numbers forward backward) ks
+numbered_within forward backward number bound [] windows low few below within = tt
+numbered_within forward backward number bound (k ∷ ks) windows low few below within =
+    let fits : number + k + 65536 < 2 ^ 64 = omega (arith, low, within.0) in
+    let near = stay_near forward backward number bound k ks low few below.1 within.1 in
+    all_numbered number (first_for number (k ∷ ks)) (number + k) (no_numbers forward backward) (k ∷ ks) (omega (arith, low, within.0))
+    (are_true_numbers forward backward windows (number + k) (trues number ks) fits near) (none_restarts forward backward windows (number + k) (trues number ks) fits near)
 
 -- a depacketizer of what a packetizer of a codec makes is one of a codec
 of_codec : (p : Pack) → is_built_in p ≡ true → is_codec (payloads_by p) ≡ true
@@ -103,8 +132,14 @@ module _ (samples : List Sample) (all_steps : List DatagramStep) (sender : Sendi
   abbrev rate : ℕ
   rate = sender.stream.clock_rate
 
+  abbrev number : ℕ
+  number = sender.stream.number % 65536
+
+  low : number < 65536
+  low = omega arith
+
   abbrev first : ℕ
-  first = first_for sender.stream.number (delivered received)
+  first = first_for number (delivered received)
 
   comes : ComesTo samples all_steps (begins sender receiver) t
   comes = comes_to samples all_steps (begins sender receiver) t run
@@ -133,21 +168,21 @@ module _ (samples : List Sample) (all_steps : List DatagramStep) (sender : Sendi
     of_codec = ap (λ (x : Session). is_built_in_depack x.packets.buffer.depack) begun.is ∙ (ap is_codec within.one_stream.alike ∙ of_codec sender.pack within.one_stream.built_in);
   }
 
+  -- from a number with those low bits on
+  sends_from : (start : ℕ) → start < 2 ^ 32 → sender.stream.number % 2 ^ 16 ≡ (start + 0) % 2 ^ 16 → SendsRun receiver.packets.buffer sender.stream sender.mtu start 0 samples all_steps (begins sender receiver) t []
+  sends_from start small same =
+      sends_run receiver.packets.buffer sender.stream sender.mtu start small samples 0 all_steps (begins sender receiver) t []
+      (record { mtu = refl; built_in = within.one_stream.built_in; kept = refl; number = same; reads = tt; numbered = tt; few = omega arith }) run
+
+  few : length t.datagrams < 2 ^ 63
+  few = let any = sends_from number (omega arith) (omega arith) in omega (arith, any.at.few, same_count sender.stream any.all t.datagrams any.at.reads)
+
   numbers : AllNumbered first receiver.packets.numbering (delivered received)
   numbers = subst (λ (n : Numbering). AllNumbered first n (delivered received)) (sym (ap (λ (x : Session). x.packets.numbering) begun.is))
-      (numbered_near forward backward sender.stream.number (delivered received) begun.windows within.near)
+      (numbered_within forward backward number (length t.datagrams) (delivered received) begun.windows low few (takes_below received t.datagrams receiver t.session t.pops takes) within.within)
 
   sent : SendsRun receiver.packets.buffer sender.stream sender.mtu first 0 samples all_steps (begins sender receiver) t []
-  sent = sends_run receiver.packets.buffer sender.stream sender.mtu first (first_small forward backward sender.stream.number (delivered received) within.near) samples 0 all_steps (begins sender receiver) t []
-      (record {
-        mtu = refl;
-        built_in = within.one_stream.built_in;
-        kept = refl;
-        number = first_low forward backward sender.stream.number (delivered received) within.near;
-        reads = tt;
-        numbered = tt;
-        few = omega arith;
-      }) run
+  sent = sends_from first (first_small forward backward number (delivered received) low within.within) (first_low forward backward sender.stream.number (delivered received) within.within)
 
   come : IsMet rate sent.all received receiver t.pops t.session
   come = met sender.stream within.one_stream.not_rtcp first sent.all t.datagrams sent.at.reads sent.at.numbered received receiver t.session t.pops listening numbers takes

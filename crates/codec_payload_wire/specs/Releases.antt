@@ -1,5 +1,7 @@
 -- What a run over datagrams releases, whatever of its datagrams is lost, repeated and comes in another order.
-use Rattle.std.specs.Prelude.{◌≡◌, ℕ, ◌+◌, ◌%◌, ◌^◌, ◌<◌, ◌≤◌, ◌⊎◌, ◌==◌, ◌&&◌, nat_lt, if◌then◌else◌, Bool, true, false, List, [], ◌∷◌, ◌++◌, Option, Some, None, Ok, Contains, length, map, slice_get}
+use Rattle.std.specs.Prelude.{◌≡◌, ℕ, ◌+◌, ◌%◌, ◌^◌, ◌<◌, ◌≤◌, ◌⊎◌, ◌==◌, ◌&&◌, nat_lt, max, if◌then◌else◌, Bool, true, false, List, [], ◌∷◌, ◌++◌, Option, Some, None, Ok, Contains, length, map, slice_get, refl}
+use Rattle.std.proofs.Common.{lit<, lit≤}
+use Rattle.codec_payload_base.specs.declared.wire.Ticks.{Ticks}
 use Rattle.codec_payload_buffer.specs.Depack.{Depack, kind_of_depack}
 use Rattle.codec_payload_buffer.specs.Pack.{is_built_in}
 use Rattle.codec_payload_buffer.specs.declared.buffer.unit.RtpMeta.{RtpMeta}
@@ -13,7 +15,6 @@ use Rattle.codec_payload_core.specs.ToldIds.{read_by}
 use Rattle.codec_payload_core.specs.Units.{payloads_by, may_split}
 use Rattle.codec_payload_core.specs.declared.schedule.Step.{Step}
 use Rattle.codec_payload_core.specs.declared.schedule.Step.TheVariants as run_steps
-use Rattle.codec_payload_jitter.specs.Numbers.{StayNear}
 use Rattle.codec_payload_rtp.specs.RtpReading.{rtp_at}
 use Rattle.codec_payload_sender.specs.Datagrams.{header_with}
 use Rattle.codec_payload_sender.specs.Senders.{Sending}
@@ -103,11 +104,15 @@ pub record AreOfOneStream (sender : Sending) (settings : Settings) (depack : Dep
   pub ssrc : is_other settings.ssrc sender.stream.ssrc ≡ false
   pub not_again : is_sent_again_by settings.retransmission sender.stream ≡ false
 
--- the datagrams of these indices come within the windows: the number of each lies within those of the greatest before it. The next
--- number of the sender was `number`, and that of the first that comes is less than 131,072, as it is of each of the first 65,536
-abbrev pub ComeNear : ℕ → ℕ → ℕ → List ℕ → Type 0
-ComeNear forward backward number [] = Unit {0}
-ComeNear forward backward number (k ∷ ks) = (number + k < 131072) × StayNear forward backward (number + k) (map (λ (j : ℕ). number + j) ks)
+-- each of these indices is less than `forward` above the greatest before it, and at most `backward` below it; g is the greatest so far
+abbrev pub StayWithin : ℕ → ℕ → ℕ → List ℕ → Type 0
+StayWithin forward backward g [] = Unit {0}
+StayWithin forward backward g (k ∷ ks) = (k < g + forward) × (g ≤ k + backward) × StayWithin forward backward (max g k) ks
+
+-- the datagrams of these indices come within the windows, and the first that comes is one of the first 65,536 that were sent
+abbrev pub ComeWithin : ℕ → ℕ → List ℕ → Type 0
+ComeWithin forward backward [] = Unit {0}
+ComeWithin forward backward (k ∷ ks) = (k < 65536) × StayWithin forward backward k ks
 
 -- the receiver is as `Receiver::new` makes it, for the stream of the sender; the samples can be read again; and all that is delivered
 -- comes within the windows
@@ -117,7 +122,7 @@ pub record IsWithinWindows (samples : List Sample) (all_steps : List DatagramSte
   pub new : session_by settings depack ≡ Ok receiver
   pub one_stream : AreOfOneStream sender settings depack
   pub readable : AreReadable sender.pack samples
-  pub near : ComeNear settings.forward settings.backward sender.stream.number (delivered (received_steps samples 0 all_steps sends))
+  pub within : ComeWithin settings.forward settings.backward (delivered (received_steps samples 0 all_steps sends))
 
 -- Promises
 
@@ -158,3 +163,14 @@ abbrev pub ReleaseOverDatagrams : Type 0
 ReleaseOverDatagrams =
     (samples : List Sample) (all_steps : List DatagramStep) (sender : Sending) (receiver : Session) (t : Wire)
     → Runs samples all_steps (begins sender receiver) t → ReleasesWithinWindows samples all_steps (begins sender receiver) t
+
+-- Examples
+
+-- of two datagrams that a sample gives, one is delivered before it is sent, and one is never sent: these deliveries are passed over
+pub received_steps-not_sent : (sample : Sample) (now : Ticks) → received_steps (sample ∷ []) 0 (steps.Deliver 0 now ∷ steps.Send 0 ∷ steps.Deliver 1 now ∷ steps.Deliver 2 now ∷ steps.Pop now ∷ []) (record { count = 2; fault = None } ∷ [])
+    ≡ steps.Deliver 1 now ∷ steps.Pop now ∷ []
+received_steps-not_sent sample now = refl
+
+-- the first two are swapped, one comes twice, and at the borders of the windows
+pub come-within : ComeWithin 3000 1000 (1 ∷ 0 ∷ 1 ∷ 3000 ∷ 2000 ∷ [])
+come-within = (lit< tt, (lit< tt, lit≤ tt, (lit< tt, lit≤ tt, (lit< tt, lit≤ tt, (lit< tt, lit≤ tt, tt)))))
