@@ -1,9 +1,10 @@
 #!/bin/sh
-# Makes scripts/captured_packets.txt: the first packets that GStreamer and ffmpeg send over loopback, each with what tshark tells
-# of it, as the program payload_datagrams prints the parts of a packet.
+# Makes scripts/captured_packets.txt: the first packets that GStreamer, ffmpeg and Chromium send over loopback, each with what
+# tshark tells of it, as the program payload_datagrams prints the parts of a packet.
 #
-# Needs gst-launch-1.0 (gstreamer1.0-tools and the plugins base, good and bad), python3-gi and gir1.2-gstreamer-1.0, ffmpeg and
-# tshark, and the right to capture on the loopback interface. The numbers, times and SSRCs of most senders are others each time.
+# Needs gst-launch-1.0 (gstreamer1.0-tools and the plugins base, good and bad), python3-gi and gir1.2-gstreamer-1.0, ffmpeg,
+# chromium and tshark, and the right to capture on the loopback interface. The numbers, times and SSRCs of most senders are others
+# each time.
 set -eu
 
 here=$(cd "$(dirname "$0")" && pwd)
@@ -13,13 +14,14 @@ port=15004
 out=$here/captured_packets.txt
 : >"$out"
 
-# A line of tshark's fields becomes the datagram and what is told of it, separated by tabs. The data of an extension, which
+# Each of the first lines of tshark's fields becomes the datagram and what is told of it, separated by tabs. The data of an extension, which
 # tshark gives element by element, is taken out of the datagram by the count of CSRCs and the length in words (RFC 3550,
 # section 5.3.1).
 cat >"$work/told.py" <<'END'
+import itertools
 import sys
 
-for line in sys.stdin:
+for line in itertools.islice(sys.stdin, int(sys.argv[1])):
     datagram, kind, marker, number, time, ssrc, csrcs, profile, ids, values, payload, padding = line.rstrip("\n").split("\t")
     told = [f"rtp {kind} {int(marker in ('1', 'True'))} {number} {time} {int(ssrc, 16)}"]
     told += [f"csrc {int(csrc, 16)}" for csrc in csrcs.split(",") if csrc]
@@ -42,7 +44,7 @@ gi.require_version("Gst", "1.0")
 from gi.repository import GLib, Gst
 
 Gst.init(None)
-pipeline = Gst.parse_launch(f"rtpdtmfsrc pt=101 packet-redundancy=3 ! udpsink host=127.0.0.1 port={sys.argv[1]}")
+pipeline = Gst.parse_launch(f"rtpdtmfsrc pt=101 packet-redundancy=3 ! udpsink async=false host=127.0.0.1 port={sys.argv[1]}")
 
 
 def key(down):
@@ -52,11 +54,29 @@ def key(down):
 
 loop = GLib.MainLoop()
 pipeline.set_state(Gst.State.PLAYING)
-GLib.timeout_add(100, key, "true")
-GLib.timeout_add(400, key, "false")
-GLib.timeout_add(1000, loop.quit)
+GLib.timeout_add(500, key, "true")
+GLib.timeout_add(800, key, "false")
+GLib.timeout_add(2000, loop.quit)
 loop.run()
 pipeline.set_state(Gst.State.NULL)
+END
+
+# A camera and a microphone that are not there, to a second end in the same page.
+cat >"$work/page.html" <<'END'
+<!doctype html><script>
+(async () => {
+  const from = new RTCPeerConnection(), to = new RTCPeerConnection();
+  from.onicecandidate = (event) => event.candidate && to.addIceCandidate(event.candidate);
+  to.onicecandidate = (event) => event.candidate && from.addIceCandidate(event.candidate);
+  const video = { width: 64, height: 48, frameRate: 10 };
+  const stream = await navigator.mediaDevices.getUserMedia({ audio: true, video });
+  stream.getTracks().forEach((track) => from.addTrack(track, stream));
+  await from.setLocalDescription(await from.createOffer());
+  await to.setRemoteDescription(from.localDescription);
+  await to.setLocalDescription(await to.createAnswer());
+  await from.setRemoteDescription(to.localDescription);
+})();
+</script>
 END
 
 # sends COUNT NAME COMMAND..: so many packets of a sender
@@ -64,16 +84,18 @@ sends() {
     packets=$1
     name=$2
     shift 2
-    tshark -i lo -f "udp port $port" -c "$packets" -a duration:20 -w "$work/capture.pcapng" >/dev/null 2>&1 &
+    : >"$work/capturing"
+    tshark -i lo -f "$filter" -a duration:10 -w "$work/capture.pcapng" >>"$work/capturing" 2>&1 &
     capturing=$!
-    sleep 2
-    "$@" >"$work/messages" 2>&1 || cat "$work/messages" >&2
+    while kill -0 "$capturing" && ! grep -q "Capture started" "$work/capturing"; do sleep 0.2; done
+    # A browser ends by the time that it is given.
+    "$@" >"$work/messages" 2>&1 || [ $? -eq 124 ] || cat "$work/messages" >&2
     wait "$capturing" || true
     printf '# %s\n' "$name" >>"$out"
-    tshark -r "$work/capture.pcapng" -d "udp.port==$port,rtp" -Y rtp -T fields -E occurrence=a -E aggregator=, -e udp.payload \
+    tshark -r "$work/capture.pcapng" $decode -Y rtp -T fields -E occurrence=a -E aggregator=, -e udp.payload \
         -e rtp.p_type -e rtp.marker -e rtp.seq -e rtp.timestamp -e rtp.ssrc -e rtp.csrc.item -e rtp.ext.profile \
         -e rtp.ext.rfc5285.id -e rtp.ext.rfc5285.data -e rtp.payload -e rtp.padding.count 2>/dev/null |
-        python3 "$work/told.py" >"$work/told"
+        python3 "$work/told.py" "$packets" >"$work/told"
     [ "$(wc -l <"$work/told")" -eq "$packets" ] || {
         echo "$name: $(wc -l <"$work/told") packets, and not $packets" >&2
         exit 1
@@ -98,12 +120,14 @@ ffmpeg_sender() {
     sends "$packets" "ffmpeg, $name" ffmpeg -nostdin -f lavfi -i "$@" -f rtp "rtp://127.0.0.1:$port$query"
 }
 
+filter="udp port $port"
+decode="-d udp.port==$port,rtp"
 tone="audiotestsrc num-buffers=60 samplesperbuffer=960 ! audio/x-raw,rate=48000,channels=1"
 picture="videotestsrc num-buffers=6 ! video/x-raw,width=32,height=32,framerate=25/1"
 level='application/x-rtp,extmap-1=(string)<"","urn:ietf:params:rtp-hdrext:ssrc-audio-level","vad=on">'
 numbers="application/x-rtp,extmap-3=(string)http://www.ietf.org/id/draft-holmer-rmcat-transport-wide-cc-extensions-01"
 
-# Each word of $tone and $picture is an argument.
+# Each word of $tone, $picture and $decode is an argument.
 # shellcheck disable=SC2086
 {
     gstreamer 8 "Opus with the level of the audio" $tone ! level audio-level-meta=true ! opusenc bitrate=16000 ! \
@@ -116,5 +140,10 @@ numbers="application/x-rtp,extmap-3=(string)http://www.ietf.org/id/draft-holmer-
     ffmpeg_sender 8 "Opus" "" sine=duration=1 -c:a libopus -b:a 16k
     ffmpeg_sender 8 "VP9" "?pkt_size=200" testsrc=duration=1:size=32x32:rate=10 -c:v libvpx-vp9 -strict experimental
     ffmpeg_sender 6 "G.711" "?pkt_size=172" sine=duration=1:sample_rate=8000 -c:a pcm_alaw
+    filter=udp decode="--enable-heuristic rtp_udp"
+    sends 24 "Chromium, audio and video" timeout 8 chromium --headless=new --no-sandbox --disable-gpu \
+        --disable-webrtc-encryption --use-fake-ui-for-media-stream --use-fake-device-for-media-stream \
+        --disable-features=WebRtcHideLocalIpsWithMdns --user-data-dir="$work/profile" --allow-file-access-from-files \
+        "file://$work/page.html"
 }
 wc -l "$out"

@@ -449,18 +449,60 @@ BAD = (
 
 
 def captured():
-    """Packets of real senders with what tshark tells of them: scripts/captured_packets.txt, made by scripts/capture.sh."""
+    """The packets of real senders, by their names, with what tshark tells of each: scripts/captured_packets.txt, made by
+    scripts/capture.sh."""
     path = os.path.join(os.path.dirname(os.path.realpath(__file__)), "captured_packets.txt")
-    sender, rows = None, {}
+    senders = {}
     with open(path, encoding="utf-8") as lines:
         for line in lines:
             if line.startswith("# "):
-                sender = line[2:].strip()
+                packets = senders.setdefault(line[2:].strip(), [])
             elif line.strip():
-                packet, told = line.rstrip("\n").split("\t", 1)
-                given, output = rows.get(sender, ("", ""))
-                rows[sender] = given + f"packet {packet}\n", output + told.replace("\t", "\n") + "\n"
-    return [Row(f"captured: {sender}", given, output) for sender, (given, output) in rows.items()]
+                packet, *told_parts = line.rstrip("\n").split("\t")
+                packets.append((packet, told_parts))
+    return senders
 
 
-ROWS = DEATHS + OUTCOMES + MISSING + RETRANSMISSIONS + REDS + REPORTS + PACKETS + SENT + REFUSED + BAD + captured()
+def played(sender, stream, packets):
+    """A row that plays a sender's audio: each packet of the stream is a unit with the payload that tshark tells, and so is the
+    primary block of each packet in RED (RFC 2198, section 3), here behind at most one older block."""
+    codec, rate, kind, *red_kind = stream.split()
+    setup = f"stream {codec} {rate} {kind}\nwait 1000 0 50\n" + (f"red {red_kind[0]} 960\n" if red_kind else "")
+    given = outcomes = units = ""
+    first = None
+    for packet, parts in packets:
+        given += f"datagram 0 {packet}\n"
+        _, its_kind, _, number, time, ssrc = parts[0].split()
+        if its_kind not in (kind, *red_kind):
+            outcomes += "other stream\n"
+            continue
+        first = first or (int(number), int(time))
+        payload = bytes.fromhex(parts[-1].split()[1])
+        if its_kind in red_kind:
+            older = int.from_bytes(payload[2:4], "big") % 1_024 if payload[0] & 0x80 else None
+            payload = payload[1:] if older is None else payload[5 + older :]
+        outcomes += "held\n"
+        place = FIRST + first[0] + (int(number) - first[0]) % 65_536
+        units += unit(place, payload.hex(), time=first[1] + (int(time) - first[1]) % 2**32)
+    return Row(f"played: {sender}", setup + "receive\n" + given + "pop 0\n" * (len(packets) + 1), outcomes + units + "none\n" * (
+        len(packets) + 1 - units.count("\n")))
+
+
+AUDIO = {
+    "GStreamer, Opus with the level of the audio": "opus 48000 96",
+    "GStreamer, Opus in RED": "opus 48000 96 63",
+    "GStreamer, G.711": "pcmu 8000 0",
+    "ffmpeg, Opus": "opus 48000 97",
+    "ffmpeg, G.711": "pcma 8000 8",
+    "Chromium, audio and video": "opus 48000 111",
+}
+CAPTURED = [
+    Row(
+        f"captured: {sender}",
+        "".join(f"packet {packet}\n" for packet, _ in packets),
+        "".join("".join(f"{part}\n" for part in parts) for _, parts in packets),
+    )
+    for sender, packets in captured().items()
+] + [played(sender, stream, captured()[sender]) for sender, stream in AUDIO.items()]
+
+ROWS = DEATHS + OUTCOMES + MISSING + RETRANSMISSIONS + REDS + REPORTS + PACKETS + SENT + REFUSED + BAD + CAPTURED
