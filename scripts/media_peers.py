@@ -163,13 +163,20 @@ def vp9_needs(fields):
 
 
 def vp9_wanted(section, error):
-    """Status, keyframe and size of a frame."""
+    """Status, keyframe and size of a frame. trace_headers lets any marker pass, RGB of profiles 0 and 2, and 4:2:0 of profiles 1
+    and 3, which the specification forbids and libvpx refuses."""
     fields = section.fields
     names = [field.name for field in fields]
-    last = vp9_needs(fields)
-    if last not in names or (error and fields[-1].name == last and last in error):
-        return (fault_of(error), None, None)
     get = dict(fields).get
+    if get("frame_marker", 2) != 2:
+        return (MARKER, None, None)
+    if get("color_space") == 7 and not get("profile_low_bit"):
+        return (RESERVED, None, None)
+    if get("subsampling_x") and get("subsampling_y") and names[-1] != "subsampling_y":
+        return (RESERVED, None, None)
+    last = vp9_needs(fields)
+    if last not in names or (error and names[-1] == last and last in error):
+        return (fault_of(error), None, None)
     key = get("frame_type") == 0
     size = (get("frame_width_minus_1") + 1, get("frame_height_minus_1") + 1) if key or get("intra_only") else None
     return (OK, key, size)
@@ -178,19 +185,17 @@ def vp9_wanted(section, error):
 def compare_vp9(what, program, frames, folder, reset):
     for frame, packet, told in zip(frames, trace(b"VP90", frames, folder, reset), tell(program, VP9, frames)):
         coded = [section for section in packet.sections if section.name == "Frame"]
-        index = [dict(section.fields) for section in packet.sections if section.name == "Superframe Index"]
-        if not coded:
-            # It tells nothing of a superframe that it refuses.
-            if packet.error and told.end in FAULTS:
-                counts[what + ", index"] += 1
+        index = next((section.fields for section in packet.sections if section.name == "Superframe Index"), None)
+        if not coded or index and [field.value for field in index[:3]] != [field.value for field in index[-3:]]:
+            # It tells nothing of a superframe whose sizes do not fit, and takes an index whose ends differ for one.
+            counts["not told by trace_headers"] += 1
             continue
-        alone = not index
         wanted = vp9_wanted(coded[0], packet.error if len(coded) == 1 else None)
         compare(what, frame, (told.status, told.key, told.size), wanted)
-        if alone:
+        if not index:
             compare(what + ", one frame", frame, told.parts, [(0, len(frame), (0, 0, 0), told[:4])])
             continue
-        sizes = [value for name, value in index[0].items() if name.startswith("frame_sizes")]
+        sizes = [field.value for field in index if field.name.startswith("frame_sizes")]
         starts = [sum(sizes[:place]) for place in range(len(sizes))]
         compare(what + ", superframe", frame, [part[:2] for part in told.parts], list(zip(starts, sizes)))
         for place, section in enumerate(coded):
@@ -200,6 +205,8 @@ def compare_vp9(what, program, frames, folder, reset):
 
 # ---- AV1 ----
 
+# Those that trace_headers tells of.
+OBU_TYPES = (1, 2, 3, 4, 5, 6, 7, 8, 15)
 # What trace_headers asks for beyond what a reader needs: values for which decoders are not made.
 STRICTER = "(num_units_in_display_tick|time_scale|num_units_in_decoding_tick|chroma_sample_position) out of range"
 
@@ -210,6 +217,8 @@ def av1_wanted(packet):
     for place, section in enumerate(packet.sections):
         error = packet.error if place == len(packet.sections) - 1 else None
         get = dict(section.fields).get
+        if get("obu_has_size_field") == 0:
+            return (RESERVED, None, None)
         if section.name == "Sequence Header":
             if get("film_grain_params_present") is None:
                 return (fault_of(error), None, None) if error and not re.search(STRICTER, error) else None
@@ -247,16 +256,21 @@ def compare_av1(what, program, frames, folder, reset):
     for frame, packet, told in zip(frames, packets, tell(program, AV1, frames)):
         wanted = av1_wanted(packet)
         if wanted is None:
-            counts[what + ", not told by trace_headers"] += 1
+            counts["not told by trace_headers"] += 1
             continue
         compare(what, frame, (told.status, told.key, told.size), wanted)
-        headers = [section for section in packet.sections if section.name == "Sequence Header"]
-        if headers and told.records:
+        header = next((section.fields for section in packet.sections if section.name == "Sequence Header"), [])
+        if told.records and "film_grain_params_present" in dict(header):
             status, record = told.records[0]
-            compare(what + ", av1C", frame, (int(status), bytes.fromhex(record)[:4]), (OK, record_wanted(headers[0].fields)))
-        if not packet.error:
-            types = [dict(section.fields)["obu_type"] for section in packet.sections if section.name == "OBU header"]
-            compare(what + ", types of OBUs", frame, ([part[2][0] for part in told.parts], told.end), (types, NONE))
+            compare(what + ", av1C", frame, (int(status), bytes.fromhex(record)[:4]), (OK, record_wanted(header)))
+        headers = [dict(section.fields) for section in packet.sections if section.name == "OBU header"]
+        if not packet.error and all(header["obu_has_size_field"] for header in headers):
+            types = [header["obu_type"] for header in headers]
+            known = [part[2][0] for part in told.parts if part[2][0] in OBU_TYPES]
+            # An OBU without a size ends what is told here, and one of another type is not told there.
+            behind = frame[sum(told.parts[-1][:2]) :]
+            end = NONE if not behind or behind[0] & 2 else RESERVED
+            compare(what + ", types of OBUs", frame, (known, told.end), (types, end))
 
 
 def compare_record(program, ivf, units, folder):
@@ -290,8 +304,7 @@ def compare_vp8(what, program, frames):
     for frame, told in zip(frames, tell(program, VP8, frames)):
         found = (told.status, told.key, told.size)
         if len(frame) < 3 or not frame[0] & 1 and len(frame) < 10:
-            fault = MARKER if len(frame) >= 6 and frame[3:6] != b"\x9d\x01\x2a" else TOO_SHORT
-            compare(what + ", cut", frame, found, (TOO_SHORT, None, None) if told.status == TOO_SHORT else (fault, None, None))
+            compare(what + ", cut", frame, found, (TOO_SHORT, None, None))
             continue
         info = StreamInfo(ctypes.sizeof(StreamInfo))
         answer = vpx.vpx_codec_peek_stream_info(decoder, frame, len(frame), ctypes.byref(info))
@@ -408,13 +421,14 @@ def main():
         if sys.argv[1:] == ["times"]:
             return times(program, folder)
         compare_real(program, folder)
+        reset = read_hex(folder, "vp9")[0]
         for kind in ("vp9", "vp9_hidden", "vp9_444", "vp9_420_10", "vp9_422_10"):
             frames = read_hex(folder, kind)
-            compare_vp9("VP9", program, frames, folder)
+            compare_vp9("VP9", program, frames, folder, reset)
             chosen = [frames[0], frames[1], max(frames[1:], key=len)]
-            compare_vp9("VP9, hostile", program, [x for frame in chosen for x in hostile(frame, 24)], folder)
-        compare_vp9("VP9, short", program, list(short()), folder)
-        compare_vp9("VP9, made", program, [vp9_frame(random) for _ in range(6000)], folder)
+            compare_vp9("VP9, hostile", program, [x for frame in chosen for x in hostile(frame, 24)], folder, reset)
+        compare_vp9("VP9, short", program, list(short()), folder, reset)
+        compare_vp9("VP9, made", program, [vp9_frame(random) for _ in range(6000)], folder, reset)
         reset = read_hex(folder, "av1")[0]
         for kind in ("av1", "av1_odd", "av1_444", "av1_10", "av1_still"):
             frames = read_hex(folder, kind)
