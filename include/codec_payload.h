@@ -279,7 +279,9 @@ typedef struct {
     bool has_tl0_picture_id;
     bool has_temporal_layer; /**< of VP8 always set */
     uint8_t temporal_layer;  /**< VP8, VP9 */
-    bool is_keyframe;        /**< VP8, VP9: it can be decoded without any other; AV1: a coded video sequence starts here */
+    bool is_keyframe;        /**< VP8: it can be decoded without any other; VP9: so it is told by the P bit of descriptors, which
+                                  some senders never set; AV1: by the N bit that a coded video sequence starts here.
+                                  cpay_frame_info tells what a frame itself is */
     bool discardable;        /**< VP8: no other frame depends on this one */
     bool sync;               /**< VP8: this frame depends on frames of the base layer alone */
     cpay_tele_event event;    /**< telephone events */

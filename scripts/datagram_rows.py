@@ -314,15 +314,48 @@ def fault_of(packet):
     return None
 
 
+def elements_of(profile, data):
+    """The elements of an extension, as lines (RFC 8285, sections 4.2 and 4.3)."""
+    lines, one_byte = "", profile == 0xBEDE
+    while (one_byte or profile >> 4 == 0x100) and data:
+        if data[0] == 0:
+            data = data[1:]
+        elif one_byte:
+            id, size = data[0] >> 4, (data[0] & 15) + 1
+            lines += f"element {id} {data[1 : 1 + size].hex()}\n"
+            data = data[1 + size :]
+        else:
+            lines += f"element {data[0]} {data[2 : 2 + data[1]].hex() or '-'}\n"
+            data = data[2 + data[1] :]
+    return lines
+
+
+def told(packet):
+    """What is printed of a packet: its fault, or its parts. Its elements are whole, and none has the id 15."""
+    fault = fault_of(packet)
+    if fault:
+        return f"malformed: {fault}\n"
+    _, second, number, time, ssrc = struct.unpack(">BBHII", packet[:12])
+    lines = f"rtp {second & 127} {second >> 7} {number} {time} {ssrc}\n"
+    end = 12 + 4 * (packet[0] & 15)
+    lines += "".join(f"csrc {csrc}\n" for (csrc,) in struct.iter_unpack(">I", packet[12:end]))
+    if packet[0] & 0x10:
+        profile, words = struct.unpack(">HH", packet[end : end + 4])
+        data = packet[end + 4 : end + 4 + 4 * words]
+        lines += f"extension {profile} {data.hex() or '-'}\n" + elements_of(profile, data)
+        end += 4 + 4 * words
+    padding = packet[-1] if packet[0] & 0x20 else 0
+    return f"{lines}payload {packet[end : len(packet) - padding].hex() or '-'} {padding}\n"
+
+
+def packet_rows(name, packets):
+    """A row of packets, as bytes."""
+    return Row(name, "".join(f"packet {it.hex() or '-'}\n" for it in packets), "".join(told(it) for it in packets))
+
+
 def beginnings(name, packet):
-    """Each beginning of a packet: it has that fault, or its parts are counted by the lines that are printed."""
-    given = output = ""
-    for end in range(len(packet)):
-        fault = fault_of(packet[:end])
-        if fault:
-            given += f"packet {packet[:end].hex() or '-'}\n"
-            output += f"malformed: {fault}\n"
-    return Row(name, given, output)
+    """Each beginning of a packet, and all of it."""
+    return packet_rows(name, [packet[:end] for end in range(len(packet) + 1)])
 
 
 WHOLE = bytes.fromhex(rtp(4_660, "0102030405", time=1, csrcs=(1, 2, 3), extension=(0xBEDE, bytes.fromhex("10aa220bbbcc0000"))))
@@ -334,15 +367,18 @@ PACKETS = [
         "".join(f"packet {rtp(n, 'ab', csrcs=range(n))}\n" for n in range(16)),
         "".join(f"rtp 96 0 {n} 0 7\n" + "".join(f"csrc {k}\n" for k in range(n)) + "payload ab 0\n" for n in range(16)),
     ),
-    Row(
-        "extensions of 0 to 40 words",
-        "".join(f"packet {rtp(n, 'ab', extension=(4_660, bytes(4 * n)))}\n" for n in range(41)),
-        "".join(f"rtp 96 0 {n} 0 7\nextension 4660 {'00' * 4 * n or '-'}\npayload ab 0\n" for n in range(41)),
+    packet_rows(
+        "extensions of 0 to 260 words and of 16,000, and the same with a byte less",
+        [
+            whole[: len(whole) - short]
+            for words in (*range(261), 16_000)
+            for whole in [bytes.fromhex(rtp(words, extension=(4_660, bytes(4 * words))))]
+            for short in (0, 1)
+        ],
     ),
-    Row(
-        "padding of 1 to 255 bytes, and of 0",
-        "".join(f"packet {rtp(n, 'ab', padding=n)}\n" for n in range(1, 256)) + f"packet a0{rtp(0, 'ab00')[2:]}\n",
-        "".join(f"rtp 96 0 {n} 0 7\npayload ab {n}\n" for n in range(1, 256)) + "malformed: RTP padding has no bytes\n",
+    packet_rows(
+        "each last byte of a padded packet of 0 to 260 bytes behind its header",
+        [bytes.fromhex(rtp(0, padding=1))[:12] + bytes(size - 1) + bytes([last]) for size in (1, 2, 255, 256, 260) for last in range(256)],
     ),
     # The figures of RFC 8285, sections 4.2 and 4.3, with padding between elements and at the end.
     Row(
@@ -413,18 +449,60 @@ BAD = (
 
 
 def captured():
-    """Packets of real senders with what tshark tells of them: scripts/captured_packets.txt, made by scripts/capture.sh."""
+    """The packets of real senders, by their names, with what tshark tells of each: scripts/captured_packets.txt, made by
+    scripts/capture.sh."""
     path = os.path.join(os.path.dirname(os.path.realpath(__file__)), "captured_packets.txt")
-    sender, rows = None, {}
+    senders = {}
     with open(path, encoding="utf-8") as lines:
         for line in lines:
             if line.startswith("# "):
-                sender = line[2:].strip()
+                packets = senders.setdefault(line[2:].strip(), [])
             elif line.strip():
-                packet, told = line.rstrip("\n").split("\t", 1)
-                given, output = rows.get(sender, ("", ""))
-                rows[sender] = given + f"packet {packet}\n", output + told.replace("\t", "\n") + "\n"
-    return [Row(f"captured: {sender}", given, output) for sender, (given, output) in rows.items()]
+                packet, *told_parts = line.rstrip("\n").split("\t")
+                packets.append((packet, told_parts))
+    return senders
 
 
-ROWS = DEATHS + OUTCOMES + MISSING + RETRANSMISSIONS + REDS + REPORTS + PACKETS + SENT + REFUSED + BAD + captured()
+def played(sender, stream, packets):
+    """A row that plays a sender's audio: each packet of the stream is a unit with the payload that tshark tells, and so is the
+    primary block of each packet in RED (RFC 2198, section 3), here behind at most one older block."""
+    codec, rate, kind, *red_kind = stream.split()
+    setup = f"stream {codec} {rate} {kind}\nwait 1000 0 50\n" + (f"red {red_kind[0]} 960\n" if red_kind else "")
+    given = outcomes = units = ""
+    first = None
+    for packet, parts in packets:
+        given += f"datagram 0 {packet}\n"
+        _, its_kind, _, number, time, ssrc = parts[0].split()
+        if its_kind not in (kind, *red_kind):
+            outcomes += "other stream\n"
+            continue
+        first = first or (int(number), int(time))
+        payload = bytes.fromhex(parts[-1].split()[1])
+        if its_kind in red_kind:
+            older = int.from_bytes(payload[2:4], "big") % 1_024 if payload[0] & 0x80 else None
+            payload = payload[1:] if older is None else payload[5 + older :]
+        outcomes += "held\n"
+        place = FIRST + first[0] + (int(number) - first[0]) % 65_536
+        units += unit(place, payload.hex(), time=first[1] + (int(time) - first[1]) % 2**32)
+    return Row(f"played: {sender}", setup + "receive\n" + given + "pop 0\n" * (len(packets) + 1), outcomes + units + "none\n" * (
+        len(packets) + 1 - units.count("\n")))
+
+
+AUDIO = {
+    "GStreamer, Opus with the level of the audio": "opus 48000 96",
+    "GStreamer, Opus in RED": "opus 48000 96 63",
+    "GStreamer, G.711": "pcmu 8000 0",
+    "ffmpeg, Opus": "opus 48000 97",
+    "ffmpeg, G.711": "pcma 8000 8",
+    "Chromium, audio and video": "opus 48000 111",
+}
+CAPTURED = [
+    Row(
+        f"captured: {sender}",
+        "".join(f"packet {packet}\n" for packet, _ in packets),
+        "".join("".join(f"{part}\n" for part in parts) for _, parts in packets),
+    )
+    for sender, packets in captured().items()
+] + [played(sender, stream, captured()[sender]) for sender, stream in AUDIO.items()]
+
+ROWS = DEATHS + OUTCOMES + MISSING + RETRANSMISSIONS + REDS + REPORTS + PACKETS + SENT + REFUSED + BAD + CAPTURED

@@ -1,5 +1,7 @@
 #!/bin/sh
-# Makes the frames that the tests of codec_payload_media read, in the folder that is given, and prints what other tools tell of
+# Makes frames by encoders in the folder that is given: the files, each frame as a line of hexadecimal digits beside its file, and
+# what other tools tell of them in traces.txt and opus.txt. From them are the frames in the tests of codec_payload_media, and
+# scripts/media_peers.py reads them.
 #
 #     scripts/media_frames.sh FOLDER
 set -eu
@@ -37,6 +39,7 @@ video av1 small libaom-av1 -b:v 50k -cpu-used 8
 video av1_odd odd libaom-av1 -b:v 50k -cpu-used 8
 video av1_444 full_color libaom-av1 -b:v 50k -cpu-used 8
 video av1_10 ten_bit_420 libaom-av1 -b:v 50k -cpu-used 8
+video av1_still small libaom-av1 -frames:v 1 -still-picture 1 -b:v 50k -cpu-used 8
 
 # hidden frames, in superframes
 ffmpeg $quiet -f lavfi -i "testsrc2=size=176x144:rate=30" -frames:v 40 -pix_fmt yuv420p hidden.y4m

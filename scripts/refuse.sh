@@ -233,7 +233,8 @@ refuse_each "$work/input" "$work/whole" "opus in RED"
 
 # Each call, how many allocations there are at most, what it prints with all memory, and what it may print after fault 17. `packetize` cuts a frame twice, and
 # `depacketize` reads a payload twice, behind those before it; each of the others is told in the program's sources. Of what
-# stands behind "then" all memory is found.
+# stands behind "then" all memory is found. The rows from `ends` on take no memory: what is counted of them is the growth of the
+# printed text.
 while IFS='|' read -r name most whole after; do
     refuse_call "$name" "$whole" "$after" "$most"
 done <<'END'
@@ -288,6 +289,24 @@ red-sink-send|10|send ok, then 1: 6f0102 2: ef0f00026f010203|send fault 17, then
 push-sample|17|push_sample ok 1: 90802090 2: 80802091 3: 80802092 4: 80802093 5: 80802094, then 1: 90802090 2: 80802091 3: 80802092 4: 80802093 5: 80802094 6: 90802195|push_sample fault 17, then 1: 90802095|push_sample fault 17, then 1: 90802195|push_sample fault 17 1: 90802090, then 1: 90802090 2: 90802195|push_sample fault 17 1: 90802090 2: 80802091, then 1: 90802090 2: 80802091 3: 90802195|push_sample fault 17 1: 90802090 2: 80802091 3: 80802092, then 1: 90802090 2: 80802091 3: 80802092 4: 90802195|push_sample fault 17 1: 90802090 2: 80802091 3: 80802092 4: 80802093, then 1: 90802090 2: 80802091 3: 80802092 4: 80802093 5: 90802195
 run-schedule|24|run unit 10 10 1 9090 unit 11 11 1 91 none 10: 9090 11: 91 held 0 ready 0, then|run fault 17 held 0 ready 0, then|run fault 17 10: 9090 held 0 ready 0, then|run fault 17 10: 9090 11: 91 held 0 ready 0, then|run fault 17 10: 9090 11: 91 held 1 ready 1, then unit 10 10 1 9090|run fault 17 10: 9090 11: 91 held 2 ready 2, then unit 10 10 1 9090 unit 11 11 1 91|run fault 17 10: 9090 11: 91 held 1 ready 1, then unit 11 11 1 91
 run-schedule-red|33|run unit 10 10 1 9090 10: 609090 11: e002800260909091 held 1 ready 1, wraps e0028001609192, then unit 11 11 1 91|run fault 17 held 0 ready 0, wraps 6092, then|run fault 17 held 0 ready 0, wraps e005000260909092, then|run fault 17 10: 609090 held 0 ready 0, wraps e005000260909092, then|run fault 17 10: 609090 held 0 ready 0, wraps e0028001609192, then|run fault 17 10: 609090 11: e002800260909091 held 0 ready 0, wraps e0028001609192, then|run fault 17 10: 609090 11: e002800260909091 held 1 ready 1, wraps e0028001609192, then unit 10 10 1 9090|run fault 17 10: 609090 11: e002800260909091 held 2 ready 2, wraps e0028001609192, then unit 10 10 1 9090 unit 11 11 1 91
+ends opus|2|ends 111 111|
+ends pcmu|2|ends 111 111|
+ends g722|2|ends 111 111|
+ends cn|2|ends 111|
+ends amrwb|2|ends 111|
+ends amrwb-octet|2|ends 111|
+ends tele|2|ends 111|
+ends vp8|3|ends 101 001 001|
+ends vp8-id|2|ends 101 001|
+ends vp9|2|ends 101 001|
+ends vp9-flex|2|ends 101 001|
+ends av1|3|ends 101 101 001|
+ends null|2|ends 111|
+keyframes vp8|3|keyframes 1100 0100 0100 leb 2|
+keyframes vp9|3|keyframes 0110 0100 leb 2|
+keyframes av1|3|keyframes 1110 1000 0101 leb 2|
+patch|3|patch 90f0ffff094590|
+contiguity|3|contiguity 1111 0101|
 takes-none|4|pop none held 0 ready 0 limit 65536 packets 0 fault 2|
 END
 

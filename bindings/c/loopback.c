@@ -116,8 +116,13 @@ static void report(call *it) {
     cpay_receiver_counts_info counts = {0};
     check(cpay_sender_counts(&it->sender, &sent), "counts");
     check(cpay_receiver_counts(&it->receiver, &counts), "counts");
-    printf("sent %" PRIu32 " packets, received %" PRIu64 "\n", sent.packets, counts.received);
-    printf("duplicates %" PRIu64 ", late %" PRIu64 ", evicted %" PRIu64 "\n", counts.duplicates, counts.late, counts.evicted);
+    printf("sent %" PRIu32 " packets with %" PRIu32 " bytes of payload\n", sent.packets, sent.octets);
+    printf("received %" PRIu64 ", recovered %" PRIu64 ", retransmitted %" PRIu64 ", restarts %" PRIu64 "\n", counts.received,
+           counts.recovered, counts.retransmitted, counts.restarts);
+    printf("rtcp %" PRIu64 ", malformed %" PRIu64 ", other streams %" PRIu64 ", no media %" PRIu64 "\n", counts.rtcp,
+           counts.malformed, counts.other_streams, counts.no_media);
+    printf("duplicates %" PRIu64 ", late %" PRIu64 ", suspect %" PRIu64 ", evicted %" PRIu64 "\n", counts.duplicates, counts.late,
+           counts.suspect, counts.evicted);
     printf("released %" PRIu64 " in %" PRIu64 " units, left %" PRIu64 ", held %zu\n", counts.released, counts.units, counts.left,
            counts.held);
     printf("%" PRIu64 " bytes of frames, %" PRIu64 " gaps\n", it->bytes, it->gaps);

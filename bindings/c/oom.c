@@ -147,7 +147,7 @@ static int red(int *met) {
     return kept == before ? 0 : 7;
 }
 
-/* A stream of datagrams: frames in three packets, padding alone, and a sender that begins anew. */
+/* A stream of datagrams: frames in four packets, and a sender that begins anew. */
 static int datagrams(int *met) {
     long before = kept;
     cpay_spec spec = {.codec = CPAY_VP8, .rate = 90000};
@@ -192,6 +192,66 @@ static int datagrams(int *met) {
     }
     if (cpay_receiver_counts(&receiver, &counts) || counts.received != received || counts.restarts != 1) return 8;
     cpay_sender_free(&sender);
+    cpay_receiver_free(&receiver);
+    return kept == before ? 0 : 9;
+}
+
+/* A packet of Opus: its header of 12 bytes, and the payload. */
+static size_t packet(uint8_t *out, uint8_t type, uint8_t ssrc, uint8_t number, const char *payload, size_t size) {
+    const uint8_t header[12] = {0x80, type, 0, number, 0, 0, 0, number, 0, 0, 0, ssrc};
+    memcpy(out, header, sizeof header);
+    memcpy(out + 12, payload, size);
+    return 12 + size;
+}
+
+/* Of four packets the second comes in RED with the third (RFC 2198), and the last is sent again (RFC 4588). Padding comes alone. */
+static int recovery(int *met) {
+    long before = kept;
+    cpay_receiver_settings receives = CPAY_RECEIVER_SETTINGS;
+    cpay_receiver receiver = CPAY_INIT;
+    cpay_receiver_counts_info counts = {0};
+    cpay_unit unit = {0};
+    uint8_t bytes[32];
+    uint32_t outcome = 0;
+    uint64_t received = 5;
+    cpay_status status;
+    receives.spec = (cpay_spec){.codec = CPAY_OPUS, .rate = 48000};
+    receives.payload_type = 111;
+    receives.has_red = receives.has_rtx = true;
+    receives.red_payload_type = 63;
+    receives.red_step = 1;
+    receives.rtx_payload_type = 112;
+    receives.rtx_ssrc = 9;
+    AGAIN(status, cpay_receiver_new(&receiver, &receives, NULL, 0));
+    if (status) return 1;
+#define COMES(wanted, ...) \
+    do { \
+        size_t size = packet(bytes, __VA_ARGS__); \
+        AGAIN(status, cpay_receiver_receive(&receiver, 0, bytes, size, &outcome)); \
+        if (status || outcome != (wanted)) return 2; \
+    } while (0)
+    COMES(CPAY_HELD, 63, 7, 10, "\x6f\x0a", 2);
+    COMES(CPAY_HELD, 63, 7, 12, "\xef\0\x04\x01\x6f\x0b\x0c", 7);
+    /* A block for which memory was wanting stays missing, and can be sent again. */
+    if (cpay_receiver_counts(&receiver, &counts)) return 3;
+    if (counts.recovered == 0) {
+        if (!refused) return 4;
+        (*met)++;
+        received++;
+        COMES(CPAY_HELD, 112, 9, 1, "\0\x0b\x0b", 3);
+    }
+    COMES(CPAY_HELD, 112, 9, 2, "\0\x0d\x0d", 3);
+    COMES(CPAY_NO_MEDIA, 112, 9, 3, "", 0);
+    size_t size = packet(bytes, 111, 7, 14, "\1", 1);
+    bytes[0] |= 0x20; /* the byte is padding */
+    AGAIN(status, cpay_receiver_receive(&receiver, 0, bytes, size, &outcome));
+    if (status || outcome != CPAY_NO_MEDIA) return 5;
+    for (uint8_t number = 10; number < 14; number++) {
+        AGAIN(status, cpay_receiver_pop(&receiver, 0, &unit, bytes, 1));
+        if (status || unit.bytes != 1 || bytes[0] != number || !unit.contiguous) return 6;
+    }
+    if (cpay_receiver_counts(&receiver, &counts) || counts.received != received) return 7;
+    if (counts.released != 4 || counts.recovered + counts.retransmitted != 2 || counts.no_media != 2) return 8;
     cpay_receiver_free(&receiver);
     return kept == before ? 0 : 9;
 }
@@ -274,7 +334,8 @@ static int session(int *met) {
         if (ended) return 100 * (int)codecs[i] + ended;
     }
     int ended = red(met);
-    return ended ? ended : datagrams(met);
+    if (!ended) ended = datagrams(met);
+    return ended ? ended : recovery(met);
 }
 
 int main(void) {

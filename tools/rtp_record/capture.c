@@ -2,13 +2,19 @@
 
 #include "message.h"
 
+#include <errno.h>
 #include <pcap/pcap.h>
 #include <signal.h>
+#include <stdio.h>
 #include <stdlib.h>
 #include <string.h>
 #include <sys/stat.h>
 
-enum { SNAPSHOT = 262144, TIMEOUT = 100 /* milliseconds */ };
+enum {
+    SNAPSHOT = 262144,
+    TIMEOUT = 100, /* milliseconds */
+    AT_ONCE = 1 << 18, /* bytes that are read of a file at a time */
+};
 
 struct capture {
     pcap_t *pcap;
@@ -21,6 +27,8 @@ struct capture {
 static volatile sig_atomic_t stopped;
 
 void capture_stop(void) { stopped = 1; }
+
+int capture_stopped(void) { return stopped; }
 
 static int set_filter(capture *it, const char *filter) {
     struct bpf_program program;
@@ -50,6 +58,20 @@ static pcap_t *open_live(const char *name, char *error) {
     return NULL;
 }
 
+/* A file is opened here and not by libpcap, which would read it in pieces of 4 KiB. */
+static pcap_t *open_file(const char *name, char *error) {
+    int is_input = strcmp(name, "-") == 0;
+    FILE *file = is_input ? stdin : fopen(name, "rb");
+    if (!file) {
+        snprintf(error, PCAP_ERRBUF_SIZE, "%s", strerror(errno));
+        return NULL;
+    }
+    setvbuf(file, NULL, _IOFBF, AT_ONCE);
+    pcap_t *pcap = pcap_fopen_offline_with_tstamp_precision(file, PCAP_TSTAMP_PRECISION_NANO, error);
+    if (!pcap && !is_input) fclose(file);
+    return pcap;
+}
+
 capture *capture_open(const char *name, int live, const char *filter) {
     char error[PCAP_ERRBUF_SIZE] = "";
     struct stat about;
@@ -61,8 +83,8 @@ capture *capture_open(const char *name, int live, const char *filter) {
         return NULL;
     }
     it->live = live;
-    it->pcap = live ? open_live(name, error) : pcap_open_offline_with_tstamp_precision(name, PCAP_TSTAMP_PRECISION_NANO, error);
-    if (!it->pcap) complain("%s", strncmp(error, name, strlen(name)) == 0 ? error : error[0] ? error : name);
+    it->pcap = live ? open_live(name, error) : open_file(name, error);
+    if (!it->pcap) complain("%s: %s", name, error);
     if (!it->pcap || !set_filter(it, filter)) {
         capture_close(it);
         return NULL;
@@ -77,7 +99,7 @@ int capture_next(capture *it, capture_packet *packet) {
     struct pcap_pkthdr *header = NULL;
     const u_char *bytes = NULL;
     int status = 0;
-    while (!stopped && (status = pcap_next_ex(it->pcap, &header, &bytes)) == 0) progress(it->read, it->size, 0);
+    while (!stopped && (status = pcap_next_ex(it->pcap, &header, &bytes)) == 0) {}
     if (stopped || status == PCAP_ERROR_BREAK) return 0;
     if (status != 1) {
         complain("%s: %s", it->name, pcap_geterr(it->pcap));

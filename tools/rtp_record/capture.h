@@ -29,8 +29,9 @@ int capture_next(capture *it, capture_packet *packet);
 uint64_t capture_position(const capture *it);
 uint64_t capture_size(const capture *it);
 
-/* Ends the reading; for signal handlers. */
+/* Ends the reading; for signal handlers. And whether that was called. */
 void capture_stop(void);
+int capture_stopped(void);
 
 void capture_close(capture *it);
 

@@ -1,11 +1,12 @@
 #!/bin/sh
-# Makes the captures of captures/ on loopback: ffmpeg and GStreamer encode and send, tcpdump captures, and what the encoder gave is
-# kept as the MD5 of each frame.
+# Makes the captures of captures/ on loopback: ffmpeg, GStreamer and Chromium encode and send, tcpdump captures, and what the encoder
+# gave is kept as the MD5 of each frame.
 #
 #   ./live.sh [NAME..]     all captures, or those named
+#   ./live.sh interface    no capture, but a test of the recorder on the loopback interface
+#   ./live.sh gstreamer    no capture, but a comparison with what GStreamer gives of the captures
 #
-# Needs tcpdump (as root), ffmpeg, and GStreamer with its good, bad and libav plugins; a script of Debian installs them:
-# apt-get install tcpdump ffmpeg gstreamer1.0-tools gstreamer1.0-plugins-good gstreamer1.0-plugins-bad gstreamer1.0-libav
+# As root. Packages of Debian: tcpdump ffmpeg chromium gstreamer1.0-tools gstreamer1.0-plugins-good gstreamer1.0-plugins-bad
 set -eu
 cd "$(dirname "$0")"
 mkdir -p captures
@@ -30,6 +31,11 @@ capture() {
     wait $dump 2>/dev/null || true
 }
 
+# call NAME WANTED: a call of Chromium, of which live/chromium.html reads what is wanted
+call() {
+    echo "$1"
+    python3 live/chromium.py captures "$1" "$2"
+}
 
 picture="-f lavfi -i testsrc2=size=160x120:rate=15:duration=4"
 sound="-f lavfi -i sine=frequency=440:duration=4"
@@ -46,23 +52,31 @@ sends() {
     rm -f "captures/$name.mkv"
 }
 
-wanted=${*:-vp8 vp9 opus pcmu pcma g722 av1 amrwb}
+wanted=${*:-vp8 vp9 opus pcmu pcma g722 amrwb chromium-vp8 chromium-vp9 chromium-av1 chromium-red chromium-keys chromium-fec chromium-g722}
 for name in $wanted; do
     case $name in
+    interface | gstreamer) python3 "live/$name.py" ;;
     vp8) sends vp8 "$picture" -c:v libvpx -b:v 120k -g 30 -deadline realtime ;;
     vp9) sends vp9 "$picture" -c:v libvpx-vp9 -b:v 120k -g 30 -deadline realtime ;;
     opus) sends opus "$sound" -c:a libopus -b:a 24k ;;
     pcmu) sends pcmu "$sound" -ar 8000 -c:a pcm_mulaw ;;
     pcma) sends pcma "$sound" -ar 8000 -c:a pcm_alaw ;;
     g722) sends g722 "$sound" -ar 16000 -c:a g722 ;;
-    av1)
-        # ffmpeg 5.1 sends no AV1, and GStreamer 1.22 has its payloader in the bad plugins' Rust part alone
-        echo "av1: no sender here" >&2
-        ;;
     amrwb)
         capture amrwb gst-launch-1.0 -q audiotestsrc num-buffers=200 samplesperbuffer=320 is-live=true ! \
             audio/x-raw,rate=16000,channels=1 ! voamrwbenc ! tee name=t ! queue ! rtpamrpay pt=97 ! \
             udpsink host=127.0.0.1 port=$port t. ! queue ! filesink location=captures/amrwb.frames
+        ;;
+    chromium-vp8) call "$name" 'video=VP8,rtx&audio=opus&seconds=4' ;;
+    chromium-vp9) call "$name" 'video=VP9,rtx&seconds=4' ;;
+    chromium-av1) call "$name" 'video=AV1,rtx&seconds=4' ;;
+    chromium-red) call "$name" 'audio=red,opus&seconds=3' ;;
+    chromium-keys) call "$name" 'audio=opus,telephone-event&keys=1234%23&seconds=3' ;;
+    chromium-fec) call "$name" 'video=VP8,rtx,red,ulpfec&seconds=3' ;;
+    chromium-g722) call "$name" 'audio=G722,telephone-event,CN&keys=19&seconds=3' ;;
+    *)
+        echo "$name: no capture of that name is made here" >&2
+        exit 2
         ;;
     esac
 done

@@ -32,6 +32,7 @@ static void read_all(const options *wanted, capture *from, streams *to, streams_
         }
         progress(capture_position(from), capture_size(from), to->packets);
     }
+    progress_end();
 }
 
 static capture *open_capture(const options *wanted) {
@@ -71,6 +72,8 @@ static void run(options *wanted) {
     capture *from = open_capture(wanted);
     if (!from) return;
     read_all(wanted, from, &found, &wanted->output);
+    /* live, to be interrupted is the end that is wanted */
+    if (capture_stopped() && !wanted->interface) complain("%s: interrupted; what came before it is told and written", wanted->capture);
     streams_close(&found, &wanted->known, &wanted->output);
     if (wanted->json) report_json(&found);
     else report_table(&found);
@@ -85,6 +88,7 @@ int main(int count, char **words) {
         struct sigaction action = {.sa_handler = stop};
         sigaction(SIGINT, &action, NULL);
         sigaction(SIGTERM, &action, NULL);
+        signal(SIGXFSZ, SIG_IGN); /* a file that may not grow is told as one that cannot be written */
         av_log_set_level(AV_LOG_FATAL);
         run(&wanted);
     }

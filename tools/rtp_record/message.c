@@ -10,9 +10,13 @@ static unsigned long failures;
 static bool quiet;
 static bool line_open; /* a progress line stands on the terminal */
 
-static void say(const char *format, va_list words) {
+void progress_end(void) {
     if (line_open) fputs("\r\033[K", stderr);
     line_open = false;
+}
+
+static void say(const char *format, va_list words) {
+    progress_end();
     fputs("rtp_record: ", stderr);
     vfprintf(stderr, format, words);
     fputc('\n', stderr);
@@ -38,10 +42,17 @@ unsigned long complaints(void) { return failures; }
 
 void messages_quiet(void) { quiet = true; }
 
+/* Whether progress is shown: asked once, as it is wanted at each packet. */
+static bool shows_progress(void) {
+    static enum { UNKNOWN, SHOWN, HIDDEN } state;
+    if (state == UNKNOWN) state = !quiet && isatty(STDERR_FILENO) ? SHOWN : HIDDEN;
+    return state == SHOWN;
+}
+
 void progress(uint64_t bytes, uint64_t size, uint64_t packets) {
     static struct timespec before;
     struct timespec now;
-    if (quiet || !isatty(STDERR_FILENO) || clock_gettime(CLOCK_MONOTONIC, &now) != 0) return;
+    if (!shows_progress() || clock_gettime(CLOCK_MONOTONIC, &now) != 0) return;
     if ((now.tv_sec - before.tv_sec) * 1000 + (now.tv_nsec - before.tv_nsec) / 1000000 < 500) return;
     before = now;
     fprintf(stderr, "\r\033[K%llu packets, %.1f MB", (unsigned long long)packets, (double)bytes / 1e6);

@@ -26,4 +26,7 @@ void messages_quiet(void);
  * capture, or 0. */
 void progress(uint64_t bytes, uint64_t size, uint64_t packets);
 
+/* Clears that line. */
+void progress_end(void);
+
 #endif

@@ -14,6 +14,8 @@ static const char HELP[] =
     "  -i, --interface NAME   live, until it is interrupted\n"
     "  -f, --filter FILTER    packets of that filter of libpcap's language alone\n"
     "  -o, --output FOLDER    writes each stream into a file of that folder, named by its SSRC\n"
+    "  -o, --output FILE      writes the first stream into that file, and later ones beside it: by its ending a\n"
+    "                         .webm, .mkv, .mka, .ivf, .obu, .ogg, .opus, .wav or .awb\n"
     "  -m, --mux FILE         writes all streams into one file, put together in time by sender reports\n"
     "  -s, --sdp FILE         what was signalled, as SDP; may be given more than once\n"
     "  -p, --map PT=NAME/RATE a payload type by hand, with /CHANNELS and ;PARAMETERS behind it where they are wanted\n"
@@ -38,7 +40,10 @@ static options_answer take(options *it, int letter) {
     switch (letter) {
     case 'i': it->interface = optarg; return OPTIONS_RUN;
     case 'f': it->filter = optarg; return OPTIONS_RUN;
-    case 'o': it->output.folder = optarg; return OPTIONS_RUN;
+    case 'o':
+        if (writer_knows(optarg)) it->output.file = optarg;
+        else it->output.folder = optarg;
+        return OPTIONS_RUN;
     case 'm': it->output.mux = optarg; return OPTIONS_RUN;
     case 's': return signalling_read_sdp(&it->known, optarg) ? OPTIONS_RUN : OPTIONS_WRONG;
     case 'p':
@@ -67,7 +72,7 @@ options_answer options_read(options *it, int count, char **words) {
         complain("one capture, or one interface, is wanted; --help tells more");
         return OPTIONS_WRONG;
     }
-    if (it->output.folder && it->output.mux) {
+    if ((it->output.folder || it->output.file) && it->output.mux) {
         complain("--output and --mux do not go together");
         return OPTIONS_WRONG;
     }

@@ -10,8 +10,19 @@
 
 enum {
     TYPES = 128,
-    CLOCK = 1000000000, /* ticks of the capture's clock in a second */
+    CLOCK = 1000000000,  /* ticks of the capture's clock in a second */
+    MOST_HELD = 4 << 20, /* bytes of frames before the first keyframe, which tells the size of the picture */
 };
+
+/* A frame before the first keyframe, and those behind it. */
+typedef struct held {
+    struct held *next;
+    int64_t time;
+    uint64_t received;
+    unit_facts facts;
+    size_t size;
+    uint8_t bytes[];
+} held;
 
 struct record {
     record_stream stream;
@@ -22,10 +33,14 @@ struct record {
     cpay_receiver receiver;
     timeline times;
     record_totals totals;
+    held *first_held, **end_held;
+    size_t held_bytes;
     uint8_t *bytes; /* of a unit, as many as the largest so far */
     size_t room;
     int64_t last_time;
     int64_t last_duration;
+    uint64_t last_rtp; /* of the latest unit, without wrapping */
+    bool has_last;
     bool begun;
     bool lacking; /* a frame is missing since the latest keyframe */
     bool failed;
@@ -55,7 +70,7 @@ static bool receives(record *it) {
     if (it->stream.has_red) {
         settings.has_red = true;
         settings.red_payload_type = it->stream.red_payload_type;
-        settings.red_step = use->rate / 50;
+        settings.red_step = it->stream.red_step;
     }
     cpay_status status = cpay_receiver_new(&it->receiver, &settings, it->no_media, it->stream.no_media_len);
     return status == CPAY_OK || fail(it, cpay_status_text(status));
@@ -74,6 +89,7 @@ record *record_open(const record_stream *stream, writer *file, size_t track, con
     if (it->stream.no_media_len > TYPES) it->stream.no_media_len = TYPES;
     if (it->stream.no_media_len > 0) memcpy(it->no_media, stream->no_media, it->stream.no_media_len);
     it->stream.no_media = it->no_media;
+    it->end_held = &it->first_held;
     timeline_begin(&it->times, stream->use.rate);
     if (receives(it)) return it;
     free(it);
@@ -85,7 +101,7 @@ static bool is_wanted(record *it, const unit_facts *facts, bool follows) {
     if (!facts->video) return true;
     if (facts->keyframe) it->lacking = false;
     else if (!follows || !it->begun) it->lacking = true;
-    if (!it->begun && !facts->keyframe && !(it->options.all && facts->width > 0)) return false;
+    if (!it->begun && !facts->keyframe) return false;
     return !(it->options.clean && it->lacking);
 }
 
@@ -118,10 +134,46 @@ static bool put(record *it, int64_t time, int64_t duration, const unit_facts *fa
     };
     if (!writer_write(it->file, it->track, &frame)) return fail(it, "its frames cannot be written any more");
     it->totals.frames++;
+    it->totals.damaged += frame.damaged;
     it->totals.bytes += part.size;
     it->totals.seconds = (double)(time + duration) / it->stream.use.rate;
     it->last_time = time;
     it->last_duration = duration;
+    return true;
+}
+
+/* A frame before the first keyframe waits for it; where too much waits, it is left out. */
+static bool hold(record *it, int64_t time, const unit_facts *facts, const cpay_unit *unit) {
+    held *one = it->held_bytes + unit->bytes <= MOST_HELD ? malloc(sizeof *one + unit->bytes) : NULL;
+    if (!one) {
+        it->totals.skipped++;
+        return true;
+    }
+    *one = (held){.time = time, .received = unit->received, .facts = *facts, .size = unit->bytes};
+    memcpy(one->bytes, it->bytes, unit->bytes);
+    *it->end_held = one;
+    it->end_held = &one->next;
+    it->held_bytes += unit->bytes;
+    return true;
+}
+
+static void drop_held(record *it) {
+    while (it->first_held) {
+        held *one = it->first_held;
+        it->first_held = one->next;
+        free(one);
+    }
+    it->end_held = &it->first_held;
+    it->held_bytes = 0;
+}
+
+/* The frames before the first keyframe are written: what they refer to lacks. */
+static bool put_held(record *it) {
+    it->lacking = true;
+    for (const held *one = it->first_held; one; one = one->next)
+        if (!put(it, one->time, one->facts.duration, &one->facts, (unit_part){one->bytes, one->size})) return false;
+    it->lacking = false;
+    drop_held(it);
     return true;
 }
 
@@ -138,9 +190,22 @@ static bool fill_gap(record *it, int64_t until, const unit_facts *facts) {
     return true;
 }
 
+/* Whether a unit came before, under another number. RED tells how much older a payload is in time alone (RFC 2198, section 3), and
+ * the library reckons its number by that: where numbers without media stand between, a payload that was there comes again. */
+static bool is_repeated(record *it, const cpay_unit *unit) {
+    enum { REPEATED = 8 }; /* so many steps back at most is what RED repeats looked for */
+    bool repeated = it->stream.has_red && it->has_last && unit->rtp_time <= it->last_rtp &&
+                    it->last_rtp - unit->rtp_time <= (uint64_t)REPEATED * it->stream.red_step;
+    if (!repeated) it->last_rtp = unit->rtp_time;
+    it->has_last = true;
+    it->totals.repeated += repeated;
+    return repeated;
+}
+
 /* A unit becomes frames of the track: one, but of AMR-WB as many as it has. */
 static bool take_unit(record *it, const cpay_unit *unit) {
     unit_facts facts;
+    if (is_repeated(it, unit)) return true;
     if (!unit_look(&it->stream.use, it->bytes, unit->bytes, &facts)) {
         it->totals.refused++;
         it->lacking = true;
@@ -148,12 +213,15 @@ static bool take_unit(record *it, const cpay_unit *unit) {
     }
     bool follows = unit->contiguous && it->totals.frames + it->totals.skipped > 0;
     if (!follows && it->begun) it->totals.gaps++;
-    if (!is_wanted(it, &facts, follows)) {
+    bool holds = it->options.all && !it->options.clean && !it->begun && facts.video && !facts.keyframe;
+    if (!holds && !is_wanted(it, &facts, follows)) {
         it->totals.skipped++;
         return true;
     }
-    if (!it->begun && !begin(it, &facts, unit->received, unit->bytes)) return false;
     int64_t time = timeline_at(&it->times, unit->rtp_time, unit->received), began;
+    if (holds) return hold(it, time, &facts, unit);
+    uint64_t first = it->first_held ? it->first_held->received : unit->received;
+    if (!it->begun && !(begin(it, &facts, first, unit->bytes) && put_held(it))) return false;
     if (timeline_began(&it->times, &began)) writer_synchronize(it->file, it->track, began);
     if (!follows && !fill_gap(it, time, &facts)) return false;
     unit_parts parts;
@@ -204,7 +272,7 @@ static void count(record *it) {
     if (cpay_receiver_report(&it->receiver, &report) == CPAY_OK && report.cumulative_lost > 0)
         it->totals.lost = (uint64_t)report.cumulative_lost;
     if (cpay_receiver_counts(&it->receiver, &counts)) return;
-    it->totals.recovered = counts.recovered;
+    it->totals.recovered = counts.recovered - (counts.recovered < it->totals.repeated ? counts.recovered : it->totals.repeated);
     it->totals.duplicates = counts.duplicates;
     it->totals.late = counts.late;
     it->totals.restarts = counts.restarts;
@@ -212,6 +280,8 @@ static void count(record *it) {
 
 bool record_close(record *it, record_totals *totals) {
     if (!it->failed && cpay_receiver_finish(&it->receiver) == CPAY_OK) take_units(it, UINT64_MAX);
+    for (const held *one = it->first_held; one; one = one->next) it->totals.skipped++;
+    drop_held(it);
     count(it);
     *totals = it->totals;
     bool whole = !it->failed;

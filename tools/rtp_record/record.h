@@ -21,6 +21,7 @@ typedef struct {
     uint8_t payload_type;
     bool has_red; /* it is sent in RED, whose payload type this is */
     uint8_t red_payload_type;
+    uint32_t red_step; /* how many ticks of the RTP clock packets in RED are apart, 1 to 16383 */
     const uint8_t *no_media; /* payload types that come under its SSRC and carry no media of it */
     size_t no_media_len;
 } record_stream;
@@ -31,11 +32,13 @@ typedef struct {
     uint64_t bytes;   /* of these frames */
     uint64_t gaps;    /* frames that do not follow the one before */
     uint64_t skipped; /* frames before the first keyframe, or left out as damaged */
+    uint64_t damaged; /* written though what they refer to may lack */
     uint64_t refused; /* units that the codec's format refuses */
     uint64_t filled;  /* frames that were put where packets are lost */
     double seconds;   /* from the first frame to the last */
     uint64_t lost;    /* packets that never came, by their numbers */
-    uint64_t recovered;
+    uint64_t recovered; /* packets that others in RED carried */
+    uint64_t repeated;  /* units that RED gave though they had come */
     uint64_t duplicates;
     uint64_t late;
     uint64_t restarts;

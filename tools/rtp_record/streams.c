@@ -12,22 +12,21 @@
 
 /* ---- finding ---- */
 
-static stream *find(const streams *it, const wire_flow *flow, uint32_t ssrc) {
-    for (size_t i = 0; i < it->count; i++)
-        if (it->list[i]->ssrc == ssrc && memcmp(&it->list[i]->flow, flow, sizeof *flow) == 0) return it->list[i];
-    return NULL;
+static bool is_stream(const stream *it, const wire_flow *flow, uint32_t ssrc) {
+    return it->ssrc == ssrc && memcmp(&it->flow, flow, sizeof *flow) == 0;
 }
 
-/* A receiver of the stream's headers, whatever its payload types: it counts what is lost, late or there twice. */
-static bool count_headers(stream *it) {
-    cpay_receiver_settings settings = CPAY_RECEIVER_SETTINGS;
-    uint8_t others[PAYLOAD_TYPES - 1];
-    for (uint8_t type = 1; type < PAYLOAD_TYPES; type++) others[type - 1] = type;
-    settings.spec.codec = CPAY_NULL;
-    settings.spec.rate = it->use.rate;
-    settings.hold_back = 64;
-    settings.tick_rate = 1000000000;
-    return cpay_receiver_new(&it->statistics, &settings, others, sizeof others) == CPAY_OK;
+static size_t bucket_of(const wire_flow *flow, uint32_t ssrc) {
+    uint32_t mixed = (ssrc ^ (uint32_t)flow->source_port << 16 ^ flow->destination_port) * 2654435761u;
+    return mixed >> 22; /* the upper bits of a product are the mixed ones: 10 of them, for 1024 buckets */
+}
+
+/* The stream of a packet, which is mostly that of the packet before. */
+static stream *find(streams *it, const wire_flow *flow, uint32_t ssrc) {
+    if (it->latest && is_stream(it->latest, flow, ssrc)) return it->latest;
+    for (stream *one = it->buckets[bucket_of(flow, ssrc)]; one; one = one->next)
+        if (is_stream(one, flow, ssrc)) return it->latest = one;
+    return NULL;
 }
 
 static stream *add(streams *it, const wire_flow *flow, uint32_t ssrc) {
@@ -45,24 +44,39 @@ static stream *add(streams *it, const wire_flow *flow, uint32_t ssrc) {
     made->ssrc = ssrc;
     made->use = codec_use_unknown();
     made->payload_type = made->red_payload_type = PAYLOAD_TYPES;
+    stream **bucket = &it->buckets[bucket_of(flow, ssrc)];
+    made->next = *bucket;
+    *bucket = made;
     return it->list[it->count++] = made;
 }
 
 /* ---- what its payload types are ---- */
 
+/* The payload type inside RED, as it was signalled; else that of the packet's own block, or PAYLOAD_TYPES. */
+static uint8_t type_in_red(const codec_use *red, const uint8_t *payload, size_t size) {
+    static uint8_t media[UINT16_MAX];
+    cpay_red_block_info block = {0};
+    if (red->inner < PAYLOAD_TYPES) return red->inner;
+    for (size_t i = 0; cpay_red_block(payload, size, i, &block, media, sizeof media) == CPAY_OK; i++)
+        if (block.is_primary) return block.payload_type;
+    return PAYLOAD_TYPES;
+}
+
 /* The payload type of a packet tells the codec, if anything does yet. */
-static void settle_by(stream *it, const signalling *known, uint8_t payload_type) {
-    codec_use use = signalling_use(known, &it->flow, it->ssrc, payload_type);
-    it->encrypted = signalling_encrypts(known, &it->flow, it->ssrc, payload_type);
-    if (use.codec->kind == CODEC_RED) {
-        codec_use inner = use.inner < PAYLOAD_TYPES ? signalling_use(known, &it->flow, it->ssrc, use.inner) : codec_use_unknown();
+static void settle_by(stream *it, const signalling *known, const cpay_rtp_info *packet, const uint8_t *bytes) {
+    codec_use use = signalling_use(known, &it->flow, it->ssrc, packet->payload_type);
+    it->encrypted = signalling_encrypts(known, &it->flow, it->ssrc, packet->payload_type);
+    if (use.codec->kind == CODEC_RED && !it->encrypted) {
+        uint8_t type = type_in_red(&use, bytes + packet->payload_at, packet->payload_len);
+        codec_use inner = type < PAYLOAD_TYPES ? signalling_use(known, &it->flow, it->ssrc, type) : codec_use_unknown();
         if (!codec_is_media(&inner)) return;
-        it->red_payload_type = payload_type;
-        it->payload_type = use.inner;
+        it->red_payload_type = packet->payload_type;
+        it->payload_type = type;
         use = inner;
     } else if (codec_is_media(&use)) {
-        it->payload_type = payload_type;
+        it->payload_type = packet->payload_type;
     } else if (use.codec->kind != CODEC_UNSUPPORTED) {
+        if (it->use.codec->kind == CODEC_UNKNOWN) it->use = use; /* as it is called; media may come yet */
         return;
     }
     it->use = use;
@@ -82,12 +96,51 @@ static size_t beside(const stream *it, const signalling *known, uint8_t types[PA
 
 /* ---- recording ---- */
 
-static bool name_file(stream *it, const char *folder, const char *ending) {
-    size_t size = strlen(folder) + 32;
-    it->path = malloc(size);
-    if (!it->path) return false;
-    snprintf(it->path, size, "%s/%08" PRIx32 ".%s", folder, it->ssrc, ending);
-    return true;
+/* How many ticks of the RTP clock packets in RED are apart: the least step between two of those kept, one behind the other by
+ * their numbers; else 20 ms. */
+static uint32_t step_of(const stream *it) {
+    uint32_t least = 0;
+    cpay_rtp_info before = {0}, packet = {0};
+    for (size_t i = 0; i < it->kept_count; i++, before = packet) {
+        if (cpay_rtp_read(it->kept[i].bytes, it->kept[i].size, &packet)) continue;
+        uint32_t step = packet.timestamp - before.timestamp;
+        bool follows = i > 0 && packet.sequence_number == (uint16_t)(before.sequence_number + 1);
+        if (follows && step > 0 && step < 1 << 14 && (!least || step < least)) least = step;
+    }
+    return least ? least : it->use.rate / 50;
+}
+
+/* Where something of a stream goes: FOLDER/SSRC.ENDING, or beside the file that was named. A second flow with the same SSRC, and a
+ * second stream beside a file, get a name of their own. NULL where memory is wanting. */
+static char *path_of(const streams *all, const stream *it, const streams_output *output, const char *ending) {
+    size_t before = 0;
+    char number[24] = "";
+    for (size_t i = 0; all->list[i] != it; i++) before += all->list[i]->ssrc == it->ssrc;
+    if (before > 0) snprintf(number, sizeof number, "-%zu", before + 1);
+    const char *base = output->folder ? output->folder : output->file;
+    size_t size = strlen(base) + strlen(ending) + 48;
+    char *path = malloc(size);
+    if (!path) return NULL;
+    const char *dot = strrchr(base, '.');
+    int stem = output->folder || !dot ? (int)strlen(base) : (int)(dot - base);
+    if (it->has_name) snprintf(path, size, "%.*s.%s", stem, base, ending);
+    else snprintf(path, size, "%.*s%c%08" PRIx32 "%s.%s", stem, base, output->folder ? '/' : '-', it->ssrc, number, ending);
+    return path;
+}
+
+/* The file of one stream alone. */
+static void begin_file(streams *all, stream *it, const record_stream *described, streams_output *output) {
+    const char *ending = it->use.codec->extension;
+    if (output->folder && mkdir(output->folder, 0777) != 0 && errno != EEXIST)
+        complain("%s: %s", output->folder, strerror(errno));
+    if (output->file) {
+        it->has_name = !output->file_is_taken;
+        output->file_is_taken = true;
+        ending = strrchr(output->file, '.') + 1;
+    }
+    it->path = path_of(all, it, output, ending);
+    if (it->path) it->file = writer_new(it->path, 1);
+    if (it->file) it->record = record_open(described, it->file, 0, &output->options);
 }
 
 static void begin_record(streams *all, stream *it, const signalling *known, streams_output *output) {
@@ -98,74 +151,86 @@ static void begin_record(streams *all, stream *it, const signalling *known, stre
         .payload_type = it->payload_type,
         .has_red = it->red_payload_type < PAYLOAD_TYPES,
         .red_payload_type = it->red_payload_type,
+        .red_step = step_of(it),
         .no_media = types,
     };
     described.no_media_len = beside(it, known, types);
-    if (output->folder) {
-        if (mkdir(output->folder, 0777) != 0 && errno != EEXIST) complain("%s: %s", output->folder, strerror(errno));
-        if (!name_file(it, output->folder, it->use.codec->extension)) return;
-        it->file = writer_new(it->path, 1);
-        if (it->file) it->record = record_open(&described, it->file, 0, &output->options);
-    } else if (output->together) {
+    if (output->together) {
         size_t track = 0;
         for (size_t i = 0; i < all->count; i++) track += all->list[i]->record != NULL;
         it->record = record_open(&described, output->together, track, &output->options);
+    } else {
+        begin_file(all, it, &described, output);
+    }
+    if (!it->record) return;
+    for (size_t i = 0; i < REPORTS && i < all->report_count; i++) {
+        const wire_report *report = &all->reports[i];
+        if (report->ssrc == it->ssrc) record_sender_report(it->record, report->ntp, report->rtp_time);
     }
 }
 
 /* A packet of a stream whose codec is known goes to its file and its events. */
 static void take(stream *it, const signalling *known, uint64_t time, const uint8_t *bytes, size_t size, uint8_t payload_type) {
-    codec_use use = signalling_use(known, &it->flow, it->ssrc, payload_type);
     if (it->record) record_datagram(it->record, time, bytes, size);
-    if (use.codec->kind == CODEC_EVENTS && !it->events) it->events = events_new(payload_type, use.rate);
+    if (!it->events && payload_type != it->payload_type && payload_type != it->red_payload_type) {
+        codec_use use = signalling_use(known, &it->flow, it->ssrc, payload_type);
+        if (use.codec->kind == CODEC_EVENTS) it->events = events_new(payload_type, use.rate);
+    }
     if (it->events) events_datagram(it->events, time, bytes, size);
 }
 
 static uint8_t type_of(const uint8_t *bytes) { return bytes[1] & 0x7f; }
 
-/* The codec is known, or will not be: what was kept goes where it belongs. */
-static void settle(streams *all, stream *it, const signalling *known, streams_output *output) {
-    if (!it->settled) {
-        it->use = guess_codec(it);
-        for (size_t i = 0; i < it->kept_count && it->payload_type == PAYLOAD_TYPES; i++) it->payload_type = type_of(it->kept[i].bytes);
-    }
-    it->settled = true;
-    bool writes = (output->folder || output->together) && it->valid && !it->encrypted && codec_is_media(&it->use);
-    if (writes) begin_record(all, it, known, output);
+static void drop_kept(streams *all, stream *it) {
     for (size_t i = 0; i < it->kept_count; i++) {
-        take(it, known, it->kept[i].time, it->kept[i].bytes, it->kept[i].size, type_of(it->kept[i].bytes));
+        all->kept_bytes -= it->kept[i].size;
         free(it->kept[i].bytes);
     }
     it->kept_count = 0;
 }
 
-static void keep(stream *it, uint64_t time, const uint8_t *bytes, size_t size) {
+/* The codec is known, or will not be: what was kept goes where it belongs. */
+static void settle(streams *all, stream *it, const signalling *known, streams_output *output) {
+    if (!it->settled && it->use.codec->kind == CODEC_UNKNOWN) {
+        it->use = guess_codec(it);
+        for (size_t i = 0; i < it->kept_count && it->payload_type == PAYLOAD_TYPES; i++) it->payload_type = type_of(it->kept[i].bytes);
+    }
+    it->settled = true;
+    bool writes = (output->folder || output->file || output->together) && it->valid && !it->encrypted && codec_is_media(&it->use);
+    if (writes) begin_record(all, it, known, output);
+    for (size_t i = 0; i < it->kept_count; i++)
+        take(it, known, it->kept[i].time, it->kept[i].bytes, it->kept[i].size, type_of(it->kept[i].bytes));
+    drop_kept(all, it);
+}
+
+static void keep(streams *all, stream *it, uint64_t time, const uint8_t *bytes, size_t size) {
     uint8_t *copy = malloc(size);
     if (!copy) return;
     memcpy(copy, bytes, size);
     it->kept[it->kept_count++] = (kept_packet){time, copy, size};
+    all->kept_bytes += size;
+}
+
+/* A packet is kept until the stream is valid and its codec known; what it is has to be settled once too much is kept. */
+static void keep_or_settle(streams *all, stream *it, const signalling *known, streams_output *output, uint64_t time,
+                           const uint8_t *bytes, size_t size) {
+    keep(all, it, time, bytes, size);
+    if (!it->valid && (it->kept_count == MOST_KEPT || all->kept_bytes > MOST_KEPT_BYTES)) drop_kept(all, it);
+    else if (it->valid && (it->settled || it->kept_count == MOST_KEPT || all->kept_bytes > MOST_KEPT_BYTES))
+        settle(all, it, known, output);
 }
 
 /* ---- datagrams ---- */
 
-static void count_packet(stream *it, uint64_t time, const cpay_rtp_info *packet, const uint8_t *bytes, size_t size) {
-    uint8_t header[WIRE_RTP_HEADER + 1] = {0};
-    uint32_t outcome = 0;
-    cpay_unit unit = {0};
-    uint8_t byte = 0;
+static void count_packet(stream *it, uint64_t time, const cpay_rtp_info *packet, size_t size) {
     if (it->packets == 0) it->first = time;
     else if ((uint16_t)(packet->sequence_number - it->number) == 1) it->valid = true;
-    if (it->packets > 0 && (int16_t)(packet->sequence_number - it->number) < 0) it->reordered++;
-    if (it->packets == 0 || (int16_t)(packet->sequence_number - it->number) > 0 || !it->valid) it->number = packet->sequence_number;
+    it->number = packet->sequence_number;
     it->packets++;
     it->bytes += size;
     it->of_type[packet->payload_type]++;
     if (time > it->last) it->last = time;
-    memcpy(header, bytes, WIRE_RTP_HEADER);
-    header[0] = 0x80;
-    header[1] = 0; /* one type for all, so that each packet counts */
-    if (cpay_receiver_receive(&it->statistics, time, header, sizeof header, &outcome)) return;
-    while (cpay_receiver_pop(&it->statistics, time, &unit, &byte, 1) == CPAY_OK) {}
+    statistics_packet(&it->headers, time, it->use.rate, packet);
 }
 
 static void take_rtp(streams *all, const signalling *known, streams_output *output, uint64_t time, const wire_datagram *datagram) {
@@ -178,39 +243,40 @@ static void take_rtp(streams *all, const signalling *known, streams_output *outp
     }
     stream *it = find(all, &datagram->flow, packet.ssrc);
     if (!it && (it = add(all, &datagram->flow, packet.ssrc))) {
-        settle_by(it, known, packet.payload_type);
-        if (!count_headers(it)) complain("stream %08" PRIx32 ": out of memory", it->ssrc);
+        settle_by(it, known, &packet, bytes);
     }
     if (!it) {
         all->passed_over++;
         return;
     }
     all->rtp++;
-    count_packet(it, time, &packet, bytes, size);
+    count_packet(it, time, &packet, size);
     if (it->settled && it->kept_count == 0 && it->valid) {
         take(it, known, time, bytes, size, packet.payload_type);
         return;
     }
-    if (!it->settled) settle_by(it, known, packet.payload_type);
-    keep(it, time, bytes, size);
-    bool waits = !it->valid || (!it->settled && it->kept_count < MOST_KEPT);
-    if (!waits || it->kept_count == MOST_KEPT) settle(all, it, known, output);
+    if (!it->settled) settle_by(it, known, &packet, bytes);
+    keep_or_settle(all, it, known, output, time, bytes, size);
 }
 
 static void take_rtcp(streams *it, const wire_datagram *datagram) {
     wire_rtcp rtcp = wire_rtcp_of(datagram->payload);
     wire_report report;
     it->rtcp++;
-    while (wire_rtcp_next(&rtcp, &report))
+    while (wire_rtcp_next(&rtcp, &report)) {
+        if (report.kind != WIRE_SENDER_REPORT) continue;
+        it->reports[it->report_count++ % REPORTS] = report;
         for (size_t i = 0; i < it->count; i++)
-            if (report.kind == WIRE_SENDER_REPORT && it->list[i]->ssrc == report.ssrc && it->list[i]->record)
+            if (it->list[i]->ssrc == report.ssrc && it->list[i]->record)
                 record_sender_report(it->list[i]->record, report.ntp, report.rtp_time);
+    }
 }
 
 void streams_datagram(streams *it, const signalling *known, streams_output *output, uint64_t time, const wire_datagram *datagram) {
     switch (wire_protocol_of(datagram->payload)) {
     case WIRE_STUN: it->stun++; break;
     case WIRE_DTLS: it->dtls++; break;
+    case WIRE_ZRTP: it->zrtp++; break;
     case WIRE_RTP_OR_RTCP:
         if (cpay_is_rtcp(datagram->payload.at, datagram->payload.left)) take_rtcp(it, datagram);
         else take_rtp(it, known, output, time, datagram);
@@ -223,16 +289,15 @@ void streams_datagram(streams *it, const signalling *known, streams_output *outp
 
 static void close_stream(streams *all, stream *it, const signalling *known, streams_output *output) {
     if (it->valid && it->kept_count > 0) settle(all, it, known, output);
-    if (it->record && !record_close(it->record, &it->totals)) complain("stream %08" PRIx32 ": not written as a whole", it->ssrc);
+    bool whole = !it->record || record_close(it->record, &it->totals);
     it->record = NULL;
-    if (it->file) writer_close(it->file);
+    if (it->file && !writer_close(it->file)) whole = false;
     it->file = NULL;
-    if (it->events && events_count(it->events) > 0 && output->folder) {
-        char *path = it->path;
-        it->path = NULL;
-        if (name_file(it, output->folder, "events.json")) events_write(it->events, it->path);
-        free(it->path);
-        it->path = path;
+    if (!whole) complain("stream %08" PRIx32 ": %s is not written as a whole", it->ssrc, it->path ? it->path : output->mux);
+    if (it->events && events_count(it->events) > 0 && (output->folder || output->file)) {
+        char *path = path_of(all, it, output, "events.json");
+        if (path) events_write(it->events, path);
+        free(path);
     }
 }
 
@@ -245,8 +310,7 @@ void streams_close(streams *it, const signalling *known, streams_output *output)
 void streams_free(streams *it) {
     for (size_t i = 0; i < it->count; i++) {
         stream *one = it->list[i];
-        for (size_t k = 0; k < one->kept_count; k++) free(one->kept[k].bytes);
-        cpay_receiver_free(&one->statistics);
+        drop_kept(it, one);
         events_free(one->events);
         free(one->path);
         free(one);

@@ -6,12 +6,19 @@
 #include "events.h"
 #include "record.h"
 #include "sdp.h"
+#include "statistics.h"
 #include "wire.h"
 #include "writer.h"
 
 #include <codec_payload.h>
 
-enum { MOST_STREAMS = 4096, MOST_KEPT = 64 /* packets of a stream whose codec is not known yet */ };
+enum {
+    MOST_STREAMS = 4096,
+    MOST_KEPT = 64,            /* packets of a stream whose codec is not known yet */
+    MOST_KEPT_BYTES = 8 << 20, /* of all such streams */
+    BUCKETS = 1024,
+    REPORTS = 64, /* sender reports that are kept for streams that are not written yet */
+};
 
 typedef struct {
     uint64_t time;
@@ -19,25 +26,27 @@ typedef struct {
     size_t size;
 } kept_packet;
 
-typedef struct {
+typedef struct stream {
+    struct stream *next; /* in its bucket */
     wire_flow flow;
     uint32_t ssrc;
     bool valid; /* two packets in sequence came (RFC 3550, appendix A.1) */
     bool encrypted;
-    uint16_t number; /* the greatest so far, modulo 65536 */
-    uint64_t packets, bytes, reordered;
+    uint16_t number; /* of the packet before */
+    uint64_t packets, bytes;
     uint64_t first, last; /* when its packets came, in nanoseconds since 1970 */
     uint64_t of_type[PAYLOAD_TYPES];
     codec_use use;             /* of its media */
     uint8_t payload_type;      /* of its media, inside RED too */
     uint8_t red_payload_type;  /* PAYLOAD_TYPES where there is no RED */
     bool settled;              /* the codec is known, or given up */
-    cpay_receiver statistics;  /* of its headers alone */
+    statistics headers;
     kept_packet kept[MOST_KEPT]; /* until it is settled */
     size_t kept_count;
     record *record;
     writer *file;
-    char *path;
+    char *path;       /* of the file that is written */
+    bool has_name;    /* it has the name of the output as it is */
     events *events;
     record_totals totals;
 } stream;
@@ -45,14 +54,21 @@ typedef struct {
 typedef struct {
     stream **list;
     size_t count, room;
-    uint64_t packets, rtp, rtcp, fragments, cut, malformed, stun, dtls, other, passed_over;
+    stream *buckets[BUCKETS];
+    stream *latest; /* the stream of the packet before */
+    size_t kept_bytes;
+    wire_report reports[REPORTS]; /* the latest sender reports, whose place is their count modulo REPORTS */
+    size_t report_count;
+    uint64_t packets, rtp, rtcp, fragments, cut, malformed, stun, dtls, zrtp, other, passed_over;
 } streams;
 
 /* How streams are written. */
 typedef struct {
-    const char *folder;  /* one file a stream; NULL: none */
-    const char *mux;     /* or all of them into this file */
-    writer *together;    /* which is made once the streams are known */
+    const char *folder; /* one file a stream; NULL: none */
+    const char *file;   /* or this one for the first stream, and those behind it beside it */
+    bool file_is_taken;
+    const char *mux;  /* or all of them into this file */
+    writer *together; /* which is made once the streams are known */
     record_options options;
 } streams_output;
 

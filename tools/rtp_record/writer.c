@@ -4,16 +4,20 @@
 
 #include <libavcodec/avcodec.h>
 #include <libavformat/avformat.h>
+#include <stdio.h>
 #include <stdlib.h>
 #include <string.h>
+#include <sys/stat.h>
+#include <unistd.h>
 
 enum {
     MOST_TRACKS = 16,
     MOST_WAITING = 16 << 20, /* bytes that wait at most until it is known how tracks lie in time */
 };
 
-/* and so long */
-static const int64_t LONGEST_WAIT = 10000000000;
+/* In nanoseconds: so long they wait; so far apart the clocks of two senders are two clocks; so much media is lost at most where the
+ * disk is full. */
+static const int64_t LONGEST_WAIT = 10000000000, CLOCKS_APART = 10000000000, BETWEEN_FLUSHES = 1000000000;
 
 /* A packet that waits, and those behind it. */
 typedef struct waiting {
@@ -31,7 +35,7 @@ typedef struct {
     int64_t offset;    /* from the beginning of the file */
     AVRational base;
     AVStream *stream;
-    int64_t last; /* time of its latest packet, in the time base of its stream */
+    int64_t last; /* of its latest packet, in the time base of its stream */
     bool has_last;
 } track;
 
@@ -42,6 +46,9 @@ struct writer {
     track track[MOST_TRACKS];
     bool begun; /* the header is written */
     bool failed;
+    int64_t flushed; /* time of the packet after which the file was flushed */
+    int64_t whole;   /* how many bytes it had then: so far it plays, whatever comes */
+    AVPacket *lent;  /* with one track: each frame in turn, whose bytes are the caller's */
     waiting *first, **end; /* until then */
     size_t waiting_bytes;
 };
@@ -57,12 +64,25 @@ static bool fail(writer *file, const char *what, int error) {
     return false;
 }
 
+static bool ends_with(const char *path, const char *ending) {
+    size_t length = strlen(path), rest = strlen(ending);
+    return length > rest && !strcmp(path + length - rest, ending);
+}
+
+bool writer_knows(const char *path) {
+    static const char *const endings[] = {".webm", ".mkv", ".mka", ".ivf", ".obu", ".ogg", ".opus", ".wav", ".awb"};
+    for (size_t i = 0; i < sizeof endings / sizeof *endings; i++)
+        if (ends_with(path, endings[i])) return true;
+    return false;
+}
+
 writer *writer_new(const char *path, size_t tracks) {
     writer *file = calloc(1, sizeof *file);
     if (file) file->path = strdup(path);
-    if (!file || !file->path) {
+    if (file) file->lent = av_packet_alloc();
+    if (!file || !file->path || !file->lent) {
         complain("%s: out of memory", path);
-        free(file);
+        if (file) writer_close(file);
         return NULL;
     }
     file->tracks = tracks < MOST_TRACKS ? tracks : MOST_TRACKS;
@@ -93,7 +113,18 @@ static bool describe(writer *file, AVStream *stream, const writer_track *info) {
     return true;
 }
 
-/* Gives a packet to the file, in the time base of its stream, behind the one before. */
+/* What was written goes to the disk, up to the end of a packet, and of Matroska a cluster. */
+static bool flush(writer *file) {
+    int error = av_write_frame(file->format, NULL);
+    avio_flush(file->format->pb);
+    if (error >= 0) error = file->format->pb->error;
+    if (error < 0) return fail(file, "cannot be written", error);
+    file->whole = avio_tell(file->format->pb);
+    return true;
+}
+
+/* Gives a packet, whose times are in nanoseconds from the beginning of its track, to the file: in the time base of its stream,
+ * behind the one before. */
 static bool put(writer *file, AVPacket *packet) {
     track *to = NULL;
     for (size_t i = 0; i < file->tracks; i++)
@@ -101,13 +132,17 @@ static bool put(writer *file, AVPacket *packet) {
     if (!to) return fail(file, "a packet of no track", 0);
     packet->pts += to->offset;
     packet->dts = packet->pts;
+    int64_t time = packet->pts;
     av_packet_rescale_ts(packet, NANOSECONDS, to->stream->time_base);
     if (to->has_last && packet->pts <= to->last) packet->pts = to->last + 1;
     packet->dts = packet->pts;
     to->last = packet->pts;
     to->has_last = true;
-    int error = av_interleaved_write_frame(file->format, packet);
-    return error < 0 ? fail(file, "cannot be written", error) : true;
+    int error = file->tracks == 1 ? av_write_frame(file->format, packet) : av_interleaved_write_frame(file->format, packet);
+    if (error < 0) return fail(file, "cannot be written", error);
+    if (time - file->flushed < BETWEEN_FLUSHES) return true;
+    file->flushed = time;
+    return flush(file);
 }
 
 static bool all(const writer *file, bool synchronized) {
@@ -116,9 +151,21 @@ static bool all(const writer *file, bool synchronized) {
     return true;
 }
 
+/* Whether the clocks of the senders go together: each track began as long behind the first one by these clocks as by the
+ * capture's, to within some seconds. Two senders can have two clocks. */
+static bool one_clock(const writer *file) {
+    const track *first = &file->track[0];
+    for (size_t i = 1; i < file->tracks; i++) {
+        const track *it = &file->track[i];
+        int64_t apart = (it->began - first->began) - (it->received - first->received);
+        if (apart > CLOCKS_APART || apart < -CLOCKS_APART) return false;
+    }
+    return true;
+}
+
 /* Puts the tracks that have begun together in time, the first at 0. */
 static void put_together(writer *file) {
-    bool by_senders = all(file, true);
+    bool by_senders = all(file, true) && one_clock(file);
     int64_t first = INT64_MAX;
     for (size_t i = 0; i < file->tracks; i++) {
         track *it = &file->track[i];
@@ -135,13 +182,9 @@ static bool begin_file(writer *file) {
     put_together(file);
     file->begun = true;
     if ((error = avio_open(&file->format->pb, file->path, AVIO_FLAG_WRITE)) < 0) return fail(file, "cannot be made", error);
-    /* What is written plays though the program is ended: clusters and pages of at most a second. */
-    file->format->flush_packets = 1;
-    AVDictionary *options = NULL;
-    av_dict_set(&options, "cluster_time_limit", "1000", 0);
-    error = avformat_write_header(file->format, &options);
-    av_dict_free(&options);
-    if (error < 0) return fail(file, "the format does not take it", error);
+    file->format->flush_packets = 0; /* this is done here, once a second */
+    if ((error = avformat_write_header(file->format, NULL)) < 0) return fail(file, "the format does not take it", error);
+    if (!flush(file)) return false;
     while (file->first && !file->failed) {
         waiting *it = file->first;
         file->first = it->next;
@@ -162,7 +205,7 @@ bool writer_begin(writer *file, size_t number, const writer_track *info) {
     track *it = &file->track[number];
     if (file->failed || it->begun || it->given_up) return !file->failed && it->begun;
     if (!file->format) {
-        int error = avformat_alloc_output_context2(&file->format, NULL, strstr(file->path, ".awb") ? "amr" : NULL, file->path);
+        int error = avformat_alloc_output_context2(&file->format, NULL, ends_with(file->path, ".awb") ? "amr" : NULL, file->path);
         if (error < 0) return fail(file, "no format is known by its ending", error);
     }
     if (avformat_query_codec(file->format->oformat, info->codec, FF_COMPLIANCE_NORMAL) == 0) {
@@ -179,20 +222,37 @@ bool writer_begin(writer *file, size_t number, const writer_track *info) {
     return true;
 }
 
-/* A packet of a frame, with its time in nanoseconds from the beginning of its track. */
-static AVPacket *packet_of(const track *of, const writer_frame *frame) {
+/* What a frame is besides its bytes, with its time in nanoseconds from the beginning of its track. */
+static void describe_frame(AVPacket *packet, const track *of, const writer_frame *frame) {
+    packet->stream_index = of->stream->index;
+    packet->flags = 0;
+    packet->pts = packet->dts = av_rescale_q(frame->time, of->base, NANOSECONDS);
+    packet->duration = av_rescale_q(frame->duration, of->base, NANOSECONDS);
+    if (frame->keyframe) packet->flags |= AV_PKT_FLAG_KEY;
+    if (frame->damaged) packet->flags |= AV_PKT_FLAG_CORRUPT;
+}
+
+/* A frame with a copy of its bytes. */
+static AVPacket *copy_of(const track *of, const writer_frame *frame) {
     AVPacket *packet = av_packet_alloc();
     if (!packet || av_new_packet(packet, (int)frame->size) < 0) {
         av_packet_free(&packet);
         return NULL;
     }
     memcpy(packet->data, frame->bytes, frame->size);
-    packet->stream_index = of->stream->index;
-    packet->pts = packet->dts = av_rescale_q(frame->time, of->base, NANOSECONDS);
-    packet->duration = av_rescale_q(frame->duration, of->base, NANOSECONDS);
-    if (frame->keyframe) packet->flags |= AV_PKT_FLAG_KEY;
-    if (frame->damaged) packet->flags |= AV_PKT_FLAG_CORRUPT;
+    describe_frame(packet, of, frame);
     return packet;
+}
+
+/* A frame of a file's only track. libavformat does not keep it, or copies it first, so its bytes stay the caller's. */
+static bool put_lent(writer *file, const track *to, const writer_frame *frame) {
+    describe_frame(file->lent, to, frame);
+    file->lent->data = (uint8_t *)frame->bytes; /* which libavformat does not change */
+    file->lent->size = (int)frame->size;
+    bool put_in = put(file, file->lent);
+    file->lent->data = NULL;
+    file->lent->size = 0;
+    return put_in;
 }
 
 /* A packet waits until it is known how tracks lie in time, or too much waits. */
@@ -212,31 +272,47 @@ static bool hold(writer *file, AVPacket *packet) {
 bool writer_write(writer *file, size_t number, const writer_frame *frame) {
     const track *to = &file->track[number];
     if (file->failed || !to->begun || frame->size > INT32_MAX) return false;
-    AVPacket *packet = packet_of(to, frame);
+    if (!file->begun && all(file, file->tracks > 1) && !begin_file(file)) return false;
+    if (file->begun && file->tracks == 1) return put_lent(file, to, frame);
+    AVPacket *packet = copy_of(to, frame);
     if (!packet) return fail(file, "out of memory", 0);
-    if (!file->begun && all(file, file->tracks > 1) && !begin_file(file)) {
-        av_packet_free(&packet);
-        return false;
-    }
     if (!file->begun) return hold(file, packet);
     bool put_in = put(file, packet);
     av_packet_free(&packet);
     return put_in;
 }
 
+/* Ends a file: all that waits is written ahead of the trailer, so that without the trailer it is there too. */
+static void end_file(writer *file) {
+    int error = file->tracks > 1 ? av_interleaved_write_frame(file->format, NULL) : 0;
+    if (error < 0) fail(file, "cannot be written", error);
+    if (file->failed || !flush(file)) return;
+    error = av_write_trailer(file->format);
+    if (error >= 0) error = file->format->pb->error;
+    if (error < 0) fail(file, "cannot be ended", error);
+}
+
+/* What could not be written as a whole ends where it was whole last, and plays up to there. */
+static void cut_off(const writer *file) {
+    struct stat about;
+    if (stat(file->path, &about) != 0 || !S_ISREG(about.st_mode)) return;
+    if (file->whole == 0) remove(file->path);
+    else if (truncate(file->path, file->whole) != 0) complain("%s: cannot be cut off behind what is whole", file->path);
+}
+
 bool writer_close(writer *file) {
-    if (file->format && !file->failed && (file->begun || (file->first && begin_file(file)))) {
-        int error = av_write_trailer(file->format);
-        if (error < 0) fail(file, "cannot be ended", error);
-    }
+    if (file->format && !file->failed && (file->begun || (file->first && begin_file(file)))) end_file(file);
     while (file->first) {
         waiting *it = file->first;
         file->first = it->next;
         av_packet_free(&it->packet);
         free(it);
     }
-    if (file->format && file->format->pb && avio_closep(&file->format->pb) < 0) fail(file, "cannot be written", 0);
+    bool opened = file->format && file->format->pb;
+    if (opened && avio_closep(&file->format->pb) < 0) fail(file, "cannot be written", 0);
+    if (file->failed && opened) cut_off(file);
     avformat_free_context(file->format);
+    av_packet_free(&file->lent);
     bool whole = !file->failed;
     free(file->path);
     free(file);

@@ -33,6 +33,9 @@ typedef struct {
     size_t size;
 } writer_frame;
 
+/* Whether the ending of a name tells a format that is written. */
+bool writer_knows(const char *path);
+
 /* A file with so many tracks, 1 to 16. Nothing is opened yet. NULL where memory is wanting, which is said. */
 writer *writer_new(const char *path, size_t tracks);
 

@@ -4,7 +4,7 @@ use Rattle.std.proofs.lemmas.Bool.{and_parts, ltb-true, leb-true}
 use Rattle.std.specs.Borrow.{Bor}
 use Rattle.std.specs.Slice.{IsItemAt}
 use Rattle.std.proofs.lemmas.Option.{slice_get-map, slice_get_past, slice_get_read}
-use Rattle.std.proofs.lemmas.List.{take-map, take_more, take_more_set}
+use Rattle.std.proofs.lemmas.List.{take-map, take_more, take_more_set, take_all}
 use Rattle.codec_payload_red.specs.declared.red.sender.SentPayload.{SentPayload}
 use Rattle.codec_payload_base.specs.Answers.{Finds}
 use Rattle.codec_payload_red.specs.RedHistory.{entry_of, entries_of}
@@ -47,3 +47,13 @@ recorded_is ds old pushed new x n e f g = ap entries_of g ∙ sym (take-map entr
 
 pub synced_is : (ds : List ℕ) (old new : List SentPayload) (n : ℕ) → n ≡ deepest ds → new ≡ take n old → entries_of new ≡ take (deepest ds) (entries_of old)
 synced_is ds old new n e g = ap entries_of g ∙ sym (take-map entry_of n old) ∙ ap (λ t. take t (entries_of old)) e
+
+-- nothing is past the depth
+pub all_within : (old : List SentPayload) (depth : ℕ) → length old ≤ depth → old ≡ take depth old
+all_within old depth few = sym (take_all depth old few)
+
+-- one is past the depth, and leaves
+pub one_past : (old new : List SentPayload) (depth : ℕ) → length old ≤ depth + 1 → depth < length old → new ≡ take (length old - 1) old → new ≡ take depth old
+one_past old new depth most past g =
+    let one : length old - 1 ≡ depth = omega (arith, most, past) in
+    g ∙ ap (λ k. take k old) one

@@ -102,6 +102,6 @@ output_is_red s payload time budget items ok e some =
     let is : items ≡ spelling (wrapped s payload time budget) = rw (lt-ltb (length payload) budget some) at e in
     rw is (wrapped_is_red s payload time budget ok)
 
-pub written_in_order : (kept : List Redundant) (pt : ℕ) (primary none heads mid bytes all : List ℕ) → none ≡ [] → heads ≡ none ++ flat_map header kept → mid ≡ heads ++ pt ∷ [] → bytes ≡ mid ++ flat_map (λ b. b.bytes) kept → all ≡ bytes ++ primary
-    → all ≡ spelling (record { redundant = kept; pt = pt; primary = primary })
-written_in_order kept pt primary none heads mid bytes all a b c d e = rw (e, d, c, b, a) (simp append_assoc)
+pub appended_in_order : (kept : List Redundant) (pt : ℕ) (primary before heads mid bytes all : List ℕ) → heads ≡ before ++ flat_map header kept → mid ≡ heads ++ pt ∷ [] → bytes ≡ mid ++ flat_map (λ b. b.bytes) kept → all ≡ bytes ++ primary
+    → all ≡ before ++ spelling (record { redundant = kept; pt = pt; primary = primary })
+appended_in_order kept pt primary before heads mid bytes all b c d e = rw (e, d, c, b) (simp append_assoc)

@@ -1,1 +1,2 @@
 pub mod WireRuns
+pub mod Releases

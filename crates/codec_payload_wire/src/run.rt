@@ -10,6 +10,7 @@ ghost use Rattle.codec_payload_stream.specs.declared.receiver.ReceiveError.TheVa
 ghost use Rattle.codec_payload_core.specs.Schedule.{Answer};
 ghost use Rattle.codec_payload_stream.specs.Kinds.{datagram_at};
 ghost use Rattle.codec_payload_stream.specs.Sessions.{Heard};
+ghost use Rattle.codec_payload_wire.specs.Releases.{ReleasesWithinWindows};
 ghost use Rattle.codec_payload_wire.specs.WireRuns.{DoesStep, PopsUnit, Runs, SendsIt, SendsOrRefuses, begins, bytes_in, sent_sample, wire_of};
 ghost use Rattle.codec_payload_wire.specs.declared.run.SentSample.{SentSample as Entry};
 
@@ -73,6 +74,8 @@ pub fn run_datagrams<P: Packetizer, D: Depacketizer>(
     steps: &[DatagramStep],
 ) -> Result<DatagramRun, PacketError>
     ensures runs { IfOk result (λ run. Runs (map sample_of samples.now) steps.now (begins sender.old receiver.old) (wire_of sender.new receiver.new run)) }
+    // What is popped, where the datagrams that are delivered come within the windows of the receiver's numbers.
+    ensures units { IfOk result (λ run. ReleasesWithinWindows (map sample_of samples.now) steps.now (begins sender.old receiver.old) (wire_of sender.new receiver.new run)) }
     ensures fault { IfErr result (λ fault. fault ≡ OutOfMemory) }
 {
     let mut run = DatagramRun {

@@ -4,6 +4,7 @@
 
 mod buffers;
 mod codecs;
+mod questions;
 mod report;
 mod senders;
 

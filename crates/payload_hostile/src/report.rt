@@ -4,6 +4,9 @@ use crate::buffers::{
     pops, pops_after_passing_over, pushes, pushes_and_evicts, runs, runs_in_red, takes_none,
 };
 use crate::codecs::{depacketizes, example_of, packetizes};
+use crate::questions::{
+    asks_for_contiguity, asks_for_ends, asks_for_keyframes, patches_a_descriptor,
+};
 use crate::senders::{
     decodes, encodes, pushes_a_sample, recovers, sends_in_red, sends_to_memory, wraps,
 };
@@ -29,6 +32,8 @@ pub fn report(alloc: Global, name: &str) -> Result<Option<String>, PacketError> 
         "run-schedule" => runs(alloc, &mut text)?,
         "run-schedule-red" => runs_in_red(alloc, &mut text)?,
         "takes-none" => takes_none(alloc, &mut text)?,
+        "patch" => patches_a_descriptor(&mut text)?,
+        "contiguity" => asks_for_contiguity(&mut text)?,
         _ => {
             let Some((call, codec)) = name.split_once(' ') else {
                 return Ok(None);
@@ -40,6 +45,8 @@ pub fn report(alloc: Global, name: &str) -> Result<Option<String>, PacketError> 
                 "packetize" => packetizes(alloc, &mut text, &example)?,
                 "depacketize" => depacketizes(alloc, &mut text, &example)?,
                 "pop" => pops(alloc, &mut text, &example)?,
+                "ends" => asks_for_ends(alloc, &mut text, &example)?,
+                "keyframes" => asks_for_keyframes(&mut text, &example)?,
                 _ => return Ok(None),
             }
         }

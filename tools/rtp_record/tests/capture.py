@@ -1,7 +1,7 @@
 """Captures of RTP over UDP on loopback, as lists of packets that tests change and write again.
 
 It reads pcap files of Ethernet and IPv4 without options, as live.sh makes them, and knows nothing of the library: it looks at RTP
-headers alone (RFC 3550, section 5.1)."""
+headers alone (RFC 3550, section 5.1), and at which datagrams are RTP (RFC 7983, section 7, and RFC 5761, section 4)."""
 
 import struct
 from dataclasses import dataclass, replace
@@ -19,8 +19,12 @@ class Packet:
     payload: bytes
 
     @property
-    def is_rtcp(self):
-        return len(self.payload) > 1 and 192 <= self.payload[1] <= 223
+    def is_rtp(self):
+        return len(self.payload) >= 12 and self.payload[0] >> 6 == 2 and not 192 <= self.payload[1] <= 223
+
+    @property
+    def payload_type(self):
+        return self.payload[1] & 0x7F
 
     @property
     def number(self):
@@ -36,10 +40,12 @@ class Packet:
 
     @property
     def media(self):
-        """The payload behind a header without CSRCs and extension."""
-        assert self.payload[0] & 0x1F == 0, "the senders of the captures use neither CSRCs nor extensions"
+        """The payload behind the header, its CSRCs and its extension."""
+        start = 12 + 4 * (self.payload[0] & 0x0F)
+        if self.payload[0] & 0x10:
+            start += 4 + 4 * struct.unpack_from(">H", self.payload, start + 2)[0]
         padding = self.payload[-1] if self.payload[0] & 0x20 else 0
-        return self.payload[12 : len(self.payload) - padding]
+        return self.payload[start : len(self.payload) - padding]
 
     def changed(self, number=None, timestamp=None, ssrc=None):
         head = bytearray(self.payload)
@@ -80,9 +86,10 @@ def write(path, packets):
             file.write(struct.pack("<IIII", packet.time // 10**9, packet.time % 10**9, len(frame), len(frame)) + frame)
 
 
-def media_of(packets):
-    """The RTP packets without RTCP."""
-    return [packet for packet in packets if not packet.is_rtcp]
+def media_of(packets, ssrc=None):
+    """The RTP packets of an SSRC, or of that of the first one."""
+    rtp = [packet for packet in packets if packet.is_rtp]
+    return [packet for packet in rtp if packet.ssrc == (rtp[0].ssrc if ssrc is None else ssrc)]
 
 
 def frames_of(packets):

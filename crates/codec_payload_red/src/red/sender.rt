@@ -1,6 +1,6 @@
 //! The sender of RED payloads, which remembers what it sent (RFC 2198, section 3).
 
-ghost use Rattle.std.specs.Prelude.{◌≡◌, ◌-◌, ◌<◌, ◌≤◌, ◌++◌, [], length, take, reverse, sum_by, IfOk, IfErr, IfSome, OnOk, IsTrue};
+ghost use Rattle.std.specs.Prelude.{◌≡◌, ◌+◌, ◌-◌, ◌<◌, ◌≤◌, ◌++◌, [], length, take, reverse, sum_by, IfOk, IfErr, IfSome, OnOk, IsTrue};
 ghost use Rattle.std.specs.List.{flat_map};
 ghost use Rattle.codec_payload_base.specs.declared.error.PacketError.TheVariants.{OutOfMemory};
 ghost use Rattle.codec_payload_red.specs.RedPayload.{IsRed, spelling};
@@ -15,6 +15,7 @@ use codec_payload_base::wire::Pt;
 use std::alloc::{AllocError, Global};
 use std::collections::VecDeque;
 use std::marker::Model;
+use std::mem;
 
 /// How many packets back a receiver looks for what a redundant block carries, and so the greatest distance of a sender.
 pub const MAX_RED_RECOVERY_DEPTH: u64 = 8;
@@ -128,29 +129,29 @@ fn put_levels(
     Ok(())
 }
 
-/// The levels that the budget has room for, deepest first, and the payload behind them.
-#[tactic(auto, using(crate::proofs::SenderOutputLemmas::written_in_order))]
-fn wrapped_bytes(
-    alloc: Global,
+/// Puts behind what is there the levels that the budget has room for, deepest first, and the payload behind them.
+#[tactic(auto, using(crate::proofs::SenderOutputLemmas::appended_in_order))]
+fn put_wrapped(
+    out: &mut Vec<u8>,
     history: &VecDeque<SentPayload>,
     pt: u8,
     time: u32,
     distances: &[u32],
     payload: &[u8],
     budget: usize,
-) -> Result<Vec<u8>, AllocError>
+) -> Result<(), AllocError>
     requires room { length payload.now < budget }
     requires small { pt < 128 }
-    ensures { IfOk result (λ v. v.items ≡ spelling (record { redundant = reverse (within (budget - length payload.now - 1) (levels pt time (entries_of history.now.items) distances.now)); pt = pt; primary = payload.now })) }
+    ensures { OnOk result (out.new.items ≡ out.old.items ++ spelling (record { redundant = reverse (within (budget - length payload.now - 1) (levels pt time (entries_of history.now.items) distances.now)); pt = pt; primary = payload.now })) }
 {
     let chosen = choose(history, pt, time, distances, budget - payload.len() - 1);
     let (kept, _) = distances.split_at(chosen.count);
-    let mut out = Vec::with_capacity(alloc, chosen.size + 1 + payload.len())?;
-    put_levels(&mut out, BlockPart::Header, history, pt, time, kept)?;
+    out.reserve(chosen.size + 1 + payload.len())?;
+    put_levels(out, BlockPart::Header, history, pt, time, kept)?;
     out.push(pt)?;
-    put_levels(&mut out, BlockPart::Bytes, history, pt, time, kept)?;
+    put_levels(out, BlockPart::Bytes, history, pt, time, kept)?;
     out.extend_from_slice(payload)?;
-    Ok(out)
+    Ok(())
 }
 
 /// Up to eight distances, strictly rising.
@@ -203,6 +204,20 @@ fn depth_of(distances: &[u32]) -> usize
     }
 }
 
+/// Takes out the oldest payload where the history holds one more than so many, and gives its memory.
+#[tactic(auto, using(crate::proofs::SenderHistoryLemmas::all_within, crate::proofs::SenderHistoryLemmas::one_past))]
+fn take_past(history: &mut VecDeque<SentPayload>, depth: usize) -> Vec<u8>
+    requires { length history.old.items ≤ depth + 1 }
+    ensures { history.new.items ≡ take depth history.old.items }
+{
+    if history.len() > depth
+        && let Some(oldest) = history.pop_back()
+    {
+        return oldest.bytes;
+    }
+    Vec::new(*history.allocator())
+}
+
 /// Sends each payload together with some of those before it, so that a receiver finds lost ones again (RFC 2198).
 ///
 /// A *distance* says how many payloads back a redundant block goes: 1 is the payload right before. The sender keeps as
@@ -214,6 +229,8 @@ pub struct RedSender {
     distances: Distances,
     /// Newest first.
     history: VecDeque<SentPayload>,
+    /// Memory of a payload that left the history.
+    spare: Vec<u8>,
 }
 
 impl Model for RedSender {
@@ -257,6 +274,7 @@ impl RedSender {
             primary_pt,
             distances: Distances::from_list(distances),
             history: VecDeque::new(alloc),
+            spare: Vec::new(alloc),
         }
     }
 
@@ -282,17 +300,20 @@ impl RedSender {
         self.red_pt
     }
 
-    /// What goes out for a payload.
-    #[tactic(auto, using(crate::proofs::SenderOutputLemmas::output_is_red))]
-    fn output(&self, payload: &[u8], time: u32, budget: usize) -> Result<Vec<u8>, AllocError>
-        ensures written { IfOk result (λ v. v.items ≡ output self.now payload.now time budget) }
-        ensures payload { IfOk result (λ v. length payload.now < budget → IsRed v.items (wrapped self.now payload.now time budget)) }
-        ensures longest { IsLongest (room_of (length payload.now) budget) (levels_of self.now time) (kept self.now (length payload.now) time budget) }
+    /// Puts behind what is there what goes out for a payload.
+    fn put_output(
+        &self,
+        payload: &[u8],
+        time: u32,
+        budget: usize,
+        out: &mut Vec<u8>,
+    ) -> Result<(), AllocError>
+        ensures written { OnOk result (out.new.items ≡ out.old.items ++ output self.now payload.now time budget) }
+        ensures accepted { IsTrue (is_accepted self.now.distances) }
     {
-        let alloc = *self.history.allocator();
         if payload.len() < budget {
-            wrapped_bytes(
-                alloc,
+            put_wrapped(
+                out,
                 &self.history,
                 self.primary_pt.value() % 128,
                 time,
@@ -301,8 +322,20 @@ impl RedSender {
                 budget,
             )
         } else {
-            Vec::from_slice(alloc, payload)
+            out.extend_from_slice(payload)
         }
+    }
+
+    /// What goes out for a payload.
+    #[tactic(auto, using(crate::proofs::SenderOutputLemmas::output_is_red))]
+    fn output(&self, payload: &[u8], time: u32, budget: usize) -> Result<Vec<u8>, AllocError>
+        ensures written { IfOk result (λ v. v.items ≡ output self.now payload.now time budget) }
+        ensures payload { IfOk result (λ v. length payload.now < budget → IsRed v.items (wrapped self.now payload.now time budget)) }
+        ensures longest { IsLongest (room_of (length payload.now) budget) (levels_of self.now time) (kept self.now (length payload.now) time budget) }
+    {
+        let mut out = Vec::new(*self.history.allocator());
+        self.put_output(payload, time, budget, &mut out)?;
+        Ok(out)
     }
 
     /// Puts a payload into the history, which the oldest ones leave.
@@ -347,5 +380,68 @@ impl RedSender {
         let out = self.output(&payload, rtp_time, budget)?;
         self.record(payload, rtp_time)?;
         Ok(out)
+    }
+
+    /// Puts a copy of a payload into the history, in the memory of one that left it, and then keeps the memory of the one that
+    /// leaves.
+    #[tactic(auto, using(crate::proofs::SenderHistoryLemmas::recorded_is))]
+    fn remember(&mut self, payload: &[u8], time: u32) -> Result<(), PacketError>
+        ensures ok { OnOk result (self.new ≡ recorded self.old payload.now time) }
+        ensures err { IfErr result (λ e. (e ≡ OutOfMemory) × (self.new ≡ self.old)) }
+    {
+        self.spare.clear();
+        self.spare.extend_from_slice(payload)?;
+        let unused = Vec::new(*self.history.allocator());
+        let bytes = mem::replace(&mut self.spare, unused);
+        self.history.push_front(SentPayload { bytes, time })?;
+        let depth = depth_of(self.distances.as_slice());
+        self.spare = take_past(&mut self.history, depth);
+        Ok(())
+    }
+
+    /// Puts what goes out behind what is there, and remembers the payload.
+    fn put_and_remember(
+        &mut self,
+        payload: &[u8],
+        time: u32,
+        budget: usize,
+        out: &mut Vec<u8>,
+    ) -> Result<(), PacketError>
+        ensures written { OnOk result (out.new.items ≡ out.old.items ++ output self.old payload.now time budget) }
+        ensures ok { OnOk result (self.new ≡ recorded self.old payload.now time) }
+        ensures err { IfErr result (λ e. (e ≡ OutOfMemory) × (self.new ≡ self.old)) }
+        ensures accepted { IsTrue (is_accepted self.old.distances) }
+    {
+        self.put_output(payload, time, budget, out)?;
+        self.remember(payload, time)
+    }
+
+    /// The same as [`RedSender::wrap`] over memory that is used again: what goes out is put into `out`, which is begun anew
+    /// and keeps its memory, and the payload is copied into the history, into the memory of the one that leaves it. It takes
+    /// memory only where `out`, or what left the history, is too short, and until the history is full.
+    ///
+    /// The only fault is 17, `OutOfMemory`, which leaves the sender as it was, and `out` empty. The payload is copied twice,
+    /// and each payload that is repeated once.
+    #[tactic(auto, using(crate::proofs::SenderOutputLemmas::output_bounded, crate::proofs::SenderOutputLemmas::output_is_red))]
+    pub fn wrap_into(
+        &mut self,
+        payload: &[u8],
+        rtp_time: u32,
+        budget: usize,
+        out: &mut Vec<u8>,
+    ) -> Result<(), PacketError>
+        ensures written { OnOk result (out.new.items ≡ output self.old payload.now rtp_time budget) }
+        ensures payload { OnOk result (length payload.now < budget → IsRed out.new.items (wrapped self.old payload.now rtp_time budget)) }
+        ensures longest { OnOk result (IsLongest (room_of (length payload.now) budget) (levels_of self.old rtp_time) (kept self.old (length payload.now) rtp_time budget)) }
+        ensures bounded { OnOk result (length payload.now < budget → length out.new.items ≤ budget) }
+        ensures recorded { OnOk result (self.new ≡ recorded self.old payload.now rtp_time) }
+        ensures err { IfErr result (λ e. (e ≡ OutOfMemory) × (self.new ≡ self.old) × (out.new.items ≡ [])) }
+    {
+        out.clear();
+        if let Err(fault) = self.put_and_remember(payload, rtp_time, budget, out) {
+            out.clear();
+            return Err(fault);
+        }
+        Ok(())
     }
 }

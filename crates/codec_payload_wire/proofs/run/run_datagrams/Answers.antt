@@ -1,7 +1,8 @@
-use Rattle.std.proofs.Common.{sym, subst, map, List}
-use Rattle.std.proofs.lemmas.List.{drop_more}
+use Rattle.std.proofs.Common.{refl, sym, subst, map, List}
+use Rattle.std.proofs.lemmas.List.{drop_all, drop_more}
 use Rattle.codec_payload_core.specs.Sending.{sample_of}
-use Rattle.codec_payload_wire.specs.WireRuns.{Runs, wire_of}
+use Rattle.codec_payload_wire.proofs.ReleaseLemmas.{release_over_datagrams}
+use Rattle.codec_payload_wire.specs.WireRuns.{Runs, Wire, wire_of}
 use Rattle.codec_payload_wire.specs.declared.run.DatagramStep.{DatagramStep}
 use Rattle.codec_payload_wire.proofs.run.run_datagrams.Goals as goal
 
@@ -11,3 +12,11 @@ loop-step-preserved g c = λ t later.
     (subst (λ (xs : List DatagramStep). Runs (map sample_of c.args.samples.now) xs (wire_of c.loop-step.sender c.loop-step.receiver c.loop-step.run) t)
     (sym (drop_more c.args.steps.now c.loop-step.step-index _ c.loop-step-test.true))
     (wire_of c.do_step.new.sender c.do_step.new.receiver c.do_step.new.run, c.in_ok-do_step.ensures.ok, later))
+
+-- at the end no step is left
+pub returns-clause-units : goal.returns-clause-units
+returns-clause-units g c =
+    let end : Wire = wire_of c.loop-step.sender c.loop-step.receiver c.loop-step.run in
+    release_over_datagrams (map sample_of c.args.samples.now) c.args.steps.now c.args.sender.now c.args.receiver.now end
+    (c.loop-step.invariant end
+    (subst (λ (xs : List DatagramStep). Runs (map sample_of c.args.samples.now) xs end end) (sym (drop_all c.loop-step.step-index c.args.steps.now c.loop-step-test.false)) refl))

@@ -1,8 +1,8 @@
 use Rattle.codec_payload_red.proofs.LongestLevelsLemmas.{kept_is_longest}
 use Rattle.codec_payload_red.proofs.red.sender.RedSender.output.Goals as goal
 
-pub returns-then-payload-budget-clause-longest : goal.returns-then-payload-budget-clause-longest
-returns-then-payload-budget-clause-longest c = kept_is_longest c.args.self.now _ _ _
+pub returns-clause-longest : goal.returns-clause-longest
+returns-clause-longest c = kept_is_longest c.args.self.now _ _ _
 
-pub returns-else-payload-budget-clause-longest : goal.returns-else-payload-budget-clause-longest
-returns-else-payload-budget-clause-longest c = kept_is_longest c.args.self.now _ _ _
+pub returns-in_err-put_output-clause-longest : goal.returns-in_err-put_output-clause-longest
+returns-in_err-put_output-clause-longest c = kept_is_longest c.args.self.now _ _ _

@@ -1,0 +1,185 @@
+-- What comes to a receiver, as the events that its buffer meets.
+use Rattle.std.proofs.Common.{◌≡◌, ◌∙◌, refl, sym, ap, subst, ℕ, zero, suc, ◌+◌, ◌%◌, ◌^◌, ◌<◌, ◌⊎◌, inl, inr, List, [], ◌∷◌, ◌++◌, Bool, true, Option, Some, None, Ok, Err, length, arith}
+use Rattle.std.specs.Prelude.{slice_get}
+use Rattle.std.proofs.lemmas.Option.{same_Some}
+use Rattle.codec_payload_buffer.proofs.MemberLemmas.{IsIn}
+use Rattle.codec_payload_buffer.specs.Steps.{State}
+use Rattle.codec_payload_buffer.specs.declared.buffer.unit.RtpMeta.{RtpMeta}
+use Rattle.codec_payload_core.specs.Arrivals.{AllAreMade, Arrives, Asked, Event, HasArrival, Meets, OnlyArrive}
+use Rattle.codec_payload_core.specs.Exact.{AnswersAll}
+use Rattle.codec_payload_core.specs.Headline.{ArePushesBy, InOrder}
+use Rattle.codec_payload_core.specs.Packets.{Packet, AreNumbered}
+use Rattle.codec_payload_core.specs.Schedule.{Answer}
+use Rattle.codec_payload_core.specs.SentStream.{SentUnit}
+use Rattle.codec_payload_jitter.specs.Numbers.{Numbering, answer_for, numbering_after}
+use Rattle.codec_payload_jitter.specs.declared.numbers.Extended.TheVariants as extended
+use Rattle.codec_payload_sender.specs.declared.sender.Stream.{Stream}
+use Rattle.codec_payload_stream.specs.Sessions.{Session}
+use Rattle.codec_payload_wire.proofs.ReceivingLemmas.{AllNumbered, IsListening, pops_as, pushes}
+use Rattle.codec_payload_wire.proofs.StepLemmas.{Takes}
+use Rattle.codec_payload_wire.specs.Releases.{AreDatagrams, HaveNoPops, ReadsAs, delivered}
+use Rattle.codec_payload_wire.specs.WireRuns.{ended}
+use Rattle.codec_payload_wire.specs.declared.run.DatagramStep.{DatagramStep}
+use Rattle.codec_payload_wire.specs.declared.run.DatagramStep.TheVariants as steps
+
+-- these steps are these events; from the end of the stream on each pop is made
+abbrev pub Brings : Bool → List DatagramStep → List Event → Type 0
+Brings at_end [] events = events ≡ []
+Brings at_end (steps.Send i ∷ later) events = Brings at_end later events
+Brings at_end (steps.Deliver k now ∷ later) events = (meta : RtpMeta) × (rest : List Event) × (events ≡ Arrives k meta ∷ rest) × (meta.received ≡ now) × Brings at_end later rest
+Brings at_end (steps.Pop now ∷ later) events = (wait : Option ℕ) × (rest : List Event) × (events ≡ Asked wait ∷ rest) × (at_end ≡ true → wait ≡ Some 0) × Brings at_end later rest
+Brings at_end (steps.Finish ∷ later) events = Brings true later events
+
+-- the packet of a datagram
+packet_at_index : (stream : Stream) (first : ℕ) (packets : List Packet) (datagrams : List (List ℕ)) (k : ℕ) (bytes : List ℕ) → AreDatagrams stream packets datagrams → AreNumbered first packets → slice_get datagrams k ≡ Some bytes
+    → (q : Packet) × (slice_get packets k ≡ Some q) × ReadsAs stream q bytes × (q.number ≡ first + k)
+packet_at_index stream first [] [] k bytes are numbered there = absurd (cc)
+packet_at_index stream first [] (d ∷ ds) k bytes are numbered there = absurd are
+packet_at_index stream first (q ∷ qs) [] k bytes are numbered there = absurd are
+packet_at_index stream first (q ∷ qs) (d ∷ ds) zero bytes are numbered there = (q, refl, subst (ReadsAs stream q) (same_Some d bytes there) are.0, omega (arith, numbered.0))
+packet_at_index stream first (q ∷ qs) (d ∷ ds) (suc k) bytes are numbered there =
+    let rest = packet_at_index stream (first + 1) qs ds k bytes are.1 numbered.1 there in
+    (rest.0, rest.1, rest.2, omega (arith, rest.3))
+
+-- what the buffer meets of these steps
+pub record IsMet (clock_rate : ℕ) (packets : List Packet) (all_steps : List DatagramStep) (s : Session) (answers : List Answer) (t : Session) : Type 0 where
+  pub events : List Event
+  pub meets : Meets clock_rate packets events s.packets.buffer answers t.packets.buffer
+  pub brings : Brings s.packets.ended all_steps events
+
+module _ (stream : Stream) (types : (stream.payload_type < 64) ⊎ (95 < stream.payload_type)) (first : ℕ) (packets : List Packet) (datagrams : List (List ℕ))
+    (are : AreDatagrams stream packets datagrams) (numbered : AreNumbered first packets) where
+  pub met : (all_steps : List DatagramStep) (s t : Session) (answers : List Answer) → IsListening stream s → AllNumbered first s.packets.numbering (delivered all_steps) → Takes all_steps datagrams s answers t
+      → IsMet stream.clock_rate packets all_steps s answers t
+  met [] s t answers listening numbers takes = record { events = []; meets = (takes.0, ap (λ (x : Session). x.packets.buffer) takes.1); brings = refl }
+  met (steps.Send i ∷ later) s t answers listening numbers takes =
+      let rest = met later s t answers listening numbers takes in
+      record { events = rest.events; meets = rest.meets; brings = rest.brings }
+  met (steps.Deliver k now ∷ later) s t answers listening numbers takes =
+      let mid : Session = takes.3 in
+      let p = packet_at_index stream first packets datagrams k takes.0 are numbered takes.1 in
+      let q : Packet = p.0 in
+      let number : answer_for s.packets.numbering (q.number % 2 ^ 16) ≡ extended.Number q.number =
+      subst (λ (n : ℕ). answer_for s.packets.numbering (n % 2 ^ 16) ≡ extended.Number n) (sym p.3) numbers.0 in
+      let one = pushes stream now q takes.0 s mid takes.2 types listening p.2 number takes.4 in
+      let numbering : mid.packets.numbering ≡ numbering_after s.packets.numbering ((first + k) % 2 ^ 16) = one.numbering ∙ ap (λ (n : ℕ). numbering_after s.packets.numbering (n % 2 ^ 16)) p.3 in
+      let rest = met later mid t answers one.listening (subst (λ (n : Numbering). AllNumbered first n (delivered later)) (sym numbering) numbers.1) takes.5 in
+      record {
+        events = Arrives k one.meta ∷ rest.events;
+        meets = (q, p.1, one.tells, subst (λ (b : State). Meets stream.clock_rate packets rest.events b answers t.packets.buffer) one.buffer rest.meets);
+        brings = (one.meta, rest.events, refl, one.received, subst (λ (b : Bool). Brings b later rest.events) one.ended rest.brings);
+      }
+  met (steps.Pop now ∷ later) s t answers listening numbers takes =
+      let mid : Session = takes.2 in
+      let one = pops_as stream now takes.0 s mid listening takes.4 takes.5 in
+      let rest = met later mid t takes.1 one.listening (subst (λ (n : Numbering). AllNumbered first n (delivered later)) (sym one.numbering) numbers) takes.6 in
+      record {
+        events = Asked one.wait ∷ rest.events;
+        meets = (takes.0, takes.1, mid.packets.buffer, takes.3, one.pops, rest.meets);
+        brings = (one.wait, rest.events, refl, one.at_end, subst (λ (b : Bool). Brings b later rest.events) one.ended rest.brings);
+      }
+  met (steps.Finish ∷ later) s t answers listening numbers takes =
+      let rest = met later (ended s) t answers (record {
+        payload_type = listening.payload_type;
+        ssrc = listening.ssrc;
+        not_again = listening.not_again;
+        rate = listening.rate;
+        running = refl;
+        no_blanks = listening.no_blanks;
+        of_codec = listening.of_codec;
+      }) numbers takes in
+      record { events = rest.events; meets = rest.meets; brings = rest.brings }
+
+-- Where all comes first
+
+-- from the end of the stream on each pop is made
+made_after : (later : List DatagramStep) (events : List Event) → Brings true later events → AllAreMade events
+made_after [] events brings = subst AllAreMade (sym brings) tt
+made_after (steps.Send i ∷ later) events brings = made_after later events brings
+made_after (steps.Deliver k now ∷ later) events brings = subst AllAreMade (sym brings.2) (made_after later brings.1 brings.4)
+made_after (steps.Pop now ∷ later) events brings =
+    subst AllAreMade (sym (brings.2 ∙ ap (λ (w : Option ℕ). Asked w ∷ brings.1) (brings.3 refl))) (made_after later brings.1 brings.4)
+made_after (steps.Finish ∷ later) events brings = made_after later events brings
+
+-- the events before the end of the stream, where no pop is among them, and those after it
+pub record IsSplit (before : List DatagramStep) (events : List Event) : Type 0 where
+  pub first : List Event
+  pub rest : List Event
+  pub whole : events ≡ first ++ rest
+  pub only : OnlyArrive first
+  pub has : (k : ℕ) → IsIn k (delivered before) → HasArrival k first
+  pub made : AllAreMade rest
+
+pub split_at_end : (at_end : Bool) (before after : List DatagramStep) (events : List Event) → HaveNoPops before → Brings at_end (before ++ steps.Finish ∷ after) events → IsSplit before events
+split_at_end at_end [] after events no_pops brings = record { first = []; rest = events; whole = refl; only = tt; has = λ k is. absurd is; made = made_after after events brings }
+split_at_end at_end (steps.Send i ∷ before) after events no_pops brings =
+    let r = split_at_end at_end before after events no_pops brings in
+    record { first = r.first; rest = r.rest; whole = r.whole; only = r.only; has = r.has; made = r.made }
+split_at_end at_end (steps.Deliver k now ∷ before) after events no_pops brings =
+    let r = split_at_end at_end before after brings.1 no_pops brings.4 in
+    record {
+      first = Arrives k brings.0 ∷ r.first;
+      rest = r.rest;
+      whole = brings.2 ∙ ap (λ (es : List Event). Arrives k brings.0 ∷ es) r.whole;
+      only = r.only;
+      has = λ j is. elim is [ inl here ↦ inl (sym here) | inr later ↦ inr (r.has j later) ];
+      made = r.made;
+    }
+split_at_end at_end (steps.Pop now ∷ before) after events no_pops brings = absurd no_pops
+split_at_end at_end (steps.Finish ∷ before) after events no_pops brings =
+    let r = split_at_end true before after events no_pops brings in
+    record { first = r.first; rest = r.rest; whole = r.whole; only = r.only; has = r.has; made = r.made }
+
+-- What is known of packets
+
+-- a push is a delivery of that datagram, when it was received
+pub delivery_of : (at_end : Bool) (all_steps : List DatagramStep) (events : List Event) (k : ℕ) (meta : RtpMeta) → Brings at_end all_steps events → IsIn (Arrives k meta) events → IsIn (steps.Deliver k meta.received) all_steps
+delivery_of at_end [] events k meta brings is = absurd (subst (IsIn (Arrives k meta)) brings is)
+delivery_of at_end (steps.Send i ∷ later) events k meta brings is = inr (delivery_of at_end later events k meta brings is)
+delivery_of at_end (steps.Deliver j now ∷ later) events k meta brings is =
+    let there : IsIn (Arrives k meta) (Arrives j brings.0 ∷ brings.1) = subst (IsIn (Arrives k meta)) brings.2 is in
+    elim there [
+      | inl here ↦ let index : k ≡ j = cc in let same : meta ≡ brings.0 = cc in let received : meta.received ≡ now = ap (λ (m : RtpMeta). m.received) same ∙ brings.3 in inl (cc)
+      | inr rest ↦ inr (delivery_of at_end later brings.1 k meta brings.4 rest)
+    ]
+delivery_of at_end (steps.Pop now ∷ later) events k meta brings is =
+    let there : IsIn (Arrives k meta) (Asked brings.0 ∷ brings.1) = subst (IsIn (Arrives k meta)) brings.2 is in
+    elim there [
+      | inl here ↦ absurd (cc)
+      | inr rest ↦ inr (delivery_of at_end later brings.1 k meta brings.4 rest)
+    ]
+delivery_of at_end (steps.Finish ∷ later) events k meta brings is = inr (delivery_of true later events k meta brings is)
+
+-- what is known may be told in other words
+module _ (known told : ℕ → Packet → RtpMeta → Type 0) (tells : (k : ℕ) (q : Packet) (m : RtpMeta) → known k q m → told k q m) where
+  pushes_told : (k : ℕ) (packets : List Packet) (metas : List RtpMeta) → ArePushesBy known k packets metas → ArePushesBy told k packets metas
+  pushes_told k [] [] are = tt
+  pushes_told k [] (m ∷ metas) are = absurd are
+  pushes_told k (q ∷ packets) [] are = absurd are
+  pushes_told k (q ∷ packets) (m ∷ metas) are = (tells k q m are.0, pushes_told (k + 1) packets metas are.1)
+
+  pub order_told : (splits : Bool) (units : List SentUnit) (from : ℕ) (answers : List Answer) → InOrder known splits units from answers → InOrder told splits units from answers
+  order_told splits units from [] order = tt
+  order_told splits units from (None ∷ answers) order = order_told splits units from answers order
+  order_told splits units from (Some (Err fault) ∷ answers) order = absurd order
+  order_told splits units from (Some (Ok r) ∷ answers) order =
+      let at = order.2 in (
+        order.0,
+        order.1,
+        record {
+          sent = at.sent;
+          at_place = at.at_place;
+          missing = at.missing;
+          rest = at.rest;
+          whole = at.whole;
+          bytes = at.bytes;
+          metas = pushes_told _ at.rest r.metas at.metas;
+        },
+        order_told splits units (order.0 + 1) answers order.3,
+      )
+
+  pub all_told : (k : ℕ) (units : List SentUnit) (answers : List Answer) → AnswersAll known k units answers → AnswersAll told k units answers
+  all_told k units [] all = tt
+  all_told k [] (answer ∷ answers) all = (all.0, all_told k [] answers all.1)
+  all_told k (u ∷ units) (answer ∷ answers) all =
+      (all.0, all.1, record { bytes = all.2.bytes; metas = pushes_told k u.packets all.0.metas all.2.metas }, all_told (k + length u.packets) units answers all.3)

@@ -1,0 +1,213 @@
+-- What a receiver does with the datagrams of its sender, and with pops, is what its buffer does with their packets.
+use Rattle.std.proofs.Common.{◌≡◌, ◌≢◌, ◌∙◌, refl, sym, ap, subst, ℕ, ◌+◌, ◌%◌, ◌^◌, ◌<◌, ◌⊎◌, List, [], ◌∷◌, Bool, true, false, not, cond, Option, Some, None, Ok, Err}
+use Rattle.std.proofs.lemmas.Bool.{eq-eqb, or_left}
+use Rattle.codec_payload_base.specs.declared.error.PacketError.TheVariants as faults
+use Rattle.codec_payload_base.specs.declared.wire.Ticks.{Ticks}
+use Rattle.codec_payload_buffer.specs.Depack.{is_built_in_depack}
+use Rattle.codec_payload_buffer.specs.Pack.{NullPack}
+use Rattle.codec_payload_buffer.specs.Steps.{State, arrived, pushed, Pops}
+use Rattle.codec_payload_buffer.specs.declared.buffer.unit.RtpMeta.{RtpMeta}
+use Rattle.codec_payload_core.proofs.BuiltInRuns.{pop_exactly, push_keeps}
+use Rattle.codec_payload_core.specs.Arrivals.{PopsWaiting, Tells}
+use Rattle.codec_payload_core.specs.Packets.{Packet}
+use Rattle.codec_payload_core.specs.Schedule.{Answer, RunState, run_state}
+use Rattle.codec_payload_jitter.specs.Blanks.{passed_blanks, blanks_left}
+use Rattle.codec_payload_jitter.specs.Numbers.{Numbering, answer_for, numbering_after, numbering_with, without_restart}
+use Rattle.codec_payload_jitter.specs.Receiving.{Arrival, PopsWith, Receives, ReceivesAs, Receiving, answer_in, is_starting, meta_for, settled, waiting_at}
+use Rattle.codec_payload_jitter.specs.declared.numbers.Extended.{Extended}
+use Rattle.codec_payload_jitter.specs.declared.numbers.Extended.TheVariants as extended
+use Rattle.codec_payload_jitter.specs.declared.outcome.Outcome.{Outcome}
+use Rattle.codec_payload_sender.specs.declared.sender.Stream.{Stream}
+use Rattle.codec_payload_stream.specs.Kinds.{Datagram, WithMedia, datagram_at, header_for, is_other}
+use Rattle.codec_payload_stream.specs.Sessions.{Heard, Hears, Session}
+use Rattle.codec_payload_stream.specs.declared.receiver.ReceiveError.TheVariants as refusals
+use Rattle.codec_payload_wire.proofs.ReadingLemmas.{datagram_is, packet_at}
+use Rattle.codec_payload_wire.specs.Releases.{ReadsAs, is_sent_again_by}
+use Rattle.codec_payload_wire.specs.WireRuns.{Delivers, PopsUnit, Receipt}
+
+-- each of the datagrams of these indices gets its number: that of the first that was sent, and its index
+abbrev pub AllNumbered : ℕ → Numbering → List ℕ → Type 0
+AllNumbered first s [] = Unit {0}
+AllNumbered first s (k ∷ ks) = (answer_for s ((first + k) % 2 ^ 16) ≡ extended.Number (first + k)) × AllNumbered first (numbering_after s ((first + k) % 2 ^ 16)) ks
+
+-- a receiver of the stream, which knows of no numbers without media, and to which no restart was told
+pub record IsListening (stream : Stream) (s : Session) : Type 0 where
+  pub payload_type : s.stream.payload_type ≡ stream.payload_type
+  pub ssrc : is_other s.ssrc stream.ssrc ≡ false
+  pub not_again : is_sent_again_by s.stream.retransmission stream ≡ false
+  pub rate : s.packets.rate ≡ stream.clock_rate
+  pub running : s.packets.anew ≡ false
+  pub no_blanks : s.packets.blanks ≡ []
+  pub of_codec : is_built_in_depack s.packets.buffer.depack ≡ true
+
+-- Receiving
+
+-- what is told of a datagram, where memory is not wanting
+heard : (now : Ticks) (d : Datagram) (s t : Session) (receipt : Receipt) → receipt ≢ Err refusals.OutOfMemory → Heard now d s receipt t → Hears now d s receipt t
+heard now d s t (Ok outcome) not_memory told = told
+heard now d s t (Err refusals.OutOfMemory) not_memory told = absurd (not_memory refl)
+heard now d s t (Err (refusals.Rtp e)) not_memory told = told
+heard now d s t (Err refusals.Red) not_memory told = told
+heard now d s t (Err refusals.Retransmission) not_memory told = told
+
+-- a number within the windows is that of the packet, whether the stream has ended or not
+answer_is : (r : Receiving) (low n : ℕ) → r.anew ≡ false → answer_for r.numbering low ≡ extended.Number n → answer_in r low ≡ extended.Number n
+answer_is r low n running is = rw running (by_ended r.ended)
+  where
+    by_ended : (b : Bool) → cond b (without_restart (answer_for r.numbering low)) (answer_for r.numbering low) ≡ extended.Number n
+    by_ended true = ap without_restart is
+    by_ended false = is
+
+-- a push of the packet of that number
+pub record TakesIn (n : ℕ) (a : Arrival) (r t : Receiving) : Type 0 where
+  pub buffer : t.buffer ≡ pushed r.buffer (arrived r.buffer.depack (meta_for a.now r.rate a.header n) a.bytes)
+  pub numbering : t.numbering ≡ numbering_after r.numbering a.header.sequence_number
+  pub rate : t.rate ≡ r.rate
+  pub running : t.anew ≡ false
+  pub blanks : t.blanks ≡ r.blanks
+  pub ended : t.ended ≡ r.ended
+
+takes_in : (n : ℕ) (a : Arrival) (r t : Receiving) (outcome : Outcome) → r.anew ≡ false → is_built_in_depack r.buffer.depack ≡ true → answer_for r.numbering a.header.sequence_number ≡ extended.Number n
+    → Receives a r outcome t → TakesIn n a r t
+takes_in n a r t outcome running of_codec numbered receives =
+    let low : ℕ = a.header.sequence_number in
+    let is : answer_in r low ≡ extended.Number n = answer_is r low n running numbered in
+    let mid : Receiving = receives.0 in
+    let went = subst (λ (e : Extended). ReceivesAs e a r outcome mid) is receives.1 in
+    let trusted : mid ≡ record went.0 { kept = None } = went.2 in
+    let accepted = went.1.3 in
+    let packet : went.1.1.0 ≡ arrived r.buffer.depack (meta_for a.now r.rate a.header n) a.bytes = went.1.1.1.2 of_codec in
+    record {
+      buffer = ap (λ (x : Receiving). x.buffer) receives.2 ∙ (ap (λ (x : Receiving). x.buffer) trusted ∙ (ap (λ (x : Receiving). x.buffer) accepted ∙ (went.1.1.2 ∙ ap (pushed r.buffer) packet)));
+      numbering = ap (λ (x : Receiving). x.numbering) receives.2 ∙ ap (λ (e : Extended). numbering_with r.numbering e low) (is ∙ sym numbered);
+      rate = ap (λ (x : Receiving). x.rate) receives.2 ∙ (ap (λ (x : Receiving). x.rate) trusted ∙ ap (λ (x : Receiving). x.rate) accepted);
+      running = ap (λ (x : Receiving). x.anew) receives.2;
+      blanks = ap (λ (x : Receiving). x.blanks) receives.2 ∙ (ap (λ (x : Receiving). x.blanks) trusted ∙ ap (λ (x : Receiving). x.blanks) accepted);
+      ended = ap (λ (x : Receiving). x.ended) receives.2 ∙ (ap (λ (x : Receiving). x.ended) trusted ∙ ap (λ (x : Receiving). x.ended) accepted);
+    }
+
+-- a datagram of the sender is a push of its packet
+pub record IsPushed (stream : Stream) (now : Ticks) (q : Packet) (s t : Session) : Type 0 where
+  pub meta : RtpMeta
+  pub tells : Tells stream.clock_rate q meta
+  pub received : meta.received ≡ now
+  pub buffer : t.packets.buffer ≡ pushed s.packets.buffer (arrived s.packets.buffer.depack meta q.payload)
+  pub numbering : t.packets.numbering ≡ numbering_after s.packets.numbering (q.number % 2 ^ 16)
+  pub listening : IsListening stream t
+  pub ended : t.packets.ended ≡ s.packets.ended
+
+pub pushes : (stream : Stream) (now : Ticks) (q : Packet) (bytes : List ℕ) (s t : Session) (receipt : Receipt) → (stream.payload_type < 64) ⊎ (95 < stream.payload_type) → IsListening stream s → ReadsAs stream q bytes
+    → answer_for s.packets.numbering (q.number % 2 ^ 16) ≡ extended.Number q.number → Delivers now bytes s receipt t → IsPushed stream now q s t
+pushes stream now q bytes s t receipt types listening reads numbered delivers =
+    let is : datagram_at s.stream s.ssrc bytes ≡ WithMedia (packet_at stream q) =
+    datagram_is s.stream s.ssrc stream q bytes reads listening.payload_type types listening.ssrc listening.not_again in
+    let hears : Hears now (WithMedia (packet_at stream q)) s receipt t =
+    subst (λ (d : Datagram). Hears now d s receipt t) is (heard now (datagram_at s.stream s.ssrc bytes) s t receipt delivers.0 delivers.1) in
+    let a : Arrival = record { now = now; header = header_for s.stream (packet_at stream q).header; bytes = q.payload } in
+    let one = takes_in q.number a s.packets hears.packets hears.outcome listening.running listening.of_codec numbered hears.takes in
+    let meta : RtpMeta = meta_for now s.packets.rate a.header q.number in
+    let packets : t.packets ≡ hears.packets = ap (λ (x : Session). x.packets) hears.left in
+    let buffer : t.packets.buffer ≡ pushed s.packets.buffer (arrived s.packets.buffer.depack meta q.payload) = ap (λ (x : Receiving). x.buffer) packets ∙ one.buffer in
+    record {
+      meta = meta;
+      tells = record {
+        number = refl;
+        time = ap (λ (r : ℕ). record { numer = q.rtp_time; rate = r }) listening.rate;
+        marker = refl;
+      };
+      received = refl;
+      buffer = buffer;
+      numbering = ap (λ (x : Receiving). x.numbering) packets ∙ one.numbering;
+      listening = record {
+        payload_type = ap (λ (x : Session). x.stream.payload_type) hears.left ∙ listening.payload_type;
+        ssrc = ap (λ (x : Session). is_other x.ssrc stream.ssrc) hears.left ∙ ap not (eq-eqb stream.ssrc stream.ssrc refl);
+        not_again = ap (λ (x : Session). is_sent_again_by x.stream.retransmission stream) hears.left ∙ listening.not_again;
+        rate = ap (λ (x : Receiving). x.rate) packets ∙ (one.rate ∙ listening.rate);
+        running = ap (λ (x : Receiving). x.anew) packets ∙ one.running;
+        no_blanks = ap (λ (x : Receiving). x.blanks) packets ∙ (one.blanks ∙ listening.no_blanks);
+        of_codec = ap (λ (x : State). is_built_in_depack x.depack) buffer ∙ (ap is_built_in_depack (push_keeps s.packets.buffer (arrived s.packets.buffer.depack meta q.payload)) ∙ listening.of_codec);
+      };
+      ended = ap (λ (x : Receiving). x.ended) packets ∙ one.ended;
+    }
+
+-- Pops
+
+-- with nothing remembered, nothing is settled
+settled_none : (r : Receiving) → r.blanks ≡ [] → settled r ≡ r
+settled_none r none =
+    ap (λ (ns : List ℕ). record r { buffer = passed_blanks r.buffer ns; blanks = blanks_left r.buffer ns }) none ∙ ap (λ (ns : List ℕ). record r { blanks = ns }) (sym none)
+
+-- a depacketizer that is built in stays so
+pop_stays : (s t : State) (answer : Answer) → is_built_in_depack s.depack ≡ true → answer ≢ Some (Err faults.OutOfMemory) → Pops s answer t → is_built_in_depack t.depack ≡ true
+pop_stays s t answer of_codec not_memory pops =
+    let c : State → RunState = λ (x : State). run_state (record { pack = NullPack; clock_rate = 0 }) x (record { first = 0; packets = [] }) in
+    (pop_exactly [] 0 (c s) (c t) [] (answer ∷ []) refl of_codec (refl, answer, t, refl, not_memory, pops, refl)).1
+
+-- a pop of the receiver is one of its buffer
+pub record IsPopped (stream : Stream) (now : Ticks) (answer : Answer) (s t : Session) : Type 0 where
+  pub wait : Option ℕ
+  pub at_end : s.packets.ended ≡ true → wait ≡ Some 0
+  pub pops : PopsWaiting wait s.packets.buffer answer t.packets.buffer
+  pub numbering : t.packets.numbering ≡ s.packets.numbering
+  pub listening : IsListening stream t
+  pub ended : t.packets.ended ≡ s.packets.ended
+
+-- what a pop of the jitter buffer leaves as it was, and what it does to the buffer
+pub record IsTurn (wait : Option ℕ) (r : Receiving) (answer : Answer) (t : Receiving) : Type 0 where
+  pub pops : PopsWaiting wait r.buffer answer t.buffer
+  pub of_codec : is_built_in_depack t.buffer.depack ≡ true
+  pub blanks : t.blanks ≡ r.blanks
+  pub rate : t.rate ≡ r.rate
+  pub numbering : t.numbering ≡ r.numbering
+  pub anew : t.anew ≡ r.anew
+  pub ended : t.ended ≡ r.ended
+
+turn_of : (wait : Option ℕ) (r : Receiving) (answer : Answer) (t : Receiving) → is_built_in_depack r.buffer.depack ≡ true → answer ≢ Some (Err faults.OutOfMemory) → PopsWith wait r answer t → IsTurn wait r answer t
+turn_of None r answer t of_codec not_memory pops = record {
+  pops = (pops.0, ap (λ (x : Receiving). x.buffer) pops.1);
+  of_codec = ap (λ (x : Receiving). is_built_in_depack x.buffer.depack) pops.1 ∙ of_codec;
+  blanks = ap (λ (x : Receiving). x.blanks) pops.1;
+  rate = ap (λ (x : Receiving). x.rate) pops.1;
+  numbering = ap (λ (x : Receiving). x.numbering) pops.1;
+  anew = ap (λ (x : Receiving). x.anew) pops.1;
+  ended = ap (λ (x : Receiving). x.ended) pops.1;
+}
+turn_of (Some h) r answer t of_codec not_memory pops = record {
+  pops = (not_memory, subst (λ (s : State). Pops (record r.buffer { hold_back = h }) answer s) (sym (ap (λ (x : Receiving). x.buffer) pops.2)) pops.1);
+  of_codec = ap (λ (x : Receiving). is_built_in_depack x.buffer.depack) pops.2 ∙ pop_stays (record r.buffer { hold_back = h }) pops.0 answer of_codec not_memory pops.1;
+  blanks = ap (λ (x : Receiving). x.blanks) pops.2;
+  rate = ap (λ (x : Receiving). x.rate) pops.2;
+  numbering = ap (λ (x : Receiving). x.numbering) pops.2;
+  anew = ap (λ (x : Receiving). x.anew) pops.2;
+  ended = ap (λ (x : Receiving). x.ended) pops.2;
+}
+
+-- where the stream has ended, nothing is waited for
+waits_for_nothing : (r : Receiving) (now : ℕ) → r.ended ≡ true → waiting_at r now ≡ Some 0
+waits_for_nothing r now at_end =
+    ap (λ (b : Bool). cond b (Some 0) (cond (is_starting r) None (Some r.patience.hold_back))) (or_left r.ended _ at_end)
+
+pub pops_as : (stream : Stream) (now : Ticks) (answer : Answer) (s t : Session) → IsListening stream s → answer ≢ Some (Err faults.OutOfMemory) → PopsUnit now s answer t → IsPopped stream now answer s t
+pops_as stream now answer s t listening not_memory popped =
+    let r : Receiving = s.packets in
+    let settled_is : settled r ≡ r = settled_none r listening.no_blanks in
+    let wait : Option ℕ = waiting_at r now.0 in
+    let pops : PopsWith wait r answer popped.0 = subst (λ (x : Receiving). PopsWith (waiting_at x now.0) x answer popped.0) settled_is popped.1 in
+    let turn = turn_of wait r answer popped.0 listening.of_codec not_memory pops in
+    let packets : t.packets ≡ popped.0 = ap (λ (x : Session). x.packets) popped.2 in
+    record {
+      wait = wait;
+      at_end = waits_for_nothing r now.0;
+      pops = subst (λ (x : Receiving). PopsWaiting wait r.buffer answer x.buffer) (sym packets) turn.pops;
+      numbering = ap (λ (x : Receiving). x.numbering) packets ∙ turn.numbering;
+      listening = record {
+        payload_type = ap (λ (x : Session). x.stream.payload_type) popped.2 ∙ listening.payload_type;
+        ssrc = ap (λ (x : Session). is_other x.ssrc stream.ssrc) popped.2 ∙ listening.ssrc;
+        not_again = ap (λ (x : Session). is_sent_again_by x.stream.retransmission stream) popped.2 ∙ listening.not_again;
+        rate = ap (λ (x : Receiving). x.rate) packets ∙ (turn.rate ∙ listening.rate);
+        running = ap (λ (x : Receiving). x.anew) packets ∙ (turn.anew ∙ listening.running);
+        no_blanks = ap (λ (x : Receiving). x.blanks) packets ∙ (turn.blanks ∙ listening.no_blanks);
+        of_codec = ap (λ (x : Receiving). is_built_in_depack x.buffer.depack) packets ∙ turn.of_codec;
+      };
+      ended = ap (λ (x : Receiving). x.ended) packets ∙ turn.ended;
+    }

@@ -1,0 +1,237 @@
+-- What a run over datagrams releases: what it sends, what comes of it, and the law of the buffer, put together.
+use Rattle.std.proofs.Common.{◌≡◌, ◌∙◌, refl, sym, ap, subst, ℕ, ◌+◌, ◌-◌, ◌*◌, ◌/◌, ◌%◌, ◌^◌, ◌<◌, max, List, [], ◌∷◌, map, true, false, Some, length, arith}
+use Rattle.std.proofs.lemmas.Option.{same_Some, slice_get_within}
+use Rattle.codec_payload_buffer.proofs.MemberLemmas.{contains_in, in_contains}
+use Rattle.codec_payload_buffer.specs.ContiguityTable.{contiguity_for}
+use Rattle.codec_payload_buffer.specs.Depack.{is_built_in_depack, is_codec, kind_of_depack}
+use Rattle.codec_payload_buffer.specs.Pack.{Pack, G711Pack, G722Pack, OpusPack, ComfortNoisePack, TelePack, Vp8Pack, Vp9Pack, Av1Pack, AmrWbPack, NullPack, BoxedPack, is_built_in}
+use Rattle.codec_payload_buffer.specs.declared.buffer.unit.RtpMeta.{RtpMeta}
+use Rattle.codec_payload_core.proofs.ArrivalLemmas.{release_in_order}
+use Rattle.codec_payload_core.specs.Arrivals.{AllArriveFirst, Arrives, Meets, ReleasesArrivals, Tells}
+use Rattle.codec_payload_core.specs.Arrivals as core
+use Rattle.codec_payload_core.specs.Headline.{IsUnused}
+use Rattle.codec_payload_core.specs.Packets.{Packet}
+use Rattle.codec_payload_core.specs.Schedule.{Answer, RunState}
+use Rattle.codec_payload_core.specs.Sending.{Sample}
+use Rattle.codec_payload_core.specs.ToldIds.{read_by}
+use Rattle.codec_payload_core.specs.Units.{payloads_by, may_split}
+use Rattle.codec_payload_jitter.proofs.NumbersLemmas.{are_true_numbers, none_restarts}
+use Rattle.codec_payload_jitter.specs.Numbers.{StayNear, GoOn, IsNumbering, Numbering, answer_for, numbering_after, is_restart, low_bits, moved, no_numbers, number_for, number_in, numbers_for}
+use Rattle.codec_payload_jitter.specs.declared.numbers.Extended.{Extended}
+use Rattle.codec_payload_jitter.specs.declared.numbers.Extended.TheVariants as extended
+use Rattle.codec_payload_sender.specs.Senders.{Sending}
+use Rattle.codec_payload_stream.specs.Kinds.{is_other}
+use Rattle.codec_payload_stream.specs.Sessions.{Session}
+use Rattle.codec_payload_wire.proofs.EventLemmas.{Brings, IsMet, all_told, delivery_of, met, order_told, split_at_end}
+use Rattle.codec_payload_wire.proofs.NewReceivers.{IsBegun, new_is_begun}
+use Rattle.codec_payload_wire.proofs.ReceivingLemmas.{AllNumbered, IsListening}
+use Rattle.codec_payload_wire.proofs.SendingLemmas.{SendsRun, running, same_count, sends_run}
+use Rattle.codec_payload_wire.proofs.StepLemmas.{ComesTo, Takes, comes_to}
+use Rattle.codec_payload_wire.specs.Releases.{is_sent_again_by, AllComeFirst, AreDatagrams, ComeWithin, StayWithin, IsDelivery, IsWithinWindows, ReleaseOverDatagrams, ReleasesUnits, delivered, received_steps, sending_steps}
+use Rattle.codec_payload_wire.specs.WireRuns.{ended, Runs, Wire, begins}
+use Rattle.codec_payload_wire.specs.declared.run.DatagramStep.{DatagramStep}
+use Rattle.codec_payload_wire.specs.declared.run.DatagramStep.TheVariants as steps
+use Rattle.codec_payload_wire.specs.declared.run.SentSample.{SentSample}
+
+-- Numbers
+
+number_is : (e : Extended) (n : ℕ) → number_in e ≡ Some n → is_restart e ≡ false → e ≡ extended.Number n
+number_is (extended.Number m) n is on = ap (λ (x : ℕ). extended.Number x) (same_Some m n is)
+number_is (extended.Restarted m) n is on = absurd (cc)
+number_is extended.Suspect n is on = absurd (cc)
+number_is extended.Spent n is on = absurd (cc)
+
+-- the true numbers of the datagrams of these indices, where that of the first that was sent is `number`
+abbrev trues : ℕ → List ℕ → List ℕ
+trues number ks = map (λ (j : ℕ). number + j) ks
+
+-- what is the number of the first that was sent, where these are the true numbers but for one constant
+all_numbered : (number first reach : ℕ) (s : Numbering) (ks : List ℕ) → first + 65536 * (reach / 65536) ≡ number + 65536 → numbers_for s (map low_bits (trues number ks)) ≡ map (moved reach) (trues number ks)
+    → GoOn s (map low_bits (trues number ks)) → AllNumbered first s ks
+all_numbered number first reach s [] is numbers on = tt
+all_numbered number first reach s (k ∷ ks) is numbers on =
+    let low : ℕ = (number + k) % 65536 in
+    let head : number_for s low ≡ Some (number + k + 65536 - 65536 * (reach / 65536)) = cc in
+    let rest : numbers_for (numbering_after s low) (map low_bits (trues number ks)) ≡ map (moved reach) (trues number ks) = cc in
+    let same_low : low ≡ (first + k) % 2 ^ 16 = omega (arith, is) in
+    let same : number + k + 65536 - 65536 * (reach / 65536) ≡ first + k = omega (arith, is) in
+    let answer : answer_for s low ≡ extended.Number (first + k) = number_is (answer_for s low) _ head on.0 ∙ ap (λ (x : ℕ). extended.Number x) same in
+    subst (λ (n : ℕ). (answer_for s n ≡ extended.Number (first + k)) × AllNumbered first (numbering_after s n) ks) same_low
+    (answer, all_numbered number first reach (numbering_after s low) ks is rest on.1)
+
+-- the number of the first datagram that was sent, as the receiver extends those of these indices
+abbrev first_for : ℕ → List ℕ → ℕ
+first_for number [] = number % 65536
+first_for number (k ∷ ks) = number + 65536 - 65536 * ((number + k) / 65536)
+
+-- a number of 16 bits is in question
+first_small : (forward backward number : ℕ) (ks : List ℕ) → number < 65536 → ComeWithin forward backward ks → first_for number ks < 2 ^ 32
+first_small forward backward number [] low within = omega arith
+first_small forward backward number (k ∷ ks) low within = omega (arith, low, within.0)
+
+first_low : (forward backward number : ℕ) (ks : List ℕ) → ComeWithin forward backward ks → number % 2 ^ 16 ≡ (first_for (number % 65536) ks + 0) % 2 ^ 16
+first_low forward backward number [] within = omega arith
+first_low forward backward number (k ∷ ks) within = omega (arith, within.0)
+
+-- all of them are below a number
+abbrev AllBelow : ℕ → List ℕ → Type 0
+AllBelow bound [] = Unit {0}
+AllBelow bound (k ∷ ks) = (k < bound) × AllBelow bound ks
+
+-- as those of datagrams are that were sent
+takes_below : (later : List DatagramStep) (datagrams : List (List ℕ)) (s t : Session) (answers : List Answer) → Takes later datagrams s answers t → AllBelow (length datagrams) (delivered later)
+takes_below [] datagrams s t answers takes = tt
+takes_below (steps.Send i ∷ later) datagrams s t answers takes = takes_below later datagrams s t answers takes
+takes_below (steps.Deliver k now ∷ later) datagrams s t answers takes = (slice_get_within datagrams k takes.0 takes.1, takes_below later datagrams takes.3 t answers takes.5)
+takes_below (steps.Pop now ∷ later) datagrams s t answers takes = takes_below later datagrams takes.2 t takes.1 takes.6
+takes_below (steps.Finish ∷ later) datagrams s t answers takes = takes_below later datagrams (ended s) t answers takes
+
+max_more : (number g k : ℕ) → max (number + g) (number + k) ≡ number + max g k
+max_more number g k = omega arith
+
+-- what is told of indices holds of numbers
+stay_near : (forward backward number bound g : ℕ) (ks : List ℕ) → number < 65536 → bound < 2 ^ 63 → AllBelow bound ks → StayWithin forward backward g ks → StayNear forward backward (number + g) (trues number ks)
+stay_near forward backward number bound g [] low few below within = tt
+stay_near forward backward number bound g (k ∷ ks) low few below within = (
+  omega (arith, within.0),
+  omega (arith, within.1),
+  omega (arith, low, few, below.0),
+  subst (λ (m : ℕ). StayNear forward backward m (trues number ks)) (sym (max_more number g k)) (stay_near forward backward number bound (max g k) ks low few below.1 within.2),
+)
+
+numbered_within : (forward backward number bound : ℕ) (ks : List ℕ) → IsNumbering (no_numbers forward backward) → number < 65536 → bound < 2 ^ 63 → AllBelow bound ks → ComeWithin forward backward ks
+    → AllNumbered (first_for number ks) (no_numbers forward backward) ks
+numbered_within forward backward number bound [] windows low few below within = tt
+numbered_within forward backward number bound (k ∷ ks) windows low few below within =
+    let fits : number + k + 65536 < 2 ^ 64 = omega (arith, low, within.0) in
+    let near = stay_near forward backward number bound k ks low few below.1 within.1 in
+    all_numbered number (first_for number (k ∷ ks)) (number + k) (no_numbers forward backward) (k ∷ ks) (omega (arith, low, within.0))
+    (are_true_numbers forward backward windows (number + k) (trues number ks) fits near) (none_restarts forward backward windows (number + k) (trues number ks) fits near)
+
+-- a depacketizer of what a packetizer of a codec makes is one of a codec
+of_codec : (p : Pack) → is_built_in p ≡ true → is_codec (payloads_by p) ≡ true
+of_codec G711Pack built_in = refl
+of_codec G722Pack built_in = refl
+of_codec OpusPack built_in = refl
+of_codec NullPack built_in = refl
+of_codec (Vp8Pack id) built_in = refl
+of_codec (Vp9Pack sender) built_in = refl
+of_codec ComfortNoisePack built_in = refl
+of_codec TelePack built_in = refl
+of_codec Av1Pack built_in = refl
+of_codec (AmrWbPack octet) built_in = refl
+of_codec BoxedPack built_in = absurd (cc)
+
+-- The theorem
+
+module _ (samples : List Sample) (all_steps : List DatagramStep) (sender : Sending) (receiver : Session) (t : Wire) (run : Runs samples all_steps (begins sender receiver) t)
+    (within : IsWithinWindows samples all_steps sender receiver t.sends) where
+  abbrev received : List DatagramStep
+  received = received_steps samples 0 all_steps t.sends
+
+  abbrev rate : ℕ
+  rate = sender.stream.clock_rate
+
+  abbrev number : ℕ
+  number = sender.stream.number % 65536
+
+  low : number < 65536
+  low = omega arith
+
+  abbrev first : ℕ
+  first = first_for number (delivered received)
+
+  comes : ComesTo samples all_steps (begins sender receiver) t
+  comes = comes_to samples all_steps (begins sender receiver) t run
+
+  takes : Takes received t.datagrams receiver t.pops t.session
+  takes = subst (λ (answers : List Answer). Takes received t.datagrams receiver answers t.session) (sym comes.pops)
+      (subst (λ (sends : List SentSample). Takes (received_steps samples 0 all_steps sends) t.datagrams receiver comes.answers t.session) (sym comes.sends) comes.takes)
+
+  abbrev forward : ℕ
+  forward = within.settings.forward
+
+  abbrev backward : ℕ
+  backward = within.settings.backward
+
+  begun : IsBegun within.settings within.depack receiver
+  begun = new_is_begun within.settings within.depack receiver within.new
+
+  listening : IsListening sender.stream receiver
+  listening = record {
+    payload_type = ap (λ (x : Session). x.stream.payload_type) begun.is ∙ within.one_stream.payload_type;
+    ssrc = ap (λ (x : Session). is_other x.ssrc sender.stream.ssrc) begun.is ∙ within.one_stream.ssrc;
+    not_again = ap (λ (x : Session). is_sent_again_by x.stream.retransmission sender.stream) begun.is ∙ within.one_stream.not_again;
+    rate = ap (λ (x : Session). x.packets.rate) begun.is ∙ within.one_stream.clock_rate;
+    running = ap (λ (x : Session). x.packets.anew) begun.is;
+    no_blanks = ap (λ (x : Session). x.packets.blanks) begun.is;
+    of_codec = ap (λ (x : Session). is_built_in_depack x.packets.buffer.depack) begun.is ∙ (ap is_codec within.one_stream.alike ∙ of_codec sender.pack within.one_stream.built_in);
+  }
+
+  -- from a number with those low bits on
+  sends_from : (start : ℕ) → start < 2 ^ 32 → sender.stream.number % 2 ^ 16 ≡ (start + 0) % 2 ^ 16 → SendsRun receiver.packets.buffer sender.stream sender.mtu start 0 samples all_steps (begins sender receiver) t []
+  sends_from start small same =
+      sends_run receiver.packets.buffer sender.stream sender.mtu start small samples 0 all_steps (begins sender receiver) t []
+      (record { mtu = refl; built_in = within.one_stream.built_in; kept = refl; number = same; reads = tt; numbered = tt; few = omega arith }) run
+
+  few : length t.datagrams < 2 ^ 63
+  few = let any = sends_from number (omega arith) (omega arith) in omega (arith, any.at.few, same_count sender.stream any.all t.datagrams any.at.reads)
+
+  numbers : AllNumbered first receiver.packets.numbering (delivered received)
+  numbers = subst (λ (n : Numbering). AllNumbered first n (delivered received)) (sym (ap (λ (x : Session). x.packets.numbering) begun.is))
+      (numbered_within forward backward number (length t.datagrams) (delivered received) begun.windows low few (takes_below received t.datagrams receiver t.session t.pops takes) within.within)
+
+  sent : SendsRun receiver.packets.buffer sender.stream sender.mtu first 0 samples all_steps (begins sender receiver) t []
+  sent = sends_from first (first_small forward backward number (delivered received) low within.within) (first_low forward backward sender.stream.number (delivered received) within.within)
+
+  come : IsMet rate sent.all received receiver t.pops t.session
+  come = met sender.stream within.one_stream.not_rtcp first sent.all t.datagrams sent.at.reads sent.at.numbered received receiver t.session t.pops listening numbers takes
+
+  abbrev start : RunState
+  start = running receiver.packets.buffer first rate sender []
+
+  unused : IsUnused start
+  unused = record {
+    built_in = within.one_stream.built_in;
+    nothing_sent = refl;
+    nothing_held = ap (λ (x : Session). x.packets.buffer.held) begun.is;
+    no_cutoff = ap (λ (x : Session). x.packets.buffer.cutoff) begun.is;
+    no_mark = ap (λ (x : Session). x.packets.buffer.mark) begun.is;
+    alike = ap (λ (x : Session). kind_of_depack x.packets.buffer.depack) begun.is ∙ within.one_stream.alike;
+    nothing_read = ap (λ (x : Session). read_by x.packets.buffer.depack) begun.is ∙ within.one_stream.nothing_read;
+    nothing_kept = ap (λ (x : Session). x.packets.buffer.contiguity) begun.is ∙ sym (ap (λ (x : Session). contiguity_for (kind_of_depack x.packets.buffer.depack)) begun.is);
+  }
+
+  releases : ReleasesArrivals samples (sending_steps sender.mtu all_steps) start (running receiver.packets.buffer first rate t.sending sent.all) come.events t.pops
+  releases = release_in_order samples (sending_steps sender.mtu all_steps) start (running receiver.packets.buffer first rate t.sending sent.all) sent.entries [] sent.runs unused within.readable
+      come.events t.pops t.session.packets.buffer come.meets
+
+  told : (k : ℕ) (q : Packet) (m : RtpMeta) → core.IsMet rate come.events k q m → IsDelivery rate received k q m
+  told k q m known = (contains_in (steps.Deliver k m.received) received (delivery_of receiver.packets.ended received come.events k m come.brings (in_contains (Arrives k m) come.events known.0)), known.1)
+
+  all_come : AllComeFirst receiver.packets.buffer.limit (length t.datagrams) received → AllArriveFirst receiver.packets.buffer.limit sent.all come.events
+  all_come come_first =
+      let split = split_at_end receiver.packets.ended come_first.before come_first.after come.events come_first.no_pops (subst (λ (es : List DatagramStep). Brings receiver.packets.ended es come.events) come_first.whole come.brings) in
+      let count : length sent.all ≡ length t.datagrams = same_count sender.stream sent.all t.datagrams sent.at.reads in
+      record {
+        few = omega (arith, come_first.few, count);
+        before = split.first;
+        after = split.rest;
+        whole = split.whole;
+        no_pops = split.only;
+        each = λ k l. split.has k (in_contains k (delivered come_first.before) (come_first.each k (omega (arith, l, count))));
+        made = split.made;
+      }
+
+  releases_units : ReleasesUnits samples all_steps (begins sender receiver) t
+  releases_units = record {
+    units = releases.units;
+    canonical = releases.canonical;
+    datagrams = subst (λ (ps : List Packet). AreDatagrams sender.stream ps t.datagrams) (sym releases.packets) sent.at.reads;
+    ends = releases.ends;
+    in_order = order_told (core.IsMet rate come.events) (IsDelivery rate received) told (may_split sender.pack) releases.units 0 t.pops releases.in_order;
+    exactly = λ come_first. all_told (core.IsMet rate come.events) (IsDelivery rate received) told 0 releases.units t.pops (releases.exactly (all_come come_first));
+  }
+
+pub release_over_datagrams : ReleaseOverDatagrams
+release_over_datagrams samples all_steps sender receiver t run within = releases_units samples all_steps sender receiver t run within

@@ -1,0 +1,355 @@
+-- What a sender sends over a run are the packets that a payloader sends over the same samples.
+use Rattle.std.proofs.Common.{◌≡◌, ◌≢◌, ◌∙◌, refl, sym, ap, subst, ℕ, suc, ◌+◌, ◌%◌, ◌^◌, ◌<◌, ◌||◌, ◌&&◌, List, [], ◌∷◌, ◌++◌, Bool, true, eqb, Option, Some, None, Result, Ok, Err, MatchOption, length, arith, append-nil}
+use Rattle.std.specs.Prelude.{slice_get, slice_index_or}
+use Rattle.std.proofs.lemmas.Bool.{eq-eqb, ne_eqb}
+use Rattle.std.proofs.lemmas.List.{length-append}
+use Rattle.codec_payload_base.specs.Answers.{Lands}
+use Rattle.codec_payload_base.specs.StrippedValues.{stripped}
+use Rattle.codec_payload_base.specs.declared.error.PacketError.{PacketError}
+use Rattle.codec_payload_base.specs.declared.error.PacketError.TheVariants as faults
+use Rattle.codec_payload_base.specs.declared.wire.extension.ExtensionValues.{ExtensionValues}
+use Rattle.codec_payload_buffer.specs.Pack.{Pack, G711Pack, G722Pack, OpusPack, ComfortNoisePack, TelePack, Vp8Pack, Vp9Pack, Av1Pack, AmrWbPack, NullPack, BoxedPack, PackStep, is_built_in, marker_of, talkspurt_of}
+use Rattle.codec_payload_buffer.specs.Steps.{State}
+use Rattle.codec_payload_core.specs.Packets.{Packet, AreNumbered}
+use Rattle.codec_payload_core.specs.Schedule as core
+use Rattle.codec_payload_core.specs.Schedule.{Answer, RunState, run_state, packets_sent}
+use Rattle.codec_payload_core.specs.Sending.{Sample, AreAs, is_last, packet_for, packets_from, rtp_time_at}
+use Rattle.codec_payload_core.specs.declared.schedule.Sent.{Sent}
+use Rattle.codec_payload_core.specs.declared.schedule.Step.{Step}
+use Rattle.codec_payload_rtp.specs.RtpPackets.{Header}
+use Rattle.codec_payload_sender.specs.Datagrams.{IsSentAt, header_at, header_with}
+use Rattle.codec_payload_sender.specs.Senders.{Refuses, Sending, Sends}
+use Rattle.codec_payload_sender.specs.declared.sender.Stream.{Stream}
+use Rattle.codec_payload_wire.specs.Releases.{AreDatagrams, ReadsAs, sending_steps}
+use Rattle.codec_payload_base.specs.declared.wire.Ticks.{Ticks}
+use Rattle.codec_payload_stream.specs.Sessions.{Session}
+use Rattle.codec_payload_wire.specs.WireRuns.{Delivers, Receipt, Runs, SendsIt, SendsOrRefuses, Wire, sent_sample}
+use Rattle.codec_payload_wire.specs.declared.run.DatagramStep.{DatagramStep}
+use Rattle.codec_payload_wire.specs.declared.run.DatagramStep.TheVariants as steps
+use Rattle.codec_payload_wire.specs.declared.run.SentSample.{SentSample}
+
+-- a packetizer stays built in
+pub pack_stays : (p : Pack) (mtu : ℕ) (frame : List ℕ) (answer : Result (List (List ℕ)) PacketError) (q : Pack) → PackStep p mtu frame answer q → is_built_in q ≡ is_built_in p
+pack_stays G711Pack mtu frame answer q step = ap is_built_in step.1
+pack_stays G722Pack mtu frame answer q step = ap is_built_in step.1
+pack_stays OpusPack mtu frame answer q step = ap is_built_in step.1
+pack_stays NullPack mtu frame answer q step = ap is_built_in step.1
+pack_stays (Vp8Pack id) mtu frame answer q step = ap is_built_in step.3
+pack_stays (Vp9Pack sender) mtu frame answer q step = ap is_built_in step.3
+pack_stays ComfortNoisePack mtu frame answer q step = ap is_built_in step.1
+pack_stays TelePack mtu frame answer q step = ap is_built_in step.1
+pack_stays Av1Pack mtu frame answer q step = ap is_built_in step.1
+pack_stays (AmrWbPack octet) mtu frame answer q step = ap is_built_in step.1
+pack_stays BoxedPack mtu frame answer q step = ap is_built_in step
+
+-- Lists of packets
+
+pub datagrams_append : (stream : Stream) (ps : List Packet) (ds : List (List ℕ)) (qs : List Packet) (es : List (List ℕ))
+    → AreDatagrams stream ps ds → AreDatagrams stream qs es → AreDatagrams stream (ps ++ qs) (ds ++ es)
+datagrams_append stream [] [] qs es here more = more
+datagrams_append stream [] (d ∷ ds) qs es here more = absurd here
+datagrams_append stream (p ∷ ps) [] qs es here more = absurd here
+datagrams_append stream (p ∷ ps) (d ∷ ds) qs es here more = (here.0, datagrams_append stream ps ds qs es here.1 more)
+
+pub same_count : (stream : Stream) (ps : List Packet) (ds : List (List ℕ)) → AreDatagrams stream ps ds → length ps ≡ length ds
+same_count stream [] [] are = refl
+same_count stream [] (d ∷ ds) are = absurd are
+same_count stream (p ∷ ps) [] are = absurd are
+same_count stream (p ∷ ps) (d ∷ ds) are = ap suc (same_count stream ps ds are.1)
+
+numbered_append : (n : ℕ) (ps qs : List Packet) → AreNumbered n ps → AreNumbered (n + length ps) qs → AreNumbered n (ps ++ qs)
+numbered_append n [] qs here more = subst (λ (m : ℕ). AreNumbered m qs) (omega arith) more
+numbered_append n (p ∷ ps) qs here more = (here.0, numbered_append (n + 1) ps qs here.1 (subst (λ (m : ℕ). AreNumbered m qs) (omega arith) more))
+
+are_as_themselves : (ps : List Packet) → AreAs true ps ps
+are_as_themselves [] = tt
+are_as_themselves (p ∷ ps) = (refl, are_as_themselves ps)
+
+-- the packets of a sample have consecutive numbers
+from_numbered : (pack : Pack) (sample : Sample) (rtp_time number place : ℕ) (payloads : List (List ℕ)) → number + length payloads < 2 ^ 64 → AreNumbered number (packets_from pack sample rtp_time number place payloads)
+from_numbered pack sample rtp_time number place [] few = tt
+from_numbered pack sample rtp_time number place (payload ∷ payloads) few =
+    let next : (number + 1) % 2 ^ 64 ≡ number + 1 = omega arith in (
+      refl,
+      subst (λ (n : ℕ). AreNumbered n (packets_from pack sample rtp_time ((number + 1) % 2 ^ 64) (place + 1) payloads)) next
+          (from_numbered pack sample rtp_time ((number + 1) % 2 ^ 64) (place + 1) payloads (omega arith)),
+    )
+
+from_count : (pack : Pack) (sample : Sample) (rtp_time number place : ℕ) (payloads : List (List ℕ)) → length (packets_from pack sample rtp_time number place payloads) ≡ length payloads
+from_count pack sample rtp_time number place [] = refl
+from_count pack sample rtp_time number place (payload ∷ payloads) = ap suc (from_count pack sample rtp_time ((number + 1) % 2 ^ 64) (place + 1) payloads)
+
+-- One sample
+
+-- a packet is the last where none follows
+last_is : (place : ℕ) (payloads : List (List ℕ)) → eqb (place + 1) (place + 1 + length payloads) ≡ is_last payloads
+last_is place [] = eq-eqb (place + 1) (place + 1 + 0) (omega arith)
+last_is place (payload ∷ payloads) = ne_eqb (place + 1) (place + 1 + suc (length payloads)) (λ e. omega (arith, e))
+
+abbrev headed : Stream → Bool → ℕ → ℕ → ExtensionValues → Header
+headed stream marker number time values = header_with stream (record { marker = marker; number = number; time = time }) values
+
+-- headers of the same fields, whatever the number of the next packet is
+same_header : (sending stream : Stream) (m m' : Bool) (n n' t t' : ℕ) (values values' : ExtensionValues) → sending ≡ record stream { number = sending.number } → m ≡ m' → n ≡ n' → t ≡ t' → values ≡ values'
+    → headed sending m n t values ≡ headed stream m' n' t' values'
+same_header sending stream m m' n n' t t' values values' kept e1 e2 e3 e4 =
+    ap (λ (x : Stream). headed x m n t values) kept
+    ∙ (ap (λ (b : Bool). headed stream b n t values) e1
+    ∙ (ap (λ (k : ℕ). headed stream m' k t values) e2
+    ∙ (ap (λ (k : ℕ). headed stream m' n' k values) e3
+    ∙ ap (λ (v : ExtensionValues). headed stream m' n' t' v) e4)))
+
+-- the datagrams of a sample, from a place on, read as its packets
+sent_reads : (sending stream : Stream) (pack : Pack) (sample : Sample) (count number place : ℕ) (payloads datagrams : List (List ℕ))
+    → sending ≡ record stream { number = sending.number } → is_built_in pack ≡ true → length datagrams ≡ length payloads → place + length payloads ≡ count
+    → number + length payloads < 2 ^ 64 → number % 2 ^ 16 ≡ (sending.number + place) % 2 ^ 16
+    → ((i : ℕ) → i < length payloads → IsSentAt sending pack (sent_sample sample) count (place + i) (slice_index_or payloads i []) (slice_index_or datagrams i []))
+    → AreDatagrams stream (packets_from pack sample (rtp_time_at stream.clock_rate sample.rtp_time) number place payloads) datagrams
+sent_reads sending stream pack sample count number place [] [] kept built_in same whole few low each = tt
+sent_reads sending stream pack sample count number place [] (d ∷ ds) kept built_in same whole few low each = absurd (omega (arith, same))
+sent_reads sending stream pack sample count number place (payload ∷ payloads) [] kept built_in same whole few low each = absurd (omega (arith, same))
+sent_reads sending stream pack sample count number place (payload ∷ payloads) (d ∷ ds) kept built_in same whole few low each =
+    let first : IsSentAt sending pack (sent_sample sample) count place payload d =
+    subst (λ (n : ℕ). IsSentAt sending pack (sent_sample sample) count n payload d) (omega arith) (each 0 (omega arith)) in
+    let all : count ≡ place + 1 + length payloads = omega (arith, whole) in
+    let q : Packet = packet_for pack sample (rtp_time_at stream.clock_rate sample.rtp_time) number (stripped sample.ext_vals place (place + 1 + length payloads)) (is_last payloads) payload in
+    let marker : first.marker ≡ q.marker = first.marked built_in ∙ ap (λ (b : Bool). marker_of pack b || (talkspurt_of pack && sample.start_of_talk_spurt)) (ap (eqb (place + 1)) all ∙ last_is place payloads) in
+    let header : header_at sending (sent_sample sample) place count first.marker ≡ headed stream q.marker (q.number % 2 ^ 16) q.rtp_time q.ext_vals =
+    same_header sending stream first.marker q.marker ((sending.number + place) % 2 ^ 16) (q.number % 2 ^ 16) _ q.rtp_time _ q.ext_vals kept marker (sym low)
+    (ap (λ (x : Stream). rtp_time_at x.clock_rate sample.rtp_time) kept) (ap (stripped sample.ext_vals place) all) in
+    let reads : ReadsAs stream q d = first.reads ∙ ap (λ (h : Header). Ok (record { header = h; payload = payload; padding = 0 })) header in
+    let next : (number + 1) % 2 ^ 64 ≡ number + 1 = omega arith in (
+      reads,
+      sent_reads sending stream pack sample count ((number + 1) % 2 ^ 64) (place + 1) payloads ds kept built_in (omega (arith, same)) (omega (arith, whole)) (omega (arith, next)) (omega (arith, next, low))
+          (λ i l. subst (λ (n : ℕ). IsSentAt sending pack (sent_sample sample) count n (slice_index_or payloads i []) (slice_index_or ds i [])) (omega arith) (each (suc i) (omega (arith, l)))),
+    )
+
+-- a payloader that has sent these packets, beside a sender
+abbrev pub running : State → ℕ → ℕ → Sending → List Packet → RunState
+running buffer first clock_rate s packets = run_state (record { pack = s.pack; clock_rate = clock_rate }) buffer (record { first = first; packets = packets })
+
+-- the sender's datagrams so far are these packets
+pub record IsAt (stream : Stream) (budget start : ℕ) (s : Sending) (datagrams : List (List ℕ)) (packets : List Packet) : Type 0 where
+  pub mtu : s.mtu ≡ budget
+  pub built_in : is_built_in s.pack ≡ true
+  pub kept : s.stream ≡ record stream { number = s.stream.number }
+  pub number : s.stream.number % 2 ^ 16 ≡ (start + length packets) % 2 ^ 16
+  pub reads : AreDatagrams stream packets datagrams
+  pub numbered : AreNumbered start packets
+  pub few : length packets < 2 ^ 63
+
+-- a sample was sent, by the payloader as well
+pub record SendsBoth (buffer : State) (stream : Stream) (budget start place : ℕ) (sample : Sample) (s t : Sending) (after : List (List ℕ)) (packets : List Packet) : Type 0 where
+  pub more : List Packet
+  pub entry : Sent
+  pub sends : core.SendsIt place budget sample (running buffer start stream.clock_rate s packets) entry (running buffer start stream.clock_rate t (packets ++ more))
+  pub at : IsAt stream budget start t after (packets ++ more)
+
+-- a sample that the packetizer gave payloads for
+sent_both : (buffer : State) (stream : Stream) (budget start place : ℕ) (sample : Sample) (s t : Sending) (before after : List (List ℕ)) (packets : List Packet)
+    → start < 2 ^ 32 → IsAt stream budget start s before packets → after ≡ before ++ t.datagrams → length after < 2 ^ 63 → Sends s (sent_sample sample) t
+    → SendsBoth buffer stream budget start place sample s t after packets
+sent_both buffer stream budget start place sample s t before after packets small at gained few sends =
+    let payloads : List (List ℕ) = sends.payloads in
+    let number : ℕ = start + length packets in
+    let more : List Packet = packets_from t.pack sample (rtp_time_at stream.clock_rate sample.rtp_time) number 0 payloads in
+    let after_number : ℕ = (s.stream.number + length payloads) % 2 ^ 16 in
+    let step : PackStep s.pack s.mtu sample.bytes (Ok payloads) t.pack = sends.packetized at.built_in in
+    let built_in : is_built_in t.pack ≡ true = pack_stays s.pack s.mtu sample.bytes (Ok payloads) t.pack step ∙ at.built_in in
+    let count : length more ≡ length payloads = from_count t.pack sample (rtp_time_at stream.clock_rate sample.rtp_time) number 0 payloads in
+    let datagrams : length t.datagrams ≡ length payloads = sends.sent.0 in
+    let known : length packets ≡ length before = same_count stream packets before at.reads in
+    let whole : length after ≡ length before + length t.datagrams = ap length gained ∙ length-append before t.datagrams in
+    let fits : number + length payloads < 2 ^ 64 = omega (arith, small, datagrams, known, whole, few) in
+    let low : number % 2 ^ 16 ≡ (s.stream.number + 0) % 2 ^ 16 = omega (arith, at.number) in
+    let reads : AreDatagrams stream more t.datagrams =
+    sent_reads s.stream stream t.pack sample (length payloads) number 0 payloads t.datagrams at.kept built_in datagrams (omega arith) fits low
+    (λ i l. subst (λ (n : ℕ). IsSentAt s.stream t.pack (sent_sample sample) (length payloads) n (slice_index_or payloads i []) (slice_index_or t.datagrams i [])) (omega arith) (sends.sent.1 i l)) in
+    let numbered : AreNumbered number more = from_numbered t.pack sample (rtp_time_at stream.clock_rate sample.rtp_time) number 0 payloads fits in
+    let all : length (packets ++ more) ≡ length packets + length more = length-append packets more in
+    let few_packets : length (packets ++ more) < 2 ^ 63 = omega (arith, all, count, datagrams, known, whole, few) in
+    let goes_on : t.stream.number ≡ after_number = ap (λ (x : Sending). x.stream.number) sends.left in
+    record {
+      more = more;
+      entry = record { step = place; first = length packets; count = length payloads; fault = None };
+      sends = record {
+        answer = Ok payloads;
+        pack = t.pack;
+        packetized = subst (λ (mtu : ℕ). PackStep s.pack mtu sample.bytes (Ok payloads) t.pack) at.mtu step;
+        not_memory = λ e. cc;
+        entry_is = refl;
+        packets = more;
+        are = subst (λ (b : Bool). AreAs b more more) (sym built_in) (are_as_themselves more);
+        numbered = numbered;
+        few = few_packets;
+        left = refl;
+      };
+      at = record {
+        mtu = ap (λ (x : Sending). x.mtu) sends.left ∙ at.mtu;
+        built_in = built_in;
+        kept = ap (λ (x : Sending). x.stream) sends.left
+            ∙ (ap (λ (x : Stream). record x { number = after_number }) at.kept
+            ∙ ap (λ (n : ℕ). record stream { number = n }) (sym goes_on));
+        number = omega (arith, goes_on, at.number, all, count);
+        reads = subst (AreDatagrams stream (packets ++ more)) (sym gained) (datagrams_append stream packets before more t.datagrams at.reads reads);
+        numbered = numbered_append start packets more at.numbered numbered;
+        few = few_packets;
+      };
+    }
+
+-- what the packetizer answered, where it refused a sample and memory was not wanting
+refused_as : (answer : Result (List (List ℕ)) PacketError) (fault : PacketError) → fault ≢ faults.OutOfMemory → Lands answer (Err fault) [] → answer ≡ Err fault
+refused_as (Ok packets) fault not_memory lands = absurd (not_memory lands)
+refused_as (Err other) fault not_memory lands = let same : fault ≡ other = cc in ap (λ (f : PacketError). Err f) (sym same)
+
+-- a sample that the packetizer refused
+refused_both : (buffer : State) (stream : Stream) (budget start place : ℕ) (sample : Sample) (fault : PacketError) (s t : Sending) (before after : List (List ℕ)) (packets : List Packet)
+    → IsAt stream budget start s before packets → after ≡ before ++ t.datagrams → fault ≢ faults.OutOfMemory → Refuses s (sent_sample sample) fault t
+    → SendsBoth buffer stream budget start place sample s t after packets
+refused_both buffer stream budget start place sample fault s t before after packets at gained not_memory refuses =
+    let answered = refuses.packetized at.built_in in
+    let is : answered.0 ≡ Err fault = refused_as answered.0 fault not_memory answered.2 in
+    let step : PackStep s.pack s.mtu sample.bytes (Err fault) t.pack = subst (λ (a : Result (List (List ℕ)) PacketError). PackStep s.pack s.mtu sample.bytes a t.pack) is answered.1 in
+    let nothing : t.datagrams ≡ [] = ap (λ (x : Sending). x.datagrams) refuses.left in
+    let same : after ≡ before = gained ∙ (ap (λ (ds : List (List ℕ)). before ++ ds) nothing ∙ append-nil before) in
+    let number : t.stream.number ≡ s.stream.number = ap (λ (x : Sending). x.stream.number) refuses.left in
+    let nil : packets ++ [] ≡ packets = append-nil packets in
+    record {
+      more = [];
+      entry = record { step = place; first = length packets; count = 0; fault = Some fault };
+      sends = record {
+        answer = Err fault;
+        pack = t.pack;
+        packetized = subst (λ (mtu : ℕ). PackStep s.pack mtu sample.bytes (Err fault) t.pack) at.mtu step;
+        not_memory = λ e. let memory : fault ≡ faults.OutOfMemory = cc in not_memory memory;
+        entry_is = refl;
+        packets = [];
+        are = subst (λ (b : Bool). AreAs b [] []) (sym (pack_stays s.pack s.mtu sample.bytes (Err fault) t.pack step ∙ at.built_in)) tt;
+        numbered = tt;
+        few = subst (λ (ps : List Packet). length ps < 2 ^ 63) (sym nil) at.few;
+        left = refl;
+      };
+      at = subst (IsAt stream budget start t after) (sym nil) record {
+        mtu = ap (λ (x : Sending). x.mtu) refuses.left ∙ at.mtu;
+        built_in = pack_stays s.pack s.mtu sample.bytes (Err fault) t.pack step ∙ at.built_in;
+        kept = ap (λ (x : Sending). x.stream) refuses.left ∙ (at.kept ∙ ap (λ (n : ℕ). record stream { number = n }) (sym number));
+        number = omega (arith, number, at.number);
+        reads = subst (AreDatagrams stream packets) (sym same) at.reads;
+        numbered = at.numbered;
+        few = at.few;
+      };
+    }
+
+one_sample : (buffer : State) (stream : Stream) (budget start place : ℕ) (sample : Sample) (fault : Option PacketError) (s t : Sending) (before after : List (List ℕ)) (packets : List Packet)
+    → start < 2 ^ 32 → IsAt stream budget start s before packets → after ≡ before ++ t.datagrams → length after < 2 ^ 63 → SendsOrRefuses (sent_sample sample) s fault t
+    → SendsBoth buffer stream budget start place sample s t after packets
+one_sample buffer stream budget start place sample None s t before after packets small at gained few sends = sent_both buffer stream budget start place sample s t before after packets small at gained few sends
+one_sample buffer stream budget start place sample (Some fault) s t before after packets small at gained few refuses = refused_both buffer stream budget start place sample fault s t before after packets at gained refuses.0 refuses.1
+
+-- Whole runs
+
+-- over a run a payloader sends packets, as which its datagrams read
+pub record SendsRun (buffer : State) (stream : Stream) (budget start place : ℕ) (samples : List Sample) (all_steps : List DatagramStep) (s t : Wire) (packets : List Packet) : Type 0 where
+  pub all : List Packet
+  pub entries : List Sent
+  pub runs : core.Runs samples place (sending_steps budget all_steps) (running buffer start stream.clock_rate s.sending packets) entries [] (running buffer start stream.clock_rate t.sending all)
+  pub at : IsAt stream budget start t.sending t.datagrams all
+
+module _ (buffer : State) (stream : Stream) (budget start : ℕ) (small : start < 2 ^ 32) (samples : List Sample) where
+  abbrev Goes : ℕ → List DatagramStep → Wire → Wire → List Packet → Type 0
+  Goes place all_steps s t packets = SendsRun buffer stream budget start place samples all_steps s t packets
+
+  abbrev At : Wire → List Packet → Type 0
+  At s packets = IsAt stream budget start s.sending s.datagrams packets
+
+  -- a step that leaves sender and datagrams as they were
+  at_same : (s mid : Wire) (packets : List Packet) → mid.sending ≡ s.sending → mid.datagrams ≡ s.datagrams → At s packets → At mid packets
+  at_same s mid packets sending datagrams at =
+      subst (λ (x : Sending). IsAt stream budget start x mid.datagrams packets) (sym sending) (subst (λ (ds : List (List ℕ)). IsAt stream budget start s.sending ds packets) (sym datagrams) at)
+
+  -- a step that sends no sample is none of a payloader
+  stays : (place : ℕ) (step : DatagramStep) (later : List DatagramStep) (s mid t : Wire) (packets : List Packet) → sending_steps budget (step ∷ later) ≡ sending_steps budget later → mid.sending ≡ s.sending
+      → Goes place later mid t packets → Goes place (step ∷ later) s t packets
+  stays place step later s mid t packets none sending goes = record {
+    all = goes.all;
+    entries = goes.entries;
+    runs = subst (λ (ss : List Step). core.Runs samples place ss (running buffer start stream.clock_rate s.sending packets) goes.entries [] (running buffer start stream.clock_rate t.sending goes.all)) (sym none)
+        (subst (λ (x : Sending). core.Runs samples place (sending_steps budget later) (running buffer start stream.clock_rate x packets) goes.entries [] (running buffer start stream.clock_rate t.sending goes.all)) sending goes.runs);
+    at = goes.at;
+  }
+
+  -- a step that sends
+  sends_one : (o : Option Sample) (place i : ℕ) (later : List DatagramStep) (s mid t : Wire) (packets : List Packet) → slice_get samples i ≡ o → At s packets
+      → MatchOption o (mid ≡ s) (λ sample. (entry : SentSample) × SendsIt sample s.sending s.datagrams entry mid.sending mid.datagrams
+      × (mid ≡ record s { sending = mid.sending; datagrams = mid.datagrams; sends = s.sends ++ entry ∷ [] }))
+      → ((more : List Packet) → At mid more → Goes (place + 1) later mid t more) → Goes place (steps.Send i ∷ later) s t packets
+  sends_one None place i later s mid t packets is at same rest =
+      let sending : mid.sending ≡ s.sending = ap (λ (x : Wire). x.sending) same in
+      let goes = rest packets (at_same s mid packets sending (ap (λ (x : Wire). x.datagrams) same) at) in
+      let c : RunState = running buffer start stream.clock_rate s.sending packets in
+      let d : RunState = running buffer start stream.clock_rate mid.sending packets in
+      let left : d ≡ c = ap (λ (x : Sending). running buffer start stream.clock_rate x packets) sending in
+      record {
+        all = goes.all;
+        entries = goes.entries;
+        runs = (
+          [],
+          goes.entries,
+          [],
+          [],
+          d,
+          refl,
+          refl,
+          (refl, subst (λ (o : Option Sample). MatchOption o (◌≡◌ {A = List Sent} [] [] × (d ≡ c)) (λ sample. (entry : Sent) × ([] ≡ entry ∷ []) × core.SendsIt place budget sample c entry d)) (sym is) (refl, left)),
+          goes.runs,
+        );
+        at = goes.at;
+      }
+  sends_one (Some sample) place i later s mid t packets is at done rest =
+      let both = one_sample buffer stream budget start place sample done.0.fault s.sending mid.sending s.datagrams mid.datagrams packets small at done.1.gained done.1.few done.1.sends in
+      let goes = rest (packets ++ both.more) both.at in
+      let c : RunState = running buffer start stream.clock_rate s.sending packets in
+      let d : RunState = running buffer start stream.clock_rate mid.sending (packets ++ both.more) in
+      let one : List Sent = both.entry ∷ [] in
+      record {
+        all = goes.all;
+        entries = both.entry ∷ goes.entries;
+        runs = (
+          one,
+          goes.entries,
+          [],
+          [],
+          d,
+          refl,
+          refl,
+          (refl, subst (λ (o : Option Sample). MatchOption o ((one ≡ []) × (d ≡ c)) (λ sample. (entry : Sent) × (one ≡ entry ∷ []) × core.SendsIt place budget sample c entry d)) (sym is) (both.entry, refl, both.sends)),
+          goes.runs,
+        );
+        at = goes.at;
+      }
+
+  -- a delivery leaves the sender and its datagrams
+  delivery_leaves : (o : Option (List ℕ)) (now : Ticks) (s mid : Wire)
+      → MatchOption o (mid ≡ s) (λ bytes. (receipt : Receipt) × (session : Session) × Delivers now bytes s.session receipt session × (mid ≡ record s { session = session; receipts = s.receipts ++ receipt ∷ [] }))
+      → (mid.sending ≡ s.sending) × (mid.datagrams ≡ s.datagrams)
+  delivery_leaves None now s mid same = (ap (λ (x : Wire). x.sending) same, ap (λ (x : Wire). x.datagrams) same)
+  delivery_leaves (Some bytes) now s mid done = (ap (λ (x : Wire). x.sending) done.3, ap (λ (x : Wire). x.datagrams) done.3)
+
+  pub sends_run : (place : ℕ) (all_steps : List DatagramStep) (s t : Wire) (packets : List Packet) → At s packets → Runs samples all_steps s t → Goes place all_steps s t packets
+  sends_run place [] s t packets at run = record {
+    all = packets;
+    entries = [];
+    runs = (refl, refl, ap (λ (x : Wire). running buffer start stream.clock_rate x.sending packets) run);
+    at = at_same s t packets (ap (λ (x : Wire). x.sending) run) (ap (λ (x : Wire). x.datagrams) run) at;
+  }
+  sends_run place (steps.Send i ∷ later) s t packets at run =
+      sends_one (slice_get samples i) place i later s run.0 t packets refl at run.1 (λ more next. sends_run (place + 1) later run.0 t more next run.2)
+  sends_run place (steps.Deliver k now ∷ later) s t packets at run =
+      let leaves = delivery_leaves (slice_get s.datagrams k) now s run.0 run.1 in
+      stays place (steps.Deliver k now) later s run.0 t packets refl leaves.0 (sends_run place later run.0 t packets (at_same s run.0 packets leaves.0 leaves.1 at) run.2)
+  sends_run place (steps.Pop now ∷ later) s t packets at run =
+      let sending : run.0.sending ≡ s.sending = ap (λ (x : Wire). x.sending) run.1.4 in
+      stays place (steps.Pop now) later s run.0 t packets refl sending (sends_run place later run.0 t packets (at_same s run.0 packets sending (ap (λ (x : Wire). x.datagrams) run.1.4) at) run.2)
+  sends_run place (steps.Finish ∷ later) s t packets at run =
+      let sending : run.0.sending ≡ s.sending = ap (λ (x : Wire). x.sending) run.1 in
+      stays place steps.Finish later s run.0 t packets refl sending (sends_run place later run.0 t packets (at_same s run.0 packets sending (ap (λ (x : Wire). x.datagrams) run.1) at) run.2)

@@ -1,0 +1,176 @@
+-- What a run over datagrams releases, whatever of its datagrams is lost, repeated and comes in another order.
+use Rattle.std.specs.Prelude.{◌≡◌, ℕ, ◌+◌, ◌%◌, ◌^◌, ◌<◌, ◌≤◌, ◌⊎◌, ◌==◌, ◌&&◌, nat_lt, max, if◌then◌else◌, Bool, true, false, List, [], ◌∷◌, ◌++◌, Option, Some, None, Ok, Contains, length, map, slice_get, refl}
+use Rattle.std.proofs.Common.{lit<, lit≤}
+use Rattle.codec_payload_base.specs.declared.wire.Ticks.{Ticks}
+use Rattle.codec_payload_buffer.specs.Depack.{Depack, kind_of_depack}
+use Rattle.codec_payload_buffer.specs.Pack.{is_built_in}
+use Rattle.codec_payload_buffer.specs.declared.buffer.unit.RtpMeta.{RtpMeta}
+use Rattle.codec_payload_core.specs.Arrivals.{Tells}
+use Rattle.codec_payload_core.specs.Exact.{AnswersAll}
+use Rattle.codec_payload_core.specs.Headline.{InOrder}
+use Rattle.codec_payload_core.specs.Packets.{Packet}
+use Rattle.codec_payload_core.specs.Sending.{Sample}
+use Rattle.codec_payload_core.specs.SentStream.{AllEndWithTail, AreReadable, SentUnit, packets_of, units_of_run}
+use Rattle.codec_payload_core.specs.ToldIds.{read_by}
+use Rattle.codec_payload_core.specs.Units.{payloads_by, may_split}
+use Rattle.codec_payload_core.specs.declared.schedule.Step.{Step}
+use Rattle.codec_payload_core.specs.declared.schedule.Step.TheVariants as run_steps
+use Rattle.codec_payload_rtp.specs.RtpReading.{rtp_at}
+use Rattle.codec_payload_sender.specs.Datagrams.{header_with}
+use Rattle.codec_payload_sender.specs.Senders.{Sending}
+use Rattle.codec_payload_sender.specs.declared.sender.Stream.{Stream}
+use Rattle.codec_payload_stream.specs.Kinds.{is_other}
+use Rattle.codec_payload_stream.specs.Sessions.{Session, session_by}
+use Rattle.codec_payload_stream.specs.declared.receiver.Retransmission.{Retransmission}
+use Rattle.codec_payload_stream.specs.declared.receiver.Settings.{Settings}
+use Rattle.codec_payload_wire.specs.WireRuns.{Runs, Wire, begins}
+use Rattle.codec_payload_wire.specs.declared.run.DatagramStep.{DatagramStep}
+use Rattle.codec_payload_wire.specs.declared.run.DatagramStep.TheVariants as steps
+use Rattle.codec_payload_wire.specs.declared.run.SentSample.{SentSample}
+
+-- What is sent
+
+-- the steps that send, as those of `run_schedule` at that MTU
+abbrev pub sending_steps : ℕ → List DatagramStep → List Step
+sending_steps mtu [] = []
+sending_steps mtu (steps.Send i ∷ later) = run_steps.Send i mtu ∷ sending_steps mtu later
+sending_steps mtu (steps.Deliver k now ∷ later) = sending_steps mtu later
+sending_steps mtu (steps.Pop now ∷ later) = sending_steps mtu later
+sending_steps mtu (steps.Finish ∷ later) = sending_steps mtu later
+
+-- the datagram reads as that packet of the stream: its payload, marker, time and values, and the low bits of its number
+abbrev pub ReadsAs : Stream → Packet → List ℕ → Type 0
+ReadsAs stream q datagram =
+    rtp_at datagram ≡ Ok (record { header = header_with stream (record { marker = q.marker; number = q.number % 2 ^ 16; time = q.rtp_time }) q.ext_vals; payload = q.payload; padding = 0 })
+
+-- each of these datagrams reads as its packet
+abbrev pub AreDatagrams : Stream → List Packet → List (List ℕ) → Type 0
+AreDatagrams stream [] [] = Unit {0}
+AreDatagrams stream (q ∷ packets) (datagram ∷ datagrams) = ReadsAs stream q datagram × AreDatagrams stream packets datagrams
+AreDatagrams stream [] (datagram ∷ datagrams) = ⊥
+AreDatagrams stream (q ∷ packets) [] = ⊥
+
+-- What is received
+
+-- how many datagrams were sent after a `Send` of that sample, if there is one, and the entries that are left
+abbrev pub sent_after : ℕ → Option Sample → List SentSample → ℕ
+sent_after sent None sends = sent
+sent_after sent (Some sample) [] = sent
+sent_after sent (Some sample) (entry ∷ sends) = sent + entry.count
+
+abbrev pub sends_after : Option Sample → List SentSample → List SentSample
+sends_after None sends = sends
+sends_after (Some sample) [] = []
+sends_after (Some sample) (entry ∷ sends) = sends
+
+-- the steps that come to the receiver: pops, the end, and each delivery of a datagram that was sent by then. So many datagrams
+-- were sent before these steps, and `sends` has an entry for each of their samples
+abbrev pub received_steps : List Sample → ℕ → List DatagramStep → List SentSample → List DatagramStep
+received_steps samples sent [] sends = []
+received_steps samples sent (steps.Send i ∷ later) sends = received_steps samples (sent_after sent (slice_get samples i) sends) later (sends_after (slice_get samples i) sends)
+received_steps samples sent (steps.Deliver k now ∷ later) sends =
+    if nat_lt k sent then steps.Deliver k now ∷ received_steps samples sent later sends else received_steps samples sent later sends
+received_steps samples sent (steps.Pop now ∷ later) sends = steps.Pop now ∷ received_steps samples sent later sends
+received_steps samples sent (steps.Finish ∷ later) sends = steps.Finish ∷ received_steps samples sent later sends
+
+-- the indices of the datagrams that are delivered, in order
+abbrev pub delivered : List DatagramStep → List ℕ
+delivered [] = []
+delivered (steps.Send i ∷ later) = delivered later
+delivered (steps.Deliver k now ∷ later) = k ∷ delivered later
+delivered (steps.Pop now ∷ later) = delivered later
+delivered (steps.Finish ∷ later) = delivered later
+
+-- what is known of a packet that came: its datagram was delivered, when it was received
+abbrev pub IsDelivery : ℕ → List DatagramStep → ℕ → Packet → RtpMeta → Type 0
+IsDelivery clock_rate all_steps k q meta = Contains all_steps (steps.Deliver k meta.received) × Tells clock_rate q meta
+
+-- Premises
+
+-- packets of the sender are none of those that are sent again
+abbrev pub is_sent_again_by : Option Retransmission → Stream → Bool
+is_sent_again_by None stream = false
+is_sent_again_by (Some r) stream = (r.ssrc == stream.ssrc) && (r.payload_type == stream.payload_type)
+
+-- a sender of a codec, and the settings and the depacketizer of a receiver of its stream: this reads what the packetizer makes, and
+-- takes the sender's packets for neither RTCP (RFC 5761, section 4) nor another stream, nor for packets that are sent again
+pub record AreOfOneStream (sender : Sending) (settings : Settings) (depack : Depack) : Type 0 where
+  pub built_in : is_built_in sender.pack ≡ true
+  pub alike : kind_of_depack depack ≡ payloads_by sender.pack
+  pub nothing_read : read_by depack ≡ None
+  pub clock_rate : settings.clock_rate ≡ sender.stream.clock_rate
+  pub payload_type : settings.payload_type ≡ sender.stream.payload_type
+  pub not_rtcp : (sender.stream.payload_type < 64) ⊎ (95 < sender.stream.payload_type)
+  pub ssrc : is_other settings.ssrc sender.stream.ssrc ≡ false
+  pub not_again : is_sent_again_by settings.retransmission sender.stream ≡ false
+
+-- each of these indices is less than `forward` above the greatest before it, and at most `backward` below it; g is the greatest so far
+abbrev pub StayWithin : ℕ → ℕ → ℕ → List ℕ → Type 0
+StayWithin forward backward g [] = Unit {0}
+StayWithin forward backward g (k ∷ ks) = (k < g + forward) × (g ≤ k + backward) × StayWithin forward backward (max g k) ks
+
+-- the datagrams of these indices come within the windows, and the first that comes is one of the first 65,536 that were sent
+abbrev pub ComeWithin : ℕ → ℕ → List ℕ → Type 0
+ComeWithin forward backward [] = Unit {0}
+ComeWithin forward backward (k ∷ ks) = (k < 65536) × StayWithin forward backward k ks
+
+-- the receiver is as `Receiver::new` makes it, for the stream of the sender; the samples can be read again; and all that is delivered
+-- comes within the windows
+pub record IsWithinWindows (samples : List Sample) (all_steps : List DatagramStep) (sender : Sending) (receiver : Session) (sends : List SentSample) : Type 0 where
+  pub settings : Settings
+  pub depack : Depack
+  pub new : session_by settings depack ≡ Ok receiver
+  pub one_stream : AreOfOneStream sender settings depack
+  pub readable : AreReadable sender.pack samples
+  pub within : ComeWithin settings.forward settings.backward (delivered (received_steps samples 0 all_steps sends))
+
+-- Promises
+
+-- none of the steps is a pop
+abbrev pub HaveNoPops : List DatagramStep → Type 0
+HaveNoPops [] = Unit {0}
+HaveNoPops (steps.Send i ∷ later) = HaveNoPops later
+HaveNoPops (steps.Deliver k now ∷ later) = HaveNoPops later
+HaveNoPops (steps.Pop now ∷ later) = ⊥
+HaveNoPops (steps.Finish ∷ later) = HaveNoPops later
+
+-- the buffer has room for so many packets, each datagram is delivered before the stream ends, and no pop is made before that
+pub record AllComeFirst (limit count : ℕ) (received : List DatagramStep) : Type 0 where
+  pub few : count ≤ limit
+  pub before : List DatagramStep
+  pub after : List DatagramStep
+  pub whole : received ≡ before ++ steps.Finish ∷ after
+  pub no_pops : HaveNoPops before
+  pub each : (k : ℕ) → k < count → Contains (delivered before) k
+
+-- the datagrams that were sent read as the packets of canonical units; these are popped in order, each at most once and whole, of
+-- packets that were delivered; and where all come before the stream ends, and pops come after, all of them
+pub record ReleasesUnits (samples : List Sample) (all_steps : List DatagramStep) (s t : Wire) : Type 0 where
+  pub units : List SentUnit
+  pub canonical : map (λ (u : SentUnit). u.parts) units ≡ units_of_run s.sending.pack samples (sending_steps s.sending.mtu all_steps)
+  pub datagrams : AreDatagrams s.sending.stream (packets_of units) t.datagrams
+  pub ends : AllEndWithTail (payloads_by s.sending.pack) units
+  pub in_order : InOrder (IsDelivery s.sending.stream.clock_rate (received_steps samples 0 all_steps t.sends)) (may_split s.sending.pack) units 0 t.pops
+  pub exactly : AllComeFirst s.session.packets.buffer.limit (length t.datagrams) (received_steps samples 0 all_steps t.sends)
+      → AnswersAll (IsDelivery s.sending.stream.clock_rate (received_steps samples 0 all_steps t.sends)) 0 units t.pops
+
+-- so it is of a run whose samples can be read, and whose datagrams come within the windows
+abbrev pub ReleasesWithinWindows : List Sample → List DatagramStep → Wire → Wire → Type 0
+ReleasesWithinWindows samples all_steps s t = IsWithinWindows samples all_steps s.sending s.session t.sends → ReleasesUnits samples all_steps s t
+
+-- of every run over datagrams
+abbrev pub ReleaseOverDatagrams : Type 0
+ReleaseOverDatagrams =
+    (samples : List Sample) (all_steps : List DatagramStep) (sender : Sending) (receiver : Session) (t : Wire)
+    → Runs samples all_steps (begins sender receiver) t → ReleasesWithinWindows samples all_steps (begins sender receiver) t
+
+-- Examples
+
+-- of two datagrams that a sample gives, one is delivered before it is sent, and one is never sent: these deliveries are passed over
+pub received_steps-not_sent : (sample : Sample) (now : Ticks) → received_steps (sample ∷ []) 0 (steps.Deliver 0 now ∷ steps.Send 0 ∷ steps.Deliver 1 now ∷ steps.Deliver 2 now ∷ steps.Pop now ∷ []) (record { count = 2; fault = None } ∷ [])
+    ≡ steps.Deliver 1 now ∷ steps.Pop now ∷ []
+received_steps-not_sent sample now = refl
+
+-- the first two are swapped, one comes twice, and at the borders of the windows
+pub come-within : ComeWithin 3000 1000 (1 ∷ 0 ∷ 1 ∷ 3000 ∷ 2000 ∷ [])
+come-within = (lit< tt, (lit< tt, lit≤ tt, (lit< tt, lit≤ tt, (lit< tt, lit≤ tt, (lit< tt, lit≤ tt, tt)))))

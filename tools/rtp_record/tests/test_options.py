@@ -1,0 +1,238 @@
+#!/usr/bin/env python3
+"""What options change: the file that is named, --mux by sender reports, --all, --clean, --fill, --map, and RED and events of Chromium.
+
+  tests/test_options.py [PROGRAM]
+
+What has to come is counted over the clean captures. The last line is `N passed, N failed`."""
+
+import json
+import os
+import struct
+import subprocess
+import sys
+import tempfile
+from dataclasses import replace
+
+import capture
+import conditions
+from recorded import CAPTURES, HERE, all_streams
+from test_captures import AMR_WB_MAGIC, faults_of_file, found_in, md5s_in, words
+
+PROGRAM = os.path.abspath(sys.argv[1] if len(sys.argv) > 1 else f"{HERE}/../rtp_record")
+STREAMS = {stream.title: stream for stream in all_streams()}
+checks = {"passed": 0, "failed": 0}
+
+
+def check(holds, what):
+    checks["passed" if holds else "failed"] += 1
+    if not holds:
+        print(f"does not hold: {what}")
+
+
+def run(*words_, wanted=0):
+    ran = subprocess.run([PROGRAM, "--json", *words_], capture_output=True, check=False)
+    check(ran.returncode == wanted, f"{' '.join(words_)}: status {ran.returncode} {ran.stderr.decode()}")
+    return json.loads(ran.stdout) if ran.stdout else None
+
+
+def all_of(stream):
+    return stream.wanted(stream.packets(), set(range(len(stream.packets()))))
+
+
+def source_of(stream, folder, packets=None):
+    path = f"{folder}/{stream.name}.pcap"
+    capture.write(path, packets or stream.packets())
+    return path
+
+
+def named_files(folder):
+    """-o with the name of a file: the ending tells the format, and a second stream gets a name beside it."""
+    for title, ending in [("vp8", "webm"), ("vp8", "mkv"), ("vp8", "ivf"), ("vp9", "ivf"), ("chromium-av1 video", "obu"),
+                          ("chromium-av1 video", "ivf"), ("opus", "ogg"), ("opus", "opus"), ("pcmu", "wav"), ("pcma", "wav"),
+                          ("amrwb", "awb"), ("amrwb", "mka"), ("g722", "mka")]:
+        stream, out = STREAMS[title], f"{folder}/named.{ending}"
+        run(*stream.words, source_of(stream, folder), "-o", out)
+        if title == "amrwb" and ending == "mka":
+            found = words("ffmpeg", "-v", "error", "-i", out, "-map", "0", "-c", "copy", "-f", "data", "-").stdout
+        else:
+            found = found_in(stream.codec, out)
+        check(found == all_of(stream), f"{title} as {ending}")
+        check(not list(faults_of_file(out)), f"{title} as {ending} plays: {list(faults_of_file(out))}")
+    call = f"{CAPTURES}/chromium-vp8.pcap"
+    told = run("--sdp", f"{CAPTURES}/chromium-vp8.sdp", call, "-o", f"{folder}/call.mkv")
+    files = sorted(stream["file"] for stream in told["streams"] if "file" in stream)
+    second = next(stream for stream in told["streams"] if stream.get("file", "").startswith(f"{folder}/call-"))
+    check(files == sorted([f"{folder}/call.mkv", f"{folder}/call-{second['ssrc']}.mkv"]), f"two streams: {files}")
+    ran = subprocess.run([PROGRAM, source_of(STREAMS["pcmu"], folder), "-o", f"{folder}/no.webm"], capture_output=True, check=False)
+    check(ran.returncode == 1 and b"does not take" in ran.stderr, f"WebM takes no G.711: {ran.stderr}")
+
+
+def two_flows(folder):
+    """The same SSRC between other ends is a stream of its own, with a file of its own."""
+    stream = STREAMS["pcmu"]
+    other = []
+    for packet in stream.packets():
+        headers = bytearray(packet.headers)
+        struct.pack_into(">H", headers, 34, 7777)
+        other.append(replace(packet, headers=bytes(headers)))
+    path = source_of(stream, folder, sorted(stream.packets() + other, key=lambda packet: packet.time))
+    told = run(path, "-o", f"{folder}/two")
+    check(len(told["streams"]) == 2, "two streams")
+    check(sorted(os.listdir(f"{folder}/two")) == [f"{stream.ssrc:08x}-2.mka", f"{stream.ssrc:08x}.mka"], "two files")
+    for name in os.listdir(f"{folder}/two"):
+        check(found_in("pcmu", f"{folder}/two/{name}") == all_of(stream), f"{name} is whole")
+
+
+def sender_report(packet, moment):
+    """An RTCP sender report (RFC 3550, section 6.4.1): the moment of a packet by the sender's clock, in seconds since 1900."""
+    ntp = round(moment * 2**32)
+    body = struct.pack(">BBHIQIII", 0x80, 200, 6, packet.ssrc, ntp, packet.timestamp, 1, 1)
+    return replace(packet, payload=body)
+
+
+def starts(path):
+    """When the tracks of a file begin, in seconds: video, and audio."""
+    return [float(words("ffprobe", "-v", "error", "-select_streams", kind, "-show_entries", "packet=pts_time", "-read_intervals",
+                        "%+#1", "-of", "csv=p=0", path).stdout.split()[0].strip(b",")) for kind in ("v:0", "a:0")]
+
+
+def reports(folder):
+    """Two streams whose first packets came at once are put together by what their senders say."""
+    video, audio = STREAMS["vp8"], STREAMS["opus"]
+    base = 10**18
+    pairs = []
+    for stream in (video, audio):
+        packets = stream.packets()
+        pairs.append([replace(packet, time=base + packet.time - packets[0].time) for packet in packets])
+
+    def merged(extra):
+        return sorted(extra + pairs[0] + pairs[1], key=lambda packet: packet.time)
+
+    capture.write(f"{folder}/sr.pcap", merged([sender_report(pairs[0][0], 1000.0), sender_report(pairs[1][0], 1000.25)]))
+    run("--sdp", f"{CAPTURES}/vp8.sdp", "--sdp", f"{CAPTURES}/opus.sdp", f"{folder}/sr.pcap", "--mux", f"{folder}/sr.mkv")
+    first, second = starts(f"{folder}/sr.mkv")
+    check(abs(second - first - 0.25) < 0.002, f"the sound begins a quarter of a second behind the picture: {first}, {second}")
+    check(md5s_in(f"{folder}/sr.mkv", "0:v:0") == all_of(video) and md5s_in(f"{folder}/sr.mkv", "0:a:0") == all_of(audio), "frames")
+    capture.write(f"{folder}/sr.pcap", merged([sender_report(pairs[0][0], 1000.0), sender_report(pairs[1][0], 9000.0)]))
+    run("--sdp", f"{CAPTURES}/vp8.sdp", "--sdp", f"{CAPTURES}/opus.sdp", f"{folder}/sr.pcap", "--mux", f"{folder}/sr.mkv")
+    first, second = starts(f"{folder}/sr.mkv")
+    check(abs(second - first) < 0.002, f"clocks that are hours apart are two clocks: {first}, {second}")
+
+
+def call(folder):
+    """Sound and picture of a call of Chromium, in one file by its own sender reports: they began within a quarter of a second."""
+    run("--sdp", f"{CAPTURES}/chromium-vp8.sdp", f"{CAPTURES}/chromium-vp8.pcap", "--mux", f"{folder}/call.webm")
+    check(md5s_in(f"{folder}/call.webm", "0:v:0") == all_of(STREAMS["chromium-vp8 video"]), "the picture of a call")
+    check(md5s_in(f"{folder}/call.webm", "0:a:0") == all_of(STREAMS["chromium-vp8 audio"]), "the sound of a call")
+    check(not list(faults_of_file(f"{folder}/call.webm")), "the file plays")
+
+
+def keyframe_lost(folder):
+    """Where the first keyframe is lost, the file begins at the next one; with --all the frames before it are written too."""
+    for name in ("vp8", "vp9"):
+        stream = STREAMS[name]
+        packets = stream.packets()
+        units = stream.units(packets)
+        without = packets[1:]
+        there = set(range(1, len(packets)))
+        told = run(*stream.words, source_of(stream, folder, without), "-o", f"{folder}/k.webm")["streams"][0]
+        check(md5s_in(f"{folder}/k.webm") == stream.wanted(packets, there), f"{name}: from the next keyframe on")
+        check(told["left_out"] == min(stream.keyframes() - {0}) - 1, f"{name}: frames left out: {told}")
+        told = run("--all", *stream.words, source_of(stream, folder, without), "-o", f"{folder}/k.webm")["streams"][0]
+        check(md5s_in(f"{folder}/k.webm") == [unit for _, unit in units[1:]], f"{name}: --all has all but the first")
+        check(told["left_out"] == 0 and told["damaged"] == min(stream.keyframes() - {0}) - 1, f"{name}: and says which are damaged")
+        said = [fault for fault in faults_of_file(f"{folder}/k.webm") if "Not all references are available" not in fault]
+        check(not said, f"{name}: --all plays, but for what a decoder says of references that lack: {said}")
+
+
+def clean(folder):
+    """With --clean frames behind a lost one are left out up to the next keyframe."""
+    for name in ("vp8", "vp9"):
+        stream = STREAMS[name]
+        packets = stream.packets()
+        come, there = conditions.lossy(packets)
+        wanted, lacks = [], True
+        for place, (places, unit) in enumerate(stream.units(packets)):
+            whole = set(places) <= there
+            lacks = not whole or (lacks and place not in stream.keyframes())
+            wanted += [] if lacks else [unit]
+        run("--clean", *stream.words, source_of(stream, folder, come), "-o", f"{folder}/c.webm")
+        check(0 < len(wanted) and md5s_in(f"{folder}/c.webm") == wanted, f"{name}: --clean gives {len(wanted)} frames")
+
+
+def fill(folder):
+    """With --fill what is lost becomes silence of the same length (G.711: the code of 0; AMR-WB: RFC 4867, 5.3, type 15)."""
+    for name, silence in [("pcmu", b"\xff"), ("pcma", b"\xd5")]:
+        stream = STREAMS[name]
+        packets = stream.packets()
+        there = set(range(len(packets))) - {20, 21, 50}
+        path = source_of(stream, folder, [packets[place] for place in sorted(there)])
+        told = run("--fill", path, "-o", f"{folder}/f.wav")["streams"][0]
+        found = found_in(name, f"{folder}/f.wav")
+        size = len(packets[0].media)
+        lost = {20: 2 * size, 50: size}
+        wanted, filled = b"", 0
+        for place, packet in enumerate(packets):
+            wanted += packet.media if place in there else b""
+            if place in lost:
+                filled += lost[place] // 160
+                wanted += silence * (lost[place] // 160 * 160)  # frames of 20 ms
+        check(found == wanted and told["filled"] == filled, f"{name}: --fill: {told['filled']} of {filled} frames")
+    stream = STREAMS["amrwb"]
+    packets = stream.packets()
+    there = set(range(len(packets))) - {20, 21, 50}
+    path = source_of(stream, folder, [packets[place] for place in sorted(there)])
+    run("--fill", *stream.words, path, "-o", f"{folder}/f.awb")
+    units = [unit for _, unit in stream.units(packets)]
+    wanted = b"".join(unit if place in there else bytes([15 << 3 | 4]) for place, unit in enumerate(units))
+    check(found_in("amrwb", f"{folder}/f.awb") == wanted, "amrwb: --fill")
+
+
+def red(folder):
+    """What packets in RED repeat goes in where it is missing, and is counted."""
+    stream = STREAMS["chromium-red audio"]
+    packets = stream.packets()
+    media = [place for place, packet in enumerate(packets) if stream.is_media(packet)]
+    lost = set(media[10:180:7])
+    there = set(range(len(packets))) - lost
+    told = run(*stream.words, source_of(stream, folder, [packets[place] for place in sorted(there)]), "-o", f"{folder}/r.webm")
+    check(md5s_in(f"{folder}/r.webm") == all_of(stream), "RED: all frames are there, though one packet in seven is lost")
+    check(told["streams"][0]["recovered"] == len(lost), f"RED: recovered {told['streams'][0]['recovered']} of {len(lost)}")
+    # an SDP that names RED without saying what is inside: the packets tell
+    told = run("--map", "63=red/48000", "--map", "111=opus/48000/2", source_of(stream, folder), "-o", f"{folder}/r.webm")
+    check(md5s_in(f"{folder}/r.webm") == all_of(stream), "RED whose inner type is not signalled")
+
+
+def keys(folder):
+    """The keys that the page pressed, one behind the other, each for a tenth of a second."""
+    for name, pressed in [("chromium-keys", "1234#"), ("chromium-g722", "19")]:
+        run("--sdp", f"{CAPTURES}/{name}.sdp", f"{CAPTURES}/{name}.pcap", "-o", f"{folder}/{name}")
+        path = f"{folder}/{name}/{STREAMS[f'{name} audio'].ssrc:08x}.events.json"
+        with open(path, encoding="ascii") as file:
+            found = json.load(file)
+        check("".join(key["name"] for key in found) == pressed, f"{name}: keys {found}")
+        check(all(key["ended"] and abs(key["duration"] - 0.1) < 0.03 for key in found), f"{name}: durations {found}")
+        check(all(before["time"] < after["time"] for before, after in zip(found, found[1:])), f"{name}: times rise")
+
+
+def guesses(folder):
+    """Without an SDP the codecs of video and Opus are guessed, and the files are the same."""
+    for title in ["vp8", "vp9", "opus", "chromium-vp8 video", "chromium-vp9 video", "chromium-av1 video", "chromium-vp8 audio"]:
+        stream = STREAMS[title]
+        told = run(source_of(stream, folder), "-o", f"{folder}/g.webm")["streams"][0]
+        check(told["guessed"] and told["codec"].lower() == stream.codec, f"{title}: a guess at {told['codec']}")
+        check(md5s_in(f"{folder}/g.webm") == all_of(stream), f"{title}: the frames of a guess")
+        table = subprocess.run([PROGRAM, source_of(stream, folder)], capture_output=True, check=False).stdout.decode()
+        check(f"?{told['codec']}" in table, f"{title}: the table marks a guess")
+
+
+def main():
+    with tempfile.TemporaryDirectory() as folder:
+        for test in [named_files, two_flows, reports, call, keyframe_lost, clean, fill, red, keys, guesses]:
+            test(folder)
+    print(f"{checks['passed']} passed, {checks['failed']} failed")
+    return 1 if checks["failed"] else 0
+
+
+if __name__ == "__main__":
+    sys.exit(main())
