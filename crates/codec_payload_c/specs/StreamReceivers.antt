@@ -171,6 +171,6 @@ abbrev pub anew : Session → Session
 anew s = record s { ssrc = s.named; packets = begun_anew s.packets; reception = s.no_reception }
 
 -- the numbers that are missing, as many as there is room for; the rest of the room is as before
-pub record TellsMissing (r : StreamReceiver) (before : List ℕ) (count : ℕ) (after : List ℕ) : Type 0 where
-  pub count : count ≡ length (missing_numbers r.receiver.packets (length before))
-  pub numbers : after ≡ missing_numbers r.receiver.packets (length before) ++ drop count before
+pub record TellsMissing (r : StreamReceiver) (before : List ℕ) (told : ℕ) (after : List ℕ) : Type 0 where
+  pub count : told ≡ length (missing_numbers r.receiver.packets (length before))
+  pub numbers : after ≡ missing_numbers r.receiver.packets (length before) ++ drop told before
