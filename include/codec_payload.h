@@ -475,6 +475,12 @@ CPAY_CHECKED cpay_status cpay_receiver_finish(cpay_receiver *receiver);
  * pops wait again. Where the settings name no SSRC, the stream's is again that of the first packet that comes. */
 CPAY_CHECKED cpay_status cpay_receiver_restart(cpay_receiver *receiver);
 
+/** The numbers that are missing, in rising order, as many as there is room for, into `numbers`, and how many they are into `count`:
+ * those above the last that went out, and above the least since the stream began or began anew, up to the greatest, that are
+ * neither held nor known to carry no media. Numbers do not wrap; their low 16 bits are what a negative acknowledgement asks for
+ * (RFC 4585, section 6.2.1). The rest of `numbers` stays as it is. */
+CPAY_CHECKED cpay_status cpay_receiver_missing(cpay_receiver *receiver, uint64_t *numbers, size_t numbers_len, size_t *count);
+
 /** What a receiver report tells (RFC 3550, section 6.4.1 and appendix A). */
 typedef struct {
     int32_t cumulative_lost; /**< packets that did not come, less those that came more than once: 24 bits with a sign */

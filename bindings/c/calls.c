@@ -163,6 +163,12 @@ cpay_status cpay_receiver_restart(cpay_receiver *receiver) {
     return proved_cpay_receiver_restart(&receiver->handle);
 }
 
+cpay_status proved_cpay_receiver_missing(cpay_handle *receiver, uint64_t *numbers, size_t numbers_len, size_t *count);
+cpay_status cpay_receiver_missing(cpay_receiver *receiver, uint64_t *numbers, size_t numbers_len, size_t *count) {
+    if (!numbers && numbers_len) return CPAY_INVALID;
+    return proved_cpay_receiver_missing(&receiver->handle, numbers ? numbers : (uint64_t *)nothing, numbers_len, count);
+}
+
 cpay_status proved_cpay_receiver_report(cpay_handle *receiver, cpay_report_info *report);
 cpay_status cpay_receiver_report(cpay_receiver *receiver, cpay_report_info *report) {
     return proved_cpay_receiver_report(&receiver->handle, report);

@@ -428,6 +428,35 @@ static void reports(void) {
     cpay_receiver_free(&receiver);
 }
 
+/* Of the numbers 65534 to 4 over their wrap, 65535, 1 and 3 do not come, and 1 comes at last. */
+static void missing(void) {
+    cpay_receiver_settings settings = settings_of(opus());
+    cpay_receiver receiver = CPAY_INIT;
+    any it = ANY_INIT;
+    uint64_t numbers[3] = {7, 7, 7};
+    size_t count = 9;
+    CHECK(cpay_receiver_missing(&receiver, numbers, 3, &count) == CPAY_EMPTY && count == 9 && numbers[0] == 7);
+    receiver = receiver_of(&settings);
+    CHECK(cpay_receiver_missing(&receiver, numbers, 3, &count) == CPAY_OK && count == 0 && numbers[0] == 7);
+    static const uint16_t here[] = {65534, 0, 2, 4};
+    for (size_t i = 0; i < 4; i++) CHECK(came(&receiver, i * 960u, TYPE, here[i]) == CPAY_HELD);
+    CHECK(cpay_receiver_missing(&receiver, numbers, 3, &count) == CPAY_OK && count == 3);
+    CHECK((uint16_t)numbers[0] == 65535 && numbers[1] == numbers[0] + 2 && numbers[2] == numbers[0] + 4);
+    numbers[0] = numbers[1] = numbers[2] = 7;
+    CHECK(cpay_receiver_missing(&receiver, numbers, 1, &count) == CPAY_OK && count == 1);
+    CHECK((uint16_t)numbers[0] == 65535 && numbers[1] == 7 && numbers[2] == 7);
+    CHECK(cpay_receiver_missing(&receiver, NULL, 0, &count) == CPAY_OK && count == 0);
+    CHECK(cpay_receiver_missing(&receiver, NULL, 1, &count) == CPAY_INVALID);
+    CHECK(came(&receiver, 960u, TYPE, 1) == CPAY_HELD);
+    CHECK(cpay_receiver_missing(&receiver, numbers, 3, &count) == CPAY_OK && count == 2 && (uint16_t)numbers[1] == 3);
+    cpay_receiver_free(&receiver);
+    cpay_sender_settings sends = {.spec = opus(), .mtu = 100, .payload_type = TYPE};
+    CHECK(cpay_sender_new(&it.sender, &sends) == CPAY_OK);
+    count = 9;
+    CHECK(cpay_receiver_missing(&it.receiver, numbers, 3, &count) == CPAY_OTHER_KIND && count == 9);
+    cpay_sender_free(&it.sender);
+}
+
 int main(void) {
     packets();
     settings();
@@ -444,5 +473,6 @@ int main(void) {
     sent_again();
     times();
     reports();
+    missing();
     return checked();
 }

@@ -551,6 +551,12 @@ unsafe extern "C" {
     pub fn cpay_receiver_next_deadline(receiver: *mut Receiver, at: *mut u64) -> u32;
     pub fn cpay_receiver_finish(receiver: *mut Receiver) -> u32;
     pub fn cpay_receiver_restart(receiver: *mut Receiver) -> u32;
+    pub fn cpay_receiver_missing(
+        receiver: *mut Receiver,
+        numbers: *mut u64,
+        numbers_len: usize,
+        count: *mut usize,
+    ) -> u32;
     pub fn cpay_receiver_report(receiver: *mut Receiver, report: *mut ReportInfo) -> u32;
     pub fn cpay_receiver_counts(receiver: *mut Receiver, counts: *mut ReceiverCountsInfo) -> u32;
 }

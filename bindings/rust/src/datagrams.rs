@@ -24,10 +24,10 @@
 use crate::error::{Error, NONE, TOO_SMALL, told};
 use crate::handle::Handle;
 use crate::raw::{
-    self, RtpInfo, cpay_is_rtcp, cpay_receiver_counts, cpay_receiver_finish, cpay_receiver_new,
-    cpay_receiver_next_deadline, cpay_receiver_pop, cpay_receiver_receive, cpay_receiver_report,
-    cpay_receiver_restart, cpay_rtp_read, cpay_sender_counts, cpay_sender_datagram,
-    cpay_sender_new, cpay_sender_send,
+    self, RtpInfo, cpay_is_rtcp, cpay_receiver_counts, cpay_receiver_finish, cpay_receiver_missing,
+    cpay_receiver_new, cpay_receiver_next_deadline, cpay_receiver_pop, cpay_receiver_receive,
+    cpay_receiver_report, cpay_receiver_restart, cpay_rtp_read, cpay_sender_counts,
+    cpay_sender_datagram, cpay_sender_new, cpay_sender_send,
 };
 use crate::{Settings, Unit};
 
@@ -600,6 +600,19 @@ impl Receiver {
     pub fn restart(&mut self) {
         // SAFETY: as in `finish`.
         unsafe { cpay_receiver_restart(self.0.raw()) };
+    }
+
+    /// The numbers that are missing, in rising order, at most `most` of them. Their low 16 bits are what a negative acknowledgement
+    /// asks for (RFC 4585, section 6.2.1). Takes one allocation.
+    #[must_use]
+    pub fn missing(&mut self, most: usize) -> Vec<u64> {
+        let mut numbers = vec![0; most];
+        let mut count = 0;
+        // SAFETY: the pointer and the length are those of one vector; else as in `receive`.
+        let status =
+            unsafe { cpay_receiver_missing(self.0.raw(), numbers.as_mut_ptr(), most, &mut count) };
+        numbers.truncate(if status == 0 { count } else { 0 });
+        numbers
     }
 
     /// A report on the packets of the stream's sender as they came, or `None` where none came. The next one begins its fraction here.

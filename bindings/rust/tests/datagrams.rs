@@ -129,3 +129,24 @@ fn faults_have_names() -> Result<(), Error> {
     );
     Ok(())
 }
+
+/// Of 1 to 6, numbers 2, 4 and 5 do not come.
+#[test]
+fn missing_numbers_are_told() -> Result<(), Error> {
+    let codec = Settings::new(Codec::Opus, 48_000);
+    let settings = SenderSettings::new(codec, 111, SSRC).with_first_number(1);
+    let mut sender = Sender::new(&settings)?;
+    let mut receiver = Receiver::new(&ReceiverSettings::new(codec, 111))?;
+    assert!(receiver.missing(8).is_empty());
+    for number in 1..=6_u8 {
+        let datagrams = sender.send(u64::from(number) * 960, false, &[number; 9])?;
+        if ![2, 4, 5].contains(&number) {
+            receiver.receive(0, &datagrams[0])?;
+        }
+    }
+    let missing = receiver.missing(8);
+    let asked: Vec<u64> = missing.iter().map(|number| number % 65_536).collect();
+    assert_eq!(asked, [2, 4, 5]);
+    assert_eq!(receiver.missing(2).len(), 2);
+    Ok(())
+}

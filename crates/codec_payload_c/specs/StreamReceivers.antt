@@ -1,6 +1,7 @@
 -- What the calls on a receiver of datagrams do.
-use Rattle.std.specs.Prelude.{◌≡◌, ◌≢◌, ℕ, ◌&&◌, ◌||◌, ◌==◌, not, nat_le, nat_lt, if◌then◌else◌, Bool, true, false, Option, Some, None, Result, Ok, Err, List, is_some, length}
+use Rattle.std.specs.Prelude.{◌≡◌, ◌≢◌, ℕ, ◌&&◌, ◌||◌, ◌==◌, not, nat_le, nat_lt, if◌then◌else◌, Bool, true, false, Option, Some, None, Result, Ok, Err, List, is_some, length, drop, ◌++◌}
 use Rattle.codec_payload_core.specs.Depack.{Depack}
+use Rattle.codec_payload_jitter.specs.Missing.{missing_numbers}
 use Rattle.codec_payload_jitter.specs.Receiving.{PopsWith, begun_anew, deadline_of, settled, waiting_at}
 use Rattle.codec_payload_jitter.specs.declared.jitter.Patience.{Patience}
 use Rattle.codec_payload_jitter.specs.declared.outcome.Outcome.{Outcome}
@@ -168,3 +169,8 @@ TellsReport (Some x) status before after =
 -- the sender begins anew
 abbrev pub anew : Session → Session
 anew s = record s { ssrc = s.named; packets = begun_anew s.packets; reception = s.no_reception }
+
+-- the numbers that are missing, as many as there is room for; the rest of the room is as before
+pub record TellsMissing (r : StreamReceiver) (before : List ℕ) (told : ℕ) (after : List ℕ) : Type 0 where
+  pub count : told ≡ length (missing_numbers r.receiver.packets (length before))
+  pub numbers : after ≡ missing_numbers r.receiver.packets (length before) ++ drop told before

@@ -4,7 +4,7 @@ ghost use Rattle.std.specs.Prelude.{◌≡◌, ◌≢◌, ◌&&◌, is_some, Boo
 ghost use Rattle.codec_payload_core.specs.Depack.{depack_of};
 ghost use Rattle.codec_payload_jitter.specs.Receiving.{deadline_of};
 ghost use Rattle.codec_payload_stream.specs.Reports.{report_of, reported};
-ghost use Rattle.codec_payload_c.specs.StreamReceivers.{AreSettings, IsNewStream, IsStreamReceiverOf, PopsUnit, Takes, TellsCounts, TellsNumber, TellsReport, TellsTimed, anew, is_in_range, outcome_number, red_in_range, red_set, rtx_in_range, rtx_set};
+ghost use Rattle.codec_payload_c.specs.StreamReceivers.{AreSettings, IsNewStream, IsStreamReceiverOf, PopsUnit, Takes, TellsCounts, TellsMissing, TellsNumber, TellsReport, TellsTimed, anew, is_in_range, outcome_number, red_in_range, red_set, rtx_in_range, rtx_set};
 ghost use Rattle.codec_payload_handle.specs.Kinds.{Makes, OnStreamReceiver, Refuses, is_stream_receiver};
 ghost use Rattle.codec_payload_handle.specs.Settings.{depack_set};
 
@@ -305,6 +305,18 @@ fn counts_of(stream: &StreamReceiver) -> ReceiverCountsInfo
     }
 }
 
+/// The numbers that are missing, into the caller's, as many as there is room for; and how many they are.
+fn missing_into(stream: &StreamReceiver, numbers: &mut [u64]) -> usize
+    ensures { TellsMissing stream.now numbers.old result numbers.new }
+{
+    let mut count = 0;
+    for number in stream.receiver.missing(numbers.len()) {
+        numbers[count] = number;
+        count += 1;
+    }
+    count
+}
+
 /// A receiver by settings that are in range.
 fn stream_by(
     alloc: Global,
@@ -539,6 +551,32 @@ pub extern "C" fn cpay_receiver_counts(
     let answer = match &mut *object {
         Object::StreamReceiver(stream) => {
             *counts = counts_of(stream);
+            status::OK
+        }
+        _ => status::OTHER_KIND,
+    };
+    handle.put(object);
+    answer
+}
+
+/// The numbers that are missing, in rising order, as many as there is room for.
+#[unsafe(no_mangle)]
+pub extern "C" fn cpay_receiver_missing(
+    alloc: Global,
+    handle: &mut Handle,
+    numbers: &mut [u64],
+    count: &mut usize,
+) -> u32
+    ensures tells { OnStreamReceiver handle.old.place.value (λ r s. (result ≡ 0) × (s ≡ r) × TellsMissing r numbers.old count.new numbers.new) handle.new.place.value }
+    ensures refused { Refuses is_stream_receiver handle.old.place.value result handle.new.place.value }
+    ensures untold { result ≢ 0 → (count.new ≡ count.old) × (numbers.new ≡ numbers.old) }
+{
+    let Some(mut object) = handle.take(alloc) else {
+        return status::EMPTY;
+    };
+    let answer = match &mut *object {
+        Object::StreamReceiver(stream) => {
+            *count = missing_into(stream, numbers);
             status::OK
         }
         _ => status::OTHER_KIND,

@@ -8,7 +8,7 @@ use crate::questions::{
     asks_for_contiguity, asks_for_ends, asks_for_keyframes, patches_a_descriptor,
 };
 use crate::senders::{
-    decodes, encodes, pushes_a_sample, recovers, sends_in_red, sends_to_memory, wraps,
+    decodes, encodes, pushes_a_sample, recovers, sends_in_red, sends_to_memory, wraps, wraps_into,
 };
 use codec_payload_core::error::PacketError;
 use std::alloc::{AllocError, Global};
@@ -22,6 +22,7 @@ pub fn report(alloc: Global, name: &str) -> Result<Option<String>, PacketError> 
         "encode" => encodes(alloc, &mut text)?,
         "decode" => decodes(alloc, &mut text)?,
         "wrap" => wraps(alloc, &mut text)?,
+        "wrap-into" => wraps_into(alloc, &mut text)?,
         "recover" => recovers(alloc, &mut text)?,
         "memory-sink-send" => sends_to_memory(alloc, &mut text)?,
         "red-sink-send" => sends_in_red(alloc, &mut text)?,

@@ -122,6 +122,29 @@ pub fn wraps(alloc: Global, text: &mut String) -> Result<(), PacketError> {
     Ok(())
 }
 
+/// Wraps twenty payloads of one byte into the same bytes, of which the first ones alone ask for memory, and then one more, which is
+/// told.
+pub fn wraps_into(alloc: Global, text: &mut String) -> Result<(), PacketError> {
+    let mut sender = RedSender::new(
+        alloc,
+        Pt::new_with_value(63),
+        Pt::new_with_value(111),
+        &[1, 3],
+    );
+    let mut wrapped = Vec::new(alloc);
+    for byte in 0..20u8 {
+        let time = u32::from(byte) * 960;
+        sender.wrap_into(&[byte], time, 1_200, &mut wrapped)?;
+    }
+    text.push_str("wrap")?;
+    match sender.wrap_into(&[0x2a], 19_200, 1_200, &mut wrapped) {
+        Ok(()) => put_bytes(text, &wrapped)?,
+        Err(fault) => put_fault(text, &fault)?,
+    }
+    text.push_str("\n")?;
+    Ok(())
+}
+
 pub fn sends_to_memory(alloc: Global, text: &mut String) -> Result<(), PacketError> {
     let mut sink = MemorySink::new(alloc, 1);
     let payload = Vec::from_slice(alloc, &[1, 2])?;
