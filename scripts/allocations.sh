@@ -1,6 +1,7 @@
 #!/bin/bash
 # Counts what the bench program's calls ask of memory. It prints a table of allocations a frame, and one of the bytes that a
-# receiving stream keeps, and fails where `packetize_into` takes memory in steady state.
+# receiving stream keeps, and fails where `packetize_into`, a sender of datagrams or a reader or writer of RTP packets takes
+# memory in steady state.
 #
 #   scripts/allocations.sh           builds crates/payload_bench and counts in all its cases
 #   scripts/allocations.sh WORD      in those with WORD in their names alone
@@ -123,7 +124,7 @@ for case in $(out/payload_bench | grep -F -- "$word" | grep -v '^memory/'); do
     each=$(awk -v all=$((more - less)) -v frames="$frames" 'BEGIN { printf "%.2f", all / frames }')
     printf '| %s | %s |\n' "$case" "$each"
     case $case in
-        */packetize-into)
+        */packetize-into | */send | rtp/*)
             if [ "$more" -ne "$less" ]; then
                 echo "$case takes memory in steady state" >&2
                 failed=1

@@ -6,7 +6,8 @@
 #                                    their names alone
 #
 # Each number is the least of ROUNDS rounds of REPEATS repeats; both builds take turns. A ratio to a copy says how much more
-# a call takes than asking for the memory of the payloads and copying their bytes. It needs rt, and some five minutes.
+# a call takes than asking for the memory of the payloads and copying their bytes; a ratio to the buffer how much more a receiver
+# takes than a push and a pop of its buffer. It needs rt, and some five minutes.
 set -eu
 cd "$(dirname "$0")/../crates/payload_bench"
 rounds=${ROUNDS:-5} repeats=${REPEATS:-20} mtu=${MTU:-1200}
@@ -46,9 +47,9 @@ awk -F'\t' -v with_other="$other" '
       if (!(key in least) || $3 < least[key]) least[key] = $3
       if ($1 == "now" && !($2 in seen)) { seen[$2] = 1; order[++count] = $2 } }
     END {
-        printf "| case | ns a frame | over a copy | over memcpy |"
+        printf "| case | ns a frame | over a copy | over memcpy | over the buffer |"
         if (with_other) printf " other, ns | over the other |"
-        printf "\n|---|---|---|---|"
+        printf "\n|---|---|---|---|---|"
         if (with_other) printf "---|---|"
         printf "\n"
         for (i = 1; i <= count; i++) {
@@ -57,8 +58,10 @@ awk -F'\t' -v with_other="$other" '
             copy = least["now\t" part[1] "/copy"]
             ratio = (copy > 0 && part[2] != "copy") ? sprintf("%.2f", ns / copy) : ""
             plain = least["now\t" part[1] "/memcpy"]
-            over = (plain > 0 && part[2] ~ /^packetize/) ? sprintf("%.2f", ns / plain) : ""
-            printf "| %s | %s | %s | %s |", order[i], ns, ratio, over
+            over = (plain > 0 && part[2] ~ /^(packetize|send|parse|values|write)/) ? sprintf("%.2f", ns / plain) : ""
+            alone = order[i]
+            beyond = (sub(/^receiver-/, "buffer-", alone) && least["now\t" alone] > 0) ? sprintf("%.2f", ns / least["now\t" alone]) : ""
+            printf "| %s | %s | %s | %s | %s |", order[i], ns, ratio, over, beyond
             if (with_other) {
                 was = least["other\t" order[i]]
                 printf " %s | %s |", was, (was > 0) ? sprintf("%.2f", ns / was) : ""

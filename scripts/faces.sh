@@ -7,7 +7,8 @@
 #
 # The tests: the header and the Rust crate's declarations against the library; the header as C99 and C11 and, where there is a
 # C++ compiler, as C++11 and C++20; that the compiler tells one kind of struct from another, and a status that is not looked at;
-# what each call answers (bindings/c/checks.c, datagrams.c); a stream over UDP on loopback (loopback.c, and the same in Rust);
+# what each call answers (bindings/c/checks.c, datagrams.c); what frames say that other readers told of (frames.c, frames.txt), and
+# hostile ones; a stream over UDP on loopback (loopback.c, and the same in Rust);
 # scripts of payload_vectors through the library, compared byte for byte with the program (vectors.c, inputs.py); allocations
 # less frees after each kind of use, and each allocation of a session refused in turn (oom.c); all of these also with the
 # address and undefined-behaviour sanitizers; the Rust crates: their tests, packages, lints, and documents without the library;
@@ -97,6 +98,10 @@ run_c() {
     tail -n 1 "$work/loopback-out" | grep -qx '1278000 bytes of frames, 64 gaps' || fail "bindings/c/loopback.c printed something else"
     compile vectors "$@"
     compare_scripts
+    compile frames "$@"
+    cut -d' ' -f1,2 "$root/bindings/c/frames.txt" | "$work/frames" tell | cut -d' ' -f1-4 >"$work/told"
+    cut -d' ' -f3- "$root/bindings/c/frames.txt" | cmp -s - "$work/told" || fail "bindings/c/frames.c tells other than bindings/c/frames.txt"
+    cut -d' ' -f1,2 "$root/bindings/c/frames.txt" | "$work/frames" hostile >/dev/null || fail "bindings/c/frames.c failed"
     compile oom "$@" -Wl,--wrap=malloc,--wrap=realloc,--wrap=free
     "$work/oom" || fail "bindings/c/oom.c failed"
 }

@@ -85,9 +85,9 @@ def operating_points(bits):
         bits.put(32, bits.random.randrange(1, 1 << 32))  # num_units_in_display_tick
         bits.put(32, bits.random.randrange(1, 1 << 32))  # time_scale
         if bits.any(1):  # equal_picture_interval
-            zeros = bits.random.choice((0, 1, 7, 31, 32, 40))  # num_ticks_per_picture_minus_1
+            zeros = bits.random.choice((0, 1, 7, 31, 32, 40))  # num_ticks_per_picture_minus_1, malformed from 32 on
             bits.put(zeros + 1, 1)
-            bits.any(zeros if zeros < 31 else 0) if zeros != 31 else bits.any(31)
+            bits.any(zeros if zeros < 32 else 0)
         has_model = bits.any(1)  # decoder_model_info_present_flag
         if has_model:
             delay_length = bits.any(5) + 1  # buffer_delay_length_minus_1
@@ -144,7 +144,7 @@ def av1_color(bits, profile):
 
 
 def sequence_header(random):
-    """The bits of a sequence header, and whether it is of the short form."""
+    """The payload of a sequence header OBU, of the short form or the long one."""
     bits = Bits(random)
     profile = bits.put(3, random.choice((0, 0, 1, 2, 2, 3 if random.random() < 0.1 else 0)))
     bits.any(1)  # still_picture
@@ -165,7 +165,7 @@ def sequence_header(random):
     av1_color(bits, profile)
     bits.any(1)  # film_grain_params_present
     bits.put(1, 1)  # trailing_one_bit
-    return bits.bytes(), reduced
+    return bits.bytes()
 
 
 def obu(random, kind, payload):
@@ -182,7 +182,7 @@ def obu(random, kind, payload):
 
 def av1_unit(random):
     """A temporal unit, some of them without a sequence header or a frame header, or cut off."""
-    header, _ = sequence_header(random)
+    header = sequence_header(random)
     if random.random() < 0.1:
         header = header[: random.randrange(1, len(header))]
     unit = obu(random, 2, b"")

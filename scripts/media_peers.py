@@ -2,6 +2,7 @@
 """Compares what the library for C tells of frames with what other readers tell of them.
 
     scripts/media_peers.py             all of it; the last line counts what was compared
+    scripts/media_peers.py rows        writes some of what those tell to bindings/c/frames.txt too, which scripts/faces.sh reads
     scripts/media_peers.py times       the nanoseconds of one cpay_frame_info for each kind of frame
 
 The frames are those of encoders (scripts/media_frames.sh), headers of VP9 and AV1 made field by field at random, and hostile
@@ -31,6 +32,7 @@ OK, NONE, TOO_SHORT, MARKER, RESERVED, SIZES = 0, 32, 38, 39, 40, 41
 FAULTS = (TOO_SHORT, MARKER, RESERVED, SIZES)
 LEAD = 40
 counts = collections.Counter()
+rows = collections.defaultdict(list)
 
 
 def fail(message):
@@ -41,6 +43,23 @@ def compare(what, frame, found, wanted):
     counts[what] += 1
     if found != wanted:
         fail(f"{what}: of {frame[:60].hex()} ({len(frame)} bytes) {found} is told, and {wanted} wanted")
+
+
+def compare_facts(what, codec, frame, told, status, key=None, size=None, duration=None):
+    """Compares what cpay_frame_info tells, and keeps it as a row."""
+    compare(what, frame, told[:4], (status, key, size, duration))
+    size = "-" if size is None else "%dx%d" % size
+    key = "-" if key is None else int(key)
+    duration = "-" if duration is None else duration
+    rows[codec, status, key, size == "-"].append(f"{codec} {frame.hex()} info={status} key={key} size={size} duration={duration}")
+
+
+def write_rows(path):
+    """A few for each codec and kind of answer, of more than two bytes and of no more than some three hundred."""
+    with open(path, "w") as file:
+        for kind in sorted(rows, key=str):
+            lines = sorted(line for line in set(rows[kind]) if 45 < len(line) < 700)
+            file.writelines(line + "\n" for line in random.sample(lines, min(len(lines), 8)))
 
 
 # ---- the library ----
@@ -163,8 +182,8 @@ def vp9_needs(fields):
 
 
 def vp9_wanted(section, error):
-    """Status, keyframe and size of a frame. trace_headers lets any marker pass, RGB of profiles 0 and 2, and 4:2:0 of profiles 1
-    and 3, which the specification forbids and libvpx refuses."""
+    """Status, keyframe and size of a frame. trace_headers lets any marker pass, RGB of profiles 0 and 2, and 4:2:0 of profiles
+    1 and 3, which the specification forbids and libvpx refuses."""
     fields = section.fields
     names = [field.name for field in fields]
     get = dict(fields).get
@@ -191,7 +210,7 @@ def compare_vp9(what, program, frames, folder, reset):
             counts["not told by trace_headers"] += 1
             continue
         wanted = vp9_wanted(coded[0], packet.error if len(coded) == 1 else None)
-        compare(what, frame, (told.status, told.key, told.size), wanted)
+        compare_facts(what, VP9, frame, told, *wanted)
         if not index:
             compare(what + ", one frame", frame, told.parts, [(0, len(frame), (0, 0, 0), told[:4])])
             continue
@@ -258,7 +277,7 @@ def compare_av1(what, program, frames, folder, reset):
         if wanted is None:
             counts["not told by trace_headers"] += 1
             continue
-        compare(what, frame, (told.status, told.key, told.size), wanted)
+        compare_facts(what, AV1, frame, told, *wanted)
         header = next((section.fields for section in packet.sections if section.name == "Sequence Header"), [])
         if told.records and "film_grain_params_present" in dict(header):
             status, record = told.records[0]
@@ -302,21 +321,21 @@ def compare_vp8(what, program, frames):
     vpx.vpx_codec_vp8_dx.restype = ctypes.c_void_p
     decoder = ctypes.c_void_p(vpx.vpx_codec_vp8_dx())
     for frame, told in zip(frames, tell(program, VP8, frames)):
-        found = (told.status, told.key, told.size)
         if len(frame) < 3 or not frame[0] & 1 and len(frame) < 10:
-            compare(what + ", cut", frame, found, (TOO_SHORT, None, None))
+            compare_facts(what + ", cut", VP8, frame, told, TOO_SHORT)
             continue
         info = StreamInfo(ctypes.sizeof(StreamInfo))
         answer = vpx.vpx_codec_peek_stream_info(decoder, frame, len(frame), ctypes.byref(info))
         fits = int.from_bytes(frame[:3], "little") >> 5 <= len(frame) - (3 if frame[0] & 1 else 10)
         if info.is_kf and frame[3:6] != b"\x9d\x01\x2a":
-            wanted = (MARKER, None, None) if answer else None
+            wanted = (MARKER,) if answer else (OK,)
         elif not fits:
-            wanted = (SIZES, None, None)
+            wanted = (SIZES,)
+        elif answer and info.is_kf:
+            continue  # it has a width or a height of 0
         else:
-            wanted = (OK, bool(info.is_kf), (info.w, info.h) if info.is_kf and info.w else None)
-        if not (info.is_kf and fits and not (info.w and info.h)):
-            compare(what, frame, found, wanted)
+            wanted = (OK, bool(info.is_kf), (info.w, info.h) if info.is_kf else None)
+        compare_facts(what, VP8, frame, told, *wanted)
 
 
 def compare_opus(what, program, packets):
@@ -326,8 +345,8 @@ def compare_opus(what, program, packets):
     for packet, told in zip(packets, tell(program, OPUS, packets)):
         count = opus.opus_packet_parse(packet, len(packet), ctypes.byref(toc), starts, sizes, ctypes.byref(offset))
         if count > 0:
-            wanted = (OK, opus.opus_packet_get_nb_samples(packet, len(packet), 48000))
-            compare(what, packet, (told.status, told.duration), wanted)
+            ticks = opus.opus_packet_get_nb_samples(packet, len(packet), 48000)
+            compare_facts(what, OPUS, packet, told, OK, duration=ticks)
         else:
             compare(what + ", refused", packet, (told.status in FAULTS, told.duration), (True, None))
 
@@ -356,7 +375,8 @@ def read_hex(folder, name):
 
 def probe(path):
     """ffprobe's size of the picture, and of each packet its size and whether it is a keyframe."""
-    command = ["ffprobe", "-loglevel", "error", "-show_entries", "stream=width,height:packet=size,flags", "-of", "compact", path]
+    command = ["ffprobe", "-loglevel", "error", "-of", "compact"]
+    command += ["-show_entries", "stream=width,height:packet=size,flags", path]
     lines = subprocess.run(command, capture_output=True, text=True, check=True).stdout
     width, height = map(int, re.search(r"width=(\d+)\|height=(\d+)", lines).groups())
     return (width, height), [(int(size), flag == "K") for size, flag in re.findall(r"size=(\d+)\|flags=(.)", lines)]
@@ -369,8 +389,8 @@ def compare_real(program, folder):
             frames = read_hex(folder, path.stem)
             size, packets = probe(path)
             for frame, told, (length, key) in zip(frames, tell(program, codec, frames), packets, strict=True):
-                wanted = (OK, key, size if key else None, length)
-                compare("ffprobe", frame, (told.status, told.key, told.size, len(frame)), wanted)
+                compare("ffprobe, size of packets", frame, len(frame), length)
+                compare_facts("ffprobe", codec, frame, told, OK, key, size if key else None)
 
 
 def hostile(frame, reach):
@@ -394,7 +414,8 @@ def opus_packets():
     for _ in range(60000):
         front = bytes([random.randrange(256) | random.choice((0, 3, 3, 3))])
         front += bytes([random.choice((0, 64, 128, 192)) | random.choice((1, 2, 3, 6, random.randrange(64)))])
-        yield front + random.choice((b"", b"\xff\x05", b"\xfe", b"\xfc\x01")) + random.randbytes(random.choice((0, 3, 9, 300, 1300)))
+        front += random.choice((b"", b"\xff\x05", b"\xfe", b"\xfc\x01"))
+        yield front + random.randbytes(random.choice((0, 3, 9, 300, 1300)))
 
 
 def times(program, folder):
@@ -447,9 +468,11 @@ def main():
         compare_opus("Opus, made", program, list(opus_packets()))
         compare_amr_wb(program, folder)
         checked = build(folder, "checked", ["-fsanitize=address,undefined", "-fno-sanitize-recover=all"])
-        seeds = [(codec, read_hex(folder, name)[place]) for codec, name, place in
-                 ((VP8, "vp8", 0), (VP8, "vp8", 1), (VP9, "vp9", 0), (VP9, "vp9_hidden", 1), (AV1, "av1", 0), (OPUS, "opus_120", 3))]
-        print("under the sanitizers:", ask(checked, "hostile", [(codec, frame[:700]) for codec, frame in seeds])[-1])
+        seeds = ((VP8, "vp8", 0), (VP8, "vp8", 1), (VP9, "vp9", 0), (VP9, "vp9_hidden", 1), (AV1, "av1", 0))
+        frames = [(codec, read_hex(folder, name)[place][:700]) for codec, name, place in seeds]
+        print("under the sanitizers:", ask(checked, "hostile", frames)[-1])
+    if sys.argv[1:] == ["rows"]:
+        write_rows(ROOT / "bindings/c/frames.txt")
     for what, count in sorted(counts.items()):
         print(f"{count:7} {what}")
     print(f"media_peers: {sum(counts.values())} answers compared, none differs")

@@ -6,9 +6,9 @@
 #
 # Needs rt, a C and a C++ compiler, make, binutils, pkg-config, Python 3, cargo and valgrind; what is missing of Debian's packages is
 # installed where that may be done, and else named before anything starts. debhelper, lintian and doxygen are looked for
-# likewise; without them no Debian packages and manual pages are made, and without libpcap, libavformat and ffmpeg the recorder is
-# not tested. The last line is `N passed, N failed`; the status is 0
-# where nothing failed.
+# likewise; without them no Debian packages and manual pages are made, without libpcap, libavformat and ffmpeg the recorder is
+# not tested, and without ffmpeg what frames say is not compared with other readers. The last line is `N passed, N failed`; the
+# status is 0 where nothing failed.
 set -u
 
 root=$(cd "$(dirname "$0")/.." && pwd)
@@ -87,6 +87,11 @@ runs scripts/faces.sh
 runs scripts/documents.py
 runs scripts/examples.py
 runs scripts/instructions.sh
+if command -v ffmpeg >/dev/null; then
+    runs scripts/media_peers.py
+else
+    echo "skipped scripts/media_peers.py: there is no ffmpeg"
+fi
 if pkg-config --exists libpcap libavformat libavcodec libavutil && command -v ffmpeg >/dev/null; then
     runs tools/rtp_record/test.sh
 else

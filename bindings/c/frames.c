@@ -1,10 +1,10 @@
 /* What the library tells of frames that it is given: a line a frame, `CODEC HEX`, with the codec's number.
  *
- *   frames tell      prints a line for each: info=STATUS key=0|1|- size=WIDTHxHEIGHT|- duration=TICKS|-, then the OBUs, the frames
- *                    of the superframe or the frames of AMR-WB, and end=STATUS, which ended them
- *   frames hostile   asks for each beginning of each frame, and for each frame with each byte changed to all others; and for all
- *                    strings of one and two bytes. What is answered has to be one of the statuses of the header, with nothing
- *                    told beside a fault, and parts lie in the frame, one behind the other
+ *   frames tell      prints a line for each: info=STATUS key=0|1|- size=WIDTHxHEIGHT|- duration=TICKS|-, then its parts (OBUs,
+ *                    frames of a superframe, frames of AMR-WB), and end=STATUS, which ended them
+ *   frames hostile   asks for each beginning of each frame, for each frame with each byte changed to all others, and for all
+ *                    strings of one and two bytes. What is answered has to be one of the statuses of the header, with
+ *                    nothing told beside a fault, and parts lie in the frame, one behind the other
  *   frames times     prints the nanoseconds of one cpay_frame_info for each, the least of many rounds
  *
  * scripts/media_peers.py compares what it tells with other readers. */
@@ -95,7 +95,7 @@ static void tell(uint32_t codec, const uint8_t *frame, size_t len) {
     printf(" end=%" PRIu32 "\n", status);
 }
 
-/* Asks for all that is told of bytes, which are copied to memory of their length, so that a sanitizer sees a read behind them. */
+/* Asks for all that is told of bytes, which are copied to memory of their length: a sanitizer sees a read behind them. */
 static void ask(uint32_t codec, const uint8_t *frame, size_t len) {
     cpay_frame_facts facts, before;
     uint8_t *copy = malloc(len + !len);

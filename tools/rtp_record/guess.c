@@ -12,7 +12,7 @@ static bool gives_pictures(const stream *it, uint32_t number) {
     cpay_status status;
     bool sized = false, malformed = false;
     settings.spec = (cpay_spec){.codec = number, .rate = 90000};
-    settings.payload_type = it->kept[0].bytes[1] & 0x7f;
+    settings.payload_type = it->kept[0].header.payload_type;
     settings.hold_back = 0;
     if (cpay_receiver_new(&receiver, &settings, NULL, 0)) return false;
     for (size_t i = 0; i < it->kept_count; i++)
@@ -31,15 +31,13 @@ static bool steps_as_opus(const stream *it) {
     size_t steps = 0;
     uint32_t before = 0;
     for (size_t i = 0; i < it->kept_count; i++) {
-        cpay_rtp_info packet = {0};
         cpay_frame_facts facts = {0};
-        const kept_packet *kept = &it->kept[i];
-        if (cpay_rtp_read(kept->bytes, kept->size, &packet)) return false;
-        if (cpay_frame_info(CPAY_OPUS, kept->bytes + packet.payload_at, packet.payload_len, &facts)) return false;
-        uint32_t step = packet.timestamp - before;
+        const record_packet *kept = &it->kept[i];
+        if (cpay_frame_info(CPAY_OPUS, kept->bytes + kept->header.payload_at, kept->header.payload_len, &facts)) return false;
+        uint32_t step = kept->header.timestamp - before;
         if (i > 0 && step == 0) return false;
         if (i > 0 && step == facts.duration) steps++;
-        before = packet.timestamp;
+        before = kept->header.timestamp;
     }
     return steps >= 4 && 2 * steps > it->kept_count;
 }

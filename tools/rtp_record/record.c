@@ -11,6 +11,7 @@
 enum {
     TYPES = 128,
     CLOCK = 1000000000,  /* ticks of the capture's clock in a second */
+    LOOK_EACH = 16,      /* packets without a marker */
     MOST_HELD = 4 << 20, /* bytes of frames before the first keyframe, which tells the size of the picture */
 };
 
@@ -33,6 +34,7 @@ struct record {
     cpay_receiver receiver;
     timeline times;
     record_totals totals;
+    unsigned packets_since; /* units were looked for */
     held *first_held, **end_held;
     size_t held_bytes;
     uint8_t *bytes; /* of a unit, as many as the largest so far */
@@ -255,12 +257,17 @@ static bool take_units(record *it, uint64_t now) {
     return false;
 }
 
-bool record_datagram(record *it, uint64_t now, const uint8_t *datagram, size_t size) {
+bool record_take(record *it, const record_packet *packet) {
     uint32_t outcome = 0;
     if (it->failed) return false;
-    if (cpay_receiver_receive(&it->receiver, now, datagram, size, &outcome) == CPAY_OUT_OF_MEMORY)
+    if (cpay_receiver_receive(&it->receiver, packet->time, packet->bytes, packet->size, &outcome) == CPAY_OUT_OF_MEMORY)
         return fail(it, "out of memory");
-    return take_units(it, now);
+    /* Frames of video mostly end with a marker: they are looked for then, and each so many packets. Audio has a unit a packet. */
+    it->packets_since++;
+    bool looks = packet->header.marker || it->packets_since >= LOOK_EACH || it->stream.use.codec->kind == CODEC_AUDIO;
+    if (!looks) return true;
+    it->packets_since = 0;
+    return take_units(it, packet->time);
 }
 
 void record_sender_report(record *it, uint64_t ntp, uint32_t rtp_time) { timeline_report(&it->times, ntp, rtp_time); }

@@ -4,6 +4,7 @@
 
 #include "codec.h"
 #include "writer.h"
+#include <codec_payload.h>
 #include <stdbool.h>
 #include <stddef.h>
 #include <stdint.h>
@@ -25,6 +26,14 @@ typedef struct {
     const uint8_t *no_media; /* payload types that come under its SSRC and carry no media of it */
     size_t no_media_len;
 } record_stream;
+
+/* An RTP packet: when it came, in nanoseconds, what the library read of its header, and all its bytes. */
+typedef struct {
+    uint64_t time;
+    cpay_rtp_info header;
+    const uint8_t *bytes;
+    size_t size;
+} record_packet;
 
 /* What was written, and what was not. */
 typedef struct {
@@ -49,9 +58,8 @@ typedef struct record record;
 /* A stream that becomes that track of a file. NULL where the library does not take it or memory is wanting, which is said. */
 record *record_open(const record_stream *stream, writer *file, size_t track, const record_options *options);
 
-/* A UDP payload of the stream's SSRC, whatever its payload type, that came at that time in nanoseconds. false where the file
- * cannot be written any more. */
-bool record_datagram(record *it, uint64_t now, const uint8_t *datagram, size_t size);
+/* A packet of the stream's SSRC, whatever its payload type. false where the file cannot be written any more. */
+bool record_take(record *it, const record_packet *packet);
 
 /* A sender report of the stream's SSRC: the same moment as an NTP time, seconds since 1900 in the upper 32 bits, and as RTP time.
  * The first one puts the tracks of a file together in time. */

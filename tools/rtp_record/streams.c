@@ -63,18 +63,19 @@ static uint8_t type_in_red(const codec_use *red, const uint8_t *payload, size_t 
 }
 
 /* The payload type of a packet tells the codec, if anything does yet. */
-static void settle_by(stream *it, const signalling *known, const cpay_rtp_info *packet, const uint8_t *bytes) {
-    codec_use use = signalling_use(known, &it->flow, it->ssrc, packet->payload_type);
-    it->encrypted = signalling_encrypts(known, &it->flow, it->ssrc, packet->payload_type);
+static void settle_by(stream *it, const signalling *known, const record_packet *packet) {
+    uint8_t payload_type = packet->header.payload_type;
+    codec_use use = signalling_use(known, &it->flow, it->ssrc, payload_type);
+    it->encrypted = signalling_encrypts(known, &it->flow, it->ssrc, payload_type);
     if (use.codec->kind == CODEC_RED && !it->encrypted) {
-        uint8_t type = type_in_red(&use, bytes + packet->payload_at, packet->payload_len);
+        uint8_t type = type_in_red(&use, packet->bytes + packet->header.payload_at, packet->header.payload_len);
         codec_use inner = type < PAYLOAD_TYPES ? signalling_use(known, &it->flow, it->ssrc, type) : codec_use_unknown();
         if (!codec_is_media(&inner)) return;
-        it->red_payload_type = packet->payload_type;
+        it->red_payload_type = payload_type;
         it->payload_type = type;
         use = inner;
     } else if (codec_is_media(&use)) {
-        it->payload_type = packet->payload_type;
+        it->payload_type = payload_type;
     } else if (use.codec->kind != CODEC_UNSUPPORTED) {
         if (it->use.codec->kind == CODEC_UNKNOWN) it->use = use; /* as it is called; media may come yet */
         return;
@@ -100,11 +101,10 @@ static size_t beside(const stream *it, const signalling *known, uint8_t types[PA
  * their numbers; else 20 ms. */
 static uint32_t step_of(const stream *it) {
     uint32_t least = 0;
-    cpay_rtp_info before = {0}, packet = {0};
-    for (size_t i = 0; i < it->kept_count; i++, before = packet) {
-        if (cpay_rtp_read(it->kept[i].bytes, it->kept[i].size, &packet)) continue;
-        uint32_t step = packet.timestamp - before.timestamp;
-        bool follows = i > 0 && packet.sequence_number == (uint16_t)(before.sequence_number + 1);
+    for (size_t i = 1; i < it->kept_count; i++) {
+        const cpay_rtp_info *before = &it->kept[i - 1].header, *packet = &it->kept[i].header;
+        uint32_t step = packet->timestamp - before->timestamp;
+        bool follows = packet->sequence_number == (uint16_t)(before->sequence_number + 1);
         if (follows && step > 0 && step < 1 << 14 && (!least || step < least)) least = step;
     }
     return least ? least : it->use.rate / 50;
@@ -170,21 +170,20 @@ static void begin_record(streams *all, stream *it, const signalling *known, stre
 }
 
 /* A packet of a stream whose codec is known goes to its file and its events. */
-static void take(stream *it, const signalling *known, uint64_t time, const uint8_t *bytes, size_t size, uint8_t payload_type) {
-    if (it->record) record_datagram(it->record, time, bytes, size);
+static void take(stream *it, const signalling *known, const record_packet *packet) {
+    uint8_t payload_type = packet->header.payload_type;
+    if (it->record) record_take(it->record, packet);
     if (!it->events && payload_type != it->payload_type && payload_type != it->red_payload_type) {
         codec_use use = signalling_use(known, &it->flow, it->ssrc, payload_type);
         if (use.codec->kind == CODEC_EVENTS) it->events = events_new(payload_type, use.rate);
     }
-    if (it->events) events_datagram(it->events, time, bytes, size);
+    if (it->events) events_datagram(it->events, packet->time, packet->bytes, packet->size);
 }
-
-static uint8_t type_of(const uint8_t *bytes) { return bytes[1] & 0x7f; }
 
 static void drop_kept(streams *all, stream *it) {
     for (size_t i = 0; i < it->kept_count; i++) {
         all->kept_bytes -= it->kept[i].size;
-        free(it->kept[i].bytes);
+        free((uint8_t *)it->kept[i].bytes);
     }
     it->kept_count = 0;
 }
@@ -193,28 +192,28 @@ static void drop_kept(streams *all, stream *it) {
 static void settle(streams *all, stream *it, const signalling *known, streams_output *output) {
     if (!it->settled && it->use.codec->kind == CODEC_UNKNOWN) {
         it->use = guess_codec(it);
-        for (size_t i = 0; i < it->kept_count && it->payload_type == PAYLOAD_TYPES; i++) it->payload_type = type_of(it->kept[i].bytes);
+        for (size_t i = 0; i < it->kept_count && it->payload_type == PAYLOAD_TYPES; i++)
+            it->payload_type = it->kept[i].header.payload_type;
     }
     it->settled = true;
     bool writes = (output->folder || output->file || output->together) && it->valid && !it->encrypted && codec_is_media(&it->use);
     if (writes) begin_record(all, it, known, output);
-    for (size_t i = 0; i < it->kept_count; i++)
-        take(it, known, it->kept[i].time, it->kept[i].bytes, it->kept[i].size, type_of(it->kept[i].bytes));
+    for (size_t i = 0; i < it->kept_count; i++) take(it, known, &it->kept[i]);
     drop_kept(all, it);
 }
 
-static void keep(streams *all, stream *it, uint64_t time, const uint8_t *bytes, size_t size) {
-    uint8_t *copy = malloc(size);
+static void keep(streams *all, stream *it, const record_packet *packet) {
+    uint8_t *copy = malloc(packet->size);
     if (!copy) return;
-    memcpy(copy, bytes, size);
-    it->kept[it->kept_count++] = (kept_packet){time, copy, size};
-    all->kept_bytes += size;
+    memcpy(copy, packet->bytes, packet->size);
+    it->kept[it->kept_count] = *packet;
+    it->kept[it->kept_count++].bytes = copy;
+    all->kept_bytes += packet->size;
 }
 
 /* A packet is kept until the stream is valid and its codec known; what it is has to be settled once too much is kept. */
-static void keep_or_settle(streams *all, stream *it, const signalling *known, streams_output *output, uint64_t time,
-                           const uint8_t *bytes, size_t size) {
-    keep(all, it, time, bytes, size);
+static void keep_or_settle(streams *all, stream *it, const signalling *known, streams_output *output, const record_packet *packet) {
+    keep(all, it, packet);
     if (!it->valid && (it->kept_count == MOST_KEPT || all->kept_bytes > MOST_KEPT_BYTES)) drop_kept(all, it);
     else if (it->valid && (it->settled || it->kept_count == MOST_KEPT || all->kept_bytes > MOST_KEPT_BYTES))
         settle(all, it, known, output);
@@ -222,41 +221,34 @@ static void keep_or_settle(streams *all, stream *it, const signalling *known, st
 
 /* ---- datagrams ---- */
 
-static void count_packet(stream *it, uint64_t time, const cpay_rtp_info *packet, size_t size) {
-    if (it->packets == 0) it->first = time;
-    else if ((uint16_t)(packet->sequence_number - it->number) == 1) it->valid = true;
-    it->number = packet->sequence_number;
+static void count_packet(stream *it, const record_packet *packet) {
+    if (it->packets == 0) it->first = packet->time;
+    else if ((uint16_t)(packet->header.sequence_number - it->number) == 1) it->valid = true;
+    it->number = packet->header.sequence_number;
     it->packets++;
-    it->bytes += size;
-    it->of_type[packet->payload_type]++;
-    if (time > it->last) it->last = time;
-    statistics_packet(&it->headers, time, it->use.rate, packet);
+    it->bytes += packet->size;
+    it->of_type[packet->header.payload_type]++;
+    if (packet->time > it->last) it->last = packet->time;
+    statistics_packet(&it->headers, packet->time, it->use.rate, &packet->header);
 }
 
 static void take_rtp(streams *all, const signalling *known, streams_output *output, uint64_t time, const wire_datagram *datagram) {
-    const uint8_t *bytes = datagram->payload.at;
-    size_t size = datagram->payload.left;
-    cpay_rtp_info packet = {0};
-    if (cpay_rtp_read(bytes, size, &packet)) {
+    record_packet packet = {.time = time, .bytes = datagram->payload.at, .size = datagram->payload.left};
+    if (cpay_rtp_read(packet.bytes, packet.size, &packet.header)) {
         all->malformed++;
         return;
     }
-    stream *it = find(all, &datagram->flow, packet.ssrc);
-    if (!it && (it = add(all, &datagram->flow, packet.ssrc))) {
-        settle_by(it, known, &packet, bytes);
-    }
+    stream *it = find(all, &datagram->flow, packet.header.ssrc);
+    if (!it) it = add(all, &datagram->flow, packet.header.ssrc);
     if (!it) {
         all->passed_over++;
         return;
     }
     all->rtp++;
-    count_packet(it, time, &packet, size);
-    if (it->settled && it->kept_count == 0 && it->valid) {
-        take(it, known, time, bytes, size, packet.payload_type);
-        return;
-    }
-    if (!it->settled) settle_by(it, known, &packet, bytes);
-    keep_or_settle(all, it, known, output, time, bytes, size);
+    if (!it->settled) settle_by(it, known, &packet);
+    count_packet(it, &packet);
+    if (it->settled && it->valid && it->kept_count == 0) take(it, known, &packet);
+    else keep_or_settle(all, it, known, output, &packet);
 }
 
 static void take_rtcp(streams *it, const wire_datagram *datagram) {

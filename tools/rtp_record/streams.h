@@ -20,12 +20,6 @@ enum {
     REPORTS = 64, /* sender reports that are kept for streams that are not written yet */
 };
 
-typedef struct {
-    uint64_t time;
-    uint8_t *bytes;
-    size_t size;
-} kept_packet;
-
 typedef struct stream {
     struct stream *next; /* in its bucket */
     wire_flow flow;
@@ -41,7 +35,7 @@ typedef struct stream {
     uint8_t red_payload_type;  /* PAYLOAD_TYPES where there is no RED */
     bool settled;              /* the codec is known, or given up */
     statistics headers;
-    kept_packet kept[MOST_KEPT]; /* until it is settled */
+    record_packet kept[MOST_KEPT]; /* until it is settled; their bytes are the stream's */
     size_t kept_count;
     record *record;
     writer *file;

@@ -55,7 +55,7 @@ pub fn push_frame(
 }
 
 /// The number of the `k`-th packet, where each row of 32 comes in another order.
-fn jittered(k: u64) -> u64 {
+pub fn jittered(k: u64) -> u64 {
     (k / 32)
         .wrapping_mul(32)
         .wrapping_add((k % 32).wrapping_mul(13) % 32)

@@ -1,16 +1,17 @@
 //! The names of all cases, and what each runs.
 
 use crate::timing::Plan;
-use crate::{buffers, codecs, red, streams};
+use crate::{buffers, codecs, datagrams, red, streams};
 use anyhow::{Result, anyhow};
 use std::alloc::Global;
 use std::time::Clock;
 
 /// What is done with the frames of a codec: its packets are made, in memory of their own or in memory that is used again, they
-/// are put together, or as many bytes are copied into fresh memory or into memory that is used again.
-const CODEC_CALLS: [&str; 5] = [
+/// become datagrams, they are put together, or as many bytes are copied into fresh memory or into memory that is used again.
+const CODEC_CALLS: [&str; 6] = [
     "packetize",
     "packetize-into",
+    "send",
     "depacketize",
     "copy",
     "memcpy",
@@ -42,7 +43,24 @@ pub fn all_cases(alloc: Global) -> Result<Vec<String>> {
     for state in &streams::STATES {
         all.push(format!(in alloc; "memory/{state}")?)?;
     }
+    add_datagrams(alloc, &mut all)?;
     Ok(all)
+}
+
+/// The names of the cases over datagrams.
+fn add_datagrams(alloc: Global, all: &mut Vec<String>) -> Result<()> {
+    for call in &datagrams::PACKET_CALLS {
+        all.push(format!(in alloc; "rtp/{call}")?)?;
+    }
+    for order in &datagrams::ORDERS {
+        for held in &datagrams::HELD {
+            all.push(format!(in alloc; "receiver-{held}/{order}")?)?;
+        }
+    }
+    for held in &datagrams::KEPT {
+        all.push(format!(in alloc; "memory/receiver-{held}")?)?;
+    }
+    Ok(())
 }
 
 /// The tenths of nanoseconds that a frame of the case of that name took, in each repeat.
@@ -54,11 +72,23 @@ pub fn run_case<R: Clock>(clock: &R, alloc: Global, plan: Plan, case: &str) -> R
         buffers::run(clock, alloc, plan, held.parse::<u64>()?, call)
     } else if family.starts_with("buffers-") {
         streams::run_in_turn(clock, alloc, plan)
+    } else if let Some(held) = family.strip_prefix("receiver-") {
+        datagrams::run_receiver(clock, alloc, plan, held.parse::<u64>()?, call)
+    } else if family == "rtp" {
+        datagrams::run_packets(clock, alloc, plan, call)
     } else if family == "memory" {
-        streams::run_state(clock, alloc, plan, call)
+        run_memory(clock, alloc, plan, call)
     } else if family.starts_with("red-") {
         red::run(clock, alloc, plan, family, call)
     } else {
         codecs::run(clock, alloc, plan, family, call)
+    }
+}
+
+/// Brings a stream into a state: that of a buffer, or a receiver that holds so many packets.
+fn run_memory<R: Clock>(clock: &R, alloc: Global, plan: Plan, state: &str) -> Result<Vec<u128>> {
+    match state.strip_prefix("receiver-") {
+        Some(held) => datagrams::run_memory(clock, alloc, plan, held.parse::<u64>()?),
+        None => streams::run_state(clock, alloc, plan, state),
     }
 }

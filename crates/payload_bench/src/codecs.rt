@@ -1,5 +1,6 @@
 //! The calls of packetizers and depacketizers.
 
+use crate::datagrams::measure_send;
 use crate::frames::{Frame, av1_tiles, av1_unit, noise, noise_after};
 use crate::timing::{Plan, Work, measure};
 use anyhow::{Result, anyhow};
@@ -253,6 +254,7 @@ pub fn run<R: Clock>(
             };
             measure(clock, alloc, plan, 1, &mut work)
         }
+        "send" => measure_send(clock, alloc, plan, pack, &frame),
         "memcpy" => {
             let mut work = CopiesInto {
                 payloads: &packets,

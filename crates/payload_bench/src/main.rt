@@ -8,6 +8,7 @@
 mod buffers;
 mod cases;
 mod codecs;
+mod datagrams;
 mod frames;
 mod red;
 mod streams;
