@@ -170,6 +170,9 @@ def named_pages():
 
 def lines(pages):
     for page in pages:
+        for number, line in enumerate(read(page).split("\n"), 1):
+            if re.match(r"(<<<<<<<|>>>>>>>) |=======$", line):
+                yield f"{page}:{number}: two versions of one passage"
         for number, line in blocks_and_rest(page)[1]:
             if len(line) > WIDTH and not line.startswith("|") and not re.match(r"^!\[[^]]*\]\(\S+\)$", line):
                 yield f"{page}:{number}: {len(line)} characters"
