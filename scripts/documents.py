@@ -2,23 +2,25 @@
 """Tests the documents of the repository.
 
   scripts/documents.py                 all checks
-  scripts/documents.py --wrap FILE..   wraps anew each paragraph of a page that has a line of more than 128 characters
+  scripts/documents.py --wrap FILE..   wraps anew each paragraph of these pages, or of all, that has a line of more than 128
+                                       characters
 
-Each relative link, each anchor and each named page is there; README.md has at most 170 lines; no line outside of code and tables
-is longer than 128 characters; the crates that docs/ARCHITECTURE.md lists are those of crates.txt; the version is the same wherever
-it stands; each row of figures in README.md is one of docs/PERFORMANCE.md; each picture is named by a page, and is light. Each
-block of code has a language, by which it is tested:
+Each relative link, each anchor and each named page is there; README.md has at most 170 lines; no line outside of code and
+tables is longer than 128 characters; the crates that docs/ARCHITECTURE.md lists are those of crates.txt; the version is the
+same wherever it stands; each row of figures in README.md is one of docs/PERFORMANCE.md; each picture is shown by a page, is
+light, and is of today's data; docs/DIFFERENCES.md names each law of the ported crates. Each block of code has a language, by
+which it is tested:
 
   c        compiled, and linked and run where the library is built (scripts/faces.sh library)
   rust     checked by cargo, and run where the library is built
   rattle   stands, word for word, in a crate that the gate proves
   antt     stands, word for word, in the definitions of a crate
-  text     is an input or an output of a program, which its own tests run; or a picture of names that stand in the sources; or lines
-           of fields, whose bits are whole bytes
+  text     is an input or an output of a program, which its own tests run; or a picture of names that stand in the sources;
+           or lines of fields, whose bits are whole bytes
   sh       each command is run here, or by the script of scripts/test.sh that is listed below beside it
 
-Needs a C compiler, $CC or cc; cargo of 1.85 or later for what is Rust. The last line says what passed; the status is 0 where all
-did.
+Needs a C compiler, $CC or cc; cargo of 1.85 or later for what is Rust; rt for how a crate is begun. The last line says what
+passed; the status is 0 where all did.
 """
 import glob
 import os
@@ -48,6 +50,9 @@ RUN_ELSEWHERE = {
     "rt try": ("scripts/process.py", '["rt", "run"]'),
     "rt run": ("scripts/process.py", '["rt", "run"]'),
     "rt check": ("scripts/wrong_bodies.py", '"rt", "check"'),
+    "rt new": ("scripts/documents.py", "begun_crate"),
+    "rm crates/mine/BUILD.bazel": ("scripts/documents.py", "begun_crate"),
+    'echo "mine: codec_payload_core"': ("scripts/documents.py", "begun_crate"),
     "rt fmt": ("scripts/documents.py", "rt fmt"),
     "rt test": ("scripts/documents.py", "rt test"),
     "rt version": ("scripts/documents.py", "rt version"),
@@ -165,6 +170,9 @@ def named_pages():
 
 def lines(pages):
     for page in pages:
+        for number, line in enumerate(read(page).split("\n"), 1):
+            if re.match(r"(<<<<<<<|>>>>>>>) |=======$", line):
+                yield f"{page}:{number}: two versions of one passage"
         for number, line in blocks_and_rest(page)[1]:
             if len(line) > WIDTH and not line.startswith("|") and not re.match(r"^!\[[^]]*\]\(\S+\)$", line):
                 yield f"{page}:{number}: {len(line)} characters"
@@ -179,7 +187,8 @@ def crate_table():
     named = [it for row in table for it in re.findall(r"`((?:codec_)?payload_[a-z_0-9]+)`", row)]
     for crate in sorted({*listed, *named}):
         if listed.count(crate) != 1 or named.count(crate) != 1:
-            yield f"{crate}: {listed.count(crate)} times in crates.txt, {named.count(crate)} times in the table of docs/ARCHITECTURE.md"
+            times = f"{listed.count(crate)} times in crates.txt, {named.count(crate)} times"
+            yield f"docs/ARCHITECTURE.md: {crate} stands {times} in the table"
 
 
 def versions():
@@ -249,12 +258,14 @@ def checked_rust(block, work):
     lines_of_it = [re.sub(r"^# ?(?!\[)", "", it) for it in block.text.split("\n")]
     whole = "\n".join(lines_of_it)
     if "fn main()" not in whole:
-        whole = f"fn main() -> Result<(), codec_payload::Error> {{\n{whole}}}\n".replace("Ok::<(), codec_payload::Error>(())", "Ok(())")
+        whole = whole.replace("Ok::<(), codec_payload::Error>(())", "Ok(())")
+        whole = f"fn main() -> Result<(), codec_payload::Error> {{\n{whole}}}\n"
     os.makedirs(f"{work}/page/src", exist_ok=True)
     with open(f"{work}/page/src/main.rs", "w", encoding="utf-8") as it:
         it.write(whole)
     with open(f"{work}/page/Cargo.toml", "w", encoding="utf-8") as it:
-        it.write(f'[package]\nname = "page"\nversion = "0.0.0"\nedition = "2024"\n\n[dependencies]\ncodec-payload = {{ path = "{ROOT}/bindings/rust" }}\n')
+        it.write('[package]\nname = "page"\nversion = "0.0.0"\nedition = "2024"\n\n[dependencies]\n')
+        it.write(f'codec-payload = {{ path = "{ROOT}/bindings/rust" }}\n')
     built = os.path.exists(f"{LIBRARY}/libcodec_payload.a")
     named = {**os.environ, "CARGO_TARGET_DIR": f"{work}/target", **({"CODEC_PAYLOAD_DIR": LIBRARY} if built else {})}
     return ran(["cargo", "run" if built else "check", "--offline", "--quiet"], cwd=f"{work}/page", env=named)
@@ -270,8 +281,8 @@ def stands_in(block, paths):
         return False
 
     def used(text):
-        return {(path, name.strip()) for path, many, one in re.findall(r"^use ([\w:]+)::(?:\{([^}]*)\}|(\w+));$", text, re.M | re.S)
-                for name in (many or one).split(",") if name.strip()}
+        found = re.findall(r"^use ([\w:]+)::(?:\{([^}]*)\}|(\w+));$", text, re.M | re.S)
+        return {(path, name.strip()) for path, many, one in found for name in (many or one).split(",") if name.strip()}
 
     return any(used(block.text) <= used(it) for it in texts)
 
@@ -282,7 +293,8 @@ def whole_bytes(block):
         fields = re.split(r" {3,}", line.strip())[0]
         if not re.fullmatch(r"(?:[A-Za-z_]\w*(?:=\d)?(?:\(\d+(?: or \d+)?\))?(?: |$))+", fields):
             return f"neither an input nor an output of a program, nor a picture, nor fields of bytes: {line}"
-        bits = [re.findall(r"\d+", it[1]) or ["1"] for it in re.findall(r"(\w+(?:=\d)?)(\([^)]*\))?", re.sub(r"=\d", "", fields)) if it[0]]
+        parts = re.findall(r"\w+(\([^)]*\))?", re.sub(r"=\d", "", fields))
+        bits = [re.findall(r"\d+", it) or ["1"] for it in parts]
         for case in range(max(len(it) for it in bits)):
             if sum(int(it[min(case, len(it) - 1)]) for it in bits) % 8:
                 return f"these fields are no whole bytes: {line}"
@@ -298,7 +310,8 @@ def tested_text(block):
     if "►" not in block.text:
         return whole_bytes(block)
     sources = "\n".join(read(it) for it in files(".rt"))
-    names = [part for it in re.findall(r"\w+(?:::\w+)*", block.text) if re.search(r"[a-z][A-Z]|_|::|^[A-Z]\w*[a-z]", it) for part in it.split("::")]
+    names = [it for it in re.findall(r"\w+(?:::\w+)*", block.text) if re.search(r"[a-z][A-Z]|_|::|^[A-Z]\w*[a-z]", it)]
+    names = [part for it in names for part in it.split("::")]
     missing = [it for it in names if not re.search(rf"\b{it}\b", sources)]
     return f"no source has {', '.join(missing)}" if missing else ""
 
@@ -318,7 +331,8 @@ def tested_sh(block):
                 return f"{path} does not run: {command}"
             script = re.sub(r"^\w+=\S+ ", "", command).split()[0]
             aim = os.path.join(ROOT, "tools/rtp_record" if block.page.startswith("tools/rtp_record") else "", script)
-            if "/" in script and not script.endswith("/rtp_record") and not script.startswith("bindings/out/") and not os.path.exists(aim):
+            is_built = script.endswith("/rtp_record") or script.startswith("bindings/out/")
+            if "/" in script and not is_built and not os.path.exists(aim):
                 return f"there is no {script}"
     return ""
 
@@ -342,6 +356,21 @@ def blocks(pages):
                 said = tests[block.language](block, work)
                 if said:
                     yield f"{block}: {said}"
+
+
+def begun_crate():
+    """The commands by which docs/RATTLE.md begins a crate make one, and its line in crates.txt."""
+    if not shutil.which("rt"):
+        return
+    block = next(it for it in blocks_and_rest("docs/RATTLE.md")[0] if it.text.startswith("rt new "))
+    with tempfile.TemporaryDirectory() as work:
+        os.mkdir(f"{work}/crates")
+        with open(f"{work}/crates.txt", "w", encoding="utf-8") as it:
+            it.write("# the crates\n")
+        said = ran(["sh", "-e", "-c", block.text], cwd=work)
+        begun = os.path.exists(f"{work}/crates/mine/src/lib.rt") and not os.path.exists(f"{work}/crates/mine/BUILD.bazel")
+        if said or not begun or read(f"{work}/crates.txt") != "# the crates\nmine: codec_payload_core\n":
+            yield f"{block}: no crate is begun by this: {said}"
 
 
 def commands(pages):
@@ -385,18 +414,19 @@ def wrap(page):
 
 def main(words):
     if words[:1] == ["--wrap"]:
-        for page in words[1:]:
-            wrapped = wrap(os.path.abspath(page))
-            with open(page, "w", encoding="utf-8") as it:
+        for path in [os.path.abspath(it) for it in words[1:]] or [f"{ROOT}/{it}" for it in files(".md")]:
+            wrapped = wrap(path)
+            with open(path, "w", encoding="utf-8") as it:
                 it.write(wrapped)
         return 0
     pages = files(".md")
     wrong = [
-        *links(pages), *named_pages(), *lines(pages), *crate_table(), *versions(), *additions(), *figures(), *pictures(pages), *blocks(pages),
-        *commands(pages),
+        *links(pages), *named_pages(), *lines(pages), *crate_table(), *versions(), *additions(), *figures(), *pictures(pages),
+        *blocks(pages), *begun_crate(), *commands(pages),
     ]
     count = sum(len(blocks_and_rest(it)[0]) for it in pages)
-    print("\n".join([*wrong, f"documents: {len(pages)} pages with {count} blocks of code: {f'{len(wrong)} faults' if wrong else 'all passed'}"]))
+    verdict = f"{len(wrong)} faults" if wrong else "all passed"
+    print("\n".join([*wrong, f"documents: {len(pages)} pages with {count} blocks of code: {verdict}"]))
     return 1 if wrong else 0
 
 

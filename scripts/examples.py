@@ -3,11 +3,11 @@
 
 The gateways fail by themselves unless exactly the frames come that some datagram carried, and print the same in both languages.
 The recorders write the VP8 capture of tools/rtp_record under each condition of its tests, and what they write are the encoder's
-frames, by their MD5s: those of which every packet came. The streams over UDP are run by scripts/faces.sh, the examples for Rattle
-by rt ci.
+frames, by their MD5s: those of which every packet came. The streams over UDP are run by scripts/faces.sh, the examples for
+Rattle by rt ci.
 
-Needs the library as scripts/faces.sh library builds it, a C compiler with sanitizers, $CC or cc, and cargo of 1.85 or later. The
-last line says what passed; the status is 0 where all did.
+Needs the library as scripts/faces.sh library builds it, a C compiler with sanitizers, $CC or cc, and cargo of 1.85 or later.
+The last line says what passed; the status is 0 where all did.
 """
 import hashlib
 import os
@@ -22,10 +22,12 @@ sys.path.insert(0, f"{ROOT}/tools/rtp_record/tests")
 
 import capture  # noqa: E402  (the folder is known only now)
 import conditions  # noqa: E402
-import test_captures  # noqa: E402
 
 NAMES = ["gateway", "recorder"]
+CAPTURES = f"{ROOT}/tools/rtp_record/captures"
 PORT, PAYLOAD_TYPE = "15004", "96"
+# ffmpeg's encoder was told so in tools/rtp_record/live.sh.
+KEYFRAMES_EACH = 30
 C_FLAGS = ["-std=c99", "-pedantic", "-Wall", "-Wextra", "-Wconversion", "-Werror", "-O1", "-g", "-fsanitize=address,undefined",
            "-fno-sanitize-recover=all"]
 
@@ -59,6 +61,17 @@ def frames_in(path):
     return found
 
 
+def wanted(packets, there):
+    """The MD5s, as the encoder gave them, of the frames all of whose packets are there, from the first such keyframe on."""
+    with open(f"{CAPTURES}/vp8.md5", encoding="ascii") as lines:
+        given = [line.split(",")[5].strip() for line in lines if line[0] != "#"]
+    frames = capture.frames_of(packets)
+    assert given and len(given) == len(frames), f"{len(given)} frames of the encoder, {len(frames)} in the capture"
+    whole = [place for place, frame in enumerate(frames) if set(frame) <= there]
+    first = next(place for place in whole if place % KEYFRAMES_EACH == 0)
+    return [given[place] for place in whole if place >= first]
+
+
 def gateways(programs):
     told = {}
     for language in ("C", "Rust"):
@@ -71,18 +84,18 @@ def gateways(programs):
 
 
 def recorders(programs, folder):
-    packets = capture.media_of(capture.read(f"{test_captures.CAPTURES}/vp8.pcap"))
+    packets = capture.media_of(capture.read(f"{CAPTURES}/vp8.pcap"))
     for condition in conditions.ALL:
         come, there = condition(packets)
-        wanted = test_captures.wanted_of("vp8", packets, there)
+        frames = wanted(packets, there)
         given, path = f"{folder}/given.pcap", f"{folder}/frames.ivf"
         capture.write(given, come)
         for language in ("C", "Rust"):
-            ran = subprocess.run([programs["recorder", language], given, PORT, PAYLOAD_TYPE, path], capture_output=True, text=True,
-                                 check=False)
+            words = [programs["recorder", language], given, PORT, PAYLOAD_TYPE, path]
+            ran = subprocess.run(words, capture_output=True, text=True, check=False)
             found = [] if ran.returncode else frames_in(path)
-            if found != wanted or ran.stdout != f"{len(wanted)} frames\n":
-                yield (f"the recorder in {language}, {condition.__name__}: {len(wanted)} frames are wanted, and it wrote "
+            if found != frames or ran.stdout != f"{len(frames)} frames\n":
+                yield (f"the recorder in {language}, {condition.__name__}: {len(frames)} frames are wanted, and it wrote "
                        f"{len(found)}: {ran.stdout}{ran.stderr}")
 
 
@@ -92,8 +105,8 @@ def main():
     with tempfile.TemporaryDirectory() as folder:
         programs = built(folder)
         wrong = [*gateways(programs), *recorders(programs, folder)]
-    print("\n".join([*wrong, f"examples: the gateways, and the recorders under {len(conditions.ALL)} conditions, in C and Rust: "
-                     f"{f'{len(wrong)} faults' if wrong else 'all passed'}"]))
+    told = f"examples: the gateways, and the recorders under {len(conditions.ALL)} conditions, in C and Rust"
+    print("\n".join([*wrong, f"{told}: {f'{len(wrong)} faults' if wrong else 'all passed'}"]))
     return 1 if wrong else 0
 
 

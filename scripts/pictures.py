@@ -11,9 +11,9 @@
   copies             where the bytes of a frame are copied
   descriptors        the bytes in front of a frame's: VP8, VP9, AV1 and RED, by their RFCs
 
-Needs matplotlib and graphviz: apt-get install python3-matplotlib graphviz. The same sources give the same bytes, on one version of
-both. Strokes and letters are of a tone that reads on white and on black. Each file tells of what it was made, by a digest of its
-data and of this script, which scripts/documents.py compares.
+Needs matplotlib and graphviz: apt-get install python3-matplotlib graphviz. The same sources give the same bytes, on one version
+of both. Strokes and letters are of a tone that reads on white and on black. Each file tells of what it was made, by a digest of
+its data and of this script, which scripts/documents.py compares.
 """
 import hashlib
 import io
@@ -58,7 +58,8 @@ def plotting():
     import matplotlib.pyplot as pyplot
 
     matplotlib.rcParams.update({
-        "svg.hashsalt": "codec_payload", "svg.fonttype": "none", "font.family": "sans-serif", "font.size": 11, "savefig.transparent": True,
+        "svg.hashsalt": "codec_payload", "svg.fonttype": "none", "savefig.transparent": True,
+        "font.family": "sans-serif", "font.size": 11,
         **{it: INK for it in ("text.color", "axes.edgecolor", "axes.labelcolor", "xtick.color", "ytick.color")},
     })
     return pyplot
@@ -162,7 +163,7 @@ def crates():
     # Who names a crate that is reached through another one too is not drawn: the way stands already.
     drawn = {name: [it for it in below if not any(it in reached(other) for other in below)] for name, below in uses.items()}
     text = ['digraph crates { rankdir=BT; bgcolor="transparent"; nodesep=0.18; ranksep=0.45;',
-            f'node [shape=box, style=rounded, fontname="DejaVu Sans", fontsize=12, color="{INK}", fontcolor="{INK}", height=0.3];',
+            'node [shape=box, style=rounded, fontname="DejaVu Sans", fontsize=12, height=0.3];',
             f'edge [color="{FAINT}", arrowsize=0.7];']
     for name in uses:
         color = BLUE if not name.startswith("codec") else ORANGE if name in ("codec_payload_c", "codec_payload_handle") else INK
@@ -230,7 +231,7 @@ def copies():
     keep("copies", figure)
 
 
-# Rows of bytes: each byte is a list of fields from the highest bit on, with the number of their bits; `...` is any number of bytes.
+# Rows of bytes: each byte is a list of fields from the highest bit on, with the number of their bits.
 DESCRIPTORS = (
     ("VP8 (RFC 7741, section 4.2)", (
         [("X", 1), ("R", 1), ("N", 1), ("S", 1), ("R", 1), ("PID", 3)],
@@ -284,7 +285,7 @@ def descriptors():
     keep("descriptors", figure)
 
 
-PICTURES = {"units_under_loss": units_under_loss, "crates": crates, "over_a_copy": over_a_copy, "copies": copies, "descriptors": descriptors}
+PICTURES = {it.__name__: it for it in (units_under_loss, crates, over_a_copy, copies, descriptors)}
 
 
 def main(words):
