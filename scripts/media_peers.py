@@ -58,7 +58,7 @@ def write_rows(path):
     """A few for each codec and kind of answer, of more than two bytes and of no more than some three hundred."""
     with open(path, "w") as file:
         for kind in sorted(rows, key=str):
-            lines = sorted(line for line in set(rows[kind]) if 45 < len(line) < 700)
+            lines = sorted(line for line in set(rows[kind]) if 45 < len(line) < 700) or [min(rows[kind], key=len)]
             file.writelines(line + "\n" for line in random.sample(lines, min(len(lines), 8)))
 
 
