@@ -13,7 +13,7 @@
 enum {
     SNAPSHOT = 262144,
     TIMEOUT = 100, /* milliseconds */
-    AT_ONCE = 1 << 18, /* bytes that are read of a file at a time */
+    AT_ONCE = 1 << 17, /* bytes that are read of a file at a time */
 };
 
 struct capture {
@@ -58,15 +58,16 @@ static pcap_t *open_live(const char *name, char *error) {
     return NULL;
 }
 
-/* A file is opened here and not by libpcap, which would read it in pieces of 4 KiB. */
+/* A file is opened here and not by libpcap, which would read it in pieces of 4 KiB. One is open at a time. */
 static pcap_t *open_file(const char *name, char *error) {
+    static char buffer[AT_ONCE]; /* where it is NULL, glibc does not look at the size */
     int is_input = strcmp(name, "-") == 0;
     FILE *file = is_input ? stdin : fopen(name, "rb");
     if (!file) {
         snprintf(error, PCAP_ERRBUF_SIZE, "%s", strerror(errno));
         return NULL;
     }
-    setvbuf(file, NULL, _IOFBF, AT_ONCE);
+    setvbuf(file, buffer, _IOFBF, sizeof buffer);
     pcap_t *pcap = pcap_fopen_offline_with_tstamp_precision(file, PCAP_TSTAMP_PRECISION_NANO, error);
     if (!pcap && !is_input) fclose(file);
     return pcap;

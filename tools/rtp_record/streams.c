@@ -188,12 +188,21 @@ static void drop_kept(streams *all, stream *it) {
     it->kept_count = 0;
 }
 
+/* Now that the rate of its clock is known, the packets that were kept are counted by that. */
+static void count_anew(stream *it) {
+    if (it->packets != it->kept_count) return;
+    it->headers = (statistics){0};
+    for (size_t i = 0; i < it->kept_count; i++)
+        statistics_packet(&it->headers, it->kept[i].time, it->use.rate, &it->kept[i].header);
+}
+
 /* The codec is known, or will not be: what was kept goes where it belongs. */
 static void settle(streams *all, stream *it, const signalling *known, streams_output *output) {
     if (!it->settled && it->use.codec->kind == CODEC_UNKNOWN) {
         it->use = guess_codec(it);
         for (size_t i = 0; i < it->kept_count && it->payload_type == PAYLOAD_TYPES; i++)
             it->payload_type = it->kept[i].header.payload_type;
+        count_anew(it);
     }
     it->settled = true;
     bool writes = (output->folder || output->file || output->together) && it->valid && !it->encrypted && codec_is_media(&it->use);
