@@ -25,8 +25,13 @@ struct capture {
 };
 
 static volatile sig_atomic_t stopped;
+static pcap_t *volatile running; /* the capture that is open */
 
-void capture_stop(void) { stopped = 1; }
+/* An interface on which nothing comes is waited for until libpcap is told to stop; pcap_breakloop is for signal handlers too. */
+void capture_stop(void) {
+    stopped = 1;
+    if (running) pcap_breakloop(running);
+}
 
 int capture_stopped(void) { return stopped; }
 
@@ -90,6 +95,7 @@ capture *capture_open(const char *name, int live, const char *filter) {
         capture_close(it);
         return NULL;
     }
+    running = it->pcap;
     if (!live && stat(name, &about) == 0 && S_ISREG(about.st_mode)) it->size = (uint64_t)about.st_size;
     return it;
 }
@@ -122,6 +128,7 @@ uint64_t capture_size(const capture *it) { return it->size; }
 
 void capture_close(capture *it) {
     if (!it) return;
+    running = NULL;
     if (it->pcap) pcap_close(it->pcap);
     free(it->name);
     free(it);

@@ -158,6 +158,7 @@ static void begin_record(streams *all, stream *it, const signalling *known, stre
     if (output->together) {
         size_t track = 0;
         for (size_t i = 0; i < all->count; i++) track += all->list[i]->record != NULL;
+        it->path = strdup(output->mux);
         it->record = record_open(&described, output->together, track, &output->options);
     } else {
         begin_file(all, it, &described, output);
@@ -294,7 +295,7 @@ static void close_stream(streams *all, stream *it, const signalling *known, stre
     it->record = NULL;
     if (it->file && !writer_close(it->file)) whole = false;
     it->file = NULL;
-    if (!whole) complain("stream %08" PRIx32 ": %s is not written as a whole", it->ssrc, it->path ? it->path : output->mux);
+    if (!whole) complain("stream %08" PRIx32 ": %s is not written as a whole", it->ssrc, it->path ? it->path : "it");
     if (it->events && events_count(it->events) > 0 && (output->folder || output->file)) {
         char *path = path_of(all, it, output, "events.json");
         if (path) events_write(it->events, path);

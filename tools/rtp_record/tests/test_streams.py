@@ -129,6 +129,7 @@ def muxes(folder):
     out = f"{folder}/both.webm"
     ran = run("--mux", out, together(folder, names))
     check(ran.returncode == 0, f"mux: status {ran.returncode} {ran.stderr.decode()}")
+    check(ran.stdout.decode().count(f"{out}: ") == 2, f"mux: what was written is told of both: {ran.stdout.decode()}")
     for track, name in zip(["v", "a"], names):
         stream = STREAMS[name]
         wanted = stream.wanted(stream.packets(), set(range(len(stream.packets()))))
