@@ -7,6 +7,7 @@ The frames are those of captures/vp8.pcap, put together and cut anew: each takes
 (RFC 7741), ten packets a frame, at 30 frames a second, until the capture is so large. It is listed and written five times each; the
 least time counts, as user and system time of the process and as wall time. Status 1 where the memory is above 100 MB."""
 
+import json
 import os
 import resource
 import struct
@@ -27,8 +28,7 @@ def frames():
     """VP8 frames of ten packets each: those of the capture, filled up with zeros, which decoders of VP8 do not mind."""
     packets = capture.media_of(capture.read(f"{HERE}/captures/vp8.pcap"))
     for places in capture.frames_of(packets):
-        # ffmpeg's descriptor has one byte, or three with a PictureID of seven bits
-        media = b"".join(packets[place].media[3 if packets[place].media[0] & 0x80 else 1 :] for place in places)
+        media = b"".join(packets[place].media[4:] for place in places)  # ffmpeg's descriptor: 15 bits of PictureID
         yield media[: MEDIA * PACKETS_A_FRAME].ljust(MEDIA * PACKETS_A_FRAME, b"\0")
 
 
@@ -55,15 +55,15 @@ def write(path, megabytes):
 
 
 def measured(*words):
-    """The least user and system time, the least wall time, and the most memory in megabytes, of some runs."""
+    """What was told, the least user and system time, the least wall time, and the most memory in megabytes, of some runs."""
     processor, wall = [], []
     for _ in range(RUNS):
         before, began = resource.getrusage(resource.RUSAGE_CHILDREN), time.monotonic()
-        subprocess.run(words, check=True, stdout=subprocess.DEVNULL)
+        told = json.loads(subprocess.run(words, check=True, stdout=subprocess.PIPE).stdout)["streams"][0]
         wall.append(time.monotonic() - began)
         after = resource.getrusage(resource.RUSAGE_CHILDREN)
         processor.append(after.ru_utime + after.ru_stime - before.ru_utime - before.ru_stime)
-    return min(processor), min(wall), resource.getrusage(resource.RUSAGE_CHILDREN).ru_maxrss / 1000
+    return told, min(processor), min(wall), resource.getrusage(resource.RUSAGE_CHILDREN).ru_maxrss / 1000
 
 
 def main():
@@ -74,8 +74,9 @@ def main():
         print(f"{count} packets, {os.path.getsize(path) / 1e6:.0f} MB")
         most = 0
         for what, words in {"listed": [], "written": ["-o", f"{folder}/out.webm"]}.items():
-            processor, wall, memory = measured(f"{HERE}/rtp_record", "--map", "96=VP8/90000", path, *words)
+            told, processor, wall, memory = measured(f"{HERE}/rtp_record", "--json", "--map", "96=VP8/90000", path, *words)
             most = max(most, memory)
+            assert told["packets"] == count and told.get("frames", 0) * PACKETS_A_FRAME == (count if words else 0), told
             print(f"{what}: {count / processor:,.0f} packets a second of processor time ({processor:.2f} s), "
                   f"{count / wall:,.0f} of wall time ({wall:.2f} s), {memory:.0f} MB of memory")
     return 1 if most > MOST_MEMORY else 0

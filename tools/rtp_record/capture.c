@@ -13,7 +13,7 @@
 enum {
     SNAPSHOT = 262144,
     TIMEOUT = 100, /* milliseconds */
-    AT_ONCE = 1 << 18, /* bytes that are read of a file at a time */
+    AT_ONCE = 1 << 17, /* bytes that are read of a file at a time */
 };
 
 struct capture {
@@ -25,8 +25,13 @@ struct capture {
 };
 
 static volatile sig_atomic_t stopped;
+static pcap_t *volatile running; /* the capture that is open */
 
-void capture_stop(void) { stopped = 1; }
+/* An interface on which nothing comes is waited for until libpcap is told to stop; pcap_breakloop is for signal handlers too. */
+void capture_stop(void) {
+    stopped = 1;
+    if (running) pcap_breakloop(running);
+}
 
 int capture_stopped(void) { return stopped; }
 
@@ -58,15 +63,16 @@ static pcap_t *open_live(const char *name, char *error) {
     return NULL;
 }
 
-/* A file is opened here and not by libpcap, which would read it in pieces of 4 KiB. */
+/* A file is opened here and not by libpcap, which would read it in pieces of 4 KiB. One is open at a time. */
 static pcap_t *open_file(const char *name, char *error) {
+    static char buffer[AT_ONCE]; /* where it is NULL, glibc does not look at the size */
     int is_input = strcmp(name, "-") == 0;
     FILE *file = is_input ? stdin : fopen(name, "rb");
     if (!file) {
         snprintf(error, PCAP_ERRBUF_SIZE, "%s", strerror(errno));
         return NULL;
     }
-    setvbuf(file, NULL, _IOFBF, AT_ONCE);
+    setvbuf(file, buffer, _IOFBF, sizeof buffer);
     pcap_t *pcap = pcap_fopen_offline_with_tstamp_precision(file, PCAP_TSTAMP_PRECISION_NANO, error);
     if (!pcap && !is_input) fclose(file);
     return pcap;
@@ -89,6 +95,7 @@ capture *capture_open(const char *name, int live, const char *filter) {
         capture_close(it);
         return NULL;
     }
+    running = it->pcap;
     if (!live && stat(name, &about) == 0 && S_ISREG(about.st_mode)) it->size = (uint64_t)about.st_size;
     return it;
 }
@@ -121,6 +128,7 @@ uint64_t capture_size(const capture *it) { return it->size; }
 
 void capture_close(capture *it) {
     if (!it) return;
+    running = NULL;
     if (it->pcap) pcap_close(it->pcap);
     free(it->name);
     free(it);

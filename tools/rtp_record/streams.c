@@ -158,6 +158,7 @@ static void begin_record(streams *all, stream *it, const signalling *known, stre
     if (output->together) {
         size_t track = 0;
         for (size_t i = 0; i < all->count; i++) track += all->list[i]->record != NULL;
+        it->path = strdup(output->mux);
         it->record = record_open(&described, output->together, track, &output->options);
     } else {
         begin_file(all, it, &described, output);
@@ -188,12 +189,21 @@ static void drop_kept(streams *all, stream *it) {
     it->kept_count = 0;
 }
 
+/* Now that the rate of its clock is known, the packets that were kept are counted by that. */
+static void count_anew(stream *it) {
+    if (it->packets != it->kept_count) return;
+    it->headers = (statistics){0};
+    for (size_t i = 0; i < it->kept_count; i++)
+        statistics_packet(&it->headers, it->kept[i].time, it->use.rate, &it->kept[i].header);
+}
+
 /* The codec is known, or will not be: what was kept goes where it belongs. */
 static void settle(streams *all, stream *it, const signalling *known, streams_output *output) {
     if (!it->settled && it->use.codec->kind == CODEC_UNKNOWN) {
         it->use = guess_codec(it);
         for (size_t i = 0; i < it->kept_count && it->payload_type == PAYLOAD_TYPES; i++)
             it->payload_type = it->kept[i].header.payload_type;
+        count_anew(it);
     }
     it->settled = true;
     bool writes = (output->folder || output->file || output->together) && it->valid && !it->encrypted && codec_is_media(&it->use);
@@ -285,7 +295,7 @@ static void close_stream(streams *all, stream *it, const signalling *known, stre
     it->record = NULL;
     if (it->file && !writer_close(it->file)) whole = false;
     it->file = NULL;
-    if (!whole) complain("stream %08" PRIx32 ": %s is not written as a whole", it->ssrc, it->path ? it->path : output->mux);
+    if (!whole) complain("stream %08" PRIx32 ": %s is not written as a whole", it->ssrc, it->path ? it->path : "it");
     if (it->events && events_count(it->events) > 0 && (output->folder || output->file)) {
         char *path = path_of(all, it, output, "events.json");
         if (path) events_write(it->events, path);

@@ -39,7 +39,7 @@ typedef struct stream {
     size_t kept_count;
     record *record;
     writer *file;
-    char *path;       /* of the file that is written */
+    char *path;       /* of the file that is written, or that of all streams */
     bool has_name;    /* it has the name of the output as it is */
     events *events;
     record_totals totals;

@@ -13,6 +13,7 @@ import subprocess
 import sys
 import tempfile
 from dataclasses import replace
+from fractions import Fraction
 
 import capture
 import conditions
@@ -84,11 +85,51 @@ def counts(folder):
         check(listed(together(folder, [name], conditions.restarted))[ssrc]["restarts"] == 1, f"{name}: a restart")
 
 
+def jitter_of(packets, rate):
+    """The interarrival jitter in milliseconds (RFC 3550, section 6.4.1), in fractions as they are."""
+    jitter = 0.0
+    for before, packet in zip(packets, packets[1:]):
+        times = (packet.timestamp - before.timestamp + 2**31) % 2**32 - 2**31
+        apart = (packet.time - before.time) * Fraction(rate, 10**9) - times
+        jitter += (abs(float(apart)) - jitter) / 16
+    return 1000 * jitter / rate
+
+
+def headers(folder):
+    """What headers tell, counted here: packets behind one with a greater number, and the jitter."""
+    for name, rate in [("vp8", 90000), ("opus", 48000), ("pcmu", 8000)]:
+        for condition in [conditions.clean, conditions.swapped, conditions.wrapping, conditions.lossy]:
+            come, there = condition(packets_of(name))
+            capture.write(f"{folder}/h.pcap", come)
+            found = listed(f"{folder}/h.pcap")[ssrc_of(name)]
+            what = f"{name}, {condition.__name__}: {found}"
+            check(abs(found["jitter_ms"] - jitter_of(come, rate)) < 0.002, f"jitter of {jitter_of(come, rate)}: {what}")
+            behind, greatest = 0, come[0].number
+            for packet in come[1:]:
+                ahead = (packet.number - greatest + 2**15) % 2**16 - 2**15
+                behind += ahead < 0
+                greatest = packet.number if ahead > 0 else greatest
+            check(found["reordered"] == behind and found["late"] == 0, f"{behind} reordered: {what}")
+            check(found["lost"] == max(there) - min(there) + 1 - len(there), f"lost: {what}")
+            check(found["duplicates"] == found["restarts"] == 0, f"no more: {what}")
+    come = packets_of("pcmu")
+    late = replace(come[0], time=come[80].time + 1)
+    capture.write(f"{folder}/h.pcap", come[1:81] + [late] + come[81:])
+    found = listed(f"{folder}/h.pcap")[ssrc_of("pcmu")]
+    check(found["late"] == found["reordered"] == 1 and found["lost"] == 0, f"80 packets late: {found}")
+    # a stray number counts for nothing, and two in a row are a restart (RFC 3550, appendix A.1)
+    stray = come[40].changed(number=come[40].number + 20000)
+    capture.write(f"{folder}/h.pcap", come[:40] + [stray] + come[40:])
+    found = listed(f"{folder}/h.pcap")[ssrc_of("pcmu")]
+    check(found["restarts"] == 0 and found["lost"] == 0, f"a stray number: {found}")
+
+
 def muxes(folder):
     names = ["vp8", "opus"]
     out = f"{folder}/both.webm"
     ran = run("--mux", out, together(folder, names))
     check(ran.returncode == 0, f"mux: status {ran.returncode} {ran.stderr.decode()}")
+    check(ran.stdout.decode().count(f"{out}: ") == 2, f"mux: what was written is told of both: {ran.stdout.decode()}")
     for track, name in zip(["v", "a"], names):
         stream = STREAMS[name]
         wanted = stream.wanted(stream.packets(), set(range(len(stream.packets()))))
@@ -138,7 +179,7 @@ def statuses(folder):
 
 def main():
     with tempfile.TemporaryDirectory() as folder:
-        for test in [lists, counts, muxes, events, statuses]:
+        for test in [lists, counts, headers, muxes, events, statuses]:
             test(folder)
     print(f"{checks['passed']} passed, {checks['failed']} failed")
     return 1 if checks["failed"] else 0
