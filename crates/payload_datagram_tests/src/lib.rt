@@ -14,6 +14,8 @@ mod packets;
 #[cfg(test)]
 mod receiver;
 #[cfg(test)]
+mod runs;
+#[cfg(test)]
 mod sender;
 #[cfg(test)]
 mod values;
