@@ -272,24 +272,18 @@ bool record_take(record *it, const record_packet *packet) {
 
 void record_sender_report(record *it, uint64_t ntp, uint32_t rtp_time) { timeline_report(&it->times, ntp, rtp_time); }
 
-/* What the library counted goes into the totals. */
-static void count(record *it) {
+/* How many packets others in RED carried, but for those that had come. */
+static uint64_t recovered(record *it) {
     cpay_receiver_counts_info counts = {0};
-    cpay_report_info report = {0};
-    if (cpay_receiver_report(&it->receiver, &report) == CPAY_OK && report.cumulative_lost > 0)
-        it->totals.lost = (uint64_t)report.cumulative_lost;
-    if (cpay_receiver_counts(&it->receiver, &counts)) return;
-    it->totals.recovered = counts.recovered - (counts.recovered < it->totals.repeated ? counts.recovered : it->totals.repeated);
-    it->totals.duplicates = counts.duplicates;
-    it->totals.late = counts.late;
-    it->totals.restarts = counts.restarts;
+    if (cpay_receiver_counts(&it->receiver, &counts) || counts.recovered < it->totals.repeated) return 0;
+    return counts.recovered - it->totals.repeated;
 }
 
 bool record_close(record *it, record_totals *totals) {
     if (!it->failed && cpay_receiver_finish(&it->receiver) == CPAY_OK) take_units(it, UINT64_MAX);
     for (const held *one = it->first_held; one; one = one->next) it->totals.skipped++;
     drop_held(it);
-    count(it);
+    it->totals.recovered = recovered(it);
     *totals = it->totals;
     bool whole = !it->failed;
     cpay_receiver_free(&it->receiver);

@@ -45,12 +45,8 @@ typedef struct {
     uint64_t refused; /* units that the codec's format refuses */
     uint64_t filled;  /* frames that were put where packets are lost */
     double seconds;   /* from the first frame to the last */
-    uint64_t lost;    /* packets that never came, by their numbers */
     uint64_t recovered; /* packets that others in RED carried */
     uint64_t repeated;  /* units that RED gave though they had come */
-    uint64_t duplicates;
-    uint64_t late;
-    uint64_t restarts;
 } record_totals;
 
 typedef struct record record;

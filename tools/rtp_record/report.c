@@ -41,7 +41,8 @@ static void print_row(stream *it) {
     time_text(it->last, last);
     types_text(it, types);
     snprintf(name, sizeof name, "%s%s", it->use.guessed ? "?" : "", codec_told(it));
-    printf("%08" PRIx32 "  %-7s %-10s %8" PRIu64 " %6" PRIu64 " %5" PRIu64 " %7" PRIu64 " %5" PRIu64 " %8" PRIu64 " %7.1fms %9.3f  %s  %s  %s > %s\n",
+    printf("%08" PRIx32 "  %-7s %-10s %8" PRIu64 " %6" PRIu64 " %5" PRIu64 " %7" PRIu64 " %5" PRIu64 " %8" PRIu64
+           " %7.1fms %9.3f  %s  %s  %s > %s\n",
            it->ssrc, types, name, it->packets, statistics_lost(&it->headers), it->headers.duplicates, it->headers.reordered,
            it->headers.late, it->headers.restarts, jitter(it), seconds(it), first, last + TIME_OF_DAY, from, to);
     if (it->path && it->totals.frames > 0)

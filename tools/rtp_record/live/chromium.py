@@ -116,7 +116,9 @@ def main():
     call = Call()
     server = server_of(call)
     threading.Thread(target=server.serve_forever, daemon=True).start()
-    dump = subprocess.Popen(["tcpdump", "-q", "-i", "lo", "-U", "-w", f"{folder}/{name}.pcap", "udp and not net 127.0.0.0/8"], stderr=subprocess.DEVNULL)
+    dump = subprocess.Popen(
+        ["tcpdump", "-q", "-i", "lo", "-U", "-w", f"{folder}/{name}.pcap", "udp and not net 127.0.0.0/8"],
+        stderr=subprocess.DEVNULL)
     time.sleep(1)
     try:
         run_browser(server.server_address[1], wanted, call)
