@@ -45,6 +45,11 @@ class Recorded:
         """All packets of its SSRC."""
         return capture.media_of(capture.read(f"{CAPTURES}/{self.name}.pcap"), self.ssrc)
 
+    def all_wanted(self):
+        """What has to come of the clean capture."""
+        packets = self.packets()
+        return self.wanted(packets, set(range(len(packets))))
+
     def is_media(self, packet):
         return packet.payload_type in self.types and packet.media
 

@@ -15,32 +15,21 @@ import tempfile
 import time
 
 import capture
-from recorded import HERE, all_streams
+from checks import PROGRAM, check, status_of_checks
+from recorded import all_streams
 from test_captures import faults_of_file, found_in, md5s_in
 from test_links import ETHERNET, TYPE_IPV4, ethernet, ipv4, pcapng, udp
 
-PROGRAM = os.path.abspath(sys.argv[1] if len(sys.argv) > 1 else f"{HERE}/../rtp_record")
 STREAMS = {stream.title: stream for stream in all_streams()}
 ENDINGS = {
     "vp8": ["webm", "mkv", "ivf"], "vp9": ["webm", "ivf"], "chromium-av1 video": ["webm", "obu", "ivf"], "opus": ["webm", "ogg"],
     "pcmu": ["mka", "wav"], "g722": ["mka"], "amrwb": ["awb"],
 }
-checks = {"passed": 0, "failed": 0}
-
-
-def check(holds, what):
-    checks["passed" if holds else "failed"] += 1
-    if not holds:
-        print(f"does not hold: {what}")
-
-
-def all_of(stream):
-    return stream.wanted(stream.packets(), set(range(len(stream.packets()))))
 
 
 def is_beginning(stream, path, what):
     """The file plays, and has the first frames of the stream, some of them at least."""
-    wanted, found = all_of(stream), found_in(stream.codec, path)
+    wanted, found = stream.all_wanted(), found_in(stream.codec, path)
     check(0 < len(found) <= len(wanted) and found == wanted[: len(found)], f"{what}: {len(found)} of {len(wanted)}, from the first on")
     for fault in faults_of_file(path):
         check(False, f"{what}: {fault}")
@@ -169,8 +158,7 @@ def main():
     with tempfile.TemporaryDirectory() as folder:
         for test in [full_disks, interruptions, kills, damages]:
             test(folder)
-    print(f"{checks['passed']} passed, {checks['failed']} failed")
-    return 1 if checks["failed"] else 0
+    return status_of_checks()
 
 
 if __name__ == "__main__":

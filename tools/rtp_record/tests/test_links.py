@@ -14,23 +14,16 @@ import sys
 import tempfile
 
 import capture
-from recorded import CAPTURES, HERE, all_streams
+from checks import PROGRAM, check, status_of_checks
+from recorded import CAPTURES, all_streams
 from test_captures import found_in
 
-PROGRAM = os.path.abspath(sys.argv[1] if len(sys.argv) > 1 else f"{HERE}/../rtp_record")
 STREAM = next(stream for stream in all_streams() if stream.title == "pcmu")
 PACKETS = STREAM.packets()
-checks = {"passed": 0, "failed": 0}
 
 # https://www.tcpdump.org/linktypes.html
 ETHERNET, NULL, RAW, LOOP, LINUX_SLL, IPV4_ONLY, IPV6_ONLY, LINUX_SLL2 = 1, 0, 101, 108, 113, 228, 229, 276
 TYPE_IPV4, TYPE_IPV6 = 0x0800, 0x86DD
-
-
-def check(holds, what):
-    checks["passed" if holds else "failed"] += 1
-    if not holds:
-        print(f"does not hold: {what}")
 
 
 def udp(payload, source=5004, destination=6004):
@@ -255,8 +248,7 @@ def main():
     with tempfile.TemporaryDirectory() as folder:
         for test in [links, containers, fragments, cut, malformed, protocols, encrypted, unread]:
             test(folder)
-    print(f"{checks['passed']} passed, {checks['failed']} failed")
-    return 1 if checks["failed"] else 0
+    return status_of_checks()
 
 
 if __name__ == "__main__":

@@ -15,28 +15,17 @@ from dataclasses import replace
 
 import capture
 import conditions
-from recorded import CAPTURES, HERE, all_streams
+from checks import PROGRAM, check, status_of_checks
+from recorded import CAPTURES, all_streams
 from test_captures import AMR_WB_MAGIC, faults_of_file, found_in, md5s_in, words
 
-PROGRAM = os.path.abspath(sys.argv[1] if len(sys.argv) > 1 else f"{HERE}/../rtp_record")
 STREAMS = {stream.title: stream for stream in all_streams()}
-checks = {"passed": 0, "failed": 0}
-
-
-def check(holds, what):
-    checks["passed" if holds else "failed"] += 1
-    if not holds:
-        print(f"does not hold: {what}")
 
 
 def run(*words_, wanted=0):
     ran = subprocess.run([PROGRAM, "--json", *words_], capture_output=True, check=False)
     check(ran.returncode == wanted, f"{' '.join(words_)}: status {ran.returncode} {ran.stderr.decode()}")
     return json.loads(ran.stdout) if ran.stdout else None
-
-
-def all_of(stream):
-    return stream.wanted(stream.packets(), set(range(len(stream.packets()))))
 
 
 def source_of(stream, folder, packets=None):
@@ -56,7 +45,7 @@ def named_files(folder):
             found = words("ffmpeg", "-v", "error", "-i", out, "-map", "0", "-c", "copy", "-f", "data", "-").stdout
         else:
             found = found_in(stream.codec, out)
-        check(found == all_of(stream), f"{title} as {ending}")
+        check(found == stream.all_wanted(), f"{title} as {ending}")
         check(not list(faults_of_file(out)), f"{title} as {ending} plays: {list(faults_of_file(out))}")
     call = f"{CAPTURES}/chromium-vp8.pcap"
     told = run("--sdp", f"{CAPTURES}/chromium-vp8.sdp", call, "-o", f"{folder}/call.mkv")
@@ -80,7 +69,7 @@ def two_flows(folder):
     check(len(told["streams"]) == 2, "two streams")
     check(sorted(os.listdir(f"{folder}/two")) == [f"{stream.ssrc:08x}-2.mka", f"{stream.ssrc:08x}.mka"], "two files")
     for name in os.listdir(f"{folder}/two"):
-        check(found_in("pcmu", f"{folder}/two/{name}") == all_of(stream), f"{name} is whole")
+        check(found_in("pcmu", f"{folder}/two/{name}") == stream.all_wanted(), f"{name} is whole")
 
 
 def sender_report(packet, moment):
@@ -112,7 +101,7 @@ def reports(folder):
     run("--sdp", f"{CAPTURES}/vp8.sdp", "--sdp", f"{CAPTURES}/opus.sdp", f"{folder}/sr.pcap", "--mux", f"{folder}/sr.mkv")
     first, second = starts(f"{folder}/sr.mkv")
     check(abs(second - first - 0.25) < 0.002, f"the sound begins a quarter of a second behind the picture: {first}, {second}")
-    check(md5s_in(f"{folder}/sr.mkv", "0:v:0") == all_of(video) and md5s_in(f"{folder}/sr.mkv", "0:a:0") == all_of(audio), "frames")
+    check(md5s_in(f"{folder}/sr.mkv", "0:v:0") == video.all_wanted() and md5s_in(f"{folder}/sr.mkv", "0:a:0") == audio.all_wanted(), "frames")
     capture.write(f"{folder}/sr.pcap", merged([sender_report(pairs[0][0], 1000.0), sender_report(pairs[1][0], 9000.0)]))
     run("--sdp", f"{CAPTURES}/vp8.sdp", "--sdp", f"{CAPTURES}/opus.sdp", f"{folder}/sr.pcap", "--mux", f"{folder}/sr.mkv")
     first, second = starts(f"{folder}/sr.mkv")
@@ -122,8 +111,8 @@ def reports(folder):
 def call(folder):
     """Sound and picture of a call of Chromium, in one file by its own sender reports: they began within a quarter of a second."""
     run("--sdp", f"{CAPTURES}/chromium-vp8.sdp", f"{CAPTURES}/chromium-vp8.pcap", "--mux", f"{folder}/call.webm")
-    check(md5s_in(f"{folder}/call.webm", "0:v:0") == all_of(STREAMS["chromium-vp8 video"]), "the picture of a call")
-    check(md5s_in(f"{folder}/call.webm", "0:a:0") == all_of(STREAMS["chromium-vp8 audio"]), "the sound of a call")
+    check(md5s_in(f"{folder}/call.webm", "0:v:0") == STREAMS["chromium-vp8 video"].all_wanted(), "the picture of a call")
+    check(md5s_in(f"{folder}/call.webm", "0:a:0") == STREAMS["chromium-vp8 audio"].all_wanted(), "the sound of a call")
     check(not list(faults_of_file(f"{folder}/call.webm")), "the file plays")
 
 
@@ -196,11 +185,11 @@ def red(folder):
     lost = set(media[10:180:7])
     there = set(range(len(packets))) - lost
     told = run(*stream.words, source_of(stream, folder, [packets[place] for place in sorted(there)]), "-o", f"{folder}/r.webm")
-    check(md5s_in(f"{folder}/r.webm") == all_of(stream), "RED: all frames are there, though one packet in seven is lost")
+    check(md5s_in(f"{folder}/r.webm") == stream.all_wanted(), "RED: all frames are there, though one packet in seven is lost")
     check(told["streams"][0]["recovered"] == len(lost), f"RED: recovered {told['streams'][0]['recovered']} of {len(lost)}")
     # an SDP that names RED without saying what is inside: the packets tell
     told = run("--map", "63=red/48000", "--map", "111=opus/48000/2", source_of(stream, folder), "-o", f"{folder}/r.webm")
-    check(md5s_in(f"{folder}/r.webm") == all_of(stream), "RED whose inner type is not signalled")
+    check(md5s_in(f"{folder}/r.webm") == stream.all_wanted(), "RED whose inner type is not signalled")
 
 
 def keys(folder):
@@ -221,7 +210,7 @@ def guesses(folder):
         stream = STREAMS[title]
         told = run(source_of(stream, folder), "-o", f"{folder}/g.webm")["streams"][0]
         check(told["guessed"] and told["codec"].lower() == stream.codec, f"{title}: a guess at {told['codec']}")
-        check(md5s_in(f"{folder}/g.webm") == all_of(stream), f"{title}: the frames of a guess")
+        check(md5s_in(f"{folder}/g.webm") == stream.all_wanted(), f"{title}: the frames of a guess")
         table = subprocess.run([PROGRAM, source_of(stream, folder)], capture_output=True, check=False).stdout.decode()
         check(f"?{told['codec']}" in table, f"{title}: the table marks a guess")
 
@@ -230,8 +219,7 @@ def main():
     with tempfile.TemporaryDirectory() as folder:
         for test in [named_files, two_flows, reports, call, keyframe_lost, clean, fill, red, keys, guesses]:
             test(folder)
-    print(f"{checks['passed']} passed, {checks['failed']} failed")
-    return 1 if checks["failed"] else 0
+    return status_of_checks()
 
 
 if __name__ == "__main__":

@@ -7,7 +7,6 @@ All captures of captures/ come together in one, from one port to another. What i
 The last line is `N passed, N failed`."""
 
 import json
-import os
 import struct
 import subprocess
 import sys
@@ -17,18 +16,11 @@ from fractions import Fraction
 
 import capture
 import conditions
-from recorded import CAPTURES, HERE, all_streams
+from checks import PROGRAM, check, status_of_checks
+from recorded import CAPTURES, all_streams
 from test_captures import md5s_in, words
 
-PROGRAM = os.path.abspath(sys.argv[1] if len(sys.argv) > 1 else f"{HERE}/../rtp_record")
 STREAMS = {stream.title: stream for stream in all_streams()}
-checks = {"passed": 0, "failed": 0}
-
-
-def check(holds, what):
-    checks["passed" if holds else "failed"] += 1
-    if not holds:
-        print(f"does not hold: {what}")
 
 
 def run(*words, data=None):
@@ -181,8 +173,7 @@ def main():
     with tempfile.TemporaryDirectory() as folder:
         for test in [lists, counts, headers, muxes, events, statuses]:
             test(folder)
-    print(f"{checks['passed']} passed, {checks['failed']} failed")
-    return 1 if checks["failed"] else 0
+    return status_of_checks()
 
 
 if __name__ == "__main__":

@@ -12,17 +12,10 @@ import subprocess
 import sys
 import tempfile
 
+from checks import PROGRAM, check, status_of_checks
 from recorded import CAPTURES, HERE
 
-PROGRAM = os.path.abspath(sys.argv[1] if len(sys.argv) > 1 else f"{HERE}/../rtp_record")
 TOOL = os.path.join(HERE, "..")
-checks = {"passed": 0, "failed": 0}
-
-
-def check(holds, what):
-    checks["passed" if holds else "failed"] += 1
-    if not holds:
-        print(f"does not hold: {what}")
 
 
 def text_of(name):
@@ -85,8 +78,7 @@ def main():
     completes()
     with tempfile.TemporaryDirectory() as folder:
         progress(folder)
-    print(f"{checks['passed']} passed, {checks['failed']} failed")
-    return 1 if checks["failed"] else 0
+    return status_of_checks()
 
 
 if __name__ == "__main__":
