@@ -3,13 +3,13 @@ use Rattle.std.proofs.Common.{◌≡◌, ◌∙◌, sym, ap, refl, ℕ, zero, su
 use Rattle.std.proofs.lemmas.List.{length-take, take-append-drop}
 use Rattle.std.specs.Prelude.{is_some, nat_lt, IfSome, if◌then◌else◌}
 use Rattle.codec_payload_base.specs.Flags.{has_bit, AreBytes}
-use Rattle.codec_payload_base.specs.PictureIds.{take_id, FitsWidth}
+use Rattle.codec_payload_base.specs.PictureIds.{take_id, byte_if, id_if, FitsWidth}
 use Rattle.codec_payload_base.specs.declared.error.PacketError.{PacketError}
 use Rattle.codec_payload_base.specs.declared.error.PacketError.TheVariants as faults
 use Rattle.codec_payload_base.specs.declared.picture_id.PictureId.{PictureId}
 use Rattle.codec_payload_base.proofs.PictureIdLemmas.{spelled_taken}
 use Rattle.codec_payload_vp9.specs.Vp9Fields.{Fields, Groups}
-use Rattle.codec_payload_vp9.specs.Vp9Descriptor.{Descriptor, Group, Structure, byte_if, id_if, spelled, spelled_sizes, spelled_groups, spelled_structure, spelled_tail, HasLayers, AreDifferences, HasDifferences, HasSizes, AreGroups, HasGroups, IsDescriptor, IsStructure, HasStructure}
+use Rattle.codec_payload_vp9.specs.Vp9Descriptor.{Descriptor, Group, Structure, spelled, spelled_sizes, spelled_groups, spelled_structure, spelled_tail, HasLayers, AreDifferences, HasDifferences, HasSizes, AreGroups, HasGroups, IsDescriptor, IsStructure, HasStructure}
 use Rattle.codec_payload_vp9.specs.Vp9Reading.{Reading, reads, refuses, next_from, then_read, with_flags, with_id, read_id, with_layers, layers_at, behind_layers, read_tl0, read_layers, with_difference, differences_at, read_differences, read_before, number_at, with_height, with_width, read_size, sizes_at, read_sizes, group_count_at, read_group_count, with_structure, behind_head, GroupReading, no_groups, groups_of, with_group, count_of_differences, groups_at, if_read, structure_groups, read_groups, if_before, all_groups}
 
 -- what is read next was read from where the first reading came to its end
