@@ -7,7 +7,7 @@ use Rattle.codec_payload_audio.specs.Payloads.{Appends, AppendsSome}
 use Rattle.codec_payload_base.specs.TelephoneReport.{TakesFirst}
 use Rattle.codec_payload_base.specs.declared.error.PacketError.{PacketError}
 use Rattle.codec_payload_base.specs.declared.interface.CodecExtra.{CodecExtra}
-use Rattle.codec_payload_buffer.specs.Depack.{Depack, G711Depack, OpusDepack, ComfortNoiseDepack, TeleDepack, NullDepack, Vp8Depack, Vp9Depack, Av1Depack, AmrWbDepack, BoxedDepack, is_built_in_depack, DepackStep}
+use Rattle.codec_payload_codec.specs.Depack.{Depack, G711Depack, OpusDepack, ComfortNoiseDepack, TeleDepack, NullDepack, Vp8Depack, Vp9Depack, Av1Depack, AmrWbDepack, BoxedDepack, is_built_in_depack, DepackStep}
 use Rattle.codec_payload_buffer.specs.Held.{Held}
 use Rattle.codec_payload_buffer.specs.Steps.{Unpacked, Unpacks}
 use Rattle.codec_payload_av1.specs.Av1Steps.{Av1Step}
@@ -33,21 +33,24 @@ first_same rate (event ∷ flags ∷ []) out o p x y a b = absurd a
 first_same rate (event ∷ []) out o p x y a b = absurd a
 first_same rate [] out o p x y a b = absurd a
 
-rest_same : (d : Vp8Depacketizer) (rest : Result (List ℕ) Vp8DescriptorError) (out : List ℕ) (extra : CodecExtra) (e f : Vp8Depacketizer) (o p : List ℕ) (x y : CodecExtra) → Vp8Rest d rest out extra (Ok tt) e o x → Vp8Rest d rest out extra (Ok tt) f p y → (e ≡ f) × (o ≡ p) × (x ≡ y)
+rest_same : (d : Vp8Depacketizer) (rest : Result (List ℕ) Vp8DescriptorError) (out : List ℕ) (extra : CodecExtra) (e f : Vp8Depacketizer) (o p : List ℕ)
+    (x y : CodecExtra) → Vp8Rest d rest out extra (Ok tt) e o x → Vp8Rest d rest out extra (Ok tt) f p y → (e ≡ f) × (o ≡ p) × (x ≡ y)
 rest_same d (Err error) out extra e f o p x y a b = let no = a.0 in absurd (cc)
 rest_same d (Ok []) out extra e f o p x y a b = let no = a.0 in absurd (cc)
 rest_same d (Ok (c ∷ cs)) out extra e f o p x y a b =
     let same : e ≡ f = a.0 ∙ sym b.0 in
     (same, a.1 ∙ sym b.1, a.2 ∙ ap (λ (g : Vp8Depacketizer). extra_of g extra) same ∙ sym b.2)
 
-vp8_same : (d : Vp8Depacketizer) (payload out : List ℕ) (extra : CodecExtra) (e f : Vp8Depacketizer) (o p : List ℕ) (x y : CodecExtra) → Vp8Step d payload out extra (Ok tt) e o x → Vp8Step d payload out extra (Ok tt) f p y → (e ≡ f) × (o ≡ p) × (x ≡ y)
+vp8_same : (d : Vp8Depacketizer) (payload out : List ℕ) (extra : CodecExtra) (e f : Vp8Depacketizer) (o p : List ℕ) (x y : CodecExtra)
+    → Vp8Step d payload out extra (Ok tt) e o x → Vp8Step d payload out extra (Ok tt) f p y → (e ≡ f) × (o ≡ p) × (x ≡ y)
 vp8_same d [] out extra e f o p x y a b = let no = a.0 in absurd (cc)
 vp8_same d (byte ∷ bytes) out extra e f o p x y a b =
     let r = read_behind byte bytes in
     rest_same (with_fields d r.fields) r.rest out extra e f o p x y a b
 
 -- a VP9 payload that is accepted
-vp9_rest_same : (d f : Fields) (rest : Result (List ℕ) PacketError) (out : List ℕ) (extra : CodecExtra) (o p : List ℕ) (x y : CodecExtra) → d ≡ f → Vp9Rest d rest out extra (Ok tt) o x → Vp9Rest f rest out extra (Ok tt) p y → (o ≡ p) × (x ≡ y)
+vp9_rest_same : (d f : Fields) (rest : Result (List ℕ) PacketError) (out : List ℕ) (extra : CodecExtra) (o p : List ℕ) (x y : CodecExtra) → d ≡ f
+    → Vp9Rest d rest out extra (Ok tt) o x → Vp9Rest f rest out extra (Ok tt) p y → (o ≡ p) × (x ≡ y)
 vp9_rest_same d f (Err fault) out extra o p x y same a b = let no = a.0 in absurd (cc)
 vp9_rest_same d f (Ok rest) out extra o p x y same a b = placed (is_misplaced d (length out) (told_before extra)) a (subst (λ (g : Fields). Vp9Rest g (Ok rest) out extra (Ok tt) p y) (sym same) b)
   where
@@ -55,7 +58,8 @@ vp9_rest_same d f (Ok rest) out extra o p x y same a b = placed (is_misplaced d 
     placed true a b = let no = a.0 in absurd (cc)
     placed false a b = (a.0 ∙ sym b.0, a.1 ∙ sym b.1)
 
-vp9_same : (d : Fields) (payload out : List ℕ) (extra : CodecExtra) (e f : Fields) (o p : List ℕ) (x y : CodecExtra) → Vp9Step d payload out extra (Ok tt) e o x → Vp9Step d payload out extra (Ok tt) f p y → (e ≡ f) × (o ≡ p) × (x ≡ y)
+vp9_same : (d : Fields) (payload out : List ℕ) (extra : CodecExtra) (e f : Fields) (o p : List ℕ) (x y : CodecExtra) → Vp9Step d payload out extra (Ok tt) e o x
+    → Vp9Step d payload out extra (Ok tt) f p y → (e ≡ f) × (o ≡ p) × (x ≡ y)
 vp9_same d [] out extra e f o p x y a b = let no = a.0 in absurd (cc)
 vp9_same d (flags ∷ bytes) out extra e f o p x y a b =
     let all = (read_all (with_flags d flags) bytes).fields in
@@ -67,20 +71,23 @@ vp9_same d (flags ∷ bytes) out extra e f o p x y a b =
 some_is : (x y : List ℕ × List ℕ) → Some x ≡ Some y → x ≡ y
 some_is x y e = cc
 
-av1_same : (pending payload out : List ℕ) (extra : CodecExtra) (e f o p : List ℕ) (x y : CodecExtra) → Av1Step pending payload out extra (Ok tt) e o x → Av1Step pending payload out extra (Ok tt) f p y → (e ≡ f) × (o ≡ p) × (x ≡ y)
+av1_same : (pending payload out : List ℕ) (extra : CodecExtra) (e f o p : List ℕ) (x y : CodecExtra) → Av1Step pending payload out extra (Ok tt) e o x
+    → Av1Step pending payload out extra (Ok tt) f p y → (e ≡ f) × (o ≡ p) × (x ≡ y)
 av1_same pending payload out extra e f o p x y a b =
     let both = some_is (a.0, e) (b.0, f) (sym a.1 ∙ b.1) in
     let added : a.0 ≡ b.0 = ap (λ z. z.0) both in
     let left : e ≡ f = ap (λ z. z.1) both in
     (left, a.2 ∙ ap (λ (zs : List ℕ). out ++ zs) added ∙ sym b.2, a.3 ∙ sym b.3)
 
-amr_wb_same : (octet : Bool) (payload out : List ℕ) (extra : CodecExtra) (o p : List ℕ) (x y : CodecExtra) → AmrWbStep octet payload out extra (Ok tt) o x → AmrWbStep octet payload out extra (Ok tt) p y → (o ≡ p) × (x ≡ y)
+amr_wb_same : (octet : Bool) (payload out : List ℕ) (extra : CodecExtra) (o p : List ℕ) (x y : CodecExtra) → AmrWbStep octet payload out extra (Ok tt) o x
+    → AmrWbStep octet payload out extra (Ok tt) p y → (o ≡ p) × (x ≡ y)
 amr_wb_same octet payload out extra o p x y a b =
     let both : ◌≡◌ {A = Result (List ℕ) PacketError} (Ok a.0) (Ok b.0) = sym a.1 ∙ b.1 in
     let frames : a.0 ≡ b.0 = cc in
     (a.2 ∙ ap (λ (zs : List ℕ). out ++ bytes_of zs) frames ∙ sym b.2, a.3 ∙ sym b.3)
 
-step_same : (d : Depack) (payload out : List ℕ) (extra : CodecExtra) (e f : Depack) (o p : List ℕ) (x y : CodecExtra) → is_built_in_depack d ≡ true → DepackStep d payload out extra (Ok tt) e o x → DepackStep d payload out extra (Ok tt) f p y → (e ≡ f) × (o ≡ p) × (x ≡ y)
+step_same : (d : Depack) (payload out : List ℕ) (extra : CodecExtra) (e f : Depack) (o p : List ℕ) (x y : CodecExtra) → is_built_in_depack d ≡ true
+    → DepackStep d payload out extra (Ok tt) e o x → DepackStep d payload out extra (Ok tt) f p y → (e ≡ f) × (o ≡ p) × (x ≡ y)
 step_same G711Depack payload out extra e f o p x y built_in a b = let same = appends_same payload out extra o p x y a.0 b.0 in (a.1 ∙ sym b.1, same.0, same.1)
 step_same OpusDepack payload out extra e f o p x y built_in a b = let same = appends_same payload out extra o p x y a.0 b.0 in (a.1 ∙ sym b.1, same.0, same.1)
 step_same NullDepack payload out extra e f o p x y built_in a b = let same = appends_same payload out extra o p x y a.0 b.0 in (a.1 ∙ sym b.1, same.0, same.1)
@@ -99,7 +106,8 @@ step_same (Av1Depack pending) payload out extra e f o p x y built_in a b =
 step_same BoxedDepack payload out extra e f o p x y built_in a b = absurd (cc)
 
 -- the depacketizer of a codec stays one
-still_built_in : (d : Depack) (payload out : List ℕ) (extra : CodecExtra) (x : Unit {0}) (e : Depack) (out' : List ℕ) (extra' : CodecExtra) → is_built_in_depack d ≡ true → DepackStep d payload out extra (Ok x) e out' extra' → is_built_in_depack e ≡ true
+still_built_in : (d : Depack) (payload out : List ℕ) (extra : CodecExtra) (x : Unit {0}) (e : Depack) (out' : List ℕ) (extra' : CodecExtra)
+    → is_built_in_depack d ≡ true → DepackStep d payload out extra (Ok x) e out' extra' → is_built_in_depack e ≡ true
 still_built_in G711Depack payload out extra x e out' extra' built_in a = ap is_built_in_depack a.1
 still_built_in OpusDepack payload out extra x e out' extra' built_in a = ap is_built_in_depack a.1
 still_built_in NullDepack payload out extra x e out' extra' built_in a = ap is_built_in_depack a.1
@@ -122,11 +130,14 @@ pub unpacks_same : (d : Depack) (ps : List Held) (u n m : Unpacked) (e f : Depac
 unpacks_same d [] u n m e f built_in x y = let i : n ≡ u = cc in let j : m ≡ u = cc in (i ∙ sym j, x.1 ∙ sym y.1)
 unpacks_same d (p ∷ ps) u n m e f built_in x y = cases (λ c v kept x y. unpacks_same c ps v n m e f kept x y) x.0 y.0 x.1 y.1 x.2 y.2 x.3 y.3 x.4 y.4
   where
-    cases : ((c : Depack) (v : Unpacked) → is_built_in_depack c ≡ true → Unpacks c ps v (Ok n) e → Unpacks c ps v (Ok m) f → (n ≡ m) × (e ≡ f)) → (a b : Result (Unit {0}) PacketError) (c k : Depack) (v w : Unpacked)
+    cases : ((c : Depack) (v : Unpacked) → is_built_in_depack c ≡ true → Unpacks c ps v (Ok n) e → Unpacks c ps v (Ok m) f → (n ≡ m) × (e ≡ f))
+        → (a b : Result (Unit {0}) PacketError) (c k : Depack) (v w : Unpacked)
         → DepackStep d p.bytes u.bytes u.extra a c v.bytes v.extra → DepackStep d p.bytes u.bytes u.extra b k w.bytes w.extra
-        → MatchResult a (λ _. Unpacks c ps v (Ok n) e) (λ fault. (Ok n ≡ Err fault) × (e ≡ c)) → MatchResult b (λ _. Unpacks k ps w (Ok m) f) (λ fault. (Ok m ≡ Err fault) × (f ≡ k)) → (n ≡ m) × (e ≡ f)
+        → MatchResult a (λ _. Unpacks c ps v (Ok n) e) (λ fault. (Ok n ≡ Err fault) × (e ≡ c))
+            → MatchResult b (λ _. Unpacks k ps w (Ok m) f) (λ fault. (Ok m ≡ Err fault) × (f ≡ k)) → (n ≡ m) × (e ≡ f)
     cases again (Ok _) (Ok _) c k v w i j x y =
         let same = step_same d p.bytes u.bytes u.extra c k v.bytes w.bytes v.extra w.extra built_in i j in
-        again c v (still_built_in d p.bytes u.bytes u.extra tt c v.bytes v.extra built_in i) x (subst (λ (z : Depack). Unpacks z ps v (Ok m) f) (sym same.0) (subst (λ (z : Unpacked). Unpacks k ps z (Ok m) f) (sym (unpacked_same v w same.1 same.2)) y))
+        again c v (still_built_in d p.bytes u.bytes u.extra tt c v.bytes v.extra built_in i) x
+            (subst (λ (z : Depack). Unpacks z ps v (Ok m) f) (sym same.0) (subst (λ (z : Unpacked). Unpacks k ps z (Ok m) f) (sym (unpacked_same v w same.1 same.2)) y))
     cases again (Err a) b c k v w i j x y = let no = x.0 in absurd (cc)
     cases again (Ok a) (Err b) c k v w i j x y = let no = y.0 in absurd (cc)

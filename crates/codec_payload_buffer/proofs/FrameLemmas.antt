@@ -5,7 +5,7 @@ use Rattle.std.proofs.lemmas.Bool.{cases_lt}
 use Rattle.codec_payload_buffer.specs.declared.buffer.frames.Segment.{Segment}
 use Rattle.codec_payload_buffer.specs.Held.{Held, Rises, AllAbove}
 use Rattle.codec_payload_buffer.specs.Frames.{frames, frames_after, frame_at, ended_at, lowest_head, row_before, leads_to, start_or_here, IsRow, IsHeadAt, IsFrame, StartAbove, StartsRise, StandApart, AreFramesOfSet, AreInOrder, AreApart, AreOnlyList}
-use Rattle.codec_payload_buffer.proofs.CaseLemmas.{by_test, not_both}
+use Rattle.codec_payload_codec.proofs.CaseLemmas.{by_test, not_both}
 use Rattle.codec_payload_buffer.proofs.RowLemmas.{leads_parts, leads_from}
 use Rattle.codec_payload_buffer.proofs.MemberLemmas.{IsIn, contains_in, in_contains, in_left, in_right, in_append, KeysAbove, KeysRise, same_members}
 
@@ -194,7 +194,8 @@ lowest_at : (held earlier : List Held) (p : Held) (later : List Held) → IsPart
 lowest_at held earlier p later parted = lowest_is p earlier (parted_next held earlier p later parted).falls
 
 -- the frame that is found at p is one of the set
-found_at : (held earlier : List Held) (p : Held) (later : List Held) → IsParted held earlier (p ∷ later) → (f : Segment) → IsIn f (frame_at p earlier) → IsFrame held f × (f.last ≡ p.meta.seq_no.0) × (p.tail ≡ true)
+found_at : (held earlier : List Held) (p : Held) (later : List Held) → IsParted held earlier (p ∷ later) → (f : Segment) → IsIn f (frame_at p earlier)
+    → IsFrame held f × (f.last ≡ p.meta.seq_no.0) × (p.tail ≡ true)
 found_at held earlier p later parted f =
     by_test p.tail (λ b. IsIn f (cond b (ended_at p (lowest_head (p ∷ row_before p earlier))) []) → IsFrame held f × (f.last ≡ p.meta.seq_no.0) × (p.tail ≡ true))
     (λ tail. of (lowest_head (p ∷ row_before p earlier)) (lowest_at held earlier p later parted) tail)
@@ -220,7 +221,8 @@ found_at held earlier p later parted f =
     )
 
 -- and each frame of the set that ends at p is found there
-finds_at : (held earlier : List Held) (p : Held) (later : List Held) → IsParted held earlier (p ∷ later) → (f : Segment) → f.last ≡ p.meta.seq_no.0 → p.tail ≡ true → IsRow held f.first p → IsHeadAt held f.first → ((m : ℕ) → IsRow held m p → IsHeadAt held m → f.first ≤ m) → IsIn f (frame_at p earlier)
+finds_at : (held earlier : List Held) (p : Held) (later : List Held) → IsParted held earlier (p ∷ later) → (f : Segment) → f.last ≡ p.meta.seq_no.0 → p.tail ≡ true
+    → IsRow held f.first p → IsHeadAt held f.first → ((m : ℕ) → IsRow held m p → IsHeadAt held m → f.first ≤ m) → IsIn f (frame_at p earlier)
 finds_at held earlier p later parted f last tail row head least =
     subst (λ b. IsIn f (cond b (ended_at p (lowest_head (p ∷ row_before p earlier))) [])) (sym tail)
     (of (lowest_head (p ∷ row_before p earlier)) (lowest_at held earlier p later parted))
@@ -250,7 +252,8 @@ sound held earlier (p ∷ later) parted f h = elim (in_append f (frame_at p earl
 ]
 
 -- each frame of the set is found
-complete : (held earlier later : List Held) → IsParted held earlier later → (f : Segment) (b : Held) → IsIn b later → f.last ≡ b.meta.seq_no.0 → b.tail ≡ true → IsRow held f.first b → IsHeadAt held f.first → ((m : ℕ) → IsRow held m b → IsHeadAt held m → f.first ≤ m) → IsIn f (frames_after earlier later)
+complete : (held earlier later : List Held) → IsParted held earlier later → (f : Segment) (b : Held) → IsIn b later → f.last ≡ b.meta.seq_no.0 → b.tail ≡ true
+    → IsRow held f.first b → IsHeadAt held f.first → ((m : ℕ) → IsRow held m b → IsHeadAt held m → f.first ≤ m) → IsIn f (frames_after earlier later)
 complete held earlier [] parted f b h last tail row head least = absurd h
 complete held earlier (p ∷ later) parted f b (inr h) last tail row head least =
     in_right f (frame_at p earlier) (frames_after (p ∷ earlier) later) (complete held (p ∷ earlier) later (parted_next held earlier p later parted) f b h last tail row head least)
@@ -279,7 +282,8 @@ start_above_from n [] each = tt
 start_above_from n (f ∷ fs) each = (each f (inl refl), start_above_from n fs (λ g h. each g (inr h)))
 
 -- a frame that ends above a tail starts above it
-after_tail : (held earlier : List Held) (p : Held) (later : List Held) → IsParted held earlier (p ∷ later) → p.tail ≡ true → (g : Segment) → IsFrame held g → p.meta.seq_no.0 < g.last → p.meta.seq_no.0 < g.first
+after_tail : (held earlier : List Held) (p : Held) (later : List Held) → IsParted held earlier (p ∷ later) → p.tail ≡ true → (g : Segment) → IsFrame held g
+    → p.meta.seq_no.0 < g.last → p.meta.seq_no.0 < g.first
 after_tail held earlier p later parted tail g is l = elim (cases_lt p.meta.seq_no.0 g.first) [
   | inl over ↦ over
   | inr under ↦
@@ -297,13 +301,15 @@ AtMostOne (f ∷ g ∷ fs) = ⊥
 apart_after : (held earlier later : List Held) → IsParted held earlier later → StandApart (frames_after earlier later)
 apart_after held earlier [] parted = tt
 apart_after held earlier (p ∷ later) parted =
-    joined (apart_after held (p ∷ earlier) later (parted_next held earlier p later parted)) (frame_at p earlier) (found_at held earlier p later parted) (by_test p.tail (λ b. AtMostOne (cond b (ended_at p (lowest_head (p ∷ row_before p earlier))) [])) (λ e. one (lowest_head (p ∷ row_before p earlier))) (λ e. tt))
+    joined (apart_after held (p ∷ earlier) later (parted_next held earlier p later parted)) (frame_at p earlier) (found_at held earlier p later parted)
+        (by_test p.tail (λ b. AtMostOne (cond b (ended_at p (lowest_head (p ∷ row_before p earlier))) [])) (λ e. one (lowest_head (p ∷ row_before p earlier))) (λ e. tt))
   where
     one : (o : Option ℕ) → AtMostOne (ended_at p o)
     one None = tt
     one (Some n) = tt
 
-    joined : StandApart (frames_after (p ∷ earlier) later) → (fs : List Segment) → ((f : Segment) → IsIn f fs → IsFrame held f × (f.last ≡ p.meta.seq_no.0) × (p.tail ≡ true)) → AtMostOne fs → StandApart (fs ++ frames_after (p ∷ earlier) later)
+    joined : StandApart (frames_after (p ∷ earlier) later) → (fs : List Segment)
+        → ((f : Segment) → IsIn f fs → IsFrame held f × (f.last ≡ p.meta.seq_no.0) × (p.tail ≡ true)) → AtMostOne fs → StandApart (fs ++ frames_after (p ∷ earlier) later)
     joined rest [] each few = rest
     joined rest (f ∷ g ∷ fs) each few = absurd few
     joined rest (f ∷ []) each few =

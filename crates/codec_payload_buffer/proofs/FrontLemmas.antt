@@ -17,7 +17,8 @@ goes_back q qs p n on start = at (leads_to q p) on
     at true e = ap (λ (o : Option ℕ). start_or_here o p) start
     at false e = absurd (cc)
 
-pub ends_here : (b : Bool) (o : Option ℕ) (p : Held) (later : List Segment) (n : ℕ) → b ≡ true → o ≡ Some n → first_of (cond b (ended_at p o) [] ++ later) ≡ Some (record { first = n; last = p.meta.seq_no.0 })
+pub ends_here : (b : Bool) (o : Option ℕ) (p : Held) (later : List Segment) (n : ℕ) → b ≡ true → o ≡ Some n
+    → first_of (cond b (ended_at p o) [] ++ later) ≡ Some (record { first = n; last = p.meta.seq_no.0 })
 ends_here true (Some m) p later n t f = let e : m ≡ n = cc in ap (λ (k : ℕ). Some (record { first = k; last = p.meta.seq_no.0 })) e
 ends_here true None p later n t f = absurd (cc)
 ends_here false o p later n t f = absurd (cc)
@@ -27,7 +28,8 @@ goes_on true o later f = absurd (cc)
 goes_on false o later f = refl
 
 -- a row that is under way goes on to its tail
-pub walk : (qs : List Held) (q : Held) (ps rest : List Held) (n last : ℕ) (time : Time) → open_start (q ∷ qs) ≡ Some n → q.tail ≡ false → q.meta.time ≡ time → IsRun (q.meta.seq_no.0 + 1) last time ps → first_of (frames_after (q ∷ qs) (ps ++ rest)) ≡ Some (record { first = n; last = last })
+pub walk : (qs : List Held) (q : Held) (ps rest : List Held) (n last : ℕ) (time : Time) → open_start (q ∷ qs) ≡ Some n → q.tail ≡ false → q.meta.time ≡ time
+    → IsRun (q.meta.seq_no.0 + 1) last time ps → first_of (frames_after (q ∷ qs) (ps ++ rest)) ≡ Some (record { first = n; last = last })
 walk qs q [] rest n last time start inner same run = absurd run
 walk qs q (p ∷ []) rest n last time start inner same run =
     let on = leads_from q p (sym run.0) (same ∙ sym run.2) inner in
@@ -62,6 +64,7 @@ due_from s (g ∷ gs) f h starts =
     rw t h
 
 -- so it is due, where it starts right after the cutoff or there is none
-pub due_front : (s : State) (ps rest : List Held) (first last : ℕ) (time : Time) → s.held ≡ ps ++ rest → IsRun first last time ps → BeginsWithHead ps → starts_right_after s.cutoff first ≡ true → due_of s ≡ Some (record { first = first; last = last })
+pub due_front : (s : State) (ps rest : List Held) (first last : ℕ) (time : Time) → s.held ≡ ps ++ rest → IsRun first last time ps → BeginsWithHead ps
+    → starts_right_after s.cutoff first ≡ true → due_of s ≡ Some (record { first = first; last = last })
 due_front s ps rest first last time whole run begins starts =
     due_from s (frames s.held) (record { first = first; last = last }) (ap (λ (hs : List Held). first_of (frames hs)) whole ∙ first_frame ps rest first last time run begins) starts

@@ -8,7 +8,7 @@ use Rattle.codec_payload_buffer.specs.Rows.{row_of, meet, or_else, joined, put_b
 use Rattle.codec_payload_buffer.specs.Scan.{first_of}
 use Rattle.codec_payload_buffer.specs.declared.buffer.frames.Segment.{Segment}
 use Rattle.codec_payload_buffer.specs.declared.buffer.rows.Row.{Row}
-use Rattle.codec_payload_buffer.proofs.CaseLemmas.{by_test}
+use Rattle.codec_payload_codec.proofs.CaseLemmas.{by_test}
 use Rattle.codec_payload_buffer.proofs.RowLemmas.{all_above}
 use Rattle.codec_payload_buffer.proofs.RowListLemmas.{meet_parts, rows_above, rows_rise, are_longest, outside_rows, rows_placed}
 use Rattle.codec_payload_buffer.proofs.RowFrames.{frames_of_rows, frames_placed, ends_rise, row_last, by_frame}
@@ -68,7 +68,8 @@ pub first_is_short : (p : Held) (ps : List Held) → Rises (p ∷ ps) → IsFirs
 first_is_short p ps r = short_before p ps (rows ps) (rows_above p.meta.seq_no.0 ps r.0 r.1) (head_is ps r.1)
 
 -- what is left of the first row, with the rows after it
-left_before : (p : Held) (ps : List Held) (rs : List Row) (before after : Option Segment) (new : List Row) → RowsAbove p.meta.seq_no.0 rs → HeadIs rs ps → IsShortened (put_before (row_of p) rs) ps before after new
+left_before : (p : Held) (ps : List Held) (rs : List Row) (before after : Option Segment) (new : List Row) → RowsAbove p.meta.seq_no.0 rs → HeadIs rs ps
+    → IsShortened (put_before (row_of p) rs) ps before after new
     → (new ≡ rs) × (first_mended before after (row_frames (put_before (row_of p) rs)) ≡ row_frames rs)
 left_before p ps [] before after new up is left =
     let same : eqb p.meta.seq_no.0 p.meta.seq_no.0 ≡ true = grind (arith, nat_tests) in
@@ -78,7 +79,8 @@ left_before p ps [] before after new up is left =
     gone None = refl
     gone (Some f) = refl
 left_before p ps (r ∷ rs) before after new up is left =
-    by_test (meet (row_of p) r) (λ b. IsShortened (cond b (joined (row_of p) r ∷ rs) (row_of p ∷ r ∷ rs)) ps before after new → (new ≡ r ∷ rs) × (first_mended before after (row_frames (cond b (joined (row_of p) r ∷ rs) (row_of p ∷ r ∷ rs))) ≡ row_frames (r ∷ rs)))
+    by_test (meet (row_of p) r) (λ b. IsShortened (cond b (joined (row_of p) r ∷ rs) (row_of p ∷ r ∷ rs)) ps before after new → (new ≡ r ∷ rs)
+        × (first_mended before after (row_frames (cond b (joined (row_of p) r ∷ rs) (row_of p ∷ r ∷ rs))) ≡ row_frames (r ∷ rs)))
     (λ e left. rw (left.0, left.1, left.2, rest (meet_parts (row_of p) r e).next) (refl, shorter r.tail r.head (row_frames rs)))
     (λ e left.
     let same : eqb p.meta.seq_no.0 p.meta.seq_no.0 ≡ true = grind (arith, nat_tests) in
@@ -94,7 +96,9 @@ left_before p ps (r ∷ rs) before after new up is left =
         rw (other, next, is) refl
 
     -- with p in front the row has a frame at least where it has one without
-    shorter : (tail : Bool) (head : Option ℕ) (fs : List Segment) → first_mended (frame_in tail (or_else (start_or_here None p) head) r.last) (frame_in tail head r.last) (with_frame (frame_in tail (or_else (start_or_here None p) head) r.last) fs) ≡ with_frame (frame_in tail head r.last) fs
+    shorter : (tail : Bool) (head : Option ℕ) (fs : List Segment)
+        → first_mended (frame_in tail (or_else (start_or_here None p) head) r.last) (frame_in tail head r.last)
+        (with_frame (frame_in tail (or_else (start_or_here None p) head) r.last) fs) ≡ with_frame (frame_in tail head r.last) fs
     shorter false head fs = refl
     shorter true head fs = mend (or_else (start_or_here None p) head) head (none head)
       where
@@ -102,7 +106,8 @@ left_before p ps (r ∷ rs) before after new up is left =
         none None h = refl
         none (Some n) h = by_test p.head (λ b. or_else (cond b (Some p.meta.seq_no.0) None) (Some n) ≡ None → Some n ≡ None) (λ e h. absurd (cc)) (λ e h. h) h
 
-        mend : (o head : Option ℕ) → (o ≡ None → head ≡ None) → first_mended (frame_in true o r.last) (frame_in true head r.last) (with_frame (frame_in true o r.last) fs) ≡ with_frame (frame_in true head r.last) fs
+        mend : (o head : Option ℕ) → (o ≡ None → head ≡ None)
+            → first_mended (frame_in true o r.last) (frame_in true head r.last) (with_frame (frame_in true o r.last) fs) ≡ with_frame (frame_in true head r.last) fs
         mend None head only = rw (only refl) refl
         mend (Some n) head only = refl
 
@@ -131,11 +136,13 @@ no_end n last (r ∷ rs) le a = let t : ltb last r.first ≡ true = grind (arith
 one_end : (last : ℕ) (r : Row) (rs : List Row) → r.first ≤ last → drop (row_end last (r ∷ rs)) (r ∷ rs) ≡ drop (row_end last rs) rs
 one_end last r rs le = let t : ltb last r.first ≡ false = grind (arith, nat_tests, le) in rw (t, add-one) refl
 
-left_rows : (p : Held) (last : ℕ) (rs left : List Row) → p.meta.seq_no.0 ≤ last → RowsAbove p.meta.seq_no.0 rs → (EndsAt last rs → left ≡ drop (row_end last rs) rs) → (p.meta.seq_no.0 ≡ last → left ≡ rs) → EndsAt last (put_before (row_of p) rs) → left ≡ drop (row_end last (put_before (row_of p) rs)) (put_before (row_of p) rs)
+left_rows : (p : Held) (last : ℕ) (rs left : List Row) → p.meta.seq_no.0 ≤ last → RowsAbove p.meta.seq_no.0 rs → (EndsAt last rs → left ≡ drop (row_end last rs) rs)
+    → (p.meta.seq_no.0 ≡ last → left ≡ rs) → EndsAt last (put_before (row_of p) rs) → left ≡ drop (row_end last (put_before (row_of p) rs)) (put_before (row_of p) rs)
 left_rows p last [] left le a more here (inl e) = here e ∙ sym (one_end last (row_of p) [] le)
 left_rows p last [] left le a more here (inr e) = absurd e
 left_rows p last (r ∷ rs) left le a more here ends =
-    by_test (meet (row_of p) r) (λ b. EndsAt last (cond b (joined (row_of p) r ∷ rs) (row_of p ∷ r ∷ rs)) → left ≡ drop (row_end last (cond b (joined (row_of p) r ∷ rs) (row_of p ∷ r ∷ rs))) (cond b (joined (row_of p) r ∷ rs) (row_of p ∷ r ∷ rs)))
+    by_test (meet (row_of p) r) (λ b. EndsAt last (cond b (joined (row_of p) r ∷ rs) (row_of p ∷ r ∷ rs))
+        → left ≡ drop (row_end last (cond b (joined (row_of p) r ∷ rs) (row_of p ∷ r ∷ rs))) (cond b (joined (row_of p) r ∷ rs) (row_of p ∷ r ∷ rs)))
     (λ e ends. more ends ∙ one_end last r rs (start ends) ∙ sym (one_end last (joined (row_of p) r) rs le))
     (λ e ends. behind ends ∙ sym (one_end last (row_of p) (r ∷ rs) le)) ends
   where
@@ -190,7 +197,8 @@ frames_left (r ∷ rs) f a h =
     rise n [] a = tt
     rise n (s ∷ rs) a = (a.1, a.2)
 
-pub left_index : (hs : List Held) (f : Segment) → Rises hs → first_of (frames hs) ≡ Some f → (drop (row_end f.last (rows hs)) (rows hs) ≡ rows (above f.last hs)) × (drop 1 (frames hs) ≡ frames (above f.last hs))
+pub left_index : (hs : List Held) (f : Segment) → Rises hs → first_of (frames hs) ≡ Some f → (drop (row_end f.last (rows hs)) (rows hs) ≡ rows (above f.last hs))
+    × (drop 1 (frames hs) ≡ frames (above f.last hs))
 left_index hs f r h =
     let first : first_of (row_frames (rows hs)) ≡ Some f = ap first_of (frames_of_rows hs) ∙ h in
     let left = rows_left f.last hs r (first_ends (rows hs) f first) in
@@ -205,7 +213,8 @@ pub record IsIndex (rs : List Row) (fs : List Segment) (hs : List Held) : Type 0
   pub rows_are : rs ≡ rows hs
   pub frames_are : fs ≡ frames hs
 
-pub pushed_index : (p : Held) (hs new : List Held) (rs rs' : List Row) (row whole : Row) (frame : Option Segment) (fs fs' : List Segment) → Rises hs → has_number p.meta.seq_no.0 hs ≡ false → rs ≡ rows hs → fs ≡ frames hs → new ≡ placed p hs
+pub pushed_index : (p : Held) (hs new : List Held) (rs rs' : List Row) (row whole : Row) (frame : Option Segment) (fs fs' : List Segment) → Rises hs
+    → has_number p.meta.seq_no.0 hs ≡ false → rs ≡ rows hs → fs ≡ frames hs → new ≡ placed p hs
     → row ≡ row_of p → rs' ≡ row_placed row rs → whole ≡ merged row rs → frame ≡ frame_of_row whole → fs' ≡ noted_if frame fs → IsIndex rs' fs' new
 pushed_index p hs new rs rs' row whole frame fs fs' r fresh rows_are frames_are placed_is one all of is noted_is =
     rw (noted_is, is, of, all, one, placed_is, frames_are, rows_are) (record { rows_are = sym (rows_placed p hs r fresh); frames_are = placed_index p hs r fresh })
@@ -219,16 +228,19 @@ frames_some : (rs : List Row) (left : List Held) (before after : Option Segment)
 frames_some [] left before after new is = absurd is
 frames_some (r ∷ rs) left before after new is = rw is.0 (by_frame (frame_of_row r) (λ o. IfSome o (λ _. 0 < length (with_frame o (row_frames rs)))) (λ e. tt) (λ f e. omega arith))
 
-pub evict_some : (hs left : List Held) (rs new : List Row) (fs : List Segment) (count : ℕ) (before after : Option Segment) → rs ≡ rows hs → fs ≡ frames hs → count ≡ length fs → IsShortened rs left before after new → IfSome before (λ _. 0 < count)
+pub evict_some : (hs left : List Held) (rs new : List Row) (fs : List Segment) (count : ℕ) (before after : Option Segment) → rs ≡ rows hs → fs ≡ frames hs
+    → count ≡ length fs → IsShortened rs left before after new → IfSome before (λ _. 0 < count)
 evict_some hs left rs new fs count before after rows_are frames_are counted is = rw (counted, frames_are, ← frames_of_rows hs) (frames_some (rows hs) left before after new (rw rows_are at is))
 
-pub evicted_index : (hs new : List Held) (n : ℕ) (rs rs' : List Row) (fs fs' : List Segment) (before after : Option Segment) → Rises hs → TakesLowest hs n new → rs ≡ rows hs → fs ≡ frames hs → IsShortened rs new before after rs' → fs' ≡ first_mended before after fs → IsIndex rs' fs' new
+pub evicted_index : (hs new : List Held) (n : ℕ) (rs rs' : List Row) (fs fs' : List Segment) (before after : Option Segment) → Rises hs → TakesLowest hs n new
+    → rs ≡ rows hs → fs ≡ frames hs → IsShortened rs new before after rs' → fs' ≡ first_mended before after fs → IsIndex rs' fs' new
 evicted_index [] new n rs rs' fs fs' before after r takes rows_are frames_are short mended = absurd takes
 evicted_index (p ∷ ps) new n rs rs' fs fs' before after r takes rows_are frames_are short mended =
     let both = without_lowest_index p ps before after rs' r (rw (takes.1, rows_are) at short) in
     rw (takes.1, mended, frames_are) (record { rows_are = both.0; frames_are = both.1 })
 
-pub left_index_of : (hs new : List Held) (f : Segment) (rs rs' : List Row) (fs fs' : List Segment) → Rises hs → first_of (frames hs) ≡ Some f → rs ≡ rows hs → fs ≡ frames hs → new ≡ above f.last hs → rs' ≡ drop (row_end f.last rs) rs → fs' ≡ drop 1 fs → IsIndex rs' fs' new
+pub left_index_of : (hs new : List Held) (f : Segment) (rs rs' : List Row) (fs fs' : List Segment) → Rises hs → first_of (frames hs) ≡ Some f → rs ≡ rows hs
+    → fs ≡ frames hs → new ≡ above f.last hs → rs' ≡ drop (row_end f.last rs) rs → fs' ≡ drop 1 fs → IsIndex rs' fs' new
 left_index_of hs new f rs rs' fs fs' r first rows_are frames_are left rows_left frames_left =
     let both = left_index hs f r first in
     rw (left, rows_left, frames_left, rows_are, frames_are) (record { rows_are = both.0; frames_are = both.1 })

@@ -5,7 +5,7 @@ use Rattle.std.proofs.lemmas.Bool.Decides.{nat_tests}
 use Rattle.codec_payload_buffer.specs.declared.buffer.frames.Segment.{Segment}
 use Rattle.codec_payload_buffer.specs.Held.{Held}
 use Rattle.codec_payload_buffer.specs.Frames.{IsRow, IsFrame, IsLongestRow, IsFrameOfLongestRow, BothSaySame}
-use Rattle.codec_payload_buffer.proofs.CaseLemmas.{by_test}
+use Rattle.codec_payload_codec.proofs.CaseLemmas.{by_test}
 use Rattle.codec_payload_buffer.proofs.MemberLemmas.{IsIn, contains_in, in_contains}
 use Rattle.codec_payload_buffer.proofs.RowLemmas.{same_time}
 use Rattle.codec_payload_base.specs.Time.{Time}
@@ -50,7 +50,8 @@ any_stands n t (p ∷ ps) = elim (stands n t p) [
   | inl m ↦ inl (p, inl refl, m)
   | inr other ↦ elim (any_stands n t ps) [
     | inl found ↦ inl (found.0, inr found.1, found.2)
-    | inr none ↦ inr (λ q h m. elim h [ inl e ↦ other (record { number = ap (λ (h : Held). h.meta.seq_no.0) (sym e) ∙ m.number; time = ap (λ (h : Held). h.meta.time) (sym e) ∙ m.time; no_tail = ap (λ (h : Held). h.tail) (sym e) ∙ m.no_tail }) | inr k ↦ none q k m ])
+    | inr none ↦ inr (λ q h m. elim h [ inl e ↦ other (record { number = ap (λ (h : Held). h.meta.seq_no.0) (sym e)
+        ∙ m.number; time = ap (λ (h : Held). h.meta.time) (sym e) ∙ m.time; no_tail = ap (λ (h : Held). h.tail) (sym e) ∙ m.no_tail }) | inr k ↦ none q k m ])
   ]
 ]
 
@@ -71,7 +72,8 @@ longest_row held b (suc n) row = elim (any_stands n b.meta.time held) [
       row = row;
       longest = λ m r. elim (cases_lt n m) [
         | inl over ↦ omega arith
-        | inr under ↦ let q = r.each n under (omega (arith, row.to_end)) in absurd (none q.0 (in_contains q.0 held q.1) (record { number = q.2; time = q.3; no_tail = q.4 (omega (arith, row.to_end)) }))
+        | inr under ↦ let q = r.each n under (omega (arith, row.to_end)) in absurd
+            (none q.0 (in_contains q.0 held q.1) (record { number = q.2; time = q.3; no_tail = q.4 (omega (arith, row.to_end)) }))
       ];
     },
   )

@@ -8,7 +8,7 @@ use Rattle.codec_payload_buffer.specs.Held.{Held, held_of, AllAbove, Rises, IsAb
 use Rattle.codec_payload_buffer.specs.Steps.{is_at_most}
 use Rattle.std.specs.List.Sorted.{IsNonDecreasingBy, IsPartitionPoint}
 use Rattle.codec_payload_buffer.specs.Scan.{place_of}
-use Rattle.codec_payload_buffer.proofs.CaseLemmas.{by_test}
+use Rattle.codec_payload_codec.proofs.CaseLemmas.{by_test}
 
 pub place_within : (n : ℕ) (hs : List Held) → place_of n hs ≤ length hs
 place_within n [] = omega arith
@@ -40,11 +40,14 @@ pub absent_below : (n : ℕ) (q : Held) (qs : List Held) → n < q.meta.seq_no.0
 absent_below n q qs l a = grind (arith, nat_tests, not_below n qs (above_lower n q.meta.seq_no.0 qs (omega arith) a))
 
 -- the number stands at its place, if it is there
-pub at_place : (n : ℕ) (xs : List HeldPacket) (x : HeldPacket) → Rises (map held_of xs) → place_of n (map held_of xs) < length xs → eqb (get_or xs (place_of n (map held_of xs)) x).meta.value.seq_no.0 n ≡ has_number n (map held_of xs)
+pub at_place : (n : ℕ) (xs : List HeldPacket) (x : HeldPacket) → Rises (map held_of xs) → place_of n (map held_of xs) < length xs
+    → eqb (get_or xs (place_of n (map held_of xs)) x).meta.value.seq_no.0 n ≡ has_number n (map held_of xs)
 at_place n [] x r l = absurd (omega arith)
 at_place n (q ∷ qs) x r l = at_test (at_place n qs x r.1) (ltb q.meta.value.seq_no.0 n) refl l
   where
-    at_test : (place_of n (map held_of qs) < length qs → eqb (get_or qs (place_of n (map held_of qs)) x).meta.value.seq_no.0 n ≡ has_number n (map held_of qs)) → (b : Bool) → ltb q.meta.value.seq_no.0 n ≡ b → cond b (place_of n (map held_of qs) + 1) 0 < length (q ∷ qs) → eqb (get_or (q ∷ qs) (cond b (place_of n (map held_of qs) + 1) 0) x).meta.value.seq_no.0 n ≡ has_number n (map held_of (q ∷ qs))
+    at_test : (place_of n (map held_of qs) < length qs → eqb (get_or qs (place_of n (map held_of qs)) x).meta.value.seq_no.0 n ≡ has_number n (map held_of qs))
+        → (b : Bool) → ltb q.meta.value.seq_no.0 n ≡ b → cond b (place_of n (map held_of qs) + 1) 0 < length (q ∷ qs)
+        → eqb (get_or (q ∷ qs) (cond b (place_of n (map held_of qs) + 1) 0) x).meta.value.seq_no.0 n ≡ has_number n (map held_of (q ∷ qs))
     at_test rest true e l =
         let below : q.meta.value.seq_no.0 < n = grind (arith, nat_tests, e) in
         rw add-one (rest (omega arith) ∙ grind (arith, nat_tests))
@@ -53,7 +56,8 @@ at_place n (q ∷ qs) x r l = at_test (at_place n qs x r.1) (ltb q.meta.value.se
         grind (arith, nat_tests, not_below n (map held_of qs) (above_lower n q.meta.value.seq_no.0 (map held_of qs) at_least r.0))
 
 -- the packet that is found at that place tells it
-pub at_found : (n : ℕ) (xs : List HeldPacket) (i : ℕ) (q : HeldPacket) → Rises (map held_of xs) → i ≡ place_of n (map held_of xs) → i < length xs → q ≡ get_or xs i q → eqb q.number n ≡ has_number n (map held_of xs)
+pub at_found : (n : ℕ) (xs : List HeldPacket) (i : ℕ) (q : HeldPacket) → Rises (map held_of xs) → i ≡ place_of n (map held_of xs) → i < length xs → q ≡ get_or xs i q
+    → eqb q.number n ≡ has_number n (map held_of xs)
 at_found n xs i q r at l is =
     ap (λ k. eqb k n) q.numbered ∙ ap (λ (p : HeldPacket). eqb p.meta.value.seq_no.0 n) (is ∙ ap (λ k. get_or xs k q) at) ∙ at_place n xs q r (omega (arith, l, at))
 
@@ -82,7 +86,8 @@ length_placed p [] = refl
 length_placed p (q ∷ qs) = grind (arith, nat_tests, length_placed p qs)
 
 pub place_ok : (p : HeldPacket) (xs zs : List HeldPacket) (i : ℕ) → i ≡ place_of p.number (map held_of xs) → zs ≡ insert xs i p → map held_of zs ≡ placed (held_of p) (map held_of xs)
-place_ok p xs zs i at is = ap (map held_of) is ∙ held_insert xs i p ∙ ap (λ k. insert (map held_of xs) k (held_of p)) (at ∙ ap (λ k. place_of k (map held_of xs)) p.numbered) ∙ placed_is (held_of p) (map held_of xs)
+place_ok p xs zs i at is = ap (map held_of) is ∙ held_insert xs i p
+    ∙ ap (λ k. insert (map held_of xs) k (held_of p)) (at ∙ ap (λ k. place_of k (map held_of xs)) p.numbered) ∙ placed_is (held_of p) (map held_of xs)
 
 -- what is left when the lowest has left
 pub lowest_out : (hs new : List Held) (n : ℕ) → TakesLowest hs n new → Rises hs → record { rises : Rises new; above : AllAbove n new; shorter : length new + 1 ≡ length hs }
@@ -95,7 +100,9 @@ placed_above_cutoff None p hs l a = tt
 placed_above_cutoff (Some c) p hs l a = placed_above c p hs (grind (arith, nat_tests, l)) a
 
 -- what holds of the packets once a new one has its place
-pub with_new : (items new : List HeldPacket) (p : Held) (cutoff : Option ℕ) → Rises (map held_of items) → IsAboveCutoff cutoff (map held_of items) → has_number p.meta.seq_no.0 (map held_of items) ≡ false → is_at_most cutoff p.meta.seq_no.0 ≡ false → map held_of new ≡ placed p (map held_of items) → record { rises : Rises (map held_of new); above : IsAboveCutoff cutoff (map held_of new); long : length new ≡ length items + 1 }
+pub with_new : (items new : List HeldPacket) (p : Held) (cutoff : Option ℕ) → Rises (map held_of items) → IsAboveCutoff cutoff (map held_of items)
+    → has_number p.meta.seq_no.0 (map held_of items) ≡ false → is_at_most cutoff p.meta.seq_no.0 ≡ false → map held_of new ≡ placed p (map held_of items)
+    → record { rises : Rises (map held_of new); above : IsAboveCutoff cutoff (map held_of new); long : length new ≡ length items + 1 }
 with_new items new p cutoff r a fresh over is = record {
   rises = rw is (placed_rises p (map held_of items) r fresh);
   above = rw is (placed_above_cutoff cutoff p (map held_of items) over a);
@@ -118,7 +125,8 @@ rises_by_number (x ∷ xs) r (suc i) zero d le l = absurd (omega arith)
 rises_by_number (x ∷ xs) r (suc i) (suc j) d le l = rises_by_number xs r.1 i j d (omega arith) (omega arith)
 
 -- the place up to which all numbers are below n
-pub place_from_point : (n : ℕ) (xs : List HeldPacket) (i : ℕ) → IsPartitionPoint (λ (p : HeldPacket). p.number < n) (λ (p : HeldPacket). n ≤ p.number) xs i → i ≤ length xs → i ≡ place_of n (map held_of xs)
+pub place_from_point : (n : ℕ) (xs : List HeldPacket) (i : ℕ) → IsPartitionPoint (λ (p : HeldPacket). p.number < n) (λ (p : HeldPacket). n ≤ p.number) xs i
+    → i ≤ length xs → i ≡ place_of n (map held_of xs)
 place_from_point n [] i point le = omega arith
 place_from_point n (x ∷ xs) zero point le = let t : ltb x.meta.value.seq_no.0 n ≡ false = grind (arith, nat_tests, point.1 0 x (omega arith) (omega arith), x.numbered) in rw t refl
 place_from_point n (x ∷ xs) (suc i) point le =

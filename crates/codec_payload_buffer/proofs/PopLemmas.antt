@@ -14,7 +14,7 @@ use Rattle.codec_payload_buffer.specs.Scan.{first_of}
 use Rattle.codec_payload_buffer.specs.Steps.{State, IsSound, due_of, due_among, starts_right_after, packets_of_frame, AllOfTime, metas_of, Passes, none, one_more, PassesOver, Releases, TakesFrame}
 use Rattle.codec_payload_buffer.specs.declared.buffer.unit.RtpMeta.{RtpMeta}
 use Rattle.std.proofs.Common.{zero, suc, get_or, subst}
-use Rattle.codec_payload_buffer.proofs.CaseLemmas.{by_test}
+use Rattle.codec_payload_codec.proofs.CaseLemmas.{by_test}
 use Rattle.codec_payload_buffer.proofs.RowLemmas.{first_split, first_le_last, part_between, run_length}
 
 pub due_first : (s : State) (fs : List Segment) (f : Segment) → due_among s fs ≡ Some f → first_of fs ≡ Some f
@@ -36,15 +36,18 @@ order_due s f h = let part = part_due s f h in first_le_last part.0 f.first f.la
 
 above_above : (last m : ℕ) (hs : List Held) → AllAbove m hs → AllAbove m (above last hs)
 above_above last m [] a = tt
-above_above last m (p ∷ ps) a = by_test (ltb last p.meta.seq_no.0) (λ b. AllAbove m (cond b (p ∷ above last ps) (above last ps))) (λ e. (a.0, above_above last m ps a.1)) (λ e. above_above last m ps a.1)
+above_above last m (p ∷ ps) a = by_test (ltb last p.meta.seq_no.0) (λ b. AllAbove m (cond b (p ∷ above last ps) (above last ps)))
+    (λ e. (a.0, above_above last m ps a.1)) (λ e. above_above last m ps a.1)
 
 pub above_rises : (last : ℕ) (hs : List Held) → Rises hs → Rises (above last hs)
 above_rises last [] r = tt
-above_rises last (p ∷ ps) r = by_test (ltb last p.meta.seq_no.0) (λ b. Rises (cond b (p ∷ above last ps) (above last ps))) (λ e. (above_above last p.meta.seq_no.0 ps r.0, above_rises last ps r.1)) (λ e. above_rises last ps r.1)
+above_rises last (p ∷ ps) r = by_test (ltb last p.meta.seq_no.0) (λ b. Rises (cond b (p ∷ above last ps) (above last ps)))
+    (λ e. (above_above last p.meta.seq_no.0 ps r.0, above_rises last ps r.1)) (λ e. above_rises last ps r.1)
 
 pub above_is_above : (last : ℕ) (hs : List Held) → AllAbove last (above last hs)
 above_is_above last [] = tt
-above_is_above last (p ∷ ps) = by_test (ltb last p.meta.seq_no.0) (λ b. AllAbove last (cond b (p ∷ above last ps) (above last ps))) (λ e. (grind (arith, nat_tests, e), above_is_above last ps)) (λ e. above_is_above last ps)
+above_is_above last (p ∷ ps) = by_test (ltb last p.meta.seq_no.0) (λ b. AllAbove last (cond b (p ∷ above last ps) (above last ps)))
+    (λ e. (grind (arith, nat_tests, e), above_is_above last ps)) (λ e. above_is_above last ps)
 
 pub above_shorter : (last : ℕ) (hs : List Held) → length (above last hs) ≤ length hs
 above_shorter last [] = omega arith
@@ -109,7 +112,8 @@ due_whole s f r h =
     rw inside (run_length part.0 f.first f.last part.2.time part.2.run)
 
 -- their time is that of the first
-pub due_time : (s : State) (f : Segment) (metas : List RtpMeta) (m : RtpMeta) → Rises s.held → due_of s ≡ Some f → metas ≡ metas_of (packets_of_frame s f) → m ≡ get_or metas 0 m → AllOfTime m.time (packets_of_frame s f)
+pub due_time : (s : State) (f : Segment) (metas : List RtpMeta) (m : RtpMeta) → Rises s.held → due_of s ≡ Some f → metas ≡ metas_of (packets_of_frame s f)
+    → m ≡ get_or metas 0 m → AllOfTime m.time (packets_of_frame s f)
 due_time s f metas m r h is first =
     let packets = due_packets s f r h in
     let same = first_time (packets_of_frame s f) m packets.0 packets.1 packets.2 (first ∙ ap (λ (xs : List RtpMeta). get_or xs 0 m) is) in

@@ -3,13 +3,13 @@ use Rattle.std.proofs.Common.{◌≡◌, if◌then◌else◌, ℕ, ◌<◌, ◌�
 use Rattle.std.proofs.lemmas.Bool.{cases_lt}
 use Rattle.std.proofs.lemmas.Bool.Decides.{nat_tests}
 use Rattle.std.proofs.lemmas.List.{length-append, take-append-drop, take_at, drop_at, length-take-le}
-use Rattle.codec_payload_buffer.specs.Depack.{Depack, is_built_in_depack, head_of, tail_of}
+use Rattle.codec_payload_codec.specs.Depack.{Depack, is_built_in_depack, head_of, tail_of}
 use Rattle.codec_payload_buffer.specs.declared.buffer.unit.RtpMeta.{RtpMeta}
 use Rattle.codec_payload_buffer.specs.Held.{Held, Rises, AllAbove, IsAboveCutoff, placed, has_number, number_of, TakesLowest}
 use Rattle.codec_payload_buffer.specs.Steps.{State, IsArrived, pushed, is_dropped, kept_to_limit, without_lowest, is_at_most}
 use Rattle.codec_payload_buffer.proofs.Gathered.{gathered, last_number, is_some_left, with_kept}
 use Rattle.codec_payload_buffer.specs.Stretches.{after_pushes}
-use Rattle.codec_payload_buffer.proofs.CaseLemmas.{by_test}
+use Rattle.codec_payload_codec.proofs.CaseLemmas.{by_test}
 use Rattle.codec_payload_buffer.proofs.PlaceLemmas.{placed_rises, placed_above_cutoff, length_placed}
 
 -- all numbers are at most n
@@ -71,7 +71,8 @@ last_above : (n : ℕ) (q : Held) (low : List Held) (c : Option ℕ) (m : ℕ) �
 last_above n q [] c m a last = let e : q.meta.seq_no.0 ≡ m = cc in omega (arith, a.0, e)
 last_above n q (r ∷ low) c m a last = last_above n r low (Some q.meta.seq_no.0) m a.1 last
 
-low_from : (low high : List Held) (q : Held) (c : Option ℕ) → Rises (q ∷ low ++ high) → (m : ℕ) × (last_number (q ∷ low) c ≡ Some m) × AllUpTo m (q ∷ low) × AllAbove m high × (has_number m (q ∷ low) ≡ true) × (q.meta.seq_no.0 ≤ m)
+low_from : (low high : List Held) (q : Held) (c : Option ℕ) → Rises (q ∷ low ++ high) → (m : ℕ) × (last_number (q ∷ low) c ≡ Some m) × AllUpTo m (q ∷ low)
+    × AllAbove m high × (has_number m (q ∷ low) ≡ true) × (q.meta.seq_no.0 ≤ m)
 low_from [] high q c r = (q.meta.seq_no.0, refl, (omega arith, tt), r.0, grind (arith, nat_tests), omega arith)
 low_from (s ∷ low) high q c r =
     let rest = low_from low high s (Some q.meta.seq_no.0) r.1 in
@@ -95,11 +96,13 @@ absent_up : (n m : ℕ) (hs : List Held) → AllUpTo m hs → m < n → has_numb
 absent_up n m [] a l = refl
 absent_up n m (p ∷ ps) a l = grind (arith, nat_tests, a.0, absent_up n m ps a.1 l)
 
-kept_is : (s : State) (low high : List Held) → length (low ++ high) - s.limit ≡ length low → with_kept s (low ++ high) ≡ record s { held = high; cutoff = last_number low s.cutoff; mark = is_some_left low || s.mark }
+kept_is : (s : State) (low high : List Held) → length (low ++ high) - s.limit ≡ length low
+    → with_kept s (low ++ high) ≡ record s { held = high; cutoff = last_number low s.cutoff; mark = is_some_left low || s.mark }
 kept_is s low high n = rw (n, take_at low high (length low) refl, drop_at low high (length low) refl) refl
 
 -- one more packet: the lowest of the held ones joins those left out
-evicted : (s : State) (low hs : List Held) → length low + length hs ≡ length low + s.limit + 1 → without_lowest (record s { held = hs; cutoff = last_number low s.cutoff; mark = is_some_left low || s.mark }) hs ≡ with_kept s (low ++ hs)
+evicted : (s : State) (low hs : List Held) → length low + length hs ≡ length low + s.limit + 1
+    → without_lowest (record s { held = hs; cutoff = last_number low s.cutoff; mark = is_some_left low || s.mark }) hs ≡ with_kept s (low ++ hs)
 evicted s low [] n = absurd (omega (arith, n))
 evicted s low (q ∷ qs) n =
     let split : low ++ q ∷ qs ≡ (low ++ q ∷ []) ++ qs = sym (append_assoc low (q ∷ []) qs) in
@@ -117,9 +120,11 @@ with_one cutoff hs p = if is_at_most cutoff p.meta.seq_no.0 || has_number p.meta
 
 push_none_left : (s : State) (high : List Held) (p : Held) → length high - s.limit ≡ 0 → pushed (record s { held = high }) p ≡ with_kept s (with_one s.cutoff high p)
 push_none_left s high p n =
-    by_test (is_at_most s.cutoff p.meta.seq_no.0 || has_number p.meta.seq_no.0 high) (λ b. cond b (record s { held = high }) (kept_to_limit (record s { held = placed p high })) ≡ with_kept s (cond b high (placed p high)))
+    by_test (is_at_most s.cutoff p.meta.seq_no.0 || has_number p.meta.seq_no.0 high)
+        (λ b. cond b (record s { held = high }) (kept_to_limit (record s { held = placed p high })) ≡ with_kept s (cond b high (placed p high)))
     (λ e. sym (kept_is s [] high n))
-    (λ e. by_test (ltb s.limit (length (placed p high))) (λ b. cond b (without_lowest (record s { held = placed p high }) (placed p high)) (record s { held = placed p high }) ≡ with_kept s (placed p high))
+    (λ e. by_test (ltb s.limit (length (placed p high))) (λ b. cond b (without_lowest (record s { held = placed p high }) (placed p high))
+        (record s { held = placed p high }) ≡ with_kept s (placed p high))
     (λ over. let full : length (placed p high) ≡ s.limit + 1 = grind (arith, nat_tests, over, n, length_placed p high) in evicted s [] (placed p high) (omega (arith, full)))
     (λ fits. let room : length (placed p high) - s.limit ≡ 0 = grind (arith, nat_tests, fits) in sym (kept_is s [] (placed p high) room)))
 
@@ -137,21 +142,25 @@ not_last n m hs le without with = elim (cases_lt n m) [ inl lt ↦ lt | inr ge �
     clash : false ≡ true → ⊥
     clash h = cc
 
-push_some_left : (s : State) (q : Held) (low high : List Held) (p : Held) (m : ℕ) → IsLow (q ∷ low) high s.cutoff m → length high ≡ s.limit → pushed (record s { held = high; cutoff = last_number (q ∷ low) s.cutoff; mark = true }) p ≡ with_kept s (with_one s.cutoff (q ∷ low ++ high) p)
+push_some_left : (s : State) (q : Held) (low high : List Held) (p : Held) (m : ℕ) → IsLow (q ∷ low) high s.cutoff m → length high ≡ s.limit
+    → pushed (record s { held = high; cutoff = last_number (q ∷ low) s.cutoff; mark = true }) p ≡ with_kept s (with_one s.cutoff (q ∷ low ++ high) p)
 push_some_left s q low high p m facts n = elim (cases_lt m p.meta.seq_no.0) [
   | inl over ↦
       let fresh : has_number p.meta.seq_no.0 (q ∷ low) ≡ false = absent_up p.meta.seq_no.0 m (q ∷ low) facts.up_to over in
       let behind = placed_behind p (q ∷ low) high (up_more m p.meta.seq_no.0 (q ∷ low) (omega arith) facts.up_to) fresh in
       let free : is_at_most (last_number (q ∷ low) s.cutoff) p.meta.seq_no.0 ≡ false = rw facts.last (grind (arith, nat_tests, over)) in
-      let same : (is_at_most s.cutoff p.meta.seq_no.0 || has_number p.meta.seq_no.0 (q ∷ low ++ high)) ≡ has_number p.meta.seq_no.0 high = rw (facts.lower p.meta.seq_no.0 (omega arith)) (has_append p.meta.seq_no.0 (q ∷ low) high ∙ rw fresh refl) in
-      rw (free, same) (by_test (has_number p.meta.seq_no.0 high) (λ b. cond b (held_now s q low high) (kept_to_limit (held_now s q low (placed p high))) ≡ with_kept s (cond b (q ∷ low ++ high) (placed p (q ∷ low ++ high))))
+      let same : (is_at_most s.cutoff p.meta.seq_no.0 || has_number p.meta.seq_no.0 (q ∷ low ++ high)) ≡ has_number p.meta.seq_no.0 high = rw
+          (facts.lower p.meta.seq_no.0 (omega arith)) (has_append p.meta.seq_no.0 (q ∷ low) high ∙ rw fresh refl) in
+      rw (free, same) (by_test (has_number p.meta.seq_no.0 high)
+          (λ b. cond b (held_now s q low high) (kept_to_limit (held_now s q low (placed p high))) ≡ with_kept s (cond b (q ∷ low ++ high) (placed p (q ∷ low ++ high))))
       (λ e. sym (kept_is s (q ∷ low) high (omega (arith, n, length-append (q ∷ low) high))))
       (λ e.
       let full : ltb s.limit (length (placed p high)) ≡ true = grind (arith, nat_tests, n, length_placed p high) in
       rw full (evicted s (q ∷ low) (placed p high) (omega (arith, n, length_placed p high)) ∙ ap (with_kept s) (sym behind))))
   | inr under ↦
       let gone : is_at_most (last_number (q ∷ low) s.cutoff) p.meta.seq_no.0 ≡ true = rw facts.last (grind (arith, nat_tests, under)) in
-      rw gone (by_test (is_at_most s.cutoff p.meta.seq_no.0 || has_number p.meta.seq_no.0 (q ∷ low ++ high)) (λ b. held_now s q low high ≡ with_kept s (cond b (q ∷ low ++ high) (placed p (q ∷ low ++ high))))
+      rw gone (by_test (is_at_most s.cutoff p.meta.seq_no.0 || has_number p.meta.seq_no.0 (q ∷ low ++ high))
+          (λ b. held_now s q low high ≡ with_kept s (cond b (q ∷ low ++ high) (placed p (q ∷ low ++ high))))
       (λ e. sym (kept_is s (q ∷ low) high (omega (arith, n, length-append (q ∷ low) high))))
       (λ e.
       let absent : has_number p.meta.seq_no.0 (q ∷ low ++ high) ≡ false = grind (arith, e) in
@@ -163,7 +172,8 @@ push_some_left s q low high p m facts n = elim (cases_lt m p.meta.seq_no.0) [
       sym (ap (with_kept s) within ∙ kept_is s (placed p (q ∷ low)) high count ∙ rw (last, sym facts.last, some_placed p (q ∷ low)) refl)))
 ]
 
-push_kept : (s : State) (low high : List Held) (p : Held) → Rises (low ++ high) → IsAboveCutoff s.cutoff (low ++ high) → length (low ++ high) - s.limit ≡ length low → pushed (with_kept s (low ++ high)) p ≡ with_kept s (with_one s.cutoff (low ++ high) p)
+push_kept : (s : State) (low high : List Held) (p : Held) → Rises (low ++ high) → IsAboveCutoff s.cutoff (low ++ high) → length (low ++ high) - s.limit ≡ length low
+    → pushed (with_kept s (low ++ high)) p ≡ with_kept s (with_one s.cutoff (low ++ high) p)
 push_kept s [] high p r a n = ap (λ t. pushed t p) (kept_is s [] high n) ∙ push_none_left s high p n
 push_kept s (q ∷ low) high p r a n =
     let facts = low_is low high q s.cutoff r a in
@@ -176,13 +186,15 @@ push_one s all p r a =
     let whole = take-append-drop n all in
     let count : length all - s.limit ≡ length (take n all) = omega (arith, length-take-le n all (omega arith)) in
     subst (λ (zs : List Held). pushed (with_kept s zs) p ≡ with_kept s (with_one s.cutoff zs p)) whole
-    (push_kept s (take n all) (drop n all) p (subst Rises (sym whole) r) (subst (IsAboveCutoff s.cutoff) (sym whole) a) (subst (λ (zs : List Held). length zs - s.limit ≡ length (take n all)) (sym whole) count))
+    (push_kept s (take n all) (drop n all) p (subst Rises (sym whole) r) (subst (IsAboveCutoff s.cutoff) (sym whole) a)
+        (subst (λ (zs : List Held). length zs - s.limit ≡ length (take n all)) (sym whole) count))
 
 pub with_one_rises : (c : Option ℕ) (all : List Held) (p : Held) → Rises all → Rises (with_one c all p)
 with_one_rises c all p r = by_test (is_at_most c p.meta.seq_no.0 || has_number p.meta.seq_no.0 all) (λ b. Rises (cond b all (placed p all))) (λ e. r) (λ e. placed_rises p all r (grind (arith, e)))
 
 with_one_above : (c : Option ℕ) (all : List Held) (p : Held) → IsAboveCutoff c all → IsAboveCutoff c (with_one c all p)
-with_one_above c all p a = by_test (is_at_most c p.meta.seq_no.0 || has_number p.meta.seq_no.0 all) (λ b. IsAboveCutoff c (cond b all (placed p all))) (λ e. a) (λ e. placed_above_cutoff c p all (grind (arith, e)) a)
+with_one_above c all p a = by_test (is_at_most c p.meta.seq_no.0 || has_number p.meta.seq_no.0 all) (λ b. IsAboveCutoff c (cond b all (placed p all))) (λ e. a)
+    (λ e. placed_above_cutoff c p all (grind (arith, e)) a)
 
 -- all pushes of a stretch
 pub pushes_keep : (s : State) (all ps : List Held) → Rises all → IsAboveCutoff s.cutoff all → after_pushes (with_kept s all) ps ≡ with_kept s (gathered s.cutoff all ps)
@@ -203,7 +215,8 @@ is_arrived depack here is meta bytes seen again one two head tail begins ends = 
   λ built_in.
       let b = ap is_built_in_depack is ∙ built_in in
       ap (λ (h : Bool). record { meta = meta; bytes = bytes; head = h; tail = tail }) (begins b ∙ (ap (λ (d : Depack). head_of d seen) is ∙ ap (head_of depack) one))
-      ∙ ap (λ (t : Bool). record { meta = meta; bytes = bytes; head = head_of depack bytes; tail = t }) (ends b ∙ (ap (λ (d : Depack). tail_of d meta.header.marker again) is ∙ ap (tail_of depack meta.header.marker) two)),
+      ∙ ap (λ (t : Bool). record { meta = meta; bytes = bytes; head = head_of depack bytes; tail = t })
+          (ends b ∙ (ap (λ (d : Depack). tail_of d meta.header.marker again) is ∙ ap (tail_of depack meta.header.marker) two)),
 )
 
 -- a new packet is placed, and the lowest leaves where there are too many then
@@ -217,7 +230,8 @@ pub pushed_over : (s : State) (p : Held) (new left : List Held) (n : ℕ) → is
 pushed_over s p [] left n late fresh at more takes = absurd takes
 pushed_over s p (q ∷ qs) left n late fresh at more takes =
     new_placed s p late fresh ∙ (ap (λ (hs : List Held). kept_to_limit (record s { held = hs })) (sym at)
-    ∙ (by_test (ltb s.limit (length (q ∷ qs))) (λ b. cond b (record s { held = qs; cutoff = Some (number_of q); mark = true }) (record s { held = q ∷ qs }) ≡ record s { held = qs; cutoff = Some (number_of q); mark = true })
+    ∙ (by_test (ltb s.limit (length (q ∷ qs))) (λ b. cond b (record s { held = qs; cutoff = Some (number_of q); mark = true })
+        (record s { held = q ∷ qs }) ≡ record s { held = qs; cutoff = Some (number_of q); mark = true })
     (λ e. refl) (λ e. absurd (grind (arith, nat_tests, e, more)))
     ∙ (ap (λ (hs : List Held). record s { held = hs; cutoff = Some (number_of q); mark = true }) (sym takes.1) ∙ ap (λ (k : ℕ). record s { held = left; cutoff = Some k; mark = true }) (sym takes.0))))
 

@@ -6,7 +6,7 @@ use Rattle.std.proofs.Common.{inl, inr}
 use Rattle.std.proofs.lemmas.Bool.Decides.{nat_tests}
 use Rattle.codec_payload_buffer.specs.Held.{Held, Rises, AllAbove, between, above}
 use Rattle.codec_payload_buffer.specs.Scan.{place_of, end_of}
-use Rattle.codec_payload_buffer.proofs.CaseLemmas.{by_test}
+use Rattle.codec_payload_codec.proofs.CaseLemmas.{by_test}
 use Rattle.codec_payload_buffer.proofs.PlaceLemmas.{above_lower}
 use Rattle.codec_payload_buffer.proofs.RowLemmas.{none_between, all_above}
 

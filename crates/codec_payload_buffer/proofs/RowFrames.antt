@@ -6,7 +6,7 @@ use Rattle.codec_payload_buffer.specs.Frames.{frames, frames_after, ended_at, lo
 use Rattle.codec_payload_buffer.specs.Rows.{row_of, meet, or_else, joined, join_if, put_before, rows, frame_in, frame_of_row, with_frame, row_frames, row_placed, with_next, merged_after, merged, noted_if, RowsAbove, RowsRise, AreLongest, EndsAbove, EndsRise}
 use Rattle.codec_payload_buffer.specs.declared.buffer.frames.Segment.{Segment}
 use Rattle.codec_payload_buffer.specs.declared.buffer.rows.Row.{Row}
-use Rattle.codec_payload_buffer.proofs.CaseLemmas.{by_test}
+use Rattle.codec_payload_codec.proofs.CaseLemmas.{by_test}
 use Rattle.codec_payload_buffer.proofs.RowListLemmas.{meet_parts, meet_front, join_assoc, no_meet_before, Outside}
 
 -- The frames of packets, read row by row
@@ -137,7 +137,8 @@ noted_low (Some f) n (g ∷ gs) at a =
     rw (t, u) refl
 
 -- a frame takes the place of the one with its end
-noted_over : (last : ℕ) (tail : Bool) (head old : Option ℕ) (fs : List Segment) → (head ≡ None → old ≡ None) → EndsAbove last fs → with_frame (frame_in tail head last) fs ≡ noted_if (frame_in tail head last) (with_frame (frame_in tail old last) fs)
+noted_over : (last : ℕ) (tail : Bool) (head old : Option ℕ) (fs : List Segment) → (head ≡ None → old ≡ None) → EndsAbove last fs
+    → with_frame (frame_in tail head last) fs ≡ noted_if (frame_in tail head last) (with_frame (frame_in tail old last) fs)
 noted_over last false head old fs more a = refl
 noted_over last true None old fs more a = rw (more refl) refl
 noted_over last true (Some n) None fs more a = noted_low (Some (record { first = n; last = last })) last fs (λ f e. cc) a
@@ -147,7 +148,8 @@ noted_over last true (Some n) (Some m) fs more a =
     rw (t, u) refl
 
 -- a frame goes in behind a lower one
-noted_skip : (o g : Option Segment) (m n : ℕ) (fs : List Segment) → ((f : Segment) → o ≡ Some f → f.last ≡ n) → ((f : Segment) → g ≡ Some f → f.last ≡ m) → m < n → with_frame g (noted_if o fs) ≡ noted_if o (with_frame g fs)
+noted_skip : (o g : Option Segment) (m n : ℕ) (fs : List Segment) → ((f : Segment) → o ≡ Some f → f.last ≡ n) → ((f : Segment) → g ≡ Some f → f.last ≡ m) → m < n
+    → with_frame g (noted_if o fs) ≡ noted_if o (with_frame g fs)
 noted_skip None g m n fs to tg l = refl
 noted_skip (Some f) None m n fs to tg l = refl
 noted_skip (Some f) (Some g) m n fs to tg l =
@@ -199,7 +201,8 @@ join_if_last : (r p : Row) → (join_if r p).last ≡ p.last
 join_if_last r p = by_test (meet r p) (λ b. (cond b (joined r p) p).last ≡ p.last) (λ e. refl) (λ e. refl)
 
 -- the rows that begin above p's stand above p
-above_from : (p : Row) (n : ℕ) (s : Row) (rs : List Row) → p.first ≡ p.last → ltb s.first p.first ≡ false → ((p.first < s.first) ⊎ (s.last < p.first)) → RowsAbove n (s ∷ rs) → RowsAbove p.last (s ∷ rs)
+above_from : (p : Row) (n : ℕ) (s : Row) (rs : List Row) → p.first ≡ p.last → ltb s.first p.first ≡ false → ((p.first < s.first) ⊎ (s.last < p.first))
+    → RowsAbove n (s ∷ rs) → RowsAbove p.last (s ∷ rs)
 above_from p n s rs one t (inl l) a = (omega (arith, l, one), a.1, a.2)
 above_from p n s rs one t (inr l) a = let ge : p.first ≤ s.first = grind (arith, nat_tests, t) in absurd (omega (arith, ge, l, a.1))
 
@@ -211,23 +214,28 @@ merged_above n r p (s ∷ rs) l one a o =
     (λ e. rw (join_if_last r (with_next p (s ∷ rs))) (next_above n p (s ∷ rs) l (above_from p r.last s rs one e o.0 a)))
 
 -- p becomes one with r, the row before it, or not; all others stand above
-placed_next : (r p : Row) (rs : List Row) → r.last < p.last → RowsAbove p.last rs → row_frames (put_before r (put_before p rs)) ≡ noted_if (frame_of_row (join_if r (with_next p rs))) (with_frame (frame_of_row r) (row_frames rs))
+placed_next : (r p : Row) (rs : List Row) → r.last < p.last → RowsAbove p.last rs
+    → row_frames (put_before r (put_before p rs)) ≡ noted_if (frame_of_row (join_if r (with_next p rs))) (with_frame (frame_of_row r) (row_frames rs))
 placed_next r p rs l a =
     let m = with_next p rs in
     ap (λ (zs : List Row). row_frames (put_before r zs)) (before_is p rs)
     ∙ by_test (meet r m) (λ b. row_frames (cond b (joined r m ∷ rest_of p rs) (r ∷ m ∷ rest_of p rs)) ≡ noted_if (frame_of_row (cond b (joined r m) m)) (with_frame (frame_of_row r) (row_frames rs)))
     (λ e. rw (no_frame r.head r.last r.tail (meet_parts r m e).no_tail) (low (joined r m) p rs a (record { last = refl; tail = refl; head = none_right r.head m.head })))
-    (λ e. ap (with_frame (frame_of_row r)) (low m p rs a (like_self m)) ∙ noted_skip (frame_of_row m) (frame_of_row r) r.last m.last (row_frames rs) (row_last m) (row_last r) (next_above r.last p rs l a))
+    (λ e. ap (with_frame (frame_of_row r)) (low m p rs a (like_self m))
+        ∙ noted_skip (frame_of_row m) (frame_of_row r) r.last m.last (row_frames rs) (row_last m) (row_last r) (next_above r.last p rs l a))
 
-placed_after : (r p : Row) (rs : List Row) → r.last < p.first → p.first ≡ p.last → RowsAbove r.last rs → AreLongest (r ∷ rs) → Outside p.first rs → row_frames (put_before r (row_placed p rs)) ≡ noted_if (frame_of_row (merged_after r p rs)) (with_frame (frame_of_row r) (row_frames rs))
+placed_after : (r p : Row) (rs : List Row) → r.last < p.first → p.first ≡ p.last → RowsAbove r.last rs → AreLongest (r ∷ rs) → Outside p.first rs
+    → row_frames (put_before r (row_placed p rs)) ≡ noted_if (frame_of_row (merged_after r p rs)) (with_frame (frame_of_row r) (row_frames rs))
 placed_after r p [] l one a long o = placed_next r p [] (omega (arith, one)) tt
 placed_after r p (s ∷ rs) l one a long o =
-    by_test (ltb s.first p.first) (λ b. row_frames (put_before r (cond b (put_before s (row_placed p rs)) (put_before p (s ∷ rs)))) ≡ noted_if (frame_of_row (cond b (merged_after s p rs) (join_if r (with_next p (s ∷ rs))))) (with_frame (frame_of_row r) (row_frames (s ∷ rs))))
+    by_test (ltb s.first p.first) (λ b. row_frames (put_before r (cond b (put_before s (row_placed p rs)) (put_before p (s ∷ rs)))) ≡ noted_if
+        (frame_of_row (cond b (merged_after s p rs) (join_if r (with_next p (s ∷ rs))))) (with_frame (frame_of_row r) (row_frames (s ∷ rs))))
     (λ e.
     let below : s.last < p.first = lower e o.0 in
     ap row_frames (no_meet_before r s (row_placed p rs) long.0)
     ∙ ap (with_frame (frame_of_row r)) (placed_after s p rs below one a.2 long.1 o.1)
-    ∙ noted_skip (frame_of_row (merged_after s p rs)) (frame_of_row r) r.last (merged_after s p rs).last (row_frames (s ∷ rs)) (row_last (merged_after s p rs)) (row_last r) (merged_above r.last s p rs (omega (arith, one)) one a.2 o.1))
+    ∙ noted_skip (frame_of_row (merged_after s p rs)) (frame_of_row r) r.last (merged_after s p rs).last (row_frames (s ∷ rs)) (row_last (merged_after s p rs))
+        (row_last r) (merged_above r.last s p rs (omega (arith, one)) one a.2 o.1))
     (λ e. placed_next r p (s ∷ rs) (omega (arith, one)) (above_from p r.last s rs one e o.0 a))
   where
     lower : ltb s.first p.first ≡ true → ((p.first < s.first) ⊎ (s.last < p.first)) → s.last < p.first
@@ -235,10 +243,12 @@ placed_after r p (s ∷ rs) l one a long o =
     lower e (inr m) = m
 
 -- the frame of the row that p comes into is noted, and no other changes
-pub frames_placed : (p : Row) (rs : List Row) → p.first ≡ p.last → RowsRise rs → AreLongest rs → Outside p.first rs → row_frames (row_placed p rs) ≡ noted_if (frame_of_row (merged p rs)) (row_frames rs)
+pub frames_placed : (p : Row) (rs : List Row) → p.first ≡ p.last → RowsRise rs → AreLongest rs → Outside p.first rs
+    → row_frames (row_placed p rs) ≡ noted_if (frame_of_row (merged p rs)) (row_frames rs)
 frames_placed p [] one a long o = noted_low (frame_of_row p) p.last [] (row_last p) tt
 frames_placed p (r ∷ rs) one a long o =
-    by_test (ltb r.first p.first) (λ b. row_frames (cond b (put_before r (row_placed p rs)) (put_before p (r ∷ rs))) ≡ noted_if (frame_of_row (cond b (merged_after r p rs) (with_next p (r ∷ rs)))) (row_frames (r ∷ rs)))
+    by_test (ltb r.first p.first) (λ b. row_frames (cond b (put_before r (row_placed p rs)) (put_before p (r ∷ rs))) ≡ noted_if
+        (frame_of_row (cond b (merged_after r p rs) (with_next p (r ∷ rs)))) (row_frames (r ∷ rs)))
     (λ e. placed_after r p rs (lower e o.0) one a.1 long o.1)
     (λ e. ap row_frames (before_is p (r ∷ rs)) ∙ low (with_next p (r ∷ rs)) p (r ∷ rs) (upper e o.0) (like_self (with_next p (r ∷ rs))))
   where

@@ -8,7 +8,7 @@ use Rattle.codec_payload_buffer.specs.Frames.{frames_after, ended_at, lowest_hea
 use Rattle.codec_payload_base.specs.Time.{Time}
 use Rattle.codec_payload_buffer.proofs.FrameParts.{IsRun, BeginsWithHead, IsPart}
 use Rattle.codec_payload_buffer.specs.Scan.{first_of}
-use Rattle.codec_payload_buffer.proofs.CaseLemmas.{by_test, by_option}
+use Rattle.codec_payload_codec.proofs.CaseLemmas.{by_test, by_option}
 
 -- what a row that begins at a head gives
 record RowSplit (earlier : List Held) (row : List Held) (n last : ℕ) (time : Time) : Type 0 where
@@ -61,7 +61,8 @@ here q acc earlier n last time low run =
     let starts = starts_here q n low in
     record { before = reverse earlier; packets = q ∷ acc; whole = refl; run = rw (← starts.1) run; begins = starts.0 }
 
-row_split : (q : Held) (acc earlier : List Held) (n last : ℕ) (time : Time) → lowest_head (q ∷ row_before q earlier) ≡ Some n → IsRun q.meta.seq_no.0 last time (q ∷ acc) → RowSplit earlier (q ∷ acc) n last time
+row_split : (q : Held) (acc earlier : List Held) (n last : ℕ) (time : Time) → lowest_head (q ∷ row_before q earlier) ≡ Some n
+    → IsRun q.meta.seq_no.0 last time (q ∷ acc) → RowSplit earlier (q ∷ acc) n last time
 row_split q acc [] n last time low run = here q acc [] n last time low run
 row_split q acc (e ∷ es) n last time low run =
     by_test (leads_to e q) (λ b. lowest_head (q ∷ cond b (e ∷ row_before e es) []) ≡ Some n → RowSplit (e ∷ es) (q ∷ acc) n last time)
@@ -96,8 +97,10 @@ first_split earlier (p ∷ later) f h =
         begins = part.begins;
       },
     ) in
-    by_test p.tail (λ b. first_of (cond b (ended_at p (lowest_head (p ∷ row_before p earlier))) [] ++ frames_after (p ∷ earlier) later) ≡ Some f → (packets after : List Held) × IsPart (reverse earlier ++ p ∷ later) f packets after)
-    (λ tail. by_option (lowest_head (p ∷ row_before p earlier)) (λ o. first_of (ended_at p o ++ frames_after (p ∷ earlier) later) ≡ Some f → (packets after : List Held) × IsPart (reverse earlier ++ p ∷ later) f packets after)
+    by_test p.tail (λ b. first_of (cond b (ended_at p (lowest_head (p ∷ row_before p earlier))) [] ++ frames_after (p ∷ earlier) later) ≡ Some f
+        → (packets after : List Held) × IsPart (reverse earlier ++ p ∷ later) f packets after)
+    (λ tail. by_option (lowest_head (p ∷ row_before p earlier)) (λ o. first_of (ended_at p o ++ frames_after (p ∷ earlier) later) ≡ Some f
+        → (packets after : List Held) × IsPart (reverse earlier ++ p ∷ later) f packets after)
     (λ none h. on h)
     (λ n is h.
     let frame : Segment = record { first = n; last = p.meta.seq_no.0 } in
@@ -143,7 +146,8 @@ pub all_above : (last : ℕ) (hs : List Held) → AllAbove last hs → above las
 all_above last [] a = refl
 all_above last (p ∷ ps) a = grind (arith, nat_tests, all_above last ps a.1, a.0)
 
-run_between : (low first last : ℕ) (time : Time) (packets after : List Held) → low ≤ first → IsRun first last time packets → Rises (packets ++ after) → record { inside : between low last (packets ++ after) ≡ packets; beyond : above last (packets ++ after) ≡ after }
+run_between : (low first last : ℕ) (time : Time) (packets after : List Held) → low ≤ first → IsRun first last time packets → Rises (packets ++ after)
+    → record { inside : between low last (packets ++ after) ≡ packets; beyond : above last (packets ++ after) ≡ after }
 run_between low first last time [] after l run r = absurd run
 run_between low first last time (p ∷ []) after l run r =
     let none = none_between low last p.meta.seq_no.0 after (omega (arith, run.1)) r.0 in
@@ -154,7 +158,8 @@ run_between low first last time (p ∷ q ∷ ps) after l run r =
     let le = first_le_last (q ∷ ps) (first + 1) last time run.3 in
     record { inside = grind (arith, nat_tests, rest.inside, run.0, le); beyond = grind (arith, nat_tests, rest.beyond, run.0, le) }
 
-pub part_between : (before packets after : List Held) (first last : ℕ) (time : Time) → IsRun first last time packets → Rises (before ++ (packets ++ after)) → record { inside : between first last (before ++ (packets ++ after)) ≡ packets; beyond : above last (before ++ (packets ++ after)) ≡ after }
+pub part_between : (before packets after : List Held) (first last : ℕ) (time : Time) → IsRun first last time packets → Rises (before ++ (packets ++ after))
+    → record { inside : between first last (before ++ (packets ++ after)) ≡ packets; beyond : above last (before ++ (packets ++ after)) ≡ after }
 part_between [] packets after first last time run r = run_between first first last time packets after (omega arith) run r
 part_between (b ∷ bs) packets after first last time run r =
     let rest = part_between bs packets after first last time run r.1 in

@@ -7,7 +7,7 @@ use Rattle.codec_payload_buffer.specs.Held.{Held, Rises, AllAbove, has_number, p
 use Rattle.codec_payload_buffer.specs.Frames.{is_same_time}
 use Rattle.codec_payload_buffer.specs.Rows.{row_of, meet, or_else, joined, put_before, rows, row_placed, RowsAbove, RowsRise, AreLongest}
 use Rattle.codec_payload_buffer.specs.declared.buffer.rows.Row.{Row}
-use Rattle.codec_payload_buffer.proofs.CaseLemmas.{by_test}
+use Rattle.codec_payload_codec.proofs.CaseLemmas.{by_test}
 use Rattle.codec_payload_buffer.proofs.RowLemmas.{same_time}
 
 pub meet_parts : (q r : Row) → meet q r ≡ true → record { next : q.last + 1 ≡ r.first; same : q.time ≡ r.time; no_tail : q.tail ≡ false }

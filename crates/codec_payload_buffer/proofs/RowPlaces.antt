@@ -7,7 +7,7 @@ use Rattle.std.proofs.lemmas.Bool.Decides.{nat_tests}
 use Rattle.codec_payload_buffer.specs.Rows.{meet, joined, join_if, put_before, row_place, row_placed, with_next, merged_after, merged, put_at, join_at, noted, frame_place, RowsAbove, RowsRise, AreLongest, EndsAbove, EndsRise}
 use Rattle.codec_payload_buffer.specs.declared.buffer.frames.Segment.{Segment}
 use Rattle.codec_payload_buffer.specs.declared.buffer.rows.Row.{Row}
-use Rattle.codec_payload_buffer.proofs.CaseLemmas.{by_test}
+use Rattle.codec_payload_codec.proofs.CaseLemmas.{by_test}
 use Rattle.codec_payload_buffer.proofs.RowListLemmas.{no_meet_before}
 
 -- Rows in order, as a binary search asks it
@@ -69,7 +69,8 @@ join_over zero a b (r ∷ s ∷ rs) l at next e = rw (← at, ← next, e) refl
 join_over (suc k) a b (r ∷ rs) l at next e = ap (λ (zs : List Row). r ∷ zs) (join_over k a b rs (omega arith) at next e)
 
 -- from the two writes of the code
-pub joined_back : (k : ℕ) (a b whole : Row) (rs left new : List Row) → suc k < length rs → a ≡ get_or rs k a → b ≡ get_or rs (suc k) b → meet a b ≡ true → left ≡ remove rs (k + 1) → whole ≡ joined a b → new ≡ slice_set left k whole → new ≡ join_at k rs
+pub joined_back : (k : ℕ) (a b whole : Row) (rs left new : List Row) → suc k < length rs → a ≡ get_or rs k a → b ≡ get_or rs (suc k) b → meet a b ≡ true
+    → left ≡ remove rs (k + 1) → whole ≡ joined a b → new ≡ slice_set left k whole → new ≡ join_at k rs
 joined_back k a b whole rs left new l at next e removed is written =
     let one : k + 1 ≡ suc k = omega arith in
     written ∙ rw (removed, is, one) (join_over k a b rs l at next e)
@@ -199,7 +200,8 @@ note_new (suc k) f (g ∷ gs) at other =
 
 -- a row among rows, from the two steps of the code
 pub added : (place : ℕ) (p row : Row) (rs new : List Row) → place ≡ row_place p.first rs → AreLongest rs → 0 < place → new ≡ put_at place p rs → row ≡ with_next p (drop place rs)
-    → record { all : join_at (place - 1) new ≡ row_placed p rs; one : join_if (get_or new (place - 1) row) row ≡ merged p rs; within : place - 1 + 1 < length new; there : row ≡ get_or new (place - 1 + 1) row }
+    → record { all : join_at (place - 1) new ≡ row_placed p rs; one : join_if
+        (get_or new (place - 1) row) row ≡ merged p rs; within : place - 1 + 1 < length new; there : row ≡ get_or new (place - 1 + 1) row }
 added zero p row rs new at long some put is = absurd (omega arith)
 added (suc k) p row rs new at long some put is =
     let le : suc k ≤ length rs = omega (arith, at, row_place_within p.first rs) in

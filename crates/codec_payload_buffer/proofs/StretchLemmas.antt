@@ -8,7 +8,7 @@ use Rattle.codec_payload_buffer.specs.Held.{Held, number_of, has_number, Rises, 
 use Rattle.codec_payload_buffer.specs.Steps.{State, IsSound, is_at_most}
 use Rattle.codec_payload_buffer.proofs.Gathered.{gathered, last_number, is_some_left, with_kept}
 use Rattle.codec_payload_buffer.specs.Stretches.{after_pushes, numbers_from, last_or, is_some_of, stretch_numbers, IsLeft, IsInRange, LeavesNumbers, HaveSameNumbers, OrderIsFree}
-use Rattle.codec_payload_buffer.proofs.CaseLemmas.{by_test}
+use Rattle.codec_payload_codec.proofs.CaseLemmas.{by_test}
 use Rattle.codec_payload_buffer.proofs.PushLemmas.{with_one, with_one_rises, stretch_is}
 use Rattle.codec_payload_buffer.proofs.MemberLemmas.{IsIn, KeysAbove, KeysRise, same_members}
 
@@ -49,7 +49,8 @@ has_one c hs p n = by_test (eqb p.meta.seq_no.0 n) (λ b. has_number n (with_one
     put_in false true h = absurd (cc)
 
     here : has_number p.meta.seq_no.0 (with_one c hs p) ≡ (has_number p.meta.seq_no.0 hs || (not (is_at_most c p.meta.seq_no.0) && true))
-    here = by_test (is_at_most c p.meta.seq_no.0 || has_number p.meta.seq_no.0 hs) (λ b. (is_at_most c p.meta.seq_no.0 || has_number p.meta.seq_no.0 hs) ≡ b → has_number p.meta.seq_no.0 (cond b hs (placed p hs)) ≡ (has_number p.meta.seq_no.0 hs || (not (is_at_most c p.meta.seq_no.0) && true)))
+    here = by_test (is_at_most c p.meta.seq_no.0 || has_number p.meta.seq_no.0 hs) (λ b. (is_at_most c p.meta.seq_no.0 || has_number p.meta.seq_no.0 hs) ≡ b
+        → has_number p.meta.seq_no.0 (cond b hs (placed p hs)) ≡ (has_number p.meta.seq_no.0 hs || (not (is_at_most c p.meta.seq_no.0) && true)))
         (λ t is. kept_in (is_at_most c p.meta.seq_no.0) (has_number p.meta.seq_no.0 hs) is)
         (λ t is. has_placed p.meta.seq_no.0 p hs ∙ grind (arith, nat_tests) ∙ put_in (is_at_most c p.meta.seq_no.0) (has_number p.meta.seq_no.0 hs) is) refl
 
@@ -64,7 +65,8 @@ gathered_has c hs [] n = none (has_number n hs) (is_at_most c n)
     none true b = refl
     none false true = refl
     none false false = refl
-gathered_has c hs (p ∷ ps) n = gathered_has c (with_one c hs p) ps n ∙ ap (λ b. b || (not (is_at_most c n) && has_number n ps)) (has_one c hs p n) ∙ joined (has_number n hs) (not (is_at_most c n)) (eqb p.meta.seq_no.0 n) (has_number n ps)
+gathered_has c hs (p ∷ ps) n = gathered_has c (with_one c hs p) ps n ∙ ap (λ b. b || (not (is_at_most c n) && has_number n ps)) (has_one c hs p n)
+    ∙ joined (has_number n hs) (not (is_at_most c n)) (eqb p.meta.seq_no.0 n) (has_number n ps)
   where
     joined : (a b c d : Bool) → ((a || (b && c)) || (b && d)) ≡ (a || (b && (c || d)))
     joined true b c d = refl
@@ -79,7 +81,8 @@ gathered_rises c hs (p ∷ ps) r = gathered_rises c (with_one c hs p) ps (with_o
 -- Lists of numbers that rise
 pub number_in : (n : ℕ) (hs : List Held) → has_number n hs ≡ true → IsIn n (map number_of hs)
 number_in n [] h = absurd (cc)
-number_in n (p ∷ ps) h = by_test (eqb p.meta.seq_no.0 n) (λ b. (b || has_number n ps) ≡ true → (n ≡ p.meta.seq_no.0) ⊎ IsIn n (map number_of ps)) (λ e h. inl (grind (arith, nat_tests, e))) (λ e h. inr (number_in n ps h)) h
+number_in n (p ∷ ps) h = by_test (eqb p.meta.seq_no.0 n) (λ b. (b || has_number n ps) ≡ true → (n ≡ p.meta.seq_no.0) ⊎ IsIn n (map number_of ps))
+    (λ e h. inl (grind (arith, nat_tests, e))) (λ e h. inr (number_in n ps h)) h
 
 pub in_number : (n : ℕ) (hs : List Held) → IsIn n (map number_of hs) → has_number n hs ≡ true
 in_number n [] h = absurd h
@@ -109,7 +112,8 @@ range_rises test low (suc count) = by_test (test low) (λ b. KeysRise (λ (m : �
 
 pub in_range : (test : ℕ → Bool) (n low count : ℕ) → IsIn n (filter test (numbers_from low count)) → test n ≡ true
 in_range test n low zero h = absurd h
-in_range test n low (suc count) h = by_test (test low) (λ b. test low ≡ b → IsIn n (cond b (low ∷ filter test (numbers_from (low + 1) count)) (filter test (numbers_from (low + 1) count))) → test n ≡ true)
+in_range test n low (suc count) h = by_test (test low) (λ b. test low ≡ b
+    → IsIn n (cond b (low ∷ filter test (numbers_from (low + 1) count)) (filter test (numbers_from (low + 1) count))) → test n ≡ true)
     (λ e is h. elim h [ inl same ↦ ap test same ∙ is | inr k ↦ in_range test n (low + 1) count k ])
     (λ e is h. in_range test n (low + 1) count h) refl h
 
@@ -117,7 +121,8 @@ pub range_in : (test : ℕ → Bool) (n low count : ℕ) → low ≤ n → n < l
 range_in test n low zero le l t = absurd (omega arith)
 range_in test n low (suc count) le l t = by_test (test low) (λ b. test low ≡ b → IsIn n (cond b (low ∷ filter test (numbers_from (low + 1) count)) (filter test (numbers_from (low + 1) count))))
     (λ e is. elim (cases_lt low n) [ inl over ↦ inr (range_in test n (low + 1) count (omega arith) (omega arith) t) | inr at ↦ inl (omega arith) ])
-    (λ e is. elim (cases_lt low n) [ inl over ↦ range_in test n (low + 1) count (omega arith) (omega arith) t | inr at ↦ let same : low ≡ n = omega arith in absurd (clash (test n) t (ap test (sym same) ∙ is)) ]) refl
+    (λ e is. elim (cases_lt low n) [ inl over ↦ range_in test n (low + 1) count (omega arith) (omega arith) t | inr at
+        ↦ let same : low ≡ n = omega arith in absurd (clash (test n) t (ap test (sym same) ∙ is)) ]) refl
   where
     clash : (b : Bool) → b ≡ true → b ≡ false → ⊥
     clash b t f = cc
@@ -162,7 +167,8 @@ pub leaves_numbers : LeavesNumbers
 leaves_numbers s ps low count ok within = subst (λ (all : List ℕ). IsLeft s all (after_pushes s ps)) (gathered_is s ps low count ok.rises within) (left_after s ps ok)
 
 -- the same numbers pushed, the same gathered
-same_gathered : (s : State) (ps qs : List Held) → Rises s.held → ((n : ℕ) → has_number n ps ≡ has_number n qs) → map number_of (gathered s.cutoff s.held ps) ≡ map number_of (gathered s.cutoff s.held qs)
+same_gathered : (s : State) (ps qs : List Held) → Rises s.held → ((n : ℕ) → has_number n ps ≡ has_number n qs)
+    → map number_of (gathered s.cutoff s.held ps) ≡ map number_of (gathered s.cutoff s.held qs)
 same_gathered s ps qs r same =
     same_members (λ (m : ℕ). m) (map number_of (gathered s.cutoff s.held ps)) (map number_of (gathered s.cutoff s.held qs))
     (numbers_rise (gathered s.cutoff s.held ps) (gathered_rises s.cutoff s.held ps r)) (numbers_rise (gathered s.cutoff s.held qs) (gathered_rises s.cutoff s.held qs r))

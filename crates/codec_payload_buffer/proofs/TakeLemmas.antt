@@ -5,7 +5,7 @@ use Rattle.codec_payload_base.specs.declared.error.PacketError.{PacketError}
 use Rattle.codec_payload_base.specs.declared.error.PacketError.TheVariants as faults
 use Rattle.codec_payload_base.specs.declared.interface.CodecExtra.TheVariants as extras
 use Rattle.codec_payload_buffer.specs.ContiguityTable.{checked}
-use Rattle.codec_payload_buffer.specs.Depack.{Depack}
+use Rattle.codec_payload_codec.specs.Depack.{Depack}
 use Rattle.codec_payload_buffer.specs.Held.{Held, above}
 use Rattle.codec_payload_buffer.specs.Release.{Release}
 use Rattle.codec_payload_buffer.specs.Steps.{State, Unpacked, Unpacks, Gives, due_of, packets_of_frame, metas_of, AllOfTime, follows, TakesFrame, Releases, PassesOver}
@@ -14,7 +14,8 @@ use Rattle.codec_payload_buffer.specs.declared.buffer.unit.RtpMeta.{RtpMeta}
 use Rattle.codec_payload_buffer.specs.declared.contiguity.Contiguity.{Contiguity}
 
 -- what the depacketizer gave for the packets of a frame
-pub gives_of : (s : State) (f : Segment) (packets : List Held) (bytes : List ℕ) (answer : Result Unpacked PacketError) (e : Depack) → packets ≡ packets_of_frame s f → bytes ≡ [] → Unpacks s.depack packets (record { bytes = bytes; extra = extras.None }) answer e → Gives s f answer e
+pub gives_of : (s : State) (f : Segment) (packets : List Held) (bytes : List ℕ) (answer : Result Unpacked PacketError) (e : Depack) → packets ≡ packets_of_frame s f
+    → bytes ≡ [] → Unpacks s.depack packets (record { bytes = bytes; extra = extras.None }) answer e → Gives s f answer e
 gives_of s f packets bytes answer e is empty gives = rw (is, empty) at gives
 
 module _ (s t : State) (same : s ≡ t) (f : Segment) (due : due_of s ≡ Some f) (e : Depack) where
@@ -57,7 +58,8 @@ module _ (s t : State) (same : s ≡ t) (f : Segment) (due : due_of s ≡ Some f
       })
 
   -- the depacketizer refuses it
-  pub refused : (u : State) (fault : PacketError) → u ≡ record s { held = above f.last s.held; cutoff = Some f.last; depack = e } → fault ≢ faults.OutOfMemory → Gives s f (Err fault) e → TakesFrame t (Err fault) u
+  pub refused : (u : State) (fault : PacketError) → u ≡ record s { held = above f.last s.held; cutoff = Some f.last; depack = e } → fault ≢ faults.OutOfMemory
+      → Gives s f (Err fault) e → TakesFrame t (Err fault) u
   refused u fault is other gives =
       subst (λ (x : State). TakesFrame x (Err fault) u) same (inr (record { frame = f; is_due = due; depack = e; not_memory = other; gives = gives; left = is }))
 

@@ -1,6 +1,6 @@
 -- A buffer's fields, as contracts see them.
 use Rattle.std.specs.Prelude.{◌≡◌, ◌≤◌, List, map}
-use Rattle.codec_payload_buffer.specs.Depack.{depack_of}
+use Rattle.codec_payload_codec.specs.Depack.{depack_of}
 use Rattle.codec_payload_buffer.specs.Held.{held_of}
 use Rattle.codec_payload_buffer.specs.Steps.{State, IsSound}
 use Rattle.codec_payload_buffer.specs.Frames.{frames}

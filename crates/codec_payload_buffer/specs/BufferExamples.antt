@@ -1,7 +1,7 @@
 -- What the definitions of the buffer say of a few packets.
 use Rattle.std.specs.Prelude.{◌≡◌, ℕ, Bool, true, false, List, [], ◌∷◌, Some, None, map, refl}
 use Rattle.codec_payload_base.specs.Extensions.{no_values}
-use Rattle.codec_payload_buffer.specs.Depack.{OpusDepack}
+use Rattle.codec_payload_codec.specs.Depack.{OpusDepack}
 use Rattle.codec_payload_buffer.specs.Held.{Held}
 use Rattle.codec_payload_buffer.specs.Frames.{frames}
 use Rattle.codec_payload_buffer.specs.Steps.{State, arrived, pushed, due_of, follows, without}

@@ -4,7 +4,7 @@ use Rattle.codec_payload_base.specs.declared.interface.CodecExtra.{CodecExtra}
 use Rattle.codec_payload_base.specs.declared.interface.CodecExtra.TheVariants as extras
 use Rattle.codec_payload_base.specs.declared.interface.Vp8CodecExtra.{Vp8CodecExtra}
 use Rattle.codec_payload_base.specs.declared.interface.Vp9CodecExtra.{Vp9CodecExtra}
-use Rattle.codec_payload_buffer.specs.Depack.{DepackKind, Vp8Payloads, Vp9Payloads}
+use Rattle.codec_payload_codec.specs.Depack.{DepackKind, Vp8Payloads, Vp9Payloads}
 use Rattle.codec_payload_buffer.specs.declared.contiguity.FrameContiguityState.{FrameContiguityState}
 use Rattle.codec_payload_buffer.specs.declared.contiguity.Contiguity.{Contiguity}
 use Rattle.codec_payload_buffer.specs.declared.contiguity.Contiguity.TheVariants as kept

@@ -1,10 +1,28 @@
 -- A unit that was released, and what its packets tell of it.
-use Rattle.std.specs.Prelude.{◌≡◌, ℕ, ◌-◌, ◌<◌, ◌≤◌, List, Bool, Some, All, length, take, slice_get}
+use Rattle.std.specs.Prelude.{◌≡◌, ℕ, ◌-◌, ◌%◌, ◌^◌, ◌<◌, ◌≤◌, List, Bool, false, None, Some, All, length, take, slice_get}
 use Rattle.std.specs.Option.{option_or}
+use Rattle.codec_payload_base.specs.Extensions.{no_values}
 use Rattle.codec_payload_base.specs.Time.{Time}
 use Rattle.codec_payload_base.specs.declared.interface.CodecExtra.{CodecExtra}
 use Rattle.codec_payload_base.specs.declared.wire.extension.ExtensionValues.{ExtensionValues}
 use Rattle.codec_payload_buffer.specs.declared.buffer.unit.RtpMeta.{RtpMeta}
+
+-- what is known of a packet of which only these are known: its number, its time, its payload type and when it was received
+abbrev pub meta_of : ℕ → Time → ℕ → ℕ → RtpMeta
+meta_of number time payload_type received = record {
+  received = record { 0 = received };
+  time = time;
+  seq_no = record { 0 = number };
+  header = record {
+    payload_type = payload_type;
+    sequence_number = number % 2 ^ 16;
+    timestamp = time.numer % 2 ^ 32;
+    ssrc = 0;
+    marker = false;
+    ext_vals = no_values;
+  };
+  last_sender_info = None;
+}
 
 -- the time of its packets, whether it follows the unit released before it, its bytes, what its payloads told besides,
 -- and what is known of each of its packets, in order

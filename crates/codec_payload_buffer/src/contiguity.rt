@@ -2,9 +2,9 @@
 
 ghost use Rattle.std.specs.Prelude.{◌≡◌};
 ghost use Rattle.codec_payload_buffer.specs.ContiguityTable.{no_ids, verdict, vp8_verdict, vp9_verdict, checked, contiguity_for, Advances};
-ghost use Rattle.codec_payload_buffer.specs.Depack.{depack_of, kind_of_depack};
+ghost use Rattle.codec_payload_codec.specs.Depack.{depack_of, kind_of_depack};
 
-use crate::codec::{CodecDepacketizer, CodecExtra, Vp8CodecExtra, Vp9CodecExtra};
+use codec_payload_codec::codec::{CodecDepacketizer, CodecExtra, Vp8CodecExtra, Vp9CodecExtra};
 use std::marker::Model;
 
 /// What a buffer remembers of the frames that it released, by the codec of its depacketizer.

@@ -14,6 +14,7 @@ pub one_more : (media : List ℕ) (blocks : List RedundantBlock) (b : RedundantB
     → (map redundant_of (blocks ++ b ∷ []) ≡ map (cut_from media) (take (i + 1) older)) × All (IsWithin media) (take (i + 1) older)
 one_more media blocks b older i d below is within before =
     let next : take (i + 1) older ≡ take i older ++ get_or older i d ∷ [] = take_more older i d below in (
-      map_push redundant_of blocks b ∙ ap (λ (xs : List _). xs ++ redundant_of b ∷ []) before.0 ∙ ap (λ x. map (cut_from media) (take i older) ++ x ∷ []) is ∙ sym (map_push (cut_from media) (take i older) (get_or older i d)) ∙ ap (λ (xs : List RedOlder). map (cut_from media) xs) (sym next),
+      map_push redundant_of blocks b ∙ ap (λ (xs : List _). xs ++ redundant_of b ∷ []) before.0 ∙ ap (λ x. map (cut_from media) (take i older) ++ x ∷ []) is
+          ∙ sym (map_push (cut_from media) (take i older) (get_or older i d)) ∙ ap (λ (xs : List RedOlder). map (cut_from media) xs) (sym next),
       subst (λ (xs : List RedOlder). All (IsWithin media) xs) (sym next) (All-push (IsWithin media) (take i older) (get_or older i d) before.1 within),
     )

@@ -90,7 +90,8 @@ is_patched b p payload rest patches described =
     let w = patches payload rest described in record { answers = refl; writes = refl; new = w.0; parses = w.2.parses; values = w.2.values }
 
 -- the patch of a copy of the front, and what is behind it
-pub patched_copy : (p : Patch) (n : ℕ) (xs copy rest dst : List ℕ) → copy ≡ take n xs → length copy ≡ n → dst ≡ patched p (take n (copy ++ rest)) → Reaches p (length (take n xs)) → dst ++ drop n xs ≡ patched p xs
+pub patched_copy : (p : Patch) (n : ℕ) (xs copy rest dst : List ℕ) → copy ≡ take n xs → length copy ≡ n → dst ≡ patched p (take n (copy ++ rest))
+    → Reaches p (length (take n xs)) → dst ++ drop n xs ≡ patched p xs
 patched_copy p n xs copy rest dst is len patch r =
     let front : take n (copy ++ rest) ≡ copy = ap (λ (k : ℕ). take k (copy ++ rest)) (sym len) ∙ take-append_seam copy rest in
     ap (λ (z : List ℕ). z ++ drop n xs) (patch ∙ ap (λ (z : List ℕ). patched p z) (front ∙ is)) ∙ patched_split p n xs r

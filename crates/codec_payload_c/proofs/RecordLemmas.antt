@@ -31,5 +31,6 @@ module _ (h : Av1SequenceHeader) (obu bytes : List ℕ) where
       ∙ ap (λ (t : List ℕ). (av1c_front h ++ obu) ++ t) (drop-drop (length obu) 4 bytes)
       )
 
-  pub record_written : (fits : Bool) (after : List ℕ) (size_before size : ℕ) → fits ≡ leb (length (av1c_bytes h obu)) (length bytes) → after ≡ filled (av1c_bytes h obu) bytes → size ≡ 4 + length obu → WritesRecord obu (Ok h) (cond fits 0 33) bytes after size_before size
+  pub record_written : (fits : Bool) (after : List ℕ) (size_before size : ℕ) → fits ≡ leb (length (av1c_bytes h obu)) (length bytes)
+      → after ≡ filled (av1c_bytes h obu) bytes → size ≡ 4 + length obu → WritesRecord obu (Ok h) (cond fits 0 33) bytes after size_before size
   record_written fits after size_before size is filling long = (ap (λ (b : Bool). cond b 0 33) is, filling, long ∙ sym record_long)

@@ -16,7 +16,8 @@ pub in_already : (d n : ℕ) (xs : List ℕ) → below n xs < length xs → get_
 in_already d n [] l is = absurd (omega arith)
 in_already d n (m ∷ ms) l is = already (in_already d n ms) (ltb m n) refl l is
   where
-    already : (below n ms < length ms → get_or ms (below n ms) d ≡ n → blank_in n ms ≡ ms) → (b : Bool) → ltb m n ≡ b → cond b (below n ms + 1) 0 < length (m ∷ ms) → get_or (m ∷ ms) (cond b (below n ms + 1) 0) d ≡ n
+    already : (below n ms < length ms → get_or ms (below n ms) d ≡ n → blank_in n ms ≡ ms) → (b : Bool) → ltb m n ≡ b → cond b (below n ms + 1) 0 < length (m ∷ ms)
+        → get_or (m ∷ ms) (cond b (below n ms + 1) 0) d ≡ n
         → cond b (m ∷ blank_in n ms) (cond (eqb m n) (m ∷ ms) (n ∷ m ∷ ms)) ≡ m ∷ ms
     already rest true e l is = ap (λ (zs : List ℕ). m ∷ zs) (rest (omega arith) (rw add-one at is))
     already rest false e l is = let same : eqb m n ≡ true = grind (arith, nat_tests) in rw same refl
@@ -25,7 +26,8 @@ pub in_anew : (d n : ℕ) (xs : List ℕ) → (below n xs < length xs → get_or
 in_anew d n [] other = refl
 in_anew d n (m ∷ ms) other = anew (in_anew d n ms) (ltb m n) refl other
   where
-    anew : ((below n ms < length ms → get_or ms (below n ms) d ≢ n) → insert ms (below n ms) n ≡ blank_in n ms) → (b : Bool) → ltb m n ≡ b → (cond b (below n ms + 1) 0 < length (m ∷ ms) → get_or (m ∷ ms) (cond b (below n ms + 1) 0) d ≢ n)
+    anew : ((below n ms < length ms → get_or ms (below n ms) d ≢ n) → insert ms (below n ms) n ≡ blank_in n ms) → (b : Bool) → ltb m n ≡ b
+        → (cond b (below n ms + 1) 0 < length (m ∷ ms) → get_or (m ∷ ms) (cond b (below n ms + 1) 0) d ≢ n)
         → insert (m ∷ ms) (cond b (below n ms + 1) 0) n ≡ cond b (m ∷ blank_in n ms) (cond (eqb m n) (m ∷ ms) (n ∷ m ∷ ms))
     anew rest true e other = rw add-one (ap (λ (zs : List ℕ). m ∷ zs) (rest (λ l. rw add-one at (other (omega arith)))))
     anew rest false e other = let differ : eqb m n ≡ false = let unlike : m ≢ n = other (omega arith) in grind (arith, nat_tests) in rw differ refl

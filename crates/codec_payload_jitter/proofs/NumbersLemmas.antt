@@ -26,7 +26,8 @@ behind_given : (s : Numbering) (x n v : ℕ) → s.forward ≤ ahead x n → beh
 behind_given s x n v far within is = rw (le-ltb (ahead x n) s.forward far, le-leb (behind x n) s.backward within, is) refl
 
 -- the number of the next packet
-near_is : (s : Numbering) (x g t q : ℕ) → s.forward + s.backward ≤ 65536 → s.backward < s.forward → x + 65536 * q ≡ g + 65536 → 65536 * q ≤ g → t < g + s.forward → g ≤ t + s.backward → t + 65536 < 2 ^ 64
+near_is : (s : Numbering) (x g t q : ℕ) → s.forward + s.backward ≤ 65536 → s.backward < s.forward → x + 65536 * q ≡ g + 65536 → 65536 * q ≤ g → t < g + s.forward
+    → g ≤ t + s.backward → t + 65536 < 2 ^ 64
     → answer_near s x (t % 65536) ≡ extended.Number (t + 65536 - 65536 * q)
 near_is s x g t q apart order is below up down fits = elim (cases_lt t g) [
   | inr from ↦
@@ -114,7 +115,8 @@ given_by s h n v g false false false is_near is_back is_next below some order is
 
 given_above : (s : Numbering) (h n v g : ℕ) → s.greatest ≡ Some h → g + s.forward ≤ h → 0 < s.forward → s.backward < s.forward → number_for s n ≡ Some v → g < v
 given_above s h n v g greatest below some order is =
-    given_by s h n v g (nat_lt (ahead h n) s.forward) (nat_le (behind h n) s.backward) (follows_suspect s.suspect n) refl refl refl below some order (ap (λ (o : Option ℕ). number_in (answer_by s o n)) (sym greatest) ∙ is)
+    given_by s h n v g (nat_lt (ahead h n) s.forward) (nat_le (behind h n) s.backward) (follows_suspect s.suspect n) refl refl refl below some order
+        (ap (λ (o : Option ℕ). number_in (answer_by s o n)) (sym greatest) ∙ is)
 
 all_above : (ns : List ℕ) (s : Numbering) (h g : ℕ) → s.greatest ≡ Some h → g + s.forward ≤ h → 0 < s.forward → s.backward < s.forward → AllGivenAbove g (numbers_for s ns)
 all_above [] s h g greatest below some order = tt
@@ -138,7 +140,8 @@ never_mix s g n ns kept starts =
     let far : g + s.forward ≤ anew g n = anew_above g n s.forward starts.ahead starts.low in
     rw (anew_is s g n starts) (
       omega (arith, far, kept.some),
-      all_above ns (record s { greatest = Some (greater s.greatest (anew g n)); suspect = None }) (max g (anew g n)) g (ap (λ (o : Option ℕ). Some (greater o (anew g n))) starts.greatest) (omega (arith, far)) kept.some kept.order,
+      all_above ns (record s { greatest = Some (greater s.greatest (anew g n)); suspect = None }) (max g (anew g n)) g
+          (ap (λ (o : Option ℕ). Some (greater o (anew g n))) starts.greatest) (omega (arith, far)) kept.some kept.order,
     )
 
 -- The same with any constant
@@ -167,7 +170,8 @@ near_by s x g t up first apart order same is from high ahead_g behind_g fits = e
 greatest_by : (x g t up first : ℕ) → x + first ≡ g + up → first ≤ t + up → max x (t + up - first) + first ≡ max g t + up
 greatest_by x g t up first is from = omega arith
 
-numbers_by : (ts : List ℕ) (s : Numbering) (x g up first : ℕ) → s.greatest ≡ Some x → s.forward + s.backward ≤ 65536 → s.backward < s.forward → up % 65536 ≡ first % 65536 → x + first ≡ g + up → first ≤ g → 65536 ≤ up
+numbers_by : (ts : List ℕ) (s : Numbering) (x g up first : ℕ) → s.greatest ≡ Some x → s.forward + s.backward ≤ 65536 → s.backward < s.forward
+    → up % 65536 ≡ first % 65536 → x + first ≡ g + up → first ≤ g → 65536 ≤ up
     → FitAnew up first ts → StayNear s.forward s.backward g ts → numbers_for s (map low_bits ts) ≡ map (moved_by up first) ts
 numbers_by [] s x g up first greatest apart order same is from high fits near = refl
 numbers_by (t ∷ ts) s x g up first greatest apart order same is from high fits near =

@@ -25,7 +25,8 @@ length_lowest s [] some = absurd (omega arith)
 length_lowest s (p ∷ ps) some = omega arith
 
 -- by the three tests
-conserved_by : (s : State) (p : Held) (c : PacketCounters) (late there room : Bool) → is_at_most s.cutoff (number_of p) ≡ late → has_number (number_of p) s.held ≡ there → nat_lt (length s.held) s.limit ≡ room
+conserved_by : (s : State) (p : Held) (c : PacketCounters) (late there room : Bool) → is_at_most s.cutoff (number_of p) ≡ late
+    → has_number (number_of p) s.held ≡ there → nat_lt (length s.held) s.limit ≡ room
     → IsConserved c (length s.held) → IsConserved (counted c (outcome_at s (number_of p))) (length (pushed s p).held)
 conserved_by s p c true there room is_late is_there is_room kept = rw is_late (omega (arith, kept))
 conserved_by s p c false true room is_late is_there is_room kept = rw (is_late, is_there) (omega (arith, kept))
@@ -42,7 +43,8 @@ conserved_by s p c false false false is_late is_there is_room kept =
     rw (is_late, is_there, is_room, over) (omega (arith, kept, one, less))
 
 -- the same of the suspect packet that was kept
-again_by : (s : State) (p : Held) (c : PacketCounters) (late there room : Bool) → is_at_most s.cutoff (number_of p) ≡ late → has_number (number_of p) s.held ≡ there → nat_lt (length s.held) s.limit ≡ room
+again_by : (s : State) (p : Held) (c : PacketCounters) (late there room : Bool) → is_at_most s.cutoff (number_of p) ≡ late → has_number (number_of p) s.held ≡ there
+    → nat_lt (length s.held) s.limit ≡ room
     → IsConserved c (length s.held) → IsConserved (counted_again c (outcome_at s (number_of p))) (length (pushed s p).held)
 again_by s p c true there room is_late is_there is_room kept = rw is_late (omega (arith, kept))
 again_by s p c false true room is_late is_there is_room kept = rw (is_late, is_there) (omega (arith, kept))
@@ -59,7 +61,8 @@ again_by s p c false false false is_late is_there is_room kept =
     rw (is_late, is_there, is_room, over) (omega (arith, kept, one, less))
 
 -- a packet that goes in keeps the account
-pub conserved_in : (rate : ℕ) (a : Arrival) (n : ℕ) (s t : State) (o : Outcome) (c : PacketCounters) → TakesIn rate a n s t → o ≡ outcome_at s n → IsConserved c (length s.held) → IsConserved (counted c o) (length t.held)
+pub conserved_in : (rate : ℕ) (a : Arrival) (n : ℕ) (s t : State) (o : Outcome) (c : PacketCounters) → TakesIn rate a n s t → o ≡ outcome_at s n
+    → IsConserved c (length s.held) → IsConserved (counted c o) (length t.held)
 conserved_in rate a n s t o c takes is kept =
     let p : Held = takes.0 in
     let number : number_of p ≡ n = ap (λ (m : RtpMeta). m.seq_no.0) takes.1.0 in

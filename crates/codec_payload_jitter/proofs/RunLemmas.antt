@@ -2,7 +2,7 @@
 use Rattle.std.proofs.Common.{◌≡◌, ◌∙◌, refl, ap, sym, subst, ℕ, List, [], ◌∷◌, map, Bool, true, false, Option, Some, None, length, cond, ltb}
 use Rattle.codec_payload_jitter.specs.declared.numbers.Extended.{Extended}
 use Rattle.codec_payload_jitter.specs.declared.numbers.Extended.TheVariants as extended
-use Rattle.codec_payload_buffer.specs.Depack.{Depack}
+use Rattle.codec_payload_codec.specs.Depack.{Depack}
 use Rattle.codec_payload_buffer.specs.Held.{Held, number_of, placed}
 use Rattle.codec_payload_buffer.specs.Steps.{State, pushed, is_dropped, without_lowest, Pops}
 use Rattle.codec_payload_buffer.specs.Stretches.{after_pushes}
@@ -126,7 +126,8 @@ are_true_stretches forward backward first ts arrivals r t outcomes running kept 
     subst (λ (ns : List ℕ). GoOn r.numbering ns) (sym lows) (subst (λ (n : Numbering). GoOn n (map low_bits (first ∷ ts))) (sym fresh) (none_restarts forward backward kept first ts fits near)) in
     let stretch = are_stretches arrivals r t outcomes running on all in
     let numbers : numbers_for r.numbering (low_numbers arrivals) ≡ map (moved first) (first ∷ ts) =
-    ap (λ (n : Numbering). numbers_for n (low_numbers arrivals)) fresh ∙ ap (λ (ns : List ℕ). numbers_for (no_numbers forward backward) ns) lows ∙ are_true_numbers forward backward kept first ts fits near in
+    ap (λ (n : Numbering). numbers_for n (low_numbers arrivals)) fresh ∙ ap (λ (ns : List ℕ). numbers_for (no_numbers forward backward) ns) lows
+        ∙ are_true_numbers forward backward kept first ts fits near in
     (stretch.0, subst (λ (ns : List (Option ℕ)). ArriveAs r.buffer.depack r.rate arrivals ns stretch.0) numbers stretch.1, stretch.2)
 
 -- Rounds
@@ -138,7 +139,8 @@ pub record Stay (lows : List ℕ) (r t : Receiving) : Type 0 where
   pub numbering : t.numbering ≡ numbering_past r.numbering lows
   pub running : t.anew ≡ false
 
-stay : (arrivals : List Arrival) (r t : Receiving) (outcomes : List Outcome) → r.anew ≡ false → GoOn r.numbering (low_numbers arrivals) → ReceivesAll arrivals r outcomes t → Stay (low_numbers arrivals) r t
+stay : (arrivals : List Arrival) (r t : Receiving) (outcomes : List Outcome) → r.anew ≡ false → GoOn r.numbering (low_numbers arrivals)
+    → ReceivesAll arrivals r outcomes t → Stay (low_numbers arrivals) r t
 stay [] r t outcomes running on all = record {
   running = ap (λ (x : Receiving). x.anew) all.1 ∙ running;
   blanks = ap (λ (x : Receiving). x.blanks) all.1;

@@ -1,6 +1,6 @@
 -- Pushes into a jitter buffer, as pushes into its buffer under true numbers.
 use Rattle.std.specs.Prelude.{◌≡◌, ℕ, ◌+◌, ◌<◌, ◌^◌, false, List, [], ◌∷◌, map, Option, Some, None, Result}
-use Rattle.codec_payload_buffer.specs.Depack.{Depack}
+use Rattle.codec_payload_codec.specs.Depack.{Depack}
 use Rattle.codec_payload_buffer.specs.Held.{Held}
 use Rattle.codec_payload_base.specs.declared.error.PacketError.{PacketError}
 use Rattle.codec_payload_buffer.specs.Release.{Release}

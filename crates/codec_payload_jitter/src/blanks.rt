@@ -8,7 +8,7 @@ ghost use Rattle.codec_payload_jitter.specs.Blanks.{below, blank_in, kept_few, n
 
 use codec_payload_base::wire::SeqNo;
 use codec_payload_buffer::buffer::DepacketizingBuffer;
-use codec_payload_buffer::codec::Depacketizer;
+use codec_payload_codec::codec::Depacketizer;
 use std::alloc::AllocError;
 
 /// How many are remembered at most.

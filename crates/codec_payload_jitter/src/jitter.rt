@@ -4,7 +4,7 @@ ghost use Rattle.std.specs.Prelude.{◌≡◌, ◌≤◌, ℕ, length, IfOk, IfS
 ghost use Rattle.std.specs.Option.{option_map};
 ghost use Rattle.codec_payload_base.specs.declared.error.PacketError.TheVariants.{OutOfMemory};
 ghost use Rattle.codec_payload_buffer.specs.Blanks.{released_packets, ready_since_of};
-ghost use Rattle.codec_payload_buffer.specs.Depack.{depack_of};
+ghost use Rattle.codec_payload_codec.specs.Depack.{depack_of};
 ghost use Rattle.codec_payload_buffer.specs.Frames.{frames};
 ghost use Rattle.codec_payload_buffer.specs.Steps.{empty_buffer, is_at_most};
 ghost use Rattle.codec_payload_jitter.specs.Numbers.{no_numbers, number_in};
@@ -24,7 +24,7 @@ pub use crate::outcome::{Outcome, PacketCounters};
 use codec_payload_base::error::PacketError;
 use codec_payload_base::wire::{Frequency, MediaTime, RtpHeader, SeqNo, Ticks};
 use codec_payload_buffer::buffer::{Depacketized, DepacketizingBuffer, RtpMeta, pops_leave_few};
-use codec_payload_buffer::codec::{CodecDepacketizer, Depacketizer, NoBox};
+use codec_payload_codec::codec::{CodecDepacketizer, Depacketizer, NoBox};
 use std::alloc::Global;
 use std::marker::Model;
 

@@ -4,7 +4,7 @@ ghost use Rattle.std.specs.Prelude.{◌≡◌, ◌∷◌, ◌+◌, ◌<◌, ◌�
 ghost use Rattle.codec_payload_jitter.specs.Missing.{absent_between, missing_numbers};
 
 use crate::jitter::JitterBuffer;
-use codec_payload_buffer::codec::{Depacketizer, NoBox};
+use codec_payload_codec::codec::{Depacketizer, NoBox};
 use std::marker::Model;
 
 /// The numbers that are missing, in rising order. No step takes memory; one looks at each number that is held between this

@@ -2,7 +2,7 @@
 use Rattle.std.proofs.Common.{◌≡◌, ℕ, zero, suc, ◌+◌, ◌%◌, ◌<◌, List, [], ◌∷◌, ◌++◌, length, get_or, true, Some, Result, Ok, refl, sym, ap, ◌∙◌, subst, arith}
 use Rattle.std.specs.Prelude.{OnOk}
 use Rattle.codec_payload_base.specs.PayloadLists.{PayloadList, rooms_of}
-use Rattle.codec_payload_buffer.specs.Pack.{Pack, PackStep, is_built_in}
+use Rattle.codec_payload_codec.specs.Pack.{Pack, PackStep, is_built_in}
 use Rattle.codec_payload_rtp.specs.RtpReading.{rtp_at}
 use Rattle.codec_payload_sender.specs.Datagrams.{AreSent, IsHeadedAt, Sample, header_at, joined, octets_in, time_of}
 use Rattle.codec_payload_sender.specs.Senders.{Sending, Sends}

@@ -3,7 +3,7 @@ use Rattle.std.specs.Prelude.{◌≡◌, ℕ, ◌+◌, ◌%◌, ◌^◌, ◌<◌
 use Rattle.codec_payload_base.specs.Time.{Time, rebased}
 use Rattle.codec_payload_base.specs.StrippedValues.{stripped}
 use Rattle.codec_payload_base.specs.declared.wire.extension.ExtensionValues.{ExtensionValues}
-use Rattle.codec_payload_buffer.specs.Pack.{Pack, is_built_in, marker_of, talkspurt_of}
+use Rattle.codec_payload_codec.specs.Pack.{Pack, is_built_in, marker_of, talkspurt_of}
 use Rattle.codec_payload_rtp.specs.ExtensionWriting.{elements_for, extension_for}
 use Rattle.codec_payload_rtp.specs.RtpPackets.{Header}
 use Rattle.codec_payload_rtp.specs.RtpReading.{rtp_at}

@@ -2,7 +2,7 @@
 use Rattle.std.specs.Prelude.{◌≡◌, ℕ, ◌+◌, ◌%◌, ◌^◌, nat_lt, not, if◌then◌else◌, true, List, [], Option, Some, None, Result, Ok, Err, length}
 use Rattle.codec_payload_base.specs.Answers.{Lands}
 use Rattle.codec_payload_base.specs.declared.error.PacketError.{PacketError}
-use Rattle.codec_payload_buffer.specs.Pack.{Pack, PackStep, is_built_in}
+use Rattle.codec_payload_codec.specs.Pack.{Pack, PackStep, is_built_in}
 use Rattle.codec_payload_rtp.specs.ExtensionWriting.{ids_fit}
 use Rattle.codec_payload_sender.specs.Datagrams.{Sample, AreSent, octets_in, time_of}
 use Rattle.codec_payload_sender.specs.declared.sender.Counts.{Counts}

@@ -3,7 +3,7 @@
 ghost use Rattle.std.specs.Prelude.{◌≡◌, ◌+◌, ◌%◌, ◌^◌, ◌<◌, ◌≤◌, ◌∷◌, ℕ, List, [], Option, true, length, IfOk, IfErr, IfSome, OnOk, OnErr, IsTrue, Err, slice_index_or, slice_set};
 ghost use Rattle.std.specs.Option.{option_map};
 ghost use Rattle.codec_payload_base.specs.declared.error.PacketError.TheVariants.{OutOfMemory};
-ghost use Rattle.codec_payload_buffer.specs.Pack.{pack_of};
+ghost use Rattle.codec_payload_codec.specs.Pack.{pack_of};
 ghost use Rattle.codec_payload_rtp.specs.ExtensionWriting.{ids_fit};
 ghost use Rattle.codec_payload_rtp.specs.RtpValues.{extension_of, header_of};
 ghost use Rattle.codec_payload_sender.specs.Datagrams.{IsHeader, IsHeadedAt, IsMarker, header_with, octets_in, sample_of, time_of};
@@ -13,7 +13,7 @@ ghost use Rattle.codec_payload_sender.specs.declared.sender.SenderError.TheVaria
 use codec_payload_base::error::PacketError;
 use codec_payload_base::payloads::Payloads;
 use codec_payload_base::wire::{ExtensionValues, Frequency, MediaTime};
-use codec_payload_buffer::codec::{CodecPacketizer, NoBox, Packetizer};
+use codec_payload_codec::codec::{CodecPacketizer, NoBox, Packetizer};
 use codec_payload_rtp::rtp::{HeaderExtension, RtpHeader};
 use codec_payload_rtp::values::ExtensionIds;
 use std::alloc::Global;
@@ -126,7 +126,7 @@ pub struct Sender<B = NoBox> {
 
 impl<B> Model for Sender<B> {
     ghost use Rattle.std.specs.Prelude.{◌≡◌, ◌<◌, IsTrue};
-    ghost use Rattle.codec_payload_buffer.specs.Pack.{pack_of};
+    ghost use Rattle.codec_payload_codec.specs.Pack.{pack_of};
     ghost use Rattle.codec_payload_rtp.specs.ExtensionWriting.{ids_fit};
     ghost use Rattle.codec_payload_sender.specs.Datagrams.{joined};
     ghost use Rattle.codec_payload_sender.specs.Senders.{Sending};

@@ -124,12 +124,14 @@ recovered_balanced a r t (inr one) kept =
     let after : IsBalanced a (one_recovered (balance_of r)) = omega (arith, kept) in
     subst (λ (b : Balance). IsBalanced a b) (sym one) after
 
-all_balanced : (a : Arrived) (s : Kinds) (now : Ticks) (c : Carrier) (blocks : List Block) (r t : Receiving) → RecoversAll s now c blocks r t → IsBalanced a (balance_of r) → IsBalanced a (balance_of t)
+all_balanced : (a : Arrived) (s : Kinds) (now : Ticks) (c : Carrier) (blocks : List Block) (r t : Receiving) → RecoversAll s now c blocks r t
+    → IsBalanced a (balance_of r) → IsBalanced a (balance_of t)
 all_balanced a s now c [] r t got kept = subst (λ (x : Receiving). IsBalanced a (balance_of x)) (sym got) kept
 all_balanced a s now c (b ∷ bs) r t got kept =
     all_balanced a s now c bs got.0 t got.2 (recovered_balanced a r got.0 (block_balance s now c.header.ssrc (packet_in c b) r got.0 got.1) kept)
 
-unless_balanced : (a : Arrived) (suspect : Bool) (s : Kinds) (now : Ticks) (c : Carrier) (r t : Receiving) → RecoversUnless suspect s now c r t → IsBalanced a (balance_of r) → IsBalanced a (balance_of t)
+unless_balanced : (a : Arrived) (suspect : Bool) (s : Kinds) (now : Ticks) (c : Carrier) (r t : Receiving) → RecoversUnless suspect s now c r t
+    → IsBalanced a (balance_of r) → IsBalanced a (balance_of t)
 unless_balanced a true s now c r t got kept = subst (λ (x : Receiving). IsBalanced a (balance_of x)) (sym got) kept
 unless_balanced a false s now c r t got kept = all_balanced a s now c c.older r t got kept
 
@@ -147,7 +149,8 @@ pushed_balanced a r t one kept =
 apart_balanced : (a a' : Arrived) (r t : Receiving) → t ≡ r → IsBalanced a' (balance_of r) → IsBalanced a' (balance_of t)
 apart_balanced a a' r t same kept = subst (λ (x : Receiving). IsBalanced a' (balance_of x)) (sym same) kept
 
-pub takes_balanced : (s : Kinds) (now : Ticks) (a : Arrived) (d : Datagram) (r t : Receiving) (o : Outcome) → TakesDatagram s now d r o t → IsSorted a r.counters → IsSorted (arrived_with a d) t.counters
+pub takes_balanced : (s : Kinds) (now : Ticks) (a : Arrived) (d : Datagram) (r t : Receiving) (o : Outcome) → TakesDatagram s now d r o t → IsSorted a r.counters
+    → IsSorted (arrived_with a d) t.counters
 takes_balanced s now a RtcpPacket r t o got kept = apart_balanced a (arrived_with a RtcpPacket) r t got.1 (omega (arith, kept))
 takes_balanced s now a (Malformed e) r t o got kept = apart_balanced a (arrived_with a (Malformed e)) r t got (omega (arith, kept))
 takes_balanced s now a OfOthers r t o got kept = apart_balanced a (arrived_with a OfOthers) r t got.1 (omega (arith, kept))
@@ -176,7 +179,8 @@ not_memory (InRed c) o is = cc
 not_memory (Again it) o is = cc
 not_memory AgainEmpty o is = cc
 
-pub heard : (now : Ticks) (d : Datagram) (s t : Session) (o : Outcome) (packets : Receiving) (answer : Result Outcome ReceiveError) → TakesDatagram s.stream now d s.packets o packets → AnswersFor d o answer
+pub heard : (now : Ticks) (d : Datagram) (s t : Session) (o : Outcome) (packets : Receiving) (answer : Result Outcome ReceiveError)
+    → TakesDatagram s.stream now d s.packets o packets → AnswersFor d o answer
     → t ≡ record s { ssrc = ssrc_after s.ssrc d; packets = packets; arrived = arrived_with s.arrived d; reception = observed_in s.reception now.0 d } → Heard now d s answer t
 heard now d s t o packets (Ok told) takes answers left = record { outcome = o; packets = packets; takes = takes; answers = answers; left = left }
 heard now d s t o packets (Err (errors.Rtp e)) takes answers left = record { outcome = o; packets = packets; takes = takes; answers = answers; left = left }

@@ -5,7 +5,7 @@ use Rattle.codec_payload_base.specs.declared.wire.Ticks.{Ticks}
 use Rattle.codec_payload_red.specs.RedBlocks.{Block}
 use Rattle.codec_payload_red.specs.RedRecovery.{RecoveredPacket, recovered_from}
 use Rattle.codec_payload_rtp.specs.ExtendedTimes.{extended_time}
-use Rattle.codec_payload_buffer.specs.Depack.{Depack}
+use Rattle.codec_payload_codec.specs.Depack.{Depack}
 use Rattle.codec_payload_buffer.specs.Release.{Release}
 use Rattle.codec_payload_buffer.specs.Steps.{empty_buffer}
 use Rattle.codec_payload_jitter.specs.Numbers.{Numbering, numbering_within}
@@ -201,7 +201,8 @@ nothing_arrived = record { received = 0; rtcp = 0; malformed = 0; other_streams 
 abbrev pub red_by : ℕ → RedSettings → Result (Option RedStream) SettingsError
 red_by payload_type red =
     if nat_le red.payload_type 127 && not (red.payload_type == payload_type)
-    then (if nat_lt 0 red.step && nat_le red.step 16383 then Ok (Some (record { payload_type = red.payload_type; receiver = record { primary_pt = payload_type % 128; step = red.step } })) else Err settings.RedStep)
+    then (if nat_lt 0 red.step && nat_le red.step 16383 then Ok
+        (Some (record { payload_type = red.payload_type; receiver = record { primary_pt = payload_type % 128; step = red.step } })) else Err settings.RedStep)
     else Err settings.RedPayloadType
 
 abbrev pub red_within : ℕ → Option RedSettings → Result (Option RedStream) SettingsError

@@ -13,7 +13,7 @@ use crate::receiver::Retransmission;
 use crate::reports::ReceptionStatistics;
 use codec_payload_base::error::PacketError;
 use codec_payload_base::wire::{ExtensionValues, Pt, RtpHeader as Header, SeqNo, Ticks};
-use codec_payload_buffer::codec::Depacketizer;
+use codec_payload_codec::codec::Depacketizer;
 use codec_payload_jitter::jitter::{JitterBuffer, Outcome};
 use codec_payload_red::red::{Recovered, RedBlock, RedDecoder, RedReceiver};
 use codec_payload_rtp::rtp::{RtpError, RtpHeader, RtpPacket, is_rtcp};

@@ -5,12 +5,12 @@ use Rattle.std.proofs.lemmas.Option.{same_Some}
 use Rattle.codec_payload_buffer.proofs.MemberLemmas.{IsIn}
 use Rattle.codec_payload_buffer.specs.Steps.{State}
 use Rattle.codec_payload_buffer.specs.declared.buffer.unit.RtpMeta.{RtpMeta}
-use Rattle.codec_payload_core.specs.Arrivals.{AllAreMade, Arrives, Asked, Event, HasArrival, Meets, OnlyArrive}
-use Rattle.codec_payload_core.specs.Exact.{AnswersAll}
-use Rattle.codec_payload_core.specs.Headline.{ArePushesBy, InOrder}
-use Rattle.codec_payload_core.specs.Packets.{Packet, AreNumbered}
-use Rattle.codec_payload_core.specs.Schedule.{Answer}
-use Rattle.codec_payload_core.specs.SentStream.{SentUnit}
+use Rattle.codec_payload_runs.specs.Arrivals.{AllAreMade, Arrives, Asked, Event, HasArrival, Meets, OnlyArrive}
+use Rattle.codec_payload_runs.specs.Exact.{AnswersAll}
+use Rattle.codec_payload_runs.specs.Headline.{ArePushesBy, InOrder}
+use Rattle.codec_payload_send.specs.Packets.{Packet, AreNumbered}
+use Rattle.codec_payload_runs.specs.Schedule.{Answer}
+use Rattle.codec_payload_runs.specs.SentStream.{SentUnit}
 use Rattle.codec_payload_jitter.specs.Numbers.{Numbering, answer_for, numbering_after}
 use Rattle.codec_payload_jitter.specs.declared.numbers.Extended.TheVariants as extended
 use Rattle.codec_payload_sender.specs.declared.sender.Stream.{Stream}
@@ -31,7 +31,8 @@ Brings at_end (steps.Pop now ∷ later) events = (wait : Option ℕ) × (rest : 
 Brings at_end (steps.Finish ∷ later) events = Brings true later events
 
 -- the packet of a datagram
-packet_at_index : (stream : Stream) (first : ℕ) (packets : List Packet) (datagrams : List (List ℕ)) (k : ℕ) (bytes : List ℕ) → AreDatagrams stream packets datagrams → AreNumbered first packets → slice_get datagrams k ≡ Some bytes
+packet_at_index : (stream : Stream) (first : ℕ) (packets : List Packet) (datagrams : List (List ℕ)) (k : ℕ) (bytes : List ℕ) → AreDatagrams stream packets datagrams
+    → AreNumbered first packets → slice_get datagrams k ≡ Some bytes
     → (q : Packet) × (slice_get packets k ≡ Some q) × ReadsAs stream q bytes × (q.number ≡ first + k)
 packet_at_index stream first [] [] k bytes are numbered there = absurd (cc)
 packet_at_index stream first [] (d ∷ ds) k bytes are numbered there = absurd are
@@ -49,7 +50,8 @@ pub record IsMet (clock_rate : ℕ) (packets : List Packet) (all_steps : List Da
 
 module _ (stream : Stream) (types : (stream.payload_type < 64) ⊎ (95 < stream.payload_type)) (first : ℕ) (packets : List Packet) (datagrams : List (List ℕ))
     (are : AreDatagrams stream packets datagrams) (numbered : AreNumbered first packets) where
-  pub met : (all_steps : List DatagramStep) (s t : Session) (answers : List Answer) → IsListening stream s → AllNumbered first s.packets.numbering (delivered all_steps) → Takes all_steps datagrams s answers t
+  pub met : (all_steps : List DatagramStep) (s t : Session) (answers : List Answer) → IsListening stream s
+      → AllNumbered first s.packets.numbering (delivered all_steps) → Takes all_steps datagrams s answers t
       → IsMet stream.clock_rate packets all_steps s answers t
   met [] s t answers listening numbers takes = record { events = []; meets = (takes.0, ap (λ (x : Session). x.packets.buffer) takes.1); brings = refl }
   met (steps.Send i ∷ later) s t answers listening numbers takes =
@@ -133,7 +135,8 @@ split_at_end at_end (steps.Finish ∷ before) after events no_pops brings =
 -- What is known of packets
 
 -- a push is a delivery of that datagram, when it was received
-pub delivery_of : (at_end : Bool) (all_steps : List DatagramStep) (events : List Event) (k : ℕ) (meta : RtpMeta) → Brings at_end all_steps events → IsIn (Arrives k meta) events → IsIn (steps.Deliver k meta.received) all_steps
+pub delivery_of : (at_end : Bool) (all_steps : List DatagramStep) (events : List Event) (k : ℕ) (meta : RtpMeta) → Brings at_end all_steps events
+    → IsIn (Arrives k meta) events → IsIn (steps.Deliver k meta.received) all_steps
 delivery_of at_end [] events k meta brings is = absurd (subst (IsIn (Arrives k meta)) brings is)
 delivery_of at_end (steps.Send i ∷ later) events k meta brings is = inr (delivery_of at_end later events k meta brings is)
 delivery_of at_end (steps.Deliver j now ∷ later) events k meta brings is =

@@ -1,7 +1,7 @@
 -- A receiver as it is made.
 use Rattle.std.proofs.Common.{◌≡◌, ◌∙◌, refl, sym, ap, ℕ, ◌<◌, ◌≤◌, ◌&&◌, Bool, true, false, cond, ltb, leb, Option, Result, Ok, Err, arith}
 use Rattle.std.proofs.lemmas.Bool.{and_parts, leb-true, ltb-true}
-use Rattle.codec_payload_buffer.specs.Depack.{Depack}
+use Rattle.codec_payload_codec.specs.Depack.{Depack}
 use Rattle.codec_payload_jitter.specs.Numbers.{IsNumbering, Numbering, no_numbers, numbering_within}
 use Rattle.codec_payload_jitter.specs.declared.numbers.WindowError.{WindowError}
 use Rattle.codec_payload_jitter.specs.declared.numbers.WindowError.TheVariants as windows
@@ -32,7 +32,8 @@ pub record IsBegun (s : Settings) (depack : Depack) (receiver : Session) : Type 
   pub windows : IsNumbering (no_numbers s.forward s.backward)
   pub is : receiver ≡ session_with s depack red (no_numbers s.forward s.backward)
 
-begun_within : (s : Settings) (depack : Depack) (red : Option RedStream) (n : Result Numbering WindowError) (receiver : Session) → numbering_within s.forward s.backward ≡ n → session_within s depack red n ≡ Ok receiver → IsBegun s depack receiver
+begun_within : (s : Settings) (depack : Depack) (red : Option RedStream) (n : Result Numbering WindowError) (receiver : Session)
+    → numbering_within s.forward s.backward ≡ n → session_within s depack red n ≡ Ok receiver → IsBegun s depack receiver
 begun_within s depack red (Ok numbering) receiver is e =
     let w = windows_of s.forward s.backward numbering is in
     let made : session_with s depack red numbering ≡ receiver = cc in

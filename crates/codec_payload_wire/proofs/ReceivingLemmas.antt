@@ -3,14 +3,14 @@ use Rattle.std.proofs.Common.{◌≡◌, ◌≢◌, ◌∙◌, refl, sym, ap, su
 use Rattle.std.proofs.lemmas.Bool.{eq-eqb, or_left}
 use Rattle.codec_payload_base.specs.declared.error.PacketError.TheVariants as faults
 use Rattle.codec_payload_base.specs.declared.wire.Ticks.{Ticks}
-use Rattle.codec_payload_buffer.specs.Depack.{is_built_in_depack}
-use Rattle.codec_payload_buffer.specs.Pack.{NullPack}
+use Rattle.codec_payload_codec.specs.Depack.{is_built_in_depack}
+use Rattle.codec_payload_codec.specs.Pack.{NullPack}
 use Rattle.codec_payload_buffer.specs.Steps.{State, arrived, pushed, Pops}
 use Rattle.codec_payload_buffer.specs.declared.buffer.unit.RtpMeta.{RtpMeta}
-use Rattle.codec_payload_core.proofs.BuiltInRuns.{pop_exactly, push_keeps}
-use Rattle.codec_payload_core.specs.Arrivals.{PopsWaiting, Tells}
-use Rattle.codec_payload_core.specs.Packets.{Packet}
-use Rattle.codec_payload_core.specs.Schedule.{Answer, RunState, run_state}
+use Rattle.codec_payload_runs.proofs.BuiltInRuns.{pop_exactly, push_keeps}
+use Rattle.codec_payload_runs.specs.Arrivals.{PopsWaiting, Tells}
+use Rattle.codec_payload_send.specs.Packets.{Packet}
+use Rattle.codec_payload_runs.specs.Schedule.{Answer, RunState, run_state}
 use Rattle.codec_payload_jitter.specs.Blanks.{passed_blanks, blanks_left}
 use Rattle.codec_payload_jitter.specs.Numbers.{Numbering, answer_for, numbering_after, numbering_with, without_restart}
 use Rattle.codec_payload_jitter.specs.Receiving.{Arrival, PopsWith, Receives, ReceivesAs, Receiving, answer_in, is_starting, meta_for, settled, waiting_at}
@@ -67,7 +67,8 @@ pub record TakesIn (n : ℕ) (a : Arrival) (r t : Receiving) : Type 0 where
   pub blanks : t.blanks ≡ r.blanks
   pub ended : t.ended ≡ r.ended
 
-takes_in : (n : ℕ) (a : Arrival) (r t : Receiving) (outcome : Outcome) → r.anew ≡ false → is_built_in_depack r.buffer.depack ≡ true → answer_for r.numbering a.header.sequence_number ≡ extended.Number n
+takes_in : (n : ℕ) (a : Arrival) (r t : Receiving) (outcome : Outcome) → r.anew ≡ false → is_built_in_depack r.buffer.depack ≡ true
+    → answer_for r.numbering a.header.sequence_number ≡ extended.Number n
     → Receives a r outcome t → TakesIn n a r t
 takes_in n a r t outcome running of_codec numbered receives =
     let low : ℕ = a.header.sequence_number in
@@ -96,7 +97,8 @@ pub record IsPushed (stream : Stream) (now : Ticks) (q : Packet) (s t : Session)
   pub listening : IsListening stream t
   pub ended : t.packets.ended ≡ s.packets.ended
 
-pub pushes : (stream : Stream) (now : Ticks) (q : Packet) (bytes : List ℕ) (s t : Session) (receipt : Receipt) → (stream.payload_type < 64) ⊎ (95 < stream.payload_type) → IsListening stream s → ReadsAs stream q bytes
+pub pushes : (stream : Stream) (now : Ticks) (q : Packet) (bytes : List ℕ) (s t : Session) (receipt : Receipt) → (stream.payload_type < 64)
+    ⊎ (95 < stream.payload_type) → IsListening stream s → ReadsAs stream q bytes
     → answer_for s.packets.numbering (q.number % 2 ^ 16) ≡ extended.Number q.number → Delivers now bytes s receipt t → IsPushed stream now q s t
 pushes stream now q bytes s t receipt types listening reads numbered delivers =
     let is : datagram_at s.stream s.ssrc bytes ≡ WithMedia (packet_at stream q) =
@@ -162,7 +164,8 @@ pub record IsTurn (wait : Option ℕ) (r : Receiving) (answer : Answer) (t : Rec
   pub anew : t.anew ≡ r.anew
   pub ended : t.ended ≡ r.ended
 
-turn_of : (wait : Option ℕ) (r : Receiving) (answer : Answer) (t : Receiving) → is_built_in_depack r.buffer.depack ≡ true → answer ≢ Some (Err faults.OutOfMemory) → PopsWith wait r answer t → IsTurn wait r answer t
+turn_of : (wait : Option ℕ) (r : Receiving) (answer : Answer) (t : Receiving) → is_built_in_depack r.buffer.depack ≡ true → answer ≢ Some (Err faults.OutOfMemory)
+    → PopsWith wait r answer t → IsTurn wait r answer t
 turn_of None r answer t of_codec not_memory pops = record {
   pops = (pops.0, ap (λ (x : Receiving). x.buffer) pops.1);
   of_codec = ap (λ (x : Receiving). is_built_in_depack x.buffer.depack) pops.1 ∙ of_codec;
@@ -187,7 +190,8 @@ waits_for_nothing : (r : Receiving) (now : ℕ) → r.ended ≡ true → waiting
 waits_for_nothing r now at_end =
     ap (λ (b : Bool). cond b (Some 0) (cond (is_starting r) None (Some r.patience.hold_back))) (or_left r.ended _ at_end)
 
-pub pops_as : (stream : Stream) (now : Ticks) (answer : Answer) (s t : Session) → IsListening stream s → answer ≢ Some (Err faults.OutOfMemory) → PopsUnit now s answer t → IsPopped stream now answer s t
+pub pops_as : (stream : Stream) (now : Ticks) (answer : Answer) (s t : Session) → IsListening stream s → answer ≢ Some (Err faults.OutOfMemory)
+    → PopsUnit now s answer t → IsPopped stream now answer s t
 pops_as stream now answer s t listening not_memory popped =
     let r : Receiving = s.packets in
     let settled_is : settled r ≡ r = settled_none r listening.no_blanks in

@@ -3,18 +3,18 @@ use Rattle.std.proofs.Common.{◌≡◌, ◌∙◌, refl, sym, ap, subst, ℕ, �
 use Rattle.std.proofs.lemmas.Option.{same_Some, slice_get_within}
 use Rattle.codec_payload_buffer.proofs.MemberLemmas.{contains_in, in_contains}
 use Rattle.codec_payload_buffer.specs.ContiguityTable.{contiguity_for}
-use Rattle.codec_payload_buffer.specs.Depack.{is_built_in_depack, is_codec, kind_of_depack}
-use Rattle.codec_payload_buffer.specs.Pack.{Pack, G711Pack, G722Pack, OpusPack, ComfortNoisePack, TelePack, Vp8Pack, Vp9Pack, Av1Pack, AmrWbPack, NullPack, BoxedPack, is_built_in}
+use Rattle.codec_payload_codec.specs.Depack.{is_built_in_depack, is_codec, kind_of_depack}
+use Rattle.codec_payload_codec.specs.Pack.{Pack, G711Pack, G722Pack, OpusPack, ComfortNoisePack, TelePack, Vp8Pack, Vp9Pack, Av1Pack, AmrWbPack, NullPack, BoxedPack, is_built_in}
 use Rattle.codec_payload_buffer.specs.declared.buffer.unit.RtpMeta.{RtpMeta}
-use Rattle.codec_payload_core.proofs.ArrivalLemmas.{release_in_order}
-use Rattle.codec_payload_core.specs.Arrivals.{AllArriveFirst, Arrives, Meets, ReleasesArrivals, Tells}
-use Rattle.codec_payload_core.specs.Arrivals as core
-use Rattle.codec_payload_core.specs.Headline.{IsUnused}
-use Rattle.codec_payload_core.specs.Packets.{Packet}
-use Rattle.codec_payload_core.specs.Schedule.{Answer, RunState}
-use Rattle.codec_payload_core.specs.Sending.{Sample}
-use Rattle.codec_payload_core.specs.ToldIds.{read_by}
-use Rattle.codec_payload_core.specs.Units.{payloads_by, may_split}
+use Rattle.codec_payload_runs.proofs.ArrivalLemmas.{release_in_order}
+use Rattle.codec_payload_runs.specs.Arrivals.{AllArriveFirst, Arrives, Meets, ReleasesArrivals, Tells}
+use Rattle.codec_payload_runs.specs.Arrivals as core
+use Rattle.codec_payload_runs.specs.Headline.{IsUnused}
+use Rattle.codec_payload_send.specs.Packets.{Packet}
+use Rattle.codec_payload_runs.specs.Schedule.{Answer, RunState}
+use Rattle.codec_payload_send.specs.Sending.{Sample}
+use Rattle.codec_payload_runs.specs.ToldIds.{read_by}
+use Rattle.codec_payload_runs.specs.Units.{payloads_by, may_split}
 use Rattle.codec_payload_jitter.proofs.NumbersLemmas.{are_true_numbers, none_restarts}
 use Rattle.codec_payload_jitter.specs.Numbers.{StayNear, GoOn, IsNumbering, Numbering, answer_for, numbering_after, is_restart, low_bits, moved, no_numbers, number_for, number_in, numbers_for}
 use Rattle.codec_payload_jitter.specs.declared.numbers.Extended.{Extended}
@@ -46,7 +46,8 @@ abbrev trues : ℕ → List ℕ → List ℕ
 trues number ks = map (λ (j : ℕ). number + j) ks
 
 -- what is the number of the first that was sent, where these are the true numbers but for one constant
-all_numbered : (number first reach : ℕ) (s : Numbering) (ks : List ℕ) → first + 65536 * (reach / 65536) ≡ number + 65536 → numbers_for s (map low_bits (trues number ks)) ≡ map (moved reach) (trues number ks)
+all_numbered : (number first reach : ℕ) (s : Numbering) (ks : List ℕ) → first + 65536 * (reach / 65536) ≡ number + 65536
+    → numbers_for s (map low_bits (trues number ks)) ≡ map (moved reach) (trues number ks)
     → GoOn s (map low_bits (trues number ks)) → AllNumbered first s ks
 all_numbered number first reach s [] is numbers on = tt
 all_numbered number first reach s (k ∷ ks) is numbers on =
@@ -90,7 +91,8 @@ max_more : (number g k : ℕ) → max (number + g) (number + k) ≡ number + max
 max_more number g k = omega arith
 
 -- what is told of indices holds of numbers
-stay_near : (forward backward number bound g : ℕ) (ks : List ℕ) → number < 65536 → bound < 2 ^ 63 → AllBelow bound ks → StayWithin forward backward g ks → StayNear forward backward (number + g) (trues number ks)
+stay_near : (forward backward number bound g : ℕ) (ks : List ℕ) → number < 65536 → bound < 2 ^ 63 → AllBelow bound ks → StayWithin forward backward g ks
+    → StayNear forward backward (number + g) (trues number ks)
 stay_near forward backward number bound g [] low few below within = tt
 stay_near forward backward number bound g (k ∷ ks) low few below within = (
   omega (arith, within.0),
@@ -169,7 +171,8 @@ module _ (samples : List Sample) (all_steps : List DatagramStep) (sender : Sendi
   }
 
   -- from a number with those low bits on
-  sends_from : (start : ℕ) → start < 2 ^ 32 → sender.stream.number % 2 ^ 16 ≡ (start + 0) % 2 ^ 16 → SendsRun receiver.packets.buffer sender.stream sender.mtu start 0 samples all_steps (begins sender receiver) t []
+  sends_from : (start : ℕ) → start < 2 ^ 32 → sender.stream.number % 2 ^ 16 ≡ (start + 0) % 2 ^ 16
+      → SendsRun receiver.packets.buffer sender.stream sender.mtu start 0 samples all_steps (begins sender receiver) t []
   sends_from start small same =
       sends_run receiver.packets.buffer sender.stream sender.mtu start small samples 0 all_steps (begins sender receiver) t []
       (record { mtu = refl; built_in = within.one_stream.built_in; kept = refl; number = same; reads = tt; numbered = tt; few = omega arith }) run
@@ -207,11 +210,13 @@ module _ (samples : List Sample) (all_steps : List DatagramStep) (sender : Sendi
       come.events t.pops t.session.packets.buffer come.meets
 
   told : (k : ℕ) (q : Packet) (m : RtpMeta) → core.IsMet rate come.events k q m → IsDelivery rate received k q m
-  told k q m known = (contains_in (steps.Deliver k m.received) received (delivery_of receiver.packets.ended received come.events k m come.brings (in_contains (Arrives k m) come.events known.0)), known.1)
+  told k q m known = (contains_in (steps.Deliver k m.received) received
+      (delivery_of receiver.packets.ended received come.events k m come.brings (in_contains (Arrives k m) come.events known.0)), known.1)
 
   all_come : AllComeFirst receiver.packets.buffer.limit (length t.datagrams) received → AllArriveFirst receiver.packets.buffer.limit sent.all come.events
   all_come come_first =
-      let split = split_at_end receiver.packets.ended come_first.before come_first.after come.events come_first.no_pops (subst (λ (es : List DatagramStep). Brings receiver.packets.ended es come.events) come_first.whole come.brings) in
+      let split = split_at_end receiver.packets.ended come_first.before come_first.after come.events come_first.no_pops
+          (subst (λ (es : List DatagramStep). Brings receiver.packets.ended es come.events) come_first.whole come.brings) in
       let count : length sent.all ≡ length t.datagrams = same_count sender.stream sent.all t.datagrams sent.at.reads in
       record {
         few = omega (arith, come_first.few, count);

@@ -8,14 +8,14 @@ use Rattle.codec_payload_base.specs.StrippedValues.{stripped}
 use Rattle.codec_payload_base.specs.declared.error.PacketError.{PacketError}
 use Rattle.codec_payload_base.specs.declared.error.PacketError.TheVariants as faults
 use Rattle.codec_payload_base.specs.declared.wire.extension.ExtensionValues.{ExtensionValues}
-use Rattle.codec_payload_buffer.specs.Pack.{Pack, G711Pack, G722Pack, OpusPack, ComfortNoisePack, TelePack, Vp8Pack, Vp9Pack, Av1Pack, AmrWbPack, NullPack, BoxedPack, PackStep, is_built_in, marker_of, talkspurt_of}
+use Rattle.codec_payload_codec.specs.Pack.{Pack, G711Pack, G722Pack, OpusPack, ComfortNoisePack, TelePack, Vp8Pack, Vp9Pack, Av1Pack, AmrWbPack, NullPack, BoxedPack, PackStep, is_built_in, marker_of, talkspurt_of}
 use Rattle.codec_payload_buffer.specs.Steps.{State}
-use Rattle.codec_payload_core.specs.Packets.{Packet, AreNumbered}
-use Rattle.codec_payload_core.specs.Schedule as core
-use Rattle.codec_payload_core.specs.Schedule.{Answer, RunState, run_state, packets_sent}
-use Rattle.codec_payload_core.specs.Sending.{Sample, AreAs, is_last, packet_for, packets_from, rtp_time_at}
-use Rattle.codec_payload_core.specs.declared.schedule.Sent.{Sent}
-use Rattle.codec_payload_core.specs.declared.schedule.Step.{Step}
+use Rattle.codec_payload_send.specs.Packets.{Packet, AreNumbered}
+use Rattle.codec_payload_runs.specs.Schedule as core
+use Rattle.codec_payload_runs.specs.Schedule.{Answer, RunState, run_state, packets_sent}
+use Rattle.codec_payload_send.specs.Sending.{Sample, AreAs, is_last, packet_for, packets_from, rtp_time_at}
+use Rattle.codec_payload_runs.specs.declared.run.Sent.{Sent}
+use Rattle.codec_payload_runs.specs.declared.run.Step.{Step}
 use Rattle.codec_payload_rtp.specs.RtpPackets.{Header}
 use Rattle.codec_payload_sender.specs.Datagrams.{IsSentAt, header_at, header_with}
 use Rattle.codec_payload_sender.specs.Senders.{Refuses, Sending, Sends}
@@ -66,7 +66,8 @@ are_as_themselves [] = tt
 are_as_themselves (p ∷ ps) = (refl, are_as_themselves ps)
 
 -- the packets of a sample have consecutive numbers
-from_numbered : (pack : Pack) (sample : Sample) (rtp_time number place : ℕ) (payloads : List (List ℕ)) → number + length payloads < 2 ^ 64 → AreNumbered number (packets_from pack sample rtp_time number place payloads)
+from_numbered : (pack : Pack) (sample : Sample) (rtp_time number place : ℕ) (payloads : List (List ℕ)) → number + length payloads < 2 ^ 64
+    → AreNumbered number (packets_from pack sample rtp_time number place payloads)
 from_numbered pack sample rtp_time number place [] few = tt
 from_numbered pack sample rtp_time number place (payload ∷ payloads) few =
     let next : (number + 1) % 2 ^ 64 ≡ number + 1 = omega arith in (
@@ -90,7 +91,8 @@ abbrev headed : Stream → Bool → ℕ → ℕ → ExtensionValues → Header
 headed stream marker number time values = header_with stream (record { marker = marker; number = number; time = time }) values
 
 -- headers of the same fields, whatever the number of the next packet is
-same_header : (sending stream : Stream) (m m' : Bool) (n n' t t' : ℕ) (values values' : ExtensionValues) → sending ≡ record stream { number = sending.number } → m ≡ m' → n ≡ n' → t ≡ t' → values ≡ values'
+same_header : (sending stream : Stream) (m m' : Bool) (n n' t t' : ℕ) (values values' : ExtensionValues) → sending ≡ record stream { number = sending.number }
+    → m ≡ m' → n ≡ n' → t ≡ t' → values ≡ values'
     → headed sending m n t values ≡ headed stream m' n' t' values'
 same_header sending stream m m' n n' t t' values values' kept e1 e2 e3 e4 =
     ap (λ (x : Stream). headed x m n t values) kept
@@ -113,14 +115,16 @@ sent_reads sending stream pack sample count number place (payload ∷ payloads) 
     subst (λ (n : ℕ). IsSentAt sending pack (sent_sample sample) count n payload d) (omega arith) (each 0 (omega arith)) in
     let all : count ≡ place + 1 + length payloads = omega (arith, whole) in
     let q : Packet = packet_for pack sample (rtp_time_at stream.clock_rate sample.rtp_time) number (stripped sample.ext_vals place (place + 1 + length payloads)) (is_last payloads) payload in
-    let marker : first.marker ≡ q.marker = first.marked built_in ∙ ap (λ (b : Bool). marker_of pack b || (talkspurt_of pack && sample.start_of_talk_spurt)) (ap (eqb (place + 1)) all ∙ last_is place payloads) in
+    let marker : first.marker ≡ q.marker = first.marked built_in
+        ∙ ap (λ (b : Bool). marker_of pack b || (talkspurt_of pack && sample.start_of_talk_spurt)) (ap (eqb (place + 1)) all ∙ last_is place payloads) in
     let header : header_at sending (sent_sample sample) place count first.marker ≡ headed stream q.marker (q.number % 2 ^ 16) q.rtp_time q.ext_vals =
     same_header sending stream first.marker q.marker ((sending.number + place) % 2 ^ 16) (q.number % 2 ^ 16) _ q.rtp_time _ q.ext_vals kept marker (sym low)
     (ap (λ (x : Stream). rtp_time_at x.clock_rate sample.rtp_time) kept) (ap (stripped sample.ext_vals place) all) in
     let reads : ReadsAs stream q d = first.reads ∙ ap (λ (h : Header). Ok (record { header = h; payload = payload; padding = 0 })) header in
     let next : (number + 1) % 2 ^ 64 ≡ number + 1 = omega arith in (
       reads,
-      sent_reads sending stream pack sample count ((number + 1) % 2 ^ 64) (place + 1) payloads ds kept built_in (omega (arith, same)) (omega (arith, whole)) (omega (arith, next)) (omega (arith, next, low))
+      sent_reads sending stream pack sample count ((number + 1) % 2 ^ 64) (place + 1) payloads ds kept built_in (omega (arith, same)) (omega (arith, whole))
+          (omega (arith, next)) (omega (arith, next, low))
           (λ i l. subst (λ (n : ℕ). IsSentAt sending pack (sent_sample sample) count n (slice_index_or payloads i []) (slice_index_or ds i [])) (omega arith) (each (suc i) (omega (arith, l)))),
     )
 
@@ -243,8 +247,10 @@ refused_both buffer stream budget start place sample fault s t before after pack
 one_sample : (buffer : State) (stream : Stream) (budget start place : ℕ) (sample : Sample) (fault : Option PacketError) (s t : Sending) (before after : List (List ℕ)) (packets : List Packet)
     → start < 2 ^ 32 → IsAt stream budget start s before packets → after ≡ before ++ t.datagrams → length after < 2 ^ 63 → SendsOrRefuses (sent_sample sample) s fault t
     → SendsBoth buffer stream budget start place sample s t after packets
-one_sample buffer stream budget start place sample None s t before after packets small at gained few sends = sent_both buffer stream budget start place sample s t before after packets small at gained few sends
-one_sample buffer stream budget start place sample (Some fault) s t before after packets small at gained few refuses = refused_both buffer stream budget start place sample fault s t before after packets at gained refuses.0 refuses.1
+one_sample buffer stream budget start place sample None s t before after packets small at gained few sends = sent_both buffer stream budget start place sample s t
+    before after packets small at gained few sends
+one_sample buffer stream budget start place sample (Some fault) s t before after packets small at gained few refuses = refused_both buffer stream budget start place
+    sample fault s t before after packets at gained refuses.0 refuses.1
 
 -- Whole runs
 
@@ -268,13 +274,16 @@ module _ (buffer : State) (stream : Stream) (budget start : ℕ) (small : start 
       subst (λ (x : Sending). IsAt stream budget start x mid.datagrams packets) (sym sending) (subst (λ (ds : List (List ℕ)). IsAt stream budget start s.sending ds packets) (sym datagrams) at)
 
   -- a step that sends no sample is none of a payloader
-  stays : (place : ℕ) (step : DatagramStep) (later : List DatagramStep) (s mid t : Wire) (packets : List Packet) → sending_steps budget (step ∷ later) ≡ sending_steps budget later → mid.sending ≡ s.sending
+  stays : (place : ℕ) (step : DatagramStep) (later : List DatagramStep) (s mid t : Wire) (packets : List Packet)
+      → sending_steps budget (step ∷ later) ≡ sending_steps budget later → mid.sending ≡ s.sending
       → Goes place later mid t packets → Goes place (step ∷ later) s t packets
   stays place step later s mid t packets none sending goes = record {
     all = goes.all;
     entries = goes.entries;
-    runs = subst (λ (ss : List Step). core.Runs samples place ss (running buffer start stream.clock_rate s.sending packets) goes.entries [] (running buffer start stream.clock_rate t.sending goes.all)) (sym none)
-        (subst (λ (x : Sending). core.Runs samples place (sending_steps budget later) (running buffer start stream.clock_rate x packets) goes.entries [] (running buffer start stream.clock_rate t.sending goes.all)) sending goes.runs);
+    runs = subst (λ (ss : List Step). core.Runs samples place ss (running buffer start stream.clock_rate s.sending packets) goes.entries []
+        (running buffer start stream.clock_rate t.sending goes.all)) (sym none)
+        (subst (λ (x : Sending). core.Runs samples place (sending_steps budget later) (running buffer start stream.clock_rate x packets) goes.entries []
+            (running buffer start stream.clock_rate t.sending goes.all)) sending goes.runs);
     at = goes.at;
   }
 
@@ -300,7 +309,8 @@ module _ (buffer : State) (stream : Stream) (budget start : ℕ) (small : start 
           d,
           refl,
           refl,
-          (refl, subst (λ (o : Option Sample). MatchOption o (◌≡◌ {A = List Sent} [] [] × (d ≡ c)) (λ sample. (entry : Sent) × ([] ≡ entry ∷ []) × core.SendsIt place budget sample c entry d)) (sym is) (refl, left)),
+          (refl, subst (λ (o : Option Sample). MatchOption o (◌≡◌ {A = List Sent} [] [] × (d ≡ c))
+              (λ sample. (entry : Sent) × ([] ≡ entry ∷ []) × core.SendsIt place budget sample c entry d)) (sym is) (refl, left)),
           goes.runs,
         );
         at = goes.at;
@@ -322,7 +332,8 @@ module _ (buffer : State) (stream : Stream) (budget start : ℕ) (small : start 
           d,
           refl,
           refl,
-          (refl, subst (λ (o : Option Sample). MatchOption o ((one ≡ []) × (d ≡ c)) (λ sample. (entry : Sent) × (one ≡ entry ∷ []) × core.SendsIt place budget sample c entry d)) (sym is) (both.entry, refl, both.sends)),
+          (refl, subst (λ (o : Option Sample). MatchOption o ((one ≡ []) × (d ≡ c))
+              (λ sample. (entry : Sent) × (one ≡ entry ∷ []) × core.SendsIt place budget sample c entry d)) (sym is) (both.entry, refl, both.sends)),
           goes.runs,
         );
         at = goes.at;
@@ -330,7 +341,8 @@ module _ (buffer : State) (stream : Stream) (budget start : ℕ) (small : start 
 
   -- a delivery leaves the sender and its datagrams
   delivery_leaves : (o : Option (List ℕ)) (now : Ticks) (s mid : Wire)
-      → MatchOption o (mid ≡ s) (λ bytes. (receipt : Receipt) × (session : Session) × Delivers now bytes s.session receipt session × (mid ≡ record s { session = session; receipts = s.receipts ++ receipt ∷ [] }))
+      → MatchOption o (mid ≡ s) (λ bytes. (receipt : Receipt) × (session : Session) × Delivers now bytes s.session receipt session
+          × (mid ≡ record s { session = session; receipts = s.receipts ++ receipt ∷ [] }))
       → (mid.sending ≡ s.sending) × (mid.datagrams ≡ s.datagrams)
   delivery_leaves None now s mid same = (ap (λ (x : Wire). x.sending) same, ap (λ (x : Wire). x.datagrams) same)
   delivery_leaves (Some bytes) now s mid done = (ap (λ (x : Wire). x.sending) done.3, ap (λ (x : Wire). x.datagrams) done.3)

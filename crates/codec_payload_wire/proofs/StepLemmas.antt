@@ -6,8 +6,8 @@ use Rattle.std.proofs.lemmas.List.{length-append}
 use Rattle.std.proofs.lemmas.Option.{slice_get_within}
 use Rattle.codec_payload_base.specs.declared.error.PacketError.TheVariants as faults
 use Rattle.codec_payload_base.specs.declared.wire.Ticks.{Ticks}
-use Rattle.codec_payload_core.specs.Schedule.{Answer}
-use Rattle.codec_payload_core.specs.Sending.{Sample}
+use Rattle.codec_payload_runs.specs.Schedule.{Answer}
+use Rattle.codec_payload_send.specs.Sending.{Sample}
 use Rattle.codec_payload_stream.specs.Sessions.{Session}
 use Rattle.codec_payload_wire.specs.Releases.{received_steps, sends_after, sent_after}
 use Rattle.codec_payload_wire.specs.WireRuns.{Delivers, PopsUnit, Receipt, Runs, SendsIt, Wire, ended}
@@ -77,13 +77,15 @@ module _ (samples : List Sample) where
         answers = comes.answers;
         pops = comes.pops ∙ ap (λ (x : Wire). x.pops ++ comes.answers) done.2;
         grows = λ k bytes there. comes.grows k bytes (subst (λ (ds : List (List ℕ)). slice_get ds k ≡ Some bytes) (sym all) (get_append s.datagrams mid.sending.datagrams k bytes there));
-        takes = subst (λ (o : Option Sample). Takes (Received (sent_after (length s.datagrams) o (entry ∷ comes.later)) later (sends_after o (entry ∷ comes.later))) t.datagrams s.session comes.answers t.session) (sym is)
+        takes = subst (λ (o : Option Sample). Takes (Received (sent_after (length s.datagrams) o (entry ∷ comes.later)) later (sends_after o (entry ∷ comes.later)))
+            t.datagrams s.session comes.answers t.session) (sym is)
             (subst (λ (n : ℕ). Takes (Received n later comes.later) t.datagrams s.session comes.answers t.session) count
             (subst (λ (x : Session). Takes (Received (length mid.datagrams) later comes.later) t.datagrams x comes.answers t.session) session comes.takes));
       }
 
   deliver_comes : (o : Option (List ℕ)) (k : ℕ) (now : Ticks) (later : List DatagramStep) (s mid t : Wire) → slice_get s.datagrams k ≡ o
-      → MatchOption o (mid ≡ s) (λ bytes. (receipt : Receipt) × (session : Session) × Delivers now bytes s.session receipt session × (mid ≡ record s { session = session; receipts = s.receipts ++ receipt ∷ [] }))
+      → MatchOption o (mid ≡ s) (λ bytes. (receipt : Receipt) × (session : Session) × Delivers now bytes s.session receipt session
+          × (mid ≡ record s { session = session; receipts = s.receipts ++ receipt ∷ [] }))
       → ComesTo samples later mid t → ComesTo samples (steps.Deliver k now ∷ later) s t
   deliver_comes None k now later s mid t is same comes =
       let c : ComesTo samples later s t = after_same later s mid t same comes in

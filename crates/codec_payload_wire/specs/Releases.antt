@@ -2,19 +2,19 @@
 use Rattle.std.specs.Prelude.{◌≡◌, ℕ, ◌+◌, ◌%◌, ◌^◌, ◌<◌, ◌≤◌, ◌⊎◌, ◌==◌, ◌&&◌, nat_lt, max, if◌then◌else◌, Bool, true, false, List, [], ◌∷◌, ◌++◌, Option, Some, None, Ok, Contains, length, map, slice_get, refl}
 use Rattle.std.proofs.Common.{lit<, lit≤}
 use Rattle.codec_payload_base.specs.declared.wire.Ticks.{Ticks}
-use Rattle.codec_payload_buffer.specs.Depack.{Depack, kind_of_depack}
-use Rattle.codec_payload_buffer.specs.Pack.{is_built_in}
+use Rattle.codec_payload_codec.specs.Depack.{Depack, kind_of_depack}
+use Rattle.codec_payload_codec.specs.Pack.{is_built_in}
 use Rattle.codec_payload_buffer.specs.declared.buffer.unit.RtpMeta.{RtpMeta}
-use Rattle.codec_payload_core.specs.Arrivals.{Tells}
-use Rattle.codec_payload_core.specs.Exact.{AnswersAll}
-use Rattle.codec_payload_core.specs.Headline.{InOrder}
-use Rattle.codec_payload_core.specs.Packets.{Packet}
-use Rattle.codec_payload_core.specs.Sending.{Sample}
-use Rattle.codec_payload_core.specs.SentStream.{AllEndWithTail, AreReadable, SentUnit, packets_of, units_of_run}
-use Rattle.codec_payload_core.specs.ToldIds.{read_by}
-use Rattle.codec_payload_core.specs.Units.{payloads_by, may_split}
-use Rattle.codec_payload_core.specs.declared.schedule.Step.{Step}
-use Rattle.codec_payload_core.specs.declared.schedule.Step.TheVariants as run_steps
+use Rattle.codec_payload_runs.specs.Arrivals.{Tells}
+use Rattle.codec_payload_runs.specs.Exact.{AnswersAll}
+use Rattle.codec_payload_runs.specs.Headline.{InOrder}
+use Rattle.codec_payload_send.specs.Packets.{Packet}
+use Rattle.codec_payload_send.specs.Sending.{Sample}
+use Rattle.codec_payload_runs.specs.SentStream.{AllEndWithTail, AreReadable, SentUnit, packets_of, units_of_run}
+use Rattle.codec_payload_runs.specs.ToldIds.{read_by}
+use Rattle.codec_payload_runs.specs.Units.{payloads_by, may_split}
+use Rattle.codec_payload_runs.specs.declared.run.Step.{Step}
+use Rattle.codec_payload_runs.specs.declared.run.Step.TheVariants as run_steps
 use Rattle.codec_payload_rtp.specs.RtpReading.{rtp_at}
 use Rattle.codec_payload_sender.specs.Datagrams.{header_with}
 use Rattle.codec_payload_sender.specs.Senders.{Sending}
@@ -167,7 +167,8 @@ ReleaseOverDatagrams =
 -- Examples
 
 -- of two datagrams that a sample gives, one is delivered before it is sent, and one is never sent: these deliveries are passed over
-pub received_steps-not_sent : (sample : Sample) (now : Ticks) → received_steps (sample ∷ []) 0 (steps.Deliver 0 now ∷ steps.Send 0 ∷ steps.Deliver 1 now ∷ steps.Deliver 2 now ∷ steps.Pop now ∷ []) (record { count = 2; fault = None } ∷ [])
+pub received_steps-not_sent : (sample : Sample) (now : Ticks)
+    → received_steps (sample ∷ []) 0 (steps.Deliver 0 now ∷ steps.Send 0 ∷ steps.Deliver 1 now ∷ steps.Deliver 2 now ∷ steps.Pop now ∷ []) (record { count = 2; fault = None } ∷ [])
     ≡ steps.Deliver 1 now ∷ steps.Pop now ∷ []
 received_steps-not_sent sample now = refl
 

@@ -4,8 +4,8 @@ use Rattle.std.specs.Global.{Vec}
 use Rattle.codec_payload_base.specs.declared.error.PacketError.{PacketError}
 use Rattle.codec_payload_base.specs.declared.error.PacketError.TheVariants as faults
 use Rattle.codec_payload_base.specs.declared.wire.Ticks.{Ticks}
-use Rattle.codec_payload_core.specs.Schedule.{Answer}
-use Rattle.codec_payload_core.specs.Sending.{Sample}
+use Rattle.codec_payload_runs.specs.Schedule.{Answer}
+use Rattle.codec_payload_send.specs.Sending.{Sample}
 use Rattle.codec_payload_jitter.specs.Receiving.{Receiving, PopsWith, settled, waiting_at}
 use Rattle.codec_payload_jitter.specs.declared.outcome.Outcome.{Outcome}
 use Rattle.codec_payload_sender.specs.Datagrams.{Sample as SentNow}

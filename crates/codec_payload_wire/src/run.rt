@@ -3,11 +3,11 @@
 ghost use Rattle.std.specs.Prelude.{◌≡◌, ◌≢◌, ◌<◌, ◌^◌, ◌++◌, ◌∷◌, [], List, length, map, IfOk, IfErr, OnOk, Option, Result};
 ghost use Rattle.std.specs.Result.{result_err};
 ghost use Rattle.codec_payload_base.specs.declared.error.PacketError.TheVariants.{OutOfMemory};
-ghost use Rattle.codec_payload_core.specs.Sending.{sample_of};
+ghost use Rattle.codec_payload_send.specs.Sending.{sample_of};
 ghost use Rattle.codec_payload_jitter.specs.declared.outcome.Outcome.{Outcome as Told};
 ghost use Rattle.codec_payload_stream.specs.declared.receiver.ReceiveError.{ReceiveError as Refusal};
 ghost use Rattle.codec_payload_stream.specs.declared.receiver.ReceiveError.TheVariants as refusals;
-ghost use Rattle.codec_payload_core.specs.Schedule.{Answer};
+ghost use Rattle.codec_payload_runs.specs.Schedule.{Answer};
 ghost use Rattle.codec_payload_stream.specs.Kinds.{datagram_at};
 ghost use Rattle.codec_payload_stream.specs.Sessions.{Heard};
 ghost use Rattle.codec_payload_wire.specs.Releases.{ReleasesWithinWindows};
@@ -17,7 +17,7 @@ ghost use Rattle.codec_payload_wire.specs.declared.run.SentSample.{SentSample as
 use codec_payload_base::error::PacketError;
 use codec_payload_base::wire::{Ticks, ToPayload};
 use codec_payload_buffer::buffer::Depacketized;
-use codec_payload_buffer::codec::{Depacketizer, Packetizer};
+use codec_payload_codec::codec::{Depacketizer, Packetizer};
 use codec_payload_sender::sender::{Sample, Sender};
 use codec_payload_stream::outcome::Outcome;
 use codec_payload_stream::receiver::{ReceiveError, Receiver};

@@ -2,7 +2,7 @@
 
 use crate::events::{pop, take};
 use codec_payload_base::wire::{Codec, Frequency};
-use codec_payload_buffer::codec::{CodecDepacketizer, NoBox};
+use codec_payload_codec::codec::{CodecDepacketizer, NoBox};
 use codec_payload_rtp::values::ExtensionIds;
 use codec_payload_stream::jitter::Patience;
 use codec_payload_stream::receiver::{Receiver, Settings};

@@ -3,7 +3,7 @@
 use codec_payload_base::error::PacketError;
 use codec_payload_base::wire::{Codec, Frequency, Ticks};
 use codec_payload_buffer::buffer::Depacketized;
-use codec_payload_buffer::codec::{CodecDepacketizer, NoBox};
+use codec_payload_codec::codec::{CodecDepacketizer, NoBox};
 use codec_payload_rtp::values::ExtensionIds;
 use codec_payload_stream::jitter::{Outcome, Patience};
 use codec_payload_stream::receiver::{Receiver, Settings};

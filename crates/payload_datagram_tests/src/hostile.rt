@@ -1,7 +1,7 @@
 //! Numbers in any order, and bytes of any kind.
 
 use crate::events::{WAITS, packet, pop, receiver_of, take};
-use codec_payload_buffer::codec::NoBox;
+use codec_payload_codec::codec::NoBox;
 use codec_payload_stream::receiver::{Counters, Receiver};
 use std::process::Abort;
 use std::test::Fail;

@@ -2,7 +2,7 @@
 
 use crate::events::{STARTS_LATER, pop_all, receiver_of, take};
 use codec_payload_base::wire::{Codec, ExtensionValues, Frequency, MediaTime};
-use codec_payload_buffer::codec::{CodecPacketizer, NoBox};
+use codec_payload_codec::codec::{CodecPacketizer, NoBox};
 use codec_payload_rtp::values::ExtensionIds;
 use codec_payload_sender::sender::{Counts, Sample, Sender, SenderError, SenderSettings};
 use codec_payload_stream::receiver::Receiver;

@@ -8,7 +8,7 @@ use crate::print::{
 };
 use crate::setup::{Draft, SenderSetup, Setting, Stream, sender_of};
 use codec_payload_base::wire::{ExtensionValues, Frequency, MediaTime, Ticks};
-use codec_payload_buffer::codec::NoBox;
+use codec_payload_codec::codec::NoBox;
 use codec_payload_sender::sender::{Sample, Sender};
 use codec_payload_stream::receiver::{ReceiveError, Receiver};
 use payload_lines::streams::ProgramFault;

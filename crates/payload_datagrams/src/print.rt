@@ -3,7 +3,7 @@
 use codec_payload_base::error::PacketError;
 use codec_payload_base::wire::Ticks;
 use codec_payload_buffer::buffer::Depacketized;
-use codec_payload_buffer::codec::NoBox;
+use codec_payload_codec::codec::NoBox;
 use codec_payload_sender::sender::Sender;
 use codec_payload_stream::jitter::Outcome;
 use codec_payload_stream::missing::MissingNumbers;

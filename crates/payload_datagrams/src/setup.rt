@@ -1,7 +1,7 @@
 //! What a receiver and a sender are made of.
 
 use codec_payload_base::wire::{Codec, CodecSpec, Frequency};
-use codec_payload_buffer::codec::{CodecDepacketizer, CodecPacketizer, NoBox};
+use codec_payload_codec::codec::{CodecDepacketizer, CodecPacketizer, NoBox};
 use codec_payload_rtp::values::ExtensionIds;
 use codec_payload_sender::sender::{Sender, SenderError, SenderSettings};
 use codec_payload_stream::jitter::Patience;

@@ -3,7 +3,7 @@
 use codec_payload_base::wire::{
     Codec, ExtensionValues, Frequency, MediaTime, Pt, Ticks, ToPayload,
 };
-use codec_payload_buffer::codec::{CodecDepacketizer, CodecPacketizer, NoBox};
+use codec_payload_codec::codec::{CodecDepacketizer, CodecPacketizer, NoBox};
 use codec_payload_rtp::values::ExtensionIds;
 use codec_payload_sender::sender::{Sender, SenderSettings};
 use codec_payload_stream::jitter::Patience;

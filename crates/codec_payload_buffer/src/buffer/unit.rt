@@ -2,11 +2,13 @@
 
 ghost use Rattle.std.specs.Prelude.{◌≡◌, ◌<◌, length, false};
 ghost use Rattle.std.specs.Range.{range_inclusive_start, range_inclusive_end, range_inclusive_exhausted};
-ghost use Rattle.codec_payload_buffer.specs.Release.{AreValues, IsFirst, IsLast, IsReceivedFirst};
+ghost use Rattle.codec_payload_buffer.specs.Release.{meta_of, AreValues, IsFirst, IsLast, IsReceivedFirst};
 ghost use Rattle.codec_payload_buffer.specs.declared.buffer.unit.RtpMeta.{RtpMeta as Meta};
 
 use codec_payload_base::interface::CodecExtra;
-use codec_payload_base::wire::{ExtensionValues, MediaTime, RtpHeader, SenderInfo, SeqNo, Ticks};
+use codec_payload_base::wire::{
+    ExtensionValues, MediaTime, Pt, RtpHeader, SenderInfo, SeqNo, Ticks,
+};
 use std::marker::Model;
 use std::ops::RangeInclusive;
 
@@ -20,6 +22,30 @@ pub struct RtpMeta {
     pub header: RtpHeader,
     /// What the latest sender report before it said.
     pub last_sender_info: Option<SenderInfo>,
+}
+
+impl RtpMeta {
+    /// What is known of a packet of which only its number, its time, its payload type and when it was received are known. Its
+    /// header has the low 16 bits of the number and the low 32 of the time's ticks, no marker, the SSRC 0 and no values of
+    /// header extensions; no sender report came before it. All fields are public, so a caller who knows more sets it.
+    pub fn of(seq_no: SeqNo, time: MediaTime, payload_type: Pt, received: Ticks) -> Self
+        ensures { result ≡ meta_of seq_no.0 time payload_type received.0 }
+    {
+        RtpMeta {
+            received,
+            time,
+            seq_no,
+            header: RtpHeader {
+                payload_type,
+                sequence_number: (seq_no.0 % (1 << 16)) as u16,
+                timestamp: (time.numer() % (1 << 32)) as u32,
+                ssrc: 0,
+                marker: false,
+                ext_vals: ExtensionValues::default(),
+            },
+            last_sender_info: None,
+        }
+    }
 }
 
 /// What is told of a unit whose bytes, and what is known of whose packets, lie in memory of the caller's.

@@ -8,4 +8,5 @@ returns c =
     let copied : c.copy_from_slice.new.self ≡ take c.min-front.result c.args.payload.now = search rules in
     let len : length c.copy_from_slice.new.self ≡ c.min-front.result = search rules in
     let reach : Reaches c.args.patch.now (length (take c.min-front.result c.args.payload.now)) = search rules in
-    patched_copy c.args.patch.now c.min-front.result c.args.payload.now c.copy_from_slice.new.self (drop c.min-front.result (0 ∷ 0 ∷ 0 ∷ 0 ∷ 0 ∷ 0 ∷ [])) c.copy_to.new.dst copied len c.copy_to.ensures reach
+    patched_copy c.args.patch.now c.min-front.result c.args.payload.now c.copy_from_slice.new.self
+        (drop c.min-front.result (0 ∷ 0 ∷ 0 ∷ 0 ∷ 0 ∷ 0 ∷ [])) c.copy_to.new.dst copied len c.copy_to.ensures reach

@@ -1,5 +1,5 @@
 use Rattle.std.proofs.Common.{◌≡◌, ◌<◌, ℕ, [], length, get_or}
-use Rattle.codec_payload_buffer.specs.Pack.{pack_of}
+use Rattle.codec_payload_codec.specs.Pack.{pack_of}
 use Rattle.codec_payload_sender.specs.Datagrams.{IsHeadedAt, sample_of}
 use Rattle.codec_payload_sender.proofs.sender.put_headers.Given as goal
 

@@ -1,6 +1,6 @@
 use Rattle.std.proofs.Common.{refl, sym, subst, map, List}
 use Rattle.std.proofs.lemmas.List.{drop_all, drop_more}
-use Rattle.codec_payload_core.specs.Sending.{sample_of}
+use Rattle.codec_payload_send.specs.Sending.{sample_of}
 use Rattle.codec_payload_wire.proofs.ReleaseLemmas.{release_over_datagrams}
 use Rattle.codec_payload_wire.specs.WireRuns.{Runs, Wire, wire_of}
 use Rattle.codec_payload_wire.specs.declared.run.DatagramStep.{DatagramStep}

@@ -1,5 +1,5 @@
 use Rattle.std.proofs.Common.{drop, map}
-use Rattle.codec_payload_core.specs.Sending.{sample_of}
+use Rattle.codec_payload_send.specs.Sending.{sample_of}
 use Rattle.codec_payload_wire.specs.WireRuns.{Runs, Wire, begins, wire_of}
 use Rattle.codec_payload_wire.proofs.run.run_datagrams.Given as goal
 

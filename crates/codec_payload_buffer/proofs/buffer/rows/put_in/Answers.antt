@@ -1,5 +1,5 @@
 use Rattle.std.proofs.Common.{◌≡◌, ◌∙◌, ◌<◌, sym, arith, length}
-use Rattle.codec_payload_buffer.proofs.CaseLemmas.{on_ok}
+use Rattle.codec_payload_codec.proofs.CaseLemmas.{on_ok}
 use Rattle.codec_payload_buffer.proofs.RowPlaces.{put_over, put_between, put_behind}
 use Rattle.codec_payload_buffer.proofs.buffer.rows.put_in.Goals.{then-place-len+else-meets, else-place-len}
 use Rattle.codec_payload_buffer.proofs.buffer.rows.put_in.Goals as goal

@@ -9,7 +9,8 @@ loop-low-preserved-then-number g c =
     record {
       order = omega (arith, c.loop-low-test.true);
       bound = c.loop-low.invariant.bound;
-      below = all_below g.T.Numbered.number_of c.args.items.now.items c.args.number middle c.index.result.now c.requires.rises within c.index.ensures (omega (arith, c.number.ensures, c.if-number.true));
+      below = all_below g.T.Numbered.number_of c.args.items.now.items c.args.number middle c.index.result.now c.requires.rises within c.index.ensures
+          (omega (arith, c.number.ensures, c.if-number.true));
       behind = c.loop-low.invariant.behind;
     }
 
@@ -21,5 +22,6 @@ loop-low-preserved g c =
       order = omega (arith, c.loop-low-test.true);
       bound = omega (arith, within);
       below = c.loop-low.invariant.below;
-      behind = none_below g.T.Numbered.number_of c.args.items.now.items c.args.number middle c.index.result.now c.requires.rises within c.index.ensures (omega (arith, c.number.ensures, c.if-number.false));
+      behind = none_below g.T.Numbered.number_of c.args.items.now.items c.args.number middle c.index.result.now c.requires.rises within c.index.ensures
+          (omega (arith, c.number.ensures, c.if-number.false));
     }

@@ -1,0 +1,2 @@
+pub mod Depack
+pub mod Pack

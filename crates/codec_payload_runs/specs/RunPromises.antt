@@ -1,0 +1,114 @@
+-- What is promised of a whole run.
+use Rattle.std.specs.Prelude.{List, map}
+use Rattle.codec_payload_base.specs.declared.wire.ToPayload.{ToPayload}
+use Rattle.codec_payload_runs.specs.Exact.{ReleasesUnits}
+use Rattle.codec_payload_runs.specs.Headline.{IsUnused, ReleasesInOrder}
+use Rattle.codec_payload_runs.specs.Log.{RunLog}
+use Rattle.codec_payload_runs.specs.RunCounts.{IsCounted}
+use Rattle.codec_payload_runs.specs.RunOrder.{IsOrderFree, IsContiguousAsSaid}
+use Rattle.codec_payload_runs.specs.RunValues.{HaveValuesOfSamples}
+use Rattle.codec_payload_runs.specs.RunUnits.{LosesNoneSilently, PassesNoneOver, PassesOnlyPastGap, BeginsAsSent}
+use Rattle.codec_payload_runs.specs.Schedule.{Answer, RunState, Runs}
+use Rattle.codec_payload_send.specs.Sending.{Sample, sample_of}
+use Rattle.codec_payload_runs.specs.SentStream.{AreReadable}
+use Rattle.codec_payload_runs.specs.declared.run.Run.{Run}
+use Rattle.codec_payload_runs.specs.declared.run.Sent.{Sent}
+use Rattle.codec_payload_runs.specs.declared.run.Step.{Step}
+
+-- a run: the samples, the steps, the payloader, the buffer and the sink before; the entries of the sends, the answers of
+-- the pops, and the three afterwards
+pub record Ran : Type 0 where
+  pub samples : List Sample
+  pub steps : List Step
+  pub before : RunState
+  pub sends : List Sent
+  pub pops : List Answer
+  pub after : RunState
+
+abbrev pub ran : List ToPayload → List Step → RunState → Run → RunState → Ran
+ran samples steps before run after = record { samples = map sample_of samples; steps = steps; before = before; sends = run.sends.items; pops = run.pops.items; after = after }
+
+-- the premises: the packetizer is that of a codec, the sink and the buffer are unused, the buffer reads what the payloader makes, and what is sent of the
+-- samples can be read again
+abbrev pub IsFresh : Ran → Type 0
+IsFresh r = IsUnused r.before × AreReadable r.before.payloading.pack r.samples
+
+-- a log tells the run pop by pop
+abbrev pub LogOf : Ran → Type 0
+LogOf r = RunLog r.samples r.steps r.before r.sends r.pops r.after
+
+-- this holds of each log of a run that keeps the premise
+abbrev pub OfEachLog : Type 0 → (r : Ran) → (LogOf r → Type 0) → Type 0
+OfEachLog premise r P = premise → (log : LogOf r) → P log
+
+-- Run as steps: the steps are done one after another, each as the call that it makes says.
+abbrev pub RunsAsSteps : Ran → Type 0
+RunsAsSteps r = Runs r.samples 0 r.steps r.before r.sends r.pops r.after
+
+-- Counts: one entry for each `Send` that names a sample, one answer for each `Pop`, and the sink gains what the entries
+-- count. This and the run as steps hold of every codec, also of a caller's own.
+abbrev pub CountsSteps : Ran → Type 0
+CountsSteps r = IsCounted r.samples r.steps r.before r.sends r.pops r.after
+
+-- The safety half: whatever is lost, repeated and reordered, the canonical units of the samples are released, in order,
+-- each at most once and whole.
+abbrev pub IsSafe : Type 0 → Ran → Type 0
+IsSafe premise r = premise → ReleasesInOrder r.samples r.steps r.before r.sends r.pops r.after
+
+-- The exact half: where the buffer has room for all packets and each is pushed before the first pop, all of these units.
+abbrev pub IsExact : Type 0 → Ran → Type 0
+IsExact premise r = premise → ReleasesUnits r.samples r.steps r.before r.sends r.pops r.after
+
+-- Every run can be told pop by pop: what was pushed since the pop before, the answer, and the buffer.
+abbrev pub IsLogged : Type 0 → Ran → Type 0
+IsLogged premise r = premise → LogOf r
+
+-- Order: of the packets pushed between two pops only the set counts, evictions included, neither order nor repeats.
+abbrev pub IsFreeOfOrder : Type 0 → Ran → Type 0
+IsFreeOfOrder premise r = OfEachLog premise r IsOrderFree
+
+-- Contiguous: where not both picture id and TL0PICIDX are sent, a unit is told contiguous exactly where its first number follows the last of
+-- the release before, or it is the first and no packet was evicted before it.
+abbrev pub TellsContiguous : Type 0 → Ran → Type 0
+TellsContiguous premise r = OfEachLog premise r IsContiguousAsSaid
+
+-- No silent loss: a unit that is held whole before a pop is released by that or a later one, or held whole in the end,
+-- unless a packet of it was evicted, or a pop passed it over.
+abbrev pub LosesNothingSilently : Type 0 → Ran → Type 0
+LosesNothingSilently premise r = OfEachLog premise r LosesNoneSilently
+
+-- Where not both picture id and TL0PICIDX are sent, no pop passes a unit over.
+abbrev pub PassesNothingOver : Type 0 → Ran → Type 0
+PassesNothingOver premise r = OfEachLog premise r PassesNoneOver
+
+-- Where both are, a unit is passed over only behind 16,384 units in a row of which no pop took one.
+abbrev pub PassesOverPastGaps : Type 0 → Ran → Type 0
+PassesOverPastGaps premise r = OfEachLog premise r PassesOnlyPastGap
+
+-- Beginning: where the first release is the first unit, whole, nothing is evicted and no pop is made too early, the units
+-- released are the first of those that were sent, each whole.
+abbrev pub BeginsWithFirst : Type 0 → Ran → Type 0
+BeginsWithFirst premise r = OfEachLog premise r BeginsAsSent
+
+-- Extension values: a release that is a unit of video, whole, has the extension values of the sample of that unit.
+abbrev pub TellsExtensionValues : Type 0 → Ran → Type 0
+TellsExtensionValues premise r = premise → (released : ReleasesInOrder r.samples r.steps r.before r.sends r.pops r.after) → HaveValuesOfSamples released
+
+-- all of it, where that premise is kept
+pub record KeepsPromisesIf (premise : Type 0) (r : Ran) : Type 0 where
+  pub run_as_steps : RunsAsSteps r
+  pub counted : CountsSteps r
+  pub safety_half : IsSafe premise r
+  pub exact_half : IsExact premise r
+  pub logged : IsLogged premise r
+  pub order : IsFreeOfOrder premise r
+  pub contiguous : TellsContiguous premise r
+  pub no_silent_loss : LosesNothingSilently premise r
+  pub none_passed_over : PassesNothingOver premise r
+  pub passed_over : PassesOverPastGaps premise r
+  pub beginning : BeginsWithFirst premise r
+  pub extension_values : TellsExtensionValues premise r
+
+-- all of it, of a fresh run
+abbrev pub KeepsPromises : Ran → Type 0
+KeepsPromises r = KeepsPromisesIf (IsFresh r) r

@@ -1,0 +1,101 @@
+-- Picture ids of 15 bits, which packets carry and a depacketizer extends.
+use Rattle.std.specs.Prelude.{◌≡◌, ℕ, ◌+◌, ◌-◌, ◌<◌, ◌≤◌, ◌%◌, ◌^◌, Bool, true, false, Option, Some, None, refl}
+use Rattle.codec_payload_base.specs.declared.interface.CodecExtra.{CodecExtra}
+use Rattle.codec_payload_base.specs.declared.interface.CodecExtra.TheVariants as extras
+use Rattle.codec_payload_base.specs.declared.interface.Vp9CodecExtra.{Vp9CodecExtra}
+use Rattle.codec_payload_base.specs.declared.interface.Vp9PacketizerMode.{Vp9PacketizerMode}
+use Rattle.codec_payload_base.specs.declared.interface.Vp9PacketizerMode.TheVariants.{Flexible, NonFlexible}
+use Rattle.codec_payload_codec.specs.Depack.{Depack, G711Depack, OpusDepack, NullDepack, Vp8Depack, Vp9Depack, ComfortNoiseDepack, TeleDepack, Av1Depack, AmrWbDepack, BoxedDepack}
+use Rattle.codec_payload_codec.specs.Pack.{Pack, G711Pack, G722Pack, OpusPack, NullPack, Vp8Pack, Vp9Pack, ComfortNoisePack, TelePack, Av1Pack, AmrWbPack, BoxedPack}
+
+-- the picture id that was read last, as it was carried, and extended
+pub record ReadId : Type 0 where
+  pub raw : ℕ
+  pub extended : ℕ
+
+-- how far an id lies ahead of another, round the circle of 15 bits
+abbrev pub ahead : ℕ → ℕ → ℕ
+ahead raw id = (id + 32768 - raw % 32768) % 32768
+
+-- the extension of an id that is read: the id, where none was read before; and of one at most half the circle ahead of one
+-- of 15 bits, as much more
+abbrev pub IsNextId : Option ReadId → ℕ → ℕ → Type 0
+IsNextId None id next = next ≡ id
+IsNextId (Some r) id next = r.raw < 32768 → ahead r.raw id ≤ 16384 → next ≡ (r.extended + ahead r.raw id) % 2 ^ 64
+
+-- the id that was read last, by what a depacketizer holds: the extended one, where one was read, and the bits of the last
+abbrev pub read_last : Option ℕ → ℕ → Option ReadId
+read_last None raw = None
+read_last (Some extended) raw = Some (record { raw = raw; extended = extended })
+
+abbrev pub is_absent : Option ℕ → Bool
+is_absent None = true
+is_absent (Some n) = false
+
+-- the id of the base layer was not told
+abbrev pub lacks_base : CodecExtra → Bool
+lacks_base (extras.Vp8 extra) = is_absent extra.tl0_picture_id
+lacks_base (extras.Vp9 extra) = is_absent extra.tl0_picture_id
+lacks_base extra = true
+
+-- a VP9 frame of the base layer, whose packets carry that picture id, was put together: both ids were told. What was read
+-- before, the extra, and what is read last then
+pub record TellsPicture (id : ℕ) (before : Option ReadId) (extra : CodecExtra) (after : Option ReadId) : Type 0 where
+  pub told : Vp9CodecExtra
+  pub is : extra ≡ extras.Vp9 told
+  pub picture : ℕ
+  pub base : ℕ
+  pub has_picture : told.picture_id ≡ Some picture
+  pub has_base : told.tl0_picture_id ≡ Some base
+  pub base_layer : told.tid ≡ Some 0
+  pub next : IsNextId before id picture
+  pub read : after ≡ Some (record { raw = id; extended = picture })
+
+-- the same of any unit: one whose packets do not carry both ids tells none of the base layer
+abbrev pub Tells : Option ℕ → Option ReadId → CodecExtra → Option ReadId → Type 0
+Tells None before extra after = lacks_base extra ≡ true
+Tells (Some id) before extra after = TellsPicture id before extra after
+
+-- what a depacketizer read last, where it extends the ids of frames with both
+abbrev pub read_by : Depack → Option ReadId
+read_by G711Depack = None
+read_by OpusDepack = None
+read_by NullDepack = None
+read_by (Vp8Depack d) = None
+read_by (Vp9Depack d) = read_last d.extended_pid d.picture_id
+read_by ComfortNoiseDepack = None
+read_by (TeleDepack rate) = None
+read_by (Av1Depack pending) = None
+read_by (AmrWbDepack octet) = None
+read_by BoxedDepack = None
+
+-- frames of the non-flexible mode of VP9 carry both ids
+abbrev pub id_in : Vp9PacketizerMode → ℕ → Option ℕ
+id_in NonFlexible id = Some id
+id_in Flexible id = None
+
+-- the id of the next unit, where units carry both ids
+abbrev pub next_id : Pack → Option ℕ
+next_id G711Pack = None
+next_id G722Pack = None
+next_id OpusPack = None
+next_id NullPack = None
+next_id (Vp8Pack id) = None
+next_id (Vp9Pack sender) = id_in sender.mode sender.picture_id
+next_id ComfortNoisePack = None
+next_id TelePack = None
+next_id Av1Pack = None
+next_id (AmrWbPack octet) = None
+next_id BoxedPack = None
+
+-- the id of the unit that comes m units later
+abbrev pub id_later : Option ℕ → ℕ → Option ℕ
+id_later None m = None
+id_later (Some id) m = Some ((id + m) % 32768)
+
+-- the circle goes on from its end
+pub ahead-round : ahead 32767 3 ≡ 4
+ahead-round = refl
+
+pub id_later-round : id_later (Some 32766) 3 ≡ Some 1
+id_later-round = refl

@@ -1,0 +1,249 @@
+//! Runs with RED: samples are sent in RED, and a push pushes what a receiver finds in a packet (RFC 2198).
+
+ghost use Rattle.std.specs.Prelude.{◌≡◌, ◌≢◌, ◌++◌, ◌⊎◌, List, map, length, IfOk, IfErr, OnOk, OnErr, Option, Result};
+ghost use Rattle.codec_payload_base.specs.declared.error.PacketError.TheVariants.{OutOfMemory};
+ghost use Rattle.codec_payload_buffer.specs.Held.{Held};
+ghost use Rattle.codec_payload_buffer.specs.Steps.{State, IsArrived, pushed};
+ghost use Rattle.codec_payload_send.specs.Packets.{Packet, packet_of};
+ghost use Rattle.codec_payload_runs.specs.RedPromises.{KeepsRedPromises, ran_in_red, protection_of};
+ghost use Rattle.codec_payload_runs.specs.RedSchedule.{red_state, meta_of_recovered, PushesAll, RedPushes, StopsAmong, StopsPushing, SendsInRed, DoesRedStep, StopsSendingInRed, StopsAtInRed, StopsInRed};
+ghost use Rattle.codec_payload_runs.specs.Schedule.{Answer, run_state, SendsIt};
+ghost use Rattle.codec_payload_send.specs.Sending.{sample_of};
+ghost use Rattle.codec_payload_runs.specs.declared.run.Sent.{Sent as Entry};
+ghost use Rattle.codec_payload_red.specs.RedRecovery.{packet_of as recovered_of};
+
+use crate::run::{RedRun, Run, Sent, Step, pop_step, refusal};
+use codec_payload_base::error::PacketError;
+use codec_payload_base::wire::{ExtensionValues, Frequency, MediaTime, Pt, RtpHeader, Ticks, ToPayload};
+use codec_payload_buffer::buffer::{DepacketizingBuffer, RtpMeta};
+use codec_payload_codec::codec::{Depacketizer, Packetizer};
+use codec_payload_red::red::{Recovered, RedReceiver, RedSender};
+use codec_payload_send::memory_sink::MemorySink;
+use codec_payload_send::payloader::Payloader;
+use codec_payload_send::red_sink::RedSink;
+use codec_payload_send::sink::OutgoingPacket;
+use std::alloc::Global;
+
+/// Pushes a copy of a packet that was recovered from `packet`.
+fn push_recovered<D: Depacketizer>(
+    alloc: Global,
+    clock_rate: Frequency,
+    buffer: &mut DepacketizingBuffer<D>,
+    packet: &OutgoingPacket,
+    recovered: &Recovered<'_>,
+    pt: u8,
+    place: usize,
+) -> Result<(), PacketError>
+    ensures ok { OnOk result ((held : Held) × IsArrived buffer.old.depack (meta_of_recovered place clock_rate pt (packet_of packet.now) (recovered_of recovered.now)) recovered.now.payload.now held
+        × (buffer.new ≡ pushed buffer.old held)) }
+    ensures limit { buffer.new.limit ≡ buffer.old.limit }
+    ensures fault { IfErr result (λ fault. fault ≡ OutOfMemory) }
+    ensures err { OnErr result (buffer.new ≡ buffer.old) }
+{
+    let payload = Vec::from_slice(alloc, recovered.payload)?;
+    let ext_vals = if recovered.is_primary {
+        packet.ext_vals
+    } else {
+        ExtensionValues::default()
+    };
+    let meta = RtpMeta {
+        received: Ticks(place as u64),
+        time: MediaTime::new(u64::from(recovered.rtp_time), clock_rate),
+        seq_no: recovered.seq_no,
+        header: RtpHeader {
+            payload_type: Pt::new_with_value(pt),
+            sequence_number: (recovered.seq_no.0 % (1 << 16)) as u16,
+            timestamp: recovered.rtp_time,
+            ssrc: 0,
+            marker: recovered.is_primary && packet.marker,
+            ext_vals,
+        },
+        last_sender_info: None,
+    };
+    buffer.push(meta, payload)
+}
+
+/// Pushes packets that were recovered from `packet`, in order.
+fn push_all_recovered<D: Depacketizer>(
+    alloc: Global,
+    clock_rate: Frequency,
+    buffer: &mut DepacketizingBuffer<D>,
+    packet: &OutgoingPacket,
+    recovered: &[Recovered<'_>],
+    pt: u8,
+    place: usize,
+) -> Result<(), PacketError>
+    ensures ok { OnOk result (PushesAll place clock_rate pt (packet_of packet.now) (map recovered_of recovered.now) buffer.old buffer.new) }
+    ensures limit { buffer.new.limit ≡ buffer.old.limit }
+    ensures fault { IfErr result (λ fault. fault ≡ OutOfMemory) }
+    ensures err { OnErr result (StopsAmong place clock_rate pt (packet_of packet.now) (map recovered_of recovered.now) buffer.old buffer.new) }
+{
+    let Some((first, others)) = recovered.split_first() else {
+        return Ok(());
+    };
+    push_recovered(alloc, clock_rate, buffer, packet, first, pt, place)?;
+    push_all_recovered(alloc, clock_rate, buffer, packet, others, pt, place)
+}
+
+/// Pushes what the receiver finds in a packet. A payload that is no RED is passed over.
+fn red_push_step<D: Depacketizer>(
+    alloc: Global,
+    clock_rate: Frequency,
+    buffer: &mut DepacketizingBuffer<D>,
+    packet: &OutgoingPacket,
+    receiver: &RedReceiver,
+    place: usize,
+) -> Result<(), PacketError>
+    ensures ok { OnOk result (RedPushes place clock_rate receiver.now (Option.Some (packet_of packet.now)) buffer.old buffer.new) }
+    ensures limit { buffer.new.limit ≡ buffer.old.limit }
+    ensures fault { IfErr result (λ fault. fault ≡ OutOfMemory) }
+    ensures err { OnErr result (StopsPushing place clock_rate receiver.now (packet_of packet.now) buffer.old buffer.new) }
+{
+    match receiver.recover(alloc, packet.seq_no, packet.rtp_time, &packet.payload) {
+        Ok(recovered) => {
+            let pt = receiver.primary_pt();
+            push_all_recovered(alloc, clock_rate, buffer, packet, &recovered, pt, place)
+        }
+        Err(PacketError::OutOfMemory) => Err(PacketError::OutOfMemory),
+        Err(_) => Ok(()),
+    }
+}
+
+/// Sends a sample in RED.
+fn red_send_step<P: Packetizer>(
+    alloc: Global,
+    payloader: &mut Payloader<P>,
+    sink: &mut MemorySink,
+    red: &mut RedRun<'_>,
+    sample: &ToPayload,
+    mtu: usize,
+    place: usize,
+) -> Result<Sent, PacketError>
+    ensures ok { IfOk result (λ entry. (buffer : State) → (sent : List Packet) → length sent ≡ length sink.old.packets
+        → (now : List Packet) × (length now ≡ length sink.new.packets)
+        × SendsIt place mtu (sample_of sample.now) (run_state payloader.old buffer (record sink.old { packets = sent })) entry (run_state payloader.new buffer (record sink.new { packets = now }))
+        × SendsInRed red.old.budget (red_state payloader.old buffer sink.old sent red.old.sender.now) (red_state payloader.new buffer sink.new now red.new.sender.now)) }
+    ensures fault { IfErr result (λ fault. fault ≡ OutOfMemory) }
+    ensures err { OnErr result ((buffer : State) → (sent : List Packet) → length sent ≡ length sink.old.packets
+        → (now : List Packet) × (length now ≡ length sink.new.packets)
+        × StopsSendingInRed red.old.budget mtu (sample_of sample.now) (red_state payloader.old buffer sink.old sent red.old.sender.now) (red_state payloader.new buffer sink.new now red.new.sender.now)) }
+    ensures loan { red.new.sender.ghost_name ≡ red.old.sender.ghost_name }
+    ensures protection { protection_of red.new ≡ protection_of red.old }
+{
+    let first = sink.packets().len();
+    let mut in_red = RedSink::new(sink, red.sender, red.budget);
+    let fault = refusal(payloader.push_sample(alloc, sample, mtu, &mut in_red))?;
+    Ok(Sent {
+        step: place,
+        first,
+        count: sink.packets().len() - first,
+        fault,
+    })
+}
+
+/// Does one step, and notes what came of it.
+fn do_red_step<P: Packetizer, D: Depacketizer>(
+    payloader: &mut Payloader<P>,
+    buffer: &mut DepacketizingBuffer<D>,
+    sink: &mut MemorySink,
+    red: &mut RedRun<'_>,
+    samples: &[ToPayload],
+    place: usize,
+    step: Step,
+    run: &mut Run,
+) -> Result<(), PacketError>
+    ensures ok { OnOk result ((sent : List Packet) → length sent ≡ length sink.old.packets
+        → (now : List Packet) × (sends : List Entry) × (pops : List Answer) × (length now ≡ length sink.new.packets)
+        × (run.new.sends.items ≡ run.old.sends.items ++ sends) × (run.new.pops.items ≡ run.old.pops.items ++ pops)
+        × DoesRedStep (protection_of red.old) (map sample_of samples.now) place step
+        (red_state payloader.old buffer.old sink.old sent red.old.sender.now) sends pops (red_state payloader.new buffer.new sink.new now red.new.sender.now)) }
+    ensures limit { buffer.new.limit ≡ buffer.old.limit }
+    ensures fault { IfErr result (λ fault. fault ≡ OutOfMemory) }
+    ensures err { OnErr result ((sent : List Packet) → length sent ≡ length sink.old.packets
+        → (now : List Packet) × (length now ≡ length sink.new.packets)
+        × StopsAtInRed (protection_of red.old) (map sample_of samples.now) place step
+        (red_state payloader.old buffer.old sink.old sent red.old.sender.now) (red_state payloader.new buffer.new sink.new now red.new.sender.now)) }
+    ensures loan { red.new.sender.ghost_name ≡ red.old.sender.ghost_name }
+    ensures protection { protection_of red.new ≡ protection_of red.old }
+{
+    let alloc = *run.sends.allocator();
+    match step {
+        Step::Send { sample, mtu } => {
+            let Some(sample) = samples.get(sample) else {
+                return Ok(());
+            };
+            run.sends.reserve(1)?;
+            let entry = red_send_step(alloc, payloader, sink, red, sample, mtu, place)?;
+            run.sends.push(entry).unwrap();
+            Ok(())
+        }
+        Step::Push(k) => {
+            let Some(packet) = sink.packets().get(k) else {
+                return Ok(());
+            };
+            let clock_rate = payloader.clock_rate();
+            red_push_step(alloc, clock_rate, buffer, packet, red.receiver, place)
+        }
+        Step::Pop => pop_step(buffer, run),
+    }
+}
+
+/// Does what [`run_schedule`](crate::run::run_schedule) does with this [`RedRun`], which stands behind a reference here,
+/// so that the contract says how its sender is left. Its budget and its receiver stay.
+pub fn run_in_red<P: Packetizer, D: Depacketizer>(
+    alloc: Global,
+    payloader: &mut Payloader<P>,
+    buffer: &mut DepacketizingBuffer<D>,
+    sink: &mut MemorySink,
+    red: &mut RedRun<'_>,
+    samples: &[ToPayload],
+    steps: &[Step],
+) -> Result<Run, PacketError>
+    ensures promises { IfOk result (λ run. (sent : List Packet) × KeepsRedPromises (ran_in_red (protection_of red.old) samples.now steps.now
+        (red_state payloader.old buffer.old sink.old sink.old.packets red.old.sender.now) run (red_state payloader.new buffer.new sink.new sent red.new.sender.now))) }
+    ensures limit { buffer.new.limit ≡ buffer.old.limit }
+    ensures fault { IfErr result (λ fault. fault ≡ OutOfMemory) }
+    ensures stops { OnErr result ((sent : List Packet) × StopsInRed (protection_of red.old) (map sample_of samples.now) 0 steps.now
+        (red_state payloader.old buffer.old sink.old sink.old.packets red.old.sender.now) (red_state payloader.new buffer.new sink.new sent red.new.sender.now)) }
+    // What it borrows, and budget and receiver.
+    ensures loan { red.new.sender.ghost_name ≡ red.old.sender.ghost_name }
+    ensures protection { protection_of red.new ≡ protection_of red.old }
+{
+    let mut run = Run {
+        sends: Vec::new(alloc),
+        pops: Vec::new(alloc),
+    };
+    for (place, step) in steps.iter().enumerate() {
+        do_red_step(
+            payloader, buffer, sink, red, samples, place, *step, &mut run,
+        )?;
+    }
+    Ok(run)
+}
+
+/// Does the same with a sender, a budget and a receiver by themselves.
+pub(crate) fn run_with_sender<P: Packetizer, D: Depacketizer>(
+    alloc: Global,
+    payloader: &mut Payloader<P>,
+    buffer: &mut DepacketizingBuffer<D>,
+    sink: &mut MemorySink,
+    sender: &mut RedSender,
+    budget: usize,
+    receiver: &RedReceiver,
+    samples: &[ToPayload],
+    steps: &[Step],
+) -> Result<Run, PacketError>
+    ensures promises { IfOk result (λ run. (sent : List Packet) × KeepsRedPromises (ran_in_red (record { budget = budget; receiver = receiver.now }) samples.now steps.now
+        (red_state payloader.old buffer.old sink.old sink.old.packets sender.old) run (red_state payloader.new buffer.new sink.new sent sender.new))) }
+    ensures limit { buffer.new.limit ≡ buffer.old.limit }
+    ensures fault { IfErr result (λ fault. fault ≡ OutOfMemory) }
+    ensures stops { OnErr result ((sent : List Packet) × StopsInRed (record { budget = budget; receiver = receiver.now }) (map sample_of samples.now) 0 steps.now
+        (red_state payloader.old buffer.old sink.old sink.old.packets sender.old) (red_state payloader.new buffer.new sink.new sent sender.new)) }
+{
+    let mut red = RedRun {
+        sender,
+        budget,
+        receiver,
+    };
+    run_in_red(alloc, payloader, buffer, sink, &mut red, samples, steps)
+}

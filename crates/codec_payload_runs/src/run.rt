@@ -1,0 +1,207 @@
+//! Whole runs: samples are sent, some of their packets are pushed, in any order, and units are popped.
+
+ghost use Rattle.std.specs.Prelude.{◌≡◌, ◌≢◌, ◌∷◌, ◌++◌, ◌⊎◌, [], List, ◌≤◌, ◌^◌, ◌↔◌, map, IfOk, IfErr, IfSome, IsNone, OnOk, OnErr, Option, Result};
+ghost use Rattle.std.specs.Result.{result_err};
+ghost use Rattle.codec_payload_base.specs.declared.error.PacketError.TheVariants.{OutOfMemory};
+ghost use Rattle.codec_payload_red.specs.RedLevels.{Sender};
+ghost use Rattle.codec_payload_codec.specs.Pack.{pack_for};
+ghost use Rattle.codec_payload_buffer.specs.Steps.{Pops};
+ghost use Rattle.codec_payload_send.specs.Packets.{Packet};
+ghost use Rattle.codec_payload_send.specs.Sending.{sample_of};
+ghost use Rattle.codec_payload_runs.specs.RedPromises.{KeepsRedPromises, LeavesSender, ran_in_red, protection_of};
+ghost use Rattle.codec_payload_runs.specs.RedSchedule.{red_state, StopsInRed};
+ghost use Rattle.codec_payload_runs.specs.RunPromises.{KeepsPromises, ran};
+ghost use Rattle.codec_payload_runs.specs.RunStream.{RunsStream};
+ghost use Rattle.codec_payload_runs.specs.Schedule.{run_state, Stops, Answer, Pushes};
+
+use crate::plain::run_plain;
+use crate::red::run_with_sender;
+use codec_payload_base::error::PacketError;
+use codec_payload_base::wire::{CodecSpec, ToPayload};
+use codec_payload_buffer::buffer::{Depacketized, DepacketizingBuffer};
+use codec_payload_codec::codec::{CodecDepacketizer, Depacketizer, Packetizer, Vp9PacketizerMode};
+use codec_payload_red::red::{RedReceiver, RedSender};
+use codec_payload_send::memory_sink::MemorySink;
+use codec_payload_send::payloader::Payloader;
+use codec_payload_send::red_sink::RedSink;
+use std::alloc::Global;
+
+/// One step of a run.
+#[derive(Clone, Copy, Debug, PartialEq, Eq)]
+pub enum Step {
+    /// Sends the sample of that index, cut for an MTU in bytes. Passed over where there is no such sample.
+    Send { sample: usize, mtu: usize },
+    /// Pushes a copy of the packet of that index, from 0, that the sink holds. Passed over where there is no such packet.
+    Push(usize),
+    /// Pops.
+    Pop,
+}
+
+/// What came of the steps.
+#[derive(Debug, Drop)]
+pub struct Run {
+    /// One entry for each `Send` step that names a sample, in order.
+    pub sends: Vec<Sent>,
+    /// What each `Pop` step was answered, in order.
+    pub pops: Vec<Option<Result<Depacketized, PacketError>>>,
+}
+
+/// What came of a `Send` step.
+#[derive(Debug, Drop)]
+pub struct Sent {
+    /// The place of the step, from 0.
+    pub step: usize,
+    /// How many packets the sink held before it.
+    pub first: usize,
+    /// How many packets it sent.
+    pub count: usize,
+    /// Why nothing was sent, if the sample was refused.
+    pub fault: Option<PacketError>,
+}
+
+/// How a run uses RED (RFC 2198).
+#[derive(Drop)]
+pub struct RedRun<'a> {
+    /// Puts the packets in RED that are sent.
+    pub sender: &'a mut RedSender,
+    /// The most bytes that a payload in RED may have: see [`RedSender::wrap`].
+    pub budget: usize,
+    /// Finds what the pushed packets hold.
+    pub receiver: &'a RedReceiver,
+}
+
+/// How a stream is sent and received.
+#[derive(Clone, Copy, Debug, PartialEq, Eq)]
+pub struct Stream {
+    /// Its codec, its RTP clock and the layout of its payloads, for both sides.
+    pub spec: CodecSpec,
+    /// The mode of a VP9 packetizer.
+    pub mode: Vp9PacketizerMode,
+    /// The picture id of the first frame of a VP9 packetizer: 0 to 32,767.
+    pub first_id: u16,
+    /// The number of the first packet: 0 to 2^62.
+    pub first_number: u64,
+    /// How many complete frames may wait behind a gap; one more, and the gap is given up.
+    pub hold_back: usize,
+    /// How many packets the buffer holds at most: 1 to 65,536.
+    pub limit: usize,
+}
+
+/// Does the steps in order: sends samples into the sink, pushes packets that the sink holds into the buffer, and pops.
+///
+/// A `Send` whose sample the packetizer refuses is noted with the fault, and the run goes on. Want of memory ends the run:
+/// the payloader, the buffer and the sink are then as the refused call left them, and the units popped before are given
+/// up with the entries. Room for an entry is found before its step begins, so no unit is popped that cannot be answered.
+///
+/// Each pushed packet is a copy. The cost is that of the calls, one after another.
+///
+/// With `red`, a `Send` goes through a [`RedSink`](codec_payload_send::red_sink::RedSink), and a `Push` pushes each packet that the
+/// receiver recovers from the payload of the packet it names, in payload order, instead of that packet. Each is told with
+/// its own number and RTP time under the receiver's payload type; the packet itself, which comes last, with its marker and
+/// its values of header extensions, those that were sent before it without. A payload that is no RED (fault 14) is passed
+/// over. On want of memory the packets before the refused one stay pushed.
+pub fn run_schedule<P: Packetizer, D: Depacketizer>(
+    alloc: Global,
+    payloader: &mut Payloader<P>,
+    buffer: &mut DepacketizingBuffer<D>,
+    sink: &mut MemorySink,
+    samples: &[ToPayload],
+    steps: &[Step],
+    red: Option<RedRun<'_>>,
+) -> Result<Run, PacketError>
+    // Without RED: run as steps, both halves of the theorem, order, contiguous, no silent loss, beginning: see
+    // `specs/RunPromises.antt`.
+    ensures promises { IsNone red.entry → IfOk result (λ run. KeepsPromises (ran samples.now steps.now (run_state payloader.old buffer.old sink.old) run (run_state payloader.new buffer.new sink.new))) }
+    ensures limit { buffer.new.limit ≡ buffer.old.limit }
+    ensures fault { IfErr result (λ fault. fault ≡ OutOfMemory) }
+    ensures stops { IsNone red.entry → OnErr result (Stops (map sample_of samples.now) 0 steps.now (run_state payloader.old buffer.old sink.old)
+        (run_state payloader.new buffer.new sink.new)) }
+    // With RED: run as steps, and the same promises with what is recovered as further pushes: see `specs/RedPromises.antt`.
+    // Some packets make them true: those that were sent, as they were before they were put in RED. The sender is that behind
+    // the reference, as the run leaves it.
+    ensures red_promises { IfSome red.entry (λ lent. (sender : Sender) × LeavesSender red.exit sender × IfOk result (λ run. (sent : List Packet) × KeepsRedPromises (ran_in_red (protection_of lent) samples.now steps.now
+        (red_state payloader.old buffer.old sink.old sink.old.packets lent.sender.now) run (red_state payloader.new buffer.new sink.new sent sender)))) }
+    ensures red_stops { IfSome red.entry (λ lent. (sender : Sender) × LeavesSender red.exit sender × OnErr result ((sent : List Packet) × StopsInRed (protection_of lent) (map sample_of samples.now) 0 steps.now
+        (red_state payloader.old buffer.old sink.old sink.old.packets lent.sender.now) (red_state payloader.new buffer.new sink.new sent sender))) }
+{
+    match red {
+        None => run_plain(alloc, payloader, buffer, sink, samples, steps),
+        Some(red) => {
+            let budget = red.budget;
+            let receiver = red.receiver;
+            run_with_sender(
+                alloc, payloader, buffer, sink, red.sender, budget, receiver, samples, steps,
+            )
+        }
+    }
+}
+
+/// Builds a payloader, a buffer and a sink for a stream, both sides configured by its specification, and runs the steps
+/// over them. The answer is `None` where the codec has no packetizer.
+pub fn run_stream(
+    alloc: Global,
+    stream: Stream,
+    samples: &[ToPayload],
+    steps: &[Step],
+) -> Result<Option<Run>, PacketError>
+    requires id { stream.first_id ≤ 32767 }
+    requires number { stream.first_number ≤ 2 ^ 62 }
+    requires least { 1 ≤ stream.limit }
+    requires most { stream.limit ≤ 65536 }
+    ensures none { (result ≡ Result.Ok Option.None) ↔ (pack_for stream.mode stream.first_id stream.spec.codec ≡ Option.None) }
+    ensures promises { IfOk result (λ run. IfSome run (RunsStream stream samples.now steps.now)) }
+    ensures fault { IfErr result (λ fault. fault ≡ OutOfMemory) }
+{
+    let Some(mut payloader) = Payloader::new(stream.spec, stream.mode, stream.first_id) else {
+        return Ok(None);
+    };
+    let Some(mut depack) = CodecDepacketizer::from_codec(alloc, stream.spec.codec) else {
+        return Ok(None);
+    };
+    depack.configure_for(&stream.spec);
+    let mut buffer = DepacketizingBuffer::with_limit(alloc, depack, stream.hold_back, stream.limit);
+    let mut sink = MemorySink::new(alloc, stream.first_number);
+    let run = run_schedule(
+        alloc,
+        &mut payloader,
+        &mut buffer,
+        &mut sink,
+        samples,
+        steps,
+        None,
+    )?;
+    Ok(Some(run))
+}
+
+/// Why the sample was refused, if it was. Want of memory is no refusal.
+pub(crate) fn refusal(answer: Result<(), PacketError>) -> Result<Option<PacketError>, PacketError>
+    ensures ok { IfOk result (λ fault. (fault ≡ result_err answer) × (fault ≢ Option.Some OutOfMemory)) }
+    ensures fault { IfErr result (λ fault. fault ≡ OutOfMemory) }
+    ensures err { OnErr result (answer ≡ Result.Err OutOfMemory) }
+{
+    match answer.err() {
+        Some(PacketError::OutOfMemory) => Err(PacketError::OutOfMemory),
+        fault => Ok(fault),
+    }
+}
+
+/// Pops, and notes the answer, for which it finds room first. Want of memory is no answer.
+pub(crate) fn pop_step<D: Depacketizer>(
+    buffer: &mut DepacketizingBuffer<D>,
+    run: &mut Run,
+) -> Result<(), PacketError>
+    ensures ok { OnOk result ((answer : Answer) × (run.new.sends.items ≡ run.old.sends.items) × (run.new.pops.items ≡ run.old.pops.items ++ answer ∷ [])
+        × (answer ≢ Option.Some (Result.Err OutOfMemory)) × Pops buffer.old answer buffer.new) }
+    ensures limit { buffer.new.limit ≡ buffer.old.limit }
+    ensures fault { IfErr result (λ fault. fault ≡ OutOfMemory) }
+    ensures err { OnErr result ((buffer.new ≡ buffer.old) ⊎ Pops buffer.old (Option.Some (Result.Err OutOfMemory)) buffer.new) }
+{
+    run.pops.reserve(1)?;
+    match buffer.pop() {
+        Some(Err(PacketError::OutOfMemory)) => Err(PacketError::OutOfMemory),
+        answer => {
+            run.pops.push(answer).unwrap();
+            Ok(())
+        }
+    }
+}

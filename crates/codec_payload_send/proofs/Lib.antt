@@ -1,0 +1,2 @@
+pub mod OwnSendLemmas
+pub mod SendLemmas

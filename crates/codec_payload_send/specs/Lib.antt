@@ -1,0 +1,4 @@
+pub mod OwnSending
+pub mod Packets
+pub mod RedPackets
+pub mod Sending

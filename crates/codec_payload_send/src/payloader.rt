@@ -1,0 +1,162 @@
+//! Samples cut into packets and sent to a sink.
+
+ghost use Rattle.std.specs.Prelude.{◌≡◌, ◌∷◌, ◌++◌, ◌+◌, ◌%◌, ◌^◌, ◌<◌, ◌≤◌, ◌⊎◌, [], Option, option_map, OnOk, IfErr, Ok, false};
+ghost use Rattle.codec_payload_codec.specs.Pack.{pack_of, pack_for, configured, is_built_in};
+ghost use Rattle.codec_payload_codec.specs.declared.codec.packetizer.CodecPacketizer.TheVariants.{Boxed};
+ghost use Rattle.codec_payload_send.specs.Packets.{Packet};
+ghost use Rattle.codec_payload_send.specs.OwnSending.{OwnPacket, OwnSample};
+ghost use Rattle.codec_payload_send.specs.Sending.{sample_of, packet_for, IsAs, SendsSample, SendsBeginning, SendsNothing};
+
+use crate::sink::{OutgoingPacket, PacketSink};
+use codec_payload_base::error::PacketError;
+use codec_payload_base::wire::{CodecSpec, ExtensionValues, Frequency, ToPayload};
+use codec_payload_codec::codec::{CodecPacketizer, NoBox, Packetizer, Vp9PacketizerMode};
+use std::alloc::Global;
+use std::marker::Model;
+
+/// Cuts samples of one codec into packets and sends them.
+#[derive(Debug, Drop)]
+pub struct Payloader<B = NoBox> {
+    pack: CodecPacketizer<B>,
+    clock_rate: Frequency,
+}
+
+impl<B> Model for Payloader<B> {
+    ghost use Rattle.codec_payload_send.specs.Sending.{Payloading};
+
+    ghost Value = { Payloading };
+
+    ghost use Rattle.codec_payload_codec.specs.Pack.{pack_of};
+
+    ghost view = { λ p. record { pack = pack_of p.pack; clock_rate = p.clock_rate } };
+}
+
+impl Payloader {
+    /// A payloader for a codec, or `None` where the codec has no packetizer. Its RTP clock has the rate that the
+    /// specification gives, and payloads have the layout that it gives. `mode` and `first_id` are those of VP9: its mode, and
+    /// the picture id of the first frame, of at most 15 bits, which is asked for whatever the codec.
+    pub fn new(spec: CodecSpec, mode: Vp9PacketizerMode, first_id: u16) -> Option<Self>
+        requires { first_id ≤ 32767 }
+        ensures { result ≡ option_map (λ pack. record { pack = configured spec.octet_align pack; clock_rate = spec.clock_rate }) (pack_for mode first_id spec.codec) }
+    {
+        let mut pack = CodecPacketizer::new(spec.codec, mode, first_id)?;
+        pack.configure_for(&spec);
+        Some(Payloader::with_packetizer(pack, spec.clock_rate))
+    }
+}
+
+impl<B: Packetizer> Payloader<B> {
+    /// A payloader over that packetizer, with an RTP clock of that rate.
+    pub fn with_packetizer(pack: CodecPacketizer<B>, rate: Frequency) -> Self
+        ensures { result ≡ record { pack = pack_of pack; clock_rate = rate } }
+    {
+        Payloader {
+            pack,
+            clock_rate: rate,
+        }
+    }
+
+    /// The rate of the RTP clock.
+    pub fn clock_rate(&self) -> Frequency
+        ensures { result ≡ self.now.clock_rate }
+    {
+        self.clock_rate
+    }
+
+    /// Sends the packets of a sample, cut for an MTU in bytes, in order. Of its extension values, capture time and layers
+    /// allocation go on the first packet alone, orientation, content type and timing on the last alone, and all others on
+    /// each. A fault of the packetizer sends nothing. Where the sink refuses a packet, those before it are sent, and the
+    /// packetizer has gone on.
+    ///
+    /// Each payload byte is copied once, from the sample into its packet.
+    pub fn push_sample<S: PacketSink>(
+        &mut self,
+        alloc: Global,
+        sample: &ToPayload,
+        mtu: usize,
+        sink: &mut S,
+    ) -> Result<(), PacketError>
+        ensures clock { self.new.clock_rate ≡ self.old.clock_rate }
+        ensures ok { OnOk result (SendsSample S.accepts S.sent S.next mtu (sample_of sample.now) self.old sink.old self.new sink.new) }
+        ensures err { IfErr result (λ fault. SendsNothing mtu (sample_of sample.now) fault self.old sink.old self.new sink.new
+            ⊎ SendsBeginning S.accepts S.refuses S.sent S.next mtu (sample_of sample.now) fault self.old sink.old self.new sink.new) }
+        // A packetizer that the caller brings is asked once for the payloads, and once for each marker.
+        ensures own { is_built_in self.old.pack ≡ false → (before : B) × (after : B)
+            × OwnSample B.state B.packetize_step B.marker_step B.marks_spurts B.may_be_asked_for S.accepts S.refuses S.sent S.next self.old.clock_rate mtu (sample_of sample.now) before sink.old result after sink.new }
+        ensures kept { S.keeps sink.old sink.new }
+    {
+        send_sample(&mut self.pack, self.clock_rate, alloc, sample, mtu, sink)
+    }
+}
+
+/// Sends the packets of a sample that the packetizer gives, by an RTP clock of that rate.
+fn send_sample<B: Packetizer, S: PacketSink>(
+    pack: &mut CodecPacketizer<B>,
+    clock_rate: Frequency,
+    alloc: Global,
+    sample: &ToPayload,
+    mtu: usize,
+    sink: &mut S,
+) -> Result<(), PacketError>
+    ensures ok { OnOk result (SendsSample S.accepts S.sent S.next mtu (sample_of sample.now) (record { pack = pack_of pack.old; clock_rate = clock_rate }) sink.old (record { pack = pack_of pack.new; clock_rate = clock_rate }) sink.new) }
+    ensures err { IfErr result (λ fault. SendsNothing mtu (sample_of sample.now) fault (record { pack = pack_of pack.old; clock_rate = clock_rate }) sink.old (record { pack = pack_of pack.new; clock_rate = clock_rate }) sink.new
+        ⊎ SendsBeginning S.accepts S.refuses S.sent S.next mtu (sample_of sample.now) fault (record { pack = pack_of pack.old; clock_rate = clock_rate }) sink.old (record { pack = pack_of pack.new; clock_rate = clock_rate }) sink.new) }
+    ensures own { (before : B) → pack.old ≡ Boxed before → (after : B) × (pack.new ≡ Boxed after)
+        × OwnSample B.state B.packetize_step B.marker_step B.marks_spurts B.may_be_asked_for S.accepts S.refuses S.sent S.next clock_rate mtu (sample_of sample.now) before sink.old result after sink.new }
+    ensures kept { S.keeps sink.old sink.new }
+{
+    let payloads = pack.packetize(alloc, mtu, &sample.bytes)?;
+    let rtp_time = (sample.rtp_time.rebase(clock_rate).numer() % (1 << 32)) as u32;
+    let count = payloads.len();
+    let mut place = 0;
+    for payload in payloads {
+        let ext_vals = sample.ext_vals.for_packet(place, count);
+        place += 1;
+        send_payload(
+            pack,
+            sample,
+            rtp_time,
+            ext_vals,
+            payload,
+            place == count,
+            sink,
+        )?;
+    }
+    Ok(())
+}
+
+/// Sends one payload of a sample, with those of its extension values that go on it.
+fn send_payload<B: Packetizer, S: PacketSink>(
+    pack: &mut CodecPacketizer<B>,
+    sample: &ToPayload,
+    rtp_time: u32,
+    ext_vals: ExtensionValues,
+    payload: Vec<u8>,
+    last: bool,
+    sink: &mut S,
+) -> Result<(), PacketError>
+    ensures same { pack_of pack.new ≡ pack_of pack.old }
+    ensures ok { let told = packet_for (pack_of pack.old) (sample_of sample.now) rtp_time (S.next sink.old) ext_vals last payload.items in
+        OnOk result ((packet : Packet) × IsAs (is_built_in (pack_of pack.old)) packet told × (image : Packet) × S.accepts sink.old packet image sink.new
+        × (S.sent sink.new ≡ S.sent sink.old ++ image ∷ []) × (S.next sink.new ≡ (S.next sink.old + 1) % 2 ^ 64)) }
+    ensures err { let told = packet_for (pack_of pack.old) (sample_of sample.now) rtp_time (S.next sink.old) ext_vals last payload.items in
+        IfErr result (λ fault. (packet : Packet) × IsAs (is_built_in (pack_of pack.old)) packet told × S.refuses sink.old packet fault sink.new
+        × (S.sent sink.new ≡ S.sent sink.old) × (S.next sink.new ≡ S.next sink.old)) }
+    ensures own { (before : B) → pack.old ≡ Boxed before → (after : B) × (pack.new ≡ Boxed after)
+        × OwnPacket B.state B.marker_step B.marks_spurts B.may_be_asked_for S.accepts S.refuses S.sent S.next (sample_of sample.now) rtp_time ext_vals last payload.items before sink.old result after sink.new }
+    ensures kept { S.keeps sink.old sink.new }
+{
+    let starts = pack.marks_talkspurt() && sample.start_of_talk_spurt;
+    let marker = pack.is_marker(&payload, sink.last_packet(), last) || starts;
+    let seq_no = sink.next_seq_no();
+    sink.send(OutgoingPacket {
+        pt: sample.pt,
+        seq_no,
+        rtp_time,
+        wallclock: sample.wallclock,
+        marker,
+        nackable: pack.nackable(),
+        ext_vals,
+        payload,
+    })
+}

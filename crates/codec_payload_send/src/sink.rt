@@ -1,0 +1,66 @@
+//! Packets on their way out, and where they go.
+
+ghost use Rattle.std.specs.Prelude.{◌≡◌, ◌∷◌, ◌++◌, ◌+◌, ◌%◌, ◌^◌, ◌<◌, ℕ, List, [], Option, OnOk, IfErr};
+ghost use Rattle.std.specs.Option.{option_copied};
+ghost use Rattle.codec_payload_base.specs.declared.error.PacketError.{PacketError as Fault};
+ghost use Rattle.codec_payload_send.specs.Packets.{Packet, packet_of, last_payload};
+
+use codec_payload_base::error::PacketError;
+use codec_payload_base::wire::{ExtensionValues, Pt, SeqNo, Ticks};
+
+/// A packet on its way out.
+#[derive(Drop)]
+pub struct OutgoingPacket {
+    pub pt: Pt,
+    pub seq_no: SeqNo,
+    /// In ticks of the RTP clock, modulo 2^32.
+    pub rtp_time: u32,
+    /// That of the sample, by the caller's clock.
+    pub wallclock: Ticks,
+    pub marker: bool,
+    /// Whether a receiver may ask for the packet again.
+    pub nackable: bool,
+    pub ext_vals: ExtensionValues,
+    pub payload: Vec<u8>,
+}
+
+/// Where packets go.
+pub trait PacketSink {
+    /// What it sent.
+    ghost sent: { Self → List Packet };
+
+    /// The number of the next packet.
+    ghost next: { Self → ℕ };
+
+    /// The sink before, a packet, what the sink made of it, and the sink afterwards.
+    ghost accepts: { Self → Packet → Packet → Self → Type 0 };
+
+    /// The sink before, a packet, the fault with which it was refused, and the sink afterwards.
+    ghost refuses: { Self → Packet → Fault → Self → Type 0 };
+
+    /// The sink afterwards still borrows what it borrowed before.
+    ghost keeps: { Self → Self → Type 0 };
+
+    /// The number that the next packet gets.
+    fn next_seq_no(&mut self) -> SeqNo
+        ensures number { result.0 ≡ next self.old }
+        ensures same { self.new ≡ self.old };
+
+    /// The payload of the packet that was sent last, if any was.
+    fn last_packet(&self) -> Option<&[u8]>
+        ensures { option_copied result ≡ last_payload (sent self.now) };
+
+    /// Sends a packet. A refused one leaves what was sent, and the next number, as they were.
+    fn send(&mut self, packet: OutgoingPacket) -> Result<(), PacketError>
+        ensures ok { OnOk result ((image : Packet) × accepts self.old (packet_of packet) image self.new
+            × (sent self.new ≡ sent self.old ++ image ∷ []) × (next self.new ≡ (next self.old + 1) % 2 ^ 64)) }
+        ensures err { IfErr result (λ fault. refuses self.old (packet_of packet) fault self.new
+            × (sent self.new ≡ sent self.old) × (next self.new ≡ next self.old)) }
+        ensures kept { keeps self.old self.new };
+
+    /// A sink that stays as it is keeps what it borrows.
+    ghost keeps_same: { (x : Self) → keeps x x };
+
+    /// What is kept from one sink to the next, and from that one to a third, is kept from the first to the third.
+    ghost keeps_on: { (x y z : Self) → keeps x y → keeps y z → keeps x z };
+}
