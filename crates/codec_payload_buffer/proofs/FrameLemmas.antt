@@ -2,7 +2,7 @@
 use Rattle.std.proofs.Common.{◌≡◌, ℕ, ◌<◌, ◌≤◌, ◌+◌, ◌-◌, [], ◌∷◌, ◌++◌, List, refl, ap, sym, ◌∙◌, subst, arith, true, false, cond, Option, Some, None, inl, inr, ◌⊎◌}
 use Rattle.std.specs.Prelude.{Contains}
 use Rattle.std.proofs.lemmas.Bool.{cases_lt}
-use Rattle.codec_payload_buffer.specs.declared.buffer.frames.Segment.{Segment}
+use Rattle.codec_payload_buffer.specs.declared.buffer.frames.CompleteFrame.{CompleteFrame}
 use Rattle.codec_payload_buffer.specs.Held.{Held, Rises, AllAbove}
 use Rattle.codec_payload_buffer.specs.Frames.{frames, frames_after, frame_at, ended_at, lowest_head, row_before, leads_to, start_or_here, IsRow, IsHeadAt, IsFrame, StartAbove, StartsRise, StandApart, AreFramesOfSet, AreInOrder, AreApart, AreOnlyList}
 use Rattle.codec_payload_codec.proofs.CaseLemmas.{by_test, not_both}
@@ -194,7 +194,7 @@ lowest_at : (held earlier : List Held) (p : Held) (later : List Held) → IsPart
 lowest_at held earlier p later parted = lowest_is p earlier (parted_next held earlier p later parted).falls
 
 -- the frame that is found at p is one of the set
-found_at : (held earlier : List Held) (p : Held) (later : List Held) → IsParted held earlier (p ∷ later) → (f : Segment) → IsIn f (frame_at p earlier)
+found_at : (held earlier : List Held) (p : Held) (later : List Held) → IsParted held earlier (p ∷ later) → (f : CompleteFrame) → IsIn f (frame_at p earlier)
     → IsFrame held f × (f.last ≡ p.meta.seq_no.0) × (p.tail ≡ true)
 found_at held earlier p later parted f =
     by_test p.tail (λ b. IsIn f (cond b (ended_at p (lowest_head (p ∷ row_before p earlier))) []) → IsFrame held f × (f.last ≡ p.meta.seq_no.0) × (p.tail ≡ true))
@@ -216,12 +216,12 @@ found_at held earlier p later parted f =
             (row_into held (p ∷ earlier) p m (upto held earlier p later parted) row)
             (head_into held (p ∷ earlier) p.meta.seq_no.0 m (upto held earlier p later parted) row.to_end head);
       }),
-      ap (λ (g : Segment). g.last) e,
+      ap (λ (g : CompleteFrame). g.last) e,
       tail,
     )
 
 -- and each frame of the set that ends at p is found there
-finds_at : (held earlier : List Held) (p : Held) (later : List Held) → IsParted held earlier (p ∷ later) → (f : Segment) → f.last ≡ p.meta.seq_no.0 → p.tail ≡ true
+finds_at : (held earlier : List Held) (p : Held) (later : List Held) → IsParted held earlier (p ∷ later) → (f : CompleteFrame) → f.last ≡ p.meta.seq_no.0 → p.tail ≡ true
     → IsRow held f.first p → IsHeadAt held f.first → ((m : ℕ) → IsRow held m p → IsHeadAt held m → f.first ≤ m) → IsIn f (frame_at p earlier)
 finds_at held earlier p later parted f last tail row head least =
     subst (λ b. IsIn f (cond b (ended_at p (lowest_head (p ∷ row_before p earlier))) [])) (sym tail)
@@ -244,7 +244,8 @@ finds_at held earlier p later parted f last tail row head least =
         inl (rw (← first, ← last) refl)
 
 -- what is found is a frame of the set
-sound : (held earlier later : List Held) → IsParted held earlier later → (f : Segment) → IsIn f (frames_after earlier later) → (p : Held) × IsFrame held f × (f.last ≡ p.meta.seq_no.0) × IsIn p later
+sound : (held earlier later : List Held) → IsParted held earlier later → (f : CompleteFrame) → IsIn f (frames_after earlier later) → (p : Held) × IsFrame held f
+    × (f.last ≡ p.meta.seq_no.0) × IsIn p later
 sound held earlier [] parted f h = absurd h
 sound held earlier (p ∷ later) parted f h = elim (in_append f (frame_at p earlier) (frames_after (p ∷ earlier) later) h) [
   | inl at ↦ let found = found_at held earlier p later parted f at in (p, found.0, found.1, inl refl)
@@ -252,7 +253,7 @@ sound held earlier (p ∷ later) parted f h = elim (in_append f (frame_at p earl
 ]
 
 -- each frame of the set is found
-complete : (held earlier later : List Held) → IsParted held earlier later → (f : Segment) (b : Held) → IsIn b later → f.last ≡ b.meta.seq_no.0 → b.tail ≡ true
+complete : (held earlier later : List Held) → IsParted held earlier later → (f : CompleteFrame) (b : Held) → IsIn b later → f.last ≡ b.meta.seq_no.0 → b.tail ≡ true
     → IsRow held f.first b → IsHeadAt held f.first → ((m : ℕ) → IsRow held m b → IsHeadAt held m → f.first ≤ m) → IsIn f (frames_after earlier later)
 complete held earlier [] parted f b h last tail row head least = absurd h
 complete held earlier (p ∷ later) parted f b (inr h) last tail row head least =
@@ -267,22 +268,22 @@ complete held earlier (p ∷ later) parted f b (inl e) last tail row head least 
 parted_all : (held : List Held) → Rises held → IsParted held [] held
 parted_all held r = record { falls = tt; rises = r; apart = λ q x h k. absurd h; into = λ q h. inr h; back = λ q h. elim h [ inl n ↦ absurd n | inr k ↦ k ] }
 
-frame_to : (held : List Held) → Rises held → (f : Segment) → Contains (frames held) f → IsFrame held f
+frame_to : (held : List Held) → Rises held → (f : CompleteFrame) → Contains (frames held) f → IsFrame held f
 frame_to held r f h = (sound held [] held (parted_all held r) f (in_contains f (frames held) h)).1
 
-frame_from : (held : List Held) → Rises held → (f : Segment) → IsFrame held f → Contains (frames held) f
+frame_from : (held : List Held) → Rises held → (f : CompleteFrame) → IsFrame held f → Contains (frames held) f
 frame_from held r f is =
     contains_in f (frames held) (complete held [] held (parted_all held r) f is.end (in_contains is.end held is.held_end) (sym is.at_end) is.is_tail is.row is.begins is.lowest)
 
 pub are_frames : AreFramesOfSet
 are_frames held r f = (frame_to held r f, frame_from held r f)
 
-start_above_from : (n : ℕ) (fs : List Segment) → ((f : Segment) → IsIn f fs → n < f.first) → StartAbove n fs
+start_above_from : (n : ℕ) (fs : List CompleteFrame) → ((f : CompleteFrame) → IsIn f fs → n < f.first) → StartAbove n fs
 start_above_from n [] each = tt
 start_above_from n (f ∷ fs) each = (each f (inl refl), start_above_from n fs (λ g h. each g (inr h)))
 
 -- a frame that ends above a tail starts above it
-after_tail : (held earlier : List Held) (p : Held) (later : List Held) → IsParted held earlier (p ∷ later) → p.tail ≡ true → (g : Segment) → IsFrame held g
+after_tail : (held earlier : List Held) (p : Held) (later : List Held) → IsParted held earlier (p ∷ later) → p.tail ≡ true → (g : CompleteFrame) → IsFrame held g
     → p.meta.seq_no.0 < g.last → p.meta.seq_no.0 < g.first
 after_tail held earlier p later parted tail g is l = elim (cases_lt p.meta.seq_no.0 g.first) [
   | inl over ↦ over
@@ -293,7 +294,7 @@ after_tail held earlier p later parted tail g is l = elim (cases_lt p.meta.seq_n
       absurd (not_both p.tail tail (ap (λ (h : Held). h.tail) (sym same) ∙ q.4 (omega (arith, is.at_end))))
 ]
 
-abbrev AtMostOne : List Segment → Type 0
+abbrev AtMostOne : List CompleteFrame → Type 0
 AtMostOne [] = Unit {0}
 AtMostOne (f ∷ []) = Unit {0}
 AtMostOne (f ∷ g ∷ fs) = ⊥
@@ -308,8 +309,8 @@ apart_after held earlier (p ∷ later) parted =
     one None = tt
     one (Some n) = tt
 
-    joined : StandApart (frames_after (p ∷ earlier) later) → (fs : List Segment)
-        → ((f : Segment) → IsIn f fs → IsFrame held f × (f.last ≡ p.meta.seq_no.0) × (p.tail ≡ true)) → AtMostOne fs → StandApart (fs ++ frames_after (p ∷ earlier) later)
+    joined : StandApart (frames_after (p ∷ earlier) later) → (fs : List CompleteFrame)
+        → ((f : CompleteFrame) → IsIn f fs → IsFrame held f × (f.last ≡ p.meta.seq_no.0) × (p.tail ≡ true)) → AtMostOne fs → StandApart (fs ++ frames_after (p ∷ earlier) later)
     joined rest [] each few = rest
     joined rest (f ∷ g ∷ fs) each few = absurd few
     joined rest (f ∷ []) each few =
@@ -326,26 +327,26 @@ apart_after held earlier (p ∷ later) parted =
 pub are_apart : AreApart
 are_apart held r = apart_after held [] held (parted_all held r)
 
-start_lower : (m n : ℕ) (fs : List Segment) → m ≤ n → StartAbove n fs → StartAbove m fs
+start_lower : (m n : ℕ) (fs : List CompleteFrame) → m ≤ n → StartAbove n fs → StartAbove m fs
 start_lower m n [] le a = tt
 start_lower m n (f ∷ fs) le a = (omega (arith, a.0), start_lower m n fs le a.1)
 
-rise_from_apart : (fs : List Segment) → StandApart fs → StartsRise fs
+rise_from_apart : (fs : List CompleteFrame) → StandApart fs → StartsRise fs
 rise_from_apart [] a = tt
 rise_from_apart (f ∷ fs) a = (start_lower f.first f.last fs a.0 a.1, rise_from_apart fs a.2)
 
 pub are_in_order : AreInOrder
 are_in_order held r = rise_from_apart (frames held) (are_apart held r)
 
-key_from_start : (n : ℕ) (fs : List Segment) → StartAbove n fs → KeysAbove (λ (f : Segment). f.first) n fs
+key_from_start : (n : ℕ) (fs : List CompleteFrame) → StartAbove n fs → KeysAbove (λ (f : CompleteFrame). f.first) n fs
 key_from_start n [] a = tt
 key_from_start n (f ∷ fs) a = (a.0, key_from_start n fs a.1)
 
-keys_from_starts : (fs : List Segment) → StartsRise fs → KeysRise (λ (f : Segment). f.first) fs
+keys_from_starts : (fs : List CompleteFrame) → StartsRise fs → KeysRise (λ (f : CompleteFrame). f.first) fs
 keys_from_starts [] a = tt
 keys_from_starts (f ∷ fs) a = (key_from_start f.first fs a.0, keys_from_starts fs a.1)
 
 pub are_only_list : AreOnlyList
-are_only_list held r fs rise same = same_members (λ (f : Segment). f.first) fs (frames held) (keys_from_starts fs rise) (keys_from_starts (frames held) (are_in_order held r))
+are_only_list held r fs rise same = same_members (λ (f : CompleteFrame). f.first) fs (frames held) (keys_from_starts fs rise) (keys_from_starts (frames held) (are_in_order held r))
     (λ f h. in_contains f (frames held) (frame_from held r f ((same f).0 (contains_in f fs h))))
     (λ f h. in_contains f fs ((same f).1 (frame_to held r f (contains_in f (frames held) h))))

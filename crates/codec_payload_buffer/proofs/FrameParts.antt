@@ -2,7 +2,7 @@
 use Rattle.std.specs.Prelude.{◌≡◌, ℕ, ◌+◌, true, false, List, [], ◌∷◌, ◌++◌}
 use Rattle.codec_payload_base.specs.Time.{Time}
 use Rattle.codec_payload_buffer.specs.Held.{Held, number_of}
-use Rattle.codec_payload_buffer.specs.declared.buffer.frames.Segment.{Segment}
+use Rattle.codec_payload_buffer.specs.declared.buffer.frames.CompleteFrame.{CompleteFrame}
 
 -- packets with the numbers from first to last, one by one, of one time, with the last as the only tail
 abbrev pub IsRun : ℕ → ℕ → Time → List Held → Type 0
@@ -16,7 +16,7 @@ BeginsWithHead [] = ⊥
 BeginsWithHead (p ∷ ps) = p.head ≡ true
 
 -- the packets of a frame stand together in the list
-pub record IsPart (held : List Held) (frame : Segment) (packets after : List Held) : Type 0 where
+pub record IsPart (held : List Held) (frame : CompleteFrame) (packets after : List Held) : Type 0 where
   pub before : List Held
   pub whole : held ≡ before ++ (packets ++ after)
   pub time : Time

@@ -7,7 +7,7 @@ use Rattle.codec_payload_buffer.specs.Frames.{frames, frames_after, ended_at, lo
 use Rattle.codec_payload_buffer.specs.Held.{Held}
 use Rattle.codec_payload_buffer.specs.Scan.{first_of, open_start}
 use Rattle.codec_payload_buffer.specs.Steps.{State, due_of, due_among, starts_right_after}
-use Rattle.codec_payload_buffer.specs.declared.buffer.frames.Segment.{Segment}
+use Rattle.codec_payload_buffer.specs.declared.buffer.frames.CompleteFrame.{CompleteFrame}
 
 -- the row of the packet before goes on
 goes_back : (q : Held) (qs : List Held) (p : Held) (n : ℕ) → leads_to q p ≡ true → open_start (q ∷ qs) ≡ Some n → lowest_head (p ∷ row_before p (q ∷ qs)) ≡ Some n
@@ -17,13 +17,13 @@ goes_back q qs p n on start = at (leads_to q p) on
     at true e = ap (λ (o : Option ℕ). start_or_here o p) start
     at false e = absurd (cc)
 
-pub ends_here : (b : Bool) (o : Option ℕ) (p : Held) (later : List Segment) (n : ℕ) → b ≡ true → o ≡ Some n
+pub ends_here : (b : Bool) (o : Option ℕ) (p : Held) (later : List CompleteFrame) (n : ℕ) → b ≡ true → o ≡ Some n
     → first_of (cond b (ended_at p o) [] ++ later) ≡ Some (record { first = n; last = p.meta.seq_no.0 })
 ends_here true (Some m) p later n t f = let e : m ≡ n = cc in ap (λ (k : ℕ). Some (record { first = k; last = p.meta.seq_no.0 })) e
 ends_here true None p later n t f = absurd (cc)
 ends_here false o p later n t f = absurd (cc)
 
-pub goes_on : (b : Bool) (o later : List Segment) → b ≡ false → first_of (cond b o [] ++ later) ≡ first_of later
+pub goes_on : (b : Bool) (o later : List CompleteFrame) → b ≡ false → first_of (cond b o [] ++ later) ≡ first_of later
 goes_on true o later f = absurd (cc)
 goes_on false o later f = refl
 
@@ -56,11 +56,11 @@ first_frame (p ∷ q ∷ ps) rest first last time run begins =
     let next : IsRun (p.meta.seq_no.0 + 1) last time (q ∷ ps) = subst (λ (k : ℕ). IsRun (k + 1) last time (q ∷ ps)) (sym run.0) run.3 in
     goes_on p.tail (ended_at p (lowest_head (p ∷ []))) (frames_after (p ∷ []) (q ∷ ps ++ rest)) run.2 ∙ walk [] p (q ∷ ps) rest first last time (head_starts p first begins run.0) run.2 run.1 next
 
-due_from : (s : State) (fs : List Segment) (f : Segment) → first_of fs ≡ Some f → starts_right_after s.cutoff f.first ≡ true → due_among s fs ≡ Some f
+due_from : (s : State) (fs : List CompleteFrame) (f : CompleteFrame) → first_of fs ≡ Some f → starts_right_after s.cutoff f.first ≡ true → due_among s fs ≡ Some f
 due_from s [] f h starts = absurd (cc)
 due_from s (g ∷ gs) f h starts =
     let e : g ≡ f = cc in
-    let t : starts_right_after s.cutoff g.first ≡ true = subst (λ (x : Segment). starts_right_after s.cutoff x.first ≡ true) (sym e) starts in
+    let t : starts_right_after s.cutoff g.first ≡ true = subst (λ (x : CompleteFrame). starts_right_after s.cutoff x.first ≡ true) (sym e) starts in
     rw t h
 
 -- so it is due, where it starts right after the cutoff or there is none

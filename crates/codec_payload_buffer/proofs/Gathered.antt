@@ -22,10 +22,10 @@ is_some_left (p ∷ ps) = true
 abbrev pub packets_left_out : State → List Held → List Held
 packets_left_out s all = take (length all - s.limit) all
 
--- the greatest are held; where some are left out, the greatest of these is the cutoff and the mark is set
+-- the greatest are held; where some are left out, the greatest of these is the cutoff and one was evicted
 abbrev pub with_kept : State → List Held → State
 with_kept s all = record s {
   held = drop (length all - s.limit) all;
   cutoff = last_number (packets_left_out s all) s.cutoff;
-  mark = is_some_left (packets_left_out s all) || s.mark;
+  evicted = is_some_left (packets_left_out s all) || s.evicted;
 }

@@ -6,7 +6,7 @@ use Rattle.codec_payload_buffer.specs.Held.{Held, Rises, AllAbove, has_number, p
 use Rattle.codec_payload_buffer.specs.Frames.{frames, start_or_here}
 use Rattle.codec_payload_buffer.specs.Rows.{row_of, meet, or_else, joined, put_before, rows, frame_in, frame_of_row, with_frame, row_frames, row_placed, merged, noted_if, next_head, shortened, first_mended, row_end, RowsAbove, RowsRise, EndsRise, IsFirstShort, IsShortened}
 use Rattle.codec_payload_buffer.specs.Scan.{first_of}
-use Rattle.codec_payload_buffer.specs.declared.buffer.frames.Segment.{Segment}
+use Rattle.codec_payload_buffer.specs.declared.buffer.frames.CompleteFrame.{CompleteFrame}
 use Rattle.codec_payload_buffer.specs.declared.buffer.rows.Row.{Row}
 use Rattle.codec_payload_codec.proofs.CaseLemmas.{by_test}
 use Rattle.codec_payload_buffer.proofs.RowLemmas.{all_above}
@@ -68,14 +68,14 @@ pub first_is_short : (p : Held) (ps : List Held) → Rises (p ∷ ps) → IsFirs
 first_is_short p ps r = short_before p ps (rows ps) (rows_above p.meta.seq_no.0 ps r.0 r.1) (head_is ps r.1)
 
 -- what is left of the first row, with the rows after it
-left_before : (p : Held) (ps : List Held) (rs : List Row) (before after : Option Segment) (new : List Row) → RowsAbove p.meta.seq_no.0 rs → HeadIs rs ps
+left_before : (p : Held) (ps : List Held) (rs : List Row) (before after : Option CompleteFrame) (new : List Row) → RowsAbove p.meta.seq_no.0 rs → HeadIs rs ps
     → IsShortened (put_before (row_of p) rs) ps before after new
     → (new ≡ rs) × (first_mended before after (row_frames (put_before (row_of p) rs)) ≡ row_frames rs)
 left_before p ps [] before after new up is left =
     let same : eqb p.meta.seq_no.0 p.meta.seq_no.0 ≡ true = grind (arith, nat_tests) in
     rw (left.0, left.1, left.2, same) (refl, gone (frame_of_row (row_of p)))
   where
-    gone : (o : Option Segment) → first_mended o None (with_frame o []) ≡ []
+    gone : (o : Option CompleteFrame) → first_mended o None (with_frame o []) ≡ []
     gone None = refl
     gone (Some f) = refl
 left_before p ps (r ∷ rs) before after new up is left =
@@ -86,7 +86,7 @@ left_before p ps (r ∷ rs) before after new up is left =
     let same : eqb p.meta.seq_no.0 p.meta.seq_no.0 ≡ true = grind (arith, nat_tests) in
     rw (left.0, left.1, left.2, same) (refl, gone (frame_of_row (row_of p)) (row_frames (r ∷ rs)))) left
   where
-    gone : (o : Option Segment) (fs : List Segment) → first_mended o None (with_frame o fs) ≡ fs
+    gone : (o : Option CompleteFrame) (fs : List CompleteFrame) → first_mended o None (with_frame o fs) ≡ fs
     gone None fs = refl
     gone (Some f) fs = refl
 
@@ -96,7 +96,7 @@ left_before p ps (r ∷ rs) before after new up is left =
         rw (other, next, is) refl
 
     -- with p in front the row has a frame at least where it has one without
-    shorter : (tail : Bool) (head : Option ℕ) (fs : List Segment)
+    shorter : (tail : Bool) (head : Option ℕ) (fs : List CompleteFrame)
         → first_mended (frame_in tail (or_else (start_or_here None p) head) r.last) (frame_in tail head r.last)
         (with_frame (frame_in tail (or_else (start_or_here None p) head) r.last) fs) ≡ with_frame (frame_in tail head r.last) fs
     shorter false head fs = refl
@@ -111,7 +111,7 @@ left_before p ps (r ∷ rs) before after new up is left =
         mend None head only = rw (only refl) refl
         mend (Some n) head only = refl
 
-pub without_lowest_index : (p : Held) (ps : List Held) (before after : Option Segment) (new : List Row) → Rises (p ∷ ps) → IsShortened (rows (p ∷ ps)) ps before after new
+pub without_lowest_index : (p : Held) (ps : List Held) (before after : Option CompleteFrame) (new : List Row) → Rises (p ∷ ps) → IsShortened (rows (p ∷ ps)) ps before after new
     → (new ≡ rows ps) × (first_mended before after (frames (p ∷ ps)) ≡ frames ps)
 without_lowest_index p ps before after new r left =
     let both = left_before p ps (rows ps) before after new (rows_above p.meta.seq_no.0 ps r.0 r.1) (head_is ps r.1) left in
@@ -175,21 +175,21 @@ rows_left last (p ∷ ps) r ends =
     same (q ∷ qs) l a = (omega (arith, a.0, l), same qs l a.1)
 
 -- the row of the first frame
-first_ends : (rs : List Row) (f : Segment) → first_of (row_frames rs) ≡ Some f → EndsAt f.last rs
+first_ends : (rs : List Row) (f : CompleteFrame) → first_of (row_frames rs) ≡ Some f → EndsAt f.last rs
 first_ends [] f h = absurd (cc)
 first_ends (r ∷ rs) f h =
     by_frame (frame_of_row r) (λ o. first_of (with_frame o (row_frames rs)) ≡ Some f → EndsAt f.last (r ∷ rs))
     (λ e h. inr (first_ends rs f h))
-    (λ g e h. let same : g ≡ f = cc in inl (sym (row_last r g e) ∙ ap (λ (x : Segment). x.last) same)) h
+    (λ g e h. let same : g ≡ f = cc in inl (sym (row_last r g e) ∙ ap (λ (x : CompleteFrame). x.last) same)) h
 
-frames_left : (rs : List Row) (f : Segment) → RowsRise rs → first_of (row_frames rs) ≡ Some f → row_frames (drop (row_end f.last rs) rs) ≡ drop 1 (row_frames rs)
+frames_left : (rs : List Row) (f : CompleteFrame) → RowsRise rs → first_of (row_frames rs) ≡ Some f → row_frames (drop (row_end f.last rs) rs) ≡ drop 1 (row_frames rs)
 frames_left [] f a h = absurd (cc)
 frames_left (r ∷ rs) f a h =
     by_frame (frame_of_row r) (λ o. first_of (with_frame o (row_frames rs)) ≡ Some f → row_frames (drop (row_end f.last (r ∷ rs)) (r ∷ rs)) ≡ drop 1 (with_frame o (row_frames rs)))
     (λ e h. let over = end_above r.last f.last rs a.1 (first_ends rs f h) in ap row_frames (one_end f.last r rs (omega (arith, over, a.0))) ∙ frames_left rs f (rise r.last rs a.1) h)
     (λ g e h.
     let same : g ≡ f = cc in
-    let at : f.last ≡ r.last = ap (λ (x : Segment). x.last) (sym same) ∙ row_last r g e in
+    let at : f.last ≡ r.last = ap (λ (x : CompleteFrame). x.last) (sym same) ∙ row_last r g e in
     let none = no_end r.last f.last rs (omega (arith, at)) a.1 in
     ap row_frames (one_end f.last r rs (omega (arith, at, a.0))) ∙ rw none refl) h
   where
@@ -197,7 +197,7 @@ frames_left (r ∷ rs) f a h =
     rise n [] a = tt
     rise n (s ∷ rs) a = (a.1, a.2)
 
-pub left_index : (hs : List Held) (f : Segment) → Rises hs → first_of (frames hs) ≡ Some f → (drop (row_end f.last (rows hs)) (rows hs) ≡ rows (above f.last hs))
+pub left_index : (hs : List Held) (f : CompleteFrame) → Rises hs → first_of (frames hs) ≡ Some f → (drop (row_end f.last (rows hs)) (rows hs) ≡ rows (above f.last hs))
     × (drop 1 (frames hs) ≡ frames (above f.last hs))
 left_index hs f r h =
     let first : first_of (row_frames (rows hs)) ≡ Some f = ap first_of (frames_of_rows hs) ∙ h in
@@ -206,14 +206,14 @@ left_index hs f r h =
 
 -- The same for what the code has written
 
-pub segments_rise : (hs : List Held) (fs : List Segment) → Rises hs → fs ≡ frames hs → EndsRise fs
-segments_rise hs fs r is = rw (is, ← frames_of_rows hs) (ends_rise (rows hs) (rows_rise hs r))
+pub complete_frames_rise : (hs : List Held) (fs : List CompleteFrame) → Rises hs → fs ≡ frames hs → EndsRise fs
+complete_frames_rise hs fs r is = rw (is, ← frames_of_rows hs) (ends_rise (rows hs) (rows_rise hs r))
 
-pub record IsIndex (rs : List Row) (fs : List Segment) (hs : List Held) : Type 0 where
+pub record IsIndex (rs : List Row) (fs : List CompleteFrame) (hs : List Held) : Type 0 where
   pub rows_are : rs ≡ rows hs
   pub frames_are : fs ≡ frames hs
 
-pub pushed_index : (p : Held) (hs new : List Held) (rs rs' : List Row) (row whole : Row) (frame : Option Segment) (fs fs' : List Segment) → Rises hs
+pub pushed_index : (p : Held) (hs new : List Held) (rs rs' : List Row) (row whole : Row) (frame : Option CompleteFrame) (fs fs' : List CompleteFrame) → Rises hs
     → has_number p.meta.seq_no.0 hs ≡ false → rs ≡ rows hs → fs ≡ frames hs → new ≡ placed p hs
     → row ≡ row_of p → rs' ≡ row_placed row rs → whole ≡ merged row rs → frame ≡ frame_of_row whole → fs' ≡ noted_if frame fs → IsIndex rs' fs' new
 pushed_index p hs new rs rs' row whole frame fs fs' r fresh rows_are frames_are placed_is one all of is noted_is =
@@ -224,22 +224,22 @@ evict_short [] new n rs r takes rows_are = absurd takes
 evict_short (p ∷ ps) new n rs r takes rows_are = rw (rows_are, takes.1) (first_is_short p ps r)
 
 -- where the first row has a frame there are frames
-frames_some : (rs : List Row) (left : List Held) (before after : Option Segment) (new : List Row) → IsShortened rs left before after new → IfSome before (λ _. 0 < length (row_frames rs))
+frames_some : (rs : List Row) (left : List Held) (before after : Option CompleteFrame) (new : List Row) → IsShortened rs left before after new → IfSome before (λ _. 0 < length (row_frames rs))
 frames_some [] left before after new is = absurd is
 frames_some (r ∷ rs) left before after new is = rw is.0 (by_frame (frame_of_row r) (λ o. IfSome o (λ _. 0 < length (with_frame o (row_frames rs)))) (λ e. tt) (λ f e. omega arith))
 
-pub evict_some : (hs left : List Held) (rs new : List Row) (fs : List Segment) (count : ℕ) (before after : Option Segment) → rs ≡ rows hs → fs ≡ frames hs
+pub evict_some : (hs left : List Held) (rs new : List Row) (fs : List CompleteFrame) (count : ℕ) (before after : Option CompleteFrame) → rs ≡ rows hs → fs ≡ frames hs
     → count ≡ length fs → IsShortened rs left before after new → IfSome before (λ _. 0 < count)
 evict_some hs left rs new fs count before after rows_are frames_are counted is = rw (counted, frames_are, ← frames_of_rows hs) (frames_some (rows hs) left before after new (rw rows_are at is))
 
-pub evicted_index : (hs new : List Held) (n : ℕ) (rs rs' : List Row) (fs fs' : List Segment) (before after : Option Segment) → Rises hs → TakesLowest hs n new
+pub evicted_index : (hs new : List Held) (n : ℕ) (rs rs' : List Row) (fs fs' : List CompleteFrame) (before after : Option CompleteFrame) → Rises hs → TakesLowest hs n new
     → rs ≡ rows hs → fs ≡ frames hs → IsShortened rs new before after rs' → fs' ≡ first_mended before after fs → IsIndex rs' fs' new
 evicted_index [] new n rs rs' fs fs' before after r takes rows_are frames_are short mended = absurd takes
 evicted_index (p ∷ ps) new n rs rs' fs fs' before after r takes rows_are frames_are short mended =
     let both = without_lowest_index p ps before after rs' r (rw (takes.1, rows_are) at short) in
     rw (takes.1, mended, frames_are) (record { rows_are = both.0; frames_are = both.1 })
 
-pub left_index_of : (hs new : List Held) (f : Segment) (rs rs' : List Row) (fs fs' : List Segment) → Rises hs → first_of (frames hs) ≡ Some f → rs ≡ rows hs
+pub left_index_of : (hs new : List Held) (f : CompleteFrame) (rs rs' : List Row) (fs fs' : List CompleteFrame) → Rises hs → first_of (frames hs) ≡ Some f → rs ≡ rows hs
     → fs ≡ frames hs → new ≡ above f.last hs → rs' ≡ drop (row_end f.last rs) rs → fs' ≡ drop 1 fs → IsIndex rs' fs' new
 left_index_of hs new f rs rs' fs fs' r first rows_are frames_are left rows_left frames_left =
     let both = left_index hs f r first in

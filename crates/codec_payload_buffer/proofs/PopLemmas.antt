@@ -2,7 +2,7 @@
 use Rattle.std.proofs.Common.{◌≡◌, ◌≢◌, inl, inr, Err, ℕ, ◌<◌, ◌≤◌, ◌+◌, [], ◌∷◌, ◌++◌, List, length, ap, sym, ◌∙◌, arith, cond, Some, None, ltb, ◌||◌}
 use Rattle.std.proofs.lemmas.List.{length-append, length-map}
 use Rattle.std.proofs.lemmas.Bool.Decides.{nat_tests}
-use Rattle.codec_payload_buffer.specs.declared.buffer.frames.Segment.{Segment}
+use Rattle.codec_payload_buffer.specs.declared.buffer.frames.CompleteFrame.{CompleteFrame}
 use Rattle.codec_payload_buffer.specs.Held.{Held, Rises, AllAbove, between, above}
 use Rattle.codec_payload_buffer.specs.Frames.{frames}
 use Rattle.codec_payload_buffer.proofs.FrameParts.{IsPart, IsRun}
@@ -17,21 +17,21 @@ use Rattle.std.proofs.Common.{zero, suc, get_or, subst}
 use Rattle.codec_payload_codec.proofs.CaseLemmas.{by_test}
 use Rattle.codec_payload_buffer.proofs.RowLemmas.{first_split, first_le_last, part_between, run_length}
 
-pub due_first : (s : State) (fs : List Segment) (f : Segment) → due_among s fs ≡ Some f → first_of fs ≡ Some f
+pub due_first : (s : State) (fs : List CompleteFrame) (f : CompleteFrame) → due_among s fs ≡ Some f → first_of fs ≡ Some f
 due_first s [] f h = absurd (cc)
 due_first s (g ∷ gs) f h =
     by_test (starts_right_after s.cutoff g.first || ltb s.hold_back (length (g ∷ gs))) (λ b. cond b (Some g) None ≡ Some f → Some g ≡ Some f)
     (λ e h. h) (λ e h. absurd (cc)) h
 
 -- the frame that is due is the lowest
-pub due_is_first : (s : State) (f : Segment) → due_of s ≡ Some f → first_of (frames s.held) ≡ Some f
+pub due_is_first : (s : State) (f : CompleteFrame) → due_of s ≡ Some f → first_of (frames s.held) ≡ Some f
 due_is_first s f h = due_first s (frames s.held) f h
 
 -- the packets of the frame that is due stand together
-pub part_due : (s : State) (f : Segment) → due_of s ≡ Some f → (packets after : List Held) × IsPart s.held f packets after
+pub part_due : (s : State) (f : CompleteFrame) → due_of s ≡ Some f → (packets after : List Held) × IsPart s.held f packets after
 part_due s f h = first_split [] s.held f (due_is_first s f h)
 
-pub order_due : (s : State) (f : Segment) → due_of s ≡ Some f → f.first ≤ f.last
+pub order_due : (s : State) (f : CompleteFrame) → due_of s ≡ Some f → f.first ≤ f.last
 order_due s f h = let part = part_due s f h in first_le_last part.0 f.first f.last part.2.time part.2.run
 
 above_above : (last m : ℕ) (hs : List Held) → AllAbove m hs → AllAbove m (above last hs)
@@ -58,7 +58,7 @@ not_empty [] first last time run = absurd run
 not_empty (p ∷ ps) first last time run = omega arith
 
 -- at least one packet leaves with the frame
-pub due_shorter : (s : State) (f : Segment) → Rises s.held → due_of s ≡ Some f → length (above f.last s.held) < length s.held
+pub due_shorter : (s : State) (f : CompleteFrame) → Rises s.held → due_of s ≡ Some f → length (above f.last s.held) < length s.held
 due_shorter s f r h =
     let part = part_due s f h in
     let split = part_between part.2.before part.0 part.1 f.first f.last part.2.time part.2.run (rw (← part.2.whole) r) in
@@ -77,7 +77,7 @@ refusal_shorter s t fault rises (inl stall) other = absurd (other stall.0)
 refusal_shorter s t fault rises (inr out) other = rw out.left (due_shorter s out.frame rises out.is_due)
 
 -- where no frame is due, none is passed over, and so none is due afterwards
-pub nothing_passed : (s t : State) (over : List Segment) (f : Segment) → due_of s ≡ None → Passes s over t → due_of t ≡ Some f → ⊥
+pub nothing_passed : (s t : State) (over : List CompleteFrame) (f : CompleteFrame) → due_of s ≡ None → Passes s over t → due_of t ≡ Some f → ⊥
 nothing_passed s t over f waits none due = cc
 nothing_passed s u over f waits (one_more passes passed) due = nothing_passed s _ _ passed.frame waits passes passed.is_due
 
@@ -89,14 +89,14 @@ run_times (p ∷ q ∷ ps) first last time run zero d l = run.1
 run_times (p ∷ q ∷ ps) first last time run (suc k) d l = run_times (q ∷ ps) (first + 1) last time run.3 k d (omega arith)
 
 -- the packets of the frame that is due are there, and have one time
-pub due_packets : (s : State) (f : Segment) → Rises s.held → due_of s ≡ Some f → (time : Time) × AllOfTime time (packets_of_frame s f) × (0 < length (packets_of_frame s f))
+pub due_packets : (s : State) (f : CompleteFrame) → Rises s.held → due_of s ≡ Some f → (time : Time) × AllOfTime time (packets_of_frame s f) × (0 < length (packets_of_frame s f))
 due_packets s f r h =
     let part = part_due s f h in
     let split = part_between part.2.before part.0 part.1 f.first f.last part.2.time part.2.run (rw (← part.2.whole) r) in
     let inside : packets_of_frame s f ≡ part.0 = ap (between f.first f.last) part.2.whole ∙ split.inside in
     (part.2.time, rw inside (run_times part.0 f.first f.last part.2.time part.2.run), rw inside (not_empty part.0 f.first f.last part.2.time part.2.run))
 
-pub due_metas : (s : State) (f : Segment) (metas : List RtpMeta) → Rises s.held → due_of s ≡ Some f → metas ≡ metas_of (packets_of_frame s f) → 0 < length metas
+pub due_metas : (s : State) (f : CompleteFrame) (metas : List RtpMeta) → Rises s.held → due_of s ≡ Some f → metas ≡ metas_of (packets_of_frame s f) → 0 < length metas
 due_metas s f metas r h is = omega (arith, (due_packets s f r h).2, ap length is, length-map (packets_of_frame s f) (λ (p : Held). p.meta))
 
 first_time : (ps : List Held) (m : RtpMeta) (time : Time) → AllOfTime time ps → 0 < length ps → m ≡ get_or (metas_of ps) 0 m → time ≡ m.time
@@ -104,7 +104,7 @@ first_time [] m time all some is = absurd (omega arith)
 first_time (p ∷ ps) m time all some is = sym (ap (λ (x : RtpMeta). x.time) is ∙ all 0 p (omega arith))
 
 -- and their numbers follow one another
-pub due_whole : (s : State) (f : Segment) → Rises s.held → due_of s ≡ Some f → f.last + 1 ≡ f.first + length (packets_of_frame s f)
+pub due_whole : (s : State) (f : CompleteFrame) → Rises s.held → due_of s ≡ Some f → f.last + 1 ≡ f.first + length (packets_of_frame s f)
 due_whole s f r h =
     let part = part_due s f h in
     let split = part_between part.2.before part.0 part.1 f.first f.last part.2.time part.2.run (rw (← part.2.whole) r) in
@@ -112,7 +112,7 @@ due_whole s f r h =
     rw inside (run_length part.0 f.first f.last part.2.time part.2.run)
 
 -- their time is that of the first
-pub due_time : (s : State) (f : Segment) (metas : List RtpMeta) (m : RtpMeta) → Rises s.held → due_of s ≡ Some f → metas ≡ metas_of (packets_of_frame s f)
+pub due_time : (s : State) (f : CompleteFrame) (metas : List RtpMeta) (m : RtpMeta) → Rises s.held → due_of s ≡ Some f → metas ≡ metas_of (packets_of_frame s f)
     → m ≡ get_or metas 0 m → AllOfTime m.time (packets_of_frame s f)
 due_time s f metas m r h is first =
     let packets = due_packets s f r h in

@@ -3,7 +3,7 @@ use Rattle.std.proofs.Common.{◌≡◌, if◌then◌else◌, ℕ, ◌<◌, ◌�
 use Rattle.std.proofs.lemmas.Bool.{cases_lt}
 use Rattle.std.proofs.lemmas.Bool.Decides.{nat_tests}
 use Rattle.std.proofs.lemmas.List.{length-append, take-append-drop, take_at, drop_at, length-take-le}
-use Rattle.codec_payload_codec.specs.Depack.{Depack, is_built_in_depack, head_of, tail_of}
+use Rattle.codec_payload_codec.specs.Depacketizers.{DepacketizerState, is_built_in_depacketizer, head_of, tail_of}
 use Rattle.codec_payload_buffer.specs.declared.buffer.unit.RtpMeta.{RtpMeta}
 use Rattle.codec_payload_buffer.specs.Held.{Held, Rises, AllAbove, IsAboveCutoff, placed, has_number, number_of, TakesLowest}
 use Rattle.codec_payload_buffer.specs.Steps.{State, IsArrived, pushed, is_dropped, kept_to_limit, without_lowest, is_at_most}
@@ -97,12 +97,12 @@ absent_up n m [] a l = refl
 absent_up n m (p ∷ ps) a l = grind (arith, nat_tests, a.0, absent_up n m ps a.1 l)
 
 kept_is : (s : State) (low high : List Held) → length (low ++ high) - s.limit ≡ length low
-    → with_kept s (low ++ high) ≡ record s { held = high; cutoff = last_number low s.cutoff; mark = is_some_left low || s.mark }
+    → with_kept s (low ++ high) ≡ record s { held = high; cutoff = last_number low s.cutoff; evicted = is_some_left low || s.evicted }
 kept_is s low high n = rw (n, take_at low high (length low) refl, drop_at low high (length low) refl) refl
 
 -- one more packet: the lowest of the held ones joins those left out
 evicted : (s : State) (low hs : List Held) → length low + length hs ≡ length low + s.limit + 1
-    → without_lowest (record s { held = hs; cutoff = last_number low s.cutoff; mark = is_some_left low || s.mark }) hs ≡ with_kept s (low ++ hs)
+    → without_lowest (record s { held = hs; cutoff = last_number low s.cutoff; evicted = is_some_left low || s.evicted }) hs ≡ with_kept s (low ++ hs)
 evicted s low [] n = absurd (omega (arith, n))
 evicted s low (q ∷ qs) n =
     let split : low ++ q ∷ qs ≡ (low ++ q ∷ []) ++ qs = sym (append_assoc low (q ∷ []) qs) in
@@ -130,7 +130,7 @@ push_none_left s high p n =
 
 -- a buffer in which some were left out
 abbrev pub held_now : State → Held → List Held → List Held → State
-held_now s q low high = record s { held = high; cutoff = last_number (q ∷ low) s.cutoff; mark = true }
+held_now s q low high = record s { held = high; cutoff = last_number (q ∷ low) s.cutoff; evicted = true }
 
 some_placed : (p : Held) (hs : List Held) → is_some_left (placed p hs) ≡ true
 some_placed p [] = refl
@@ -143,7 +143,7 @@ not_last n m hs le without with = elim (cases_lt n m) [ inl lt ↦ lt | inr ge �
     clash h = cc
 
 push_some_left : (s : State) (q : Held) (low high : List Held) (p : Held) (m : ℕ) → IsLow (q ∷ low) high s.cutoff m → length high ≡ s.limit
-    → pushed (record s { held = high; cutoff = last_number (q ∷ low) s.cutoff; mark = true }) p ≡ with_kept s (with_one s.cutoff (q ∷ low ++ high) p)
+    → pushed (record s { held = high; cutoff = last_number (q ∷ low) s.cutoff; evicted = true }) p ≡ with_kept s (with_one s.cutoff (q ∷ low ++ high) p)
 push_some_left s q low high p m facts n = elim (cases_lt m p.meta.seq_no.0) [
   | inl over ↦
       let fresh : has_number p.meta.seq_no.0 (q ∷ low) ≡ false = absent_up p.meta.seq_no.0 m (q ∷ low) facts.up_to over in
@@ -206,17 +206,17 @@ pub stretch_is : (s : State) (ps : List Held) → Rises s.held → IsAboveCutoff
 stretch_is s ps r a few = ap (λ t. after_pushes t ps) (sym (kept_is s [] s.held (omega (arith, few)))) ∙ pushes_keep s s.held ps r a
 
 -- a packet of which this depacketizer told whether it begins and ends a unit
-pub is_arrived : (depack here : Depack) → here ≡ depack → (meta : RtpMeta) (bytes seen again : List ℕ) → seen ≡ bytes → again ≡ bytes → (head tail : Bool)
-    → (is_built_in_depack here ≡ true → head ≡ head_of here seen) → (is_built_in_depack here ≡ true → tail ≡ tail_of here meta.header.marker again)
-    → IsArrived depack meta bytes (record { meta = meta; bytes = bytes; head = head; tail = tail })
-is_arrived depack here is meta bytes seen again one two head tail begins ends = (
+pub is_arrived : (depacketizer here : DepacketizerState) → here ≡ depacketizer → (meta : RtpMeta) (bytes seen again : List ℕ) → seen ≡ bytes → again ≡ bytes → (head tail : Bool)
+    → (is_built_in_depacketizer here ≡ true → head ≡ head_of here seen) → (is_built_in_depacketizer here ≡ true → tail ≡ tail_of here meta.header.marker again)
+    → IsArrived depacketizer meta bytes (record { meta = meta; bytes = bytes; head = head; tail = tail })
+is_arrived depacketizer here is meta bytes seen again one two head tail begins ends = (
   refl,
   refl,
   λ built_in.
-      let b = ap is_built_in_depack is ∙ built_in in
-      ap (λ (h : Bool). record { meta = meta; bytes = bytes; head = h; tail = tail }) (begins b ∙ (ap (λ (d : Depack). head_of d seen) is ∙ ap (head_of depack) one))
-      ∙ ap (λ (t : Bool). record { meta = meta; bytes = bytes; head = head_of depack bytes; tail = t })
-          (ends b ∙ (ap (λ (d : Depack). tail_of d meta.header.marker again) is ∙ ap (tail_of depack meta.header.marker) two)),
+      let b = ap is_built_in_depacketizer is ∙ built_in in
+      ap (λ (h : Bool). record { meta = meta; bytes = bytes; head = h; tail = tail }) (begins b ∙ (ap (λ (d : DepacketizerState). head_of d seen) is ∙ ap (head_of depacketizer) one))
+      ∙ ap (λ (t : Bool). record { meta = meta; bytes = bytes; head = head_of depacketizer bytes; tail = t })
+          (ends b ∙ (ap (λ (d : DepacketizerState). tail_of d meta.header.marker again) is ∙ ap (tail_of depacketizer meta.header.marker) two)),
 )
 
 -- a new packet is placed, and the lowest leaves where there are too many then
@@ -226,14 +226,15 @@ new_placed s p late fresh =
     ap (λ (b : Bool). cond b s (kept_to_limit (record s { held = placed p s.held }))) kept
 
 pub pushed_over : (s : State) (p : Held) (new left : List Held) (n : ℕ) → is_at_most s.cutoff (number_of p) ≡ false → has_number (number_of p) s.held ≡ false → new ≡ placed p s.held
-    → s.limit < length new → TakesLowest new n left → pushed s p ≡ record s { held = left; cutoff = Some n; mark = true }
+    → s.limit < length new → TakesLowest new n left → pushed s p ≡ record s { held = left; cutoff = Some n; evicted = true }
 pushed_over s p [] left n late fresh at more takes = absurd takes
 pushed_over s p (q ∷ qs) left n late fresh at more takes =
     new_placed s p late fresh ∙ (ap (λ (hs : List Held). kept_to_limit (record s { held = hs })) (sym at)
-    ∙ (by_test (ltb s.limit (length (q ∷ qs))) (λ b. cond b (record s { held = qs; cutoff = Some (number_of q); mark = true })
-        (record s { held = q ∷ qs }) ≡ record s { held = qs; cutoff = Some (number_of q); mark = true })
+    ∙ (by_test (ltb s.limit (length (q ∷ qs))) (λ b. cond b (record s { held = qs; cutoff = Some (number_of q); evicted = true })
+        (record s { held = q ∷ qs }) ≡ record s { held = qs; cutoff = Some (number_of q); evicted = true })
     (λ e. refl) (λ e. absurd (grind (arith, nat_tests, e, more)))
-    ∙ (ap (λ (hs : List Held). record s { held = hs; cutoff = Some (number_of q); mark = true }) (sym takes.1) ∙ ap (λ (k : ℕ). record s { held = left; cutoff = Some k; mark = true }) (sym takes.0))))
+    ∙ (ap (λ (hs : List Held). record s { held = hs; cutoff = Some (number_of q); evicted = true }) (sym takes.1)
+        ∙ ap (λ (k : ℕ). record s { held = left; cutoff = Some k; evicted = true }) (sym takes.0))))
 
 pub pushed_within : (s : State) (p : Held) (new : List Held) → is_at_most s.cutoff (number_of p) ≡ false → has_number (number_of p) s.held ≡ false → new ≡ placed p s.held
     → length new ≤ s.limit → pushed s p ≡ record s { held = new }

@@ -4,7 +4,7 @@ use Rattle.std.proofs.lemmas.Bool.Decides.{nat_tests}
 use Rattle.codec_payload_buffer.specs.Held.{Held}
 use Rattle.codec_payload_buffer.specs.Frames.{frames, frames_after, ended_at, lowest_head, row_before, leads_to, start_or_here}
 use Rattle.codec_payload_buffer.specs.Rows.{row_of, meet, or_else, joined, join_if, put_before, rows, frame_in, frame_of_row, with_frame, row_frames, row_placed, with_next, merged_after, merged, noted_if, RowsAbove, RowsRise, AreLongest, EndsAbove, EndsRise}
-use Rattle.codec_payload_buffer.specs.declared.buffer.frames.Segment.{Segment}
+use Rattle.codec_payload_buffer.specs.declared.buffer.frames.CompleteFrame.{CompleteFrame}
 use Rattle.codec_payload_buffer.specs.declared.buffer.rows.Row.{Row}
 use Rattle.codec_payload_codec.proofs.CaseLemmas.{by_test}
 use Rattle.codec_payload_buffer.proofs.RowListLemmas.{meet_parts, meet_front, join_assoc, no_meet_before, Outside}
@@ -12,7 +12,7 @@ use Rattle.codec_payload_buffer.proofs.RowListLemmas.{meet_parts, meet_front, jo
 -- The frames of packets, read row by row
 
 -- the frames of the rows that follow one which has been read up to its latest packet
-abbrev after : Row → List Row → List Segment
+abbrev after : Row → List Row → List CompleteFrame
 after o [] = []
 after o (r ∷ rs) = row_frames (join_if o r ∷ rs)
 
@@ -47,7 +47,7 @@ first_step x (r ∷ rs) =
     (λ e. refl)
 
 -- the frame at a packet, from what its row has come to
-frame_here : (p : Held) (o : Option ℕ) (tail : Bool) (later : List Segment) → cond tail (ended_at p o) [] ++ later ≡ with_frame (frame_in tail o p.meta.seq_no.0) later
+frame_here : (p : Held) (o : Option ℕ) (tail : Bool) (later : List CompleteFrame) → cond tail (ended_at p o) [] ++ later ≡ with_frame (frame_in tail o p.meta.seq_no.0) later
 frame_here p None true later = refl
 frame_here p (Some n) true later = refl
 frame_here p o false later = refl
@@ -93,16 +93,16 @@ frames_of_rows (p ∷ ps) =
 
 -- Where frames end
 
-frame_last : (tail : Bool) (head : Option ℕ) (last : ℕ) (f : Segment) → frame_in tail head last ≡ Some f → f.last ≡ last
+frame_last : (tail : Bool) (head : Option ℕ) (last : ℕ) (f : CompleteFrame) → frame_in tail head last ≡ Some f → f.last ≡ last
 frame_last true (Some n) last f h = cc
 frame_last true None last f h = absurd (cc)
 frame_last false head last f h = absurd (cc)
 
-pub by_frame : (o : Option Segment) (P : Option Segment → Type 0) → (o ≡ None → P None) → ((f : Segment) → o ≡ Some f → P (Some f)) → P o
+pub by_frame : (o : Option CompleteFrame) (P : Option CompleteFrame → Type 0) → (o ≡ None → P None) → ((f : CompleteFrame) → o ≡ Some f → P (Some f)) → P o
 by_frame None P n s = n refl
 by_frame (Some f) P n s = s f refl
 
-ends_lower : (m n : ℕ) (fs : List Segment) → m ≤ n → EndsAbove n fs → EndsAbove m fs
+ends_lower : (m n : ℕ) (fs : List CompleteFrame) → m ≤ n → EndsAbove n fs → EndsAbove m fs
 ends_lower m n [] le a = tt
 ends_lower m n (f ∷ fs) le a = (omega (arith, a.0), a.1)
 
@@ -113,7 +113,7 @@ ends_above n (r ∷ rs) a =
     (λ e. ends_lower n r.last (row_frames rs) (omega (arith, a.0, a.1)) (ends_above r.last rs a.2))
     (λ f e. let same = frame_last r.tail r.head r.last f e in (omega (arith, a.0, a.1, same), ends_lower f.last r.last (row_frames rs) (omega (arith, same)) (ends_above r.last rs a.2)))
 
-rise_from_above : (n : ℕ) (fs : List Segment) → EndsAbove n fs → EndsRise fs
+rise_from_above : (n : ℕ) (fs : List CompleteFrame) → EndsAbove n fs → EndsRise fs
 rise_from_above n [] a = tt
 rise_from_above n (f ∷ fs) a = a.1
 
@@ -127,7 +127,7 @@ ends_rise (r ∷ rs) a =
 -- One row more
 
 -- a frame below all others comes first
-noted_low : (o : Option Segment) (n : ℕ) (fs : List Segment) → ((f : Segment) → o ≡ Some f → f.last ≡ n) → EndsAbove n fs → with_frame o fs ≡ noted_if o fs
+noted_low : (o : Option CompleteFrame) (n : ℕ) (fs : List CompleteFrame) → ((f : CompleteFrame) → o ≡ Some f → f.last ≡ n) → EndsAbove n fs → with_frame o fs ≡ noted_if o fs
 noted_low None n fs at a = refl
 noted_low (Some f) n [] at a = refl
 noted_low (Some f) n (g ∷ gs) at a =
@@ -137,7 +137,7 @@ noted_low (Some f) n (g ∷ gs) at a =
     rw (t, u) refl
 
 -- a frame takes the place of the one with its end
-noted_over : (last : ℕ) (tail : Bool) (head old : Option ℕ) (fs : List Segment) → (head ≡ None → old ≡ None) → EndsAbove last fs
+noted_over : (last : ℕ) (tail : Bool) (head old : Option ℕ) (fs : List CompleteFrame) → (head ≡ None → old ≡ None) → EndsAbove last fs
     → with_frame (frame_in tail head last) fs ≡ noted_if (frame_in tail head last) (with_frame (frame_in tail old last) fs)
 noted_over last false head old fs more a = refl
 noted_over last true None old fs more a = rw (more refl) refl
@@ -148,7 +148,7 @@ noted_over last true (Some n) (Some m) fs more a =
     rw (t, u) refl
 
 -- a frame goes in behind a lower one
-noted_skip : (o g : Option Segment) (m n : ℕ) (fs : List Segment) → ((f : Segment) → o ≡ Some f → f.last ≡ n) → ((f : Segment) → g ≡ Some f → f.last ≡ m) → m < n
+noted_skip : (o g : Option CompleteFrame) (m n : ℕ) (fs : List CompleteFrame) → ((f : CompleteFrame) → o ≡ Some f → f.last ≡ n) → ((f : CompleteFrame) → g ≡ Some f → f.last ≡ m) → m < n
     → with_frame g (noted_if o fs) ≡ noted_if o (with_frame g fs)
 noted_skip None g m n fs to tg l = refl
 noted_skip (Some f) None m n fs to tg l = refl
@@ -156,7 +156,7 @@ noted_skip (Some f) (Some g) m n fs to tg l =
     let t : ltb g.last f.last ≡ true = grind (arith, nat_tests, to f refl, tg g refl, l) in
     rw t refl
 
-pub row_last : (r : Row) (f : Segment) → frame_of_row r ≡ Some f → f.last ≡ r.last
+pub row_last : (r : Row) (f : CompleteFrame) → frame_of_row r ≡ Some f → f.last ≡ r.last
 row_last r f e = frame_last r.tail r.head r.last f e
 
 -- the rows after p that do not become one with it

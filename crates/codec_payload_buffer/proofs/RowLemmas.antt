@@ -2,7 +2,7 @@
 use Rattle.std.proofs.Common.{◌≡◌, ℕ, ◌<◌, ◌≤◌, ◌+◌, [], ◌∷◌, ◌++◌, List, length, reverse, refl, ap, sym, ◌∙◌, arith, true, false, cond, Some, None, append_assoc}
 use Rattle.std.proofs.lemmas.List.{reverse-append}
 use Rattle.std.proofs.lemmas.Bool.Decides.{nat_tests}
-use Rattle.codec_payload_buffer.specs.declared.buffer.frames.Segment.{Segment}
+use Rattle.codec_payload_buffer.specs.declared.buffer.frames.CompleteFrame.{CompleteFrame}
 use Rattle.codec_payload_buffer.specs.Held.{Held, Rises, AllAbove, between, above}
 use Rattle.codec_payload_buffer.specs.Frames.{frames_after, ended_at, lowest_head, row_before, leads_to, start_or_here, is_same_time}
 use Rattle.codec_payload_base.specs.Time.{Time}
@@ -81,7 +81,7 @@ row_split q acc (e ∷ es) n last time low run =
     low
 
 -- the first of the frames that end in `later`
-pub first_split : (earlier later : List Held) (f : Segment) → first_of (frames_after earlier later) ≡ Some f → (packets after : List Held) × IsPart (reverse earlier ++ later) f packets after
+pub first_split : (earlier later : List Held) (f : CompleteFrame) → first_of (frames_after earlier later) ≡ Some f → (packets after : List Held) × IsPart (reverse earlier ++ later) f packets after
 first_split earlier [] f h = absurd (cc)
 first_split earlier (p ∷ later) f h =
     let on : first_of (frames_after (p ∷ earlier) later) ≡ Some f → (packets after : List Held) × IsPart (reverse earlier ++ p ∷ later) f packets after = λ h.
@@ -103,7 +103,7 @@ first_split earlier (p ∷ later) f h =
         → (packets after : List Held) × IsPart (reverse earlier ++ p ∷ later) f packets after)
     (λ none h. on h)
     (λ n is h.
-    let frame : Segment = record { first = n; last = p.meta.seq_no.0 } in
+    let frame : CompleteFrame = record { first = n; last = p.meta.seq_no.0 } in
     let e : frame ≡ f = cc in
     let split = row_split p [] earlier n p.meta.seq_no.0 p.meta.time is (refl, refl, refl, tail) in (
       split.packets,

@@ -153,9 +153,9 @@ kept_left s all =
     record {
       held = rw same (sym (drop-map number_of (length all - s.limit) all));
       cutoff = rw same (last_is (take (length all - s.limit) all) s.cutoff ∙ ap (λ (ns : List ℕ). last_or ns s.cutoff) (sym (take-map number_of (length all - s.limit) all)));
-      mark = rw same (ap (λ b. b || s.mark) (some_is (take (length all - s.limit) all) ∙ ap is_some_of (sym (take-map number_of (length all - s.limit) all))));
+      evicted = rw same (ap (λ b. b || s.evicted) (some_is (take (length all - s.limit) all) ∙ ap is_some_of (sym (take-map number_of (length all - s.limit) all))));
       contiguity = refl;
-      depack = refl;
+      depacketizer = refl;
       hold_back = refl;
       limit = refl;
     }
@@ -182,9 +182,9 @@ both_left : (s t u : State) (all : List ℕ) → IsLeft s all t → IsLeft s all
 both_left s t u all a b = record {
   held = a.held ∙ sym b.held;
   cutoff = a.cutoff ∙ sym b.cutoff;
-  mark = a.mark ∙ sym b.mark;
+  evicted = a.evicted ∙ sym b.evicted;
   contiguity = a.contiguity ∙ sym b.contiguity;
-  depack = a.depack ∙ sym b.depack;
+  depacketizer = a.depacketizer ∙ sym b.depacketizer;
   hold_back = a.hold_back ∙ sym b.hold_back;
   limit = a.limit ∙ sym b.limit;
 }

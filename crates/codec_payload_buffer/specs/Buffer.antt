@@ -1,12 +1,12 @@
 -- A buffer's fields, as contracts see them.
 use Rattle.std.specs.Prelude.{◌≡◌, ◌≤◌, List, map}
-use Rattle.codec_payload_codec.specs.Depack.{depack_of}
+use Rattle.codec_payload_codec.specs.Depacketizers.{depacketizer_state_of}
 use Rattle.codec_payload_buffer.specs.Held.{held_of}
 use Rattle.codec_payload_buffer.specs.Steps.{State, IsSound}
 use Rattle.codec_payload_buffer.specs.Frames.{frames}
 use Rattle.codec_payload_buffer.specs.Rows.{rows}
 use Rattle.codec_payload_buffer.specs.declared.buffer.DepacketizingBuffer.TheInside.{Inside}
-use Rattle.codec_payload_buffer.specs.declared.buffer.frames.Segment.{Segment}
+use Rattle.codec_payload_buffer.specs.declared.buffer.frames.CompleteFrame.{CompleteFrame}
 use Rattle.codec_payload_buffer.specs.declared.buffer.rows.Row.{Row}
 
 -- what the fields say of the buffer
@@ -14,17 +14,17 @@ abbrev pub state_of : {B : _} → Inside B → State
 state_of b = record {
   held = map held_of b.packets.items;
   cutoff = b.cutoff;
-  mark = b.mark;
+  evicted = b.evicted;
   contiguity = b.contiguity;
-  depack = depack_of b.depack;
+  depacketizer = depacketizer_state_of b.depacketizer;
   hold_back = b.hold_back;
   limit = b.limit;
 }
 
 -- what every buffer keeps: it is sound, its limit is in range, and its lists of rows and of frames are those of its packets
-pub record IsIndexed (s : State) (row_list : List Row) (segments : List Segment) : Type 0 where
+pub record IsIndexed (s : State) (row_list : List Row) (complete_frames : List CompleteFrame) : Type 0 where
   pub sound : IsSound s
   pub least : 1 ≤ s.limit
   pub most : s.limit ≤ 65536
   pub rows_are : row_list ≡ rows s.held
-  pub frames_are : segments ≡ frames s.held
+  pub frames_are : complete_frames ≡ frames s.held

@@ -1,12 +1,12 @@
 -- What the definitions of the buffer say of a few packets.
 use Rattle.std.specs.Prelude.{◌≡◌, ℕ, Bool, true, false, List, [], ◌∷◌, Some, None, map, refl}
 use Rattle.codec_payload_base.specs.Extensions.{no_values}
-use Rattle.codec_payload_codec.specs.Depack.{OpusDepack}
+use Rattle.codec_payload_codec.specs.Depacketizers.{OpusDepacketizing}
 use Rattle.codec_payload_buffer.specs.Held.{Held}
 use Rattle.codec_payload_buffer.specs.Frames.{frames}
 use Rattle.codec_payload_buffer.specs.Steps.{State, arrived, pushed, due_of, follows, without}
 use Rattle.codec_payload_buffer.specs.Stretches.{after_pushes}
-use Rattle.codec_payload_buffer.specs.declared.buffer.frames.Segment.{Segment}
+use Rattle.codec_payload_buffer.specs.declared.buffer.frames.CompleteFrame.{CompleteFrame}
 use Rattle.codec_payload_buffer.specs.declared.buffer.unit.RtpMeta.{RtpMeta}
 use Rattle.codec_payload_buffer.specs.declared.contiguity.Contiguity.TheVariants as kept
 
@@ -25,7 +25,7 @@ abbrev packet_at : ℕ → ℕ → Bool → Bool → Held
 packet_at number time head tail = record { meta = meta_at number time; bytes = []; head = head; tail = tail }
 
 -- a frame from first to last
-abbrev frame_of : ℕ → ℕ → Segment
+abbrev frame_of : ℕ → ℕ → CompleteFrame
 frame_of first last = record { first = first; last = last }
 
 -- Frames: 1 to 3 from its only head; none to 4, whose row has no head; 6 to 8 from the lower of two heads; none to 10, since
@@ -45,15 +45,15 @@ frames-gap = refl
 -- An Opus buffer that holds back one frame
 
 abbrev opus_packet : ℕ → Held
-opus_packet number = arrived OpusDepack (meta_at number number) []
+opus_packet number = arrived OpusDepacketizing (meta_at number number) []
 
 -- nothing was pushed
 abbrev opus_start : State
-opus_start = record { held = []; cutoff = None; mark = false; contiguity = kept.None; depack = OpusDepack; hold_back = 1; limit = 4096 }
+opus_start = record { held = []; cutoff = None; evicted = false; contiguity = kept.None; depacketizer = OpusDepacketizing; hold_back = 1; limit = 4096 }
 
 -- the frame of that one packet has left
 abbrev after_unit : State → ℕ → State
-after_unit s number = without s (frame_of number number) OpusDepack kept.None false
+after_unit s number = without s (frame_of number number) OpusDepacketizing kept.None false
 
 -- 10 comes, and goes at once, as the first does
 pub hold_back_1-first : due_of (pushed opus_start (opus_packet 10)) ≡ Some (frame_of 10 10)
@@ -98,7 +98,7 @@ small_start = record opus_start { limit = 2 }
 abbrev small_after : List ℕ → State
 small_after numbers = after_pushes small_start (map opus_packet numbers)
 
-pub evicts-in_order : small_after (1 ∷ 2 ∷ 3 ∷ []) ≡ record small_start { held = opus_packet 2 ∷ opus_packet 3 ∷ []; cutoff = Some 1; mark = true }
+pub evicts-in_order : small_after (1 ∷ 2 ∷ 3 ∷ []) ≡ record small_start { held = opus_packet 2 ∷ opus_packet 3 ∷ []; cutoff = Some 1; evicted = true }
 evicts-in_order = refl
 
 pub evicts-reversed : small_after (3 ∷ 2 ∷ 1 ∷ []) ≡ small_after (1 ∷ 2 ∷ 3 ∷ [])

@@ -4,7 +4,7 @@ use Rattle.codec_payload_base.specs.declared.interface.CodecExtra.{CodecExtra}
 use Rattle.codec_payload_base.specs.declared.interface.CodecExtra.TheVariants as extras
 use Rattle.codec_payload_base.specs.declared.interface.Vp8CodecExtra.{Vp8CodecExtra}
 use Rattle.codec_payload_base.specs.declared.interface.Vp9CodecExtra.{Vp9CodecExtra}
-use Rattle.codec_payload_codec.specs.Depack.{DepackKind, Vp8Payloads, Vp9Payloads}
+use Rattle.codec_payload_codec.specs.Depacketizers.{DepacketizerKind, Vp8Payloads, Vp9Payloads}
 use Rattle.codec_payload_buffer.specs.declared.contiguity.FrameContiguityState.{FrameContiguityState}
 use Rattle.codec_payload_buffer.specs.declared.contiguity.Contiguity.{Contiguity}
 use Rattle.codec_payload_buffer.specs.declared.contiguity.Contiguity.TheVariants as kept
@@ -62,7 +62,7 @@ checked (kept.Vp9 s) (extras.Vp9 extra) seq = kept_by kept.Vp9 (vp9_verdict s ex
 checked c extra seq = (true, seq, c)
 
 -- what a buffer begins with, by the payloads that its depacketizer reads
-abbrev pub contiguity_for : DepackKind → Contiguity
+abbrev pub contiguity_for : DepacketizerKind → Contiguity
 contiguity_for Vp8Payloads = kept.Vp8 no_ids
 contiguity_for Vp9Payloads = kept.Vp9 no_ids
 contiguity_for kind = kept.None

@@ -2,7 +2,7 @@
 use Rattle.std.specs.Prelude.{◌≡◌, ℕ, ◌+◌, ◌<◌, ◌≤◌, ◌&&◌, not, Bool, true, false, List, [], ◌∷◌, ◌++◌, ◌==◌, if◌then◌else◌, Option, Some, None, Contains, ◌↔◌}
 use Rattle.codec_payload_base.specs.Time.{Time}
 use Rattle.codec_payload_buffer.specs.Held.{Held, number_of, Rises}
-use Rattle.codec_payload_buffer.specs.declared.buffer.frames.Segment.{Segment}
+use Rattle.codec_payload_buffer.specs.declared.buffer.frames.CompleteFrame.{CompleteFrame}
 
 -- two times are the same: number and rate both
 abbrev pub is_same_time : Time → Time → Bool
@@ -28,21 +28,21 @@ lowest_head [] = None
 lowest_head (p ∷ ps) = start_or_here (lowest_head ps) p
 
 -- the frame from a start, if there is one, to b
-abbrev pub ended_at : Held → Option ℕ → List Segment
+abbrev pub ended_at : Held → Option ℕ → List CompleteFrame
 ended_at b None = []
 ended_at b (Some first) = record { first = first; last = number_of b } ∷ []
 
 -- the frame that ends at b, if b is a tail and its row has a head
-abbrev pub frame_at : Held → List Held → List Segment
+abbrev pub frame_at : Held → List Held → List CompleteFrame
 frame_at b earlier = if b.tail then ended_at b (lowest_head (b ∷ row_before b earlier)) else []
 
 -- the frames that end in `later`, in order
-abbrev pub frames_after : List Held → List Held → List Segment
+abbrev pub frames_after : List Held → List Held → List CompleteFrame
 frames_after earlier [] = []
 frames_after earlier (p ∷ later) = frame_at p earlier ++ frames_after (p ∷ earlier) later
 
 -- all complete frames, in order
-abbrev pub frames : List Held → List Segment
+abbrev pub frames : List Held → List CompleteFrame
 frames held = frames_after [] held
 
 -- The same in terms of the set alone.
@@ -57,7 +57,7 @@ abbrev pub IsHeadAt : List Held → ℕ → Type 0
 IsHeadAt held n = (p : Held) × Contains held p × (number_of p ≡ n) × (p.head ≡ true)
 
 -- a complete frame: from the lowest head of all rows that end at the tail
-pub record IsFrame (held : List Held) (frame : Segment) : Type 0 where
+pub record IsFrame (held : List Held) (frame : CompleteFrame) : Type 0 where
   pub end : Held
   pub held_end : Contains held end
   pub at_end : number_of end ≡ frame.last
@@ -66,46 +66,24 @@ pub record IsFrame (held : List Held) (frame : Segment) : Type 0 where
   pub begins : IsHeadAt held frame.first
   pub lowest : (n : ℕ) → IsRow held n end → IsHeadAt held n → frame.first ≤ n
 
--- a row that no row to the same end goes further back than
-pub record IsLongestRow (held : List Held) (from : ℕ) (b : Held) : Type 0 where
-  pub row : IsRow held from b
-  pub longest : (n : ℕ) → IsRow held n b → from ≤ n
-
--- the same with the longest row named: a complete frame goes from its lowest head to the tail
-pub record IsFrameOfLongestRow (held : List Held) (frame : Segment) : Type 0 where
-  pub end : Held
-  pub held_end : Contains held end
-  pub at_end : number_of end ≡ frame.last
-  pub is_tail : end.tail ≡ true
-  pub from : ℕ
-  pub row : IsLongestRow held from end
-  pub within : from ≤ frame.first
-  pub order : frame.first ≤ frame.last
-  pub begins : IsHeadAt held frame.first
-  pub lowest : (n : ℕ) → from ≤ n → n ≤ frame.last → IsHeadAt held n → frame.first ≤ n
-
--- both say the same of every list
-abbrev pub BothSaySame : Type 0
-BothSaySame = (held : List Held) (f : Segment) → IsFrame held f ↔ IsFrameOfLongestRow held f
-
 -- each frame starts above n
-abbrev pub StartAbove : ℕ → List Segment → Type 0
+abbrev pub StartAbove : ℕ → List CompleteFrame → Type 0
 StartAbove n [] = Unit {0}
 StartAbove n (f ∷ fs) = (n < f.first) × StartAbove n fs
 
 -- the starts rise, so no frame comes twice
-abbrev pub StartsRise : List Segment → Type 0
+abbrev pub StartsRise : List CompleteFrame → Type 0
 StartsRise [] = Unit {0}
 StartsRise (f ∷ fs) = StartAbove f.first fs × StartsRise fs
 
 -- each frame ends before the next one starts
-abbrev pub StandApart : List Segment → Type 0
+abbrev pub StandApart : List CompleteFrame → Type 0
 StandApart [] = Unit {0}
 StandApart (f ∷ fs) = (f.first ≤ f.last) × StartAbove f.last fs × StandApart fs
 
 -- the recursion lists exactly the complete frames of the set
 abbrev pub AreFramesOfSet : Type 0
-AreFramesOfSet = (held : List Held) → Rises held → (f : Segment) → Contains (frames held) f ↔ IsFrame held f
+AreFramesOfSet = (held : List Held) → Rises held → (f : CompleteFrame) → Contains (frames held) f ↔ IsFrame held f
 
 -- in the order of their starts
 abbrev pub AreInOrder : Type 0
@@ -117,4 +95,4 @@ AreApart = (held : List Held) → Rises held → StandApart (frames held)
 
 -- and no other list does so in order
 abbrev pub AreOnlyList : Type 0
-AreOnlyList = (held : List Held) → Rises held → (fs : List Segment) → StartsRise fs → ((f : Segment) → Contains fs f ↔ IsFrame held f) → fs ≡ frames held
+AreOnlyList = (held : List Held) → Rises held → (fs : List CompleteFrame) → StartsRise fs → ((f : CompleteFrame) → Contains fs f ↔ IsFrame held f) → fs ≡ frames held

@@ -2,7 +2,7 @@
 use Rattle.std.specs.Prelude.{◌≡◌, ◌≢◌, ℕ, zero, suc, ◌+◌, ◌<◌, ◌≤◌, ◌&&◌, not, Bool, true, false, List, [], ◌∷◌, nat_lt, ◌==◌, if◌then◌else◌, Option, Some, None, drop}
 use Rattle.codec_payload_buffer.specs.Held.{Held, number_of}
 use Rattle.codec_payload_buffer.specs.Frames.{is_same_time, start_or_here}
-use Rattle.codec_payload_buffer.specs.declared.buffer.frames.Segment.{Segment}
+use Rattle.codec_payload_buffer.specs.declared.buffer.frames.CompleteFrame.{CompleteFrame}
 use Rattle.codec_payload_buffer.specs.declared.buffer.rows.Row.{Row}
 
 -- one packet as a row
@@ -39,21 +39,21 @@ rows (p ∷ ps) = put_before (row_of p) (rows ps)
 -- The frames
 
 -- the frame of a row: from its lowest head to its tail, where it has both
-abbrev pub frame_in : Bool → Option ℕ → ℕ → Option Segment
+abbrev pub frame_in : Bool → Option ℕ → ℕ → Option CompleteFrame
 frame_in true (Some first) last = Some (record { first = first; last = last })
 frame_in true None last = None
 frame_in false head last = None
 
-abbrev pub frame_of_row : Row → Option Segment
+abbrev pub frame_of_row : Row → Option CompleteFrame
 frame_of_row r = frame_in r.tail r.head r.last
 
 -- a frame, if there is one, in front of others
-abbrev pub with_frame : Option Segment → List Segment → List Segment
+abbrev pub with_frame : Option CompleteFrame → List CompleteFrame → List CompleteFrame
 with_frame None fs = fs
 with_frame (Some f) fs = f ∷ fs
 
 -- the frames of rows, in order
-abbrev pub row_frames : List Row → List Segment
+abbrev pub row_frames : List Row → List CompleteFrame
 row_frames [] = []
 row_frames (r ∷ rs) = with_frame (frame_of_row r) (row_frames rs)
 
@@ -101,16 +101,16 @@ join_at zero (r ∷ rs) = put_before r rs
 join_at (suc k) (r ∷ rs) = r ∷ join_at k rs
 
 -- the frame in its place by its end, in the stead of one with the same end
-abbrev pub noted : Segment → List Segment → List Segment
+abbrev pub noted : CompleteFrame → List CompleteFrame → List CompleteFrame
 noted f [] = f ∷ []
 noted f (g ∷ gs) = if nat_lt g.last f.last then g ∷ noted f gs else (if g.last == f.last then f ∷ gs else f ∷ g ∷ gs)
 
-abbrev pub noted_if : Option Segment → List Segment → List Segment
+abbrev pub noted_if : Option CompleteFrame → List CompleteFrame → List CompleteFrame
 noted_if None fs = fs
 noted_if (Some f) fs = noted f fs
 
 -- how many frames end below n
-abbrev pub frame_place : ℕ → List Segment → ℕ
+abbrev pub frame_place : ℕ → List CompleteFrame → ℕ
 frame_place n [] = 0
 frame_place n (g ∷ gs) = if nat_lt g.last n then frame_place n gs + 1 else 0
 
@@ -129,12 +129,12 @@ with_row None rs = rs
 with_row (Some r) rs = r ∷ rs
 
 -- its frame
-abbrev pub frame_of_rest : Option Row → Option Segment
+abbrev pub frame_of_rest : Option Row → Option CompleteFrame
 frame_of_rest None = None
 frame_of_rest (Some r) = frame_of_row r
 
 -- the lowest frame is now this one, or none, if it was there
-abbrev pub first_mended : Option Segment → Option Segment → List Segment → List Segment
+abbrev pub first_mended : Option CompleteFrame → Option CompleteFrame → List CompleteFrame → List CompleteFrame
 first_mended None new fs = fs
 first_mended (Some f) new fs = with_frame new (drop 1 fs)
 
@@ -157,11 +157,11 @@ AreLongest (r ∷ []) = Unit {0}
 AreLongest (r ∷ s ∷ rs) = (meet r s ≡ false) × AreLongest (s ∷ rs)
 
 -- each frame ends above n, and above the end of the one before
-abbrev pub EndsAbove : ℕ → List Segment → Type 0
+abbrev pub EndsAbove : ℕ → List CompleteFrame → Type 0
 EndsAbove n [] = Unit {0}
 EndsAbove n (f ∷ fs) = (n < f.last) × EndsAbove f.last fs
 
-abbrev pub EndsRise : List Segment → Type 0
+abbrev pub EndsRise : List CompleteFrame → Type 0
 EndsRise [] = Unit {0}
 EndsRise (f ∷ fs) = EndsAbove f.last fs
 
@@ -175,6 +175,6 @@ IsFirstShort [] left = ⊥
 IsFirstShort (r ∷ rs) left = (r.first ≤ r.last) × IsHeadKept r left
 
 -- the frames that the first row had and has, and the rows then
-abbrev pub IsShortened : List Row → List Held → Option Segment → Option Segment → List Row → Type 0
+abbrev pub IsShortened : List Row → List Held → Option CompleteFrame → Option CompleteFrame → List Row → Type 0
 IsShortened [] left before after new = ⊥
 IsShortened (r ∷ rs) left before after new = (before ≡ frame_of_row r) × (after ≡ frame_of_rest (shortened r left)) × (new ≡ with_row (shortened r left) rs)

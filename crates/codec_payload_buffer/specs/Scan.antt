@@ -2,7 +2,7 @@
 use Rattle.std.specs.Prelude.{ℕ, ◌+◌, List, [], ◌∷◌, nat_lt, if◌then◌else◌, Option, Some, None, length}
 use Rattle.codec_payload_buffer.specs.Held.{Held, number_of}
 use Rattle.codec_payload_buffer.specs.Frames.{row_before, lowest_head}
-use Rattle.codec_payload_buffer.specs.declared.buffer.frames.Segment.{Segment}
+use Rattle.codec_payload_buffer.specs.declared.buffer.frames.CompleteFrame.{CompleteFrame}
 
 -- the place of the first packet with at least that number
 abbrev pub place_of : ℕ → List Held → ℕ
@@ -15,7 +15,7 @@ end_of last [] = 0
 end_of last (q ∷ qs) = if nat_lt last (number_of q) then 0 else end_of last qs + 1
 
 -- the lowest frame
-abbrev pub first_of : List Segment → Option Segment
+abbrev pub first_of : List CompleteFrame → Option CompleteFrame
 first_of [] = None
 first_of (f ∷ fs) = Some f
 

@@ -38,13 +38,13 @@ left_out s all = take (length all - s.limit) all
 abbrev pub kept : State → List ℕ → List ℕ
 kept s all = drop (length all - s.limit) all
 
--- of these numbers the greatest are held; where some are left out, the greatest of these is the cutoff and the mark is set
+-- of these numbers the greatest are held; where some are left out, the greatest of these is the cutoff and one was evicted
 pub record IsLeft (s : State) (all : List ℕ) (t : State) : Type 0 where
   pub held : map number_of t.held ≡ kept s all
   pub cutoff : t.cutoff ≡ last_or (left_out s all) s.cutoff
-  pub mark : t.mark ≡ (is_some_of (left_out s all) || s.mark)
+  pub evicted : t.evicted ≡ (is_some_of (left_out s all) || s.evicted)
   pub contiguity : t.contiguity ≡ s.contiguity
-  pub depack : t.depack ≡ s.depack
+  pub depacketizer : t.depacketizer ≡ s.depacketizer
   pub hold_back : t.hold_back ≡ s.hold_back
   pub limit : t.limit ≡ s.limit
 
@@ -60,9 +60,9 @@ LeavesNumbers = (s : State) (ps : List Held) (low count : ℕ) → IsSound s →
 pub record HaveSameNumbers (t u : State) : Type 0 where
   pub held : map number_of t.held ≡ map number_of u.held
   pub cutoff : t.cutoff ≡ u.cutoff
-  pub mark : t.mark ≡ u.mark
+  pub evicted : t.evicted ≡ u.evicted
   pub contiguity : t.contiguity ≡ u.contiguity
-  pub depack : t.depack ≡ u.depack
+  pub depacketizer : t.depacketizer ≡ u.depacketizer
   pub hold_back : t.hold_back ≡ u.hold_back
   pub limit : t.limit ≡ u.limit
 

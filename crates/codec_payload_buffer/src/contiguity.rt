@@ -2,7 +2,7 @@
 
 ghost use Rattle.std.specs.Prelude.{◌≡◌};
 ghost use Rattle.codec_payload_buffer.specs.ContiguityTable.{no_ids, verdict, vp8_verdict, vp9_verdict, checked, contiguity_for, Advances};
-ghost use Rattle.codec_payload_codec.specs.Depack.{depack_of, kind_of_depack};
+ghost use Rattle.codec_payload_codec.specs.Depacketizers.{depacketizer_state_of, kind_of_depacketizer};
 
 use codec_payload_codec::codec::{CodecDepacketizer, CodecExtra, Vp8CodecExtra, Vp9CodecExtra};
 use std::marker::Model;
@@ -18,10 +18,10 @@ pub enum Contiguity {
 
 impl Contiguity {
     /// That of a buffer over a depacketizer which has released nothing.
-    pub(crate) fn of<B>(depack: &CodecDepacketizer<B>) -> Self
-        ensures { result ≡ contiguity_for (kind_of_depack (depack_of depack.now)) }
+    pub(crate) fn of<B>(depacketizer: &CodecDepacketizer<B>) -> Self
+        ensures { result ≡ contiguity_for (kind_of_depacketizer (depacketizer_state_of depacketizer.now)) }
     {
-        match depack {
+        match depacketizer {
             CodecDepacketizer::Vp8(_) => Contiguity::Vp8(Vp8Contiguity::new()),
             CodecDepacketizer::Vp9(_) => Contiguity::Vp9(Vp9Contiguity::new()),
             _ => Contiguity::None,
@@ -48,8 +48,7 @@ impl Contiguity {
 /// The picture ids of the last VP8 frame that was taken with both.
 #[derive(Debug, Drop)]
 pub struct Vp8Contiguity {
-    last_picture_id: Option<u64>,
-    last_tl0_picture_id: Option<u64>,
+    ids: FrameContiguityState,
 }
 
 impl Model for Vp8Contiguity {
@@ -57,7 +56,7 @@ impl Model for Vp8Contiguity {
 
     ghost Value = { Ids };
 
-    ghost view = { λ c. record { last_picture_id = c.last_picture_id; last_tl0_picture_id = c.last_tl0_picture_id } };
+    ghost view = { λ c. c.ids };
 }
 
 impl Vp8Contiguity {
@@ -66,8 +65,10 @@ impl Vp8Contiguity {
         ensures { result ≡ no_ids }
     {
         Vp8Contiguity {
-            last_picture_id: None,
-            last_tl0_picture_id: None,
+            ids: FrameContiguityState {
+                last_picture_id: None,
+                last_tl0_picture_id: None,
+            },
         }
     }
 
@@ -75,16 +76,13 @@ impl Vp8Contiguity {
     pub fn check(&mut self, next: &Vp8CodecExtra, contiguous_seq: bool) -> (bool, bool)
         ensures { vp8_verdict self.old next.now contiguous_seq ≡ (result.0, result.1, self.new) }
     {
-        let mut state = FrameContiguityState::from(&mut *self);
-        let answer = state.next_frame(
+        self.ids.next_frame(
             next.picture_id,
             next.tl0_picture_id,
             Some(u64::from(next.layer_index)),
             next.is_keyframe,
             contiguous_seq,
-        );
-        *self = Vp8Contiguity::from(state);
-        answer
+        )
     }
 }
 
@@ -99,8 +97,7 @@ impl Default for Vp8Contiguity {
 /// The picture ids of the last VP9 frame that was taken with both.
 #[derive(Debug, Drop)]
 pub struct Vp9Contiguity {
-    last_picture_id: Option<u64>,
-    last_tl0_picture_id: Option<u64>,
+    ids: FrameContiguityState,
 }
 
 impl Model for Vp9Contiguity {
@@ -108,7 +105,7 @@ impl Model for Vp9Contiguity {
 
     ghost Value = { Ids };
 
-    ghost view = { λ c. record { last_picture_id = c.last_picture_id; last_tl0_picture_id = c.last_tl0_picture_id } };
+    ghost view = { λ c. c.ids };
 }
 
 impl Vp9Contiguity {
@@ -117,8 +114,10 @@ impl Vp9Contiguity {
         ensures { result ≡ no_ids }
     {
         Vp9Contiguity {
-            last_picture_id: None,
-            last_tl0_picture_id: None,
+            ids: FrameContiguityState {
+                last_picture_id: None,
+                last_tl0_picture_id: None,
+            },
         }
     }
 
@@ -126,20 +125,17 @@ impl Vp9Contiguity {
     pub fn check(&mut self, next: &Vp9CodecExtra, contiguous_seq: bool) -> (bool, bool)
         ensures { vp9_verdict self.old next.now contiguous_seq ≡ (result.0, result.1, self.new) }
     {
-        let mut state = FrameContiguityState::from(&mut *self);
         let layer = match next.tid {
             Some(tid) => Some(u64::from(tid)),
             None => None,
         };
-        let answer = state.next_frame(
+        self.ids.next_frame(
             next.picture_id,
             next.tl0_picture_id,
             layer,
             next.is_keyframe,
             contiguous_seq,
-        );
-        *self = Vp9Contiguity::from(state);
-        answer
+        )
     }
 }
 
@@ -212,8 +208,8 @@ impl From<&mut Vp8Contiguity> for FrameContiguityState {
         ensures stays { value.new ≡ value.old }
     {
         FrameContiguityState {
-            last_picture_id: value.last_picture_id,
-            last_tl0_picture_id: value.last_tl0_picture_id,
+            last_picture_id: value.ids.last_picture_id,
+            last_tl0_picture_id: value.ids.last_tl0_picture_id,
         }
     }
 }
@@ -224,8 +220,8 @@ impl From<&mut Vp9Contiguity> for FrameContiguityState {
         ensures stays { value.new ≡ value.old }
     {
         FrameContiguityState {
-            last_picture_id: value.last_picture_id,
-            last_tl0_picture_id: value.last_tl0_picture_id,
+            last_picture_id: value.ids.last_picture_id,
+            last_tl0_picture_id: value.ids.last_tl0_picture_id,
         }
     }
 }
@@ -234,10 +230,7 @@ impl From<FrameContiguityState> for Vp8Contiguity {
     fn from(value: FrameContiguityState) -> Self
         ensures { result ≡ value }
     {
-        Vp8Contiguity {
-            last_picture_id: value.last_picture_id,
-            last_tl0_picture_id: value.last_tl0_picture_id,
-        }
+        Vp8Contiguity { ids: value }
     }
 }
 
@@ -245,9 +238,6 @@ impl From<FrameContiguityState> for Vp9Contiguity {
     fn from(value: FrameContiguityState) -> Self
         ensures { result ≡ value }
     {
-        Vp9Contiguity {
-            last_picture_id: value.last_picture_id,
-            last_tl0_picture_id: value.last_tl0_picture_id,
-        }
+        Vp9Contiguity { ids: value }
     }
 }

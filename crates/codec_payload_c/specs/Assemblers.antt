@@ -1,6 +1,6 @@
 -- What the calls on a depacketizer do.
 use Rattle.std.specs.Prelude.{◌≡◌, ◌≢◌, ℕ, ◌==◌, nat_le, if◌then◌else◌, List, [], Option, Some, Ok, Err, length}
-use Rattle.codec_payload_core.specs.Depack.{Depack, DepackStep, depack_of}
+use Rattle.codec_payload_core.specs.Depacketizers.{DepacketizerState, DepacketizerStep, depacketizer_state_of}
 use Rattle.codec_payload_core.specs.Faults.{fault_number}
 use Rattle.codec_payload_core.specs.declared.error.PacketError.{PacketError}
 use Rattle.codec_payload_core.specs.declared.interface.CodecExtra.TheVariants as told
@@ -12,15 +12,16 @@ use Rattle.codec_payload_handle.specs.declared.object.Object.{Object}
 use Rattle.codec_payload_handle.specs.declared.object.Object.TheVariants as objects
 
 -- one with that depacketizer, which has put nothing together
-abbrev pub IsAssemblerOf : Option Depack → Object → Type 0
-IsAssemblerOf depack (objects.Assembler r) = (Some (depack_of r.depack) ≡ depack) × (r.bytes.items ≡ []) × (r.extra ≡ told.None)
-IsAssemblerOf depack _ = ⊥
+abbrev pub IsAssemblerOf : Option DepacketizerState → Object → Type 0
+IsAssemblerOf depacketizer (objects.Assembler r) = (Some (depacketizer_state_of r.depacketizer) ≡ depacketizer) × (r.bytes.items ≡ []) × (r.extra ≡ told.None)
+IsAssemblerOf depacketizer _ = ⊥
 
 -- a payload is read as the depacketizer reads it
 pub record Unpacks (r : Assembler) (payload : List ℕ) (status : ℕ) (s : Assembler) : Type 0 where
-  pub ok : status ≡ 0 → DepackStep (depack_of r.depack) payload r.bytes.items r.extra (Ok tt) (depack_of s.depack) s.bytes.items s.extra
+  pub ok : status ≡ 0 → DepacketizerStep (depacketizer_state_of r.depacketizer) payload r.bytes.items r.extra (Ok tt) (depacketizer_state_of s.depacketizer) s.bytes.items s.extra
   pub fault : status ≢ 0
-      → (e : PacketError) × (status ≡ fault_number e) × DepackStep (depack_of r.depack) payload r.bytes.items r.extra (Err e) (depack_of s.depack) s.bytes.items s.extra
+      → (e : PacketError) × (status ≡ fault_number e) × DepacketizerStep (depacketizer_state_of r.depacketizer) payload r.bytes.items r.extra (Err e)
+          (depacketizer_state_of s.depacketizer) s.bytes.items s.extra
 
 -- what was put together is handed out, or stays where the caller's bytes are too few
 pub record Takes (r : Assembler) (status size : ℕ) (extra : Extra) (before bytes : List ℕ) (s : Assembler) : Type 0 where
@@ -30,4 +31,4 @@ pub record Takes (r : Assembler) (status size : ℕ) (extra : Extra) (before byt
   pub writes : bytes ≡ filled r.bytes.items before
   pub bytes_left : s.bytes.items ≡ (if status == 0 then [] else r.bytes.items)
   pub extra_left : s.extra ≡ (if status == 0 then told.None else r.extra)
-  pub depack : s.depack ≡ r.depack
+  pub depacketizer : s.depacketizer ≡ r.depacketizer

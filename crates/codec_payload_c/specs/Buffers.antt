@@ -1,7 +1,7 @@
 -- What the calls on a buffer do.
 use Rattle.std.specs.Prelude.{◌≡◌, ◌≢◌, ◌⊎◌, ℕ, ◌%◌, ◌^◌, Option, Some, None, List, is_some, length}
 use Rattle.codec_payload_core.specs.Extensions.{no_values}
-use Rattle.codec_payload_core.specs.Depack.{Depack}
+use Rattle.codec_payload_core.specs.Depacketizers.{DepacketizerState}
 use Rattle.codec_payload_core.specs.Frames.{frames}
 use Rattle.codec_payload_core.specs.Held.{Held}
 use Rattle.codec_payload_core.specs.Steps.{State, Pops, IsArrived, empty_buffer, pushed}
@@ -17,15 +17,15 @@ use Rattle.codec_payload_handle.specs.declared.object.Receiver.{Receiver}
 use Rattle.codec_payload_handle.specs.declared.settings.Spec.{Spec}
 
 -- an empty buffer with these settings
-pub record IsNew (spec : Spec) (depack : Option Depack) (hold_back limit : ℕ) (r : Receiver) : Type 0 where
-  pub depack_is : Some r.buffer.depack ≡ depack
-  pub empty : r.buffer ≡ empty_buffer hold_back limit r.buffer.depack
+pub record IsNew (spec : Spec) (depacketizer : Option DepacketizerState) (hold_back limit : ℕ) (r : Receiver) : Type 0 where
+  pub depacketizer_is : Some r.buffer.depacketizer ≡ depacketizer
+  pub empty : r.buffer ≡ empty_buffer hold_back limit r.buffer.depacketizer
   pub waiting : r.waiting ≡ None
   pub rate : r.rate ≡ spec.rate
 
-abbrev pub IsReceiverOf : Spec → Option Depack → ℕ → ℕ → Object → Type 0
-IsReceiverOf spec depack hold_back limit (objects.Receiver r) = IsNew spec depack hold_back limit r
-IsReceiverOf spec depack hold_back limit _ = ⊥
+abbrev pub IsReceiverOf : Spec → Option DepacketizerState → ℕ → ℕ → Object → Type 0
+IsReceiverOf spec depacketizer hold_back limit (objects.Receiver r) = IsNew spec depacketizer hold_back limit r
+IsReceiverOf spec depacketizer hold_back limit _ = ⊥
 
 -- what the buffer is told of a packet
 pub record IsToldBy (packet : Received) (rate : ℕ) (meta : RtpMeta) : Type 0 where
@@ -43,7 +43,7 @@ pub record IsToldBy (packet : Received) (rate : ℕ) (meta : RtpMeta) : Type 0 w
 -- A push: with status 0 the packet was pushed; else there was no memory, and nothing changed.
 pub record AnswersPush (r : Receiver) (packet : Received) (payload : List ℕ) (status : ℕ) (s : Receiver) : Type 0 where
   pub answers : (status ≡ 0) ⊎ (status ≡ 17)
-  pub ok : status ≡ 0 → (meta : RtpMeta) × (p : Held) × IsToldBy packet r.rate meta × IsArrived r.buffer.depack meta payload p × (s.buffer ≡ pushed r.buffer p)
+  pub ok : status ≡ 0 → (meta : RtpMeta) × (p : Held) × IsToldBy packet r.rate meta × IsArrived r.buffer.depacketizer meta payload p × (s.buffer ≡ pushed r.buffer p)
   pub fault : status ≢ 0 → s.buffer ≡ r.buffer
   pub waiting : s.waiting ≡ r.waiting
   pub rate : s.rate ≡ r.rate

@@ -1,9 +1,9 @@
 -- Looks at one payload.
 use Rattle.std.specs.Prelude.{◌≡◌, ℕ, Bool, true, false, Option, Some, None}
-use Rattle.codec_payload_core.specs.Depack.{Depack}
+use Rattle.codec_payload_core.specs.Depacketizers.{DepacketizerState}
 
 -- where the codec has a depacketizer, what that one says; else status 37
-abbrev pub Looks : Option Depack → (Depack → Bool) → ℕ → Bool → Bool → Type 0
+abbrev pub Looks : Option DepacketizerState → (DepacketizerState → Bool) → ℕ → Bool → Bool → Type 0
 Looks None says status before answer = (status ≡ 37) × (answer ≡ before)
 Looks (Some d) says status before answer = (status ≡ 0) × (answer ≡ says d)
 

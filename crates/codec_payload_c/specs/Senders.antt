@@ -1,7 +1,7 @@
 -- What the calls on a packetizer do.
 use Rattle.std.specs.Prelude.{◌≡◌, ◌≢◌, ℕ, ◌+◌, ◌==◌, ◌&&◌, ◌||◌, Bool, nat_le, if◌then◌else◌, List, [], Option, Some, None, Ok, Err, IfSome, length, map, slice_get}
 use Rattle.codec_payload_core.specs.Faults.{fault_number}
-use Rattle.codec_payload_core.specs.Pack.{Pack, PackStep, pack_of, is_built_in, marker_of, talkspurt_of, nackable_of}
+use Rattle.codec_payload_core.specs.Packetizers.{PacketizerState, PacketizerStep, packetizer_state_of, is_built_in, marker_of, talkspurt_of, nackable_of}
 use Rattle.codec_payload_core.specs.declared.error.PacketError.{PacketError}
 use Rattle.codec_payload_handle.specs.Bytes.{filled}
 use Rattle.codec_payload_handle.specs.declared.object.Object.{Object}
@@ -14,18 +14,18 @@ abbrev pub packets_in : Sender → List (List ℕ)
 packets_in r = map (λ p. p.items) r.packets.items
 
 -- a sender with that packetizer and no packets
-abbrev pub IsSenderOf : Option Pack → Object → Type 0
-IsSenderOf pack (objects.Sender s) = (Some (pack_of s.pack) ≡ pack) × (packets_in s ≡ []) × (s.taken ≡ 0)
-IsSenderOf pack _ = ⊥
+abbrev pub IsSenderOf : Option PacketizerState → Object → Type 0
+IsSenderOf packetizer (objects.Sender s) = (Some (packetizer_state_of s.packetizer) ≡ packetizer) × (packets_in s ≡ []) × (s.taken ≡ 0)
+IsSenderOf packetizer _ = ⊥
 
 -- A frame is cut: its packets are there to take, from the first, and those of the frame before are given up. A fault leaves
 -- the packets as they were.
 pub record CutsFrame (r : Sender) (mtu : ℕ) (starts : Bool) (frame : List ℕ) (status count : ℕ) (s : Sender) : Type 0 where
-  pub ok : status ≡ 0 → PackStep (pack_of r.pack) mtu frame (Ok (packets_in s)) (pack_of s.pack)
+  pub ok : status ≡ 0 → PacketizerStep (packetizer_state_of r.packetizer) mtu frame (Ok (packets_in s)) (packetizer_state_of s.packetizer)
   pub counted : status ≡ 0 → count ≡ length (packets_in s)
   pub none_taken : status ≡ 0 → s.taken ≡ 0
-  pub marked : status ≡ 0 → is_built_in (pack_of s.pack) ≡ Bool.true → s.marked ≡ (starts && talkspurt_of (pack_of s.pack))
-  pub fault : status ≢ 0 → (e : PacketError) × (status ≡ fault_number e) × PackStep (pack_of r.pack) mtu frame (Err e) (pack_of s.pack)
+  pub marked : status ≡ 0 → is_built_in (packetizer_state_of s.packetizer) ≡ Bool.true → s.marked ≡ (starts && talkspurt_of (packetizer_state_of s.packetizer))
+  pub fault : status ≢ 0 → (e : PacketError) × (status ≡ fault_number e) × PacketizerStep (packetizer_state_of r.packetizer) mtu frame (Err e) (packetizer_state_of s.packetizer)
   pub stays : status ≢ 0 → (s.packets ≡ r.packets) × (s.taken ≡ r.taken) × (s.marked ≡ r.marked)
 
 -- the next packet to take
@@ -40,8 +40,8 @@ packet_status (Some p) room = if nat_le (length p) room then 0 else 33
 -- what is told of the next packet
 pub record TellsPacket (r : Sender) (p : List ℕ) (info : PacketInfo) : Type 0 where
   pub bytes : info.bytes ≡ length p
-  pub marker : is_built_in (pack_of r.pack) ≡ Bool.true → info.marker ≡ (r.marked || marker_of (pack_of r.pack) (r.taken + 1 == length (packets_in r)))
-  pub nackable : is_built_in (pack_of r.pack) ≡ Bool.true → info.nackable ≡ nackable_of (pack_of r.pack)
+  pub marker : is_built_in (packetizer_state_of r.packetizer) ≡ Bool.true → info.marker ≡ (r.marked || marker_of (packetizer_state_of r.packetizer) (r.taken + 1 == length (packets_in r)))
+  pub nackable : is_built_in (packetizer_state_of r.packetizer) ≡ Bool.true → info.nackable ≡ nackable_of (packetizer_state_of r.packetizer)
 
 -- The next packet is taken, or stays where the caller's bytes are too few.
 pub record GivesPacket (r : Sender) (status : ℕ) (info : PacketInfo) (before bytes : List ℕ) (s : Sender) : Type 0 where
@@ -51,5 +51,5 @@ pub record GivesPacket (r : Sender) (status : ℕ) (info : PacketInfo) (before b
   pub untouched : next_in r ≡ None → bytes ≡ before
   pub takes : s.taken ≡ (if status == 0 then r.taken + 1 else r.taken)
   pub packets : s.packets ≡ r.packets
-  pub pack : pack_of s.pack ≡ pack_of r.pack
+  pub packetizer : packetizer_state_of s.packetizer ≡ packetizer_state_of r.packetizer
   pub marked : s.marked ≡ r.marked

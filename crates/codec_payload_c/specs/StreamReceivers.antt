@@ -1,6 +1,6 @@
 -- What the calls on a receiver of datagrams do.
 use Rattle.std.specs.Prelude.{◌≡◌, ◌≢◌, ℕ, ◌&&◌, ◌||◌, ◌==◌, not, nat_le, nat_lt, if◌then◌else◌, Bool, true, false, Option, Some, None, Result, Ok, Err, List, is_some, length, drop, ◌++◌}
-use Rattle.codec_payload_core.specs.Depack.{Depack}
+use Rattle.codec_payload_core.specs.Depacketizers.{DepacketizerState}
 use Rattle.codec_payload_jitter.specs.Missing.{missing_numbers}
 use Rattle.codec_payload_jitter.specs.Receiving.{PopsWith, begun_anew, deadline_of, settled, waiting_at}
 use Rattle.codec_payload_jitter.specs.declared.jitter.Patience.{Patience}
@@ -73,17 +73,17 @@ pub record AreSettings (s : ReceiverSettings) (types : List ℕ) (t : Settings) 
   pub backward : t.backward ≡ s.backward
 
 -- a new receiver by these settings
-pub record IsNewStream (s : ReceiverSettings) (no_media : List ℕ) (depack : Option Depack) (r : StreamReceiver) : Type 0 where
+pub record IsNewStream (s : ReceiverSettings) (no_media : List ℕ) (depacketizer : Option DepacketizerState) (r : StreamReceiver) : Type 0 where
   pub settings : Settings
   pub are : AreSettings s no_media settings
-  pub by : Depack
-  pub depack_is : depack ≡ Some by
+  pub by : DepacketizerState
+  pub depacketizer_is : depacketizer ≡ Some by
   pub made : session_by settings by ≡ Ok r.receiver
   pub waiting : r.waiting ≡ None
 
-abbrev pub IsStreamReceiverOf : ReceiverSettings → List ℕ → Option Depack → Object → Type 0
-IsStreamReceiverOf s no_media depack (objects.StreamReceiver r) = IsNewStream s no_media depack r
-IsStreamReceiverOf s no_media depack _ = ⊥
+abbrev pub IsStreamReceiverOf : ReceiverSettings → List ℕ → Option DepacketizerState → Object → Type 0
+IsStreamReceiverOf s no_media depacketizer (objects.StreamReceiver r) = IsNewStream s no_media depacketizer r
+IsStreamReceiverOf s no_media depacketizer _ = ⊥
 
 -- the numbers of outcomes
 abbrev pub outcome_number : Outcome → ℕ

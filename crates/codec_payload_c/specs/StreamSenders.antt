@@ -3,7 +3,7 @@ use Rattle.std.specs.Prelude.{◌≡◌, ◌≢◌, ℕ, ◌==◌, nat_le, if◌
 use Rattle.codec_payload_base.specs.declared.error.PacketError.{PacketError}
 use Rattle.codec_payload_core.specs.Extensions.{no_values}
 use Rattle.codec_payload_core.specs.Faults.{fault_number}
-use Rattle.codec_payload_core.specs.Pack.{Pack}
+use Rattle.codec_payload_core.specs.Packetizers.{PacketizerState}
 use Rattle.codec_payload_sender.specs.Datagrams.{Sample}
 use Rattle.codec_payload_sender.specs.Senders.{Sending, Sends, Refuses as RefusesSample, sender_by}
 use Rattle.codec_payload_sender.specs.declared.sender.SenderSettings.{SenderSettings as Settings}
@@ -29,9 +29,9 @@ settings_for s = record {
 }
 
 -- a new sender by these settings
-abbrev pub IsStreamSenderOf : SenderSettings → Option Pack → Object → Type 0
-IsStreamSenderOf s pack (objects.StreamSender r) = IfSome pack (λ p. (r.sender ≡ sender_by (settings_for s) p) × (r.rate ≡ s.spec.rate))
-IsStreamSenderOf s pack _ = ⊥
+abbrev pub IsStreamSenderOf : SenderSettings → Option PacketizerState → Object → Type 0
+IsStreamSenderOf s packetizer (objects.StreamSender r) = IfSome packetizer (λ p. (r.sender ≡ sender_by (settings_for s) p) × (r.rate ≡ s.spec.rate))
+IsStreamSenderOf s packetizer _ = ⊥
 
 -- a frame with its time, without values of header extensions
 abbrev pub sample_given : StreamSender → ℕ → Bool → List ℕ → Sample

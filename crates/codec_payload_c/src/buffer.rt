@@ -4,7 +4,7 @@ ghost use Rattle.std.specs.Prelude.{◌≡◌, ◌≢◌, ◌&&◌, is_some, nat
 ghost use Rattle.codec_payload_core.specs.Blanks.{passed_number};
 ghost use Rattle.codec_payload_c.specs.Buffers.{AnswersPush, Counts, IsReceiverOf, IsToldBy, PopsUnit};
 ghost use Rattle.codec_payload_handle.specs.Kinds.{Makes, OnReceiver, Refuses, is_receiver};
-ghost use Rattle.codec_payload_handle.specs.Settings.{depack_set};
+ghost use Rattle.codec_payload_handle.specs.Settings.{depacketizer_set};
 
 use codec_payload_core::buffer::{DepacketizingBuffer, RtpMeta};
 use codec_payload_core::wire::{
@@ -125,14 +125,14 @@ pub extern "C" fn cpay_buffer_new(
     hold_back: usize,
     limit: usize,
 ) -> u32
-    ensures { Makes (IsReceiverOf spec.now (depack_set spec.now) hold_back limit)
-        (is_some (depack_set spec.now) && nat_le 1 limit && nat_le limit 65536) handle.old.place.value result handle.new.place.value }
+    ensures { Makes (IsReceiverOf spec.now (depacketizer_set spec.now) hold_back limit)
+        (is_some (depacketizer_set spec.now) && nat_le 1 limit && nat_le limit 65536) handle.old.place.value result handle.new.place.value }
 {
     if let Some(object) = handle.take(alloc) {
         handle.put(object);
         return status::FULL;
     }
-    let (Some(depack), Some(rate)) = (depacketizer_of(alloc, spec), Frequency::make(spec.rate))
+    let (Some(depacketizer), Some(rate)) = (depacketizer_of(alloc, spec), Frequency::make(spec.rate))
     else {
         return status::INVALID;
     };
@@ -140,7 +140,7 @@ pub extern "C" fn cpay_buffer_new(
         return status::INVALID;
     }
     let receiver = Receiver {
-        buffer: DepacketizingBuffer::with_limit(alloc, depack, hold_back, limit),
+        buffer: DepacketizingBuffer::with_limit(alloc, depacketizer, hold_back, limit),
         waiting: None,
         rate,
     };

@@ -3,7 +3,7 @@
 ghost use Rattle.std.specs.Prelude.{◌≡◌, ◌≢◌, is_some};
 ghost use Rattle.codec_payload_c.specs.Assemblers.{IsAssemblerOf, Takes, Unpacks};
 ghost use Rattle.codec_payload_handle.specs.Kinds.{Makes, OnAssembler, Refuses, is_assembler};
-ghost use Rattle.codec_payload_handle.specs.Settings.{depack_set};
+ghost use Rattle.codec_payload_handle.specs.Settings.{depacketizer_set};
 
 use codec_payload_core::codec::{CodecExtra, Depacketizer};
 use codec_payload_handle::bytes::fill;
@@ -19,7 +19,7 @@ fn depacketize(assembler: &mut Assembler, payload: &[u8]) -> u32
     ensures { Unpacks assembler.old payload.now result assembler.new }
 {
     match assembler
-        .depack
+        .depacketizer
         .depacketize(payload, &mut assembler.bytes, &mut assembler.extra)
     {
         Ok(()) => status::OK,
@@ -44,17 +44,17 @@ fn take(assembler: &mut Assembler, size: &mut usize, extra: &mut Extra, bytes: &
 /// A depacketizer with these settings, in an empty handle.
 #[unsafe(no_mangle)]
 pub extern "C" fn cpay_depacketizer_new(alloc: Global, handle: &mut Handle, spec: &Spec) -> u32
-    ensures { Makes (IsAssemblerOf (depack_set spec.now)) (is_some (depack_set spec.now)) handle.old.place.value result handle.new.place.value }
+    ensures { Makes (IsAssemblerOf (depacketizer_set spec.now)) (is_some (depacketizer_set spec.now)) handle.old.place.value result handle.new.place.value }
 {
     if let Some(object) = handle.take(alloc) {
         handle.put(object);
         return status::FULL;
     }
-    let Some(depack) = depacketizer_of(alloc, spec) else {
+    let Some(depacketizer) = depacketizer_of(alloc, spec) else {
         return status::INVALID;
     };
     let assembler = Assembler {
-        depack,
+        depacketizer,
         bytes: Vec::new(alloc),
         extra: CodecExtra::None,
     };

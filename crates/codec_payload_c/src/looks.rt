@@ -2,7 +2,7 @@
 
 ghost use Rattle.std.specs.Prelude.{◌≡◌, MatchOption};
 ghost use Rattle.codec_payload_core.specs.Av1Steps.{is_keyframe as is_av1_keyframe};
-ghost use Rattle.codec_payload_core.specs.Depack.{depack_for, head_of, tail_of};
+ghost use Rattle.codec_payload_core.specs.Depacketizers.{depacketizer_state_for, head_of, tail_of};
 ghost use Rattle.codec_payload_core.specs.Extended.{extended};
 ghost use Rattle.codec_payload_core.specs.Vp8Keyframe.{is_keyframe as is_vp8_keyframe};
 ghost use Rattle.codec_payload_core.specs.Vp9Keyframe.{is_key_frame, is_key_payload};
@@ -52,12 +52,12 @@ pub extern "C" fn cpay_av1_is_keyframe(payload: &[u8]) -> bool
 /// Whether the payload begins a unit.
 #[unsafe(no_mangle)]
 pub extern "C" fn cpay_is_head(alloc: Global, codec: u32, payload: &[u8], is_head: &mut bool) -> u32
-    ensures { Looks (depack_for (codec_numbered codec)) (λ d. head_of d payload.now) result is_head.old is_head.new }
+    ensures { Looks (depacketizer_state_for (codec_numbered codec)) (λ d. head_of d payload.now) result is_head.old is_head.new }
 {
-    let Some(depack) = CodecDepacketizer::from_codec(alloc, codec_of(codec)) else {
+    let Some(depacketizer) = CodecDepacketizer::from_codec(alloc, codec_of(codec)) else {
         return status::INVALID;
     };
-    *is_head = depack.is_partition_head(payload);
+    *is_head = depacketizer.is_partition_head(payload);
     status::OK
 }
 
@@ -70,12 +70,12 @@ pub extern "C" fn cpay_is_tail(
     payload: &[u8],
     is_tail: &mut bool,
 ) -> u32
-    ensures { Looks (depack_for (codec_numbered codec)) (λ d. tail_of d marker payload.now) result is_tail.old is_tail.new }
+    ensures { Looks (depacketizer_state_for (codec_numbered codec)) (λ d. tail_of d marker payload.now) result is_tail.old is_tail.new }
 {
-    let Some(depack) = CodecDepacketizer::from_codec(alloc, codec_of(codec)) else {
+    let Some(depacketizer) = CodecDepacketizer::from_codec(alloc, codec_of(codec)) else {
         return status::INVALID;
     };
-    *is_tail = depack.is_partition_tail(marker, payload);
+    *is_tail = depacketizer.is_partition_tail(marker, payload);
     status::OK
 }
 

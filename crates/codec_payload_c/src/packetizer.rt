@@ -3,7 +3,7 @@
 ghost use Rattle.std.specs.Prelude.{◌≡◌, ◌≢◌, ◌≤◌, is_some, length};
 ghost use Rattle.codec_payload_handle.specs.Kinds.{Makes, OnSender, Refuses, is_sender};
 ghost use Rattle.codec_payload_c.specs.Senders.{CutsFrame, GivesPacket, IsSenderOf};
-ghost use Rattle.codec_payload_handle.specs.Settings.{pack_set};
+ghost use Rattle.codec_payload_handle.specs.Settings.{packetizer_set};
 
 use codec_payload_core::codec::Packetizer;
 use codec_payload_handle::bytes::fill;
@@ -37,12 +37,12 @@ fn packetize(
     ensures cuts { CutsFrame sender.old mtu starts_talk_spurt frame.now result count.new sender.new }
     ensures untold { result ≢ 0 → count.new ≡ count.old }
 {
-    match sender.pack.packetize(alloc, mtu, frame) {
+    match sender.packetizer.packetize(alloc, mtu, frame) {
         Ok(packets) => {
             *count = packets.len();
             sender.packets = packets;
             sender.taken = 0;
-            sender.marked = starts_talk_spurt && sender.pack.marks_talkspurt();
+            sender.marked = starts_talk_spurt && sender.packetizer.marks_talkspurt();
             status::OK
         }
         Err(fault) => u32::from(fault.number()),
@@ -63,8 +63,8 @@ fn packet(sender: &mut Sender, info: &mut PacketInfo, bytes: &mut [u8]) -> u32
         None => None,
     };
     info.bytes = payload.len();
-    info.marker = sender.pack.is_marker(payload, previous, last) || sender.marked;
-    info.nackable = sender.pack.nackable();
+    info.marker = sender.packetizer.is_marker(payload, previous, last) || sender.marked;
+    info.nackable = sender.packetizer.nackable();
     if !fill(bytes, payload) {
         return status::TOO_SMALL;
     }
@@ -75,17 +75,17 @@ fn packet(sender: &mut Sender, info: &mut PacketInfo, bytes: &mut [u8]) -> u32
 /// A packetizer with these settings, in an empty handle.
 #[unsafe(no_mangle)]
 pub extern "C" fn cpay_packetizer_new(alloc: Global, handle: &mut Handle, spec: &Spec) -> u32
-    ensures { Makes (IsSenderOf (pack_set spec.now)) (is_some (pack_set spec.now)) handle.old.place.value result handle.new.place.value }
+    ensures { Makes (IsSenderOf (packetizer_set spec.now)) (is_some (packetizer_set spec.now)) handle.old.place.value result handle.new.place.value }
 {
     if let Some(object) = handle.take(alloc) {
         handle.put(object);
         return status::FULL;
     }
-    let Some(pack) = packetizer_of(spec) else {
+    let Some(packetizer) = packetizer_of(spec) else {
         return status::INVALID;
     };
     let sender = Sender {
-        pack,
+        packetizer,
         packets: Vec::new(alloc),
         taken: 0,
         marked: false,

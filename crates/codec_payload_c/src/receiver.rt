@@ -1,12 +1,12 @@
 //! The datagrams of one stream go in, and units come out.
 
 ghost use Rattle.std.specs.Prelude.{◌≡◌, ◌≢◌, ◌&&◌, is_some, Bool, IfErr, IfOk, Option};
-ghost use Rattle.codec_payload_core.specs.Depack.{depack_of};
+ghost use Rattle.codec_payload_core.specs.Depacketizers.{depacketizer_state_of};
 ghost use Rattle.codec_payload_jitter.specs.Receiving.{deadline_of};
 ghost use Rattle.codec_payload_stream.specs.Reports.{report_of, reported};
 ghost use Rattle.codec_payload_c.specs.StreamReceivers.{AreSettings, IsNewStream, IsStreamReceiverOf, PopsUnit, Takes, TellsCounts, TellsMissing, TellsNumber, TellsReport, TellsTimed, anew, is_in_range, outcome_number, red_in_range, red_set, rtx_in_range, rtx_set};
 ghost use Rattle.codec_payload_handle.specs.Kinds.{Makes, OnStreamReceiver, Refuses, is_stream_receiver};
-ghost use Rattle.codec_payload_handle.specs.Settings.{depack_set};
+ghost use Rattle.codec_payload_handle.specs.Settings.{depacketizer_set};
 
 use crate::rtp::status_of;
 use codec_payload_core::buffer::Depacketized;
@@ -321,13 +321,13 @@ fn missing_into(stream: &StreamReceiver, numbers: &mut [u64]) -> usize
 fn stream_by(
     alloc: Global,
     settings: &ReceiverSettings,
-    depack: CodecDepacketizer,
+    depacketizer: CodecDepacketizer,
     clock_rate: Frequency,
     no_media: &[u8],
 ) -> Result<StreamReceiver, u32>
     requires rate { clock_rate ≡ settings.now.spec.rate }
     requires range { is_in_range settings.now ≡ Bool.true }
-    ensures ok { IfOk result (λ r. IsNewStream settings.now no_media.now (Option.Some (depack_of depack)) r) }
+    ensures ok { IfOk result (λ r. IsNewStream settings.now no_media.now (Option.Some (depacketizer_state_of depacketizer)) r) }
     ensures err { IfErr result (λ status. status ≡ 17) }
 {
     let Ok(no_media) = Vec::from_slice(alloc, no_media) else {
@@ -337,7 +337,7 @@ fn stream_by(
         return Err(status::OUT_OF_MEMORY);
     };
     let settings = settings_of(settings, clock_rate, tick_rate, no_media);
-    match Receiver::new(alloc, depack, settings) {
+    match Receiver::new(alloc, depacketizer, settings) {
         Ok(receiver) => Ok(StreamReceiver {
             receiver,
             waiting: None,
@@ -355,14 +355,14 @@ pub extern "C" fn cpay_receiver_new(
     settings: &ReceiverSettings,
     no_media: &[u8],
 ) -> u32
-    ensures { Makes (IsStreamReceiverOf settings.now no_media.now (depack_set settings.now.spec)) (is_some (depack_set settings.now.spec) && is_in_range settings.now)
+    ensures { Makes (IsStreamReceiverOf settings.now no_media.now (depacketizer_set settings.now.spec)) (is_some (depacketizer_set settings.now.spec) && is_in_range settings.now)
         handle.old.place.value result handle.new.place.value }
 {
     if let Some(object) = handle.take(alloc) {
         handle.put(object);
         return status::FULL;
     }
-    let (Some(depack), Some(rate)) = (
+    let (Some(depacketizer), Some(rate)) = (
         depacketizer_of(alloc, &settings.spec),
         Frequency::make(settings.spec.rate),
     ) else {
@@ -371,7 +371,7 @@ pub extern "C" fn cpay_receiver_new(
     if !is_in_range(settings) {
         return status::INVALID;
     }
-    let stream = match stream_by(alloc, settings, depack, rate, no_media) {
+    let stream = match stream_by(alloc, settings, depacketizer, rate, no_media) {
         Ok(stream) => stream,
         Err(status) => return status,
     };

@@ -3,7 +3,7 @@
 ghost use Rattle.std.specs.Prelude.{◌≡◌, ◌≢◌, ◌&&◌, is_some, nat_le, slice_get};
 ghost use Rattle.codec_payload_c.specs.StreamSenders.{GivesDatagram, IsStreamSenderOf, SendsFrame, TellsCounts, sample_given, settings_for};
 ghost use Rattle.codec_payload_handle.specs.Kinds.{Makes, OnStreamSender, Refuses, is_stream_sender};
-ghost use Rattle.codec_payload_handle.specs.Settings.{pack_set};
+ghost use Rattle.codec_payload_handle.specs.Settings.{packetizer_set};
 
 use codec_payload_core::wire::{ExtensionValues, Frequency, MediaTime};
 use codec_payload_handle::bytes::fill;
@@ -123,14 +123,14 @@ pub extern "C" fn cpay_sender_new(
     handle: &mut Handle,
     settings: &SenderSettings,
 ) -> u32
-    ensures { Makes (IsStreamSenderOf settings.now (pack_set settings.now.spec)) (is_some (pack_set settings.now.spec) && nat_le settings.now.payload_type 127)
+    ensures { Makes (IsStreamSenderOf settings.now (packetizer_set settings.now.spec)) (is_some (packetizer_set settings.now.spec) && nat_le settings.now.payload_type 127)
         handle.old.place.value result handle.new.place.value }
 {
     if let Some(object) = handle.take(alloc) {
         handle.put(object);
         return status::FULL;
     }
-    let (Some(pack), Some(rate)) = (
+    let (Some(packetizer), Some(rate)) = (
         packetizer_of(&settings.spec),
         Frequency::make(settings.spec.rate),
     ) else {
@@ -139,7 +139,7 @@ pub extern "C" fn cpay_sender_new(
     if settings.payload_type > 127 {
         return status::INVALID;
     }
-    let Ok(sender) = Sender::new(alloc, pack, settings_of(settings, rate)) else {
+    let Ok(sender) = Sender::new(alloc, packetizer, settings_of(settings, rate)) else {
         return status::OUT_OF_MEMORY;
     };
     match Box::new(alloc, Object::StreamSender(StreamSender { sender, rate })) {

@@ -1,2 +1,2 @@
-pub mod Depack
-pub mod Pack
+pub mod Depacketizers
+pub mod Packetizers

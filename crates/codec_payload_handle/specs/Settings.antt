@@ -1,7 +1,7 @@
 -- Packetizers and depacketizers by their settings.
 use Rattle.std.specs.Prelude.{ℕ, Bool, true, false, ◌&&◌, ◌==◌, nat_lt, if◌then◌else◌, Option, Some, None, option_map}
-use Rattle.codec_payload_core.specs.Depack.{Depack, depack_for, configured_depack}
-use Rattle.codec_payload_core.specs.Pack.{Pack, Vp8Pack, pack_for, configured}
+use Rattle.codec_payload_core.specs.Depacketizers.{DepacketizerState, depacketizer_state_for, configured_depacketizer}
+use Rattle.codec_payload_core.specs.Packetizers.{PacketizerState, Vp8Packetizing, packetizer_state_for, configured}
 use Rattle.codec_payload_core.specs.declared.interface.Vp9PacketizerMode.{Vp9PacketizerMode}
 use Rattle.codec_payload_core.specs.declared.interface.Vp9PacketizerMode.TheVariants as modes
 use Rattle.codec_payload_core.specs.declared.wire.Codec.{Codec}
@@ -29,13 +29,13 @@ mode_set true = modes.Flexible
 mode_set false = modes.NonFlexible
 
 -- the packetizer that is made, if one is: the rate is above 0, the picture id has at most 15 bits, and the codec has one
-abbrev pub pack_set : Spec → Option Pack
-pack_set s =
+abbrev pub packetizer_set : Spec → Option PacketizerState
+packetizer_set s =
     if nat_lt 0 s.rate && nat_lt s.first_id 32768
-    then if s.vp8_ids && (s.codec == 9) then Some (Vp8Pack (Some s.first_id))
-    else option_map (configured s.octet_align) (pack_for (mode_set s.vp9_flexible) s.first_id (codec_numbered s.codec))
+    then if s.vp8_ids && (s.codec == 9) then Some (Vp8Packetizing (Some s.first_id))
+    else option_map (configured s.octet_align) (packetizer_state_for (mode_set s.vp9_flexible) s.first_id (codec_numbered s.codec))
     else None
 
 -- the depacketizer that is made, if one is
-abbrev pub depack_set : Spec → Option Depack
-depack_set s = if nat_lt 0 s.rate then option_map (configured_depack s.octet_align s.rate) (depack_for (codec_numbered s.codec)) else None
+abbrev pub depacketizer_set : Spec → Option DepacketizerState
+depacketizer_set s = if nat_lt 0 s.rate then option_map (configured_depacketizer s.octet_align s.rate) (depacketizer_state_for (codec_numbered s.codec)) else None

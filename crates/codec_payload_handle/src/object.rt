@@ -10,7 +10,7 @@ use codec_payload_stream::receiver::Receiver as DatagramReceiver;
 /// A packetizer, and the packets of its latest frame.
 #[derive(Drop)]
 pub struct Sender {
-    pub pack: CodecPacketizer,
+    pub packetizer: CodecPacketizer,
     pub packets: Vec<Vec<u8>>,
     /// How many of the packets were taken.
     pub taken: usize,
@@ -21,7 +21,7 @@ pub struct Sender {
 /// A depacketizer, and what was put together so far.
 #[derive(Drop)]
 pub struct Assembler {
-    pub depack: CodecDepacketizer,
+    pub depacketizer: CodecDepacketizer,
     pub bytes: Vec<u8>,
     pub extra: CodecExtra,
 }

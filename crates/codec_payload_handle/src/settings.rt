@@ -1,9 +1,9 @@
 //! What a packetizer and a depacketizer are made from.
 
 ghost use Rattle.std.specs.Prelude.{◌≡◌, option_map};
-ghost use Rattle.codec_payload_core.specs.Pack.{pack_of};
-ghost use Rattle.codec_payload_core.specs.Depack.{depack_of};
-ghost use Rattle.codec_payload_handle.specs.Settings.{codec_numbered, depack_set, mode_set, pack_set};
+ghost use Rattle.codec_payload_core.specs.Packetizers.{packetizer_state_of};
+ghost use Rattle.codec_payload_core.specs.Depacketizers.{depacketizer_state_of};
+ghost use Rattle.codec_payload_handle.specs.Settings.{codec_numbered, depacketizer_set, mode_set, packetizer_set};
 
 use codec_payload_core::codec::{CodecDepacketizer, CodecPacketizer, Vp9PacketizerMode};
 use codec_payload_core::vp8::Vp8Packetizer;
@@ -64,7 +64,7 @@ fn mode_of(flexible: bool) -> Vp9PacketizerMode
 
 /// The packetizer of the codec with these settings, if there is one.
 pub fn packetizer_of(spec: &Spec) -> Option<CodecPacketizer>
-    ensures { option_map pack_of result ≡ pack_set spec.now }
+    ensures { option_map packetizer_state_of result ≡ packetizer_set spec.now }
 {
     let clock_rate = Frequency::make(spec.rate)?;
     if spec.first_id > MAX_PICTURE_ID {
@@ -72,29 +72,29 @@ pub fn packetizer_of(spec: &Spec) -> Option<CodecPacketizer>
     }
     let codec = codec_of(spec.codec);
     if spec.vp8_ids && spec.codec == 9 {
-        let pack = Vp8Packetizer::with_picture_id(spec.first_id);
-        return Some(CodecPacketizer::Vp8(pack));
+        let packetizer = Vp8Packetizer::with_picture_id(spec.first_id);
+        return Some(CodecPacketizer::Vp8(packetizer));
     }
-    let mut pack = CodecPacketizer::new(codec, mode_of(spec.vp9_flexible), spec.first_id)?;
-    pack.configure_for(&CodecSpec {
+    let mut packetizer = CodecPacketizer::new(codec, mode_of(spec.vp9_flexible), spec.first_id)?;
+    packetizer.configure_for(&CodecSpec {
         codec,
         clock_rate,
         octet_align: spec.octet_align,
     });
-    Some(pack)
+    Some(packetizer)
 }
 
 /// The depacketizer of the codec with these settings, if there is one.
 pub fn depacketizer_of(alloc: Global, spec: &Spec) -> Option<CodecDepacketizer>
-    ensures { option_map depack_of result ≡ depack_set spec.now }
+    ensures { option_map depacketizer_state_of result ≡ depacketizer_set spec.now }
 {
     let clock_rate = Frequency::make(spec.rate)?;
     let codec = codec_of(spec.codec);
-    let mut depack = CodecDepacketizer::from_codec(alloc, codec)?;
-    depack.configure_for(&CodecSpec {
+    let mut depacketizer = CodecDepacketizer::from_codec(alloc, codec)?;
+    depacketizer.configure_for(&CodecSpec {
         codec,
         clock_rate,
         octet_align: spec.octet_align,
     });
-    Some(depack)
+    Some(depacketizer)
 }

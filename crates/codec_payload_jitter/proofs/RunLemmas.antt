@@ -2,7 +2,7 @@
 use Rattle.std.proofs.Common.{◌≡◌, ◌∙◌, refl, ap, sym, subst, ℕ, List, [], ◌∷◌, map, Bool, true, false, Option, Some, None, length, cond, ltb}
 use Rattle.codec_payload_jitter.specs.declared.numbers.Extended.{Extended}
 use Rattle.codec_payload_jitter.specs.declared.numbers.Extended.TheVariants as extended
-use Rattle.codec_payload_codec.specs.Depack.{Depack}
+use Rattle.codec_payload_codec.specs.Depacketizers.{DepacketizerState}
 use Rattle.codec_payload_buffer.specs.Held.{Held, number_of, placed}
 use Rattle.codec_payload_buffer.specs.Steps.{State, pushed, is_dropped, without_lowest, Pops}
 use Rattle.codec_payload_buffer.specs.Stretches.{after_pushes}
@@ -13,16 +13,16 @@ use Rattle.codec_payload_jitter.specs.Runs.{ReceivesAll, low_numbers, ArriveAs, 
 use Rattle.codec_payload_jitter.specs.declared.outcome.Outcome.{Outcome}
 use Rattle.codec_payload_jitter.proofs.NumbersLemmas.{are_true_numbers, none_restarts}
 
-lowest_depack : (s : State) (ps : List Held) → (without_lowest s ps).depack ≡ s.depack
-lowest_depack s [] = refl
-lowest_depack s (p ∷ ps) = refl
+lowest_depacketizer : (s : State) (ps : List Held) → (without_lowest s ps).depacketizer ≡ s.depacketizer
+lowest_depacketizer s [] = refl
+lowest_depacketizer s (p ∷ ps) = refl
 
-pushed_depack : (s : State) (p : Held) → (pushed s p).depack ≡ s.depack
-pushed_depack s p = by_tests (is_dropped s (number_of p)) (ltb s.limit (length (placed p s.held)))
+pushed_depacketizer : (s : State) (p : Held) → (pushed s p).depacketizer ≡ s.depacketizer
+pushed_depacketizer s p = by_tests (is_dropped s (number_of p)) (ltb s.limit (length (placed p s.held)))
   where
-    by_tests : (a b : Bool) → (cond a s (cond b (without_lowest (record s { held = placed p s.held }) (placed p s.held)) (record s { held = placed p s.held }))).depack ≡ s.depack
+    by_tests : (a b : Bool) → (cond a s (cond b (without_lowest (record s { held = placed p s.held }) (placed p s.held)) (record s { held = placed p s.held }))).depacketizer ≡ s.depacketizer
     by_tests true b = refl
-    by_tests false true = lowest_depack (record s { held = placed p s.held }) (placed p s.held)
+    by_tests false true = lowest_depacketizer (record s { held = placed p s.held }) (placed p s.held)
     by_tests false false = refl
 
 -- the buffer takes the packet in under its number, if it has one
@@ -30,9 +30,9 @@ abbrev pub TakesAt : ℕ → Arrival → Option ℕ → State → State → Type
 TakesAt rate a None s t = t ≡ s
 TakesAt rate a (Some n) s t = TakesIn rate a n s t
 
-takes_depack : (rate : ℕ) (a : Arrival) (number : Option ℕ) (s t : State) → TakesAt rate a number s t → t.depack ≡ s.depack
-takes_depack rate a None s t takes = ap (λ (x : State). x.depack) takes
-takes_depack rate a (Some n) s t takes = ap (λ (x : State). x.depack) takes.2 ∙ pushed_depack s takes.0
+takes_depacketizer : (rate : ℕ) (a : Arrival) (number : Option ℕ) (s t : State) → TakesAt rate a number s t → t.depacketizer ≡ s.depacketizer
+takes_depacketizer rate a None s t takes = ap (λ (x : State). x.depacketizer) takes
+takes_depacketizer rate a (Some n) s t takes = ap (λ (x : State). x.depacketizer) takes.2 ∙ pushed_depacketizer s takes.0
 
 -- what a push does, where no restart is told
 pub record IsOne (number : Option ℕ) (a : Arrival) (r t : Receiving) : Type 0 where
@@ -100,8 +100,8 @@ one_of a r t outcome running on receives =
     }
 
 one_more : (a : Arrival) (arrivals : List Arrival) (rate : ℕ) (s m t : State) (number : Option ℕ) (numbers : List (Option ℕ)) (ps : List Held)
-    → TakesAt rate a number s m → ArriveAs s.depack rate arrivals numbers ps → t ≡ after_pushes m ps
-    → (qs : List Held) × ArriveAs s.depack rate (a ∷ arrivals) (number ∷ numbers) qs × (t ≡ after_pushes s qs)
+    → TakesAt rate a number s m → ArriveAs s.depacketizer rate arrivals numbers ps → t ≡ after_pushes m ps
+    → (qs : List Held) × ArriveAs s.depacketizer rate (a ∷ arrivals) (number ∷ numbers) qs × (t ≡ after_pushes s qs)
 one_more a arrivals rate s m t None numbers ps takes arrive is = (ps, arrive, is ∙ ap (λ (x : State). after_pushes x ps) takes)
 one_more a arrivals rate s m t (Some n) numbers ps takes arrive is = (takes.0 ∷ ps, (takes.0, ps, refl, takes.1, arrive), is ∙ ap (λ (x : State). after_pushes x ps) takes.2)
 
@@ -113,11 +113,11 @@ are_stretches (a ∷ arrivals) r t outcomes running on all =
     let one = one_of a r mid all.0 running on.0 all.4 in
     let numbering : mid.numbering ≡ numbering_after r.numbering low = one.numbering in
     let later = are_stretches arrivals mid t all.1 one.running (subst (λ (n : Numbering). GoOn n (low_numbers arrivals)) (sym numbering) on.1) all.5 in
-    let depack : mid.buffer.depack ≡ r.buffer.depack = takes_depack r.rate a (number_for r.numbering low) r.buffer mid.buffer one.one.takes in
-    let arrive : ArriveAs r.buffer.depack r.rate arrivals (numbers_for (numbering_after r.numbering low) (low_numbers arrivals)) later.0 =
-    subst (λ (d : Depack). ArriveAs d r.rate arrivals (numbers_for (numbering_after r.numbering low) (low_numbers arrivals)) later.0) depack
-    (subst (λ (k : ℕ). ArriveAs mid.buffer.depack k arrivals (numbers_for (numbering_after r.numbering low) (low_numbers arrivals)) later.0) one.one.rate
-    (subst (λ (n : Numbering). ArriveAs mid.buffer.depack mid.rate arrivals (numbers_for n (low_numbers arrivals)) later.0) numbering later.1)) in
+    let depacketizer : mid.buffer.depacketizer ≡ r.buffer.depacketizer = takes_depacketizer r.rate a (number_for r.numbering low) r.buffer mid.buffer one.one.takes in
+    let arrive : ArriveAs r.buffer.depacketizer r.rate arrivals (numbers_for (numbering_after r.numbering low) (low_numbers arrivals)) later.0 =
+    subst (λ (d : DepacketizerState). ArriveAs d r.rate arrivals (numbers_for (numbering_after r.numbering low) (low_numbers arrivals)) later.0) depacketizer
+    (subst (λ (k : ℕ). ArriveAs mid.buffer.depacketizer k arrivals (numbers_for (numbering_after r.numbering low) (low_numbers arrivals)) later.0) one.one.rate
+    (subst (λ (n : Numbering). ArriveAs mid.buffer.depacketizer mid.rate arrivals (numbers_for n (low_numbers arrivals)) later.0) numbering later.1)) in
     one_more a arrivals r.rate r.buffer mid.buffer t.buffer (number_for r.numbering low) (numbers_for (numbering_after r.numbering low) (low_numbers arrivals)) later.0 one.one.takes arrive later.2
 
 pub are_true_stretches : AreTrueStretches
@@ -128,7 +128,7 @@ are_true_stretches forward backward first ts arrivals r t outcomes running kept 
     let numbers : numbers_for r.numbering (low_numbers arrivals) ≡ map (moved first) (first ∷ ts) =
     ap (λ (n : Numbering). numbers_for n (low_numbers arrivals)) fresh ∙ ap (λ (ns : List ℕ). numbers_for (no_numbers forward backward) ns) lows
         ∙ are_true_numbers forward backward kept first ts fits near in
-    (stretch.0, subst (λ (ns : List (Option ℕ)). ArriveAs r.buffer.depack r.rate arrivals ns stretch.0) numbers stretch.1, stretch.2)
+    (stretch.0, subst (λ (ns : List (Option ℕ)). ArriveAs r.buffer.depacketizer r.rate arrivals ns stretch.0) numbers stretch.1, stretch.2)
 
 -- Rounds
 

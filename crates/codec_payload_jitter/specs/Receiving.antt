@@ -137,7 +137,7 @@ meta_for now rate header number = record {
 
 -- the buffer takes the packet in, under its number
 abbrev pub TakesIn : ℕ → Arrival → ℕ → State → State → Type 0
-TakesIn rate a n s t = (p : Held) × IsArrived s.depack (meta_for a.now rate a.header n) a.bytes p × (t ≡ pushed s p)
+TakesIn rate a n s t = (p : Held) × IsArrived s.depacketizer (meta_for a.now rate a.header n) a.bytes p × (t ≡ pushed s p)
 
 -- a packet that has that number
 abbrev pub Accepts : Arrival → ℕ → Receiving → Outcome → Receiving → Type 0

@@ -1,6 +1,6 @@
 -- Pushes into a jitter buffer, as pushes into its buffer under true numbers.
 use Rattle.std.specs.Prelude.{◌≡◌, ℕ, ◌+◌, ◌<◌, ◌^◌, false, List, [], ◌∷◌, map, Option, Some, None, Result}
-use Rattle.codec_payload_codec.specs.Depack.{Depack}
+use Rattle.codec_payload_codec.specs.Depacketizers.{DepacketizerState}
 use Rattle.codec_payload_buffer.specs.Held.{Held}
 use Rattle.codec_payload_base.specs.declared.error.PacketError.{PacketError}
 use Rattle.codec_payload_buffer.specs.Release.{Release}
@@ -21,19 +21,19 @@ abbrev pub low_numbers : List Arrival → List ℕ
 low_numbers arrivals = map (λ (a : Arrival). a.header.sequence_number) arrivals
 
 -- the packets that come to the buffer, under these numbers; one without a number does not
-abbrev pub ArriveAs : Depack → ℕ → List Arrival → List (Option ℕ) → List Held → Type 0
-ArriveAs depack rate [] numbers ps = ps ≡ []
-ArriveAs depack rate (a ∷ arrivals) [] ps = ⊥
-ArriveAs depack rate (a ∷ arrivals) (None ∷ numbers) ps = ArriveAs depack rate arrivals numbers ps
-ArriveAs depack rate (a ∷ arrivals) (Some n ∷ numbers) ps =
-    (p : Held) × (rest : List Held) × (ps ≡ p ∷ rest) × IsArrived depack (meta_for a.now rate a.header n) a.bytes p × ArriveAs depack rate arrivals numbers rest
+abbrev pub ArriveAs : DepacketizerState → ℕ → List Arrival → List (Option ℕ) → List Held → Type 0
+ArriveAs depacketizer rate [] numbers ps = ps ≡ []
+ArriveAs depacketizer rate (a ∷ arrivals) [] ps = ⊥
+ArriveAs depacketizer rate (a ∷ arrivals) (None ∷ numbers) ps = ArriveAs depacketizer rate arrivals numbers ps
+ArriveAs depacketizer rate (a ∷ arrivals) (Some n ∷ numbers) ps =
+    (p : Held) × (rest : List Held) × (ps ≡ p ∷ rest) × IsArrived depacketizer (meta_for a.now rate a.header n) a.bytes p × ArriveAs depacketizer rate arrivals numbers rest
 
 -- pushes into a jitter buffer that was told of no restart, of a sender that does not restart, are pushes into its buffer, under the numbers of the numbering
 abbrev pub AreStretches : Type 0
 AreStretches =
     (arrivals : List Arrival) (r t : Receiving) (outcomes : List Outcome) → r.anew ≡ false → GoOn r.numbering (low_numbers arrivals)
     → ReceivesAll arrivals r outcomes t
-    → (ps : List Held) × ArriveAs r.buffer.depack r.rate arrivals (numbers_for r.numbering (low_numbers arrivals)) ps × (t.buffer ≡ after_pushes r.buffer ps)
+    → (ps : List Held) × ArriveAs r.buffer.depacketizer r.rate arrivals (numbers_for r.numbering (low_numbers arrivals)) ps × (t.buffer ≡ after_pushes r.buffer ps)
 
 -- and where its numbers stay near each other, under its true numbers, moved by one constant
 abbrev pub AreTrueStretches : Type 0
@@ -41,7 +41,7 @@ AreTrueStretches =
     (forward backward first : ℕ) (ts : List ℕ) (arrivals : List Arrival) (r t : Receiving) (outcomes : List Outcome)
     → r.anew ≡ false → IsNumbering (no_numbers forward backward) → r.numbering ≡ no_numbers forward backward → first + 65536 < 2 ^ 64 → StayNear forward backward first ts
     → low_numbers arrivals ≡ map low_bits (first ∷ ts) → ReceivesAll arrivals r outcomes t
-    → (ps : List Held) × ArriveAs r.buffer.depack r.rate arrivals (map (moved first) (first ∷ ts)) ps × (t.buffer ≡ after_pushes r.buffer ps)
+    → (ps : List Held) × ArriveAs r.buffer.depacketizer r.rate arrivals (map (moved first) (first ∷ ts)) ps × (t.buffer ≡ after_pushes r.buffer ps)
 
 -- Runs: packets that come, and a pop, round by round
 
@@ -87,7 +87,7 @@ IsChain rate [] numbers s answers t = (answers ≡ []) × (t ≡ s)
 IsChain rate (round ∷ rounds) [] s answers t = ⊥
 IsChain rate (round ∷ rounds) (numbers ∷ more) s answers t =
     (ps : List Held) × (wait : Option ℕ) × (answer : Answer) × (after : State) × (later : List Answer) × (answers ≡ answer ∷ later)
-    × ArriveAs s.depack rate round.arrivals numbers ps × TurnWith wait (after_pushes s ps) answer after × IsChain rate rounds more after later t
+    × ArriveAs s.depacketizer rate round.arrivals numbers ps × TurnWith wait (after_pushes s ps) answer after × IsChain rate rounds more after later t
 
 -- the rounds of a jitter buffer, of a sender that does not restart and without numbers that carry no media, are turns of its buffer, each pop with a `hold_back` of its own
 abbrev pub AreChains : Type 0

@@ -4,7 +4,7 @@ ghost use Rattle.std.specs.Prelude.{◌≡◌, ◌≤◌, ℕ, length, IfOk, IfS
 ghost use Rattle.std.specs.Option.{option_map};
 ghost use Rattle.codec_payload_base.specs.declared.error.PacketError.TheVariants.{OutOfMemory};
 ghost use Rattle.codec_payload_buffer.specs.Blanks.{released_packets, ready_since_of};
-ghost use Rattle.codec_payload_codec.specs.Depack.{depack_of};
+ghost use Rattle.codec_payload_codec.specs.Depacketizers.{depacketizer_state_of};
 ghost use Rattle.codec_payload_buffer.specs.Frames.{frames};
 ghost use Rattle.codec_payload_buffer.specs.Steps.{empty_buffer, is_at_most};
 ghost use Rattle.codec_payload_jitter.specs.Numbers.{no_numbers, number_in};
@@ -95,13 +95,13 @@ impl<B: Depacketizer> JitterBuffer<B> {
     /// A jitter buffer over that depacketizer, for RTP times of that rate. Takes no memory.
     pub fn new(
         alloc: Global,
-        depack: CodecDepacketizer<B>,
+        depacketizer: CodecDepacketizer<B>,
         clock_rate: Frequency,
         patience: Patience,
     ) -> Self
-        ensures { result ≡ no_packets (no_numbers 3000 1000) (empty_buffer patience.hold_back 4096 (depack_of depack)) clock_rate patience }
+        ensures { result ≡ no_packets (no_numbers 3000 1000) (empty_buffer patience.hold_back 4096 (depacketizer_state_of depacketizer)) clock_rate patience }
     {
-        let buffer = DepacketizingBuffer::new(alloc, depack, patience.hold_back);
+        let buffer = DepacketizingBuffer::new(alloc, depacketizer, patience.hold_back);
         JitterBuffer::over(alloc, SequenceNumbers::new(), buffer, clock_rate, patience)
     }
 

@@ -7,7 +7,7 @@ use Rattle.codec_payload_buffer.proofs.PopLemmas.{above_rises}
 use Rattle.codec_payload_runs.proofs.SafetyLemmas.{number_of_sent}
 use Rattle.codec_payload_runs.proofs.TurnLemmas.{Setting, IsPush, ArePushes, count, IsSpan, IsPop, waits, releases, Chain, IsReady, span_left, span_ready, ready_pops, left_ready}
 use Rattle.codec_payload_runs.proofs.UnitRows.{IsFaithful, held_as}
-use Rattle.codec_payload_codec.specs.Depack.{is_codec, head_in, tail_in}
+use Rattle.codec_payload_codec.specs.Depacketizers.{is_codec, head_in, tail_in}
 use Rattle.codec_payload_buffer.specs.Held.{Held, number_of, has_number, Rises, AllAbove}
 use Rattle.codec_payload_runs.specs.Log.{Stretch, Turn}
 use Rattle.codec_payload_send.specs.Packets.{Packet}
@@ -17,7 +17,7 @@ use Rattle.codec_payload_runs.specs.Schedule.{Answer}
 use Rattle.codec_payload_runs.specs.SentStream.{packets_of}
 use Rattle.codec_payload_buffer.specs.Steps.{State, Releases, Passes, PassesOver, none, one_more, due_of}
 use Rattle.codec_payload_buffer.specs.Stretches.{counts, numbers_from, last_or, is_some_of, left_out, kept}
-use Rattle.codec_payload_buffer.specs.declared.buffer.frames.Segment.{Segment}
+use Rattle.codec_payload_buffer.specs.declared.buffer.frames.CompleteFrame.{CompleteFrame}
 use Rattle.codec_payload_buffer.specs.declared.buffer.unit.RtpMeta.{RtpMeta}
 
 filter_same : (p q : ℕ → Bool) (xs : List ℕ) → ((n : ℕ) → p n ≡ q n) → filter p xs ≡ filter q xs
@@ -27,8 +27,8 @@ filter_same p q (x ∷ xs) same = rw (same x, filter_same p q xs same) refl
 packet_same : (p q : Packet) → Some p ≡ Some q → p ≡ q
 packet_same p q e = cc
 
-segment_same : (f : Segment) → None ≡ Some f → ⊥
-segment_same f e = cc
+complete_frame_same : (f : CompleteFrame) → None ≡ Some f → ⊥
+complete_frame_same f e = cc
 
 -- what a pop goes through, frame after frame
 data Goes : State → Answer → State → Type 0 where
@@ -36,7 +36,7 @@ data Goes : State → Answer → State → Type 0 where
   gives : {s t : State} {r : Release} → Releases s r t → Goes s (Some (Ok r)) t
   over : {s m t : State} {a : Answer} → PassesOver s m → Goes m a t → Goes s a t
 
-goes_after : (s m t : State) (passed : List Segment) (a : Answer) → Passes s passed m → Goes m a t → Goes s a t
+goes_after : (s m t : State) (passed : List CompleteFrame) (a : Answer) → Passes s passed m → Goes m a t → Goes s a t
 goes_after s m t passed a none g = g
 goes_after s u t passed a (one_more {t = m} passes p) g = goes_after s m t _ a passes (over p g)
 
@@ -45,9 +45,9 @@ passed_rises s t r p = subst (λ (x : State). Rises x.held) (sym p.left) (above_
 
 module _ (plain : Bool) where
   -- two states with the same fields
-  states_same : (s u : State) → map (bare plain) s.held ≡ map (bare plain) u.held → s.cutoff ≡ u.cutoff → s.mark ≡ u.mark → s.contiguity ≡ u.contiguity
-      → s.depack ≡ u.depack → s.hold_back ≡ u.hold_back → s.limit ≡ u.limit → bare_state plain s ≡ bare_state plain u
-  states_same s u held cutoff mark contiguity depack hold_back limit = rw (held, cutoff, mark, contiguity, depack, hold_back, limit) refl
+  states_same : (s u : State) → map (bare plain) s.held ≡ map (bare plain) u.held → s.cutoff ≡ u.cutoff → s.evicted ≡ u.evicted → s.contiguity ≡ u.contiguity
+      → s.depacketizer ≡ u.depacketizer → s.hold_back ≡ u.hold_back → s.limit ≡ u.limit → bare_state plain s ≡ bare_state plain u
+  states_same s u held cutoff mark contiguity depacketizer hold_back limit = rw (held, cutoff, mark, contiguity, depacketizer, hold_back, limit) refl
 
   due_same : (s u : State) → bare_state plain s ≡ bare_state plain u → due_of s ≡ due_of u
   due_same s u e = sym (due_bare plain s) ∙ ap due_of e ∙ due_bare plain u
@@ -64,10 +64,10 @@ module _ (plain : Bool) where
   goes_same : (s u t v : State) (a b : Answer) → IsOfCodec s → IsOfCodec u → Rises s.held → Rises u.held → bare_state plain s ≡ bare_state plain u → Goes s a t
       → Goes u b v → (answer_with (strip plain) a ≡ answer_with (strip plain) b) × (bare_state plain t ≡ bare_state plain v)
   goes_same s u t v a b of_s of_u rise_s rise_u e (stays x) (stays y) = (refl, e)
-  goes_same s u t v a b of_s of_u rise_s rise_u e (stays x) (gives y) = absurd (segment_same y.frame (sym x ∙ due_same s u e ∙ y.is_due))
-  goes_same s u t v a b of_s of_u rise_s rise_u e (stays x) (over p g) = absurd (segment_same p.frame (sym x ∙ due_same s u e ∙ p.is_due))
-  goes_same s u t v a b of_s of_u rise_s rise_u e (gives x) (stays y) = absurd (segment_same x.frame (sym y ∙ sym (due_same s u e) ∙ x.is_due))
-  goes_same s u t v a b of_s of_u rise_s rise_u e (over p g) (stays y) = absurd (segment_same p.frame (sym y ∙ sym (due_same s u e) ∙ p.is_due))
+  goes_same s u t v a b of_s of_u rise_s rise_u e (stays x) (gives y) = absurd (complete_frame_same y.frame (sym x ∙ due_same s u e ∙ y.is_due))
+  goes_same s u t v a b of_s of_u rise_s rise_u e (stays x) (over p g) = absurd (complete_frame_same p.frame (sym x ∙ due_same s u e ∙ p.is_due))
+  goes_same s u t v a b of_s of_u rise_s rise_u e (gives x) (stays y) = absurd (complete_frame_same x.frame (sym y ∙ sym (due_same s u e) ∙ x.is_due))
+  goes_same s u t v a b of_s of_u rise_s rise_u e (over p g) (stays y) = absurd (complete_frame_same p.frame (sym y ∙ sym (due_same s u e) ∙ p.is_due))
   goes_same s u t v a b of_s of_u rise_s rise_u e (gives {r = r} x) (gives {r = o} y) =
       let left : Releases (bare_state plain u) (release_with (strip plain) r) (bare_state plain t) = subst
           (λ (z : State). Releases z (release_with (strip plain) r) (bare_state plain t)) e (bare_releases plain s t r x) in
@@ -87,7 +87,7 @@ module _ (plain : Bool) where
       goes_same m n t v a b (passed_stays s m p ∙ of_s) (passed_stays u n q ∙ of_u) (passed_rises s m rise_s p) (passed_rises u n rise_u q)
           (passes_same (bare_state plain u) (bare_state plain m) (bare_state plain n) of_u left (bare_passes plain u n q)) g h
 
-goes_of : (c : Setting) (s t : State) (passed : List Segment) (a : Answer) → IsPop c s t passed a → Goes s a t
+goes_of : (c : Setting) (s t : State) (passed : List CompleteFrame) (a : Answer) → IsPop c s t passed a → Goes s a t
 goes_of c s t passed None (waits passes nothing) = goes_after s t t passed None passes (stays nothing)
 goes_of c s t passed (Some (Ok r)) (releases mid passes out) = goes_after s mid t passed (Some (Ok r)) passes (gives out)
 goes_of c s t passed (Some (Err fault)) pop = elim pop [ ]
@@ -139,7 +139,7 @@ module _ (plain : Bool) (c : Setting) (known : ℕ → Packet → RtpMeta → Ty
       let left = span_left c from w ready_w is_w in
       let right = span_left other to v ready_v is_v in
       let cutoff : w.left.cutoff ≡ v.left.cutoff = ap (λ (s : State). s.cutoff) e in
-      let mark : w.left.mark ≡ v.left.mark = ap (λ (s : State). s.mark) e in
+      let mark : w.left.evicted ≡ v.left.evicted = ap (λ (s : State). s.evicted) e in
       let limit : w.left.limit ≡ v.left.limit = ap (λ (s : State). s.limit) e in
       let has : (n : ℕ) → has_number n w.left.held ≡ has_number n v.left.held = λ n. sym (bare_has plain n w.left.held) ∙ ap (λ (s : State). has_number n s.held) e ∙ bare_has plain n v.left.held in
       let numbers : all ≡ many = filter_same (counts w.left w.pushes) (counts v.left v.pushes) (numbers_from c.first (count c)) (λ n. rw (has n, cutoff, pushes n) refl) in
@@ -148,9 +148,9 @@ module _ (plain : Bool) (c : Setting) (known : ℕ → Packet → RtpMeta → Ty
       let held = same_bare w.now.held v.now.held (span_ready c from w ready_w is_w).beyond.sent (span_ready other to v ready_v is_v).beyond.sent (left.held ∙ kept_same ∙ sym right.held) in
       states_same plain w.now v.now held
       (left.cutoff ∙ ap (λ (ns : List ℕ). last_or ns w.left.cutoff) out_same ∙ ap (last_or (left_out v.left many)) cutoff ∙ sym right.cutoff)
-      (left.mark ∙ ap (λ (ns : List ℕ). is_some_of ns || w.left.mark) out_same ∙ ap (λ b. is_some_of (left_out v.left many) || b) mark ∙ sym right.mark)
+      (left.evicted ∙ ap (λ (ns : List ℕ). is_some_of ns || w.left.evicted) out_same ∙ ap (λ b. is_some_of (left_out v.left many) || b) mark ∙ sym right.evicted)
       (left.contiguity ∙ ap (λ (s : State). s.contiguity) e ∙ sym right.contiguity)
-      (left.depack ∙ ap (λ (s : State). s.depack) e ∙ sym right.depack)
+      (left.depacketizer ∙ ap (λ (s : State). s.depacketizer) e ∙ sym right.depacketizer)
       (left.hold_back ∙ ap (λ (s : State). s.hold_back) e ∙ sym right.hold_back)
       (left.limit ∙ limit ∙ sym right.limit)
 

@@ -4,7 +4,7 @@ use Rattle.std.specs.Prelude.{Contains, slice_get}
 use Rattle.std.proofs.lemmas.Option.{slice_get_within}
 use Rattle.codec_payload_base.specs.declared.error.PacketError.TheVariants as faults
 use Rattle.codec_payload_buffer.proofs.MemberLemmas.{IsIn, contains_in}
-use Rattle.codec_payload_codec.specs.Depack.{DepackKind, kind_of_depack, tail_in}
+use Rattle.codec_payload_codec.specs.Depacketizers.{DepacketizerKind, kind_of_depacketizer, tail_in}
 use Rattle.codec_payload_buffer.specs.Held.{Held, number_of, has_number}
 use Rattle.codec_payload_buffer.specs.Steps.{State, arrived, pushed, is_dropped, Pops}
 use Rattle.codec_payload_buffer.specs.declared.buffer.unit.RtpMeta.{RtpMeta}
@@ -29,7 +29,7 @@ use Rattle.codec_payload_runs.specs.Units.{payloads_by, may_split}
 use Rattle.codec_payload_runs.specs.declared.run.Sent.{Sent}
 use Rattle.codec_payload_runs.specs.declared.run.Step.{Step}
 
-pub met_faithful : (events : List Event) (clock_rate : ℕ) (kind : DepackKind) → IsFaithful (IsMet clock_rate events) clock_rate kind
+pub met_faithful : (events : List Event) (clock_rate : ℕ) (kind : DepacketizerKind) → IsFaithful (IsMet clock_rate events) clock_rate kind
 met_faithful events clock_rate kind = record {
   number = λ k q m met. met.1.number;
   time = λ k q m met. met.1.time;
@@ -46,8 +46,8 @@ module _ (c : Setting) where
 
   -- so it is a push of a packet that was sent
   abbrev push_of : (s : State) (k : ℕ) (meta : RtpMeta) (q : Packet) → slice_get (packets_of c.units) k ≡ Some q → c.known k q meta
-      → kind_of_depack s.depack ≡ c.kind → IsPush c (arrived s.depack meta q.payload)
-  push_of s k meta q there known reads = (k, q, there, known, ap (λ (x : DepackKind). held_as x meta q.payload) reads)
+      → kind_of_depacketizer s.depacketizer ≡ c.kind → IsPush c (arrived s.depacketizer meta q.payload)
+  push_of s k meta q there known reads = (k, q, there, known, ap (λ (x : DepacketizerKind). held_as x meta q.payload) reads)
 
   -- units are released in order, each at most once
   pub met_in_order : (from : ℕ) (events : List Event) (s t : State) (answers : List Answer) → AllKnown events → Beyond c from s → Meets c.clock_rate (packets_of c.units) events s answers t
@@ -56,8 +56,8 @@ module _ (c : Setting) where
   met_in_order from (Arrives k meta ∷ events) s t answers known beyond meets =
       let q : Packet = meets.0 in
       let push = push_of s k meta q meets.1 (known k meta (inl refl) q meets.2) beyond.reads in
-      let next = beyond_pushed c.known c.clock_rate c.first c.kind c.faithful c.splits c.units c.lawful c.numbered from s (arrived s.depack meta q.payload) push beyond in
-      met_in_order from events (pushed s (arrived s.depack meta q.payload)) t answers (λ j m is. known j m (inr is)) next meets.3
+      let next = beyond_pushed c.known c.clock_rate c.first c.kind c.faithful c.splits c.units c.lawful c.numbered from s (arrived s.depacketizer meta q.payload) push beyond in
+      met_in_order from events (pushed s (arrived s.depacketizer meta q.payload)) t answers (λ j m is. known j m (inr is)) next meets.3
   met_in_order from (Asked None ∷ events) s t answers known beyond meets =
       let rest = met_in_order from events meets.2 t meets.1 (λ j m is. known j m (inr is)) (subst (Beyond c from) (sym meets.4.1) beyond) meets.5 in
       subst (InOrder c.known c.splits c.units from) (sym (meets.3 ∙ ap (λ (a : Answer). a ∷ meets.1) meets.4.0)) rest
@@ -84,7 +84,7 @@ module _ (c : Setting) where
   all_arrive start s (Asked wait ∷ before) after answers t known only filling meets = absurd only
   all_arrive start s (Arrives k meta ∷ before) after answers t known only filling meets =
       let q : Packet = meets.0 in
-      let p : Held = arrived s.depack meta q.payload in
+      let p : Held = arrived s.depacketizer meta q.payload in
       let push = push_of s k meta q meets.1 (known k meta (inl refl) q meets.2) filling.beyond.reads in
       let one = filled c.known c.clock_rate c.first c.kind c.faithful c.splits c.units c.lawful c.numbered start s p push filling in
       let number : p.meta.seq_no.0 ≡ c.first + k = number_of_sent c.known c.clock_rate c.first c.kind c.faithful c.splits c.units c.lawful c.numbered p push in
@@ -111,7 +111,7 @@ module _ (c : Setting) where
   answers_on k rest [] s t answers known made exactly meets = subst (AnswersAll c.known k rest) (sym meets.0) tt
   answers_on k rest (Arrives j meta ∷ events) s t answers known made exactly meets =
       let q : Packet = meets.0 in
-      let p : Held = arrived s.depack meta q.payload in
+      let p : Held = arrived s.depacketizer meta q.payload in
       let push = push_of s j meta q meets.1 (known j meta (inl refl) q meets.2) exactly.reads in
       let number : p.meta.seq_no.0 ≡ c.first + j = number_of_sent c.known c.clock_rate c.first c.kind c.faithful c.splits c.units c.lawful c.numbered p push in
       let drop : is_dropped s (number_of p) ≡ true =
@@ -127,7 +127,7 @@ module _ (c : Setting) where
 
   -- all units, whole
   pub met_all : (before after : List Event) (s t : State) (answers : List Answer) → AllKnown (before ++ after) → OnlyArrive before → AllAreMade after → Filling c s s
-      → MayGo c.units s.depack s.contiguity
+      → MayGo c.units s.depacketizer s.contiguity
       → ((k : ℕ) → k < count c → HasArrival k before) → Meets c.clock_rate (packets_of c.units) (before ++ after) s answers t → AnswersAll c.known 0 c.units answers
   met_all before after s t answers known only made filling may each meets =
       let full = all_arrive s s before after answers t (λ k m is. known k m (left_in before k m is)) only filling meets in
@@ -144,10 +144,10 @@ module _ (c : Setting) where
       right_in (e ∷ es) k m is = inr (right_in es k m is)
 
 module _ (samples : List Sample) (all_steps : List Step) (s t : RunState) (sends : List Sent) (pops : List Answer)
-    (run : Runs plainly samples 0 all_steps s sends pops t) (unused : IsUnused s) (readable : AreReadable s.payloading.pack samples)
+    (run : Runs plainly samples 0 all_steps s sends pops t) (unused : IsUnused s) (readable : AreReadable s.payloading.packetizer samples)
     (events : List Event) (answers : List Answer) (left : State) (meets : Meets s.payloading.clock_rate t.sink.packets events s.buffer answers left) where
-  abbrev kind : DepackKind
-  kind = payloads_by s.payloading.pack
+  abbrev kind : DepacketizerKind
+  kind = payloads_by s.payloading.packetizer
 
   abbrev faithful : IsFaithful (IsMet s.payloading.clock_rate events) s.payloading.clock_rate kind
   faithful = met_faithful events s.payloading.clock_rate kind
@@ -172,7 +172,7 @@ module _ (samples : List Sample) (all_steps : List Step) (s t : RunState) (sends
     units = stream.units;
     canonical = stream.canonical;
     packets = sym sent.whole;
-    ends = all_end kind (may_split s.payloading.pack) stream.units (stream.lawful readable);
+    ends = all_end kind (may_split s.payloading.packetizer) stream.units (stream.lawful readable);
     in_order = met_in_order here 0 events s.buffer left answers known
         (fresh samples all_steps s t stream unused readable (IsMet s.payloading.clock_rate events) faithful stream.units (stream.lawful readable) (sym sent.whole)) meets_units;
     exactly = λ first. met_all here first.before first.after s.buffer left answers (subst (AllKnown here) first.whole known) first.no_pops first.made

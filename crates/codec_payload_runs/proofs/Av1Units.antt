@@ -20,9 +20,9 @@ use Rattle.codec_payload_av1.specs.Av1Steps.{AnswersAv1, Av1Step, IsRefusedPaylo
 use Rattle.codec_payload_codec.proofs.CaseLemmas.{by_test}
 use Rattle.codec_payload_runs.proofs.TellLemmas.{quiet_tells}
 use Rattle.codec_payload_runs.proofs.SendsUnits.{SendsUnits, no_units}
-use Rattle.codec_payload_codec.specs.Depack.{Depack, Av1Depack, Av1Payloads, kind_of_depack}
+use Rattle.codec_payload_codec.specs.Depacketizers.{DepacketizerState, Av1Depacketizing, Av1Payloads, kind_of_depacketizer}
 use Rattle.codec_payload_buffer.specs.Held.{Held}
-use Rattle.codec_payload_codec.specs.Pack.{Av1Pack}
+use Rattle.codec_payload_codec.specs.Packetizers.{Av1Packetizing}
 use Rattle.codec_payload_send.specs.Packets.{Packet}
 use Rattle.codec_payload_runs.specs.Schedule.{payloads_of}
 use Rattle.codec_payload_send.specs.Sending.{Sample, packets_from}
@@ -48,33 +48,33 @@ refused_for_memory faults.ErrAv1CorruptedPacket pending payload r reads refused 
 refused_for_memory fault pending payload r reads refused = absurd refused
 
 -- packets that can be read are given, or memory is wanted
-abbrev Given : List ℕ → Result Unpacked PacketError → Depack → Type 0
-Given bytes answer e = (kind_of_depack e ≡ Av1Payloads) × MatchResult answer (λ unpacked. unpacked.bytes ≡ bytes) (λ fault. fault ≡ faults.OutOfMemory)
+abbrev Given : List ℕ → Result Unpacked PacketError → DepacketizerState → Type 0
+Given bytes answer e = (kind_of_depacketizer e ≡ Av1Payloads) × MatchResult answer (λ unpacked. unpacked.bytes ≡ bytes) (λ fault. fault ≡ faults.OutOfMemory)
 
 one_given : (bytes : List ℕ) (p : Held) (ps : List Held) (pending rest : List ℕ) (r : List ℕ × List ℕ) (u v : Unpacked) (one : Result (Unit {0}) PacketError)
-    (left : List ℕ) (mid : Depack) (answer : Result Unpacked PacketError) (e : Depack)
-    → received pending p.bytes ≡ Some r → Av1Step pending p.bytes u.bytes u.extra one left v.bytes v.extra → mid ≡ Av1Depack left → bytes ≡ u.bytes ++ (r.0 ++ rest)
+    (left : List ℕ) (mid : DepacketizerState) (answer : Result Unpacked PacketError) (e : DepacketizerState)
+    → received pending p.bytes ≡ Some r → Av1Step pending p.bytes u.bytes u.extra one left v.bytes v.extra → mid ≡ Av1Depacketizing left → bytes ≡ u.bytes ++ (r.0 ++ rest)
     → MatchResult one (λ _. Unpacks mid ps v answer e) (λ fault. (answer ≡ Err fault) × (e ≡ mid))
-    → (left ≡ r.1 → Unpacks (Av1Depack left) ps v answer e → Given (v.bytes ++ rest) answer e)
+    → (left ≡ r.1 → Unpacks (Av1Depacketizing left) ps v answer e → Given (v.bytes ++ rest) answer e)
     → Given bytes answer e
 one_given bytes p ps pending rest r u v (Ok _) left mid answer e reads (added, is, gained, extra) mid_is whole goes_on later =
     let added_is : added ≡ r.0 = cc in
     let left_is : left ≡ r.1 = cc in
     let total : v.bytes ++ rest ≡ bytes = ap (λ (xs : List ℕ). xs ++ rest) (gained ∙ ap (λ (xs : List ℕ). u.bytes ++ xs) added_is) ∙ (append_assoc u.bytes r.0 rest ∙ sym whole) in
-    subst (λ (xs : List ℕ). Given xs answer e) total (later left_is (subst (λ (m : Depack). Unpacks m ps v answer e) mid_is goes_on))
+    subst (λ (xs : List ℕ). Given xs answer e) total (later left_is (subst (λ (m : DepacketizerState). Unpacks m ps v answer e) mid_is goes_on))
 one_given bytes p ps pending rest r u v (Err fault) left mid answer e reads (refused, cleared, same_bytes, same_extra) mid_is whole goes_on later =
-    (ap kind_of_depack (goes_on.1 ∙ mid_is), rw goes_on.0 (refused_for_memory fault pending p.bytes r reads refused))
+    (ap kind_of_depacketizer (goes_on.1 ∙ mid_is), rw goes_on.0 (refused_for_memory fault pending p.bytes r reads refused))
 
 some_pair : (a c b d : List ℕ) → ◌≡◌ {A = Option (List ℕ × List ℕ)} (Some (a, b)) (Some (c, d)) → (a ≡ c) × (b ≡ d)
 some_pair a c b d e = let same : ◌≡◌ {A = List ℕ × List ℕ} (a, b) (c, d) = cc in (ap (λ (p : List ℕ × List ℕ). p.0) same, ap (λ (p : List ℕ × List ℕ). p.1) same)
 
-all_given : (ps : List Held) (pending x end : List ℕ) (u : Unpacked) (answer : Result Unpacked PacketError) (e : Depack)
-    → all_received pending (payloads_held ps) ≡ Some (x, end) → Unpacks (Av1Depack pending) ps u answer e
+all_given : (ps : List Held) (pending x end : List ℕ) (u : Unpacked) (answer : Result Unpacked PacketError) (e : DepacketizerState)
+    → all_received pending (payloads_held ps) ≡ Some (x, end) → Unpacks (Av1Depacketizing pending) ps u answer e
     → Given (u.bytes ++ x) answer e
 unfolding all_received
 all_given [] pending x end u answer e reads gives =
     let none : [] ≡ x = (some_pair [] x pending end reads).0 in
-    (ap kind_of_depack gives.1, rw gives.0 (sym (append-nil u.bytes) ∙ ap (λ (xs : List ℕ). u.bytes ++ xs) none))
+    (ap kind_of_depacketizer gives.1, rw gives.0 (sym (append-nil u.bytes) ∙ ap (λ (xs : List ℕ). u.bytes ++ xs) none))
 all_given (p ∷ ps) pending x end u answer e reads gives =
     let first = bind_split (received pending p.bytes) (λ r. all_received r.1 (payloads_held ps) >>= λ rs. Some (r.0 ++ rs.0, rs.1)) (x, end) reads in
     let others = bind_split (all_received first.0.1 (payloads_held ps)) (λ rs. Some (first.0.0 ++ rs.0, rs.1)) (x, end) first.2 in
@@ -83,8 +83,8 @@ all_given (p ∷ ps) pending x end u answer e reads gives =
     (λ left_is unpacks. all_given ps gives.3.0 others.0.0 others.0.1 gives.2 answer e (ap (λ (l : List ℕ). all_received l (payloads_held ps)) left_is ∙ others.1) unpacks)
 
 -- a depacketizer of these payloads holds what is pending
-is_av1 : (d : Depack) → kind_of_depack d ≡ Av1Payloads → (pending : List ℕ) × (d ≡ Av1Depack pending)
-is_av1 (Av1Depack pending) is = (pending, refl)
+is_av1 : (d : DepacketizerState) → kind_of_depacketizer d ≡ Av1Payloads → (pending : List ℕ) × (d ≡ Av1Depacketizing pending)
+is_av1 (Av1Depacketizing pending) is = (pending, refl)
 is_av1 d is = absurd (cc)
 
 flat_joined : (os : List Obu) → flat_map canonical os ≡ joined (map canonical os)
@@ -146,7 +146,7 @@ none_sent (p ∷ ps) full (continues, elements, (rest, strings, stands)) =
 
 module _ (sample : Sample) (rtp_time : ℕ) where
   abbrev laid : ℕ → ℕ → List (List ℕ) → List Packet
-  laid number place packets = packets_from Av1Pack sample rtp_time number place packets
+  laid number place packets = packets_from Av1Packetizing sample rtp_time number place packets
 
   ends : (number place : ℕ) (packet : List ℕ) (packets : List (List ℕ)) → EndsWithTail Av1Payloads (laid number place (packet ∷ packets))
   ends number place packet [] = refl
@@ -165,14 +165,14 @@ module _ (sample : Sample) (rtp_time : ℕ) where
     abbrev unit_is : SentUnit
     unit_is = obus_unit number s.obus (packet ∷ others)
 
-    abbrev Released : List Packet → Result Unpacked PacketError → Depack → Type 0
-    Released missing answer e = (kind_of_depack e ≡ Av1Payloads) × MatchResult answer (λ unpacked. IsReleaseOf true unit_is missing unpacked.bytes) (λ fault. fault ≡ faults.OutOfMemory)
+    abbrev Released : List Packet → Result Unpacked PacketError → DepacketizerState → Type 0
+    Released missing answer e = (kind_of_depacketizer e ≡ Av1Payloads) × MatchResult answer (λ unpacked. IsReleaseOf true unit_is missing unpacked.bytes) (λ fault. fault ≡ faults.OutOfMemory)
 
-    whole_released : (answer : Result Unpacked PacketError) (e : Depack) → Given (canonical_unit s.obus) answer e → Released [] answer e
+    whole_released : (answer : Result Unpacked PacketError) (e : DepacketizerState) → Given (canonical_unit s.obus) answer e → Released [] answer e
     whole_released (Ok v) e given = (given.0, inl (refl, given.1 ∙ flat_joined (kept s.obus)))
     whole_released (Err fault) e given = given
 
-    last_released : (m : Packet) (ms : List Packet) (first last : List Obu) (answer : Result Unpacked PacketError) (e : Depack) → kept s.obus ≡ first ++ last
+    last_released : (m : Packet) (ms : List Packet) (first last : List Obu) (answer : Result Unpacked PacketError) (e : DepacketizerState) → kept s.obus ≡ first ++ last
         → 0 < length last → Given (flat_map canonical last) answer e → Released (m ∷ ms) answer e
     last_released m ms first last (Ok v) e split some given =
         let size : length (map canonical last) ≡ length last = length-map last canonical in
@@ -180,13 +180,14 @@ module _ (sample : Sample) (rtp_time : ℕ) where
     last_released m ms first last (Err fault) e split some given = given
 
     gives_unit : (missing rest : List Packet) → missing ++ rest ≡ laid number 0 (packet ∷ others) → StartsWithHead Av1Payloads rest → (ps : List Held) → payloads_held ps ≡ payloads_sent rest
-        → (d : Depack) (answer : Result Unpacked PacketError) (e : Depack) → kind_of_depack d ≡ Av1Payloads → Unpacks d ps nothing_unpacked answer e → Released missing answer e
+        → (d : DepacketizerState) (answer : Result Unpacked PacketError) (e : DepacketizerState) → kind_of_depacketizer d ≡ Av1Payloads
+            → Unpacks d ps nothing_unpacked answer e → Released missing answer e
     gives_unit [] rest whole head ps same d answer e is gives =
         let holds = is_av1 d is in
         let read = s.comes_back holds.0 in
         let all : payloads_held ps ≡ packet ∷ others = same ∙ (ap payloads_sent whole ∙ payloads_laid number 0 (packet ∷ others)) in
         whole_released answer e (all_given ps holds.0 (canonical_unit s.obus) read.0 nothing_unpacked answer e (ap (all_received holds.0) all ∙ read.1)
-            (subst (λ (x : Depack). Unpacks x ps nothing_unpacked answer e) holds.1 gives))
+            (subst (λ (x : DepacketizerState). Unpacks x ps nothing_unpacked answer e) holds.1 gives))
     gives_unit (m ∷ ms) [] whole head ps same d answer e is gives = absurd head
     gives_unit (m ∷ ms) (r ∷ rs) whole head ps same d answer e is gives =
         let holds = is_av1 d is in
@@ -194,7 +195,7 @@ module _ (sample : Sample) (rtp_time : ℕ) where
         sym (payloads_laid number 0 (packet ∷ others)) ∙ (ap payloads_sent (sym whole) ∙ map-append (λ (p : Packet). p.payload) (m ∷ ms) (r ∷ rs)) in
         let (first, last, end, parts, some, read) = s.last_come_back (payloads_sent (m ∷ ms)) r.payload (payloads_sent rs) split head holds.0 in
         last_released m ms first last answer e parts some (all_given ps holds.0 (flat_map canonical last) end nothing_unpacked answer e
-            (ap (all_received holds.0) same ∙ read) (subst (λ (x : Depack). Unpacks x ps nothing_unpacked answer e) holds.1 gives))
+            (ap (all_received holds.0) same ∙ read) (subst (λ (x : DepacketizerState). Unpacks x ps nothing_unpacked answer e) holds.1 gives))
 
     first_head : (ps : List Payload) → packet ∷ others ≡ map written ps → StandsFor ps (strings_of s.obus) → is_head packet ≡ true
     first_head [] are stands = absurd (cc)
@@ -231,16 +232,16 @@ no_strings (o ∷ os) e = absurd (cc)
 
 module _ (mtu : ℕ) (sample : Sample) (rtp_time number : ℕ) (large : leb mtu 1 ≡ false) where
   abbrev Sends : List (List ℕ) → Type 0
-  Sends packets = SendsUnits Av1Pack mtu sample rtp_time number packets Av1Pack
+  Sends packets = SendsUnits Av1Packetizing mtu sample rtp_time number packets Av1Packetizing
 
-  units_are : (s_obus os : List Obu) → IsSequence s_obus sample.bytes → kept s_obus ≡ os → canonical_units Av1Pack mtu sample.bytes ≡ units_if mtu sample.bytes (Some os)
+  units_are : (s_obus os : List Obu) → IsSequence s_obus sample.bytes → kept s_obus ≡ os → canonical_units Av1Packetizing mtu sample.bytes ≡ units_if mtu sample.bytes (Some os)
   units_are s_obus os sequence is = ap (units_if mtu sample.bytes) (kept_of_sequence s_obus sample.bytes sequence ∙ ap (λ (xs : List Obu). Some xs) is)
 
   sends_none : (s : IsSentFrame mtu sample.bytes []) → Sends []
   sends_none s =
       let none : s.sent.0 ≡ [] = no_payloads s.sent.0 s.sent.1 in
       let stands : StandsFor [] (strings_of s.obus) = subst (λ (ps : List Payload). StandsFor ps (strings_of s.obus)) none s.sent.2.stands in
-      no_units Av1Pack mtu sample rtp_time number [] refl (units_are s.obus [] s.sequence (no_strings (kept s.obus) stands.1) ∙ nothing_kept mtu sample.bytes large) refl
+      no_units Av1Packetizing mtu sample rtp_time number [] refl (units_are s.obus [] s.sequence (no_strings (kept s.obus) stands.1) ∙ nothing_kept mtu sample.bytes large) refl
     where
       no_payloads : (ps : List Payload) → [] ≡ map written ps → ps ≡ []
       no_payloads [] e = refl
@@ -272,20 +273,20 @@ module _ (mtu : ℕ) (sample : Sample) (rtp_time number : ℕ) (large : leb mtu 
   sends_kept : (r : Option (List Obu)) → frame_kept sample.bytes ≡ r → (packets : List (List ℕ)) → AnswersAv1 mtu sample.bytes (Ok packets) → Sends packets
   sends_kept None is packets step = sends_frame packets (step.1 (rw (large, is) refl))
   sends_kept (Some []) is packets step =
-      no_units Av1Pack mtu sample rtp_time number packets (step.0 (rw (large, is) refl)) (ap (units_if mtu sample.bytes) is ∙ nothing_kept mtu sample.bytes large) refl
+      no_units Av1Packetizing mtu sample rtp_time number packets (step.0 (rw (large, is) refl)) (ap (units_if mtu sample.bytes) is ∙ nothing_kept mtu sample.bytes large) refl
   sends_kept (Some (o ∷ os)) is packets step = sends_frame packets (step.1 (rw (large, is) refl))
 
   sends_refused : (r : Option (List Obu)) → frame_kept sample.bytes ≡ r → (fault : PacketError) → AnswersAv1 mtu sample.bytes (Err fault) → fault ≢ faults.OutOfMemory → Sends []
-  sends_refused None is fault step found = no_units Av1Pack mtu sample rtp_time number [] refl (ap (units_if mtu sample.bytes) is ∙ refused mtu sample.bytes large) refl
+  sends_refused None is fault step found = no_units Av1Packetizing mtu sample rtp_time number [] refl (ap (units_if mtu sample.bytes) is ∙ refused mtu sample.bytes large) refl
   sends_refused (Some []) is fault step found = let no = rw (large, is) at step.0 in absurd cc
   sends_refused (Some (o ∷ os)) is fault step found = absurd (found (rw (large, is) at step.1))
 
 -- what is sent of an AV1 frame
 pub av1_sends : (mtu : ℕ) (sample : Sample) (rtp_time number : ℕ) (answer : Result (List (List ℕ)) PacketError) → AnswersAv1 mtu sample.bytes answer → answer ≢ Err faults.OutOfMemory
-    → SendsUnits Av1Pack mtu sample rtp_time number (payloads_of answer) Av1Pack
+    → SendsUnits Av1Packetizing mtu sample rtp_time number (payloads_of answer) Av1Packetizing
 av1_sends mtu sample rtp_time number answer step found =
-    by_test (leb mtu 1) (λ b. leb mtu 1 ≡ b → SendsUnits Av1Pack mtu sample rtp_time number (payloads_of answer) Av1Pack)
-    (λ small _. no_units Av1Pack mtu sample rtp_time number (payloads_of answer) (nothing_sent answer step found small) (small_skips mtu sample.bytes (frame_kept sample.bytes) small) refl)
+    by_test (leb mtu 1) (λ b. leb mtu 1 ≡ b → SendsUnits Av1Packetizing mtu sample rtp_time number (payloads_of answer) Av1Packetizing)
+    (λ small _. no_units Av1Packetizing mtu sample rtp_time number (payloads_of answer) (nothing_sent answer step found small) (small_skips mtu sample.bytes (frame_kept sample.bytes) small) refl)
     (λ large _. sends large answer step found)
     refl
   where
@@ -294,6 +295,6 @@ av1_sends mtu sample rtp_time number answer step found =
     nothing_sent (Err fault) is other small = refl
 
     sends : leb mtu 1 ≡ false → (a : Result (List (List ℕ)) PacketError) → AnswersAv1 mtu sample.bytes a → a ≢ Err faults.OutOfMemory
-        → SendsUnits Av1Pack mtu sample rtp_time number (payloads_of a) Av1Pack
+        → SendsUnits Av1Packetizing mtu sample rtp_time number (payloads_of a) Av1Packetizing
     sends large (Ok packets) is other = sends_kept mtu sample rtp_time number large (frame_kept sample.bytes) refl packets is
     sends large (Err fault) is other = sends_refused mtu sample rtp_time number large (frame_kept sample.bytes) refl fault is (λ same. other (ap Err same))

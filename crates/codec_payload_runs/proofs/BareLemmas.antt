@@ -6,16 +6,16 @@ use Rattle.codec_payload_base.specs.Time.{Time}
 use Rattle.codec_payload_base.specs.declared.error.PacketError.{PacketError}
 use Rattle.codec_payload_base.specs.declared.interface.CodecExtra.{CodecExtra}
 use Rattle.codec_payload_codec.proofs.CaseLemmas.{by_test}
-use Rattle.codec_payload_buffer.proofs.DepackLemmas.{unpacks_same}
+use Rattle.codec_payload_buffer.proofs.DepacketizerLemmas.{unpacks_same}
 use Rattle.codec_payload_buffer.proofs.PopLemmas.{due_packets}
 use Rattle.codec_payload_buffer.specs.ContiguityTable.{checked}
-use Rattle.codec_payload_codec.specs.Depack.{Depack, is_built_in_depack}
+use Rattle.codec_payload_codec.specs.Depacketizers.{DepacketizerState, is_built_in_depacketizer}
 use Rattle.codec_payload_buffer.specs.Frames.{frames, frames_after, frame_at, ended_at, lowest_head, row_before, leads_to, start_or_here}
 use Rattle.codec_payload_buffer.specs.Held.{Held, number_of, has_number, between, above, Rises}
 use Rattle.codec_payload_buffer.specs.Release.{Release}
 use Rattle.codec_payload_runs.specs.RunOrder.{release_with}
 use Rattle.codec_payload_buffer.specs.Steps.{State, Releases, PassesOver, due_of, due_among, Unpacked, Unpacks, nothing_unpacked, Gives, AllOfTime, metas_of, packets_of_frame, without, follows}
-use Rattle.codec_payload_buffer.specs.declared.buffer.frames.Segment.{Segment}
+use Rattle.codec_payload_buffer.specs.declared.buffer.frames.CompleteFrame.{CompleteFrame}
 use Rattle.codec_payload_buffer.specs.declared.buffer.unit.RtpMeta.{RtpMeta}
 
 -- what is told of a packet but for when it was received, and, where it is not plain, for its marker and its values
@@ -34,49 +34,51 @@ abbrev release_of : Time → Bool → Unpacked → List RtpMeta → Release
 release_of time contiguous unpacked metas = record { time = time; contiguous = contiguous; bytes = unpacked.bytes; codec_extra = unpacked.extra; metas = metas }
 
 -- a release is fixed by the state
-pub releases_same : (s t u : State) (r q : Release) → is_built_in_depack s.depack ≡ true → Rises s.held → Releases s r t → Releases s q u → (r ≡ q) × (t ≡ u)
+pub releases_same : (s t u : State) (r q : Release) → is_built_in_depacketizer s.depacketizer ≡ true → Rises s.held → Releases s r t → Releases s q u → (r ≡ q) × (t ≡ u)
 releases_same s t u r q built_in rises x y =
     let f : x.frame ≡ y.frame = some_is x.frame y.frame (sym x.is_due ∙ y.is_due) in
     let one : Unpacked = record { bytes = r.bytes; extra = r.codec_extra } in
     let two : Unpacked = record { bytes = q.bytes; extra = q.codec_extra } in
-    let gives : Gives s x.frame (Ok two) y.depack = subst (λ (z : Segment). Gives s z (Ok two) y.depack) (sym f) y.gives in
-    let out = unpacks_same s.depack (packets_of_frame s x.frame) nothing_unpacked one two x.depack y.depack built_in x.gives gives in
+    let gives : Gives s x.frame (Ok two) y.depacketizer = subst (λ (z : CompleteFrame). Gives s z (Ok two) y.depacketizer) (sym f) y.gives in
+    let out = unpacks_same s.depacketizer (packets_of_frame s x.frame) nothing_unpacked one two x.depacketizer y.depacketizer built_in x.gives gives in
     let seq : follows s x.frame ≡ follows s y.frame = ap (follows s) f in
     let extra : r.codec_extra ≡ q.codec_extra = ap (λ (z : Unpacked). z.extra) out.0 in
-    let metas : r.metas ≡ q.metas = x.metas ∙ ap (λ (z : Segment). metas_of (packets_of_frame s z)) f ∙ sym y.metas in
+    let metas : r.metas ≡ q.metas = x.metas ∙ ap (λ (z : CompleteFrame). metas_of (packets_of_frame s z)) f ∙ sym y.metas in
     let both : checked s.contiguity r.codec_extra (follows s x.frame) ≡ checked s.contiguity q.codec_extra (follows s y.frame) = ap
         (λ (e : CodecExtra). checked s.contiguity e (follows s x.frame)) extra ∙ ap (checked s.contiguity q.codec_extra) seq in
     let cont : r.contiguous ≡ q.contiguous = x.contiguous ∙ ap (λ z. z.1) both ∙ sym y.contiguous in
     let time : r.time ≡ q.time = one_time (packets_of_frame s x.frame) r.time q.time (due_packets s x.frame rises x.is_due).2 x.time
-        (subst (λ (z : Segment). AllOfTime q.time (packets_of_frame s z)) (sym f) y.time) in
-    let left : t ≡ u = x.left ∙ ap (λ (z : Segment). without s z x.depack (checked s.contiguity r.codec_extra (follows s x.frame)).2 false) f
-    ∙ ap (λ z. without s y.frame x.depack z.2 false) both ∙ ap (λ (d : Depack). without s y.frame d (checked s.contiguity q.codec_extra (follows s y.frame)).2 false) out.1 ∙ sym y.left in
+        (subst (λ (z : CompleteFrame). AllOfTime q.time (packets_of_frame s z)) (sym f) y.time) in
+    let left : t ≡ u = x.left ∙ ap (λ (z : CompleteFrame). without s z x.depacketizer (checked s.contiguity r.codec_extra (follows s x.frame)).2 false) f
+    ∙ ap (λ z. without s y.frame x.depacketizer z.2 false) both
+        ∙ ap (λ (d : DepacketizerState). without s y.frame d (checked s.contiguity q.codec_extra (follows s y.frame)).2 false) out.1 ∙ sym y.left in
     (ap (λ (z : Time). release_of z r.contiguous one r.metas) time ∙ ap (λ (z : Bool). release_of q.time z one r.metas) cont
         ∙ ap (λ (z : Unpacked). release_of q.time q.contiguous z r.metas) out.0 ∙ ap (release_of q.time q.contiguous two) metas, left)
   where
-    some_is : (x y : Segment) → Some x ≡ Some y → x ≡ y
+    some_is : (x y : CompleteFrame) → Some x ≡ Some y → x ≡ y
     some_is x y e = cc
 
-segment_is : (x y : Segment) → Some x ≡ Some y → x ≡ y
-segment_is x y e = cc
+complete_frame_is : (x y : CompleteFrame) → Some x ≡ Some y → x ≡ y
+complete_frame_is x y e = cc
 
-pub passes_same : (s t u : State) → is_built_in_depack s.depack ≡ true → PassesOver s t → PassesOver s u → t ≡ u
+pub passes_same : (s t u : State) → is_built_in_depacketizer s.depacketizer ≡ true → PassesOver s t → PassesOver s u → t ≡ u
 passes_same s t u built_in x y =
-    let f : x.frame ≡ y.frame = segment_is x.frame y.frame (sym x.is_due ∙ y.is_due) in
-    let gives : Gives s x.frame (Ok y.unpacked) y.depack = subst (λ (z : Segment). Gives s z (Ok y.unpacked) y.depack) (sym f) y.gives in
-    let out = unpacks_same s.depack (packets_of_frame s x.frame) nothing_unpacked x.unpacked y.unpacked x.depack y.depack built_in x.gives gives in
-    x.left ∙ ap (λ (z : Segment). without s z x.depack (checked s.contiguity x.unpacked.extra (follows s z)).2 s.mark) f
-    ∙ ap (λ (z : Unpacked). without s y.frame x.depack (checked s.contiguity z.extra (follows s y.frame)).2 s.mark) out.0
-    ∙ ap (λ (d : Depack). without s y.frame d (checked s.contiguity y.unpacked.extra (follows s y.frame)).2 s.mark) out.1 ∙ sym y.left
+    let f : x.frame ≡ y.frame = complete_frame_is x.frame y.frame (sym x.is_due ∙ y.is_due) in
+    let gives : Gives s x.frame (Ok y.unpacked) y.depacketizer = subst (λ (z : CompleteFrame). Gives s z (Ok y.unpacked) y.depacketizer) (sym f) y.gives in
+    let out = unpacks_same s.depacketizer (packets_of_frame s x.frame) nothing_unpacked x.unpacked y.unpacked x.depacketizer y.depacketizer built_in x.gives gives in
+    x.left ∙ ap (λ (z : CompleteFrame). without s z x.depacketizer (checked s.contiguity x.unpacked.extra (follows s z)).2 s.evicted) f
+    ∙ ap (λ (z : Unpacked). without s y.frame x.depacketizer (checked s.contiguity z.extra (follows s y.frame)).2 s.evicted) out.0
+    ∙ ap (λ (d : DepacketizerState). without s y.frame d (checked s.contiguity y.unpacked.extra (follows s y.frame)).2 s.evicted) out.1 ∙ sym y.left
 
 -- no frame both goes out and is passed over
-pub one_way : (s t u : State) (r : Release) → is_built_in_depack s.depack ≡ true → Releases s r t → PassesOver s u → ⊥
+pub one_way : (s t u : State) (r : Release) → is_built_in_depacketizer s.depacketizer ≡ true → Releases s r t → PassesOver s u → ⊥
 one_way s t u r built_in x y =
-    let f : x.frame ≡ y.frame = segment_is x.frame y.frame (sym x.is_due ∙ y.is_due) in
+    let f : x.frame ≡ y.frame = complete_frame_is x.frame y.frame (sym x.is_due ∙ y.is_due) in
     let one : Unpacked = record { bytes = r.bytes; extra = r.codec_extra } in
-    let gives : Gives s x.frame (Ok y.unpacked) y.depack = subst (λ (z : Segment). Gives s z (Ok y.unpacked) y.depack) (sym f) y.gives in
-    let out = unpacks_same s.depack (packets_of_frame s x.frame) nothing_unpacked one y.unpacked x.depack y.depack built_in x.gives gives in
-    clash (sym x.may ∙ ap (λ (z : Unpacked). (checked s.contiguity z.extra (follows s x.frame)).0) out.0 ∙ ap (λ (z : Segment). (checked s.contiguity y.unpacked.extra (follows s z)).0) f ∙ y.may_not)
+    let gives : Gives s x.frame (Ok y.unpacked) y.depacketizer = subst (λ (z : CompleteFrame). Gives s z (Ok y.unpacked) y.depacketizer) (sym f) y.gives in
+    let out = unpacks_same s.depacketizer (packets_of_frame s x.frame) nothing_unpacked one y.unpacked x.depacketizer y.depacketizer built_in x.gives gives in
+    clash (sym x.may ∙ ap (λ (z : Unpacked). (checked s.contiguity z.extra (follows s x.frame)).0) out.0
+        ∙ ap (λ (z : CompleteFrame). (checked s.contiguity y.unpacked.extra (follows s z)).0) f ∙ y.may_not)
   where
     clash : true ≡ false → ⊥
     clash e = cc
@@ -106,16 +108,16 @@ module _ (plain : Bool) where
   bare_ended p (Some n) = refl
 
   bare_frame : (p : Held) (earlier : List Held) → frame_at (bare p) (map bare earlier) ≡ frame_at p earlier
-  bare_frame p earlier = ap (λ (fs : List Segment). cond p.tail fs [])
+  bare_frame p earlier = ap (λ (fs : List CompleteFrame). cond p.tail fs [])
       (ap (ended_at (bare p)) (ap (λ (zs : List Held). lowest_head (bare p ∷ zs)) (bare_row p earlier) ∙ bare_lowest (p ∷ row_before p earlier))
       ∙ bare_ended p (lowest_head (p ∷ row_before p earlier)))
 
   bare_frames : (earlier later : List Held) → frames_after (map bare earlier) (map bare later) ≡ frames_after earlier later
   bare_frames earlier [] = refl
-  bare_frames earlier (p ∷ later) = ap (λ (fs : List Segment). fs ++ frames_after (map bare (p ∷ earlier)) (map bare later)) (bare_frame p earlier)
-      ∙ ap (λ (fs : List Segment). frame_at p earlier ++ fs) (bare_frames (p ∷ earlier) later)
+  bare_frames earlier (p ∷ later) = ap (λ (fs : List CompleteFrame). fs ++ frames_after (map bare (p ∷ earlier)) (map bare later)) (bare_frame p earlier)
+      ∙ ap (λ (fs : List CompleteFrame). frame_at p earlier ++ fs) (bare_frames (p ∷ earlier) later)
 
-  among_bare : (s : State) (fs : List Segment) → due_among (bare_state s) fs ≡ due_among s fs
+  among_bare : (s : State) (fs : List CompleteFrame) → due_among (bare_state s) fs ≡ due_among s fs
   among_bare s [] = refl
   among_bare s (f ∷ fs) = refl
 
@@ -148,7 +150,7 @@ module _ (plain : Bool) where
   bare_times time (p ∷ ps) all zero d l = all 0 p (omega arith)
   bare_times time (p ∷ ps) all (suc k) d l = bare_times time ps (λ j e m. all (suc j) e (omega (arith, m))) k d (omega (arith, l))
 
-  bare_unpacks : (d : Depack) (ps : List Held) (u : Unpacked) (answer : Result Unpacked PacketError) (e : Depack) → Unpacks d ps u answer e → Unpacks d (map bare ps) u answer e
+  bare_unpacks : (d : DepacketizerState) (ps : List Held) (u : Unpacked) (answer : Result Unpacked PacketError) (e : DepacketizerState) → Unpacks d ps u answer e → Unpacks d (map bare ps) u answer e
   bare_unpacks d [] u answer e h = h
   bare_unpacks d (p ∷ ps) u answer e h =
       (h.0, h.1, h.2, h.3, match_map (λ _. Unpacks h.1 ps h.2 answer e) (λ _. Unpacks h.1 (map bare ps) h.2 answer e) (λ fault. (answer ≡ Err fault) × (e ≡ h.1)) h.0
@@ -162,15 +164,15 @@ module _ (plain : Bool) where
       record {
         frame = f;
         is_due = due_bare s ∙ out.is_due;
-        depack = out.depack;
-        gives = subst (λ (ps : List Held). Unpacks s.depack ps nothing_unpacked (Ok unpacked) out.depack) (sym packets)
-            (bare_unpacks s.depack (packets_of_frame s f) nothing_unpacked (Ok unpacked) out.depack out.gives);
+        depacketizer = out.depacketizer;
+        gives = subst (λ (ps : List Held). Unpacks s.depacketizer ps nothing_unpacked (Ok unpacked) out.depacketizer) (sym packets)
+            (bare_unpacks s.depacketizer (packets_of_frame s f) nothing_unpacked (Ok unpacked) out.depacketizer out.gives);
         may = out.may;
         time = subst (AllOfTime r.time) (sym packets) (bare_times r.time (packets_of_frame s f) out.time);
         metas = ap (map (strip plain)) out.metas ∙ bare_metas (packets_of_frame s f) ∙ ap metas_of (sym packets);
         contiguous = out.contiguous;
-        left = ap bare_state out.left ∙ ap (λ (hs : List Held). record s { held = hs; cutoff = Some f.last; depack = out.depack; contiguity =
-            (checked s.contiguity r.codec_extra (follows s f)).2; mark = false }) (sym (bare_above f.last s.held));
+        left = ap bare_state out.left ∙ ap (λ (hs : List Held). record s { held = hs; cutoff = Some f.last; depacketizer = out.depacketizer; contiguity =
+            (checked s.contiguity r.codec_extra (follows s f)).2; evicted = false }) (sym (bare_above f.last s.held));
       }
 
   -- a frame that is passed over
@@ -182,11 +184,11 @@ module _ (plain : Bool) where
         frame = f;
         is_due = due_bare s ∙ over.is_due;
         unpacked = over.unpacked;
-        depack = over.depack;
-        gives = subst (λ (ps : List Held). Unpacks s.depack ps nothing_unpacked (Ok over.unpacked) over.depack) (sym packets)
-            (bare_unpacks s.depack (packets_of_frame s f) nothing_unpacked (Ok over.unpacked) over.depack over.gives);
+        depacketizer = over.depacketizer;
+        gives = subst (λ (ps : List Held). Unpacks s.depacketizer ps nothing_unpacked (Ok over.unpacked) over.depacketizer) (sym packets)
+            (bare_unpacks s.depacketizer (packets_of_frame s f) nothing_unpacked (Ok over.unpacked) over.depacketizer over.gives);
         may_not = over.may_not;
-        left = ap bare_state over.left ∙ ap (λ (hs : List Held). record s { held = hs; cutoff = Some f.last; depack = over.depack; contiguity =
+        left = ap bare_state over.left ∙ ap (λ (hs : List Held). record s { held = hs; cutoff = Some f.last; depacketizer = over.depacketizer; contiguity =
             (checked s.contiguity over.unpacked.extra (follows s f)).2 }) (sym (bare_above f.last s.held));
       }
 

@@ -13,7 +13,7 @@ use Rattle.codec_payload_runs.proofs.TakenLemmas.{Follows, IsNear, goes_on, stay
 use Rattle.codec_payload_runs.proofs.TurnLemmas.{Setting, Beyond, frame_due, count, IsSpan, IsPop, waits, releases, Chain, IsReady, span_left, span_ready, few_released, left_ready}
 use Rattle.codec_payload_runs.proofs.WholeLemmas.{some_packets}
 use Rattle.codec_payload_buffer.specs.ContiguityTable.{checked}
-use Rattle.codec_payload_codec.specs.Depack.{Depack}
+use Rattle.codec_payload_codec.specs.Depacketizers.{DepacketizerState}
 use Rattle.codec_payload_buffer.specs.Frames.{frames}
 use Rattle.codec_payload_runs.specs.Headline.{packets_before, ArePushesBy}
 use Rattle.codec_payload_runs.specs.Log.{Stretch, Turn}
@@ -25,7 +25,7 @@ use Rattle.codec_payload_runs.specs.Schedule.{Answer}
 use Rattle.codec_payload_runs.specs.SentStream.{SentUnit, packets_of}
 use Rattle.codec_payload_buffer.specs.Steps.{State, Releases, due_of, due_among, starts_right_after, follows}
 use Rattle.codec_payload_buffer.specs.Stretches.{last_or}
-use Rattle.codec_payload_buffer.specs.declared.buffer.frames.Segment.{Segment}
+use Rattle.codec_payload_buffer.specs.declared.buffer.frames.CompleteFrame.{CompleteFrame}
 use Rattle.codec_payload_buffer.specs.declared.buffer.unit.RtpMeta.{RtpMeta}
 
 slice_some : {X : Type 0} (xs : List X) (n p : ℕ) (x : X) → n ≤ p → slice_get xs p ≡ Some x → (y : X) × (slice_get xs n ≡ Some y)
@@ -35,13 +35,13 @@ slice_some (y ∷ ys) (suc n) zero x l h = absurd (omega (arith, l))
 slice_some (y ∷ ys) (suc n) (suc p) x l h = slice_some ys n p x (omega (arith, l)) h
 
 -- where no more frames are there than are held back, the frame that is due starts right after the cutoff
-due_starts : (s : State) (fs : List Segment) (f : Segment) → due_among s fs ≡ Some f → length fs ≤ s.hold_back → starts_right_after s.cutoff f.first ≡ true
+due_starts : (s : State) (fs : List CompleteFrame) (f : CompleteFrame) → due_among s fs ≡ Some f → length fs ≤ s.hold_back → starts_right_after s.cutoff f.first ≡ true
 due_starts s [] f h few = absurd (cc)
 due_starts s (g ∷ gs) f h few =
     let full : ltb s.hold_back (length (g ∷ gs)) ≡ false = grind (arith, nat_tests, few) in
     by_test (starts_right_after s.cutoff g.first) (λ b. starts_right_after s.cutoff g.first ≡ b
         → cond (b || ltb s.hold_back (length (g ∷ gs))) (Some g) None ≡ Some f → starts_right_after s.cutoff f.first ≡ true)
-    (λ e is h. let same : g ≡ f = cc in subst (λ (x : Segment). starts_right_after s.cutoff x.first ≡ true) same is)
+    (λ e is h. let same : g ≡ f = cc in subst (λ (x : CompleteFrame). starts_right_after s.cutoff x.first ≡ true) same is)
     (λ e is h. let nothing : cond (false || ltb s.hold_back (length (g ∷ gs))) (Some g) None ≡ None = rw full refl in absurd (cc))
     refl h
 
@@ -60,7 +60,7 @@ module _ (c : Setting) where
   IsAt n s = (m : ℕ) × (s.cutoff ≡ Some m) × (m + 1 ≡ c.first + packets_before n c.units)
 
   -- a frame that starts where a unit starts is that of the unit, whole
-  at_start : (from : ℕ) (s : State) (f : Segment) (n : ℕ) → (beyond : Beyond c from s) (due : due_of s ≡ Some f) → (n ≤ from) → f.first ≡ c.first + packets_before n c.units
+  at_start : (from : ℕ) (s : State) (f : CompleteFrame) (n : ℕ) → (beyond : Beyond c from s) (due : due_of s ≡ Some f) → (n ≤ from) → f.first ≡ c.first + packets_before n c.units
       → let frame = frame_due c from s f beyond due in (frame.place ≡ n) × (frame.missing ≡ [])
   at_start from s f n beyond due le begins =
       let frame = frame_due c from s f beyond due in
@@ -77,7 +77,7 @@ module _ (c : Setting) where
   Patient n s = Whole c n s ⊎ (length (frames s.held) ≤ s.hold_back)
 
   -- where the pop is not too early, the frame that is due is that of the next unit
-  next_due : (n : ℕ) (s : State) (f : Segment) → (beyond : Beyond c n s) → IsAt n s → Patient n s → (due : due_of s ≡ Some f)
+  next_due : (n : ℕ) (s : State) (f : CompleteFrame) → (beyond : Beyond c n s) → IsAt n s → Patient n s → (due : due_of s ≡ Some f)
       → let frame = frame_due c n s f beyond due in (frame.place ≡ n) × (frame.missing ≡ [])
   next_due n s f beyond at patient due =
       let frame = frame_due c n s f beyond due in
@@ -96,7 +96,7 @@ module _ (c : Setting) where
 
   -- the latest unit that was taken is the one before place n
   abbrev Taken : ℕ → State → Type 0
-  Taken n s = Follows c n s.depack s.contiguity
+  Taken n s = Follows c n s.depacketizer s.contiguity
 
   record IsReleased (n : ℕ) (t : State) (r : Release) : Type 0 where
     whole : IsWholeAt c.known c.splits c.units n r
@@ -110,13 +110,13 @@ module _ (c : Setting) where
       let frame = frame_due c from s out.frame ready.beyond out.is_due in
       let whole = whole_release c from s t r n ready.beyond out is.1 is.2 in
       let kept = (checked s.contiguity r.codec_extra (follows s out.frame)).2 in
-      let next : Follows c (frame.place + 1) out.depack kept =
-          (goes_on c from s out.frame ready.beyond out.is_due is.0 taken (record { bytes = r.bytes; extra = r.codec_extra }) out.depack out.gives (follows s out.frame)).1 in
+      let next : Follows c (frame.place + 1) out.depacketizer kept =
+          (goes_on c from s out.frame ready.beyond out.is_due is.0 taken (record { bytes = r.bytes; extra = r.codec_extra }) out.depacketizer out.gives (follows s out.frame)).1 in
       record {
         whole = whole.whole;
         ready = record { beyond = whole.next; few = few_released c s t r ready.few out };
         at = (out.frame.last, ap (λ (x : State). x.cutoff) out.left, whole.end);
-        taken = subst (λ (x : State). Taken (n + 1) x) (sym out.left) (subst (λ (p : ℕ). Follows c (p + 1) out.depack kept) is.1 next);
+        taken = subst (λ (x : State). Taken (n + 1) x) (sym out.left) (subst (λ (p : ℕ). Follows c (p + 1) out.depacketizer kept) is.1 next);
       }
 
   abbrev NextIs : ℕ → Answer → Type 0
@@ -128,11 +128,11 @@ module _ (c : Setting) where
     at : IsAt (count_after n a) t
     taken : Taken (count_after n a) t
 
-  near_next : (n : ℕ) (s : State) → (beyond : Beyond c n s) → IsAt n s → Patient n s → (f : Segment) (due : due_of s ≡ Some f) → IsNear n (frame_due c n s f beyond due).place
+  near_next : (n : ℕ) (s : State) → (beyond : Beyond c n s) → IsAt n s → Patient n s → (f : CompleteFrame) (due : due_of s ≡ Some f) → IsNear n (frame_due c n s f beyond due).place
   near_next n s beyond at patient f due = inr (omega (arith, (next_due n s f beyond at patient due).0))
 
   -- one pop after the first release
-  next_at : (n : ℕ) (s t : State) (over : List Segment) (a : Answer) → IsReady c n s → IsAt n s → Taken n s → Patient n s → IsPop c s t over a → IsStep n a t
+  next_at : (n : ℕ) (s t : State) (over : List CompleteFrame) (a : Answer) → IsReady c n s → IsAt n s → Taken n s → Patient n s → IsPop c s t over a → IsStep n a t
   next_at n s t over None ready at taken patient (waits passes nothing) =
       let same = (stays_near c n s t over ready.beyond taken (near_next n s ready.beyond at patient) passes).0 in
       record { next = tt; ready = subst (IsReady c n) (sym same) ready; at = subst (IsAt n) (sym same) at; taken = subst (Taken n) (sym same) taken }
@@ -165,7 +165,7 @@ module _ (c : Setting) where
           first_pushed 0 p ps r.metas (subst (λ (vs : List SentUnit). slice_get (packets_of vs) 0 ≡ Some p) is there) are
 
   -- before anything was taken each unit is near
-  near_first : (s : State) → (beyond : Beyond c 0 s) → (f : Segment) (due : due_of s ≡ Some f) → IsNear 0 (frame_due c 0 s f beyond due).place
+  near_first : (s : State) → (beyond : Beyond c 0 s) → (f : CompleteFrame) (due : due_of s ≡ Some f) → IsNear 0 (frame_due c 0 s f beyond due).place
   near_first s beyond f due = inl refl
 
   -- one pop before the first release
@@ -173,7 +173,7 @@ module _ (c : Setting) where
     next : NextIs 0 a
     then_ : ((count_after 0 a ≡ 0) × IsReady c 0 t × Taken 0 t × StartsWhole answers) ⊎ ((count_after 0 a ≡ 1) × IsReady c 1 t × IsAt 1 t × Taken 1 t)
 
-  first_at : (s t : State) (over : List Segment) (a : Answer) (answers : List Answer) → IsReady c 0 s → Taken 0 s → StartsWhole (a ∷ answers) → IsPop c s t over a → IsFirst a answers t
+  first_at : (s t : State) (over : List CompleteFrame) (a : Answer) (answers : List Answer) → IsReady c 0 s → Taken 0 s → StartsWhole (a ∷ answers) → IsPop c s t over a → IsFirst a answers t
   first_at s t over None answers ready taken whole (waits passes nothing) =
       let same = (stays_near c 0 s t over ready.beyond taken (near_first s ready.beyond) passes).0 in
       record { next = tt; then_ = inl (refl, subst (IsReady c 0) (sym same) ready, subst (Taken 0) (sym same) taken, whole) }
@@ -191,7 +191,7 @@ module _ (c : Setting) where
   span_taken : (n : ℕ) (s : State) (w : Stretch) → w.left ≡ s → IsReady c n w.left → IsSpan c w → Taken n s → Taken n w.now
   span_taken n s w at ready is taken =
       let left = span_left c n w ready is in
-      subst (λ (d : Depack). Follows c n d w.now.contiguity) (sym left.depack) (subst (Follows c n w.left.depack) (sym left.contiguity) (subst (Taken n) (sym at) taken))
+      subst (λ (d : DepacketizerState). Follows c n d w.now.contiguity) (sym left.depacketizer) (subst (Follows c n w.left.depacketizer) (sym left.contiguity) (subst (Taken n) (sym at) taken))
 
   abbrev answers_of : List Turn → List Answer
   answers_of turns = map (λ (turn : Turn). turn.answer) turns

@@ -5,17 +5,17 @@ use Rattle.codec_payload_base.specs.declared.error.PacketError.{PacketError}
 use Rattle.codec_payload_base.specs.declared.error.PacketError.TheVariants as faults
 use Rattle.codec_payload_codec.proofs.CaseLemmas.{by_test}
 use Rattle.codec_payload_send.proofs.SendLemmas.{as_built_in}
-use Rattle.codec_payload_codec.specs.Depack.{Depack, G711Depack, OpusDepack, ComfortNoiseDepack, TeleDepack, Vp8Depack, Vp9Depack, Av1Depack, AmrWbDepack, NullDepack, BoxedDepack, DepackStep, is_built_in_depack, is_codec}
+use Rattle.codec_payload_codec.specs.Depacketizers.{DepacketizerState, G711Depacketizing, OpusDepacketizing, ComfortNoiseDepacketizing, TeleDepacketizing, Vp8Depacketizing, Vp9Depacketizing, Av1Depacketizing, AmrWbDepacketizing, NullDepacketizing, BoxedDepacketizing, DepacketizerStep, is_built_in_depacketizer, is_codec}
 use Rattle.codec_payload_runs.specs.Headline.{IsUnused}
 use Rattle.codec_payload_buffer.specs.Held.{Held, placed, number_of}
-use Rattle.codec_payload_codec.specs.Pack.{Pack, G711Pack, G722Pack, OpusPack, ComfortNoisePack, TelePack, Vp8Pack, Vp9Pack, Av1Pack, AmrWbPack, NullPack, BoxedPack, PackStep, is_built_in}
+use Rattle.codec_payload_codec.specs.Packetizers.{PacketizerState, G711Packetizing, G722Packetizing, OpusPacketizing, ComfortNoisePacketizing, TelePacketizing, Vp8Packetizing, Vp9Packetizing, Av1Packetizing, AmrWbPacketizing, NullPacketizing, BoxedPacketizing, PacketizerStep, is_built_in}
 use Rattle.codec_payload_send.specs.Packets.{Packet, AreNumbered}
 use Rattle.codec_payload_runs.specs.Schedule as any
 use Rattle.codec_payload_runs.specs.Schedule.{Answer, RunState, payloads_of, fault_of, packets_sent, after_send, meta_of_push}
 use Rattle.codec_payload_send.specs.Sending.{Sample, AreAs}
 use Rattle.codec_payload_buffer.specs.Steps.{State, arrived, pushed, is_dropped, kept_to_limit, without_lowest, Unpacked, Unpacks, Gives, Passes, none, one_more, PassesOver, TakesFrame, Pops}
 use Rattle.codec_payload_runs.specs.Units.{payloads_by}
-use Rattle.codec_payload_buffer.specs.declared.buffer.frames.Segment.{Segment}
+use Rattle.codec_payload_buffer.specs.declared.buffer.frames.CompleteFrame.{CompleteFrame}
 use Rattle.codec_payload_runs.specs.declared.run.Sent.{Sent}
 use Rattle.codec_payload_runs.specs.declared.run.Step.{Step}
 use Rattle.codec_payload_runs.specs.declared.run.Step.TheVariants as steps
@@ -23,19 +23,19 @@ use Rattle.codec_payload_runs.specs.declared.run.Step.TheVariants as steps
 -- the sample was sent, or refused by the packetizer, which sends nothing
 pub record SendsIt (place mtu : ℕ) (sample : Sample) (s : RunState) (entry : Sent) (t : RunState) : Type 0 where
   pub answer : Result (List (List ℕ)) PacketError
-  pub pack : Pack
-  pub packetized : PackStep s.payloading.pack mtu sample.bytes answer pack
+  pub packetizer : PacketizerState
+  pub packetized : PacketizerStep s.payloading.packetizer mtu sample.bytes answer packetizer
   pub not_memory : answer ≢ Err faults.OutOfMemory
-  pub built_in : is_built_in s.payloading.pack ≡ true
+  pub built_in : is_built_in s.payloading.packetizer ≡ true
   pub entry_is : entry ≡ record { step = place; first = length s.sink.packets; count = length (payloads_of answer); fault = fault_of answer }
-  pub numbered : AreNumbered (s.sink.first + length s.sink.packets) (packets_sent s pack sample (payloads_of answer))
+  pub numbered : AreNumbered (s.sink.first + length s.sink.packets) (packets_sent s packetizer sample (payloads_of answer))
   pub few : length t.sink.packets < 2 ^ 63
-  pub left : t ≡ after_send s pack (packets_sent s pack sample (payloads_of answer))
+  pub left : t ≡ after_send s packetizer (packets_sent s packetizer sample (payloads_of answer))
 
 -- the buffer after step `place` pushed that packet, if there is one
 abbrev pub after_push : ℕ → ℕ → Option Packet → State → State
 after_push place clock_rate None s = s
-after_push place clock_rate (Some p) s = pushed s (arrived s.depack (meta_of_push place clock_rate p) p.payload)
+after_push place clock_rate (Some p) s = pushed s (arrived s.depacketizer (meta_of_push place clock_rate p) p.payload)
 
 -- the buffer after step `place`, which names the packet of index k, pushed what that holds
 abbrev pub Pushing : Type 0
@@ -62,145 +62,148 @@ Runs pushing samples place (step ∷ later) s sends pops t =
     × (sends ≡ send ++ sends_later) × (pops ≡ pop ++ pops_later) × DoesStep pushing samples place step s send pop mid × Runs pushing samples (place + 1) later mid sends_later pops_later t
 
 -- a packetizer stays built in
-pack_stays : (p : Pack) (mtu : ℕ) (frame : List ℕ) (answer : Result (List (List ℕ)) PacketError) (q : Pack) → PackStep p mtu frame answer q → is_built_in q ≡ is_built_in p
-pack_stays G711Pack mtu frame answer q step = ap is_built_in step.1
-pack_stays G722Pack mtu frame answer q step = ap is_built_in step.1
-pack_stays OpusPack mtu frame answer q step = ap is_built_in step.1
-pack_stays NullPack mtu frame answer q step = ap is_built_in step.1
-pack_stays (Vp8Pack id) mtu frame answer q step = ap is_built_in step.3
-pack_stays (Vp9Pack sender) mtu frame answer q step = ap is_built_in step.3
-pack_stays ComfortNoisePack mtu frame answer q step = ap is_built_in step.1
-pack_stays TelePack mtu frame answer q step = ap is_built_in step.1
-pack_stays Av1Pack mtu frame answer q step = ap is_built_in step.1
-pack_stays (AmrWbPack octet) mtu frame answer q step = ap is_built_in step.1
-pack_stays BoxedPack mtu frame answer q step = ap is_built_in step
+packetizer_stays : (p : PacketizerState) (mtu : ℕ) (frame : List ℕ) (answer : Result (List (List ℕ)) PacketError) (q : PacketizerState)
+    → PacketizerStep p mtu frame answer q → is_built_in q ≡ is_built_in p
+packetizer_stays G711Packetizing mtu frame answer q step = ap is_built_in step.1
+packetizer_stays G722Packetizing mtu frame answer q step = ap is_built_in step.1
+packetizer_stays OpusPacketizing mtu frame answer q step = ap is_built_in step.1
+packetizer_stays NullPacketizing mtu frame answer q step = ap is_built_in step.1
+packetizer_stays (Vp8Packetizing id) mtu frame answer q step = ap is_built_in step.3
+packetizer_stays (Vp9Packetizing sender) mtu frame answer q step = ap is_built_in step.3
+packetizer_stays ComfortNoisePacketizing mtu frame answer q step = ap is_built_in step.1
+packetizer_stays TelePacketizing mtu frame answer q step = ap is_built_in step.1
+packetizer_stays Av1Packetizing mtu frame answer q step = ap is_built_in step.1
+packetizer_stays (AmrWbPacketizing octet) mtu frame answer q step = ap is_built_in step.1
+packetizer_stays BoxedPacketizing mtu frame answer q step = ap is_built_in step
 
 -- and so does a depacketizer
-depack_stays : (d : Depack) (payload out : List ℕ) (extra : _) (answer : Result ⊤ PacketError) (e : Depack) (out' : List ℕ) (extra' : _)
-    → DepackStep d payload out extra answer e out' extra' → is_built_in_depack e ≡ is_built_in_depack d
-depack_stays G711Depack payload out extra answer e out' extra' step = ap is_built_in_depack step.1
-depack_stays OpusDepack payload out extra answer e out' extra' step = ap is_built_in_depack step.1
-depack_stays NullDepack payload out extra answer e out' extra' step = ap is_built_in_depack step.1
-depack_stays (Vp8Depack d) payload out extra answer e out' extra' step = ap is_built_in_depack step.2
-depack_stays (Vp9Depack d) payload out extra answer e out' extra' step = ap is_built_in_depack step.2
-depack_stays ComfortNoiseDepack payload out extra answer e out' extra' step = ap is_built_in_depack step.1
-depack_stays (TeleDepack rate) payload out extra answer e out' extra' step = ap is_built_in_depack step.1
-depack_stays (Av1Depack pending) payload out extra answer e out' extra' step = ap is_built_in_depack step.2
-depack_stays (AmrWbDepack octet) payload out extra answer e out' extra' step = ap is_built_in_depack step.1
-depack_stays BoxedDepack payload out extra answer e out' extra' step = ap is_built_in_depack step
+depacketizer_stays : (d : DepacketizerState) (payload out : List ℕ) (extra : _) (answer : Result ⊤ PacketError) (e : DepacketizerState) (out' : List ℕ) (extra' : _)
+    → DepacketizerStep d payload out extra answer e out' extra' → is_built_in_depacketizer e ≡ is_built_in_depacketizer d
+depacketizer_stays G711Depacketizing payload out extra answer e out' extra' step = ap is_built_in_depacketizer step.1
+depacketizer_stays OpusDepacketizing payload out extra answer e out' extra' step = ap is_built_in_depacketizer step.1
+depacketizer_stays NullDepacketizing payload out extra answer e out' extra' step = ap is_built_in_depacketizer step.1
+depacketizer_stays (Vp8Depacketizing d) payload out extra answer e out' extra' step = ap is_built_in_depacketizer step.2
+depacketizer_stays (Vp9Depacketizing d) payload out extra answer e out' extra' step = ap is_built_in_depacketizer step.2
+depacketizer_stays ComfortNoiseDepacketizing payload out extra answer e out' extra' step = ap is_built_in_depacketizer step.1
+depacketizer_stays (TeleDepacketizing rate) payload out extra answer e out' extra' step = ap is_built_in_depacketizer step.1
+depacketizer_stays (Av1Depacketizing pending) payload out extra answer e out' extra' step = ap is_built_in_depacketizer step.2
+depacketizer_stays (AmrWbDepacketizing octet) payload out extra answer e out' extra' step = ap is_built_in_depacketizer step.1
+depacketizer_stays BoxedDepacketizing payload out extra answer e out' extra' step = ap is_built_in_depacketizer step
 
-unpacks_stays : (d : Depack) (ps : List Held) (u : Unpacked) (answer : Result Unpacked PacketError) (e : Depack) → Unpacks d ps u answer e → is_built_in_depack e ≡ is_built_in_depack d
-unpacks_stays d [] u answer e all = ap is_built_in_depack all.1
+unpacks_stays : (d : DepacketizerState) (ps : List Held) (u : Unpacked) (answer : Result Unpacked PacketError) (e : DepacketizerState) → Unpacks d ps u answer e
+    → is_built_in_depacketizer e ≡ is_built_in_depacketizer d
+unpacks_stays d [] u answer e all = ap is_built_in_depacketizer all.1
 unpacks_stays d (p ∷ ps) u answer e all = at all.0 all.4 (λ rest. unpacks_stays all.1 ps all.2 answer e rest)
   where
-    here : is_built_in_depack all.1 ≡ is_built_in_depack d
-    here = depack_stays d p.bytes u.bytes u.extra all.0 all.1 all.2.bytes all.2.extra all.3
+    here : is_built_in_depacketizer all.1 ≡ is_built_in_depacketizer d
+    here = depacketizer_stays d p.bytes u.bytes u.extra all.0 all.1 all.2.bytes all.2.extra all.3
 
     at : (one : Result ⊤ PacketError) → MatchResult one (λ _. Unpacks all.1 ps all.2 answer e) (λ fault. (answer ≡ Err fault) × (e ≡ all.1))
-        → (Unpacks all.1 ps all.2 answer e → is_built_in_depack e ≡ is_built_in_depack all.1) → is_built_in_depack e ≡ is_built_in_depack d
+        → (Unpacks all.1 ps all.2 answer e → is_built_in_depacketizer e ≡ is_built_in_depacketizer all.1) → is_built_in_depacketizer e ≡ is_built_in_depacketizer d
     at (Ok x) rest more = more rest ∙ here
-    at (Err fault) rest more = ap is_built_in_depack rest.1 ∙ here
+    at (Err fault) rest more = ap is_built_in_depacketizer rest.1 ∙ here
 
 abbrev pub IsOfCodec : State → Type 0
-IsOfCodec s = is_built_in_depack s.depack ≡ true
+IsOfCodec s = is_built_in_depacketizer s.depacketizer ≡ true
 
-pub passed_stays : (s t : State) → PassesOver s t → is_built_in_depack t.depack ≡ is_built_in_depack s.depack
-passed_stays s t passed = ap (λ (x : State). is_built_in_depack x.depack) passed.left ∙ unpacks_stays s.depack _ _ _ passed.depack passed.gives
+pub passed_stays : (s t : State) → PassesOver s t → is_built_in_depacketizer t.depacketizer ≡ is_built_in_depacketizer s.depacketizer
+passed_stays s t passed = ap (λ (x : State). is_built_in_depacketizer x.depacketizer) passed.left ∙ unpacks_stays s.depacketizer _ _ _ passed.depacketizer passed.gives
 
-passes_stay : (s t : State) (over : _) → Passes s over t → is_built_in_depack t.depack ≡ is_built_in_depack s.depack
+passes_stay : (s t : State) (over : _) → Passes s over t → is_built_in_depacketizer t.depacketizer ≡ is_built_in_depacketizer s.depacketizer
 passes_stay s t over none = refl
 passes_stay s u over (one_more {t = t} passes passed) = passed_stays t u passed ∙ passes_stay s t _ passes
 
-pops_stay : (s t : State) (answer : Answer) → Pops s answer t → is_built_in_depack t.depack ≡ is_built_in_depack s.depack
+pops_stay : (s t : State) (answer : Answer) → Pops s answer t → is_built_in_depacketizer t.depacketizer ≡ is_built_in_depacketizer s.depacketizer
 pops_stay s t None pop = passes_stay s t pop.0 pop.1.0
 pops_stay s t (Some answer) pop = takes answer pop.1.2 ∙ passes_stay s pop.1.0 pop.0 pop.1.1
   where
-    at_stall : (frame : Segment) (d : Depack) → (d ≡ pop.1.0.depack) ⊎ Gives pop.1.0 frame (Err faults.OutOfMemory) d → is_built_in_depack d ≡ is_built_in_depack pop.1.0.depack
-    at_stall frame d (inl same) = ap is_built_in_depack same
-    at_stall frame d (inr gives) = unpacks_stays pop.1.0.depack _ _ _ d gives
+    at_stall : (frame : CompleteFrame) (d : DepacketizerState) → (d ≡ pop.1.0.depacketizer) ⊎ Gives pop.1.0 frame (Err faults.OutOfMemory) d
+        → is_built_in_depacketizer d ≡ is_built_in_depacketizer pop.1.0.depacketizer
+    at_stall frame d (inl same) = ap is_built_in_depacketizer same
+    at_stall frame d (inr gives) = unpacks_stays pop.1.0.depacketizer _ _ _ d gives
 
-    takes : (a : Result _ PacketError) → TakesFrame pop.1.0 a t → is_built_in_depack t.depack ≡ is_built_in_depack pop.1.0.depack
-    takes (Ok r) out = ap (λ (x : State). is_built_in_depack x.depack) out.left ∙ unpacks_stays pop.1.0.depack _ _ _ out.depack out.gives
+    takes : (a : Result _ PacketError) → TakesFrame pop.1.0 a t → is_built_in_depacketizer t.depacketizer ≡ is_built_in_depacketizer pop.1.0.depacketizer
+    takes (Ok r) out = ap (λ (x : State). is_built_in_depacketizer x.depacketizer) out.left ∙ unpacks_stays pop.1.0.depacketizer _ _ _ out.depacketizer out.gives
     takes (Err fault) out = elim out [
-      | inl memory ↦ ap (λ (x : State). is_built_in_depack x.depack) memory.1.left ∙ at_stall memory.1.frame memory.1.depack memory.1.reached
-      | inr refusal ↦ ap (λ (x : State). is_built_in_depack x.depack) refusal.left ∙ unpacks_stays pop.1.0.depack _ _ _ refusal.depack refusal.gives
+      | inl memory ↦ ap (λ (x : State). is_built_in_depacketizer x.depacketizer) memory.1.left ∙ at_stall memory.1.frame memory.1.depacketizer memory.1.reached
+      | inr refusal ↦ ap (λ (x : State). is_built_in_depacketizer x.depacketizer) refusal.left ∙ unpacks_stays pop.1.0.depacketizer _ _ _ refusal.depacketizer refusal.gives
     ]
 
 -- of a packetizer that is built in the packets are exactly those
-sends_exactly : (place mtu : ℕ) (sample : Sample) (s : RunState) (entry : Sent) (t : RunState) → is_built_in s.payloading.pack ≡ true → any.SendsIt place mtu sample s entry t
-    → SendsIt place mtu sample s entry t × (is_built_in t.payloading.pack ≡ true)
+sends_exactly : (place mtu : ℕ) (sample : Sample) (s : RunState) (entry : Sent) (t : RunState) → is_built_in s.payloading.packetizer ≡ true → any.SendsIt place mtu sample s entry t
+    → SendsIt place mtu sample s entry t × (is_built_in t.payloading.packetizer ≡ true)
 sends_exactly place mtu sample s entry t built_in sent =
-    let stays : is_built_in sent.pack ≡ true = pack_stays s.payloading.pack mtu sample.bytes sent.answer sent.pack sent.packetized ∙ built_in in
-    let exact : sent.packets ≡ packets_sent s sent.pack sample (payloads_of sent.answer) =
-    as_built_in _ _ (subst (λ (b : Bool). AreAs b sent.packets (packets_sent s sent.pack sample (payloads_of sent.answer))) stays sent.are) in (
+    let stays : is_built_in sent.packetizer ≡ true = packetizer_stays s.payloading.packetizer mtu sample.bytes sent.answer sent.packetizer sent.packetized ∙ built_in in
+    let exact : sent.packets ≡ packets_sent s sent.packetizer sample (payloads_of sent.answer) =
+    as_built_in _ _ (subst (λ (b : Bool). AreAs b sent.packets (packets_sent s sent.packetizer sample (payloads_of sent.answer))) stays sent.are) in (
       record {
         answer = sent.answer;
-        pack = sent.pack;
+        packetizer = sent.packetizer;
         packetized = sent.packetized;
         not_memory = sent.not_memory;
         built_in = built_in;
         entry_is = sent.entry_is;
         numbered = subst (AreNumbered (s.sink.first + length s.sink.packets)) exact sent.numbered;
         few = sent.few;
-        left = sent.left ∙ ap (after_send s sent.pack) exact;
+        left = sent.left ∙ ap (after_send s sent.packetizer) exact;
       },
-      ap (λ (x : RunState). is_built_in x.payloading.pack) sent.left ∙ stays,
+      ap (λ (x : RunState). is_built_in x.payloading.packetizer) sent.left ∙ stays,
     )
 
 -- a push leaves the depacketizer as it is
-lowest_keeps : (s : State) (ps : List Held) → (without_lowest s ps).depack ≡ s.depack
+lowest_keeps : (s : State) (ps : List Held) → (without_lowest s ps).depacketizer ≡ s.depacketizer
 lowest_keeps s [] = refl
 lowest_keeps s (p ∷ ps) = refl
 
-pub push_keeps : (s : State) (p : Held) → (pushed s p).depack ≡ s.depack
+pub push_keeps : (s : State) (p : Held) → (pushed s p).depacketizer ≡ s.depacketizer
 push_keeps s p =
     let more = record s { held = placed p s.held } in
-    by_test (is_dropped s (number_of p)) (λ b. (cond b s (kept_to_limit more)).depack ≡ s.depack) (λ e. refl)
-    (λ e. by_test (nat_lt more.limit (length more.held)) (λ b. (cond b (without_lowest more more.held) more).depack ≡ s.depack) (λ f. lowest_keeps more more.held) (λ f. refl))
+    by_test (is_dropped s (number_of p)) (λ b. (cond b s (kept_to_limit more)).depacketizer ≡ s.depacketizer) (λ e. refl)
+    (λ e. by_test (nat_lt more.limit (length more.held)) (λ b. (cond b (without_lowest more more.held) more).depacketizer ≡ s.depacketizer) (λ f. lowest_keeps more more.held) (λ f. refl))
 
 -- of a depacketizer that is built in a packet is held exactly so
 pushes_exactly : (place clock_rate : ℕ) (o : Option Packet) (s t : State) → IsOfCodec s → any.Pushes place clock_rate o s t → (t ≡ after_push place clock_rate o s) × IsOfCodec t
-pushes_exactly place clock_rate None s t built_in pushes = (pushes, ap (λ (x : State). is_built_in_depack x.depack) pushes ∙ built_in)
+pushes_exactly place clock_rate None s t built_in pushes = (pushes, ap (λ (x : State). is_built_in_depacketizer x.depacketizer) pushes ∙ built_in)
 pushes_exactly place clock_rate (Some p) s t built_in pushes =
     let held = pushes.1.2 built_in in
     let left = pushes.2 ∙ ap (pushed s) held in
-    (left, ap (λ (x : State). is_built_in_depack x.depack) left ∙ (ap is_built_in_depack (push_keeps s _) ∙ built_in))
+    (left, ap (λ (x : State). is_built_in_depacketizer x.depacketizer) left ∙ (ap is_built_in_depacketizer (push_keeps s _) ∙ built_in))
 
 -- a step that sends, of a packetizer that is built in
-pub send_exactly : (samples : List Sample) (place i mtu : ℕ) (s t : RunState) (sends : List Sent) (pops : List Answer) → is_built_in s.payloading.pack ≡ true
+pub send_exactly : (samples : List Sample) (place i mtu : ℕ) (s t : RunState) (sends : List Sent) (pops : List Answer) → is_built_in s.payloading.packetizer ≡ true
     → IsOfCodec s.buffer → any.DoesStep samples place (steps.Send i mtu) s sends pops t
-    → DoesStep plainly samples place (steps.Send i mtu) s sends pops t × (is_built_in t.payloading.pack ≡ true) × IsOfCodec t.buffer
-send_exactly samples place i mtu s t sends pops pack depack step =
+    → DoesStep plainly samples place (steps.Send i mtu) s sends pops t × (is_built_in t.payloading.packetizer ≡ true) × IsOfCodec t.buffer
+send_exactly samples place i mtu s t sends pops packetizer depacketizer step =
     let one = at (slice_get samples i) step.1 in
     ((step.0, one.0), one.1, one.2)
   where
     at : (o : Option Sample) → MatchOption o ((sends ≡ []) × (t ≡ s)) (λ sample. (entry : Sent) × (sends ≡ entry ∷ []) × any.SendsIt place mtu sample s entry t)
         → MatchOption o ((sends ≡ []) × (t ≡ s)) (λ sample. (entry : Sent) × (sends ≡ entry ∷ []) × SendsIt place mtu sample s entry t)
-        × (is_built_in t.payloading.pack ≡ true) × IsOfCodec t.buffer
-    at None here = (here, ap (λ (x : RunState). is_built_in x.payloading.pack) here.1 ∙ pack, ap (λ (x : RunState). is_built_in_depack x.buffer.depack) here.1 ∙ depack)
+        × (is_built_in t.payloading.packetizer ≡ true) × IsOfCodec t.buffer
+    at None here = (here, ap (λ (x : RunState). is_built_in x.payloading.packetizer) here.1 ∙ packetizer, ap (λ (x : RunState). is_built_in_depacketizer x.buffer.depacketizer) here.1 ∙ depacketizer)
     at (Some sample) done =
-        let sent = sends_exactly place mtu sample s done.0 t pack done.2 in
-        ((done.0, done.1, sent.0), sent.1, ap (λ (x : RunState). is_built_in_depack x.buffer.depack) done.2.left ∙ depack)
+        let sent = sends_exactly place mtu sample s done.0 t packetizer done.2 in
+        ((done.0, done.1, sent.0), sent.1, ap (λ (x : RunState). is_built_in_depacketizer x.buffer.depacketizer) done.2.left ∙ depacketizer)
 
 -- a step that pops leaves both built in
-pub pop_exactly : (samples : List Sample) (place : ℕ) (s t : RunState) (sends : List Sent) (pops : List Answer) → is_built_in s.payloading.pack ≡ true
+pub pop_exactly : (samples : List Sample) (place : ℕ) (s t : RunState) (sends : List Sent) (pops : List Answer) → is_built_in s.payloading.packetizer ≡ true
     → IsOfCodec s.buffer → any.DoesStep samples place steps.Pop s sends pops t
-    → (is_built_in t.payloading.pack ≡ true) × IsOfCodec t.buffer
-pop_exactly samples place s t sends pops pack depack step = (
-  ap (λ (x : RunState). is_built_in x.payloading.pack) step.6 ∙ pack,
-  ap (λ (x : RunState). is_built_in_depack x.buffer.depack) step.6 ∙ (pops_stay s.buffer step.2 step.1 step.5 ∙ depack),
+    → (is_built_in t.payloading.packetizer ≡ true) × IsOfCodec t.buffer
+pop_exactly samples place s t sends pops packetizer depacketizer step = (
+  ap (λ (x : RunState). is_built_in x.payloading.packetizer) step.6 ∙ packetizer,
+  ap (λ (x : RunState). is_built_in_depacketizer x.buffer.depacketizer) step.6 ∙ (pops_stay s.buffer step.2 step.1 step.5 ∙ depacketizer),
 )
 
 -- so the steps of such a run are told exactly
 pub runs_exactly : (samples : List Sample) (place : ℕ) (later : List Step) (s : RunState) (sends : List Sent) (pops : List Answer) (t : RunState)
-    → is_built_in s.payloading.pack ≡ true → IsOfCodec s.buffer → any.Runs samples place later s sends pops t → Runs plainly samples place later s sends pops t
-runs_exactly samples place [] s sends pops t pack depack run = run
-runs_exactly samples place (steps.Send i mtu ∷ later) s sends pops t pack depack run =
-    let one = send_exactly samples place i mtu s run.4 run.0 run.2 pack depack run.7 in
+    → is_built_in s.payloading.packetizer ≡ true → IsOfCodec s.buffer → any.Runs samples place later s sends pops t → Runs plainly samples place later s sends pops t
+runs_exactly samples place [] s sends pops t packetizer depacketizer run = run
+runs_exactly samples place (steps.Send i mtu ∷ later) s sends pops t packetizer depacketizer run =
+    let one = send_exactly samples place i mtu s run.4 run.0 run.2 packetizer depacketizer run.7 in
     (run.0, run.1, run.2, run.3, run.4, run.5, run.6, one.0, runs_exactly samples (place + 1) later run.4 run.1 run.3 t one.1 one.2 run.8)
-runs_exactly samples place (steps.Push k ∷ later) s sends pops t pack depack run =
+runs_exactly samples place (steps.Push k ∷ later) s sends pops t packetizer depacketizer run =
     let step = run.7 in
-    let one = pushes_exactly place s.payloading.clock_rate (slice_get s.sink.packets k) s.buffer step.2 depack step.3 in (
+    let one = pushes_exactly place s.payloading.clock_rate (slice_get s.sink.packets k) s.buffer step.2 depacketizer step.3 in (
       run.0,
       run.1,
       run.2,
@@ -209,29 +212,29 @@ runs_exactly samples place (steps.Push k ∷ later) s sends pops t pack depack r
       run.5,
       run.6,
       (step.0, step.1, step.4 ∙ ap (λ (b : State). record s { buffer = b }) one.0),
-      runs_exactly samples (place + 1) later run.4 run.1 run.3 t (ap (λ (x : RunState). is_built_in x.payloading.pack) step.4 ∙ pack)
-          (ap (λ (x : RunState). is_built_in_depack x.buffer.depack) step.4 ∙ one.1) run.8,
+      runs_exactly samples (place + 1) later run.4 run.1 run.3 t (ap (λ (x : RunState). is_built_in x.payloading.packetizer) step.4 ∙ packetizer)
+          (ap (λ (x : RunState). is_built_in_depacketizer x.buffer.depacketizer) step.4 ∙ one.1) run.8,
     )
-runs_exactly samples place (steps.Pop ∷ later) s sends pops t pack depack run =
-    let one = pop_exactly samples place s run.4 run.0 run.2 pack depack run.7 in
+runs_exactly samples place (steps.Pop ∷ later) s sends pops t packetizer depacketizer run =
+    let one = pop_exactly samples place s run.4 run.0 run.2 packetizer depacketizer run.7 in
     (run.0, run.1, run.2, run.3, run.4, run.5, run.6, run.7, runs_exactly samples (place + 1) later run.4 run.1 run.3 t one.0 one.1 run.8)
 
 -- a packetizer that is built in makes payloads of a codec
-pub codec_payloads : (p : Pack) → is_built_in p ≡ true → is_codec (payloads_by p) ≡ true
-codec_payloads G711Pack e = refl
-codec_payloads G722Pack e = refl
-codec_payloads OpusPack e = refl
-codec_payloads NullPack e = refl
-codec_payloads (Vp8Pack id) e = refl
-codec_payloads (Vp9Pack sender) e = refl
-codec_payloads ComfortNoisePack e = refl
-codec_payloads TelePack e = refl
-codec_payloads Av1Pack e = refl
-codec_payloads (AmrWbPack octet) e = refl
-codec_payloads BoxedPack e = e
+pub codec_payloads : (p : PacketizerState) → is_built_in p ≡ true → is_codec (payloads_by p) ≡ true
+codec_payloads G711Packetizing e = refl
+codec_payloads G722Packetizing e = refl
+codec_payloads OpusPacketizing e = refl
+codec_payloads NullPacketizing e = refl
+codec_payloads (Vp8Packetizing id) e = refl
+codec_payloads (Vp9Packetizing sender) e = refl
+codec_payloads ComfortNoisePacketizing e = refl
+codec_payloads TelePacketizing e = refl
+codec_payloads Av1Packetizing e = refl
+codec_payloads (AmrWbPacketizing octet) e = refl
+codec_payloads BoxedPacketizing e = e
 
 -- an unused run is of a codec on both sides
 pub unused_exactly : (samples : List Sample) (all_steps : List Step) (s : RunState) (sends : List Sent) (pops : List Answer) (t : RunState)
     → IsUnused s → any.Runs samples 0 all_steps s sends pops t → Runs plainly samples 0 all_steps s sends pops t
 unused_exactly samples all_steps s sends pops t unused run =
-    runs_exactly samples 0 all_steps s sends pops t unused.built_in (ap is_codec unused.alike ∙ codec_payloads s.payloading.pack unused.built_in) run
+    runs_exactly samples 0 all_steps s sends pops t unused.built_in (ap is_codec unused.alike ∙ codec_payloads s.payloading.packetizer unused.built_in) run

@@ -10,11 +10,11 @@ use Rattle.codec_payload_runs.proofs.FillLemmas.{IsFilling, filled, full_row}
 use Rattle.codec_payload_runs.proofs.SafetyLemmas.{number_of_sent}
 use Rattle.codec_payload_runs.proofs.TurnLemmas.{Setting, ArePushes, count, IsPop, waits, releases, Chain, answers_of, or_cases}
 use Rattle.codec_payload_runs.proofs.UnitRows.{drop_next}
-use Rattle.codec_payload_codec.specs.Depack.{Depack}
+use Rattle.codec_payload_codec.specs.Depacketizers.{DepacketizerState}
 use Rattle.codec_payload_buffer.specs.Held.{Held, number_of, has_number}
 use Rattle.codec_payload_buffer.specs.Steps.{State, pushed, is_dropped, Pops}
 use Rattle.codec_payload_buffer.specs.Stretches.{after_pushes}
-use Rattle.codec_payload_buffer.specs.declared.buffer.frames.Segment.{Segment}
+use Rattle.codec_payload_buffer.specs.declared.buffer.frames.CompleteFrame.{CompleteFrame}
 use Rattle.codec_payload_runs.specs.Exact.{AnswersAll}
 use Rattle.codec_payload_runs.specs.Log.{Stretch, Turn, with_pushes, IsLogBy}
 use Rattle.codec_payload_send.specs.Packets.{AreNumbered}
@@ -38,9 +38,9 @@ PushesBefore n [] = Unit {0}
 PushesBefore n (turn ∷ turns) = has_number n turn.stretch.pushes ≡ true
 
 -- so has a step before the first pop that names it
-module _ (all_steps : List Step) (named : ℕ → ℕ → Depack → List Held) (at k n : ℕ) (pushes : slice_get all_steps at ≡ Some (steps.Push k))
+module _ (all_steps : List Step) (named : ℕ → ℕ → DepacketizerState → List Held) (at k n : ℕ) (pushes : slice_get all_steps at ≡ Some (steps.Push k))
     (before_pops : (other : ℕ) → other < at → slice_get all_steps other ≢ Some steps.Pop)
-    (has : (d : Depack) → has_number n (named at k d) ≡ true) where
+    (has : (d : DepacketizerState) → has_number n (named at k d) ≡ true) where
   pub pushed_before : (later : List Step) (place : ℕ) (w : Stretch) (turns : List Turn) (end : Stretch) → drop place all_steps ≡ later → IsLogBy named place later w turns end
       → (place ≤ at) ⊎ (has_number n w.pushes ≡ true) → PushesBefore n turns
   pushed_before [] place w [] end here log or = tt
@@ -60,7 +60,7 @@ module _ (all_steps : List Step) (named : ℕ → ℕ → Depack → List Held) 
       ])
   pushed_before (steps.Push j ∷ later) place w turns end here log or =
       let next = drop_next all_steps place (steps.Push j) later here in
-      let ps = named place j w.now.depack in
+      let ps = named place j w.now.depacketizer in
       pushed_before later (place + 1) (with_pushes w ps) turns end next.1 log (elim or [
         | inl le ↦ elim (cases_lt place at) [
           | inl lt ↦ inl (omega (arith, lt))
@@ -69,8 +69,8 @@ module _ (all_steps : List Step) (named : ℕ → ℕ → Depack → List Held) 
               let push : slice_get all_steps place ≡ Some (steps.Push k) = subst (λ (m : ℕ). slice_get all_steps m ≡ Some (steps.Push k)) same pushes in
               let send = next.0 in
               let index : k ≡ j = cc in
-              inr (has_more n w.pushes ps (inr (subst (λ (m : ℕ). has_number n (named m j w.now.depack) ≡ true) same
-                  (subst (λ (i : ℕ). has_number n (named at i w.now.depack) ≡ true) index (has w.now.depack)))))
+              inr (has_more n w.pushes ps (inr (subst (λ (m : ℕ). has_number n (named m j w.now.depacketizer) ≡ true) same
+                  (subst (λ (i : ℕ). has_number n (named at i w.now.depacketizer) ≡ true) index (has w.now.depacketizer)))))
         ]
         | inr h ↦ inr (has_more n w.pushes ps (inl h))
       ])
@@ -117,7 +117,7 @@ module _ (c : Setting) where
       }
 
   -- the row is full at the first pop
-  pub full_at_pop : (start s : State) → Filling start s → MayGo c.units start.depack start.contiguity → ((k : ℕ) → k < count c → has_number (c.first + k) s.held ≡ true) → Exactly 0 c.units s
+  pub full_at_pop : (start s : State) → Filling start s → MayGo c.units start.depacketizer start.contiguity → ((k : ℕ) → k < count c → has_number (c.first + k) s.held ≡ true) → Exactly 0 c.units s
   full_at_pop start s filling may there = record {
     row = full_row c.known c.clock_rate c.first c.kind c.faithful c.splits c.units c.lawful c.numbered start s filling there;
     rises = filling.beyond.rises;
@@ -127,7 +127,7 @@ module _ (c : Setting) where
     numbered = let z : c.first ≡ c.first + 0 = omega arith in subst (λ (n : ℕ). AreNumbered n (packets_of c.units)) z c.numbered;
     one_time = c.one_time;
     reads = filling.beyond.reads;
-    may_go = subst (MayGo c.units s.depack) (sym filling.contiguity) (subst (λ (d : Depack). MayGo c.units d start.contiguity) (sym filling.depack) may);
+    may_go = subst (MayGo c.units s.depacketizer) (sym filling.contiguity) (subst (λ (d : DepacketizerState). MayGo c.units d start.contiguity) (sym filling.depacketizer) may);
   }
 
   -- from then on each push is dropped
@@ -141,7 +141,7 @@ module _ (c : Setting) where
           (slice_get_within (packets_of c.units) i.0 i.1 i.2)) in
       rw drop (all_dropped k rest s ps sent.1 exactly)
 
-  is_pop : (s t : State) (over : List Segment) (a : Answer) → IsPop c s t over a → Pops s a t × (a ≢ Some (Err faults.OutOfMemory))
+  is_pop : (s t : State) (over : List CompleteFrame) (a : Answer) → IsPop c s t over a → Pops s a t × (a ≢ Some (Err faults.OutOfMemory))
   is_pop s t over None (waits passes nothing) = ((over, (passes, nothing)), λ e. cc)
   is_pop s t over (Some (Ok r)) (releases mid passes out) = ((over, (mid, passes, out)), λ e. cc)
   is_pop s t over (Some (Err fault)) pop = elim pop [ ]
@@ -155,7 +155,7 @@ module _ (c : Setting) where
       (subst (Exactly k rest) (sym here) exactly) pop.1 pop.0 (λ n left there. answers_on n left turn.after turns end there chain.3)
 
   -- all units, whole
-  pub answers_all : (start : State) (turns : List Turn) (end : Stretch) → Filling start start → MayGo c.units start.depack start.contiguity → Chain c start turns end
+  pub answers_all : (start : State) (turns : List Turn) (end : Stretch) → Filling start start → MayGo c.units start.depacketizer start.contiguity → Chain c start turns end
       → ((k : ℕ) → k < count c → PushesBefore (c.first + k) turns) → AnswersAll c.known 0 c.units (answers_of turns)
   answers_all start [] end filling may chain before = tt
   answers_all start (turn ∷ turns) end filling may chain before =

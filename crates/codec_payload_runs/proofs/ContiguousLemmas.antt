@@ -19,7 +19,7 @@ use Rattle.codec_payload_runs.specs.RunOrder.{numbers_in, first_number, last_num
 use Rattle.codec_payload_runs.specs.Schedule.{Answer}
 use Rattle.codec_payload_buffer.specs.Steps.{State, Releases, due_of, follows, starts_right_after, is_at_most, metas_of}
 use Rattle.codec_payload_buffer.specs.Stretches.{counts, stretch_numbers, last_or, is_some_of, left_out, kept, IsLeft}
-use Rattle.codec_payload_buffer.specs.declared.buffer.frames.Segment.{Segment}
+use Rattle.codec_payload_buffer.specs.declared.buffer.frames.CompleteFrame.{CompleteFrame}
 
 iff_of : (b : Bool) (P : Type 0) → (b ≡ true → P) → (P → b ≡ true) → IsTrue b ↔ P
 iff_of b P to from = (to, from)
@@ -52,11 +52,11 @@ OverCutoff (Some n) ns = Over n ns
 abbrev IsPast : ℕ → Option ℕ → Type 0
 IsPast n cutoff = (m : ℕ) × (cutoff ≡ Some m) × (n < m)
 
--- where the latest released unit ended, and whether packets were evicted by now: with the mark clear the cutoff is that
--- number, with the mark set a packet above it was evicted
+-- where the latest released unit ended, and whether packets were evicted by now: with none evicted the cutoff is that
+-- number, with one evicted a packet above it was evicted
 abbrev pub IsTracked : Option ℕ → Bool → State → Type 0
-IsTracked None evicted s = (s.mark ≡ evicted) × (s.mark ≡ false → s.cutoff ≡ None)
-IsTracked (Some n) evicted s = (s.mark ≡ false → s.cutoff ≡ Some n) × (s.mark ≡ true → IsPast n s.cutoff)
+IsTracked None evicted s = (s.evicted ≡ evicted) × (s.evicted ≡ false → s.cutoff ≡ None)
+IsTracked (Some n) evicted s = (s.evicted ≡ false → s.cutoff ≡ Some n) × (s.evicted ≡ true → IsPast n s.cutoff)
 
 last_least : (q : ℕ) (low : List ℕ) → Rise (q ∷ low) → (m : ℕ) × (last_or low (Some q) ≡ Some m) × (q ≤ m)
 last_least q [] r = (q, refl, omega arith)
@@ -75,20 +75,20 @@ clash h = cc
 
 -- the lowest packets are left out
 tracked_out : (last : Option ℕ) (evicted : Bool) (s t : State) (low high : List ℕ) → Rise (low ++ high) → OverCutoff s.cutoff (low ++ high)
-    → t.cutoff ≡ last_or low s.cutoff → t.mark ≡ (is_some_of low || s.mark) → IsTracked last evicted s → IsTracked last (is_some_of low || evicted) t
+    → t.cutoff ≡ last_or low s.cutoff → t.evicted ≡ (is_some_of low || s.evicted) → IsTracked last evicted s → IsTracked last (is_some_of low || evicted) t
 tracked_out None evicted s t [] high r a cutoff mark known = (mark ∙ known.0, λ clear. cutoff ∙ known.1 (sym mark ∙ clear))
 tracked_out (Some n) evicted s t [] high r a cutoff mark known = (λ clear. cutoff ∙ known.0 (sym mark ∙ clear), λ set. let b = known.1 (sym mark ∙ set) in (b.0, cutoff ∙ b.1, b.2))
 tracked_out None evicted s t (q ∷ low) high r a cutoff mark known = (mark, λ clear. absurd (clash (sym mark ∙ clear)))
 tracked_out (Some n) evicted s t (q ∷ low) high r a cutoff mark known =
     let m = last_least q low (rise_front (q ∷ low) high r) in
-    let over = above_first n s.cutoff q (low ++ high) (known_of n s.mark s.cutoff known.0 known.1) a in
+    let over = above_first n s.cutoff q (low ++ high) (known_of n s.evicted s.cutoff known.0 known.1) a in
     (λ clear. absurd (clash (sym mark ∙ clear)), λ set. (m.0, cutoff ∙ m.1, omega (arith, over, m.2)))
 
 tracked_left : (last : Option ℕ) (evicted : Bool) (s t : State) (ns : List ℕ) → Rise ns → OverCutoff s.cutoff ns → IsLeft s ns t → IsTracked last evicted s
     → IsTracked last (is_some_of (left_out s ns) || evicted) t
 tracked_left last evicted s t ns r a left known =
     let whole = take-append-drop (length ns - s.limit) ns in
-    tracked_out last evicted s t (left_out s ns) (kept s ns) (subst Rise (sym whole) r) (subst (OverCutoff s.cutoff) (sym whole) a) left.cutoff left.mark known
+    tracked_out last evicted s t (left_out s ns) (kept s ns) (subst Rise (sym whole) r) (subst (OverCutoff s.cutoff) (sym whole) a) left.cutoff left.evicted known
 
 -- what counts in a stretch lies above the cutoff
 above_held : (n c : ℕ) (hs : List Held) → AllAbove c hs → has_number n hs ≡ true → c < n
@@ -129,13 +129,13 @@ higher_of (Some d) before packets after first last n time run a e = let same : d
     (arith, same, first_above d packets after first last time run (above_all d before (packets ++ after) a))
 
 -- the frame that is due lies above the cutoff
-pub due_higher : (s : State) (f : Segment) → IsAboveCutoff s.cutoff s.held → due_of s ≡ Some f → (n : ℕ) → s.cutoff ≡ Some n → n < f.first
+pub due_higher : (s : State) (f : CompleteFrame) → IsAboveCutoff s.cutoff s.held → due_of s ≡ Some f → (n : ℕ) → s.cutoff ≡ Some n → n < f.first
 due_higher s f beyond due n e =
     let found = part_due s f due in
     let part = found.2 in
     higher_of s.cutoff part.before found.0 found.1 f.first f.last n part.time part.run (subst (IsAboveCutoff s.cutoff) part.whole beyond) e
 
-pub record HasNumbers (s : State) (f : Segment) (r : Release) : Type 0 where
+pub record HasNumbers (s : State) (f : CompleteFrame) (r : Release) : Type 0 where
   pub first : first_number r.metas ≡ f.first
   pub last : last_number 0 r.metas ≡ f.last
   pub higher : (n : ℕ) → s.cutoff ≡ Some n → n < f.first
@@ -173,17 +173,17 @@ follows_next cutoff false n first clear set higher = rw (clear refl) (iff_of _ _
 
 follows_of : (last : Option ℕ) (evicted : Bool) (s t : State) (r : Release) → Rises s.held → IsAboveCutoff s.cutoff s.held → IsTracked last evicted s
     → (out : Releases s r t) → r.contiguous ≡ follows s out.frame → FollowsAsSaid last evicted (Some (Ok r))
-follows_of None evicted s t r rises beyond known out same = rw same (follows_first s.cutoff s.mark evicted out.frame.first known.0 known.1)
+follows_of None evicted s t r rises beyond known out same = rw same (follows_first s.cutoff s.evicted evicted out.frame.first known.0 known.1)
 follows_of (Some n) evicted s t r rises beyond known out same =
     let numbers = numbers_of s t r rises beyond out in
-    rw (same, numbers.first) (follows_next s.cutoff s.mark n out.frame.first known.0 known.1 numbers.higher)
+    rw (same, numbers.first) (follows_next s.cutoff s.evicted n out.frame.first known.0 known.1 numbers.higher)
 
 tracked_released : (last : Option ℕ) (evicted : Bool) (s t : State) (r : Release) → Rises s.held → IsAboveCutoff s.cutoff s.held → Releases s r t
     → IsTracked (last_released last (Some (Ok r))) evicted t
 tracked_released last evicted s t r rises beyond out =
     let numbers = numbers_of s t r rises beyond out in
     let cutoff : t.cutoff ≡ Some out.frame.last = ap (λ (x : State). x.cutoff) out.left in
-    let clear : t.mark ≡ false = ap (λ (x : State). x.mark) out.left in
+    let clear : t.evicted ≡ false = ap (λ (x : State). x.evicted) out.left in
     (λ h. cutoff ∙ ap Some (sym numbers.last), λ set. absurd (cc))
 
 module _ (c : Setting) where
@@ -193,12 +193,12 @@ module _ (c : Setting) where
       tracked_left last evicted w.left w.now (numbers_in c.first (count c) w) (range_rises (counts w.left w.pushes) c.first (count c))
       (over_cutoff w.left w.pushes c.first (count c) ready.beyond.beyond w.left.cutoff refl) (span_left c from w ready is) known
 
-  at_pop : (from : ℕ) (last : Option ℕ) (evicted : Bool) (s t : State) (over : List Segment) (a : Answer) → IsPlain c → Beyond c from s → IsTracked last evicted s → IsPop c s t over a
+  at_pop : (from : ℕ) (last : Option ℕ) (evicted : Bool) (s t : State) (over : List CompleteFrame) (a : Answer) → IsPlain c → Beyond c from s → IsTracked last evicted s → IsPop c s t over a
       → FollowsAsSaid last evicted a × IsTracked (last_released last a) evicted t
   at_pop from last evicted s t over None plain beyond known (waits passes nothing) = (tt, subst (IsTracked last evicted) (sym (stays_plain c from s t over beyond plain passes).0) known)
   at_pop from last evicted s t over (Some (Ok r)) plain beyond known (releases mid passes out) =
       let here : Releases s r t = subst (λ (x : State). Releases x r t) (stays_plain c from s mid over beyond plain passes).0 out in
-      let same = here.contiguous ∙ follows_plainly c from s here.frame beyond here.is_due plain _ here.depack here.gives (follows s here.frame) in
+      let same = here.contiguous ∙ follows_plainly c from s here.frame beyond here.is_due plain _ here.depacketizer here.gives (follows s here.frame) in
       (follows_of last evicted s t r beyond.rises beyond.beyond known here same, tracked_released last evicted s t r beyond.rises beyond.beyond here)
   at_pop from last evicted s t over (Some (Err fault)) plain beyond known pop = elim pop [ ]
 

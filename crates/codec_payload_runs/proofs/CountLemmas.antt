@@ -2,7 +2,7 @@
 use Rattle.std.proofs.Common.{◌≡◌, ◌∙◌, sym, ap, refl, ℕ, ◌+◌, List, [], ◌∷◌, ◌++◌, append_assoc, length, length-append, arith, Option, Some, None}
 use Rattle.std.proofs.lemmas.List.{append-nil}
 use Rattle.std.specs.Prelude.{MatchOption, slice_get}
-use Rattle.codec_payload_codec.specs.Pack.{is_built_in}
+use Rattle.codec_payload_codec.specs.Packetizers.{is_built_in}
 use Rattle.codec_payload_runs.proofs.ScheduleLemmas.{length-packets_for}
 use Rattle.codec_payload_send.proofs.SendLemmas.{as_many}
 use Rattle.codec_payload_send.specs.Packets.{Packet}
@@ -21,8 +21,8 @@ counted_append (x ∷ xs) ys = omega (arith, counted_append xs ys)
 -- the entry of a sample counts the packets that the sink gained
 entry_counts : (place mtu : ℕ) (sample : Sample) (s : RunState) (entry : Sent) (t : RunState) (sent : SendsIt place mtu sample s entry t) → length sent.packets ≡ entry.count
 entry_counts place mtu sample s entry t sent =
-    as_many (is_built_in sent.pack) sent.packets _ sent.are
-    ∙ length-packets_for sent.pack sample (rtp_time_at s.payloading.clock_rate sample.rtp_time) (s.sink.first + length s.sink.packets) (payloads_of sent.answer)
+    as_many (is_built_in sent.packetizer) sent.packets _ sent.are
+    ∙ length-packets_for sent.packetizer sample (rtp_time_at s.payloading.clock_rate sample.rtp_time) (s.sink.first + length s.sink.packets) (payloads_of sent.answer)
     ∙ sym (ap (λ (e : Sent). e.count) sent.entry_is)
 
 -- one step

@@ -3,11 +3,11 @@ use Rattle.std.proofs.Common.{◌≡◌, ◌≢◌, ◌∙◌, sym, ap, subst, �
 use Rattle.std.specs.Prelude.{slice_get}
 use Rattle.codec_payload_base.specs.declared.error.PacketError.TheVariants as faults
 use Rattle.codec_payload_codec.proofs.CaseLemmas.{by_test}
-use Rattle.codec_payload_codec.specs.Depack.{Depack}
+use Rattle.codec_payload_codec.specs.Depacketizers.{DepacketizerState}
 use Rattle.codec_payload_buffer.specs.Held.{Held, number_of, placed, between, above}
 use Rattle.codec_payload_buffer.specs.Steps.{State, arrived, is_dropped, kept_to_limit, without_lowest, pushed, metas_of, packets_of_frame, Passes, none, one_more, PopsOver}
 use Rattle.codec_payload_buffer.specs.Stretches.{after_pushes}
-use Rattle.codec_payload_buffer.specs.declared.buffer.frames.Segment.{Segment}
+use Rattle.codec_payload_buffer.specs.declared.buffer.frames.CompleteFrame.{CompleteFrame}
 use Rattle.codec_payload_runs.proofs.BuiltInRuns.{Pushing, Runs, after_push, plainly}
 use Rattle.codec_payload_runs.proofs.RedRuns.{wrapped_by}
 use Rattle.codec_payload_runs.proofs.SafetyLemmas.{send_keeps}
@@ -73,12 +73,12 @@ earlier_pushes place s [] new all = all
 earlier_pushes place s (p ∷ ps) new all = earlier_pushes place (pushed s p) ps new.1 (earlier_pushed place s p new.0 all)
 
 -- a pop
-earlier_passes : (place : ℕ) (s t : State) (over : List Segment) → AllEarlier place s.held → Passes s over t → AllEarlier place t.held
+earlier_passes : (place : ℕ) (s t : State) (over : List CompleteFrame) → AllEarlier place s.held → Passes s over t → AllEarlier place t.held
 earlier_passes place s t over all none = all
 earlier_passes place s u over all (one_more {t = t} passes p) =
     subst (λ (x : State). AllEarlier place x.held) (sym p.left) (earlier_above place p.frame.last t.held (earlier_passes place s t _ all passes))
 
-earlier_pop : (place : ℕ) (s t : State) (over : List Segment) (a : Answer) → a ≢ Some (Err faults.OutOfMemory) → PopsOver s over a t → AllEarlier place s.held
+earlier_pop : (place : ℕ) (s t : State) (over : List CompleteFrame) (a : Answer) → a ≢ Some (Err faults.OutOfMemory) → PopsOver s over a t → AllEarlier place s.held
     → IsOfEarlier place a × AllEarlier place t.held
 earlier_pop place s t over None found pop all = (tt, earlier_passes place s t over all pop.0)
 earlier_pop place s t over (Some (Ok r)) found pop all =
@@ -125,24 +125,24 @@ plain_one : (place clock_rate : ℕ) (o : Option Packet) (s : State) → AllEarl
 plain_one place clock_rate None s all = next_earlier place s.held all
 plain_one place clock_rate (Some p) s all =
     let l : place < place + 1 = omega arith in
-    earlier_pushed (place + 1) s (arrived s.depack (meta_of_push place clock_rate p) p.payload) l (next_earlier place s.held all)
+    earlier_pushed (place + 1) s (arrived s.depacketizer (meta_of_push place clock_rate p) p.payload) l (next_earlier place s.held all)
 
 pub plain_earlier : PushesEarlier plainly
 plain_earlier place k s all = plain_one place s.payloading.clock_rate (slice_get s.sink.packets k) s.buffer all
 
 -- what is recovered from a packet
-recovered_earlier : (place clock_rate pt : ℕ) (carrier : Packet) (d : Depack) (xs : List RecoveredPacket)
+recovered_earlier : (place clock_rate pt : ℕ) (carrier : Packet) (d : DepacketizerState) (xs : List RecoveredPacket)
     → AllEarlier (place + 1) (map (λ (x : RecoveredPacket). arrived d (meta_of_recovered place clock_rate pt carrier x) x.bytes) xs)
 recovered_earlier place clock_rate pt carrier d [] = tt
 recovered_earlier place clock_rate pt carrier d (x ∷ xs) =
     let l : place < place + 1 = omega arith in
     (l, recovered_earlier place clock_rate pt carrier d xs)
 
-red_one : (place clock_rate : ℕ) (receiver : Receiver) (o : Option Packet) (d : Depack) → AllEarlier (place + 1) (recovered_held place clock_rate receiver o d)
+red_one : (place clock_rate : ℕ) (receiver : Receiver) (o : Option Packet) (d : DepacketizerState) → AllEarlier (place + 1) (recovered_held place clock_rate receiver o d)
 red_one place clock_rate receiver None d = tt
 red_one place clock_rate receiver (Some p) d = recovered_earlier place clock_rate receiver.primary_pt p d (recovered_in receiver p)
 
 pub red_earlier : (w : Protection) (red : Sender) → PushesEarlier (wrapped_by w red)
 red_earlier w red place k s all =
-    earlier_pushes (place + 1) s.buffer (recovered_held place s.payloading.clock_rate w.receiver (slice_get (all_in_red red w.budget s.sink.packets) k) s.buffer.depack)
-    (red_one place s.payloading.clock_rate w.receiver (slice_get (all_in_red red w.budget s.sink.packets) k) s.buffer.depack) (next_earlier place s.buffer.held all)
+    earlier_pushes (place + 1) s.buffer (recovered_held place s.payloading.clock_rate w.receiver (slice_get (all_in_red red w.budget s.sink.packets) k) s.buffer.depacketizer)
+    (red_one place s.payloading.clock_rate w.receiver (slice_get (all_in_red red w.budget s.sink.packets) k) s.buffer.depacketizer) (next_earlier place s.buffer.held all)

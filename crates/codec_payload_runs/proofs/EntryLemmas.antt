@@ -20,8 +20,8 @@ pub record IsEntryOf (place : ℕ) (s mid : RunState) (entry : Sent) : Type 0 wh
 pub entry_of : (place mtu : ℕ) (sample : Sample) (s mid : RunState) (entry : Sent) → SendsIt place mtu sample s entry mid → IsEntryOf place s mid entry
 entry_of place mtu sample s mid entry sent =
     let payloads = payloads_of sent.answer in
-    let packets = packets_sent s sent.pack sample payloads in
-    let many : length packets ≡ length payloads = length-packets_for sent.pack sample (rtp_time_at s.payloading.clock_rate sample.rtp_time) (s.sink.first + length s.sink.packets) payloads in
+    let packets = packets_sent s sent.packetizer sample payloads in
+    let many : length packets ≡ length payloads = length-packets_for sent.packetizer sample (rtp_time_at s.payloading.clock_rate sample.rtp_time) (s.sink.first + length s.sink.packets) payloads in
     let grown : length mid.sink.packets ≡ length s.sink.packets + length packets = ap (λ (x : RunState). length x.sink.packets) sent.left ∙ length-append s.sink.packets packets in
     record {
       at = ap (λ (x : Sent). x.step) sent.entry_is;

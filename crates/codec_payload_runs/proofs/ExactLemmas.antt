@@ -17,12 +17,12 @@ use Rattle.codec_payload_runs.proofs.SendsUnits.{CarryIds}
 use Rattle.codec_payload_runs.proofs.UnitRows.{IsFaithful, Exact, exact_payloads, exact_metas}
 use Rattle.codec_payload_runs.proofs.UnitTimes.{AllOneTime}
 use Rattle.codec_payload_buffer.specs.ContiguityTable.{checked, contiguity_for}
-use Rattle.codec_payload_codec.specs.Depack.{Depack, DepackKind, Vp9Payloads, kind_of_depack}
+use Rattle.codec_payload_codec.specs.Depacketizers.{DepacketizerState, DepacketizerKind, Vp9Payloads, kind_of_depacketizer}
 use Rattle.codec_payload_runs.specs.Exact.{IsWhole, AnswersAll}
 use Rattle.codec_payload_buffer.specs.Frames.{frames}
 use Rattle.codec_payload_runs.specs.Headline.{ArePushesBy}
 use Rattle.codec_payload_buffer.specs.Held.{Held, Rises, has_number, between, above}
-use Rattle.codec_payload_codec.specs.Pack.{Pack, Vp9Pack}
+use Rattle.codec_payload_codec.specs.Packetizers.{PacketizerState, Vp9Packetizing}
 use Rattle.codec_payload_send.specs.Packets.{Packet, AreNumbered}
 use Rattle.codec_payload_base.specs.declared.interface.Vp9PacketizerMode.{Vp9PacketizerMode}
 use Rattle.codec_payload_base.specs.declared.interface.Vp9PacketizerMode.TheVariants.{Flexible, NonFlexible}
@@ -32,22 +32,22 @@ use Rattle.codec_payload_runs.specs.Schedule.{Answer}
 use Rattle.codec_payload_runs.specs.LawfulUnits.{payloads_held, payloads_sent, AllLawful}
 use Rattle.codec_payload_runs.specs.SentStream.{SentUnit, packets_of, EndsWithTail, IsReleaseOf}
 use Rattle.codec_payload_buffer.specs.Steps.{State, is_dropped, is_at_most, due_of, due_among, follows, metas_of, packets_of_frame, Unpacked, Unpacks, nothing_unpacked, Gives, Pops, PassesOver, Refuses}
-use Rattle.codec_payload_buffer.specs.declared.buffer.frames.Segment.{Segment}
+use Rattle.codec_payload_buffer.specs.declared.buffer.frames.CompleteFrame.{CompleteFrame}
 use Rattle.codec_payload_buffer.specs.declared.buffer.unit.RtpMeta.{RtpMeta}
 use Rattle.codec_payload_buffer.specs.declared.contiguity.Contiguity.{Contiguity}
 use Rattle.codec_payload_runs.specs.Units.{payloads_by}
 
 -- taken whole and in order from there, each unit may go out
-abbrev pub MayGo : List SentUnit → Depack → Contiguity → Type 0
+abbrev pub MayGo : List SentUnit → DepacketizerState → Contiguity → Type 0
 MayGo [] d c = Unit {0}
 MayGo (u ∷ us) d c =
-    (ps : List Held) → payloads_held ps ≡ payloads_sent u.packets → (unpacked : Unpacked) (e : Depack) → Unpacks d ps nothing_unpacked (Ok unpacked) e
+    (ps : List Held) → payloads_held ps ≡ payloads_sent u.packets → (unpacked : Unpacked) (e : DepacketizerState) → Unpacks d ps nothing_unpacked (Ok unpacked) e
     → (seq : Bool) → ((checked c unpacked.extra seq).0 ≡ true) × MayGo us e (checked c unpacked.extra seq).2
 
 -- by the law of contiguity: all units from place n on, after the one before them
-pub may_go_all : (kind : DepackKind) (splits : Bool) (first : Option ℕ) (n : ℕ) (units : List SentUnit) (d : Depack) (c : Contiguity) → AllLawful kind splits units
+pub may_go_all : (kind : DepacketizerKind) (splits : Bool) (first : Option ℕ) (n : ℕ) (units : List SentUnit) (d : DepacketizerState) (c : Contiguity) → AllLawful kind splits units
     → CarryIds first n units → n + length units < 2 ^ 63
-    → kind_of_depack d ≡ kind → Follows first n (read_by d) c → MayGo units d c
+    → kind_of_depacketizer d ≡ kind → Follows first n (read_by d) c → MayGo units d c
 may_go_all kind splits first n [] d c lawful carry few reads here = tt
 may_go_all kind splits first n (u ∷ us) d c lawful carry few reads here = λ ps same unpacked e gives seq.
     let law = lawful.0 in
@@ -62,12 +62,12 @@ begins_in NonFlexible id read c none kept = (none, kept)
 begins_in Flexible id read c none kept = tt
 
 -- an unused buffer stands before the first unit
-pub begins : (pack : Pack) (read : Option ReadId) (c : Contiguity) → read ≡ None → c ≡ contiguity_for (payloads_by pack) → Follows (next_id pack) 0 read c
-begins (Vp9Pack sender) read c none kept = begins_in sender.mode sender.picture_id read c none kept
-begins pack read c none kept = tt
+pub begins : (packetizer : PacketizerState) (read : Option ReadId) (c : Contiguity) → read ≡ None → c ≡ contiguity_for (payloads_by packetizer) → Follows (next_id packetizer) 0 read c
+begins (Vp9Packetizing sender) read c none kept = begins_in sender.mode sender.picture_id read c none kept
+begins packetizer read c none kept = tt
 
 -- each unit has a packet
-pub no_more_units : (kind : DepackKind) (splits : Bool) (units : List SentUnit) → AllLawful kind splits units → length units ≤ length (packets_of units)
+pub no_more_units : (kind : DepacketizerKind) (splits : Bool) (units : List SentUnit) → AllLawful kind splits units → length units ≤ length (packets_of units)
 no_more_units kind splits [] lawful = omega arith
 no_more_units kind splits (u ∷ us) lawful = omega (arith, no_more_units kind splits us lawful.1, length-append u.packets (packets_of us), has_packet u.packets lawful.0.ends)
   where
@@ -83,7 +83,7 @@ or_true : (b : Bool) → (b || true) ≡ true
 or_true true = refl
 or_true false = refl
 
-module _ (known : ℕ → Packet → RtpMeta → Type 0) (clock_rate first : ℕ) (kind : DepackKind) (faithful : IsFaithful known clock_rate kind) (splits : Bool) (all : List SentUnit) where
+module _ (known : ℕ → Packet → RtpMeta → Type 0) (clock_rate first : ℕ) (kind : DepacketizerKind) (faithful : IsFaithful known clock_rate kind) (splits : Bool) (all : List SentUnit) where
   -- what holds from the first pop on: exactly the packets of `rest` are held, which have the indices from k on
   pub record IsExactly (k : ℕ) (rest : List SentUnit) (s : State) : Type 0 where
     pub row : Exact known clock_rate kind faithful k (packets_of rest) s.held
@@ -93,8 +93,8 @@ module _ (known : ℕ → Packet → RtpMeta → Type 0) (clock_rate first : ℕ
     pub lawful : AllLawful kind splits rest
     pub numbered : AreNumbered (first + k) (packets_of rest)
     pub one_time : AllOneTime rest
-    pub reads : kind_of_depack s.depack ≡ kind
-    pub may_go : MayGo rest s.depack s.contiguity
+    pub reads : kind_of_depacketizer s.depacketizer ≡ kind
+    pub may_go : MayGo rest s.depacketizer s.contiguity
 
   below_cutoff : (cutoff : Option ℕ) (n k : ℕ) → next_after first cutoff ≡ first + k → n < k → is_at_most cutoff (first + n) ≡ true
   below_cutoff None n k e l = absurd (omega (arith, e, l))
@@ -134,7 +134,7 @@ module _ (known : ℕ → Packet → RtpMeta → Type 0) (clock_rate first : ℕ
       none_due : due_of s ≡ None
       none_due = ap (λ (hs : List Held). due_among s (frames hs)) (nothing_held k s.held exactly.row)
 
-      not_due : (f : Segment) (r : State) → r ≡ s → due_of r ≡ Some f → ⊥
+      not_due : (f : CompleteFrame) (r : State) → r ≡ s → due_of r ≡ Some f → ⊥
       not_due f r same due = let here : due_of s ≡ Some f = subst (λ (x : State). due_of x ≡ Some f) same due in cc (none_due)
 
       never : (r : State) → PassesOver s r → ⊥
@@ -150,7 +150,7 @@ module _ (known : ℕ → Packet → RtpMeta → Type 0) (clock_rate first : ℕ
 
   -- the next unit stands first in the row
   pub record IsFront (k : ℕ) (u : SentUnit) (us : List SentUnit) (s : State) : Type 0 where
-    pub frame : Segment
+    pub frame : CompleteFrame
     pub is_due : due_of s ≡ Some frame
     pub end : frame.last + 1 ≡ first + k + length u.packets
     pub packets : List Held
@@ -199,10 +199,10 @@ module _ (known : ℕ → Packet → RtpMeta → Type 0) (clock_rate first : ℕ
       let r = out.0 in
       let releases = out.2 in
       let unpacked : Unpacked = record { bytes = r.bytes; extra = r.codec_extra } in
-      let gives = gives_unit releases.frame releases.is_due (Ok unpacked) releases.depack releases.gives in
-      let answer = given (Ok unpacked) releases.depack gives in
+      let gives = gives_unit releases.frame releases.is_due (Ok unpacked) releases.depacketizer releases.gives in
+      let answer = given (Ok unpacked) releases.depacketizer gives in
       let same = same_frame releases.frame releases.is_due in
-      let end : releases.frame.last ≡ unit.frame.last = ap (λ (x : Segment). x.last) same in
+      let end : releases.frame.last ≡ unit.frame.last = ap (λ (x : CompleteFrame). x.last) same in
       let after : above releases.frame.last s.held ≡ unit.after = ap (λ (n : ℕ). above n s.held) end ∙ unit.left in
       let number : first + k + length u.packets ≡ first + (k + length u.packets) = omega arith in
       record {
@@ -222,7 +222,7 @@ module _ (known : ℕ → Packet → RtpMeta → Type 0) (clock_rate first : ℕ
           numbered = subst (λ (n : ℕ). AreNumbered n (packets_of us)) number (numbered_back (first + k) u.packets (packets_of us) exactly.numbered);
           one_time = exactly.one_time.1;
           reads = answer.0;
-          may_go = (exactly.may_go unit.packets same_payloads unpacked releases.depack gives (follows s releases.frame)).1;
+          may_go = (exactly.may_go unit.packets same_payloads unpacked releases.depacketizer gives (follows s releases.frame)).1;
         });
       }
     where
@@ -232,28 +232,30 @@ module _ (known : ℕ → Packet → RtpMeta → Type 0) (clock_rate first : ℕ
       same_payloads : payloads_held unit.packets ≡ payloads_sent u.packets
       same_payloads = exact_payloads known clock_rate kind faithful k u.packets unit.packets unit.of_unit
 
-      same_frame : (f : Segment) → due_of s ≡ Some f → f ≡ unit.frame
+      same_frame : (f : CompleteFrame) → due_of s ≡ Some f → f ≡ unit.frame
       same_frame f due = let is = unit.is_due in cc
 
-      taken : (f : Segment) → due_of s ≡ Some f → packets_of_frame s f ≡ unit.packets
-      taken f due = ap (λ (x : Segment). packets_of_frame s x) (same_frame f due) ∙ unit.taken
+      taken : (f : CompleteFrame) → due_of s ≡ Some f → packets_of_frame s f ≡ unit.packets
+      taken f due = ap (λ (x : CompleteFrame). packets_of_frame s x) (same_frame f due) ∙ unit.taken
 
-      gives_unit : (f : Segment) → due_of s ≡ Some f → (answer : Result Unpacked PacketError) (e : Depack) → Gives s f answer e → Unpacks s.depack unit.packets nothing_unpacked answer e
-      gives_unit f due answer e gives = subst (λ (ps : List Held). Unpacks s.depack ps nothing_unpacked answer e) (taken f due) gives
+      gives_unit : (f : CompleteFrame) → due_of s ≡ Some f → (answer : Result Unpacked PacketError) (e : DepacketizerState) → Gives s f answer e
+          → Unpacks s.depacketizer unit.packets nothing_unpacked answer e
+      gives_unit f due answer e gives = subst (λ (ps : List Held). Unpacks s.depacketizer ps nothing_unpacked answer e) (taken f due) gives
 
-      given : (answer : Result Unpacked PacketError) (e : Depack) → Unpacks s.depack unit.packets nothing_unpacked answer e
-          → (kind_of_depack e ≡ kind) × MatchResult answer (λ unpacked. IsReleaseOf splits u [] unpacked.bytes) (λ fault. fault ≡ faults.OutOfMemory)
-      given answer e gives = exactly.lawful.0.gives [] u.packets refl exactly.lawful.0.starts unit.packets same_payloads s.depack answer e exactly.reads gives
+      given : (answer : Result Unpacked PacketError) (e : DepacketizerState) → Unpacks s.depacketizer unit.packets nothing_unpacked answer e
+          → (kind_of_depacketizer e ≡ kind) × MatchResult answer (λ unpacked. IsReleaseOf splits u [] unpacked.bytes) (λ fault. fault ≡ faults.OutOfMemory)
+      given answer e gives = exactly.lawful.0.gives [] u.packets refl exactly.lawful.0.starts unit.packets same_payloads s.depacketizer answer e exactly.reads gives
 
       never : (r : State) → PassesOver s r → ⊥
       never r over =
-          let may = exactly.may_go unit.packets same_payloads over.unpacked over.depack (gives_unit over.frame over.is_due (Ok over.unpacked) over.depack over.gives) (follows s over.frame) in
+          let may = exactly.may_go unit.packets same_payloads over.unpacked over.depacketizer
+              (gives_unit over.frame over.is_due (Ok over.unpacked) over.depacketizer over.gives) (follows s over.frame) in
           let yes : (checked s.contiguity over.unpacked.extra (follows s over.frame)).0 ≡ true = may.0 in
           let wrong : true ≡ false = sym yes ∙ over.may_not in
           cc
 
       sound : (fault : PacketError) (r : State) → Refuses s fault r → ⊥
-      sound fault r refusal = refusal.not_memory (given (Err fault) refusal.depack (gives_unit refusal.frame refusal.is_due (Err fault) refusal.depack refusal.gives)).1
+      sound fault r refusal = refusal.not_memory (given (Err fault) refusal.depacketizer (gives_unit refusal.frame refusal.is_due (Err fault) refusal.depacketizer refusal.gives)).1
 
   -- what a pop answers, and what the later ones do
   pub pop_answers : (k : ℕ) (rest : List SentUnit) (s t : State) (a : Answer) (answers : List Answer) → IsExactly k rest s → a ≢ Some (Err faults.OutOfMemory) → Pops s a t

@@ -10,7 +10,7 @@ use Rattle.codec_payload_buffer.proofs.PlaceLemmas.{above_lower, not_below}
 use Rattle.codec_payload_runs.proofs.SafetyLemmas.{IsSent, AllSent, IsBeyond, number_of_sent, beyond_placed}
 use Rattle.codec_payload_buffer.proofs.StretchLemmas.{has_placed}
 use Rattle.codec_payload_runs.proofs.UnitRows.{IsFaithful, held_as, drop_next, Exact}
-use Rattle.codec_payload_codec.specs.Depack.{DepackKind}
+use Rattle.codec_payload_codec.specs.Depacketizers.{DepacketizerKind}
 use Rattle.codec_payload_buffer.specs.Held.{Held, Rises, AllAbove, placed, has_number}
 use Rattle.codec_payload_send.specs.Packets.{Packet, AreNumbered}
 use Rattle.codec_payload_runs.specs.LawfulUnits.{AllLawful}
@@ -49,7 +49,7 @@ dropped_has : (cutoff : Option ℕ) (n : ℕ) (b : Bool) → cutoff ≡ None →
 dropped_has None n b none h = h
 dropped_has (Some c) n b none h = absurd (cc)
 
-module _ (known : ℕ → Packet → RtpMeta → Type 0) (clock_rate first : ℕ) (kind : DepackKind) (faithful : IsFaithful known clock_rate kind) (splits : Bool)
+module _ (known : ℕ → Packet → RtpMeta → Type 0) (clock_rate first : ℕ) (kind : DepacketizerKind) (faithful : IsFaithful known clock_rate kind) (splits : Bool)
     (all : List SentUnit) (lawful : AllLawful kind splits all) (numbered : AreNumbered first (packets_of all)) where
   abbrev IsPush : Held → Type 0
   IsPush = IsSent known clock_rate first kind faithful splits all lawful numbered
@@ -110,7 +110,7 @@ module _ (known : ℕ → Packet → RtpMeta → Type 0) (clock_rate first : ℕ
     pub beyond : IsBeyond known clock_rate first kind faithful splits all lawful numbered 0 s
     pub no_cutoff : s.cutoff ≡ None
     pub room : length (packets_of all) ≤ s.limit
-    pub depack : s.depack ≡ start.depack
+    pub depacketizer : s.depacketizer ≡ start.depacketizer
     pub contiguity : s.contiguity ≡ start.contiguity
 
   -- a push while it is filled
@@ -131,7 +131,7 @@ module _ (known : ℕ → Packet → RtpMeta → Type 0) (clock_rate first : ℕ
       let few = few_sent first t.held (from_sent t.held beyond.sent) beyond.rises beyond.sent in
       let fits : ltb s.limit (length (placed p s.held)) ≡ false = grind (arith, nat_tests, few, filling.room) in
       rw fits (record {
-        filling = record { beyond = beyond; no_cutoff = filling.no_cutoff; room = filling.room; depack = filling.depack; contiguity = filling.contiguity };
+        filling = record { beyond = beyond; no_cutoff = filling.no_cutoff; room = filling.room; depacketizer = filling.depacketizer; contiguity = filling.contiguity };
         has = has_here p s.held;
         still = λ m h. has_still m p s.held h;
       }))

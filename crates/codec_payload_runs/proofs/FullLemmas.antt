@@ -9,7 +9,7 @@ use Rattle.codec_payload_buffer.proofs.FrontLemmas.{due_front}
 use Rattle.codec_payload_runs.proofs.SafetyLemmas.{next_after}
 use Rattle.codec_payload_runs.proofs.UnitRows.{IsFaithful, Exact, tail_is}
 use Rattle.codec_payload_runs.proofs.UnitTimes.{HasTime}
-use Rattle.codec_payload_codec.specs.Depack.{DepackKind}
+use Rattle.codec_payload_codec.specs.Depacketizers.{DepacketizerKind}
 use Rattle.codec_payload_buffer.specs.Held.{Held}
 use Rattle.codec_payload_send.specs.Packets.{Packet, AreNumbered}
 use Rattle.codec_payload_buffer.specs.Release.{Release}
@@ -17,11 +17,11 @@ use Rattle.codec_payload_runs.specs.Schedule.{Answer}
 use Rattle.codec_payload_runs.specs.LawfulUnits.{StartsWithHead}
 use Rattle.codec_payload_runs.specs.SentStream.{SentUnit, EndsWithTail}
 use Rattle.codec_payload_buffer.specs.Steps.{State, due_of, starts_right_after, Pops, Passes, none, one_more, PassesOver, Releases, Refuses}
-use Rattle.codec_payload_buffer.specs.declared.buffer.frames.Segment.{Segment}
+use Rattle.codec_payload_buffer.specs.declared.buffer.frames.CompleteFrame.{CompleteFrame}
 use Rattle.codec_payload_buffer.specs.declared.buffer.unit.RtpMeta.{RtpMeta}
 
 -- no frame is passed over from s: so none in any number of steps
-pub none_passed : (s t : State) (over : List Segment) → ((r : State) → PassesOver s r → ⊥) → Passes s over t → t ≡ s
+pub none_passed : (s t : State) (over : List CompleteFrame) → ((r : State) → PassesOver s r → ⊥) → Passes s over t → t ≡ s
 none_passed s t over never none = refl
 none_passed s u over never (one_more passes passed) = absurd (never u (subst (λ (x : State). PassesOver x u) (none_passed s _ _ never passes) passed))
 
@@ -37,11 +37,11 @@ starts_next : (first : ℕ) (cutoff : Option ℕ) (n : ℕ) → next_after first
 starts_next first None n e = refl
 starts_next first (Some c) n e = grind (arith, nat_tests, e)
 
-not_empty : (kind : DepackKind) (xs : List Packet) → EndsWithTail kind xs → 0 < length xs
+not_empty : (kind : DepacketizerKind) (xs : List Packet) → EndsWithTail kind xs → 0 < length xs
 not_empty kind [] ends = absurd ends
 not_empty kind (x ∷ xs) ends = omega arith
 
-module _ (known : ℕ → Packet → RtpMeta → Type 0) (clock_rate : ℕ) (kind : DepackKind) (faithful : IsFaithful known clock_rate kind) where
+module _ (known : ℕ → Packet → RtpMeta → Type 0) (clock_rate : ℕ) (kind : DepacketizerKind) (faithful : IsFaithful known clock_rate kind) where
   -- pushes of two lists of packets, one after the other
   pub record IsSplit (k : ℕ) (xs ys : List Packet) (ps : List Held) : Type 0 where
     pub front : List Held
@@ -96,7 +96,7 @@ module _ (known : ℕ → Packet → RtpMeta → Type 0) (clock_rate : ℕ) (kin
   pub next_due : (s : State) (first k time : ℕ) (u : SentUnit) (rest : List Packet) → EndsWithTail kind u.packets → StartsWithHead kind u.packets
       → HasTime time u.packets → AreNumbered (first + k) u.packets
       → Exact known clock_rate kind faithful k (u.packets ++ rest) s.held → next_after first s.cutoff ≡ first + k
-      → (f : Segment) × (due_of s ≡ Some f) × (f.first ≡ first + k) × (f.last + 1 ≡ first + k + length u.packets)
+      → (f : CompleteFrame) × (due_of s ≡ Some f) × (f.first ≡ first + k) × (f.last + 1 ≡ first + k + length u.packets)
   next_due s first k time u rest ends starts times numbers e next =
       let split = exact_split k u.packets rest s.held e in
       let last = first + k + length u.packets - 1 in
@@ -111,7 +111,7 @@ module _ (known : ℕ → Packet → RtpMeta → Type 0) (clock_rate : ℕ) (kin
       )
 
 -- where a frame is due, none is passed over and none is refused, the pop releases it unless memory is wanting
-pub pop_releases : (s t : State) (a : Answer) (f : Segment) → due_of s ≡ Some f → ((r : State) → PassesOver s r → ⊥)
+pub pop_releases : (s t : State) (a : Answer) (f : CompleteFrame) → due_of s ≡ Some f → ((r : State) → PassesOver s r → ⊥)
     → ((fault : PacketError) (r : State) → Refuses s fault r → ⊥) → (a ≡ Some (Err faults.OutOfMemory) → ⊥) → Pops s a t
     → (r : Release) × (a ≡ Some (Ok r)) × Releases s r t
 pop_releases s t None f due never sound memory pop =

@@ -7,7 +7,7 @@ use Rattle.codec_payload_buffer.proofs.PopLemmas.{order_due}
 use Rattle.codec_payload_runs.proofs.SafetyLemmas.{beyond_without, given, released_at}
 use Rattle.codec_payload_runs.proofs.TakenLemmas.{Follows, goes_on}
 use Rattle.codec_payload_runs.proofs.TurnLemmas.{Setting, Beyond, frame_due, IsSpan, IsPop, waits, releases, Chain, IsReady, span_left, span_ready, left_ready, few_popped}
-use Rattle.codec_payload_codec.specs.Depack.{Depack}
+use Rattle.codec_payload_codec.specs.Depacketizers.{DepacketizerState}
 use Rattle.codec_payload_runs.specs.Headline.{packets_before}
 use Rattle.codec_payload_runs.specs.Log.{Stretch, Turn}
 use Rattle.codec_payload_buffer.specs.Release.{Release}
@@ -15,7 +15,7 @@ use Rattle.codec_payload_runs.specs.RunUnits.{NonePassedOver, AllEnd, AnswerEnds
 use Rattle.codec_payload_runs.specs.Schedule.{Answer}
 use Rattle.codec_payload_runs.specs.SentStream.{SentUnit, packets_of}
 use Rattle.codec_payload_buffer.specs.Steps.{State, due_of, follows, Passes, none, one_more, PassesOver, Releases}
-use Rattle.codec_payload_buffer.specs.declared.buffer.frames.Segment.{Segment}
+use Rattle.codec_payload_buffer.specs.declared.buffer.frames.CompleteFrame.{CompleteFrame}
 
 before_more : (units : List SentUnit) (a b : ℕ) → a ≤ b → packets_before a units ≤ packets_before b units
 before_more units zero b l = omega arith
@@ -34,28 +34,28 @@ module _ (c : Setting) where
   Outside n e = EndsOutside c.first c.units n e
 
   abbrev Taken : ℕ → State → Type 0
-  Taken n s = Follows c n s.depack s.contiguity
+  Taken n s = Follows c n s.depacketizer s.contiguity
 
   start_more : (a b : ℕ) → a ≤ b → start_of a ≤ start_of b
   start_more a b l = omega (arith, before_more c.units a b l)
 
   -- the frame that is due, at its place: where it starts and ends
-  frame_starts : (n m : ℕ) (s : State) (f : Segment) (beyond : Beyond c n s) (due : due_of s ≡ Some f) → m ≤ (frame_due c n s f beyond due).place → start_of m ≤ f.first
+  frame_starts : (n m : ℕ) (s : State) (f : CompleteFrame) (beyond : Beyond c n s) (due : due_of s ≡ Some f) → m ≤ (frame_due c n s f beyond due).place → start_of m ≤ f.first
   frame_starts n m s f beyond due l = let frame = frame_due c n s f beyond due in omega (arith, frame.start, start_more m frame.place l)
 
-  frame_ends : (n m : ℕ) (s : State) (f : Segment) (beyond : Beyond c n s) (due : due_of s ≡ Some f) → (frame_due c n s f beyond due).place < m → f.last < start_of m
+  frame_ends : (n m : ℕ) (s : State) (f : CompleteFrame) (beyond : Beyond c n s) (due : due_of s ≡ Some f) → (frame_due c n s f beyond due).place < m → f.last < start_of m
   frame_ends n m s f beyond due l = let frame = frame_due c n s f beyond due in omega (arith, frame.stop, start_more (frame.place + 1) m (omega (arith, l)))
 
-  far_outside : (n m : ℕ) (s : State) (f : Segment) (beyond : Beyond c n s) (due : due_of s ≡ Some f) → m + 16384 ≤ (frame_due c n s f beyond due).place → Outside m f.last
+  far_outside : (n m : ℕ) (s : State) (f : CompleteFrame) (beyond : Beyond c n s) (due : due_of s ≡ Some f) → m + 16384 ≤ (frame_due c n s f beyond due).place → Outside m f.last
   far_outside n m s f beyond due l = inr (omega (arith, frame_starts n (m + 16384) s f beyond due l, order_due s f due))
 
   -- what lies beyond a frame that was passed over
   over_beyond : (n : ℕ) (s t : State) (beyond : Beyond c n s) (p : PassesOver s t) → Beyond c ((frame_due c n s p.frame beyond p.is_due).place + 1) t
   over_beyond n s t beyond p =
       let frame = frame_due c n s p.frame beyond p.is_due in
-      let reads = (given c.known c.clock_rate c.first c.kind c.faithful c.splits c.units c.lawful c.numbered n s p.frame beyond p.is_due (Ok p.unpacked) p.depack p.gives).0 in
+      let reads = (given c.known c.clock_rate c.first c.kind c.faithful c.splits c.units c.lawful c.numbered n s p.frame beyond p.is_due (Ok p.unpacked) p.depacketizer p.gives).0 in
       subst (Beyond c (frame.place + 1)) (sym p.left) (beyond_without c.known c.clock_rate c.first c.kind c.faithful c.splits c.units c.lawful c.numbered n s p.frame
-          beyond p.is_due (frame.place + 1) (omega (arith, frame.stop)) p.depack reads _ s.mark)
+          beyond p.is_due (frame.place + 1) (omega (arith, frame.stop)) p.depacketizer reads _ s.evicted)
 
   released_beyond : (n : ℕ) (s t : State) (r : Release) (beyond : Beyond c n s) (out : Releases s r t) → Beyond c ((frame_due c n s out.frame beyond out.is_due).place + 1) t
   released_beyond n s t r beyond out = (released_at c.known c.clock_rate c.first c.kind c.faithful c.splits c.units c.lawful c.numbered n s t r beyond out).2
@@ -64,14 +64,14 @@ module _ (c : Setting) where
   release_ends n s t r beyond out P is = subst P (sym (numbers_of s t r beyond.rises beyond.beyond out).last) is
 
   -- frames that are passed over past the gap from place g on
-  record IsPast (g : ℕ) (over : List Segment) (t : State) : Type 0 where
+  record IsPast (g : ℕ) (over : List CompleteFrame) (t : State) : Type 0 where
     next : ℕ
     far : g + 16384 ≤ next
     beyond : Beyond c next t
     ends : AllEnd (Outside g) over
     starts : AllStartFrom (start_of (g + 16384)) over
 
-  past_one : (g n : ℕ) (s t : State) (over : List Segment) (beyond : Beyond c n s) → AllEnd (Outside g) over → AllStartFrom (start_of (g + 16384)) over
+  past_one : (g n : ℕ) (s t : State) (over : List CompleteFrame) (beyond : Beyond c n s) → AllEnd (Outside g) over → AllStartFrom (start_of (g + 16384)) over
       → (p : PassesOver s t) → g + 16384 ≤ (frame_due c n s p.frame beyond p.is_due).place → IsPast g (p.frame ∷ over) t
   past_one g n s t over beyond ends starts p far =
       let frame = frame_due c n s p.frame beyond p.is_due in
@@ -83,7 +83,7 @@ module _ (c : Setting) where
         starts = (frame_starts n (g + 16384) s p.frame beyond p.is_due far, starts);
       }
 
-  past_passes : (g n : ℕ) (s t : State) (over : List Segment) → Beyond c n s → g + 16384 ≤ n → Passes s over t → IsPast g over t
+  past_passes : (g n : ℕ) (s t : State) (over : List CompleteFrame) → Beyond c n s → g + 16384 ≤ n → Passes s over t → IsPast g over t
   past_passes g n s t over beyond far none = record { next = n; far = far; beyond = beyond; ends = tt; starts = tt }
   past_passes g n s u over beyond far (one_more {t = t} passes p) =
       let is = past_passes g n s t _ beyond far passes in
@@ -91,7 +91,7 @@ module _ (c : Setting) where
       past_one g is.next t u _ is.beyond is.ends is.starts p (omega (arith, is.far, frame.not_before))
 
   -- from the unit after place n, which was taken last: nothing is passed over, or only what is far
-  passes_far : (n : ℕ) (s t : State) (over : List Segment) → Beyond c n s → Taken n s → Passes s over t → ((t ≡ s) × (over ≡ [])) ⊎ IsPast n over t
+  passes_far : (n : ℕ) (s t : State) (over : List CompleteFrame) → Beyond c n s → Taken n s → Passes s over t → ((t ≡ s) × (over ≡ [])) ⊎ IsPast n over t
   passes_far n s t over beyond taken none = inl (refl, refl)
   passes_far n s u over beyond taken (one_more {t = t} passes p) = elim (passes_far n s t _ beyond taken passes) [
     | inr is ↦
@@ -101,7 +101,7 @@ module _ (c : Setting) where
         let beyond_t : Beyond c n t = subst (Beyond c n) (sym same.0) beyond in
         let taken_t : Taken n t = subst (Taken n) (sym same.0) taken in
         elim (cases_lt (frame_due c n t p.frame beyond_t p.is_due).place (n + 16384)) [
-          | inl near ↦ absurd (not_passed _ (goes_on c n t p.frame beyond_t p.is_due (inr near) taken_t p.unpacked p.depack p.gives (follows t p.frame)).0 p.may_not)
+          | inl near ↦ absurd (not_passed _ (goes_on c n t p.frame beyond_t p.is_due (inr near) taken_t p.unpacked p.depacketizer p.gives (follows t p.frame)).0 p.may_not)
           | inr far ↦ inr (past_one n n t u _ beyond_t (subst (AllEnd (Outside n)) (sym same.1) tt) (subst (AllStartFrom (start_of (n + 16384))) (sym same.1) tt) p far)
         ]
   ]
@@ -112,7 +112,7 @@ module _ (c : Setting) where
     starts : AllPassedFrom (start_of (g + 16384)) turns
 
   -- a pop past the gap
-  record PopsPast (g : ℕ) (over : List Segment) (a : Answer) (t : State) : Type 0 where
+  record PopsPast (g : ℕ) (over : List CompleteFrame) (a : Answer) (t : State) : Type 0 where
     next : ℕ
     far : g + 16384 ≤ next
     beyond : Beyond c next t
@@ -120,7 +120,7 @@ module _ (c : Setting) where
     starts : AllStartFrom (start_of (g + 16384)) over
     answer : AnswerEnds (Outside g) a
 
-  release_past : (g n : ℕ) (s t : State) (r : Release) (over : List Segment) (beyond : Beyond c n s) → AllEnd (Outside g) over
+  release_past : (g n : ℕ) (s t : State) (r : Release) (over : List CompleteFrame) (beyond : Beyond c n s) → AllEnd (Outside g) over
       → AllStartFrom (start_of (g + 16384)) over → (out : Releases s r t) → g + 16384 ≤ (frame_due c n s out.frame beyond out.is_due).place → PopsPast g over (Some (Ok r)) t
   release_past g n s t r over beyond ends starts out far =
       let frame = frame_due c n s out.frame beyond out.is_due in
@@ -133,12 +133,12 @@ module _ (c : Setting) where
         answer = release_ends n s t r beyond out (Outside g) (far_outside n g s out.frame beyond out.is_due far);
       }
 
-  from_past : (g : ℕ) (s t : State) (r : Release) (over : List Segment) → IsPast g over s → Releases s r t → PopsPast g over (Some (Ok r)) t
+  from_past : (g : ℕ) (s t : State) (r : Release) (over : List CompleteFrame) → IsPast g over s → Releases s r t → PopsPast g over (Some (Ok r)) t
   from_past g s t r over is out =
       let frame = frame_due c is.next s out.frame is.beyond out.is_due in
       release_past g is.next s t r over is.beyond is.ends is.starts out (omega (arith, is.far, frame.not_before))
 
-  pop_past : (g n : ℕ) (s t : State) (over : List Segment) (a : Answer) → Beyond c n s → g + 16384 ≤ n → IsPop c s t over a → PopsPast g over a t
+  pop_past : (g n : ℕ) (s t : State) (over : List CompleteFrame) (a : Answer) → Beyond c n s → g + 16384 ≤ n → IsPop c s t over a → PopsPast g over a t
   pop_past g n s t over None beyond far (waits passes nothing) =
       let is = past_passes g n s t over beyond far passes in
       record { next = is.next; far = is.far; beyond = is.beyond; ends = is.ends; starts = is.starts; answer = tt }
@@ -154,7 +154,7 @@ module _ (c : Setting) where
       record { ends = (pop.ends, pop.answer, rest.ends); starts = (pop.starts, rest.starts) }
 
   -- a pop that takes the next unit, or none
-  record PopsNear (n : ℕ) (over : List Segment) (a : Answer) (t : State) : Type 0 where
+  record PopsNear (n : ℕ) (over : List CompleteFrame) (a : Answer) (t : State) : Type 0 where
     nothing : over ≡ []
     next : ℕ
     not_before : n ≤ next
@@ -162,7 +162,7 @@ module _ (c : Setting) where
     taken : Taken next t
     answer : AnswerEnds (λ e. e < start_of next) a
 
-  release_near : (n : ℕ) (s t : State) (r : Release) (over : List Segment) → over ≡ [] → (beyond : Beyond c n s) → Taken n s → (out : Releases s r t)
+  release_near : (n : ℕ) (s t : State) (r : Release) (over : List CompleteFrame) → over ≡ [] → (beyond : Beyond c n s) → Taken n s → (out : Releases s r t)
       → (frame_due c n s out.frame beyond out.is_due).place < n + 16384 → PopsNear n over (Some (Ok r)) t
   release_near n s t r over nothing beyond taken out near =
       let frame = frame_due c n s out.frame beyond out.is_due in
@@ -172,11 +172,11 @@ module _ (c : Setting) where
         not_before = omega (arith, frame.not_before);
         beyond = released_beyond n s t r beyond out;
         taken = subst (Taken (frame.place + 1)) (sym out.left)
-            (goes_on c n s out.frame beyond out.is_due (inr near) taken (record { bytes = r.bytes; extra = r.codec_extra }) out.depack out.gives (follows s out.frame)).1;
+            (goes_on c n s out.frame beyond out.is_due (inr near) taken (record { bytes = r.bytes; extra = r.codec_extra }) out.depacketizer out.gives (follows s out.frame)).1;
         answer = release_ends n s t r beyond out (λ e. e < start_of (frame.place + 1)) (frame_ends n (frame.place + 1) s out.frame beyond out.is_due (omega arith));
       }
 
-  pop_far : (n : ℕ) (s t : State) (over : List Segment) (a : Answer) → Beyond c n s → Taken n s → IsPop c s t over a → PopsNear n over a t ⊎ PopsPast n over a t
+  pop_far : (n : ℕ) (s t : State) (over : List CompleteFrame) (a : Answer) → Beyond c n s → Taken n s → IsPop c s t over a → PopsNear n over a t ⊎ PopsPast n over a t
   pop_far n s t over None beyond taken (waits passes nothing) = elim (passes_far n s t over beyond taken passes) [
     | inl same ↦ inl (record { nothing = same.1; next = n; not_before = omega arith; beyond = subst (Beyond c n) (sym same.0) beyond; taken = subst (Taken n) (sym same.0) taken; answer = tt })
     | inr is ↦ inr (record { next = is.next; far = is.far; beyond = is.beyond; ends = is.ends; starts = is.starts; answer = tt })
@@ -196,7 +196,7 @@ module _ (c : Setting) where
   span_taken : (n : ℕ) (s : State) (w : Stretch) → w.left ≡ s → IsReady c n w.left → IsSpan c w → Taken n s → Taken n w.now
   span_taken n s w at ready is taken =
       let left = span_left c n w ready is in
-      subst (λ (d : Depack). Follows c n d w.now.contiguity) (sym left.depack) (subst (Follows c n w.left.depack) (sym left.contiguity) (subst (Taken n) (sym at) taken))
+      subst (λ (d : DepacketizerState). Follows c n d w.now.contiguity) (sym left.depacketizer) (subst (Follows c n w.left.depacketizer) (sym left.contiguity) (subst (Taken n) (sym at) taken))
 
   -- the gap is not before place n
   record IsGapFrom (n : ℕ) (turns : List Turn) : Type 0 where

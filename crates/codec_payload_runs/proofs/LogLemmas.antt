@@ -14,7 +14,7 @@ use Rattle.codec_payload_runs.proofs.BuiltInRuns.{Pushing, Runs, DoesStep, Sends
 use Rattle.codec_payload_runs.specs.Schedule.{Answer, RunState}
 use Rattle.codec_payload_send.specs.Sending.{Sample}
 use Rattle.codec_payload_runs.specs.SentStream.{packets_of}
-use Rattle.codec_payload_codec.specs.Depack.{Depack}
+use Rattle.codec_payload_codec.specs.Depacketizers.{DepacketizerState}
 use Rattle.codec_payload_buffer.specs.Held.{Held}
 use Rattle.codec_payload_buffer.specs.Steps.{State, PopsOver}
 use Rattle.codec_payload_buffer.specs.Stretches.{after_pushes}
@@ -84,7 +84,7 @@ entry_before pushing samples place (steps.Pop ∷ later) s t sends pops run entr
         ap (λ (x : RunState). length x.sink.packets) run.7.6)
 
 -- the steps that are left have their part of the log
-pub record Logs (named : ℕ → ℕ → Depack → List Held) (place : ℕ) (later : List Step) (w : Stretch) (pops : List Answer) (after : State) : Type 0 where
+pub record Logs (named : ℕ → ℕ → DepacketizerState → List Held) (place : ℕ) (later : List Step) (w : Stretch) (pops : List Answer) (after : State) : Type 0 where
   pub turns : List Turn
   pub end : Stretch
   pub is_log : IsLogBy named place later w turns end
@@ -92,12 +92,12 @@ pub record Logs (named : ℕ → ℕ → Depack → List Held) (place : ℕ) (la
   pub left : end.now ≡ after
 
 -- where the sink holds what was sent before the step, pushing what it names does what the step does
-abbrev pub DoesAsNamed : Pushing → (ℕ → ℕ → Depack → List Held) → List Packet → ℕ → List Sent → Type 0
+abbrev pub DoesAsNamed : Pushing → (ℕ → ℕ → DepacketizerState → List Held) → List Packet → ℕ → List Sent → Type 0
 DoesAsNamed pushing named packets clock_rate all =
     (place k : ℕ) (s : RunState) → take (sent_before place all) packets ≡ s.sink.packets → s.payloading.clock_rate ≡ clock_rate
-        → after_pushes s.buffer (named place k s.buffer.depack) ≡ pushing place k s
+        → after_pushes s.buffer (named place k s.buffer.depacketizer) ≡ pushing place k s
 
-module _ (pushing : Pushing) (named : ℕ → ℕ → Depack → List Held) (packets : List Packet) (clock_rate : ℕ) (all : List Sent) (samples : List Sample)
+module _ (pushing : Pushing) (named : ℕ → ℕ → DepacketizerState → List Held) (packets : List Packet) (clock_rate : ℕ) (all : List Sent) (samples : List Sample)
     (does : DoesAsNamed pushing named packets clock_rate all) where
   -- what was sent before a place is what the sink holds there
   sent_by : (place : ℕ) (later : List Step) (s t : RunState) (sends before : List Sent) (pops : List Answer) → Runs pushing samples place later s sends pops t
@@ -127,11 +127,11 @@ module _ (pushing : Pushing) (named : ℕ → ℕ → Depack → List Held) (pac
       let mid = run.4 in
       let taken = sent_by place (steps.Push k ∷ later) s t sends before pops run whole entries sent in
       let sink : mid.sink ≡ s.sink = ap (λ (x : RunState). x.sink) run.7.2 in
-      let rest = log_from later (place + 1) mid t run.1 (before ++ run.0) run.3 (with_pushes w (named place k w.now.depack)) run.8 whole
+      let rest = log_from later (place + 1) mid t run.1 (before ++ run.0) run.3 (with_pushes w (named place k w.now.depacketizer)) run.8 whole
           (ap (λ (x : RunState). x.payloading.clock_rate) run.7.2 ∙ clock)
       (entries ∙ ap (λ (es : List Sent). before ++ es) run.5 ∙ sym (append_assoc before run.0 run.1))
       (λ n l. before_append n before run.0 ∙ omega (arith, sent n (omega (arith, l)), ap (sent_before n) run.7.0, ap (λ x. length x.packets) sink))
-      (ap (λ (b : State). after_pushes b (named place k b.depack)) now ∙ does place k s taken clock ∙ sym (ap (λ (x : RunState). x.buffer) run.7.2)) in
+      (ap (λ (b : State). after_pushes b (named place k b.depacketizer)) now ∙ does place k s taken clock ∙ sym (ap (λ (x : RunState). x.buffer) run.7.2)) in
       record { turns = rest.turns; end = rest.end; is_log = rest.is_log; answers = rest.answers ∙ sym (run.6 ∙ ap (λ (ps : List Answer). ps ++ run.3) run.7.1); left = rest.left }
   log_from (steps.Pop ∷ later) place s t sends before pops w run whole clock entries sent now =
       let mid = run.4 in
@@ -150,12 +150,12 @@ module _ (pushing : Pushing) (named : ℕ → ℕ → Depack → List Held) (pac
       }
 
 -- a packet that is pushed as it is
-plain_is : (place clock_rate : ℕ) (o : Option Packet) (s : State) → after_pushes s (held_of place clock_rate o s.depack) ≡ after_push place clock_rate o s
+plain_is : (place clock_rate : ℕ) (o : Option Packet) (s : State) → after_pushes s (held_of place clock_rate o s.depacketizer) ≡ after_push place clock_rate o s
 plain_is place clock_rate None s = refl
 plain_is place clock_rate (Some p) s = refl
 
 pub plain_as_named : (packets : List Packet) (clock_rate : ℕ) (all : List Sent) → DoesAsNamed plainly (λ place k. held_of place clock_rate (packet_named packets all place k)) packets clock_rate all
 plain_as_named packets clock_rate all place k s taken clock =
-    ap (λ (ps : List Packet). after_pushes s.buffer (held_of place clock_rate (slice_get ps k) s.buffer.depack)) taken
+    ap (λ (ps : List Packet). after_pushes s.buffer (held_of place clock_rate (slice_get ps k) s.buffer.depacketizer)) taken
     ∙ plain_is place clock_rate (slice_get s.sink.packets k) s.buffer
     ∙ ap (λ (rate : ℕ). after_push place rate (slice_get s.sink.packets k) s.buffer) (sym clock)

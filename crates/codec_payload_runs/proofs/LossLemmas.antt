@@ -22,7 +22,7 @@ use Rattle.codec_payload_runs.specs.Schedule.{Answer}
 use Rattle.codec_payload_runs.specs.SentStream.{SentUnit}
 use Rattle.codec_payload_buffer.specs.Steps.{State, due_of, Passes, none, one_more, Releases, is_at_most}
 use Rattle.codec_payload_buffer.specs.Stretches.{counts}
-use Rattle.codec_payload_buffer.specs.declared.buffer.frames.Segment.{Segment}
+use Rattle.codec_payload_buffer.specs.declared.buffer.frames.CompleteFrame.{CompleteFrame}
 
 -- some number of a range has P, or each has Q
 all_or_some : (P Q : ℕ → Type 0) (a n : ℕ) → ((k : ℕ) → a ≤ k → k < n → P k ⊎ Q k) → ((k : ℕ) → a ≤ k → k < n → Q k) ⊎ ((k : ℕ) × (a ≤ k) × (k < n) × P k)
@@ -66,7 +66,7 @@ module _ (c : Setting) where
       ]
 
   -- the frame that is due, where a unit is held whole: it lies below the unit, or it is the unit's, whole
-  pub due_whole : (from : ℕ) (s : State) (f : Segment) (place : ℕ) (u : SentUnit) (beyond : Beyond c from s) → slice_get c.units place ≡ Some u → Whole place s → (due : due_of s ≡ Some f)
+  pub due_whole : (from : ℕ) (s : State) (f : CompleteFrame) (place : ℕ) (u : SentUnit) (beyond : Beyond c from s) → slice_get c.units place ≡ Some u → Whole place s → (due : due_of s ≡ Some f)
       → (f.last < c.first + packets_before place c.units) ⊎ (let frame = frame_due c from s f beyond due in (frame.place ≡ place) × (frame.missing ≡ [])
           × (f.first ≤ c.first + packets_before place c.units) × (f.last + 1 ≡ c.first + packets_before (place + 1) c.units))
   due_whole from s f place u beyond at whole due =
@@ -102,18 +102,18 @@ module _ (c : Setting) where
       subst (λ (p : ℕ). IsWholeRelease p t r out.frame.last) same (record { whole = (is.0, is.1 ∙ nothing); next = is.2; end = frame.stop })
 
   -- the frame and all below it have left: a unit above stays
-  stays : (place : ℕ) (s : State) (f : Segment) → f.last < c.first + packets_before place c.units → Whole place s → (n : ℕ) → IsNumberIn c.first c.units place n
+  stays : (place : ℕ) (s : State) (f : CompleteFrame) → f.last < c.first + packets_before place c.units → Whole place s → (n : ℕ) → IsNumberIn c.first c.units place n
       → has_number n (above f.last s.held) ≡ true
   stays place s f early whole n is = has_above n f.last s.held (omega (arith, early, is.from)) (whole n is)
 
-  left_whole : (place : ℕ) (s t : State) (f : Segment) → t.held ≡ above f.last s.held → f.last < c.first + packets_before place c.units → Whole place s → Whole place t
+  left_whole : (place : ℕ) (s t : State) (f : CompleteFrame) → t.held ≡ above f.last s.held → f.last < c.first + packets_before place c.units → Whole place s → Whole place t
   left_whole place s t f left early whole n is = ap (has_number n) left ∙ stays place s f early whole n is
 
-  passed_more : (place : ℕ) (f : Segment) (over : List Segment) → IsAmong c.first c.units place over → IsAmong c.first c.units place (f ∷ over)
+  passed_more : (place : ℕ) (f : CompleteFrame) (over : List CompleteFrame) → IsAmong c.first c.units place over → IsAmong c.first c.units place (f ∷ over)
   passed_more place f over is = (is.0, (suc is.1.0, omega (arith, is.1.1), is.1.2), is.2, is.3)
 
   -- frames are passed over
-  pass_keeps : (from : ℕ) (s t : State) (over : List Segment) (place : ℕ) (u : SentUnit) → Beyond c from s → Passes s over t → slice_get c.units place ≡ Some u → Whole place s
+  pass_keeps : (from : ℕ) (s t : State) (over : List CompleteFrame) (place : ℕ) (u : SentUnit) → Beyond c from s → Passes s over t → slice_get c.units place ≡ Some u → Whole place s
       → IsAmong c.first c.units place over ⊎ Whole place t
   pass_keeps from s t over place u beyond none at whole = inr whole
   pass_keeps from s v over place u beyond (one_more {t = t} passes p) at whole = elim (pass_keeps from s t _ place u beyond passes at whole) [
@@ -130,7 +130,7 @@ module _ (c : Setting) where
   ]
 
   -- a pop
-  at_pop : (from : ℕ) (s t : State) (over : List Segment) (a : Answer) (place : ℕ) (u : SentUnit) → Beyond c from s → IsPop c s t over a → slice_get c.units place ≡ Some u → Whole place s
+  at_pop : (from : ℕ) (s t : State) (over : List CompleteFrame) (a : Answer) (place : ℕ) (u : SentUnit) → Beyond c from s → IsPop c s t over a → slice_get c.units place ≡ Some u → Whole place s
       → ReleasesWhole c.known c.splits c.units place a ⊎ (IsAmong c.first c.units place over ⊎ Whole place t)
   at_pop from s t over None place u beyond (waits passes nothing) at whole = inr (pass_keeps from s t over place u beyond passes at whole)
   at_pop from s t over (Some (Err fault)) place u beyond pop at whole = elim pop [ ]

@@ -1,6 +1,6 @@
 -- Two runs with RED that push the same packets before each pop are answered the same.
 use Rattle.std.proofs.Common.{◌∙◌, refl, sym, ap, ℕ, Bool, false, List, [], ◌∷◌, map}
-use Rattle.codec_payload_codec.specs.Depack.{DepackKind}
+use Rattle.codec_payload_codec.specs.Depacketizers.{DepacketizerKind}
 use Rattle.codec_payload_buffer.specs.Held.{Held}
 use Rattle.codec_payload_buffer.specs.declared.buffer.unit.RtpMeta.{RtpMeta}
 use Rattle.codec_payload_runs.proofs.AlikeLemmas.{chains_same}
@@ -18,7 +18,7 @@ use Rattle.codec_payload_runs.specs.RunOrder.{answer_with}
 use Rattle.codec_payload_runs.specs.SentStream.{SentUnit, packets_of}
 
 -- what is sent does not depend on how that is shown
-as_sent : (known : ℕ → Packet → RtpMeta → Type 0) (clock_rate first : ℕ) (kind : DepackKind) (f g : IsFaithful known clock_rate kind) (splits : Bool)
+as_sent : (known : ℕ → Packet → RtpMeta → Type 0) (clock_rate first : ℕ) (kind : DepacketizerKind) (f g : IsFaithful known clock_rate kind) (splits : Bool)
     (units : List SentUnit) (l m : AllLawful kind splits units)
     (n o : AreNumbered first (packets_of units)) (ps : List Held) → AllSent known clock_rate first kind f splits units l n ps → AllSent known clock_rate first kind g splits units m o ps
 as_sent known clock_rate first kind f g splits units l m n o [] all = tt

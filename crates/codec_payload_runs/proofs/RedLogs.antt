@@ -22,9 +22,9 @@ use Rattle.codec_payload_runs.proofs.StreamLemmas.{Streams, streams}
 use Rattle.codec_payload_runs.proofs.TakenLemmas.{none_is_passed}
 use Rattle.codec_payload_runs.proofs.TurnLemmas.{Setting, ArePushes, Chain, IsReady, chain_of, chain_in_order, are_stretches}
 use Rattle.codec_payload_runs.proofs.UnitRows.{IsFaithful, held_as}
-use Rattle.codec_payload_codec.specs.Depack.{Depack, DepackKind, kind_of_depack, is_codec, tail_in}
+use Rattle.codec_payload_codec.specs.Depacketizers.{DepacketizerState, DepacketizerKind, kind_of_depacketizer, is_codec, tail_in}
 use Rattle.codec_payload_buffer.specs.Held.{has_number}
-use Rattle.codec_payload_codec.specs.Pack.{Pack, G711Pack, G722Pack, OpusPack, ComfortNoisePack, TelePack, Vp8Pack, Vp9Pack, Av1Pack, AmrWbPack, NullPack, BoxedPack}
+use Rattle.codec_payload_codec.specs.Packetizers.{PacketizerState, G711Packetizing, G722Packetizing, OpusPacketizing, ComfortNoisePacketizing, TelePacketizing, Vp8Packetizing, Vp9Packetizing, Av1Packetizing, AmrWbPacketizing, NullPacketizing, BoxedPacketizing}
 use Rattle.codec_payload_buffer.specs.Steps.{arrived}
 use Rattle.codec_payload_buffer.specs.Stretches.{after_pushes}
 use Rattle.codec_payload_buffer.specs.declared.buffer.unit.RtpMeta.{RtpMeta}
@@ -51,23 +51,23 @@ use Rattle.codec_payload_red.specs.RedRecovery.{RecoveredPacket, recovered}
 use Rattle.codec_payload_red.specs.RedRun.{sender_after, sender_at, IsCarried, AreOfSent}
 
 -- no codec but those of video asks the marker where a unit ends
-marker_free : (pack : Pack) → is_video pack ≡ false → (a b : Bool) (payload : List ℕ) → tail_in (payloads_by pack) a payload ≡ tail_in (payloads_by pack) b payload
-marker_free G711Pack none a b payload = refl
-marker_free G722Pack none a b payload = refl
-marker_free OpusPack none a b payload = refl
-marker_free NullPack none a b payload = refl
-marker_free (Vp8Pack id) none a b payload = absurd (cc)
-marker_free (Vp9Pack sender) none a b payload = absurd (cc)
-marker_free ComfortNoisePack none a b payload = refl
-marker_free TelePack none a b payload = refl
-marker_free Av1Pack none a b payload = absurd (cc)
-marker_free (AmrWbPack octet) none a b payload = refl
-marker_free BoxedPack none a b payload = refl
+marker_free : (packetizer : PacketizerState) → is_video packetizer ≡ false → (a b : Bool) (payload : List ℕ) → tail_in (payloads_by packetizer) a payload ≡ tail_in (payloads_by packetizer) b payload
+marker_free G711Packetizing none a b payload = refl
+marker_free G722Packetizing none a b payload = refl
+marker_free OpusPacketizing none a b payload = refl
+marker_free NullPacketizing none a b payload = refl
+marker_free (Vp8Packetizing id) none a b payload = absurd (cc)
+marker_free (Vp9Packetizing sender) none a b payload = absurd (cc)
+marker_free ComfortNoisePacketizing none a b payload = refl
+marker_free TelePacketizing none a b payload = refl
+marker_free Av1Packetizing none a b payload = absurd (cc)
+marker_free (AmrWbPacketizing octet) none a b payload = refl
+marker_free BoxedPacketizing none a b payload = refl
 
 -- nor sends picture ids
-no_ids : (pack : Pack) → is_video pack ≡ false → next_id pack ≡ None
-no_ids (Vp9Pack sender) none = absurd (cc)
-no_ids pack none = refl
+no_ids : (packetizer : PacketizerState) → is_video packetizer ≡ false → next_id packetizer ≡ None
+no_ids (Vp9Packetizing sender) none = absurd (cc)
+no_ids packetizer none = refl
 
 -- a packet that was recovered has what is known of the packet that was sent: of the primary block marker and values too
 meta_is : (place clock_rate pt : ℕ) (carrier q : Packet) (x : RecoveredPacket) (b : Bool) → x.is_primary ≡ b → x.seq_no ≡ q.number → x.time ≡ q.rtp_time
@@ -77,7 +77,7 @@ meta_is place clock_rate pt carrier q x true is number time same = let (marker, 
 meta_is place clock_rate pt carrier q x false is number time same = rw (is, number, time) refl
 
 -- a recovered packet of that number is pushed
-has_recovered : (place clock_rate pt : ℕ) (carrier : Packet) (d : Depack) (n : ℕ) (xs : List RecoveredPacket) (x : RecoveredPacket) → IsIn x xs → x.seq_no ≡ n
+has_recovered : (place clock_rate pt : ℕ) (carrier : Packet) (d : DepacketizerState) (n : ℕ) (xs : List RecoveredPacket) (x : RecoveredPacket) → IsIn x xs → x.seq_no ≡ n
     → has_number n (map (λ (y : RecoveredPacket). arrived d (meta_of_recovered place clock_rate pt carrier y) y.bytes) xs) ≡ true
 has_recovered place clock_rate pt carrier d n [] x is number = absurd is
 has_recovered place clock_rate pt carrier d n (y ∷ ys) x (inl same) number =
@@ -122,7 +122,7 @@ module _ (r : RedRan) (run : RunsAsRedSteps r) (is : IsRedFresh r) where
   pub runs : Runs (wrapped_by r.with red) r.samples 0 r.steps s r.sends r.pops t × IsInStep red r.with.budget r.after
   runs =
       runs_in_red r.with red r.samples 0 r.steps r.before r.after r.sends r.pops is.unused.built_in
-      (ap is_codec is.unused.alike ∙ codec_payloads s.payloading.pack is.unused.built_in) start run
+      (ap is_codec is.unused.alike ∙ codec_payloads s.payloading.packetizer is.unused.built_in) start run
 
   abbrev stream : Streams r.samples r.steps s t
   stream = streams (wrapped_by r.with red) r.samples 0 r.steps s t r.sends r.pops runs.0
@@ -130,11 +130,11 @@ module _ (r : RedRan) (run : RunsAsRedSteps r) (is : IsRedFresh r) where
   all : SendsAll s t stream.units
   all = sends_all r.samples r.steps s t is.unused stream
 
-  pub faithful : IsFaithful (IsRedPushOf r) s.payloading.clock_rate (payloads_by s.payloading.pack)
+  pub faithful : IsFaithful (IsRedPushOf r) s.payloading.clock_rate (payloads_by s.payloading.packetizer)
   faithful = record {
     number = λ k q m push. ap (λ (x : RtpMeta). x.seq_no.0) push.told;
     time = λ k q m push. ap (λ (x : RtpMeta). x.time) push.told;
-    tail = λ k q m push. marker_free s.payloading.pack is.no_video m.header.marker q.marker q.payload;
+    tail = λ k q m push. marker_free s.payloading.packetizer is.no_video m.header.marker q.marker q.payload;
   }
 
   number_is : (k : ℕ) (q : Packet) → slice_get sent k ≡ Some q → q.number ≡ s.sink.first + k
@@ -191,21 +191,21 @@ module _ (r : RedRan) (run : RunsAsRedSteps r) (is : IsRedFresh r) where
   does place k u taken clock =
       let images : take (sent_before place r.sends) r.after.images ≡ all_in_red red r.with.budget u.sink.packets =
       ap (take (sent_before place r.sends)) runs.1.images ∙ (take_in_red red r.with.budget (sent_before place r.sends) t.sink.packets ∙ ap (all_in_red red r.with.budget) taken) in
-      ap (λ (ps : List Packet). after_pushes u.buffer (recovered_held place s.payloading.clock_rate r.with.receiver (slice_get ps k) u.buffer.depack)) images
-      ∙ ap (λ (rate : ℕ). after_pushes u.buffer (recovered_held place rate r.with.receiver (slice_get (all_in_red red r.with.budget u.sink.packets) k) u.buffer.depack)) (sym clock)
+      ap (λ (ps : List Packet). after_pushes u.buffer (recovered_held place s.payloading.clock_rate r.with.receiver (slice_get ps k) u.buffer.depacketizer)) images
+      ∙ ap (λ (rate : ℕ). after_pushes u.buffer (recovered_held place rate r.with.receiver (slice_get (all_in_red red r.with.budget u.sink.packets) k) u.buffer.depacketizer)) (sym clock)
 
   found : Logs (pushes_of r) 0 r.steps (begun s.buffer) r.pops t.buffer
   found =
       log_from (wrapped_by r.with red) (pushes_of r) t.sink.packets s.payloading.clock_rate r.sends r.samples does r.steps 0 s t r.sends [] r.pops
           (begun s.buffer) runs.0 refl refl refl (λ n l. sym (ap length is.unused.nothing_sent)) refl
 
-  module _ (units : List SentUnit) (lawful : AllLawful (payloads_by s.payloading.pack) (may_split s.payloading.pack) units) (packets : packets_of units ≡ t.sink.packets) where
+  module _ (units : List SentUnit) (lawful : AllLawful (payloads_by s.payloading.packetizer) (may_split s.payloading.packetizer) units) (packets : packets_of units ≡ t.sink.packets) where
     abbrev pub red_setting : Setting
     red_setting = setting r.samples r.steps s t stream is.unused is.readable (IsRedPushOf r) faithful units lawful packets
 
     -- a step pushes what was sent
-    sent_recovered : (place k : ℕ) (d : Depack) (p : Packet) (xs : List RecoveredPacket) → slice_get r.steps place ≡ Some (steps.Push k)
-        → kind_of_depack d ≡ payloads_by s.payloading.pack → k < sent_before place r.sends → IsImage red r.with.budget sent k p → AllByRecursion (WasSent r k) xs
+    sent_recovered : (place k : ℕ) (d : DepacketizerState) (p : Packet) (xs : List RecoveredPacket) → slice_get r.steps place ≡ Some (steps.Push k)
+        → kind_of_depacketizer d ≡ payloads_by s.payloading.packetizer → k < sent_before place r.sends → IsImage red r.with.budget sent k p → AllByRecursion (WasSent r k) xs
         → ArePushes red_setting (map (λ (x : RecoveredPacket). arrived d (meta_of_recovered place s.payloading.clock_rate r.with.receiver.primary_pt p x) x.bytes) xs)
     sent_recovered place k d p [] at reads early image each = tt
     sent_recovered place k d p (x ∷ xs) at reads early image each =
@@ -219,8 +219,8 @@ module _ (r : RedRan) (run : RunsAsRedSteps r) (is : IsRedFresh r) where
             one.packet,
             there,
             push,
-            ap (λ (y : DepackKind). held_as y (meta_of_recovered place s.payloading.clock_rate r.with.receiver.primary_pt p x) x.bytes) reads
-                ∙ ap (λ (b : List ℕ). held_as (payloads_by s.payloading.pack) (meta_of_recovered place s.payloading.clock_rate r.with.receiver.primary_pt p x) b) one.bytes,
+            ap (λ (y : DepacketizerKind). held_as y (meta_of_recovered place s.payloading.clock_rate r.with.receiver.primary_pt p x) x.bytes) reads
+                ∙ ap (λ (b : List ℕ). held_as (payloads_by s.payloading.packetizer) (meta_of_recovered place s.payloading.clock_rate r.with.receiver.primary_pt p x) b) one.bytes,
           ),
           sent_recovered place k d p xs at reads early image each.1,
         )
@@ -235,7 +235,8 @@ module _ (r : RedRan) (run : RunsAsRedSteps r) (is : IsRedFresh r) where
               ap (λ (y : Packet). y.ext_vals) image.is ∙ ap (λ (y : Packet). y.ext_vals) (sym packet),
             )
 
-    pub named_sent : (place k : ℕ) (d : Depack) → slice_get r.steps place ≡ Some (steps.Push k) → kind_of_depack d ≡ payloads_by s.payloading.pack → ArePushes red_setting (pushes_of r place k d)
+    pub named_sent : (place k : ℕ) (d : DepacketizerState) → slice_get r.steps place ≡ Some (steps.Push k)
+        → kind_of_depacketizer d ≡ payloads_by s.payloading.packetizer → ArePushes red_setting (pushes_of r place k d)
     named_sent place k d at reads = by_packet (packet_named r.after.images r.sends place k) refl
       where
         by_packet : (o : Option Packet) → packet_named r.after.images r.sends place k ≡ o → ArePushes red_setting (recovered_held place s.payloading.clock_rate r.with.receiver o d)
@@ -249,7 +250,7 @@ module _ (r : RedRan) (run : RunsAsRedSteps r) (is : IsRedFresh r) where
         chain_of red_setting r.steps (pushes_of r) named_sent r.steps 0 (begun s.buffer) turns end refl 0
         (fresh r.samples r.steps s t stream is.unused is.readable (IsRedPushOf r) faithful units lawful packets) (record { sent = tt; now = refl }) log
 
-  abbrev lawful : AllLawful (payloads_by s.payloading.pack) (may_split s.payloading.pack) stream.units
+  abbrev lawful : AllLawful (payloads_by s.payloading.packetizer) (may_split s.payloading.packetizer) stream.units
   lawful = stream.lawful is.readable
 
   chain : Chain (red_setting stream.units lawful (sym all.whole)) s.buffer found.turns found.end
@@ -261,8 +262,8 @@ module _ (r : RedRan) (run : RunsAsRedSteps r) (is : IsRedFresh r) where
     units = stream.units;
     canonical = stream.canonical;
     packets = sym all.whole;
-    ends = all_end (payloads_by s.payloading.pack) (may_split s.payloading.pack) stream.units lawful;
-    in_order = subst (InOrder (IsRedPushOf r) (may_split s.payloading.pack) stream.units 0) found.answers
+    ends = all_end (payloads_by s.payloading.packetizer) (may_split s.payloading.packetizer) stream.units lawful;
+    in_order = subst (InOrder (IsRedPushOf r) (may_split s.payloading.packetizer) stream.units 0) found.answers
         (chain_in_order (red_setting stream.units lawful (sym all.whole)) 0 s.buffer found.turns found.end
         (fresh r.samples r.steps s t stream is.unused is.readable (IsRedPushOf r) faithful stream.units lawful (sym all.whole)) chain);
     before_pops = of_earlier (wrapped_by r.with red) r.samples (red_earlier r.with red) 0 r.steps s t r.sends r.pops runs.0 (subst (AllEarlier 0) (sym is.unused.nothing_held) tt);
@@ -342,22 +343,22 @@ module _ (r : RedRan) (run : RunsAsRedSteps r) (is : IsRedFresh r) where
     pub contiguous_as_said : AllFollowAsSaid s.sink.first (length sent) None false log.turns
     contiguous_as_said =
         subst (λ (ps : List Packet). AllFollowAsSaid s.sink.first (length ps) None false log.turns) log.released.packets
-        (all_follow log_setting 0 None false s.buffer log.turns log.end (no_ids s.payloading.pack is.no_video) log_ready
+        (all_follow log_setting 0 None false s.buffer log.turns log.end (no_ids s.payloading.packetizer is.no_video) log_ready
         (tracked r.samples r.steps s t stream is.unused is.readable (IsRedPushOf r) faithful log.released.units log.lawful log.released.packets) log_chain)
 
     pub passes_none_over : NonePassedOver log.turns
-    passes_none_over = none_is_passed log_setting 0 s.buffer log.turns log.end (no_ids s.payloading.pack is.no_video) log_ready log_chain
+    passes_none_over = none_is_passed log_setting 0 s.buffer log.turns log.end (no_ids s.payloading.packetizer is.no_video) log_ready log_chain
 
-    pub loses_none_silently : NoneIsLost (IsRedPushOf r) s.sink.first (may_split s.payloading.pack) log.released.units log.turns log.end
+    pub loses_none_silently : NoneIsLost (IsRedPushOf r) s.sink.first (may_split s.payloading.packetizer) log.released.units log.turns log.end
     loses_none_silently = none_is_lost log_setting 0 s.buffer log.turns log.end log_ready log_chain
 
-    pub begins_as_sent : FirstIsWhole (IsRedPushOf r) (may_split s.payloading.pack) log.released.units r.pops → NoneEvicted s.sink.first (length sent) log.turns
+    pub begins_as_sent : FirstIsWhole (IsRedPushOf r) (may_split s.payloading.packetizer) log.released.units r.pops → NoneEvicted s.sink.first (length sent) log.turns
         → IsPatient s.sink.first log.released.units 0 log.turns
-        → AreNext (IsRedPushOf r) (may_split s.payloading.pack) log.released.units 0 r.pops
+        → AreNext (IsRedPushOf r) (may_split s.payloading.packetizer) log.released.units 0 r.pops
     begins_as_sent whole kept patient =
-        let first_whole = subst (FirstIsWhole (IsRedPushOf r) (may_split s.payloading.pack) log.released.units) (sym log.answers) whole in
+        let first_whole = subst (FirstIsWhole (IsRedPushOf r) (may_split s.payloading.packetizer) log.released.units) (sym log.answers) whole in
         let none_evicted = subst (λ (ps : List Packet). NoneEvicted s.sink.first (length ps) log.turns) (sym log.released.packets) kept in
-        subst (AreNext (IsRedPushOf r) (may_split s.payloading.pack) log.released.units 0) log.answers
+        subst (AreNext (IsRedPushOf r) (may_split s.payloading.packetizer) log.released.units 0) log.answers
         (begins_from log_setting s.buffer log.turns log.end log_ready
         (nothing r.samples r.steps s t stream is.unused is.readable (IsRedPushOf r) faithful log.released.units log.lawful log.released.packets) log_chain first_whole none_evicted patient)
 

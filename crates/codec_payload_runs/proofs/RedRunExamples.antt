@@ -2,8 +2,8 @@
 use Rattle.std.proofs.Common.{◌≢◌, refl, ℕ, zero, suc, ◌<◌, List, [], ◌∷◌, Some, None, false, inl, inr, arith}
 use Rattle.std.specs.Prelude.{slice_get}
 use Rattle.codec_payload_base.specs.Extensions.{no_values}
-use Rattle.codec_payload_codec.specs.Depack.{OpusDepack}
-use Rattle.codec_payload_codec.specs.Pack.{OpusPack}
+use Rattle.codec_payload_codec.specs.Depacketizers.{OpusDepacketizing}
+use Rattle.codec_payload_codec.specs.Packetizers.{OpusPacketizing}
 use Rattle.codec_payload_runs.specs.Exact.{IsPushedFirst}
 use Rattle.codec_payload_send.specs.Packets.{Packet}
 use Rattle.codec_payload_runs.specs.RedPromises.{RedRan, IsRedFresh, IsIn, IsAllThere}
@@ -30,7 +30,7 @@ all_steps = steps.Send 0 1199 ∷ steps.Send 1 1199 ∷ steps.Send 2 1199 ∷ st
 
 abbrev state_with : List Packet → RedState
 state_with sent = record {
-  plain = run_state (record { pack = OpusPack; clock_rate = 48000 }) (empty_buffer 0 4096 OpusDepack) (record { first = 10; packets = sent });
+  plain = run_state (record { packetizer = OpusPacketizing; clock_rate = 48000 }) (empty_buffer 0 4096 OpusDepacketizing) (record { first = 10; packets = sent });
   images = all_in_red sender 1200 sent;
   sender = sender_after sender [];
 }

@@ -3,9 +3,9 @@ use Rattle.std.proofs.Common.{◌≡◌, ◌∙◌, refl, sym, ap, subst, ℕ, z
 use Rattle.std.specs.Prelude.{slice_get}
 use Rattle.std.proofs.lemmas.List.{map-append}
 use Rattle.codec_payload_runs.proofs.BuiltInRuns.{Pushing, Runs, IsOfCodec, push_keeps, send_exactly, pop_exactly}
-use Rattle.codec_payload_codec.specs.Depack.{Depack, is_built_in_depack}
+use Rattle.codec_payload_codec.specs.Depacketizers.{DepacketizerState, is_built_in_depacketizer}
 use Rattle.codec_payload_buffer.specs.Held.{Held}
-use Rattle.codec_payload_codec.specs.Pack.{is_built_in}
+use Rattle.codec_payload_codec.specs.Packetizers.{is_built_in}
 use Rattle.codec_payload_buffer.specs.Steps.{State, arrived, pushed}
 use Rattle.codec_payload_buffer.specs.Stretches.{after_pushes}
 use Rattle.codec_payload_send.specs.Packets.{Packet}
@@ -78,45 +78,45 @@ length_in_red red budget (p ∷ ps) = ap suc (length_in_red (recorded red p.payl
 
 -- a packet of a sender that sent nothing before this run is put in RED, and what a receiver recovers from it is pushed
 abbrev pub wrapped_by : Protection → Sender → Pushing
-wrapped_by w red place k s = after_pushes s.buffer (recovered_held place s.payloading.clock_rate w.receiver (slice_get (all_in_red red w.budget s.sink.packets) k) s.buffer.depack)
+wrapped_by w red place k s = after_pushes s.buffer (recovered_held place s.payloading.clock_rate w.receiver (slice_get (all_in_red red w.budget s.sink.packets) k) s.buffer.depacketizer)
 
 all_exactly : (place clock_rate pt : ℕ) (carrier : Packet) (xs : List RecoveredPacket) (s t : State) → IsOfCodec s → PushesAll place clock_rate pt carrier xs s t
-    → (t ≡ after_pushes s (map (λ (x : RecoveredPacket). arrived s.depack (meta_of_recovered place clock_rate pt carrier x) x.bytes) xs)) × IsOfCodec t
-all_exactly place clock_rate pt carrier [] s t built_in pushes = (pushes, ap (λ (x : State). is_built_in_depack x.depack) pushes ∙ built_in)
+    → (t ≡ after_pushes s (map (λ (x : RecoveredPacket). arrived s.depacketizer (meta_of_recovered place clock_rate pt carrier x) x.bytes) xs)) × IsOfCodec t
+all_exactly place clock_rate pt carrier [] s t built_in pushes = (pushes, ap (λ (x : State). is_built_in_depacketizer x.depacketizer) pushes ∙ built_in)
 all_exactly place clock_rate pt carrier (x ∷ xs) s t built_in pushes =
     let held = pushes.1.2 built_in in
     let keeps = push_keeps s pushes.0 in
-    let rest = all_exactly place clock_rate pt carrier xs (pushed s pushes.0) t (ap is_built_in_depack keeps ∙ built_in) pushes.2 in
-    let others : Depack → List Held = λ d. map (λ (y : RecoveredPacket). arrived d (meta_of_recovered place clock_rate pt carrier y) y.bytes) xs in
-    (rest.0 ∙ (ap (λ (d : Depack). after_pushes (pushed s pushes.0) (others d)) keeps ∙ ap (λ (h : Held). after_pushes (pushed s h) (others s.depack)) held), rest.1)
+    let rest = all_exactly place clock_rate pt carrier xs (pushed s pushes.0) t (ap is_built_in_depacketizer keeps ∙ built_in) pushes.2 in
+    let others : DepacketizerState → List Held = λ d. map (λ (y : RecoveredPacket). arrived d (meta_of_recovered place clock_rate pt carrier y) y.bytes) xs in
+    (rest.0 ∙ (ap (λ (d : DepacketizerState). after_pushes (pushed s pushes.0) (others d)) keeps ∙ ap (λ (h : Held). after_pushes (pushed s h) (others s.depacketizer)) held), rest.1)
 
 red_exactly : (place clock_rate : ℕ) (receiver : Receiver) (o : Option Packet) (s t : State) → IsOfCodec s → RedPushes place clock_rate receiver o s t
-    → (t ≡ after_pushes s (recovered_held place clock_rate receiver o s.depack)) × IsOfCodec t
-red_exactly place clock_rate receiver None s t built_in pushes = (pushes, ap (λ (x : State). is_built_in_depack x.depack) pushes ∙ built_in)
+    → (t ≡ after_pushes s (recovered_held place clock_rate receiver o s.depacketizer)) × IsOfCodec t
+red_exactly place clock_rate receiver None s t built_in pushes = (pushes, ap (λ (x : State). is_built_in_depacketizer x.depacketizer) pushes ∙ built_in)
 red_exactly place clock_rate receiver (Some p) s t built_in pushes = all_exactly place clock_rate receiver.primary_pt p (recovered_in receiver p) s t built_in pushes
 
 -- the run without RED, and what it leaves in the sink and the sender
 pub runs_in_red : (w : Protection) (red : Sender) (samples : List Sample) (place : ℕ) (later : List Step) (s t : RedState) (sends : List Sent) (pops : List Answer)
-    → is_built_in s.plain.payloading.pack ≡ true → IsOfCodec s.plain.buffer → IsInStep red w.budget s → RunsInRed w samples place later s sends pops t
+    → is_built_in s.plain.payloading.packetizer ≡ true → IsOfCodec s.plain.buffer → IsInStep red w.budget s → RunsInRed w samples place later s sends pops t
     → Runs (wrapped_by w red) samples place later s.plain sends pops t.plain × IsInStep red w.budget t
-runs_in_red w red samples place [] s t sends pops pack depack now run = ((run.0, run.1, ap (λ (x : RedState). x.plain) run.2), subst (IsInStep red w.budget) (sym run.2) now)
-runs_in_red w red samples place (steps.Send i mtu ∷ later) s t sends pops pack depack now run =
-    let one = send_exactly samples place i mtu s.plain run.4.plain run.0 run.2 pack depack run.7.0 in
+runs_in_red w red samples place [] s t sends pops packetizer depacketizer now run = ((run.0, run.1, ap (λ (x : RedState). x.plain) run.2), subst (IsInStep red w.budget) (sym run.2) now)
+runs_in_red w red samples place (steps.Send i mtu ∷ later) s t sends pops packetizer depacketizer now run =
+    let one = send_exactly samples place i mtu s.plain run.4.plain run.0 run.2 packetizer depacketizer run.7.0 in
     let rest = runs_in_red w red samples (place + 1) later run.4 t run.1 run.3 one.1 one.2 (in_step_sent red w.budget s run.4 run.7.1 now) run.8 in
     ((run.0, run.1, run.2, run.3, run.4.plain, run.5, run.6, one.0, rest.0), rest.1)
-runs_in_red w red samples place (steps.Push k ∷ later) s t sends pops pack depack now run =
+runs_in_red w red samples place (steps.Push k ∷ later) s t sends pops packetizer depacketizer now run =
     let step = run.7 in
-    let one = red_exactly place s.plain.payloading.clock_rate w.receiver (slice_get s.images k) s.plain.buffer step.2 depack step.3 in
+    let one = red_exactly place s.plain.payloading.clock_rate w.receiver (slice_get s.images k) s.plain.buffer step.2 depacketizer step.3 in
     let plain : run.4.plain ≡ record s.plain { buffer = step.2 } = ap (λ (x : RedState). x.plain) step.4 in
     let is : step.2 ≡ wrapped_by w red place k s.plain =
-    one.0 ∙ ap (λ (ps : List Packet). after_pushes s.plain.buffer (recovered_held place s.plain.payloading.clock_rate w.receiver (slice_get ps k) s.plain.buffer.depack)) now.images in
+    one.0 ∙ ap (λ (ps : List Packet). after_pushes s.plain.buffer (recovered_held place s.plain.payloading.clock_rate w.receiver (slice_get ps k) s.plain.buffer.depacketizer)) now.images in
     let kept = in_step_kept red w.budget s run.4 (ap (λ (x : RedState). x.images) step.4) (ap (λ (x : RedState). x.sender) step.4) (ap (λ (x : RunState). x.sink.packets) plain) now in
-    let rest = runs_in_red w red samples (place + 1) later run.4 t run.1 run.3 (ap (λ (x : RunState). is_built_in x.payloading.pack) plain ∙ pack)
-        (ap (λ (x : RunState). is_built_in_depack x.buffer.depack) plain ∙ one.1) kept run.8 in
+    let rest = runs_in_red w red samples (place + 1) later run.4 t run.1 run.3 (ap (λ (x : RunState). is_built_in x.payloading.packetizer) plain ∙ packetizer)
+        (ap (λ (x : RunState). is_built_in_depacketizer x.buffer.depacketizer) plain ∙ one.1) kept run.8 in
     ((run.0, run.1, run.2, run.3, run.4.plain, run.5, run.6, (step.0, step.1, plain ∙ ap (λ (b : State). record s.plain { buffer = b }) is), rest.0), rest.1)
-runs_in_red w red samples place (steps.Pop ∷ later) s t sends pops pack depack now run =
+runs_in_red w red samples place (steps.Pop ∷ later) s t sends pops packetizer depacketizer now run =
     let step = run.7.0 in
-    let one = pop_exactly samples place s.plain run.4.plain run.0 run.2 pack depack step in
+    let one = pop_exactly samples place s.plain run.4.plain run.0 run.2 packetizer depacketizer step in
     let kept = in_step_kept red w.budget s run.4 run.7.1 run.7.2 (ap (λ (x : RunState). x.sink.packets) step.6) now in
     let rest = runs_in_red w red samples (place + 1) later run.4 t run.1 run.3 one.0 one.1 kept run.8 in
     ((run.0, run.1, run.2, run.3, run.4.plain, run.5, run.6, step, rest.0), rest.1)

@@ -4,7 +4,7 @@ use Rattle.std.proofs.lemmas.List.{append-nil, map-append}
 use Rattle.std.specs.Result.{result_err}
 use Rattle.codec_payload_base.specs.declared.error.PacketError.{PacketError}
 use Rattle.codec_payload_base.specs.declared.error.PacketError.TheVariants as faults
-use Rattle.codec_payload_codec.specs.Pack.{is_built_in}
+use Rattle.codec_payload_codec.specs.Packetizers.{is_built_in}
 use Rattle.codec_payload_buffer.specs.Steps.{State}
 use Rattle.codec_payload_runs.proofs.RedRuns.{after_append, length_in_red}
 use Rattle.codec_payload_runs.proofs.ScheduleLemmas.{next_number, kept_packets, sent_it, refused_it, left_by}
@@ -104,7 +104,7 @@ sample_plainly mtu sample p p' before after sent long did =
       payloads = did.payloads;
       packetized = did.packetized;
       packets = did.packets;
-      are = subst (λ (n : ℕ). AreAs (is_built_in p'.pack) did.packets (packets_for p'.pack sample (rtp_time_at p.clock_rate sample.rtp_time) n did.payloads)) number did.are;
+      are = subst (λ (n : ℕ). AreAs (is_built_in p'.packetizer) did.packets (packets_for p'.packetizer sample (rtp_time_at p.clock_rate sample.rtp_time) n did.payloads)) number did.are;
       images = did.packets;
       sends = sends_plainly before did.packets did.images after did.sends sent long;
       gained = refl;
@@ -226,7 +226,7 @@ stopped_in_red mtu sample p p' b before after sent long clock (inl nothing) =
       now = sent ++ [];
       long = ap length (append-nil sent) ∙ (long ∙ ap (λ (x : RedSink SentPackets). length (stream_of x).packets) (sym nothing.same));
       stops = (
-        p'.pack,
+        p'.packetizer,
         inl (
           nothing.packetized,
           red_same plain (ap (λ (x : RedSink SentPackets). (stream_of x).packets) nothing.same) (ap (λ (x : RedSink SentPackets). sender_of x) nothing.same),
@@ -246,15 +246,15 @@ stopped_in_red mtu sample p p' b before after sent long clock (inr beginning) =
       long = length-append sent begun ∙ (omega (arith, length_in_red (sender_of before) (budget_of before) begun, long)
           ∙ (sym (length-append (stream_of before).packets _) ∙ sym (ap (λ (s : SentPackets). length s.packets) stream)));
       stops = (
-        p'.pack,
+        p'.packetizer,
         inr (
           beginning.payloads,
           begun,
           beginning.refused,
           beginning.left,
           beginning.packetized,
-          subst (λ (n : ℕ). AreAs (is_built_in p'.pack) (begun ++ beginning.refused ∷ beginning.left)
-              (packets_for p'.pack sample (rtp_time_at p.clock_rate sample.rtp_time) n beginning.payloads)) number beginning.whole,
+          subst (λ (n : ℕ). AreAs (is_built_in p'.packetizer) (begun ++ beginning.refused ∷ beginning.left)
+              (packets_for p'.packetizer sample (rtp_time_at p.clock_rate sample.rtp_time) n beginning.payloads)) number beginning.whole,
           refused.0,
           refused.1,
           red_same plain (ap (λ (s : SentPackets). s.packets) stream) refused.2,

@@ -23,7 +23,7 @@ use Rattle.codec_payload_runs.proofs.TurnLemmas.{Setting, Beyond, ArePushes, Cha
 use Rattle.codec_payload_runs.proofs.UnitRows.{IsFaithful, push_faithful, held_as, slice_append}
 use Rattle.codec_payload_runs.proofs.UnitValues.{AreStripped, carried_at, told_by_all}
 use Rattle.codec_payload_base.specs.declared.wire.extension.ExtensionValues.{ExtensionValues}
-use Rattle.codec_payload_codec.specs.Depack.{Depack, DepackKind, kind_of_depack}
+use Rattle.codec_payload_codec.specs.Depacketizers.{DepacketizerState, DepacketizerKind, kind_of_depacketizer}
 use Rattle.codec_payload_buffer.specs.Held.{Held, has_number}
 use Rattle.codec_payload_buffer.specs.Release.{AreValues}
 use Rattle.codec_payload_buffer.specs.Steps.{State}
@@ -69,7 +69,7 @@ slice_there [] k l = absurd (omega (arith, l))
 slice_there (p ∷ ps) zero l = (p, refl)
 slice_there (p ∷ ps) (suc k) l = slice_there ps k (omega (arith, l))
 
-end_at : (kind : DepackKind) (units : List SentUnit) (place : ℕ) (u : SentUnit) → AllEndWithTail kind units → slice_get units place ≡ Some u → EndsWithTail kind u.packets
+end_at : (kind : DepacketizerKind) (units : List SentUnit) (place : ℕ) (u : SentUnit) → AllEndWithTail kind units → slice_get units place ≡ Some u → EndsWithTail kind u.packets
 end_at kind [] place u ends is = absurd (cc)
 end_at kind (v ∷ us) zero u ends is = let same : v ≡ u = cc in subst (λ (x : SentUnit). EndsWithTail kind x.packets) same ends.0
 end_at kind (v ∷ us) (suc place) u ends is = end_at kind us place u ends.1 is
@@ -80,28 +80,28 @@ plain_chain : (c : Setting) (all_steps : List Step) (sends : List Sent) (turns :
 plain_chain c all_steps sends turns end s beyond log = chain_of (by_steps c all_steps sends) all_steps named named_sent all_steps 0 (begun s) turns end refl 0 beyond
     (record { sent = tt; now = refl }) log
   where
-    named : ℕ → ℕ → Depack → List Held
+    named : ℕ → ℕ → DepacketizerState → List Held
     named place k = held_of place c.clock_rate (packet_named (packets_of c.units) sends place k)
 
-    named_sent : (place k : ℕ) (d : Depack) → slice_get all_steps place ≡ Some (steps.Push k) → kind_of_depack d ≡ c.kind → ArePushes (by_steps c all_steps sends) (named place k d)
+    named_sent : (place k : ℕ) (d : DepacketizerState) → slice_get all_steps place ≡ Some (steps.Push k) → kind_of_depacketizer d ≡ c.kind → ArePushes (by_steps c all_steps sends) (named place k d)
     named_sent place k d at reads = by_packet (packet_named (packets_of c.units) sends place k) refl
       where
         by_packet : (o : Option Packet) → packet_named (packets_of c.units) sends place k ≡ o → ArePushes (by_steps c all_steps sends) (held_of place c.clock_rate o d)
         by_packet None is = tt
         by_packet (Some q) is =
             let meta = meta_of_push place c.clock_rate q in
-            ((k, q, slice_taken (packets_of c.units) _ k q is, (place, at, taken_within (packets_of c.units) _ k q is, refl), ap (λ (x : DepackKind). held_as x meta q.payload) reads), tt)
+            ((k, q, slice_taken (packets_of c.units) _ k q is, (place, at, taken_within (packets_of c.units) _ k q is, refl), ap (λ (x : DepacketizerKind). held_as x meta q.payload) reads), tt)
 
 module _ (samples : List Sample) (all_steps : List Step) (s t : RunState) (sends : List Sent) (pops : List Answer)
-    (run : Runs plainly samples 0 all_steps s sends pops t) (unused : IsUnused s) (readable : AreReadable s.payloading.pack samples) where
+    (run : Runs plainly samples 0 all_steps s sends pops t) (unused : IsUnused s) (readable : AreReadable s.payloading.packetizer samples) where
   -- what is known of pushes, and what a step pushes
   abbrev Known : ℕ → Packet → RtpMeta → Type 0
   Known = IsPushOf all_steps sends s.payloading.clock_rate
 
-  abbrev faithful : IsFaithful Known s.payloading.clock_rate (payloads_by s.payloading.pack)
-  faithful = push_faithful all_steps sends s.payloading.clock_rate (payloads_by s.payloading.pack)
+  abbrev faithful : IsFaithful Known s.payloading.clock_rate (payloads_by s.payloading.packetizer)
+  faithful = push_faithful all_steps sends s.payloading.clock_rate (payloads_by s.payloading.packetizer)
 
-  abbrev named : ℕ → ℕ → Depack → List Held
+  abbrev named : ℕ → ℕ → DepacketizerState → List Held
   named place k = held_of place s.payloading.clock_rate (packet_named t.sink.packets sends place k)
 
   abbrev stream : Streams samples all_steps s t
@@ -113,7 +113,7 @@ module _ (samples : List Sample) (all_steps : List Step) (s t : RunState) (sends
           (plain_as_named t.sink.packets s.payloading.clock_rate sends) all_steps 0 s t sends [] pops (begun s.buffer) run refl refl refl
           (λ n l. sym (ap length unused.nothing_sent)) refl
 
-  module _ (units : List SentUnit) (lawful : AllLawful (payloads_by s.payloading.pack) (may_split s.payloading.pack) units) (packets : packets_of units ≡ t.sink.packets) where
+  module _ (units : List SentUnit) (lawful : AllLawful (payloads_by s.payloading.packetizer) (may_split s.payloading.packetizer) units) (packets : packets_of units ≡ t.sink.packets) where
     abbrev pub run_setting : Setting
     run_setting = setting samples all_steps s t stream unused readable Known faithful units lawful packets
 
@@ -141,8 +141,8 @@ module _ (samples : List Sample) (all_steps : List Step) (s t : RunState) (sends
     units = stream.units;
     canonical = stream.canonical;
     packets = sym sent.whole;
-    ends = all_end (payloads_by s.payloading.pack) (may_split s.payloading.pack) stream.units (stream.lawful readable);
-    in_order = subst (InOrder Known (may_split s.payloading.pack) stream.units 0) found.answers
+    ends = all_end (payloads_by s.payloading.packetizer) (may_split s.payloading.packetizer) stream.units (stream.lawful readable);
+    in_order = subst (InOrder Known (may_split s.payloading.packetizer) stream.units 0) found.answers
         (chain_in_order (run_setting stream.units (stream.lawful readable) (sym sent.whole)) 0 s.buffer found.turns found.end (run_fresh stream.units (stream.lawful readable) (sym sent.whole)) chain);
     before_pops = of_earlier plainly samples plain_earlier 0 all_steps s t sends pops run (subst (AllEarlier 0) (sym unused.nothing_held) tt);
   }
@@ -187,16 +187,16 @@ module _ (samples : List Sample) (all_steps : List Step) (s t : RunState) (sends
   pub has_values : (released : ReleasesInOrder samples all_steps s sends pops t) → HaveValuesOfSamples released
   has_values released video place r whole =
       let sent = sends_all samples all_steps s t unused stream in
-      let kind = payloads_by s.payloading.pack in
-      let ends = all_end kind (may_split s.payloading.pack) stream.units (stream.lawful readable) in
-      let all = values_of kind (values_of_run s.payloading.pack samples all_steps) released.units stream.units released.ends ends (released.packets ∙ sent.whole) (stream.values video) in
-      let at = carried_at (values_of_run s.payloading.pack samples all_steps) released.units place whole.0.sent all whole.0.at_place in
+      let kind = payloads_by s.payloading.packetizer in
+      let ends = all_end kind (may_split s.payloading.packetizer) stream.units (stream.lawful readable) in
+      let all = values_of kind (values_of_run s.payloading.packetizer samples all_steps) released.units stream.units released.ends ends (released.packets ∙ sent.whole) (stream.values video) in
+      let at = carried_at (values_of_run s.payloading.packetizer samples all_steps) released.units place whole.0.sent all whole.0.at_place in
       let exact : whole.0.rest ≡ whole.0.sent.packets = ap (λ (ps : List Packet). ps ++ whole.0.rest) (sym whole.1) ∙ whole.0.whole in
       let k = packets_before place released.units + length whole.0.missing in
       let pushes : ArePushesBy Known k whole.0.sent.packets r.metas = subst (λ (ps : List Packet). ArePushesBy Known k ps r.metas) exact whole.0.metas in
       (at.0, at.1, told whole.0.sent.packets k at.0 (end_at kind released.units place whole.0.sent released.ends whole.0.at_place) pushes at.2)
     where
-      told : (ps : List Packet) (k : ℕ) (values : ExtensionValues) → EndsWithTail (payloads_by s.payloading.pack) ps → ArePushesBy Known k ps r.metas
+      told : (ps : List Packet) (k : ℕ) (values : ExtensionValues) → EndsWithTail (payloads_by s.payloading.packetizer) ps → ArePushesBy Known k ps r.metas
           → AreStripped values 0 (length ps) ps → AreValues r.metas values
       told [] k values end pushes carry = absurd end
       told (p ∷ ps) k values end pushes carry = told_by_all all_steps sends s.payloading.clock_rate values k p ps r.metas pushes carry
@@ -211,7 +211,7 @@ module _ (samples : List Sample) (all_steps : List Step) (s t : RunState) (sends
     pub log_chain : Chain log_setting s.buffer log.turns log.end
     log_chain = run_chain log.released.units log.lawful log.released.packets log.turns log.end log.is_log
 
-    log_nothing : Follows log_setting 0 s.buffer.depack s.buffer.contiguity
+    log_nothing : Follows log_setting 0 s.buffer.depacketizer s.buffer.contiguity
     log_nothing = nothing samples all_steps s t stream unused readable Known faithful log.released.units log.lawful log.released.packets
 
     pub order_free : IsOrderFree log
@@ -234,9 +234,9 @@ module _ (samples : List Sample) (all_steps : List Step) (s t : RunState) (sends
 
     pub begins_as_sent : BeginsAsSent log
     begins_as_sent whole kept patient =
-        let first_whole = subst (FirstIsWhole Known (may_split s.payloading.pack) log.released.units) (sym log.answers) whole in
+        let first_whole = subst (FirstIsWhole Known (may_split s.payloading.packetizer) log.released.units) (sym log.answers) whole in
         let none_evicted = subst (λ (ps : List Packet). NoneEvicted s.sink.first (length ps) log.turns) (sym log.released.packets) kept in
-        subst (AreNext Known (may_split s.payloading.pack) log.released.units 0) log.answers
+        subst (AreNext Known (may_split s.payloading.packetizer) log.released.units 0) log.answers
         (begins_from log_setting s.buffer log.turns log.end log_ready log_nothing log_chain first_whole none_evicted patient)
 
 -- two runs over the same packets

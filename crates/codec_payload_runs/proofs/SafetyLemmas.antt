@@ -13,7 +13,7 @@ use Rattle.codec_payload_buffer.proofs.PopLemmas.{part_due, above_rises, above_i
 use Rattle.codec_payload_buffer.proofs.RowLemmas.{above_all, first_above, part_between, first_le_last, run_first, run_length}
 use Rattle.codec_payload_runs.proofs.StreamLemmas.{Streams}
 use Rattle.codec_payload_runs.proofs.UnitRows.{IsFaithful, held_as, drop_at, RowOf, Exact, unit_of_row, exact_length, exact_payloads, exact_metas, exact_starts}
-use Rattle.codec_payload_codec.specs.Depack.{Depack, DepackKind, kind_of_depack}
+use Rattle.codec_payload_codec.specs.Depacketizers.{DepacketizerState, DepacketizerKind, kind_of_depacketizer}
 use Rattle.codec_payload_runs.specs.Headline.{ArePushesBy, packets_before, IsUnitAt, IsUnused}
 use Rattle.codec_payload_buffer.specs.Held.{Held, Rises, IsAboveCutoff, placed, above, between, has_number}
 use Rattle.codec_payload_send.specs.Packets.{Packet, AreNumbered}
@@ -24,7 +24,7 @@ use Rattle.codec_payload_send.specs.Sending.{Sample}
 use Rattle.codec_payload_runs.specs.LawfulUnits.{StartsWithHead, IsLawful, AllLawful}
 use Rattle.codec_payload_runs.specs.SentStream.{SentUnit, packets_of, AllEndWithTail, IsReleaseOf}
 use Rattle.codec_payload_buffer.specs.Steps.{State, pushed, kept_to_limit, without_lowest, is_dropped, is_at_most, without, metas_of, due_of, packets_of_frame, Unpacked, Unpacks, nothing_unpacked, Gives, Passes, none, one_more, PassesOver, Releases, Refuses}
-use Rattle.codec_payload_buffer.specs.declared.buffer.frames.Segment.{Segment}
+use Rattle.codec_payload_buffer.specs.declared.buffer.frames.CompleteFrame.{CompleteFrame}
 use Rattle.codec_payload_buffer.specs.declared.buffer.unit.RtpMeta.{RtpMeta}
 use Rattle.codec_payload_buffer.specs.declared.contiguity.Contiguity.{Contiguity}
 use Rattle.codec_payload_runs.specs.declared.run.Sent.{Sent}
@@ -49,7 +49,7 @@ before_later (v ∷ us) zero (suc n) u h l = let e : v ≡ u = cc in rw (← e) 
 before_later (v ∷ us) (suc place) (suc n) u h l = omega (arith, before_later us place n u h (omega arith), length-append v.packets (packets_of (take place us)),
     length-append v.packets (packets_of (take n us)))
 
-pub lawful_at : (kind : DepackKind) (splits : Bool) (units : List SentUnit) (place : ℕ) (u : SentUnit) → AllLawful kind splits units → slice_get units place ≡ Some u → IsLawful kind splits u
+pub lawful_at : (kind : DepacketizerKind) (splits : Bool) (units : List SentUnit) (place : ℕ) (u : SentUnit) → AllLawful kind splits units → slice_get units place ≡ Some u → IsLawful kind splits u
 lawful_at kind splits [] place u l h = absurd (cc)
 lawful_at kind splits (v ∷ us) zero u l h = let e : v ≡ u = cc in rw (← e) l.0
 lawful_at kind splits (v ∷ us) (suc place) u l h = lawful_at kind splits us place u l.1 h
@@ -69,7 +69,7 @@ send_keeps samples place i mtu s mid sends pops step = at (slice_get samples i) 
     at None step = (ap (λ (x : RunState). x.buffer) step.1, ap (λ (x : RunState). x.payloading.clock_rate) step.1)
     at (Some sample) step = (ap (λ (x : RunState). x.buffer) step.2.left, ap (λ (x : RunState). x.payloading.clock_rate) step.2.left)
 
-module _ (known : ℕ → Packet → RtpMeta → Type 0) (clock_rate first : ℕ) (kind : DepackKind) (faithful : IsFaithful known clock_rate kind) (splits : Bool)
+module _ (known : ℕ → Packet → RtpMeta → Type 0) (clock_rate first : ℕ) (kind : DepacketizerKind) (faithful : IsFaithful known clock_rate kind) (splits : Bool)
     (all : List SentUnit) (lawful : AllLawful kind splits all) (numbered : AreNumbered first (packets_of all)) where
   -- a push of a packet that was sent
   abbrev pub IsSent : Held → Type 0
@@ -86,7 +86,7 @@ module _ (known : ℕ → Packet → RtpMeta → Type 0) (clock_rate first : ℕ
     pub beyond : IsAboveCutoff s.cutoff s.held
     pub sent : AllSent s.held
     pub floor : first + packets_before from all ≤ next_after first s.cutoff
-    pub reads : kind_of_depack s.depack ≡ kind
+    pub reads : kind_of_depacketizer s.depacketizer ≡ kind
 
   sent_append : (xs ys : List Held) → AllSent (xs ++ ys) → AllSent ys
   sent_append [] ys a = a
@@ -118,7 +118,7 @@ module _ (known : ℕ → Packet → RtpMeta → Type 0) (clock_rate first : ℕ
       rw (drop_at (packets_of all) k i.1 (rw same at i.2)) (rw same at i.3, i.4, rest)
 
   -- what is known of the packets of the frame that is due
-  pub record IsFrameOf (from : ℕ) (s : State) (f : Segment) : Type 0 where
+  pub record IsFrameOf (from : ℕ) (s : State) (f : CompleteFrame) : Type 0 where
     pub packets : List Held
     pub after : List Held
     pub are : packets_of_frame s f ≡ packets
@@ -146,7 +146,7 @@ module _ (known : ℕ → Packet → RtpMeta → Type 0) (clock_rate first : ℕ
   above_next None before packets after k f last time is run a = omega arith
   above_next (Some c) before packets after k f last time is run a = omega (arith, first_above c packets after f last time run (above_all c before (packets ++ after) a))
 
-  pub frame_of : (from : ℕ) (s : State) (f : Segment) → IsBeyond from s → due_of s ≡ Some f → IsFrameOf from s f
+  pub frame_of : (from : ℕ) (s : State) (f : CompleteFrame) → IsBeyond from s → due_of s ≡ Some f → IsFrameOf from s f
   frame_of from s f sound due =
       let found = part_due s f due in
       let packets = found.0 in
@@ -226,30 +226,30 @@ module _ (known : ℕ → Packet → RtpMeta → Type 0) (clock_rate first : ℕ
       (λ e. beyond_kept from (record s { held = placed p s.held }) (beyond_placed from s p i (grind (arith, e)) (grind (arith, e)) sound))
 
   -- the frame that is due has left: what is held lies beyond its unit
-  pub beyond_without : (from : ℕ) (s : State) (f : Segment) (sound : IsBeyond from s) (due : due_of s ≡ Some f) (n : ℕ) → first + packets_before n all ≤ f.last + 1
-      → (d : Depack) → kind_of_depack d ≡ kind → (c : Contiguity) (mark : Bool) → IsBeyond n (without s f d c mark)
+  pub beyond_without : (from : ℕ) (s : State) (f : CompleteFrame) (sound : IsBeyond from s) (due : due_of s ≡ Some f) (n : ℕ) → first + packets_before n all ≤ f.last + 1
+      → (d : DepacketizerState) → kind_of_depacketizer d ≡ kind → (c : Contiguity) (mark : Bool) → IsBeyond n (without s f d c mark)
   beyond_without from s f sound due n floor d reads c mark =
       let frame = frame_of from s f sound due in
       record { rises = above_rises f.last s.held sound.rises; beyond = above_is_above f.last s.held; sent = subst AllSent (sym frame.left) frame.sent_after; floor = floor; reads = reads }
 
   -- what the depacketizer answers for the frame that is due
-  pub given : (from : ℕ) (s : State) (f : Segment) (sound : IsBeyond from s) (due : due_of s ≡ Some f) (answer : Result Unpacked PacketError) (e : Depack) → Gives s f answer e
-      → let frame = frame_of from s f sound due in (kind_of_depack e ≡ kind)
+  pub given : (from : ℕ) (s : State) (f : CompleteFrame) (sound : IsBeyond from s) (due : due_of s ≡ Some f) (answer : Result Unpacked PacketError) (e : DepacketizerState) → Gives s f answer e
+      → let frame = frame_of from s f sound due in (kind_of_depacketizer e ≡ kind)
           × MatchResult answer (λ unpacked. IsReleaseOf splits frame.sent frame.missing unpacked.bytes) (λ fault. fault ≡ faults.OutOfMemory)
   given from s f sound due answer e gives =
       let frame = frame_of from s f sound due in
       let law = lawful_at kind splits all frame.place frame.sent lawful frame.at_place in
       law.gives frame.missing frame.rest frame.whole frame.starts frame.packets
       (exact_payloads known clock_rate kind faithful (packets_before frame.place all + length frame.missing) frame.rest frame.packets frame.exact)
-      s.depack answer e sound.reads (subst (λ (ps : List Held). Unpacks s.depack ps nothing_unpacked answer e) frame.are gives)
+      s.depacketizer answer e sound.reads (subst (λ (ps : List Held). Unpacks s.depacketizer ps nothing_unpacked answer e) frame.are gives)
 
   beyond_over : (from : ℕ) (s t : State) → IsBeyond from s → PassesOver s t → IsBeyond from t
   beyond_over from s t sound over =
       let frame = frame_of from s over.frame sound over.is_due in
-      let reads = (given from s over.frame sound over.is_due (Ok over.unpacked) over.depack over.gives).0 in
-      subst (IsBeyond from) (sym over.left) (beyond_without from s over.frame sound over.is_due from (omega (arith, sound.floor, frame.higher)) over.depack reads _ s.mark)
+      let reads = (given from s over.frame sound over.is_due (Ok over.unpacked) over.depacketizer over.gives).0 in
+      subst (IsBeyond from) (sym over.left) (beyond_without from s over.frame sound over.is_due from (omega (arith, sound.floor, frame.higher)) over.depacketizer reads _ s.evicted)
 
-  pub beyond_passes : (from : ℕ) (s t : State) (over : List Segment) → IsBeyond from s → Passes s over t → IsBeyond from t
+  pub beyond_passes : (from : ℕ) (s t : State) (over : List CompleteFrame) → IsBeyond from s → Passes s over t → IsBeyond from t
   beyond_passes from s t over sound none = sound
   beyond_passes from s u over sound (one_more passes passed) = beyond_over from _ u (beyond_passes from s _ _ sound passes) passed
 
@@ -258,7 +258,7 @@ module _ (known : ℕ → Packet → RtpMeta → Type 0) (clock_rate first : ℕ
       (is : IsUnitAt known splits all frame.place r) × (is.missing ≡ frame.missing) × IsBeyond (frame.place + 1) t
   released_at from s t r sound out =
       let frame = frame_of from s out.frame sound out.is_due in
-      let answer = given from s out.frame sound out.is_due (Ok (record { bytes = r.bytes; extra = r.codec_extra })) out.depack out.gives in
+      let answer = given from s out.frame sound out.is_due (Ok (record { bytes = r.bytes; extra = r.codec_extra })) out.depacketizer out.gives in
       let metas : r.metas ≡ metas_of frame.packets = out.metas ∙ ap metas_of frame.are in (
         record {
           sent = frame.sent;
@@ -271,7 +271,7 @@ module _ (known : ℕ → Packet → RtpMeta → Type 0) (clock_rate first : ℕ
               (exact_metas known clock_rate kind faithful (packets_before frame.place all + length frame.missing) frame.rest frame.packets frame.exact);
         },
         refl,
-        subst (IsBeyond (frame.place + 1)) (sym out.left) (beyond_without from s out.frame sound out.is_due (frame.place + 1) (omega (arith, frame.stop)) out.depack answer.0 _ false),
+        subst (IsBeyond (frame.place + 1)) (sym out.left) (beyond_without from s out.frame sound out.is_due (frame.place + 1) (omega (arith, frame.stop)) out.depacketizer answer.0 _ false),
       )
 
   -- which lies further on
@@ -284,10 +284,10 @@ module _ (known : ℕ → Packet → RtpMeta → Type 0) (clock_rate first : ℕ
   -- and no fault but for memory is answered
   pub not_refused : (from : ℕ) (s t : State) (fault : PacketError) → IsBeyond from s → Refuses s fault t → ⊥
   not_refused from s t fault sound refusal =
-      refusal.not_memory (given from s refusal.frame sound refusal.is_due (Err fault) refusal.depack refusal.gives).1
+      refusal.not_memory (given from s refusal.frame sound refusal.is_due (Err fault) refusal.depacketizer refusal.gives).1
 
   -- an unused buffer holds nothing and is done with nothing
-  pub fresh_beyond : (s : State) → s.held ≡ [] → s.cutoff ≡ None → kind_of_depack s.depack ≡ kind → IsBeyond 0 s
+  pub fresh_beyond : (s : State) → s.held ≡ [] → s.cutoff ≡ None → kind_of_depacketizer s.depacketizer ≡ kind → IsBeyond 0 s
   fresh_beyond s nothing_held no_cutoff reads = record {
     rises = subst Rises (sym nothing_held) tt;
     beyond = subst (λ (o : Option ℕ). IsAboveCutoff o s.held) (sym no_cutoff) tt;
@@ -309,6 +309,6 @@ sends_all samples all_steps s t unused stream =
       numbered = subst (λ (n : ℕ). AreNumbered n (packets_of stream.units)) none stream.numbered;
     }
 
-pub all_end : (kind : DepackKind) (splits : Bool) (units : List SentUnit) → AllLawful kind splits units → AllEndWithTail kind units
+pub all_end : (kind : DepacketizerKind) (splits : Bool) (units : List SentUnit) → AllLawful kind splits units → AllEndWithTail kind units
 all_end kind splits [] lawful = tt
 all_end kind splits (u ∷ us) lawful = (lawful.0.ends, all_end kind splits us lawful.1)

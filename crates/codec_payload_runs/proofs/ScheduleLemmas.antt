@@ -4,20 +4,21 @@ use Rattle.std.proofs.lemmas.List.{append-nil}
 use Rattle.std.specs.Result.{result_err}
 use Rattle.codec_payload_base.specs.declared.error.PacketError.{PacketError}
 use Rattle.codec_payload_base.specs.declared.error.PacketError.TheVariants as faults
-use Rattle.codec_payload_codec.specs.Pack.{Pack, is_built_in}
+use Rattle.codec_payload_codec.specs.Packetizers.{PacketizerState, is_built_in}
 use Rattle.codec_payload_send.specs.Packets.{Packet, SentPackets}
 use Rattle.codec_payload_send.specs.Sending.{Sample, Payloading, packets_for, packets_from, rtp_time_at, SendsSample, SendsBeginning, SendsNothing}
 use Rattle.codec_payload_runs.specs.Schedule.{run_state, after_send, SendsIt, StopsSending}
-use Rattle.codec_payload_codec.specs.Depack.{Depack}
+use Rattle.codec_payload_codec.specs.Depacketizers.{DepacketizerState}
 use Rattle.codec_payload_buffer.specs.Held.{Held}
 use Rattle.codec_payload_buffer.specs.Steps.{State, IsArrived}
 use Rattle.codec_payload_buffer.specs.declared.buffer.unit.RtpMeta.{RtpMeta}
 use Rattle.codec_payload_send.proofs.SendLemmas.{Keeps, kept_all, kept_numbered, as_many}
 
-pub length-packets_for : (pack : Pack) (sample : Sample) (rtp_time number : ℕ) (payloads : List (List ℕ)) → length (packets_for pack sample rtp_time number payloads) ≡ length payloads
-length-packets_for pack sample rtp_time number payloads = from 0 number payloads
+pub length-packets_for : (packetizer : PacketizerState) (sample : Sample) (rtp_time number : ℕ) (payloads : List (List ℕ))
+    → length (packets_for packetizer sample rtp_time number payloads) ≡ length payloads
+length-packets_for packetizer sample rtp_time number payloads = from 0 number payloads
   where
-    from : (place number : ℕ) (payloads : List (List ℕ)) → length (packets_from pack sample rtp_time number place payloads) ≡ length payloads
+    from : (place number : ℕ) (payloads : List (List ℕ)) → length (packets_from packetizer sample rtp_time number place payloads) ≡ length payloads
     from place number [] = refl
     from place number (p ∷ ps) = ap suc (from (place + 1) ((number + 1) % 2 ^ 64) ps)
 
@@ -34,10 +35,10 @@ Stays before packet fault after = (fault ≡ faults.OutOfMemory) × (after ≡ b
 
 -- the states after a sample went through a packetizer
 pub left_by : (p p' : Payloading) (b : State) (sink sink' : SentPackets) (packets : List Packet) → p'.clock_rate ≡ p.clock_rate
-    → sink' ≡ record sink { packets = sink.packets ++ packets } → run_state p' b sink' ≡ after_send (run_state p b sink) p'.pack packets
+    → sink' ≡ record sink { packets = sink.packets ++ packets } → run_state p' b sink' ≡ after_send (run_state p b sink) p'.packetizer packets
 left_by p p' b sink sink' packets clock gained =
-    ap (λ (c : ℕ). run_state (record { pack = p'.pack; clock_rate = c }) b sink') clock
-    ∙ ap (λ (s : SentPackets). run_state (record p { pack = p'.pack }) b s) gained
+    ap (λ (c : ℕ). run_state (record { packetizer = p'.packetizer; clock_rate = c }) b sink') clock
+    ∙ ap (λ (s : SentPackets). run_state (record p { packetizer = p'.packetizer }) b s) gained
 
 pub sent_it : (place mtu : ℕ) (sample : Sample) (p p' : Payloading) (b : State) (sink sink' : SentPackets) → p'.clock_rate ≡ p.clock_rate
     → SendsSample Keeps kept_packets next_number mtu sample p sink p' sink' → length sink'.packets < 2 ^ 63
@@ -47,17 +48,18 @@ sent_it place mtu sample p p' b sink sink' clock sent few =
     let kept = kept_all sink packets sent.images sink' sent.sends in
     let grown = ap (λ (s : SentPackets). length s.packets) kept.1 in
     let total = length-append sink.packets packets in
-    let many = as_many (is_built_in p'.pack) packets _ sent.are ∙ length-packets_for p'.pack sample (rtp_time_at p.clock_rate sample.rtp_time) (next_number sink) sent.payloads in
+    let many = as_many (is_built_in p'.packetizer) packets _ sent.are ∙ length-packets_for p'.packetizer sample (rtp_time_at p.clock_rate sample.rtp_time) (next_number sink) sent.payloads in
     let count : length sink'.packets - length sink.packets ≡ length sent.payloads = omega (arith, grown, total, many) in
     record {
       answer = Ok sent.payloads;
-      pack = p'.pack;
+      packetizer = p'.packetizer;
       packetized = sent.packetized;
       not_memory = λ e. cc;
       entry_is = ap (λ (n : ℕ). record { step = place; first = length sink.packets; count = n; fault = None }) count;
       packets = packets;
       are = sent.are;
-      numbered = kept_numbered (is_built_in p'.pack) p'.pack sample (rtp_time_at p.clock_rate sample.rtp_time) (next_number sink) sent.payloads sink sent.images sink' packets sent.are refl sent.sends;
+      numbered = kept_numbered (is_built_in p'.packetizer) p'.packetizer sample (rtp_time_at p.clock_rate sample.rtp_time)
+          (next_number sink) sent.payloads sink sent.images sink' packets sent.are refl sent.sends;
       few = few;
       left = left_by p p' b sink sink' packets clock kept.1;
     }
@@ -72,7 +74,7 @@ refused_it place mtu sample fault p p' b sink sink' clock other few (inl nothing
     let count : length sink'.packets - length sink.packets ≡ 0 = omega (arith, many) in
     record {
       answer = Err fault;
-      pack = p'.pack;
+      packetizer = p'.packetizer;
       packetized = nothing.packetized;
       not_memory = λ e. other (cc);
       entry_is = ap (λ (n : ℕ). record { step = place; first = length sink.packets; count = n; fault = Some fault }) count;
@@ -99,7 +101,7 @@ pub stopped_it : (mtu : ℕ) (sample : Sample) (p p' : Payloading) (b : State) (
     → (SendsNothing mtu sample faults.OutOfMemory p sink p' sink' ⊎ SendsBeginning Keeps Stays kept_packets next_number mtu sample faults.OutOfMemory p sink p' sink')
     → StopsSending mtu sample (run_state p b sink) (run_state p' b sink')
 stopped_it mtu sample p p' b sink sink' clock (inl nothing) = (
-  p'.pack,
+  p'.packetizer,
   inl (
     nothing.packetized,
     left_by p p' b sink sink' [] clock (nothing.same ∙ ap (λ (ps : List Packet). record sink { packets = ps }) (sym (append-nil sink.packets))),
@@ -107,7 +109,7 @@ stopped_it mtu sample p p' b sink sink' clock (inl nothing) = (
 )
 stopped_it mtu sample p p' b sink sink' clock (inr beginning) =
     let kept = kept_all sink beginning.begun beginning.images beginning.mid beginning.sends in (
-      p'.pack,
+      p'.packetizer,
       inr (
         beginning.payloads,
         beginning.begun,
@@ -120,6 +122,7 @@ stopped_it mtu sample p p' b sink sink' clock (inr beginning) =
     )
 
 -- a packet that arrived, under another spelling of what is known of it
-pub arrived_as : (depack : Depack) (here there : RtpMeta) (bytes others : List ℕ) (x : Held) → here ≡ there → bytes ≡ others → IsArrived depack here bytes x → IsArrived depack there others x
-arrived_as depack here there bytes others x same equal is =
-    subst (λ (m : RtpMeta). IsArrived depack m others x) same (subst (λ (bs : List ℕ). IsArrived depack here bs x) equal is)
+pub arrived_as : (depacketizer : DepacketizerState) (here there : RtpMeta) (bytes others : List ℕ) (x : Held) → here ≡ there → bytes ≡ others
+    → IsArrived depacketizer here bytes x → IsArrived depacketizer there others x
+arrived_as depacketizer here there bytes others x same equal is =
+    subst (λ (m : RtpMeta). IsArrived depacketizer m others x) same (subst (λ (bs : List ℕ). IsArrived depacketizer here bs x) equal is)

@@ -1,12 +1,12 @@
 -- What a codec owes for each sample.
 use Rattle.std.proofs.Common.{◌≡◌, ◌∙◌, sym, ap, refl, subst, ℕ, zero, suc, ◌+◌, List, [], ◌∷◌, ◌++◌, length, map, arith, true, Option, Some}
 use Rattle.std.specs.Prelude.{slice_get}
-use Rattle.codec_payload_codec.specs.Pack.{Pack}
+use Rattle.codec_payload_codec.specs.Packetizers.{PacketizerState}
 use Rattle.codec_payload_runs.specs.ToldIds.{id_later, next_id}
 use Rattle.codec_payload_send.specs.Sending.{Sample, packets_for}
 use Rattle.codec_payload_runs.specs.LawfulUnits.{AllLawful}
 use Rattle.codec_payload_runs.specs.SentStream.{SentUnit, packets_of}
-use Rattle.codec_payload_runs.specs.Units.{canonical_units, is_readable, pack_after, payloads_by, may_split}
+use Rattle.codec_payload_runs.specs.Units.{canonical_units, is_readable, packetizer_after, payloads_by, may_split}
 
 -- the units carry the ids that come n units after `first` and later, one after another
 abbrev pub CarryIds : Option ℕ → ℕ → List SentUnit → Type 0
@@ -41,25 +41,25 @@ pub carry_at : (first : Option ℕ) (m : ℕ) (us : List SentUnit) (u : SentUnit
 carry_at first m us u carry is = let e : 0 + m ≡ m = omega arith in carry_behind first 0 m us u carry is ∙ ap (id_later first) e
 
 -- what a codec owes for each sample: its packets are those of lawful units, which are the canonical ones
-pub record SendsUnits (pack : Pack) (mtu : ℕ) (sample : Sample) (rtp_time number : ℕ) (payloads : List (List ℕ)) (after : Pack) : Type 0 where
+pub record SendsUnits (packetizer : PacketizerState) (mtu : ℕ) (sample : Sample) (rtp_time number : ℕ) (payloads : List (List ℕ)) (after : PacketizerState) : Type 0 where
   pub units : List SentUnit
-  pub canonical : map (λ (u : SentUnit). u.parts) units ≡ canonical_units pack mtu sample.bytes
+  pub canonical : map (λ (u : SentUnit). u.parts) units ≡ canonical_units packetizer mtu sample.bytes
   pub packets : packets_of units ≡ packets_for after sample rtp_time number payloads
-  pub lawful : is_readable pack sample.bytes ≡ true → AllLawful (payloads_by pack) (may_split pack) units
-  pub ids : CarryIds (next_id pack) 0 units
-  pub ids_go_on : (m : ℕ) → id_later (next_id after) m ≡ id_later (next_id pack) (length units + m)
-  pub goes_on : after ≡ pack_after pack mtu sample.bytes
+  pub lawful : is_readable packetizer sample.bytes ≡ true → AllLawful (payloads_by packetizer) (may_split packetizer) units
+  pub ids : CarryIds (next_id packetizer) 0 units
+  pub ids_go_on : (m : ℕ) → id_later (next_id after) m ≡ id_later (next_id packetizer) (length units + m)
+  pub goes_on : after ≡ packetizer_after packetizer mtu sample.bytes
 
 -- nothing is sent of a frame that is skipped
-pub no_units : (pack : Pack) (mtu : ℕ) (sample : Sample) (rtp_time number : ℕ) (payloads : List (List ℕ)) → payloads ≡ []
-    → canonical_units pack mtu sample.bytes ≡ [] → next_id (pack_after pack mtu sample.bytes) ≡ next_id pack
-    → SendsUnits pack mtu sample rtp_time number payloads (pack_after pack mtu sample.bytes)
-no_units pack mtu sample rtp_time number payloads nothing none same = record {
+pub no_units : (packetizer : PacketizerState) (mtu : ℕ) (sample : Sample) (rtp_time number : ℕ) (payloads : List (List ℕ)) → payloads ≡ []
+    → canonical_units packetizer mtu sample.bytes ≡ [] → next_id (packetizer_after packetizer mtu sample.bytes) ≡ next_id packetizer
+    → SendsUnits packetizer mtu sample rtp_time number payloads (packetizer_after packetizer mtu sample.bytes)
+no_units packetizer mtu sample rtp_time number payloads nothing none same = record {
   units = [];
   canonical = sym none;
-  packets = ap (packets_for (pack_after pack mtu sample.bytes) sample rtp_time number) (sym nothing);
+  packets = ap (packets_for (packetizer_after packetizer mtu sample.bytes) sample rtp_time number) (sym nothing);
   lawful = λ _. tt;
   ids = tt;
-  ids_go_on = λ m. let e : 0 + m ≡ m = omega arith in ap (λ (o : Option ℕ). id_later o m) same ∙ ap (id_later (next_id pack)) (sym e);
+  ids_go_on = λ m. let e : 0 + m ≡ m = omega arith in ap (λ (o : Option ℕ). id_later o m) same ∙ ap (id_later (next_id packetizer)) (sym e);
   goes_on = refl;
 }

@@ -20,58 +20,59 @@ use Rattle.codec_payload_runs.proofs.UnitTimes.{AllOneTime, times_of_sample, tim
 use Rattle.codec_payload_runs.proofs.UnitValues.{AllCarry, carried_by_sample, carry_append, same_video}
 use Rattle.codec_payload_base.specs.declared.wire.extension.ExtensionValues.{ExtensionValues}
 use Rattle.codec_payload_runs.specs.RunValues.{is_video, values_of_run, values_of_sample}
-use Rattle.codec_payload_codec.specs.Depack.{Depack, G711Depack, OpusDepack, NullDepack, DepackKind, G711Payloads, OpusPayloads, NullPayloads, kind_of_depack, DepackStep, head_in, tail_in}
-use Rattle.codec_payload_codec.specs.Pack.{Pack, G711Pack, G722Pack, OpusPack, ComfortNoisePack, TelePack, NullPack, Vp8Pack, Vp9Pack, Av1Pack, AmrWbPack, PackStep, BoxedPack, is_built_in}
+use Rattle.codec_payload_codec.specs.Depacketizers.{DepacketizerState, G711Depacketizing, OpusDepacketizing, NullDepacketizing, DepacketizerKind, G711Payloads, OpusPayloads, NullPayloads, kind_of_depacketizer, DepacketizerStep, head_in, tail_in}
+use Rattle.codec_payload_codec.specs.Packetizers.{PacketizerState, G711Packetizing, G722Packetizing, OpusPacketizing, ComfortNoisePacketizing, TelePacketizing, NullPacketizing, Vp8Packetizing, Vp9Packetizing, Av1Packetizing, AmrWbPacketizing, PacketizerStep, BoxedPacketizing, is_built_in}
 use Rattle.codec_payload_send.specs.Packets.{Packet, SentPackets, AreNumbered}
 use Rattle.codec_payload_runs.specs.ToldIds.{next_id}
 use Rattle.codec_payload_send.specs.Sending.{Sample, packets_for, packets_from, rtp_time_at}
 use Rattle.codec_payload_runs.proofs.BuiltInRuns.{Pushing, Runs, SendsIt}
 use Rattle.codec_payload_runs.specs.Schedule.{payloads_of, RunState, Answer, packets_sent}
 use Rattle.codec_payload_runs.specs.LawfulUnits.{AllLawful}
-use Rattle.codec_payload_runs.specs.SentStream.{SentUnit, packets_of, AreReadable, units_of_run, units_of_sample, pack_after_sample}
+use Rattle.codec_payload_runs.specs.SentStream.{SentUnit, packets_of, AreReadable, units_of_run, units_of_sample, packetizer_after_sample}
 use Rattle.codec_payload_runs.specs.declared.run.Sent.{Sent}
 use Rattle.codec_payload_runs.specs.declared.run.Step.{Step}
 use Rattle.codec_payload_runs.specs.declared.run.Step.TheVariants as steps
-use Rattle.codec_payload_runs.specs.Units.{canonical_units, is_readable, pack_after, payloads_by, may_split, each_whole, units_by}
+use Rattle.codec_payload_runs.specs.Units.{canonical_units, is_readable, packetizer_after, payloads_by, may_split, each_whole, units_by}
 
 -- payloads of this kind are units, whole, and carry themselves
-pub data IsPlain : DepackKind → Type 0 where
+pub data IsPlain : DepacketizerKind → Type 0 where
   g711 : IsPlain G711Payloads
   opus : IsPlain OpusPayloads
   null : IsPlain NullPayloads
 
-plain_head : (kind : DepackKind) → IsPlain kind → (payload : List ℕ) → head_in kind payload ≡ true
+plain_head : (kind : DepacketizerKind) → IsPlain kind → (payload : List ℕ) → head_in kind payload ≡ true
 plain_head kind g711 payload = refl
 plain_head kind opus payload = refl
 plain_head kind null payload = refl
 
-plain_quiet : (kind : DepackKind) → IsPlain kind → is_quiet kind ≡ true
+plain_quiet : (kind : DepacketizerKind) → IsPlain kind → is_quiet kind ≡ true
 plain_quiet kind g711 = refl
 plain_quiet kind opus = refl
 plain_quiet kind null = refl
 
-plain_tail : (kind : DepackKind) → IsPlain kind → (marker : Bool) (payload : List ℕ) → tail_in kind marker payload ≡ true
+plain_tail : (kind : DepacketizerKind) → IsPlain kind → (marker : Bool) (payload : List ℕ) → tail_in kind marker payload ≡ true
 plain_tail kind g711 marker payload = refl
 plain_tail kind opus marker payload = refl
 plain_tail kind null marker payload = refl
 
 -- a depacketizer of such payloads appends them and stays as it is
-appends : (d : Depack) → IsPlain (kind_of_depack d) → (payload out : List ℕ) (extra : CodecExtra) (answer : Result (Unit {0}) PacketError) (e : Depack) (out' : List ℕ) (extra' : CodecExtra)
-    → DepackStep d payload out extra answer e out' extra' → Appends payload out extra answer out' extra' × (e ≡ d)
-appends G711Depack plain payload out extra answer e out' extra' step = step
-appends OpusDepack plain payload out extra answer e out' extra' step = step
-appends NullDepack plain payload out extra answer e out' extra' step = step
+appends : (d : DepacketizerState) → IsPlain (kind_of_depacketizer d)
+    → (payload out : List ℕ) (extra : CodecExtra) (answer : Result (Unit {0}) PacketError) (e : DepacketizerState) (out' : List ℕ) (extra' : CodecExtra)
+    → DepacketizerStep d payload out extra answer e out' extra' → Appends payload out extra answer out' extra' × (e ≡ d)
+appends G711Depacketizing plain payload out extra answer e out' extra' step = step
+appends OpusDepacketizing plain payload out extra answer e out' extra' step = step
+appends NullDepacketizing plain payload out extra answer e out' extra' step = step
 appends d plain payload out extra answer e out' extra' step = elim plain [ ]
 
 -- and so each is carried whole
-plain_carried : (kind : DepackKind) → IsPlain kind → (payload : List ℕ) → IsCarried kind payload payload
+plain_carried : (kind : DepacketizerKind) → IsPlain kind → (payload : List ℕ) → IsCarried kind payload payload
 plain_carried kind plain payload = record {
   head = plain_head kind plain payload;
   tail = λ marker. plain_tail kind plain marker payload;
   quiet = plain_quiet kind plain;
   gives = λ d extra one e out' extra' is step.
       let given = appends d (subst IsPlain (sym is) plain) payload [] extra one e out' extra' step in
-      (ap kind_of_depack given.1 ∙ is, answered one out' extra' extra given.0);
+      (ap kind_of_depacketizer given.1 ∙ is, answered one out' extra' extra given.0);
 }
   where
     answered : (one : Result (Unit {0}) PacketError) (out' : List ℕ) (extra' extra : CodecExtra) → Appends payload [] extra one out' extra'
@@ -83,7 +84,7 @@ plain_carried kind plain payload = record {
 abbrev pub alone : Packet → SentUnit
 alone q = one_packet q.payload q
 
-pub all_alone : (kind : DepackKind) → IsPlain kind → (ps : List Packet) → AllLawful kind false (map alone ps)
+pub all_alone : (kind : DepacketizerKind) → IsPlain kind → (ps : List Packet) → AllLawful kind false (map alone ps)
 all_alone kind plain [] = tt
 all_alone kind plain (p ∷ ps) = (lawful_one kind p.payload p (plain_carried kind plain p.payload), all_alone kind plain ps)
 
@@ -96,11 +97,11 @@ pub packets_alone : (ps : List Packet) → packets_of (map alone ps) ≡ ps
 packets_alone [] = refl
 packets_alone (p ∷ ps) = ap (λ (qs : List Packet). p ∷ qs) (packets_alone ps)
 
-pub parts_alone : (pack : Pack) (sample : Sample) (rtp_time number place : ℕ) (payloads : List (List ℕ))
-    → map (λ (u : SentUnit). u.parts) (map alone (packets_from pack sample rtp_time number place payloads)) ≡ each_whole payloads
-parts_alone pack sample rtp_time number place [] = refl
-parts_alone pack sample rtp_time number place (payload ∷ payloads) = ap (λ (us : List (List (List ℕ))). (payload ∷ []) ∷ us)
-    (parts_alone pack sample rtp_time ((number + 1) % 2 ^ 64) (place + 1) payloads)
+pub parts_alone : (packetizer : PacketizerState) (sample : Sample) (rtp_time number place : ℕ) (payloads : List (List ℕ))
+    → map (λ (u : SentUnit). u.parts) (map alone (packets_from packetizer sample rtp_time number place payloads)) ≡ each_whole payloads
+parts_alone packetizer sample rtp_time number place [] = refl
+parts_alone packetizer sample rtp_time number place (payload ∷ payloads) = ap (λ (us : List (List (List ℕ))). (payload ∷ []) ∷ us)
+    (parts_alone packetizer sample rtp_time ((number + 1) % 2 ^ 64) (place + 1) payloads)
 
 -- the answer of a packetizer of pieces
 some_size : (mtu : ℕ) (frame : List ℕ) → pieces_are_skipped mtu frame ≡ false → 0 < mtu
@@ -118,31 +119,32 @@ pieces_skipped mtu frame payloads answer =
     (λ fault sent refused. absurd (cc))
     (λ packets sent taken are. ap each_whole (one_list mtu frame packets (some_size mtu frame sent) are.0) ∙ sym (all_sent (pieces_are_skipped mtu frame) None units sent refl))
 
-plain_sends : (pack after : Pack) (mtu : ℕ) (sample : Sample) (rtp_time number : ℕ) (payloads : List (List ℕ)) → IsPlain (payloads_by pack) → may_split pack ≡ false
-    → next_id pack ≡ None → next_id after ≡ None
-    → after ≡ pack_after pack mtu sample.bytes → each_whole payloads ≡ canonical_units pack mtu sample.bytes
-    → SendsUnits pack mtu sample rtp_time number payloads after
-plain_sends pack after mtu sample rtp_time number payloads plain whole no_id none_after goes_on canonical = record {
+plain_sends : (packetizer after : PacketizerState) (mtu : ℕ) (sample : Sample) (rtp_time number : ℕ) (payloads : List (List ℕ)) → IsPlain (payloads_by packetizer) → may_split packetizer ≡ false
+    → next_id packetizer ≡ None → next_id after ≡ None
+    → after ≡ packetizer_after packetizer mtu sample.bytes → each_whole payloads ≡ canonical_units packetizer mtu sample.bytes
+    → SendsUnits packetizer mtu sample rtp_time number payloads after
+plain_sends packetizer after mtu sample rtp_time number payloads plain whole no_id none_after goes_on canonical = record {
   units = map alone (packets_for after sample rtp_time number payloads);
   canonical = parts_alone after sample rtp_time number 0 payloads ∙ canonical;
   packets = packets_alone (packets_for after sample rtp_time number payloads);
-  lawful = λ _. rw whole (all_alone (payloads_by pack) plain (packets_for after sample rtp_time number payloads));
+  lawful = λ _. rw whole (all_alone (payloads_by packetizer) plain (packets_for after sample rtp_time number payloads));
   ids = rw no_id (ids_alone 0 (packets_for after sample rtp_time number payloads));
   ids_go_on = λ m. rw (no_id, none_after) refl;
   goes_on = goes_on;
 }
 
 -- a codec whose frames are each one packet and one unit
-one_sends : (pack after : Pack) (mtu : ℕ) (sample : Sample) (rtp_time number : ℕ) (payloads : List (List ℕ)) → may_split pack ≡ false → next_id pack ≡ None
-    → next_id after ≡ None → after ≡ pack_after pack mtu sample.bytes → OneOrNone pack mtu sample.bytes payloads
-    → SendsUnits pack mtu sample rtp_time number payloads after
-one_sends pack after mtu sample rtp_time number payloads whole no_id none_after goes_on (inl none) =
-    subst (SendsUnits pack mtu sample rtp_time number payloads) (sym goes_on) (no_units pack mtu sample rtp_time number payloads none.0 none.1 (ap next_id (sym goes_on) ∙ (none_after ∙ sym no_id)))
-one_sends pack after mtu sample rtp_time number payloads whole no_id none_after goes_on (inr (payload, bytes, is, canonical, carried)) = record {
+one_sends : (packetizer after : PacketizerState) (mtu : ℕ) (sample : Sample) (rtp_time number : ℕ) (payloads : List (List ℕ)) → may_split packetizer ≡ false → next_id packetizer ≡ None
+    → next_id after ≡ None → after ≡ packetizer_after packetizer mtu sample.bytes → OneOrNone packetizer mtu sample.bytes payloads
+    → SendsUnits packetizer mtu sample rtp_time number payloads after
+one_sends packetizer after mtu sample rtp_time number payloads whole no_id none_after goes_on (inl none) =
+    subst (SendsUnits packetizer mtu sample rtp_time number payloads) (sym goes_on)
+        (no_units packetizer mtu sample rtp_time number payloads none.0 none.1 (ap next_id (sym goes_on) ∙ (none_after ∙ sym no_id)))
+one_sends packetizer after mtu sample rtp_time number payloads whole no_id none_after goes_on (inr (payload, bytes, is, canonical, carried)) = record {
   units = map (one_packet bytes) (packets_for after sample rtp_time number (payload ∷ []));
   canonical = sym canonical;
   packets = ap (packets_for after sample rtp_time number) (sym is);
-  lawful = λ readable. rw whole (lawful_one (payloads_by pack) bytes _ (carried readable), tt);
+  lawful = λ readable. rw whole (lawful_one (payloads_by packetizer) bytes _ (carried readable), tt);
   ids = rw no_id (refl, tt);
   ids_go_on = λ m. rw (no_id, none_after) refl;
   goes_on = goes_on;
@@ -158,42 +160,42 @@ pieces_fault mtu frame fault answer = by_skip (pieces_are_skipped mtu frame) ans
     by_skip false answer = ap Err answer
 
 -- every codec that is there keeps its law
-pub sends_units : (pack after : Pack) (mtu : ℕ) (sample : Sample) (rtp_time number : ℕ) (answer : Result (List (List ℕ)) PacketError)
-    → is_built_in pack ≡ true → PackStep pack mtu sample.bytes answer after → answer ≢ Err faults.OutOfMemory
-    → SendsUnits pack mtu sample rtp_time number (payloads_of answer) after
-sends_units G711Pack after mtu sample rtp_time number (Ok payloads) built_in step found = plain_sends G711Pack after mtu sample rtp_time number payloads g711 refl
+pub sends_units : (packetizer after : PacketizerState) (mtu : ℕ) (sample : Sample) (rtp_time number : ℕ) (answer : Result (List (List ℕ)) PacketError)
+    → is_built_in packetizer ≡ true → PacketizerStep packetizer mtu sample.bytes answer after → answer ≢ Err faults.OutOfMemory
+    → SendsUnits packetizer mtu sample rtp_time number (payloads_of answer) after
+sends_units G711Packetizing after mtu sample rtp_time number (Ok payloads) built_in step found = plain_sends G711Packetizing after mtu sample rtp_time number payloads g711 refl
     refl (ap next_id step.1) step.1 (pieces_skipped mtu sample.bytes payloads step.0)
-sends_units G722Pack after mtu sample rtp_time number (Ok payloads) built_in step found = plain_sends G722Pack after mtu sample rtp_time number payloads g711 refl
+sends_units G722Packetizing after mtu sample rtp_time number (Ok payloads) built_in step found = plain_sends G722Packetizing after mtu sample rtp_time number payloads g711 refl
     refl (ap next_id step.1) step.1 (pieces_skipped mtu sample.bytes payloads step.0)
-sends_units OpusPack after mtu sample rtp_time number (Ok payloads) built_in step found = plain_sends OpusPack after mtu sample rtp_time number payloads opus refl
+sends_units OpusPacketizing after mtu sample rtp_time number (Ok payloads) built_in step found = plain_sends OpusPacketizing after mtu sample rtp_time number payloads opus refl
     refl (ap next_id step.1) step.1 (pieces_skipped mtu sample.bytes payloads step.0)
-sends_units NullPack after mtu sample rtp_time number (Ok payloads) built_in step found = plain_sends NullPack after mtu sample rtp_time number payloads null refl
+sends_units NullPacketizing after mtu sample rtp_time number (Ok payloads) built_in step found = plain_sends NullPacketizing after mtu sample rtp_time number payloads null refl
     refl (ap next_id step.1) step.1 (ap each_whole step.0)
-sends_units ComfortNoisePack after mtu sample rtp_time number answer built_in step found = one_sends ComfortNoisePack after mtu sample rtp_time number
+sends_units ComfortNoisePacketizing after mtu sample rtp_time number answer built_in step found = one_sends ComfortNoisePacketizing after mtu sample rtp_time number
     (payloads_of answer) refl refl (ap next_id step.1) step.1 (noise_units mtu sample.bytes answer step.0 found)
-sends_units TelePack after mtu sample rtp_time number answer built_in step found = one_sends TelePack after mtu sample rtp_time number (payloads_of answer) refl refl
+sends_units TelePacketizing after mtu sample rtp_time number answer built_in step found = one_sends TelePacketizing after mtu sample rtp_time number (payloads_of answer) refl refl
     (ap next_id step.1) step.1 (tele_units mtu sample.bytes answer step.0 found)
-sends_units (AmrWbPack octet) after mtu sample rtp_time number answer built_in step found = one_sends (AmrWbPack octet) after mtu sample rtp_time number
+sends_units (AmrWbPacketizing octet) after mtu sample rtp_time number answer built_in step found = one_sends (AmrWbPacketizing octet) after mtu sample rtp_time number
     (payloads_of answer) refl refl (ap next_id step.1) step.1 (amr_wb_units octet mtu sample.bytes answer step.0 found)
-sends_units Av1Pack after mtu sample rtp_time number answer built_in step found =
-    subst (SendsUnits Av1Pack mtu sample rtp_time number (payloads_of answer)) (sym step.1) (av1_sends mtu sample rtp_time number answer step.0 found)
-sends_units G711Pack after mtu sample rtp_time number (Err fault) built_in step found = absurd (found (pieces_fault mtu sample.bytes fault step.0))
-sends_units G722Pack after mtu sample rtp_time number (Err fault) built_in step found = absurd (found (pieces_fault mtu sample.bytes fault step.0))
-sends_units OpusPack after mtu sample rtp_time number (Err fault) built_in step found = absurd (found (pieces_fault mtu sample.bytes fault step.0))
-sends_units NullPack after mtu sample rtp_time number (Err fault) built_in step found = absurd (found (ap Err step.0))
-sends_units (Vp8Pack id) after mtu sample rtp_time number (Ok payloads) built_in step found =
-    subst (SendsUnits (Vp8Pack id) mtu sample rtp_time number payloads) (sym step.3) (vp8_sends id step.1 mtu sample rtp_time number payloads step.0 step.2.0 step.2.1)
-sends_units (Vp8Pack id) after mtu sample rtp_time number (Err fault) built_in step found = absurd (found (ap Err step.2.0.0))
-sends_units (Vp9Pack sender) after mtu sample rtp_time number (Ok payloads) built_in step found =
-    subst (SendsUnits (Vp9Pack sender) mtu sample rtp_time number payloads) (sym step.3) (vp9_sends sender step.1 mtu sample rtp_time number payloads step.0 step.2.0 step.2.1)
-sends_units (Vp9Pack sender) after mtu sample rtp_time number (Err fault) built_in step found = absurd (found (ap Err step.2.0.0))
-sends_units BoxedPack after mtu sample rtp_time number answer built_in step found = absurd (cc)
+sends_units Av1Packetizing after mtu sample rtp_time number answer built_in step found =
+    subst (SendsUnits Av1Packetizing mtu sample rtp_time number (payloads_of answer)) (sym step.1) (av1_sends mtu sample rtp_time number answer step.0 found)
+sends_units G711Packetizing after mtu sample rtp_time number (Err fault) built_in step found = absurd (found (pieces_fault mtu sample.bytes fault step.0))
+sends_units G722Packetizing after mtu sample rtp_time number (Err fault) built_in step found = absurd (found (pieces_fault mtu sample.bytes fault step.0))
+sends_units OpusPacketizing after mtu sample rtp_time number (Err fault) built_in step found = absurd (found (pieces_fault mtu sample.bytes fault step.0))
+sends_units NullPacketizing after mtu sample rtp_time number (Err fault) built_in step found = absurd (found (ap Err step.0))
+sends_units (Vp8Packetizing id) after mtu sample rtp_time number (Ok payloads) built_in step found =
+    subst (SendsUnits (Vp8Packetizing id) mtu sample rtp_time number payloads) (sym step.3) (vp8_sends id step.1 mtu sample rtp_time number payloads step.0 step.2.0 step.2.1)
+sends_units (Vp8Packetizing id) after mtu sample rtp_time number (Err fault) built_in step found = absurd (found (ap Err step.2.0.0))
+sends_units (Vp9Packetizing sender) after mtu sample rtp_time number (Ok payloads) built_in step found =
+    subst (SendsUnits (Vp9Packetizing sender) mtu sample rtp_time number payloads) (sym step.3) (vp9_sends sender step.1 mtu sample rtp_time number payloads step.0 step.2.0 step.2.1)
+sends_units (Vp9Packetizing sender) after mtu sample rtp_time number (Err fault) built_in step found = absurd (found (ap Err step.2.0.0))
+sends_units BoxedPacketizing after mtu sample rtp_time number answer built_in step found = absurd (cc)
 
 packets_append : (us vs : List SentUnit) → packets_of (us ++ vs) ≡ packets_of us ++ packets_of vs
 packets_append [] vs = refl
 packets_append (u ∷ us) vs = ap (λ (zs : List Packet). u.packets ++ zs) (packets_append us vs) ∙ sym (append_assoc u.packets (packets_of us) (packets_of vs))
 
-lawful_append : (kind : DepackKind) (splits : Bool) (us vs : List SentUnit) → AllLawful kind splits us → AllLawful kind splits vs → AllLawful kind splits (us ++ vs)
+lawful_append : (kind : DepacketizerKind) (splits : Bool) (us vs : List SentUnit) → AllLawful kind splits us → AllLawful kind splits vs → AllLawful kind splits (us ++ vs)
 lawful_append kind splits [] vs a b = b
 lawful_append kind splits (u ∷ us) vs a b = (a.0, lawful_append kind splits us vs a.1 b)
 
@@ -202,39 +204,40 @@ numbered_append n [] qs a b = let e : n + 0 ≡ n = omega arith in subst (λ (m 
 numbered_append n (p ∷ ps) qs a b = let e : n + length (p ∷ ps) ≡ (n + 1) + length ps = omega arith in (a.0, numbered_append (n + 1) ps qs a.1 (subst (λ (m : ℕ). AreNumbered m qs) e b))
 
 -- a packetizer keeps its payloads' kind
-same_payloads : (pack : Pack) (mtu : ℕ) (frame : List ℕ) → payloads_by (pack_after pack mtu frame) ≡ payloads_by pack
-same_payloads OpusPack mtu frame = refl
-same_payloads pack mtu frame = refl
+same_payloads : (packetizer : PacketizerState) (mtu : ℕ) (frame : List ℕ) → payloads_by (packetizer_after packetizer mtu frame) ≡ payloads_by packetizer
+same_payloads OpusPacketizing mtu frame = refl
+same_payloads packetizer mtu frame = refl
 
-same_splits : (pack : Pack) (mtu : ℕ) (frame : List ℕ) → may_split (pack_after pack mtu frame) ≡ may_split pack
-same_splits OpusPack mtu frame = refl
-same_splits pack mtu frame = refl
+same_splits : (packetizer : PacketizerState) (mtu : ℕ) (frame : List ℕ) → may_split (packetizer_after packetizer mtu frame) ≡ may_split packetizer
+same_splits OpusPacketizing mtu frame = refl
+same_splits packetizer mtu frame = refl
 
-same_readable : (pack : Pack) (mtu : ℕ) (frame other : List ℕ) → is_readable (pack_after pack mtu frame) other ≡ is_readable pack other
-same_readable OpusPack mtu frame other = refl
-same_readable pack mtu frame other = refl
+same_readable : (packetizer : PacketizerState) (mtu : ℕ) (frame other : List ℕ) → is_readable (packetizer_after packetizer mtu frame) other ≡ is_readable packetizer other
+same_readable OpusPacketizing mtu frame other = refl
+same_readable packetizer mtu frame other = refl
 
-readable_after : (pack : Pack) (mtu : ℕ) (frame : List ℕ) (samples : List Sample) → AreReadable pack samples → AreReadable (pack_after pack mtu frame) samples
-readable_after pack mtu frame [] readable = tt
-readable_after pack mtu frame (sample ∷ samples) readable = (same_readable pack mtu frame sample.bytes ∙ readable.0, readable_after pack mtu frame samples readable.1)
+readable_after : (packetizer : PacketizerState) (mtu : ℕ) (frame : List ℕ) (samples : List Sample) → AreReadable packetizer samples → AreReadable (packetizer_after packetizer mtu frame) samples
+readable_after packetizer mtu frame [] readable = tt
+readable_after packetizer mtu frame (sample ∷ samples) readable = (same_readable packetizer mtu frame sample.bytes ∙ readable.0, readable_after packetizer mtu frame samples readable.1)
 
-readable_at : (pack : Pack) (samples : List Sample) (i : ℕ) (sample : Sample) → AreReadable pack samples → slice_get samples i ≡ Some sample → is_readable pack sample.bytes ≡ true
-readable_at pack [] i sample readable there = absurd (cc)
-readable_at pack (s ∷ samples) zero sample readable there = let same : s ≡ sample = cc in ap (λ (x : Sample). is_readable pack x.bytes) (sym same) ∙ readable.0
-readable_at pack (s ∷ samples) (suc i) sample readable there = readable_at pack samples i sample readable.1 there
+readable_at : (packetizer : PacketizerState) (samples : List Sample) (i : ℕ) (sample : Sample) → AreReadable packetizer samples → slice_get samples i ≡ Some sample
+    → is_readable packetizer sample.bytes ≡ true
+readable_at packetizer [] i sample readable there = absurd (cc)
+readable_at packetizer (s ∷ samples) zero sample readable there = let same : s ≡ sample = cc in ap (λ (x : Sample). is_readable packetizer x.bytes) (sym same) ∙ readable.0
+readable_at packetizer (s ∷ samples) (suc i) sample readable there = readable_at packetizer samples i sample readable.1 there
 
 -- what the steps of a run send from some state on
 pub record Streams (samples : List Sample) (later : List Step) (s t : RunState) : Type 0 where
   pub units : List SentUnit
-  pub canonical : map (λ (u : SentUnit). u.parts) units ≡ units_of_run s.payloading.pack samples later
+  pub canonical : map (λ (u : SentUnit). u.parts) units ≡ units_of_run s.payloading.packetizer samples later
   pub gained : t.sink.packets ≡ s.sink.packets ++ packets_of units
-  pub lawful : AreReadable s.payloading.pack samples → AllLawful (payloads_by s.payloading.pack) (may_split s.payloading.pack) units
+  pub lawful : AreReadable s.payloading.packetizer samples → AllLawful (payloads_by s.payloading.packetizer) (may_split s.payloading.packetizer) units
   pub one_time : AllOneTime units
   pub numbered : AreNumbered (s.sink.first + length s.sink.packets) (packets_of units)
-  pub ids : CarryIds (next_id s.payloading.pack) 0 units
+  pub ids : CarryIds (next_id s.payloading.packetizer) 0 units
   pub few : length s.sink.packets < 2 ^ 63 → length t.sink.packets < 2 ^ 63
   pub first : t.sink.first ≡ s.sink.first
-  pub values : is_video s.payloading.pack ≡ true → AllCarry (values_of_run s.payloading.pack samples later) units
+  pub values : is_video s.payloading.packetizer ≡ true → AllCarry (values_of_run s.payloading.packetizer samples later) units
 
 -- nothing is sent by no steps
 no_stream : (samples : List Sample) (s t : RunState) → t ≡ s → Streams samples [] s t
@@ -252,20 +255,23 @@ no_stream samples s t same = record {
 }
 
 -- a step that does not send, and those after it
-keeps_stream : (samples : List Sample) (later all : List Step) (s mid t : RunState) → mid.payloading.pack ≡ s.payloading.pack → mid.sink ≡ s.sink
-    → units_of_run s.payloading.pack samples all ≡ units_of_run s.payloading.pack samples later → values_of_run s.payloading.pack samples all ≡ values_of_run s.payloading.pack samples later
+keeps_stream : (samples : List Sample) (later all : List Step) (s mid t : RunState) → mid.payloading.packetizer ≡ s.payloading.packetizer → mid.sink ≡ s.sink
+    → units_of_run s.payloading.packetizer samples all ≡ units_of_run s.payloading.packetizer samples later
+        → values_of_run s.payloading.packetizer samples all ≡ values_of_run s.payloading.packetizer samples later
     → Streams samples later mid t → Streams samples all s t
-keeps_stream samples later all s mid t pack sink units values rest = record {
+keeps_stream samples later all s mid t packetizer sink units values rest = record {
   units = rest.units;
-  canonical = rest.canonical ∙ (ap (λ (p : Pack). units_of_run p samples later) pack ∙ sym units);
+  canonical = rest.canonical ∙ (ap (λ (p : PacketizerState). units_of_run p samples later) packetizer ∙ sym units);
   gained = rest.gained ∙ ap (λ (x : SentPackets). x.packets ++ packets_of rest.units) sink;
-  lawful = λ readable. subst (λ (p : Pack). AllLawful (payloads_by p) (may_split p) rest.units) pack (rest.lawful (subst (λ (p : Pack). AreReadable p samples) (sym pack) readable));
+  lawful = λ readable. subst (λ (p : PacketizerState). AllLawful (payloads_by p) (may_split p) rest.units) packetizer
+      (rest.lawful (subst (λ (p : PacketizerState). AreReadable p samples) (sym packetizer) readable));
   one_time = rest.one_time;
   numbered = subst (λ (x : SentPackets). AreNumbered (x.first + length x.packets) (packets_of rest.units)) sink rest.numbered;
-  ids = subst (λ (p : Pack). CarryIds (next_id p) 0 rest.units) pack rest.ids;
+  ids = subst (λ (p : PacketizerState). CarryIds (next_id p) 0 rest.units) packetizer rest.ids;
   few = λ few. rest.few (subst (λ (x : SentPackets). length x.packets < 2 ^ 63) (sym sink) few);
   first = rest.first ∙ ap (λ (x : SentPackets). x.first) sink;
-  values = λ video. subst (λ (vs : List ExtensionValues). AllCarry vs rest.units) (ap (λ (p : Pack). values_of_run p samples later) pack ∙ sym values) (rest.values (ap is_video pack ∙ video));
+  values = λ video. subst (λ (vs : List ExtensionValues). AllCarry vs rest.units) (ap (λ (p : PacketizerState). values_of_run p samples later) packetizer
+      ∙ sym values) (rest.values (ap is_video packetizer ∙ video));
 }
 
 -- a step that sends a sample, and those after it
@@ -273,43 +279,47 @@ sends_stream : (samples : List Sample) (later : List Step) (i mtu place : ℕ) (
     → SendsIt place mtu sample s entry mid → Streams samples later mid t → Streams samples (steps.Send i mtu ∷ later) s t
 sends_stream samples later i mtu place sample entry s mid t there sent rest =
     let time = rtp_time_at s.payloading.clock_rate sample.rtp_time in
-    let here = sends_units s.payloading.pack sent.pack mtu sample time (s.sink.first + length s.sink.packets) sent.answer sent.built_in sent.packetized sent.not_memory in
-    let packets = packets_sent s sent.pack sample (payloads_of sent.answer) in
-    let pack : mid.payloading.pack ≡ pack_after s.payloading.pack mtu sample.bytes = ap (λ (x : RunState). x.payloading.pack) sent.left ∙ here.goes_on in
+    let here = sends_units s.payloading.packetizer sent.packetizer mtu sample time (s.sink.first + length s.sink.packets) sent.answer sent.built_in sent.packetized sent.not_memory in
+    let packets = packets_sent s sent.packetizer sample (payloads_of sent.answer) in
+    let packetizer : mid.payloading.packetizer ≡ packetizer_after s.payloading.packetizer mtu sample.bytes = ap (λ (x : RunState). x.payloading.packetizer) sent.left ∙ here.goes_on in
     let sink : mid.sink.packets ≡ s.sink.packets ++ packets = ap (λ (x : RunState). x.sink.packets) sent.left in
     let first : mid.sink.first ≡ s.sink.first = ap (λ (x : RunState). x.sink.first) sent.left in
-    let kind = ap payloads_by pack ∙ same_payloads s.payloading.pack mtu sample.bytes in
-    let splits = ap may_split pack ∙ same_splits s.payloading.pack mtu sample.bytes in
-    let whole : units_of_run s.payloading.pack samples (steps.Send i mtu ∷ later) ≡ canonical_units s.payloading.pack mtu sample.bytes
-        ++ units_of_run (pack_after s.payloading.pack mtu sample.bytes) samples later =
-    ap (λ (o : Option Sample). units_of_sample s.payloading.pack mtu o ++ units_of_run (pack_after_sample s.payloading.pack mtu o) samples later) there in
-    let told : values_of_run s.payloading.pack samples (steps.Send i mtu ∷ later) ≡ values_of_sample s.payloading.pack mtu (Some sample)
-        ++ values_of_run (pack_after s.payloading.pack mtu sample.bytes) samples later =
-    ap (λ (o : Option Sample). values_of_sample s.payloading.pack mtu o ++ values_of_run (pack_after_sample s.payloading.pack mtu o) samples later) there in
+    let kind = ap payloads_by packetizer ∙ same_payloads s.payloading.packetizer mtu sample.bytes in
+    let splits = ap may_split packetizer ∙ same_splits s.payloading.packetizer mtu sample.bytes in
+    let whole : units_of_run s.payloading.packetizer samples (steps.Send i mtu ∷ later) ≡ canonical_units s.payloading.packetizer mtu sample.bytes
+        ++ units_of_run (packetizer_after s.payloading.packetizer mtu sample.bytes) samples later =
+    ap (λ (o : Option Sample). units_of_sample s.payloading.packetizer mtu o ++ units_of_run (packetizer_after_sample s.payloading.packetizer mtu o) samples later) there in
+    let told : values_of_run s.payloading.packetizer samples (steps.Send i mtu ∷ later) ≡ values_of_sample s.payloading.packetizer mtu (Some sample)
+        ++ values_of_run (packetizer_after s.payloading.packetizer mtu sample.bytes) samples later =
+    ap (λ (o : Option Sample). values_of_sample s.payloading.packetizer mtu o ++ values_of_run (packetizer_after_sample s.payloading.packetizer mtu o) samples later) there in
     let next : mid.sink.first + length mid.sink.packets ≡ (s.sink.first + length s.sink.packets) + length packets =
     omega (arith, first, ap length sink, length-append s.sink.packets packets) in
     record {
       units = here.units ++ rest.units;
       canonical = map-append (λ (u : SentUnit). u.parts) here.units rest.units
           ∙ (ap (λ (us : List (List (List ℕ))). us ++ map (λ (u : SentUnit). u.parts) rest.units) here.canonical
-          ∙ (ap (λ (us : List (List (List ℕ))). canonical_units s.payloading.pack mtu sample.bytes ++ us) (rest.canonical ∙ ap (λ (p : Pack). units_of_run p samples later) pack) ∙ sym whole));
+          ∙ (ap (λ (us : List (List (List ℕ))). canonical_units s.payloading.packetizer mtu sample.bytes ++ us)
+              (rest.canonical ∙ ap (λ (p : PacketizerState). units_of_run p samples later) packetizer) ∙ sym whole));
       gained = rest.gained ∙ (ap (λ (ps : List Packet). ps ++ packets_of rest.units) (sink ∙ ap (λ (ps : List Packet). s.sink.packets ++ ps) (sym here.packets))
           ∙ (append_assoc s.sink.packets (packets_of here.units) (packets_of rest.units) ∙ ap (λ (ps : List Packet). s.sink.packets ++ ps) (sym (packets_append here.units rest.units))));
-      lawful = λ readable. lawful_append (payloads_by s.payloading.pack) (may_split s.payloading.pack) here.units rest.units
-          (here.lawful (readable_at s.payloading.pack samples i sample readable there))
-          (subst (λ (b : Bool). AllLawful (payloads_by s.payloading.pack) b rest.units) splits (subst (λ (k : DepackKind). AllLawful k (may_split mid.payloading.pack) rest.units) kind
-          (rest.lawful (subst (λ (p : Pack). AreReadable p samples) (sym pack) (readable_after s.payloading.pack mtu sample.bytes samples readable)))));
-      one_time = times_append here.units rest.units (times_of_sample sent.pack sample time (s.sink.first + length s.sink.packets) (payloads_of sent.answer) here.units here.packets) rest.one_time;
+      lawful = λ readable. lawful_append (payloads_by s.payloading.packetizer) (may_split s.payloading.packetizer) here.units rest.units
+          (here.lawful (readable_at s.payloading.packetizer samples i sample readable there))
+          (subst (λ (b : Bool). AllLawful (payloads_by s.payloading.packetizer) b rest.units) splits
+              (subst (λ (k : DepacketizerKind). AllLawful k (may_split mid.payloading.packetizer) rest.units) kind
+          (rest.lawful (subst (λ (p : PacketizerState). AreReadable p samples) (sym packetizer) (readable_after s.payloading.packetizer mtu sample.bytes samples readable)))));
+      one_time = times_append here.units rest.units (times_of_sample sent.packetizer sample time (s.sink.first + length s.sink.packets)
+          (payloads_of sent.answer) here.units here.packets) rest.one_time;
       numbered = rw (packets_append here.units rest.units, here.packets)
           (numbered_append (s.sink.first + length s.sink.packets) packets (packets_of rest.units) sent.numbered (subst (λ (n : ℕ). AreNumbered n (packets_of rest.units)) next rest.numbered));
-      ids = carry_on (next_id s.payloading.pack) (next_id sent.pack) here.units rest.units here.ids here.ids_go_on
-          (subst (λ (p : Pack). CarryIds (next_id p) 0 rest.units) (ap (λ (x : RunState). x.payloading.pack) sent.left) rest.ids);
+      ids = carry_on (next_id s.payloading.packetizer) (next_id sent.packetizer) here.units rest.units here.ids here.ids_go_on
+          (subst (λ (p : PacketizerState). CarryIds (next_id p) 0 rest.units) (ap (λ (x : RunState). x.payloading.packetizer) sent.left) rest.ids);
       few = λ _. rest.few sent.few;
       first = rest.first ∙ first;
       values = λ video. subst (λ (vs : List ExtensionValues). AllCarry vs (here.units ++ rest.units)) (sym told)
-          (carry_append (values_of_sample s.payloading.pack mtu (Some sample)) (values_of_run (pack_after s.payloading.pack mtu sample.bytes) samples later) here.units rest.units
-          (carried_by_sample s.payloading.pack sent.pack mtu sample time (s.sink.first + length s.sink.packets) (payloads_of sent.answer) here.units video here.canonical here.packets)
-          (subst (λ (p : Pack). AllCarry (values_of_run p samples later) rest.units) pack (rest.values (ap is_video pack ∙ (same_video s.payloading.pack mtu sample.bytes ∙ video)))));
+          (carry_append (values_of_sample s.payloading.packetizer mtu (Some sample)) (values_of_run (packetizer_after s.payloading.packetizer mtu sample.bytes) samples later) here.units rest.units
+          (carried_by_sample s.payloading.packetizer sent.packetizer mtu sample time (s.sink.first + length s.sink.packets) (payloads_of sent.answer) here.units video here.canonical here.packets)
+          (subst (λ (p : PacketizerState). AllCarry (values_of_run p samples later) rest.units) packetizer
+              (rest.values (ap is_video packetizer ∙ (same_video s.payloading.packetizer mtu sample.bytes ∙ video)))));
     }
 
 pub streams : (pushing : Pushing) (samples : List Sample) (place : ℕ) (later : List Step) (s t : RunState) (sends : List Sent) (pops : List Answer)
@@ -318,11 +328,11 @@ streams pushing samples place [] s t sends pops run = no_stream samples s t run.
 streams pushing samples place (steps.Push k ∷ later) s t sends pops run =
     let mid = run.4 in
     let rest = streams pushing samples (place + 1) later mid t run.1 run.3 run.8 in
-    keeps_stream samples later (steps.Push k ∷ later) s mid t (ap (λ (x : RunState). x.payloading.pack) run.7.2) (ap (λ (x : RunState). x.sink) run.7.2) refl refl rest
+    keeps_stream samples later (steps.Push k ∷ later) s mid t (ap (λ (x : RunState). x.payloading.packetizer) run.7.2) (ap (λ (x : RunState). x.sink) run.7.2) refl refl rest
 streams pushing samples place (steps.Pop ∷ later) s t sends pops run =
     let mid = run.4 in
     let rest = streams pushing samples (place + 1) later mid t run.1 run.3 run.8 in
-    keeps_stream samples later (steps.Pop ∷ later) s mid t (ap (λ (x : RunState). x.payloading.pack) run.7.6) (ap (λ (x : RunState). x.sink) run.7.6) refl refl rest
+    keeps_stream samples later (steps.Pop ∷ later) s mid t (ap (λ (x : RunState). x.payloading.packetizer) run.7.6) (ap (λ (x : RunState). x.sink) run.7.6) refl refl rest
 streams pushing samples place (steps.Send i mtu ∷ later) s t sends pops run =
     let rest = streams pushing samples (place + 1) later run.4 t run.1 run.3 run.8 in
     by_sample (slice_get samples i) refl run.7.1 rest
@@ -331,7 +341,7 @@ streams pushing samples place (steps.Send i mtu ∷ later) s t sends pops run =
         → MatchOption o ((run.0 ≡ []) × (run.4 ≡ s)) (λ sample. (entry : Sent) × (run.0 ≡ entry ∷ []) × SendsIt place mtu sample s entry run.4)
         → Streams samples later run.4 t → Streams samples (steps.Send i mtu ∷ later) s t
     by_sample None none step rest =
-        keeps_stream samples later (steps.Send i mtu ∷ later) s run.4 t (ap (λ (x : RunState). x.payloading.pack) step.1) (ap (λ (x : RunState). x.sink) step.1)
-        (ap (λ (o : Option Sample). units_of_sample s.payloading.pack mtu o ++ units_of_run (pack_after_sample s.payloading.pack mtu o) samples later) none)
-        (ap (λ (o : Option Sample). values_of_sample s.payloading.pack mtu o ++ values_of_run (pack_after_sample s.payloading.pack mtu o) samples later) none) rest
+        keeps_stream samples later (steps.Send i mtu ∷ later) s run.4 t (ap (λ (x : RunState). x.payloading.packetizer) step.1) (ap (λ (x : RunState). x.sink) step.1)
+        (ap (λ (o : Option Sample). units_of_sample s.payloading.packetizer mtu o ++ units_of_run (packetizer_after_sample s.payloading.packetizer mtu o) samples later) none)
+        (ap (λ (o : Option Sample). values_of_sample s.payloading.packetizer mtu o ++ values_of_run (packetizer_after_sample s.payloading.packetizer mtu o) samples later) none) rest
     by_sample (Some sample) there step rest = sends_stream samples later i mtu place sample step.0 s run.4 t there step.2 rest

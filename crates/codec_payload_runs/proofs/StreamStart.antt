@@ -4,8 +4,8 @@ use Rattle.codec_payload_base.specs.declared.interface.Vp9PacketizerMode.{Vp9Pac
 use Rattle.codec_payload_base.specs.declared.wire.Codec.{Codec}
 use Rattle.codec_payload_base.specs.declared.wire.ToPayload.{ToPayload}
 use Rattle.codec_payload_base.specs.declared.wire.Codec.TheVariants as codecs
-use Rattle.codec_payload_codec.specs.Depack.{Depack, depack_for, configured_depack, kind_of_depack}
-use Rattle.codec_payload_codec.specs.Pack.{Pack, pack_for, configured, is_built_in}
+use Rattle.codec_payload_codec.specs.Depacketizers.{DepacketizerState, depacketizer_state_for, configured_depacketizer, kind_of_depacketizer}
+use Rattle.codec_payload_codec.specs.Packetizers.{PacketizerState, packetizer_state_for, configured, is_built_in}
 use Rattle.codec_payload_runs.specs.Headline.{IsUnused}
 use Rattle.codec_payload_send.specs.Packets.{SentPackets}
 use Rattle.codec_payload_runs.specs.RunPromises.{Ran, KeepsPromises, KeepsPromisesIf, ran}
@@ -20,14 +20,15 @@ use Rattle.codec_payload_runs.specs.declared.run.Step.{Step}
 use Rattle.codec_payload_runs.specs.declared.run.Stream.{Stream}
 
 -- both are there, of one kind, and nothing was read; or neither is
-Ends : Bool → ℕ → Option Pack → Option Depack → Type 0
+Ends : Bool → ℕ → Option PacketizerState → Option DepacketizerState → Type 0
 Ends octet rate (Some p) (Some d) =
-    (kind_of_depack (configured_depack octet rate d) ≡ payloads_by (configured octet p)) × (read_by (configured_depack octet rate d) ≡ None) × (is_built_in (configured octet p) ≡ true)
+    (kind_of_depacketizer (configured_depacketizer octet rate d) ≡ payloads_by (configured octet p)) × (read_by (configured_depacketizer octet rate d) ≡ None)
+        × (is_built_in (configured octet p) ≡ true)
 Ends octet rate None None = Unit {0}
 Ends octet rate (Some p) None = ⊥
 Ends octet rate None (Some d) = ⊥
 
-ends_of : (octet : Bool) (rate : ℕ) (mode : Vp9PacketizerMode) (id : ℕ) (codec : Codec) → Ends octet rate (pack_for mode id codec) (depack_for codec)
+ends_of : (octet : Bool) (rate : ℕ) (mode : Vp9PacketizerMode) (id : ℕ) (codec : Codec) → Ends octet rate (packetizer_state_for mode id codec) (depacketizer_state_for codec)
 unfolding Ends
 ends_of octet rate mode id codecs.Opus = (refl, refl, refl)
 ends_of octet rate mode id codecs.PCMU = (refl, refl, refl)
@@ -47,27 +48,29 @@ ends_of octet rate mode id codecs.Rtx = tt
 ends_of octet rate mode id codecs.Red = tt
 ends_of octet rate mode id codecs.Unknown = tt
 
-no_receiver : (octet : Bool) (rate : ℕ) (op : Option Pack) (od : Option Depack) → Ends octet rate op od → od ≡ None → op ≡ None
+no_receiver : (octet : Bool) (rate : ℕ) (op : Option PacketizerState) (od : Option DepacketizerState) → Ends octet rate op od → od ≡ None → op ≡ None
 unfolding Ends
 no_receiver octet rate None od ends h = refl
 no_receiver octet rate (Some p) None ends h = absurd ends
 no_receiver octet rate (Some p) (Some d) ends h = absurd (cc)
 
-joined_ends : (octet : Bool) (rate : ℕ) (p : Pack) (d : Depack) (op : Option Pack) (od : Option Depack) → Ends octet rate op od → op ≡ Some p → od ≡ Some d
-    → (kind_of_depack (configured_depack octet rate d) ≡ payloads_by (configured octet p)) × (read_by (configured_depack octet rate d) ≡ None) × (is_built_in (configured octet p) ≡ true)
+joined_ends : (octet : Bool) (rate : ℕ) (p : PacketizerState) (d : DepacketizerState) (op : Option PacketizerState) (od : Option DepacketizerState) → Ends octet rate op od → op ≡ Some p → od ≡ Some d
+    → (kind_of_depacketizer (configured_depacketizer octet rate d) ≡ payloads_by (configured octet p)) × (read_by (configured_depacketizer octet rate d) ≡ None)
+        × (is_built_in (configured octet p) ≡ true)
 unfolding Ends
-joined_ends octet rate p d op od ends sends receives = subst (λ (o : Option Depack). Ends octet rate (Some p) o) receives (subst (λ (o : Option Pack). Ends octet rate o od) sends ends)
+joined_ends octet rate p d op od ends sends receives = subst (λ (o : Option DepacketizerState). Ends octet rate (Some p) o) receives
+    (subst (λ (o : Option PacketizerState). Ends octet rate o od) sends ends)
 
 -- a codec without a depacketizer has no packetizer
-pub no_packetizer : (mode : Vp9PacketizerMode) (id : ℕ) (codec : Codec) → depack_for codec ≡ None → pack_for mode id codec ≡ None
+pub no_packetizer : (mode : Vp9PacketizerMode) (id : ℕ) (codec : Codec) → depacketizer_state_for codec ≡ None → packetizer_state_for mode id codec ≡ None
 no_packetizer mode id codec h = no_receiver false 0 _ _ (ends_of false 0 mode id codec) h
 
 -- what a stream starts from is unused
-pub starts_unused : (stream : Stream) (p : Pack) (d : Depack)
-    → pack_for stream.mode stream.first_id stream.spec.codec ≡ Some p → depack_for stream.spec.codec ≡ Some d
-    → IsUnused (fresh stream (configured stream.spec.octet_align p) (configured_depack stream.spec.octet_align stream.spec.clock_rate d))
+pub starts_unused : (stream : Stream) (p : PacketizerState) (d : DepacketizerState)
+    → packetizer_state_for stream.mode stream.first_id stream.spec.codec ≡ Some p → depacketizer_state_for stream.spec.codec ≡ Some d
+    → IsUnused (fresh stream (configured stream.spec.octet_align p) (configured_depacketizer stream.spec.octet_align stream.spec.clock_rate d))
 starts_unused stream p d sends receives =
-    let ends = joined_ends _ _ p d (pack_for stream.mode stream.first_id stream.spec.codec) (depack_for stream.spec.codec) (ends_of _ _ _ _ _) sends receives in
+    let ends = joined_ends _ _ p d (packetizer_state_for stream.mode stream.first_id stream.spec.codec) (depacketizer_state_for stream.spec.codec) (ends_of _ _ _ _ _) sends receives in
     record { built_in = ends.2; nothing_sent = refl; nothing_held = refl; no_cutoff = refl; no_mark = refl; alike = ends.0; nothing_read = ends.1; nothing_kept = refl }
 
 some_of_map : {A B : Type 0} (f : A → B) (o : Option A) (y : B) → option_map f o ≡ Some y → (x : A) × (o ≡ Some x) × (f x ≡ y)
@@ -76,7 +79,8 @@ some_of_map f (Some x) y h = (x, refl, cc)
 
 -- what a payloader of the specification is, where the codec has a packetizer
 abbrev pub payloading_for : Stream → Option Payloading
-payloading_for stream = option_map (λ pack. record { pack = configured stream.spec.octet_align pack; clock_rate = stream.spec.clock_rate }) (pack_for stream.mode stream.first_id stream.spec.codec)
+payloading_for stream = option_map (λ packetizer. record { packetizer = configured stream.spec.octet_align packetizer; clock_rate = stream.spec.clock_rate })
+    (packetizer_state_for stream.mode stream.first_id stream.spec.codec)
 
 -- what is kept under a premise is kept under one from which that follows
 kept_if : {P Q : Type 0} (r : Ran) → (Q → P) → KeepsPromisesIf P r → KeepsPromisesIf Q r
@@ -95,31 +99,32 @@ kept_if r so kept = record {
   extension_values = λ q. kept.extension_values (so q);
 }
 
-from_start : (stream : Stream) (samples : List ToPayload) (steps : List Step) (run : Run) (after : RunState) (p : Pack) (d : Depack)
-    → pack_for stream.mode stream.first_id stream.spec.codec ≡ Some p → depack_for stream.spec.codec ≡ Some d
-    → KeepsPromises (ran samples steps (fresh stream (configured stream.spec.octet_align p) (configured_depack stream.spec.octet_align stream.spec.clock_rate d)) run after)
+from_start : (stream : Stream) (samples : List ToPayload) (steps : List Step) (run : Run) (after : RunState) (p : PacketizerState) (d : DepacketizerState)
+    → packetizer_state_for stream.mode stream.first_id stream.spec.codec ≡ Some p → depacketizer_state_for stream.spec.codec ≡ Some d
+    → KeepsPromises (ran samples steps (fresh stream (configured stream.spec.octet_align p) (configured_depacketizer stream.spec.octet_align stream.spec.clock_rate d)) run after)
     → RunsStream stream samples steps run
 from_start stream samples steps run after p d sends receives kept = record {
-  pack = configured stream.spec.octet_align p;
+  packetizer = configured stream.spec.octet_align p;
   sender = ap (λ o. option_map (configured stream.spec.octet_align) o) sends;
-  depack = configured_depack stream.spec.octet_align stream.spec.clock_rate d;
-  receiver = ap (λ o. option_map (configured_depack stream.spec.octet_align stream.spec.clock_rate) o) receives;
+  depacketizer = configured_depacketizer stream.spec.octet_align stream.spec.clock_rate d;
+  receiver = ap (λ o. option_map (configured_depacketizer stream.spec.octet_align stream.spec.clock_rate) o) receives;
   after = after;
-  promises = kept_if (ran samples steps (fresh stream (configured stream.spec.octet_align p) (configured_depack stream.spec.octet_align stream.spec.clock_rate d))
+  promises = kept_if (ran samples steps (fresh stream (configured stream.spec.octet_align p) (configured_depacketizer stream.spec.octet_align stream.spec.clock_rate d))
       run after) (λ readable. (starts_unused stream p d sends receives, readable)) kept;
 }
 
 -- a run of payloader, buffer and sink that are those of the stream
-pub runs_stream : (stream : Stream) (samples : List ToPayload) (steps : List Step) (run : Run) (payloading : Payloading) (buffer : State) (sink : SentPackets) (after : RunState) (d : Depack)
-    → payloading_for stream ≡ Some payloading → depack_for stream.spec.codec ≡ Some d
-    → buffer ≡ empty_buffer stream.hold_back stream.limit (configured_depack stream.spec.octet_align stream.spec.clock_rate d)
+pub runs_stream : (stream : Stream) (samples : List ToPayload) (steps : List Step) (run : Run) (payloading : Payloading) (buffer : State) (sink : SentPackets)
+    (after : RunState) (d : DepacketizerState)
+    → payloading_for stream ≡ Some payloading → depacketizer_state_for stream.spec.codec ≡ Some d
+    → buffer ≡ empty_buffer stream.hold_back stream.limit (configured_depacketizer stream.spec.octet_align stream.spec.clock_rate d)
     → sink ≡ record { first = stream.first_number; packets = [] }
     → KeepsPromises (ran samples steps (run_state payloading buffer sink) run after) → RunsStream stream samples steps run
 runs_stream stream samples steps run payloading buffer sink after d sends receives empty unused kept =
     let found = some_of_map _ _ payloading sends in
-    let starts : run_state payloading buffer sink ≡ fresh stream (configured stream.spec.octet_align found.0) (configured_depack stream.spec.octet_align stream.spec.clock_rate d) =
+    let starts : run_state payloading buffer sink ≡ fresh stream (configured stream.spec.octet_align found.0) (configured_depacketizer stream.spec.octet_align stream.spec.clock_rate d) =
     ap (λ (b : State). run_state payloading b sink) empty ∙ (ap
-        (λ (k : SentPackets). run_state payloading (empty_buffer stream.hold_back stream.limit (configured_depack stream.spec.octet_align stream.spec.clock_rate d)) k) unused
-    ∙ ap (λ (p : Payloading). run_state p (empty_buffer stream.hold_back stream.limit (configured_depack stream.spec.octet_align stream.spec.clock_rate d))
+        (λ (k : SentPackets). run_state payloading (empty_buffer stream.hold_back stream.limit (configured_depacketizer stream.spec.octet_align stream.spec.clock_rate d)) k) unused
+    ∙ ap (λ (p : Payloading). run_state p (empty_buffer stream.hold_back stream.limit (configured_depacketizer stream.spec.octet_align stream.spec.clock_rate d))
         (record { first = stream.first_number; packets = [] })) (sym found.2)) in
     from_start stream samples steps run after found.0 d found.1 receives (subst (λ (s : RunState). KeepsPromises (ran samples steps s run after)) starts kept)

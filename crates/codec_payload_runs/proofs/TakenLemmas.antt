@@ -7,7 +7,7 @@ use Rattle.codec_payload_runs.proofs.TurnLemmas.{Setting, Beyond, frame_due, IsP
 use Rattle.codec_payload_runs.proofs.UnitIds.{told_at}
 use Rattle.codec_payload_runs.proofs.UnitRows.{exact_payloads}
 use Rattle.codec_payload_buffer.specs.ContiguityTable.{checked}
-use Rattle.codec_payload_codec.specs.Depack.{Depack}
+use Rattle.codec_payload_codec.specs.Depacketizers.{DepacketizerState}
 use Rattle.codec_payload_runs.specs.Headline.{packets_before}
 use Rattle.codec_payload_buffer.specs.Held.{Held}
 use Rattle.codec_payload_runs.specs.Log.{Stretch, Turn}
@@ -15,11 +15,11 @@ use Rattle.codec_payload_runs.specs.RunUnits.{NonePassedOver}
 use Rattle.codec_payload_runs.specs.Schedule.{Answer}
 use Rattle.codec_payload_buffer.specs.Steps.{State, due_of, follows, Unpacked, Unpacks, nothing_unpacked, Gives, Passes, none, one_more, PassesOver}
 use Rattle.codec_payload_runs.specs.ToldIds.{Tells, id_later, read_by}
-use Rattle.codec_payload_buffer.specs.declared.buffer.frames.Segment.{Segment}
+use Rattle.codec_payload_buffer.specs.declared.buffer.frames.CompleteFrame.{CompleteFrame}
 use Rattle.codec_payload_buffer.specs.declared.contiguity.Contiguity.{Contiguity}
 
 -- what holds of a depacketizer and of what contiguity keeps, once the latest unit that was taken is the one before place n
-pub Follows : Setting → ℕ → Depack → Contiguity → Type 0
+pub Follows : Setting → ℕ → DepacketizerState → Contiguity → Type 0
 Follows c n d k = law.Follows c.start n (read_by d) k
 
 -- no unit was taken so far, or the unit at place m lies less than half the circle of picture ids further on
@@ -32,64 +32,65 @@ IsPlain c = c.start ≡ None
 
 module _ (c : Setting) where
   -- before anything was taken
-  pub nothing_taken : (d : Depack) (k : Contiguity) → law.Follows c.start 0 (read_by d) k → Follows c 0 d k
+  pub nothing_taken : (d : DepacketizerState) (k : Contiguity) → law.Follows c.start 0 (read_by d) k → Follows c 0 d k
   unfolding Follows
   nothing_taken d k begins = begins
 
   -- what the frame that is due tells
-  tells_due : (n : ℕ) (s : State) (f : Segment) (beyond : Beyond c n s) (due : due_of s ≡ Some f) (unpacked : Unpacked) (e : Depack) → Gives s f (Ok unpacked) e
-      → Tells (id_later c.start (frame_due c n s f beyond due).place) (read_by s.depack) unpacked.extra (read_by e)
+  tells_due : (n : ℕ) (s : State) (f : CompleteFrame) (beyond : Beyond c n s) (due : due_of s ≡ Some f) (unpacked : Unpacked) (e : DepacketizerState) → Gives s f (Ok unpacked) e
+      → Tells (id_later c.start (frame_due c n s f beyond due).place) (read_by s.depacketizer) unpacked.extra (read_by e)
   tells_due n s f beyond due unpacked e gives =
       let frame = frame_due c n s f beyond due in
       let told = told_at c.kind c.start frame.place c.units frame.sent c.told frame.at_place in
       told frame.missing frame.rest frame.whole frame.starts frame.packets
       (exact_payloads c.known c.clock_rate c.kind c.faithful (packets_before frame.place c.units + length frame.missing) frame.rest frame.packets frame.exact)
-      s.depack unpacked e beyond.reads (subst (λ (ps : List Held). Unpacks s.depack ps nothing_unpacked (Ok unpacked) e) frame.are gives)
+      s.depacketizer unpacked e beyond.reads (subst (λ (ps : List Held). Unpacks s.depacketizer ps nothing_unpacked (Ok unpacked) e) frame.are gives)
 
   -- the unit whose frame is due may go out, where it is near
-  pub goes_on : (n : ℕ) (s : State) (f : Segment) (beyond : Beyond c n s) (due : due_of s ≡ Some f) → let frame = frame_due c n s f beyond due in
-      IsNear n frame.place → Follows c n s.depack s.contiguity → (unpacked : Unpacked) (e : Depack) → Gives s f (Ok unpacked) e → (seq : Bool)
+  pub goes_on : (n : ℕ) (s : State) (f : CompleteFrame) (beyond : Beyond c n s) (due : due_of s ≡ Some f) → let frame = frame_due c n s f beyond due in
+      IsNear n frame.place → Follows c n s.depacketizer s.contiguity → (unpacked : Unpacked) (e : DepacketizerState) → Gives s f (Ok unpacked) e → (seq : Bool)
       → ((checked s.contiguity unpacked.extra seq).0 ≡ true) × Follows c (frame.place + 1) e (checked s.contiguity unpacked.extra seq).2
   unfolding Follows
   goes_on n s f beyond due near before unpacked e gives seq =
       let frame = frame_due c n s f beyond due in
       let small : frame.place < 2 ^ 63 = omega (arith, c.short, slice_get_within c.units frame.place frame.sent frame.at_place) in
-      let on = law.goes_on c.start n frame.place (read_by s.depack) (read_by e) s.contiguity unpacked.extra seq before frame.not_before near small (tells_due n s f beyond due unpacked e gives) in
+      let on = law.goes_on c.start n frame.place (read_by s.depacketizer) (read_by e) s.contiguity unpacked.extra seq before frame.not_before near small
+          (tells_due n s f beyond due unpacked e gives) in
       let next : suc frame.place ≡ frame.place + 1 = omega arith in
       (on.may, subst (λ (m : ℕ). law.Follows c.start m (read_by e) (checked s.contiguity unpacked.extra seq).2) next on.follows)
 
   -- and where packets carry no ids, wherever it is, and it follows where its numbers do
-  plain_goes : (n : ℕ) (s : State) (f : Segment) (beyond : Beyond c n s) (due : due_of s ≡ Some f) → IsPlain c → (unpacked : Unpacked) (e : Depack)
+  plain_goes : (n : ℕ) (s : State) (f : CompleteFrame) (beyond : Beyond c n s) (due : due_of s ≡ Some f) → IsPlain c → (unpacked : Unpacked) (e : DepacketizerState)
       → Gives s f (Ok unpacked) e → (seq : Bool) → checked s.contiguity unpacked.extra seq ≡ (true, seq, s.contiguity)
   plain_goes n s f beyond due plain unpacked e gives seq =
       let told = tells_due n s f beyond due unpacked e gives in
       checked_lacks s.contiguity unpacked.extra seq
-      (subst (λ (o : Option ℕ). Tells (id_later o (frame_due c n s f beyond due).place) (read_by s.depack) unpacked.extra (read_by e)) plain told)
+      (subst (λ (o : Option ℕ). Tells (id_later o (frame_due c n s f beyond due).place) (read_by s.depacketizer) unpacked.extra (read_by e)) plain told)
 
   not_passed : (may : Bool) → may ≡ true → may ≡ false → ⊥
   not_passed may go stay = cc
 
   -- a frame that may go out isn't passed over
-  pub stays_near : (n : ℕ) (s t : State) (over : List Segment) → (beyond : Beyond c n s) → Follows c n s.depack s.contiguity
-      → ((f : Segment) (due : due_of s ≡ Some f) → IsNear n (frame_due c n s f beyond due).place) → Passes s over t → (t ≡ s) × (over ≡ [])
+  pub stays_near : (n : ℕ) (s t : State) (over : List CompleteFrame) → (beyond : Beyond c n s) → Follows c n s.depacketizer s.contiguity
+      → ((f : CompleteFrame) (due : due_of s ≡ Some f) → IsNear n (frame_due c n s f beyond due).place) → Passes s over t → (t ≡ s) × (over ≡ [])
   stays_near n s t over beyond before near none = (refl, refl)
   stays_near n s u over beyond before near (one_more {t = t} passes passed) =
       let p : PassesOver s u = subst (λ (x : State). PassesOver x u) (stays_near n s t _ beyond before near passes).0 passed in
-      let yes = goes_on n s p.frame beyond p.is_due (near p.frame p.is_due) before p.unpacked p.depack p.gives (follows s p.frame) in
+      let yes = goes_on n s p.frame beyond p.is_due (near p.frame p.is_due) before p.unpacked p.depacketizer p.gives (follows s p.frame) in
       absurd (not_passed _ yes.0 p.may_not)
 
   -- nor is any, where packets carry no ids
-  pub stays_plain : (n : ℕ) (s t : State) (over : List Segment) → Beyond c n s → IsPlain c → Passes s over t → (t ≡ s) × (over ≡ [])
+  pub stays_plain : (n : ℕ) (s t : State) (over : List CompleteFrame) → Beyond c n s → IsPlain c → Passes s over t → (t ≡ s) × (over ≡ [])
   stays_plain n s t over beyond plain none = (refl, refl)
   stays_plain n s u over beyond plain (one_more {t = t} passes p) =
       let mid = passed_beyond c n s t _ beyond passes in
-      absurd (not_passed _ (ap (λ z. z.0) (plain_goes n t p.frame mid p.is_due plain p.unpacked p.depack p.gives (follows t p.frame))) p.may_not)
+      absurd (not_passed _ (ap (λ z. z.0) (plain_goes n t p.frame mid p.is_due plain p.unpacked p.depacketizer p.gives (follows t p.frame))) p.may_not)
 
-  pub follows_plainly : (n : ℕ) (s : State) (f : Segment) → Beyond c n s → due_of s ≡ Some f → IsPlain c → (unpacked : Unpacked) (e : Depack)
+  pub follows_plainly : (n : ℕ) (s : State) (f : CompleteFrame) → Beyond c n s → due_of s ≡ Some f → IsPlain c → (unpacked : Unpacked) (e : DepacketizerState)
       → Gives s f (Ok unpacked) e → (seq : Bool) → (checked s.contiguity unpacked.extra seq).1 ≡ seq
   follows_plainly n s f beyond due plain unpacked e gives seq = ap (λ z. z.1) (plain_goes n s f beyond due plain unpacked e gives seq)
 
-  passed_none : (n : ℕ) (s t : State) (over : List Segment) (a : Answer) → Beyond c n s → IsPlain c → IsPop c s t over a → over ≡ []
+  passed_none : (n : ℕ) (s t : State) (over : List CompleteFrame) (a : Answer) → Beyond c n s → IsPlain c → IsPop c s t over a → over ≡ []
   passed_none n s t over None beyond plain (waits passes nothing) = (stays_plain n s t over beyond plain passes).1
   passed_none n s t over (Some (Ok r)) beyond plain (releases mid passes out) = (stays_plain n s mid over beyond plain passes).1
   passed_none n s t over (Some (Err fault)) beyond plain pop = elim pop [ ]

@@ -7,7 +7,7 @@ use Rattle.codec_payload_base.specs.TelephoneReport.{TakesFirst}
 use Rattle.codec_payload_base.specs.declared.picture_id.PictureId.TheVariants.{Long}
 use Rattle.codec_payload_base.specs.declared.error.PacketError.{PacketError}
 use Rattle.codec_payload_base.specs.declared.interface.CodecExtra.{CodecExtra}
-use Rattle.codec_payload_codec.specs.Depack.{Depack, ComfortNoiseDepack, TeleDepack, Vp8Depack, Vp9Depack, Av1Depack, AmrWbDepack, DepackKind, Vp8Payloads, Vp9Payloads, kind_of_depack, DepackStep, head_in, BoxedDepack, BoxedPayloads}
+use Rattle.codec_payload_codec.specs.Depacketizers.{DepacketizerState, ComfortNoiseDepacketizing, TeleDepacketizing, Vp8Depacketizing, Vp9Depacketizing, Av1Depacketizing, AmrWbDepacketizing, DepacketizerKind, Vp8Payloads, Vp9Payloads, kind_of_depacketizer, DepacketizerStep, head_in, BoxedDepacketizing, BoxedPayloads}
 use Rattle.codec_payload_buffer.specs.Held.{Held}
 use Rattle.codec_payload_send.specs.Packets.{Packet}
 use Rattle.codec_payload_runs.specs.LawfulUnits.{payloads_held, payloads_sent, StartsWithHead}
@@ -17,25 +17,26 @@ use Rattle.codec_payload_runs.specs.ToldIds.{ReadId, IsNextId, TellsPicture, ahe
 -- Payloads that do not tell the id of the base layer
 
 -- after this payload it is told only if it was before
-abbrev pub IsSilent : DepackKind → List ℕ → Type 0
+abbrev pub IsSilent : DepacketizerKind → List ℕ → Type 0
 IsSilent kind payload =
-    (d : Depack) (out : List ℕ) (extra : CodecExtra) (x : Unit {0}) (e : Depack) (out' : List ℕ) (extra' : CodecExtra) → kind_of_depack d ≡ kind → lacks_base extra ≡ true
-    → DepackStep d payload out extra (Ok x) e out' extra' → (kind_of_depack e ≡ kind) × (lacks_base extra' ≡ true)
+    (d : DepacketizerState) (out : List ℕ) (extra : CodecExtra) (x : Unit {0}) (e : DepacketizerState) (out' : List ℕ) (extra' : CodecExtra) → kind_of_depacketizer d ≡ kind → lacks_base extra ≡ true
+    → DepacketizerStep d payload out extra (Ok x) e out' extra' → (kind_of_depacketizer e ≡ kind) × (lacks_base extra' ≡ true)
 
-abbrev pub AllSilent : DepackKind → List (List ℕ) → Type 0
+abbrev pub AllSilent : DepacketizerKind → List (List ℕ) → Type 0
 AllSilent kind [] = Unit {0}
 AllSilent kind (payload ∷ payloads) = IsSilent kind payload × AllSilent kind payloads
 
 -- nor does what is put together of them
-after_silent : (kind : DepackKind) (ps : List Held) (p : Held) (d : Depack) (u unpacked v : Unpacked) (one : Result (Unit {0}) PacketError) (mid e : Depack)
-    → IsSilent kind p.bytes → kind_of_depack d ≡ kind → lacks_base u.extra ≡ true
-    → DepackStep d p.bytes u.bytes u.extra one mid v.bytes v.extra
+after_silent : (kind : DepacketizerKind) (ps : List Held) (p : Held) (d : DepacketizerState) (u unpacked v : Unpacked) (one : Result (Unit {0}) PacketError) (mid e : DepacketizerState)
+    → IsSilent kind p.bytes → kind_of_depacketizer d ≡ kind → lacks_base u.extra ≡ true
+    → DepacketizerStep d p.bytes u.bytes u.extra one mid v.bytes v.extra
     → MatchResult one (λ _. Unpacks mid ps v (Ok unpacked) e) (λ fault. (◌≡◌ {A = Result Unpacked PacketError} (Ok unpacked) (Err fault)) × (e ≡ mid))
-    → (kind_of_depack mid ≡ kind → lacks_base v.extra ≡ true → Unpacks mid ps v (Ok unpacked) e → lacks_base unpacked.extra ≡ true) → lacks_base unpacked.extra ≡ true
+    → (kind_of_depacketizer mid ≡ kind → lacks_base v.extra ≡ true → Unpacks mid ps v (Ok unpacked) e → lacks_base unpacked.extra ≡ true) → lacks_base unpacked.extra ≡ true
 after_silent kind ps p d u unpacked v (Ok x) mid e silent is lacks step rest later = let told = silent d u.bytes u.extra x mid v.bytes v.extra is lacks step in later told.0 told.1 rest
 after_silent kind ps p d u unpacked v (Err fault) mid e silent is lacks step rest later = let wrong = rest.0 in absurd (cc)
 
-pub silent_unpacks : (kind : DepackKind) (ps : List Held) (d : Depack) (u unpacked : Unpacked) (e : Depack) → AllSilent kind (payloads_held ps) → kind_of_depack d ≡ kind → lacks_base u.extra ≡ true
+pub silent_unpacks : (kind : DepacketizerKind) (ps : List Held) (d : DepacketizerState) (u unpacked : Unpacked) (e : DepacketizerState)
+    → AllSilent kind (payloads_held ps) → kind_of_depacketizer d ≡ kind → lacks_base u.extra ≡ true
     → Unpacks d ps u (Ok unpacked) e → lacks_base unpacked.extra ≡ true
 silent_unpacks kind [] d u unpacked e silent is lacks gives = let same : unpacked ≡ u = cc (gives.0) in ap (λ (x : Unpacked). lacks_base x.extra) same ∙ lacks
 silent_unpacks kind (p ∷ ps) d u unpacked e silent is lacks gives =
@@ -43,7 +44,7 @@ silent_unpacks kind (p ∷ ps) d u unpacked e silent is lacks gives =
         (λ is_on lacks_on rest. silent_unpacks kind ps gives.1 gives.2 unpacked e silent.1 is_on lacks_on rest)
 
 -- payloads of these kinds never tell ids, whatever they are
-abbrev pub is_quiet : DepackKind → Bool
+abbrev pub is_quiet : DepacketizerKind → Bool
 is_quiet Vp8Payloads = false
 is_quiet Vp9Payloads = false
 is_quiet BoxedPayloads = false
@@ -53,19 +54,20 @@ first_silent : (rate : ℕ) (payload out out' : List ℕ) (extra' : CodecExtra) 
 first_silent rate (a ∷ b ∷ c ∷ d ∷ rest) out out' extra' takes = ap lacks_base takes.1
 first_silent rate payload out out' extra' takes = absurd takes
 
-quiet_step : (d : Depack) (payload out : List ℕ) (extra : CodecExtra) (x : Unit {0}) (e : Depack) (out' : List ℕ) (extra' : CodecExtra) → is_quiet (kind_of_depack d) ≡ true → lacks_base extra ≡ true
-    → DepackStep d payload out extra (Ok x) e out' extra' → (kind_of_depack e ≡ kind_of_depack d) × (lacks_base extra' ≡ true)
-quiet_step (Vp8Depack d) payload out extra x e out' extra' quiet lacks step = absurd (cc)
-quiet_step (Vp9Depack d) payload out extra x e out' extra' quiet lacks step = absurd (cc)
-quiet_step BoxedDepack payload out extra x e out' extra' quiet lacks step = absurd (cc)
-quiet_step ComfortNoiseDepack [] out extra x e out' extra' quiet lacks step = let none = step.0.0 in absurd (cc)
-quiet_step ComfortNoiseDepack (b ∷ bs) out extra x e out' extra' quiet lacks step = (ap kind_of_depack step.1, ap lacks_base step.0.1 ∙ lacks)
-quiet_step (TeleDepack rate) payload out extra x e out' extra' quiet lacks step = (ap kind_of_depack step.1, first_silent rate payload out out' extra' step.0.1)
-quiet_step (Av1Depack pending) payload out extra x e out' extra' quiet lacks step = (ap kind_of_depack step.2, ap lacks_base step.1.3)
-quiet_step (AmrWbDepack octet) payload out extra x e out' extra' quiet lacks step = (ap kind_of_depack step.1, ap lacks_base step.0.3 ∙ lacks)
-quiet_step d payload out extra x e out' extra' quiet lacks step = (ap kind_of_depack step.1, ap lacks_base step.0.1 ∙ lacks)
+quiet_step : (d : DepacketizerState) (payload out : List ℕ) (extra : CodecExtra) (x : Unit {0}) (e : DepacketizerState) (out' : List ℕ) (extra' : CodecExtra)
+    → is_quiet (kind_of_depacketizer d) ≡ true → lacks_base extra ≡ true
+    → DepacketizerStep d payload out extra (Ok x) e out' extra' → (kind_of_depacketizer e ≡ kind_of_depacketizer d) × (lacks_base extra' ≡ true)
+quiet_step (Vp8Depacketizing d) payload out extra x e out' extra' quiet lacks step = absurd (cc)
+quiet_step (Vp9Depacketizing d) payload out extra x e out' extra' quiet lacks step = absurd (cc)
+quiet_step BoxedDepacketizing payload out extra x e out' extra' quiet lacks step = absurd (cc)
+quiet_step ComfortNoiseDepacketizing [] out extra x e out' extra' quiet lacks step = let none = step.0.0 in absurd (cc)
+quiet_step ComfortNoiseDepacketizing (b ∷ bs) out extra x e out' extra' quiet lacks step = (ap kind_of_depacketizer step.1, ap lacks_base step.0.1 ∙ lacks)
+quiet_step (TeleDepacketizing rate) payload out extra x e out' extra' quiet lacks step = (ap kind_of_depacketizer step.1, first_silent rate payload out out' extra' step.0.1)
+quiet_step (Av1Depacketizing pending) payload out extra x e out' extra' quiet lacks step = (ap kind_of_depacketizer step.2, ap lacks_base step.1.3)
+quiet_step (AmrWbDepacketizing octet) payload out extra x e out' extra' quiet lacks step = (ap kind_of_depacketizer step.1, ap lacks_base step.0.3 ∙ lacks)
+quiet_step d payload out extra x e out' extra' quiet lacks step = (ap kind_of_depacketizer step.1, ap lacks_base step.0.1 ∙ lacks)
 
-all_quiet : (kind : DepackKind) (payloads : List (List ℕ)) → is_quiet kind ≡ true → AllSilent kind payloads
+all_quiet : (kind : DepacketizerKind) (payloads : List (List ℕ)) → is_quiet kind ≡ true → AllSilent kind payloads
 all_quiet kind [] quiet = tt
 all_quiet kind (payload ∷ payloads) quiet = (
   λ d out extra x e out' extra' is lacks step. let told = quiet_step d payload out extra x e out' extra' (ap is_quiet is ∙ quiet) lacks step in (told.0 ∙ is, told.1),
@@ -73,19 +75,19 @@ all_quiet kind (payload ∷ payloads) quiet = (
 )
 
 -- so a unit of them owes nothing more
-pub quiet_tells : (kind : DepackKind) → is_quiet kind ≡ true → (ps : List Held) (d : Depack) (unpacked : Unpacked) (e : Depack) → kind_of_depack d ≡ kind
+pub quiet_tells : (kind : DepacketizerKind) → is_quiet kind ≡ true → (ps : List Held) (d : DepacketizerState) (unpacked : Unpacked) (e : DepacketizerState) → kind_of_depacketizer d ≡ kind
     → Unpacks d ps nothing_unpacked (Ok unpacked) e → lacks_base unpacked.extra ≡ true
 quiet_tells kind quiet ps d unpacked e is gives = silent_unpacks kind ps d nothing_unpacked unpacked e (all_quiet kind (payloads_held ps) quiet) is refl gives
 
 -- Payloads that carry a picture id and that of the base layer
 
 -- this payload tells that picture
-abbrev pub IsTold : DepackKind → ℕ → List ℕ → Type 0
+abbrev pub IsTold : DepacketizerKind → ℕ → List ℕ → Type 0
 IsTold kind id payload =
-    (d : Depack) (out : List ℕ) (extra : CodecExtra) (x : Unit {0}) (e : Depack) (out' : List ℕ) (extra' : CodecExtra) → kind_of_depack d ≡ kind
-    → DepackStep d payload out extra (Ok x) e out' extra' → (kind_of_depack e ≡ kind) × TellsPicture id (read_by d) extra' (read_by e)
+    (d : DepacketizerState) (out : List ℕ) (extra : CodecExtra) (x : Unit {0}) (e : DepacketizerState) (out' : List ℕ) (extra' : CodecExtra) → kind_of_depacketizer d ≡ kind
+    → DepacketizerStep d payload out extra (Ok x) e out' extra' → (kind_of_depacketizer e ≡ kind) × TellsPicture id (read_by d) extra' (read_by e)
 
-abbrev pub AllTold : DepackKind → ℕ → List (List ℕ) → Type 0
+abbrev pub AllTold : DepacketizerKind → ℕ → List (List ℕ) → Type 0
 AllTold kind id [] = Unit {0}
 AllTold kind id (payload ∷ payloads) = IsTold kind id payload × AllTold kind id payloads
 
@@ -113,29 +115,29 @@ told_again id before mid after extra extra' small was on = record {
 }
 
 -- what was told before some payloads is told behind them
-after_told : (kind : DepackKind) (id : ℕ) (start : Option ReadId) (ps : List Held) (p : Held) (d : Depack) (u unpacked v : Unpacked)
-    (one : Result (Unit {0}) PacketError) (mid e : Depack) → IsTold kind id p.bytes → kind_of_depack d ≡ kind
-    → DepackStep d p.bytes u.bytes u.extra one mid v.bytes v.extra
+after_told : (kind : DepacketizerKind) (id : ℕ) (start : Option ReadId) (ps : List Held) (p : Held) (d : DepacketizerState) (u unpacked v : Unpacked)
+    (one : Result (Unit {0}) PacketError) (mid e : DepacketizerState) → IsTold kind id p.bytes → kind_of_depacketizer d ≡ kind
+    → DepacketizerStep d p.bytes u.bytes u.extra one mid v.bytes v.extra
     → MatchResult one (λ _. Unpacks mid ps v (Ok unpacked) e) (λ fault. (◌≡◌ {A = Result Unpacked PacketError} (Ok unpacked) (Err fault)) × (e ≡ mid))
-    → (kind_of_depack mid ≡ kind → TellsPicture id (read_by d) v.extra (read_by mid) → Unpacks mid ps v (Ok unpacked) e
+    → (kind_of_depacketizer mid ≡ kind → TellsPicture id (read_by d) v.extra (read_by mid) → Unpacks mid ps v (Ok unpacked) e
         → TellsPicture id start unpacked.extra (read_by e)) → TellsPicture id start unpacked.extra (read_by e)
 after_told kind id start ps p d u unpacked v (Ok x) mid e told is step rest later = let here = told d u.bytes u.extra x mid v.bytes v.extra is step in later here.0 here.1 rest
 after_told kind id start ps p d u unpacked v (Err fault) mid e told is step rest later = let wrong = rest.0 in absurd (cc)
 
-told_behind : (kind : DepackKind) (id : ℕ) (start : Option ReadId) (ps : List Held) (d : Depack) (u unpacked : Unpacked) (e : Depack) → id < 32768
-    → AllTold kind id (payloads_held ps) → kind_of_depack d ≡ kind
+told_behind : (kind : DepacketizerKind) (id : ℕ) (start : Option ReadId) (ps : List Held) (d : DepacketizerState) (u unpacked : Unpacked) (e : DepacketizerState) → id < 32768
+    → AllTold kind id (payloads_held ps) → kind_of_depacketizer d ≡ kind
     → TellsPicture id start u.extra (read_by d) → Unpacks d ps u (Ok unpacked) e → TellsPicture id start unpacked.extra (read_by e)
 told_behind kind id start [] d u unpacked e small told is was gives =
     let same : u ≡ unpacked = cc (gives.0) in
     let still : d ≡ e = cc (gives.1) in
-    subst (λ (x : Depack). TellsPicture id start unpacked.extra (read_by x)) still (subst (λ (x : Unpacked). TellsPicture id start x.extra (read_by d)) same was)
+    subst (λ (x : DepacketizerState). TellsPicture id start unpacked.extra (read_by x)) still (subst (λ (x : Unpacked). TellsPicture id start x.extra (read_by d)) same was)
 told_behind kind id start (p ∷ ps) d u unpacked e small told is was gives =
     after_told kind id start ps p d u unpacked gives.2 gives.0 gives.1 e told.0 is gives.3 gives.4
     (λ is_on here rest. told_behind kind id start ps gives.1 gives.2 unpacked e small told.1 is_on (told_again id start (read_by d) (read_by gives.1) u.extra gives.2.extra small was here) rest)
 
 -- a unit of such payloads, one or more, tells the picture
-pub unit_told : (kind : DepackKind) (id : ℕ) (ps : List Held) (d : Depack) (u unpacked : Unpacked) (e : Depack) → id < 32768 → 0 < length ps
-    → AllTold kind id (payloads_held ps) → kind_of_depack d ≡ kind
+pub unit_told : (kind : DepacketizerKind) (id : ℕ) (ps : List Held) (d : DepacketizerState) (u unpacked : Unpacked) (e : DepacketizerState) → id < 32768 → 0 < length ps
+    → AllTold kind id (payloads_held ps) → kind_of_depacketizer d ≡ kind
     → Unpacks d ps u (Ok unpacked) e → TellsPicture id (read_by d) unpacked.extra (read_by e)
 unit_told kind id [] d u unpacked e small some told is gives = absurd (omega arith)
 unit_told kind id (p ∷ ps) d u unpacked e small some told is gives =
@@ -151,11 +153,11 @@ extension_is_next (Some before) last id = λ low near.
 
 -- What a codec whose units carry both ids owes: each packet tells the unit's picture, and none but the first is a head
 
-abbrev pub NoHeads : DepackKind → List Packet → Type 0
+abbrev pub NoHeads : DepacketizerKind → List Packet → Type 0
 NoHeads kind [] = Unit {0}
 NoHeads kind (p ∷ ps) = (head_in kind p.payload ≡ false) × NoHeads kind ps
 
-pub none_later : (kind : DepackKind) (missing rest ps : List Packet) → NoHeads kind ps → missing ++ rest ≡ ps → StartsWithHead kind rest → ⊥
+pub none_later : (kind : DepacketizerKind) (missing rest ps : List Packet) → NoHeads kind ps → missing ++ rest ≡ ps → StartsWithHead kind rest → ⊥
 none_later kind [] [] ps none whole head = head
 none_later kind [] (r ∷ rs) [] none whole head = cc
 none_later kind [] (r ∷ rs) (p ∷ ps) none whole head =
@@ -165,9 +167,10 @@ none_later kind [] (r ∷ rs) (p ∷ ps) none whole head =
 none_later kind (m ∷ ms) rest [] none whole head = cc
 none_later kind (m ∷ ms) rest (p ∷ ps) none whole head = none_later kind ms rest ps none.1 (cc) head
 
-pub told_unit : (kind : DepackKind) (id : ℕ) (first : Packet) (others : List Packet) → id < 32768 → NoHeads kind others → AllTold kind id (payloads_sent (first ∷ others))
+pub told_unit : (kind : DepacketizerKind) (id : ℕ) (first : Packet) (others : List Packet) → id < 32768 → NoHeads kind others → AllTold kind id (payloads_sent (first ∷ others))
     → (missing rest : List Packet) → missing ++ rest ≡ first ∷ others → StartsWithHead kind rest → (ps : List Held) → payloads_held ps ≡ payloads_sent rest
-    → (d : Depack) (unpacked : Unpacked) (e : Depack) → kind_of_depack d ≡ kind → Unpacks d ps nothing_unpacked (Ok unpacked) e → TellsPicture id (read_by d) unpacked.extra (read_by e)
+    → (d : DepacketizerState) (unpacked : Unpacked) (e : DepacketizerState) → kind_of_depacketizer d ≡ kind → Unpacks d ps nothing_unpacked (Ok unpacked) e
+        → TellsPicture id (read_by d) unpacked.extra (read_by e)
 told_unit kind id first others small none told (m ∷ ms) rest whole head ps same d unpacked e is gives = absurd (none_later kind ms rest others none (cc) head)
 told_unit kind id first others small none told [] rest whole head ps same d unpacked e is gives =
     let payloads : payloads_held ps ≡ payloads_sent (first ∷ others) = same ∙ ap payloads_sent whole in

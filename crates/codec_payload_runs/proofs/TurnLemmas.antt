@@ -12,7 +12,7 @@ use Rattle.codec_payload_buffer.proofs.StretchLemmas.{leaves_numbers}
 use Rattle.codec_payload_runs.proofs.UnitIds.{TellInTurn}
 use Rattle.codec_payload_runs.proofs.UnitRows.{IsFaithful, push_faithful, drop_next}
 use Rattle.codec_payload_runs.proofs.UnitTimes.{AllOneTime}
-use Rattle.codec_payload_codec.specs.Depack.{Depack, DepackKind, is_codec, kind_of_depack}
+use Rattle.codec_payload_codec.specs.Depacketizers.{DepacketizerState, DepacketizerKind, is_codec, kind_of_depacketizer}
 use Rattle.codec_payload_runs.specs.Headline.{IsPushOf, InOrder}
 use Rattle.codec_payload_buffer.specs.Held.{Held, number_of, has_number, above}
 use Rattle.codec_payload_runs.specs.Log.{Stretch, Turn, begun, with_pushes, IsLogBy}
@@ -24,7 +24,7 @@ use Rattle.codec_payload_runs.specs.LawfulUnits.{AllLawful}
 use Rattle.codec_payload_runs.specs.SentStream.{SentUnit, packets_of}
 use Rattle.codec_payload_buffer.specs.Steps.{State, IsSound, pushed, is_at_most, due_of, Passes, none, one_more, PopsOver, Releases}
 use Rattle.codec_payload_buffer.specs.Stretches.{after_pushes, kept, IsLeft, IsInRange}
-use Rattle.codec_payload_buffer.specs.declared.buffer.frames.Segment.{Segment}
+use Rattle.codec_payload_buffer.specs.declared.buffer.frames.CompleteFrame.{CompleteFrame}
 use Rattle.codec_payload_buffer.specs.declared.buffer.unit.RtpMeta.{RtpMeta}
 use Rattle.codec_payload_runs.specs.declared.run.Sent.{Sent}
 use Rattle.codec_payload_runs.specs.declared.run.Step.{Step}
@@ -35,7 +35,7 @@ pub record Setting : Type 1 where
   pub known : ℕ → Packet → RtpMeta → Type 0
   pub clock_rate : ℕ
   pub first : ℕ
-  pub kind : DepackKind
+  pub kind : DepacketizerKind
   pub faithful : IsFaithful known clock_rate kind
   pub codec : is_codec kind ≡ true
   pub splits : Bool
@@ -81,10 +81,10 @@ module _ (c : Setting) where
   abbrev pub Beyond : ℕ → State → Type 0
   Beyond from s = IsBeyond c.known c.clock_rate c.first c.kind c.faithful c.splits c.units c.lawful c.numbered from s
 
-  abbrev pub FrameOf : ℕ → State → Segment → Type 0
+  abbrev pub FrameOf : ℕ → State → CompleteFrame → Type 0
   FrameOf from s f = IsFrameOf c.known c.clock_rate c.first c.kind c.faithful c.splits c.units c.lawful c.numbered from s f
 
-  abbrev pub frame_due : (from : ℕ) (s : State) (f : Segment) → Beyond from s → due_of s ≡ Some f → FrameOf from s f
+  abbrev pub frame_due : (from : ℕ) (s : State) (f : CompleteFrame) → Beyond from s → due_of s ≡ Some f → FrameOf from s f
   frame_due from s f beyond due = frame_of c.known c.clock_rate c.first c.kind c.faithful c.splits c.units c.lawful c.numbered from s f beyond due
 
   abbrev pub count : ℕ
@@ -96,9 +96,9 @@ module _ (c : Setting) where
     pub now : w.now ≡ after_pushes w.left w.pushes
 
   -- a pop that was not refused
-  pub data IsPop (s t : State) : List Segment → Answer → Type 0 where
-    waits : {over : List Segment} → Passes s over t → due_of t ≡ None → IsPop s t over None
-    releases : {over : List Segment} {r : Release} → (mid : State) → Passes s over mid → Releases mid r t → IsPop s t over (Some (Ok r))
+  pub data IsPop (s t : State) : List CompleteFrame → Answer → Type 0 where
+    waits : {over : List CompleteFrame} → Passes s over t → due_of t ≡ None → IsPop s t over None
+    releases : {over : List CompleteFrame} {r : Release} → (mid : State) → Passes s over mid → Releases mid r t → IsPop s t over (Some (Ok r))
 
   -- the turns follow one another from s on
   abbrev pub Chain : State → List Turn → Stretch → Type 0
@@ -117,10 +117,10 @@ module _ (c : Setting) where
   pub span_beyond : (from : ℕ) (w : Stretch) → Beyond from w.left → IsSpan w → Beyond from w.now
   span_beyond from w beyond is = subst (Beyond from) (sym is.now) (beyond_pushes from w.left w.pushes beyond is.sent)
 
-  pub passed_beyond : (from : ℕ) (s t : State) (over : List Segment) → Beyond from s → Passes s over t → Beyond from t
+  pub passed_beyond : (from : ℕ) (s t : State) (over : List CompleteFrame) → Beyond from s → Passes s over t → Beyond from t
   passed_beyond from s t over beyond passes = beyond_passes c.known c.clock_rate c.first c.kind c.faithful c.splits c.units c.lawful c.numbered from s t over beyond passes
 
-  pub pop_is : (from : ℕ) (s t : State) (over : List Segment) (a : Answer) → Beyond from s → PopsOver s over a t → a ≢ Some (Err faults.OutOfMemory) → IsPop s t over a
+  pub pop_is : (from : ℕ) (s t : State) (over : List CompleteFrame) (a : Answer) → Beyond from s → PopsOver s over a t → a ≢ Some (Err faults.OutOfMemory) → IsPop s t over a
   pop_is from s t over None beyond pop found = waits pop.0 pop.1
   pop_is from s t over (Some (Ok r)) beyond pop found = releases pop.0 pop.1 pop.2
   pop_is from s t over (Some (Err fault)) beyond pop found = elim pop.2 [
@@ -128,7 +128,7 @@ module _ (c : Setting) where
     | inr refusal ↦ absurd (not_refused c.known c.clock_rate c.first c.kind c.faithful c.splits c.units c.lawful c.numbered from pop.0 t fault (passed_beyond from s pop.0 over beyond pop.1) refusal)
   ]
 
-  popped_beyond : (from : ℕ) (s t : State) (over : List Segment) (a : Answer) → Beyond from s → IsPop s t over a → (next : ℕ) × Beyond next t
+  popped_beyond : (from : ℕ) (s t : State) (over : List CompleteFrame) (a : Answer) → Beyond from s → IsPop s t over a → (next : ℕ) × Beyond next t
   popped_beyond from s t over None beyond (waits passes nothing) = (from, passed_beyond from s t over beyond passes)
   popped_beyond from s t over (Some (Ok r)) beyond (releases mid passes out) =
       let there = passed_beyond from s mid over beyond passes in
@@ -136,7 +136,7 @@ module _ (c : Setting) where
       (frame.place + 1, (released_at c.known c.clock_rate c.first c.kind c.faithful c.splits c.units c.lawful c.numbered from mid t r there out).2)
   popped_beyond from s t over (Some (Err fault)) beyond pop = elim pop [ ]
 
-  pub pop_in_order : (from : ℕ) (s t : State) (over : List Segment) (a : Answer) (answers : List Answer) → Beyond from s → IsPop s t over a
+  pub pop_in_order : (from : ℕ) (s t : State) (over : List CompleteFrame) (a : Answer) (answers : List Answer) → Beyond from s → IsPop s t over a
       → ((n : ℕ) → Beyond n t → InOrder c.known c.splits c.units n answers) → InOrder c.known c.splits c.units from (a ∷ answers)
   pop_in_order from s t over None answers beyond (waits passes nothing) later = later from (passed_beyond from s t over beyond passes)
   pop_in_order from s t over (Some (Ok r)) answers beyond (releases mid passes out) later =
@@ -152,8 +152,8 @@ module _ (c : Setting) where
       pop_in_order from turn.stretch.now turn.after turn.passed turn.answer (answers_of turns) now chain.2 (λ n after. chain_in_order n turn.after turns end after chain.3)
 
   -- where all that is named was sent, a log is a chain
-  module _ (all_steps : List Step) (named : ℕ → ℕ → Depack → List Held) (sent : (place k : ℕ) (d : Depack) → slice_get all_steps place ≡ Some (steps.Push k)
-      → kind_of_depack d ≡ c.kind → ArePushes (named place k d)) where
+  module _ (all_steps : List Step) (named : ℕ → ℕ → DepacketizerState → List Held) (sent : (place k : ℕ) (d : DepacketizerState) → slice_get all_steps place ≡ Some (steps.Push k)
+      → kind_of_depacketizer d ≡ c.kind → ArePushes (named place k d)) where
     pub chain_of : (later : List Step) (place : ℕ) (w : Stretch) (turns : List Turn) (end : Stretch) → drop place all_steps ≡ later → (from : ℕ) → Beyond from w.now → IsSpan w
         → IsLogBy named place later w turns end → Chain w.left turns end
     chain_of [] place w [] end at from beyond is log = (ap (λ (x : Stretch). x.left) log, subst IsSpan (sym log) is)
@@ -163,8 +163,8 @@ module _ (c : Setting) where
         chain_of later (place + 1) w turns end next.1 from beyond is log
     chain_of (steps.Push k ∷ later) place w turns end at from beyond is log =
         let next = drop_next all_steps place (steps.Push k) later at in
-        let ps = named place k w.now.depack in
-        let more = sent place k w.now.depack next.0 beyond.reads in
+        let ps = named place k w.now.depacketizer in
+        let more = sent place k w.now.depacketizer next.0 beyond.reads in
         chain_of later (place + 1) (with_pushes w ps) turns end next.1 from (beyond_pushes from w.now ps beyond more)
         (record { sent = sent_more w.pushes ps is.sent more; now = ap (λ (s : State). after_pushes s ps) is.now ∙ sym (after_more w.left w.pushes ps) }) log
     chain_of (steps.Pop ∷ later) place w [] end at from beyond is log = absurd log
@@ -220,7 +220,7 @@ module _ (c : Setting) where
   few_above : (s t : State) (last : ℕ) → t.held ≡ above last s.held → t.limit ≡ s.limit → length s.held ≤ s.limit → length t.held ≤ t.limit
   few_above s t last held limit few = omega (arith, ap length held, limit, few, above_shorter last s.held)
 
-  few_passes : (s t : State) (over : List Segment) → length s.held ≤ s.limit → Passes s over t → length t.held ≤ t.limit
+  few_passes : (s t : State) (over : List CompleteFrame) → length s.held ≤ s.limit → Passes s over t → length t.held ≤ t.limit
   few_passes s t over few none = few
   few_passes s u over few (one_more {t = t} passes p) =
       few_above t u p.frame.last (ap (λ (x : State). x.held) p.left) (ap (λ (x : State). x.limit) p.left) (few_passes s t _ few passes)
@@ -228,12 +228,12 @@ module _ (c : Setting) where
   pub few_released : (s t : State) (r : Release) → length s.held ≤ s.limit → Releases s r t → length t.held ≤ t.limit
   few_released s t r few out = few_above s t out.frame.last (ap (λ (x : State). x.held) out.left) (ap (λ (x : State). x.limit) out.left) few
 
-  pub few_popped : (s t : State) (over : List Segment) (a : Answer) → length s.held ≤ s.limit → IsPop s t over a → length t.held ≤ t.limit
+  pub few_popped : (s t : State) (over : List CompleteFrame) (a : Answer) → length s.held ≤ s.limit → IsPop s t over a → length t.held ≤ t.limit
   few_popped s t over None few (waits passes nothing) = few_passes s t over few passes
   few_popped s t over (Some (Ok r)) few (releases mid passes out) = few_released mid t r (few_passes s mid over few passes) out
   few_popped s t over (Some (Err fault)) few pop = elim pop [ ]
 
-  pub ready_pops : (from : ℕ) (s t : State) (over : List Segment) (a : Answer) → IsReady from s → IsPop s t over a → (next : ℕ) × IsReady next t
+  pub ready_pops : (from : ℕ) (s t : State) (over : List CompleteFrame) (a : Answer) → IsReady from s → IsPop s t over a → (next : ℕ) × IsReady next t
   ready_pops from s t over a ready pop =
       let next = popped_beyond from s t over a ready.beyond pop in
       (next.0, record { beyond = next.1; few = few_popped s t over a ready.few pop })

@@ -6,7 +6,7 @@ use Rattle.std.proofs.lemmas.List.{drop-append-le, take-append-drop, length-appe
 use Rattle.std.proofs.Math.Seq.{drop-append-add}
 use Rattle.codec_payload_base.specs.Time.{Time}
 use Rattle.codec_payload_buffer.proofs.FrameParts.{IsRun, BeginsWithHead}
-use Rattle.codec_payload_codec.specs.Depack.{DepackKind, head_in, tail_in}
+use Rattle.codec_payload_codec.specs.Depacketizers.{DepacketizerKind, head_in, tail_in}
 use Rattle.codec_payload_runs.specs.Headline.{IsPushOf, ArePushesBy}
 use Rattle.codec_payload_buffer.specs.Held.{Held}
 use Rattle.codec_payload_send.specs.Packets.{Packet}
@@ -18,7 +18,7 @@ use Rattle.codec_payload_runs.specs.declared.run.Sent.{Sent}
 use Rattle.codec_payload_runs.specs.declared.run.Step.{Step}
 
 -- a packet as a buffer over a depacketizer of that kind holds it
-abbrev pub held_as : DepackKind → RtpMeta → List ℕ → Held
+abbrev pub held_as : DepacketizerKind → RtpMeta → List ℕ → Held
 held_as kind meta payload = record { meta = meta; bytes = payload; head = head_in kind payload; tail = tail_in kind meta.header.marker payload }
 
 pub slice_append : {X : Type 0} (xs ys : List X) (k : ℕ) (x : X) → slice_get xs k ≡ Some x → slice_get (xs ++ ys) k ≡ Some x
@@ -40,27 +40,27 @@ drop_next (x ∷ xs) (suc i) e es h = let r = drop_next xs i e es h in (r.0, rw 
 drop_over : {X : Type 0} (xs ys : List X) (k : ℕ) → length xs ≤ k → drop k (xs ++ ys) ≡ drop (k - length xs) ys
 drop_over xs ys k le = let e : k ≡ length xs + (k - length xs) = omega arith in ap (λ j. drop j (xs ++ ys)) e ∙ drop-append-add xs ys (k - length xs)
 
-ends_drop : (kind : DepackKind) (k : ℕ) (ps : List Packet) → EndsWithTail kind ps → k < length ps → EndsWithTail kind (drop k ps)
+ends_drop : (kind : DepacketizerKind) (k : ℕ) (ps : List Packet) → EndsWithTail kind ps → k < length ps → EndsWithTail kind (drop k ps)
 ends_drop kind zero ps e l = e
 ends_drop kind (suc k) [] e l = absurd e
 ends_drop kind (suc k) (p ∷ []) e l = absurd (omega arith)
 ends_drop kind (suc k) (p ∷ q ∷ ps) e l = ends_drop kind k (q ∷ ps) e.1 (omega arith)
 
 -- what a push tells of a packet is its number, its time by the clock of the run, and what makes it a tail
-pub record IsFaithful (known : ℕ → Packet → RtpMeta → Type 0) (clock_rate : ℕ) (kind : DepackKind) : Type 0 where
+pub record IsFaithful (known : ℕ → Packet → RtpMeta → Type 0) (clock_rate : ℕ) (kind : DepacketizerKind) : Type 0 where
   pub number : (k : ℕ) (q : Packet) (m : RtpMeta) → known k q m → m.seq_no.0 ≡ q.number
   pub time : (k : ℕ) (q : Packet) (m : RtpMeta) → known k q m → m.time ≡ record { numer = q.rtp_time; rate = clock_rate }
   pub tail : (k : ℕ) (q : Packet) (m : RtpMeta) → known k q m → tail_in kind m.header.marker q.payload ≡ tail_in kind q.marker q.payload
 
 -- a push of the packet itself tells all this
-pub push_faithful : (all_steps : List Step) (sends : List Sent) (clock_rate : ℕ) (kind : DepackKind) → IsFaithful (IsPushOf all_steps sends clock_rate) clock_rate kind
+pub push_faithful : (all_steps : List Step) (sends : List Sent) (clock_rate : ℕ) (kind : DepacketizerKind) → IsFaithful (IsPushOf all_steps sends clock_rate) clock_rate kind
 push_faithful all_steps sends clock_rate kind = record {
   number = λ k q m push. ap (λ (x : RtpMeta). x.seq_no.0) push.3;
   time = λ k q m push. ap (λ (x : RtpMeta). x.time) push.3;
   tail = λ k q m push. ap (λ (x : RtpMeta). tail_in kind x.header.marker q.payload) push.3;
 }
 
-module _ (known : ℕ → Packet → RtpMeta → Type 0) (clock_rate : ℕ) (kind : DepackKind) (faithful : IsFaithful known clock_rate kind) where
+module _ (known : ℕ → Packet → RtpMeta → Type 0) (clock_rate : ℕ) (kind : DepacketizerKind) (faithful : IsFaithful known clock_rate kind) where
   -- the held packets are pushes of a beginning of these packets, from index k on
   abbrev pub RowOf : ℕ → List Packet → List Held → Type 0
   RowOf k qs [] = Unit {0}

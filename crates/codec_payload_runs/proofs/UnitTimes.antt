@@ -1,6 +1,6 @@
 -- All packets of a unit have one time.
 use Rattle.std.proofs.Common.{◌≡◌, ℕ, ◌+◌, ◌%◌, ◌^◌, List, [], ◌∷◌, ◌++◌, refl, sym, subst}
-use Rattle.codec_payload_codec.specs.Pack.{Pack}
+use Rattle.codec_payload_codec.specs.Packetizers.{PacketizerState}
 use Rattle.codec_payload_send.specs.Packets.{Packet}
 use Rattle.codec_payload_send.specs.Sending.{Sample, packets_for, packets_from}
 use Rattle.codec_payload_runs.specs.SentStream.{SentUnit, packets_of}
@@ -14,9 +14,10 @@ abbrev pub AllOneTime : List SentUnit → Type 0
 AllOneTime [] = Unit {0}
 AllOneTime (u ∷ us) = ((time : ℕ) × HasTime time u.packets) × AllOneTime us
 
-time_of_packets : (pack : Pack) (sample : Sample) (rtp_time number place : ℕ) (payloads : List (List ℕ)) → HasTime rtp_time (packets_from pack sample rtp_time number place payloads)
-time_of_packets pack sample rtp_time number place [] = tt
-time_of_packets pack sample rtp_time number place (payload ∷ payloads) = (refl, time_of_packets pack sample rtp_time ((number + 1) % 2 ^ 64) (place + 1) payloads)
+time_of_packets : (packetizer : PacketizerState) (sample : Sample) (rtp_time number place : ℕ) (payloads : List (List ℕ))
+    → HasTime rtp_time (packets_from packetizer sample rtp_time number place payloads)
+time_of_packets packetizer sample rtp_time number place [] = tt
+time_of_packets packetizer sample rtp_time number place (payload ∷ payloads) = (refl, time_of_packets packetizer sample rtp_time ((number + 1) % 2 ^ 64) (place + 1) payloads)
 
 time_front : (time : ℕ) (xs ys : List Packet) → HasTime time (xs ++ ys) → HasTime time xs
 time_front time [] ys h = tt
@@ -31,9 +32,9 @@ time_of_units time [] h = tt
 time_of_units time (u ∷ us) h = ((time, time_front time u.packets (packets_of us) h), time_of_units time us (time_back time u.packets (packets_of us) h))
 
 -- all packets of a sample have its time
-pub times_of_sample : (pack : Pack) (sample : Sample) (rtp_time number : ℕ) (payloads : List (List ℕ)) (units : List SentUnit)
-    → packets_of units ≡ packets_for pack sample rtp_time number payloads → AllOneTime units
-times_of_sample pack sample rtp_time number payloads units are = time_of_units rtp_time units (subst (HasTime rtp_time) (sym are) (time_of_packets pack sample rtp_time number 0 payloads))
+pub times_of_sample : (packetizer : PacketizerState) (sample : Sample) (rtp_time number : ℕ) (payloads : List (List ℕ)) (units : List SentUnit)
+    → packets_of units ≡ packets_for packetizer sample rtp_time number payloads → AllOneTime units
+times_of_sample packetizer sample rtp_time number payloads units are = time_of_units rtp_time units (subst (HasTime rtp_time) (sym are) (time_of_packets packetizer sample rtp_time number 0 payloads))
 
 pub times_append : (us vs : List SentUnit) → AllOneTime us → AllOneTime vs → AllOneTime (us ++ vs)
 times_append [] vs a b = b

@@ -8,7 +8,7 @@ use Rattle.codec_payload_av1.specs.Av1Obu.{frame_kept}
 use Rattle.codec_payload_base.specs.declared.error.PacketError.{PacketError}
 use Rattle.codec_payload_base.specs.declared.wire.extension.ExtensionValues.{ExtensionValues}
 use Rattle.codec_payload_codec.proofs.CaseLemmas.{by_test}
-use Rattle.codec_payload_codec.specs.Pack.{Pack, Vp8Pack, Vp9Pack, Av1Pack}
+use Rattle.codec_payload_codec.specs.Packetizers.{PacketizerState, Vp8Packetizing, Vp9Packetizing, Av1Packetizing}
 use Rattle.codec_payload_buffer.specs.Release.{AreValues, merged}
 use Rattle.codec_payload_buffer.specs.declared.buffer.unit.RtpMeta.{RtpMeta}
 use Rattle.codec_payload_runs.specs.Headline.{IsPushOf, ArePushesBy}
@@ -17,7 +17,7 @@ use Rattle.codec_payload_runs.specs.RunValues.{is_video}
 use Rattle.codec_payload_send.specs.Sending.{Sample, packets_from, packets_for}
 use Rattle.codec_payload_runs.specs.SentStream.{SentUnit, packets_of}
 use Rattle.codec_payload_base.specs.StrippedValues.{kept_if, stripped}
-use Rattle.codec_payload_runs.specs.Units.{canonical_obus, canonical_units, is_skipped, pack_after, refusal_of, units_by}
+use Rattle.codec_payload_runs.specs.Units.{canonical_obus, canonical_units, is_skipped, packetizer_after, refusal_of, units_by}
 use Rattle.codec_payload_runs.specs.declared.run.Sent.{Sent}
 use Rattle.codec_payload_runs.specs.declared.run.Step.{Step}
 
@@ -37,26 +37,27 @@ AllCarry (values ∷ more) (u ∷ us) = CarriesValues values u × AllCarry more 
 AllCarry [] (u ∷ us) = ⊥
 AllCarry (values ∷ more) [] = ⊥
 
-stripped_from : (pack : Pack) (sample : Sample) (rtp_time number place n : ℕ) (payloads : List (List ℕ)) → n ≡ place + length payloads
-    → AreStripped sample.ext_vals place n (packets_from pack sample rtp_time number place payloads)
-stripped_from pack sample rtp_time number place n [] is = tt
-stripped_from pack sample rtp_time number place n (payload ∷ payloads) is =
+stripped_from : (packetizer : PacketizerState) (sample : Sample) (rtp_time number place n : ℕ) (payloads : List (List ℕ)) → n ≡ place + length payloads
+    → AreStripped sample.ext_vals place n (packets_from packetizer sample rtp_time number place payloads)
+stripped_from packetizer sample rtp_time number place n [] is = tt
+stripped_from packetizer sample rtp_time number place n (payload ∷ payloads) is =
     let here : place + 1 + length payloads ≡ n = omega (arith, is) in
-    (ap (stripped sample.ext_vals place) here, stripped_from pack sample rtp_time ((number + 1) % 2 ^ 64) (place + 1) n payloads (sym here))
+    (ap (stripped sample.ext_vals place) here, stripped_from packetizer sample rtp_time ((number + 1) % 2 ^ 64) (place + 1) n payloads (sym here))
 
-length_from : (pack : Pack) (sample : Sample) (rtp_time number place : ℕ) (payloads : List (List ℕ)) → length (packets_from pack sample rtp_time number place payloads) ≡ length payloads
-length_from pack sample rtp_time number place [] = refl
-length_from pack sample rtp_time number place (payload ∷ payloads) = ap suc (length_from pack sample rtp_time ((number + 1) % 2 ^ 64) (place + 1) payloads)
+length_from : (packetizer : PacketizerState) (sample : Sample) (rtp_time number place : ℕ) (payloads : List (List ℕ))
+    → length (packets_from packetizer sample rtp_time number place payloads) ≡ length payloads
+length_from packetizer sample rtp_time number place [] = refl
+length_from packetizer sample rtp_time number place (payload ∷ payloads) = ap suc (length_from packetizer sample rtp_time ((number + 1) % 2 ^ 64) (place + 1) payloads)
 
 -- a sample of video gives one unit at most
 at_most_one : (skips : Bool) (refusal : Option PacketError) (unit : List (List ℕ)) → length (units_by skips refusal (unit ∷ [])) ≤ 1
 at_most_one skips refusal unit = by_test (skips || is_some refusal) (λ b. length (cond b [] (unit ∷ [])) ≤ 1) (λ _. omega arith) (λ _. omega arith)
 
-one_unit_at_most : (pack : Pack) (mtu : ℕ) (frame : List ℕ) → is_video pack ≡ true → length (canonical_units pack mtu frame) ≤ 1
-one_unit_at_most (Vp8Pack id) mtu frame video = at_most_one (is_skipped (Vp8Pack id) mtu frame) (refusal_of (Vp8Pack id) mtu frame) (frame ∷ [])
-one_unit_at_most (Vp9Pack sender) mtu frame video = at_most_one (is_skipped (Vp9Pack sender) mtu frame) (refusal_of (Vp9Pack sender) mtu frame) (frame ∷ [])
-one_unit_at_most Av1Pack mtu frame video = at_most_one (is_skipped Av1Pack mtu frame) (refusal_of Av1Pack mtu frame) (canonical_obus (frame_kept frame))
-one_unit_at_most pack mtu frame video = absurd (cc)
+one_unit_at_most : (packetizer : PacketizerState) (mtu : ℕ) (frame : List ℕ) → is_video packetizer ≡ true → length (canonical_units packetizer mtu frame) ≤ 1
+one_unit_at_most (Vp8Packetizing id) mtu frame video = at_most_one (is_skipped (Vp8Packetizing id) mtu frame) (refusal_of (Vp8Packetizing id) mtu frame) (frame ∷ [])
+one_unit_at_most (Vp9Packetizing sender) mtu frame video = at_most_one (is_skipped (Vp9Packetizing sender) mtu frame) (refusal_of (Vp9Packetizing sender) mtu frame) (frame ∷ [])
+one_unit_at_most Av1Packetizing mtu frame video = at_most_one (is_skipped Av1Packetizing mtu frame) (refusal_of Av1Packetizing mtu frame) (canonical_obus (frame_kept frame))
+one_unit_at_most packetizer mtu frame video = absurd (cc)
 
 -- so its packets are those of the sample
 carried_by : (values : ExtensionValues) (units : List SentUnit) (canonical : List (List (List ℕ))) → map (λ (u : SentUnit). u.parts) units ≡ canonical → length canonical ≤ 1
@@ -68,11 +69,11 @@ carried_by values (u ∷ []) (c ∷ []) are one carried = (subst (λ (ps : List 
 carried_by values (u ∷ v ∷ us) (c ∷ []) are one carried = absurd (cc)
 carried_by values (u ∷ us) (c ∷ d ∷ cs) are one carried = absurd (omega (arith, one))
 
-pub carried_by_sample : (pack after : Pack) (mtu : ℕ) (sample : Sample) (rtp_time number : ℕ) (payloads : List (List ℕ)) (units : List SentUnit) → is_video pack ≡ true
-    → map (λ (u : SentUnit). u.parts) units ≡ canonical_units pack mtu sample.bytes → packets_of units ≡ packets_for after sample rtp_time number payloads
-    → AllCarry (map (λ (unit : List (List ℕ)). sample.ext_vals) (canonical_units pack mtu sample.bytes)) units
-carried_by_sample pack after mtu sample rtp_time number payloads units video canonical packets =
-    carried_by sample.ext_vals units (canonical_units pack mtu sample.bytes) canonical (one_unit_at_most pack mtu sample.bytes video)
+pub carried_by_sample : (packetizer after : PacketizerState) (mtu : ℕ) (sample : Sample) (rtp_time number : ℕ) (payloads : List (List ℕ)) (units : List SentUnit) → is_video packetizer ≡ true
+    → map (λ (u : SentUnit). u.parts) units ≡ canonical_units packetizer mtu sample.bytes → packets_of units ≡ packets_for after sample rtp_time number payloads
+    → AllCarry (map (λ (unit : List (List ℕ)). sample.ext_vals) (canonical_units packetizer mtu sample.bytes)) units
+carried_by_sample packetizer after mtu sample rtp_time number payloads units video canonical packets =
+    carried_by sample.ext_vals units (canonical_units packetizer mtu sample.bytes) canonical (one_unit_at_most packetizer mtu sample.bytes video)
     (subst (λ (ps : List Packet). AreStripped sample.ext_vals 0 (length ps) ps) (sym packets)
     (stripped_from after sample rtp_time number 0 (length (packets_for after sample rtp_time number payloads)) payloads (omega (arith, length_from after sample rtp_time number 0 payloads))))
 
@@ -82,9 +83,9 @@ carry_append (v ∷ vs) ws (u ∷ us) xs a b = (a.0, carry_append vs ws us xs a.
 carry_append [] ws (u ∷ us) xs a b = absurd a
 carry_append (v ∷ vs) ws [] xs a b = absurd a
 
-pub same_video : (pack : Pack) (mtu : ℕ) (frame : List ℕ) → is_video (pack_after pack mtu frame) ≡ is_video pack
-same_video Av1Pack mtu frame = refl
-same_video pack mtu frame = refl
+pub same_video : (packetizer : PacketizerState) (mtu : ℕ) (frame : List ℕ) → is_video (packetizer_after packetizer mtu frame) ≡ is_video packetizer
+same_video Av1Packetizing mtu frame = refl
+same_video packetizer mtu frame = refl
 
 pub carried_at : (vs : List ExtensionValues) (us : List SentUnit) (place : ℕ) (u : SentUnit) → AllCarry vs us → slice_get us place ≡ Some u
     → (values : ExtensionValues) × (slice_get vs place ≡ Some values) × CarriesValues values u

@@ -8,8 +8,8 @@ use Rattle.codec_payload_base.specs.declared.interface.CodecExtra.{CodecExtra}
 use Rattle.codec_payload_base.specs.declared.interface.CodecExtra.TheVariants as extras
 use Rattle.codec_payload_base.specs.declared.interface.Vp9PacketizerMode.{Vp9PacketizerMode}
 use Rattle.codec_payload_base.specs.declared.interface.Vp9PacketizerMode.TheVariants.{Flexible, NonFlexible}
-use Rattle.codec_payload_codec.specs.Depack.{Vp9Depack, Vp9Payloads, kind_of_depack}
-use Rattle.codec_payload_codec.specs.Pack.{Vp9Pack}
+use Rattle.codec_payload_codec.specs.Depacketizers.{Vp9Depacketizing, Vp9Payloads, kind_of_depacketizer}
+use Rattle.codec_payload_codec.specs.Packetizers.{Vp9Packetizing}
 use Rattle.codec_payload_runs.proofs.DescribedUnits.{all_silent, all_told, cut, described_sends}
 use Rattle.codec_payload_runs.proofs.PieceUnits.{IsPiece, TellAll}
 use Rattle.codec_payload_runs.proofs.SendsUnits.{SendsUnits}
@@ -24,11 +24,11 @@ use Rattle.codec_payload_vp9.specs.Vp9Received.{told_before}
 use Rattle.codec_payload_vp9.specs.Vp9Sent.{Sender, advanced, begun, header, next_tl0_in, reserve_in, sender_after}
 
 is_piece : (s : Sender) (key : Bool) → s.picture_id < 2 ^ 15 → (first last : Bool) (piece : List ℕ) → 0 < length piece → IsPiece Vp9Payloads (IsInPlace s.mode) (header s key first last ++ piece) piece
-is_piece s key small first last piece some (Vp9Depack d) out extra (Ok x) e out' extra' is keeps step =
+is_piece s key small first last piece some (Vp9Depacketizing d) out extra (Ok x) e out' extra' is keeps step =
     let taken = sent_is_taken s key first last piece small d out extra (Ok x) step.0 out' extra' keeps step.1 in
-    (ap kind_of_depack step.2, (taken.0, taken.1))
-is_piece s key small first last piece some (Vp9Depack d) out extra (Err fault) e out' extra' is keeps step =
-    (ap kind_of_depack step.2, sent_is_taken s key first last piece small d out extra (Err fault) step.0 out' extra' keeps step.1)
+    (ap kind_of_depacketizer step.2, (taken.0, taken.1))
+is_piece s key small first last piece some (Vp9Depacketizing d) out extra (Err fault) e out' extra' is keeps step =
+    (ap kind_of_depacketizer step.2, sent_is_taken s key first last piece small d out extra (Err fault) step.0 out' extra' keeps step.1)
 is_piece s key small first last piece some d out extra one e out' extra' is keeps step = absurd (cc)
 
 -- the flexible mode tells no id of a base layer, and the non-flexible mode both ids
@@ -38,16 +38,16 @@ lacked extra lacks = refl
 
 is_silent : (id tl0 : ℕ) (key : Bool) → id < 2 ^ 15 → (first last : Bool) (piece : List ℕ)
     → IsSilent Vp9Payloads (header (record { mode = Flexible; picture_id = id; tl0picidx = tl0 }) key first last ++ piece)
-is_silent id tl0 key small first last piece (Vp9Depack d) out extra x e out' extra' is lacks step =
+is_silent id tl0 key small first last piece (Vp9Depacketizing d) out extra x e out' extra' is lacks step =
     let kept = sent_keeps_base d id tl0 small piece out extra x step.0 out' extra' key first last step.1 in
-    (ap kind_of_depack step.2, ap lacks_base kept.1 ∙ (ap is_absent kept.2 ∙ lacked extra lacks))
+    (ap kind_of_depacketizer step.2, ap lacks_base kept.1 ∙ (ap is_absent kept.2 ∙ lacked extra lacks))
 is_silent id tl0 key small first last piece d out extra x e out' extra' is lacks step = absurd (cc)
 
 is_told : (id tl0 : ℕ) (key : Bool) → id < 2 ^ 15 → (first last : Bool) (piece : List ℕ)
     → IsTold Vp9Payloads id (header (record { mode = NonFlexible; picture_id = id; tl0picidx = tl0 }) key first last ++ piece)
-is_told id tl0 key small first last piece (Vp9Depack d) out extra x e out' extra' is step =
+is_told id tl0 key small first last piece (Vp9Depacketizing d) out extra x e out' extra' is step =
     let told = sent_tells d id tl0 small piece out extra x step.0 out' extra' key first last step.1 in (
-      ap kind_of_depack step.2,
+      ap kind_of_depacketizer step.2,
       record {
         told = told.told;
         is = told.is;
@@ -63,12 +63,13 @@ is_told id tl0 key small first last piece (Vp9Depack d) out extra x e out' extra
 is_told id tl0 key small first last piece d out extra x e out' extra' is step = absurd (cc)
 
 tell : (mode : Vp9PacketizerMode) (id tl0 : ℕ) (key : Bool) (next : Sender) (sample : Sample) (rtp_time number : ℕ) → id < 2 ^ 15 → (piece : List ℕ) (pieces : List (List ℕ))
-    → TellAll Vp9Payloads (IsInPlace mode) (id_in mode id) (cut (header (record { mode = mode; picture_id = id; tl0picidx = tl0 }) key) (Vp9Pack next) sample rtp_time true number 0 (piece ∷ pieces))
+    → TellAll Vp9Payloads (IsInPlace mode) (id_in mode id) (cut (header (record { mode = mode; picture_id = id; tl0picidx = tl0 }) key)
+        (Vp9Packetizing next) sample rtp_time true number 0 (piece ∷ pieces))
 tell NonFlexible id tl0 key next sample rtp_time number small piece pieces =
     (small, all_told Vp9Payloads id (header (record { mode = NonFlexible; picture_id = id; tl0picidx = tl0 }) key) (is_told id tl0 key small)
-        (Vp9Pack next) sample rtp_time true number 0 (piece ∷ pieces))
+        (Vp9Packetizing next) sample rtp_time true number 0 (piece ∷ pieces))
 tell Flexible id tl0 key next sample rtp_time number small piece pieces =
-    all_silent Vp9Payloads (header (record { mode = Flexible; picture_id = id; tl0picidx = tl0 }) key) (is_silent id tl0 key small) (Vp9Pack next) sample rtp_time true number 0 (piece ∷ pieces)
+    all_silent Vp9Payloads (header (record { mode = Flexible; picture_id = id; tl0picidx = tl0 }) key) (is_silent id tl0 key small) (Vp9Packetizing next) sample rtp_time true number 0 (piece ∷ pieces)
 
 starts : (mode : Vp9PacketizerMode) → IsInPlace mode [] extras.None
 starts NonFlexible = refl
@@ -95,18 +96,18 @@ begun_keeps s mtu frame =
 
 pub vp9_sends : (s next : Sender) (mtu : ℕ) (sample : Sample) (rtp_time number : ℕ) (payloads : List (List ℕ)) → s.picture_id < 2 ^ 15
     → AnswersDescribed (header (begun s mtu sample.bytes) (is_key_frame sample.bytes)) (reserve_in s.mode) mtu sample.bytes (Ok payloads)
-    → next ≡ sender_after s (begun s mtu sample.bytes) (Ok payloads) → SendsUnits (Vp9Pack s) mtu sample rtp_time number payloads (Vp9Pack next)
+    → next ≡ sender_after s (begun s mtu sample.bytes) (Ok payloads) → SendsUnits (Vp9Packetizing s) mtu sample rtp_time number payloads (Vp9Packetizing next)
 vp9_sends s next mtu sample rtp_time number payloads small answer goes_on =
     let b = begun s mtu sample.bytes in
     let key = is_key_frame sample.bytes in
     let kept = begun_keeps s mtu sample.bytes in
     let low : b.picture_id < 2 ^ 15 = rw kept.1 small in
     let same : id_in s.mode s.picture_id ≡ id_in b.mode b.picture_id = rw (kept.0, kept.1) refl in
-    described_sends Vp9Payloads (IsInPlace b.mode) (header b key) (Vp9Pack next) sample rtp_time (first_starts b key) (λ number last payload. marks sample last) (is_piece b key low)
-    (Vp9Pack s) (id_in b.mode b.picture_id) mtu (reserve_in s.mode) number payloads (starts b.mode) (tell b.mode b.picture_id b.tl0picidx key next sample rtp_time number low)
+    described_sends Vp9Payloads (IsInPlace b.mode) (header b key) (Vp9Packetizing next) sample rtp_time (first_starts b key) (λ number last payload. marks sample last) (is_piece b key low)
+    (Vp9Packetizing s) (id_in b.mode b.picture_id) mtu (reserve_in s.mode) number payloads (starts b.mode) (tell b.mode b.picture_id b.tl0picidx key next sample rtp_time number low)
     refl refl same (first_id b.mode b.picture_id low) refl refl refl
-    (λ skip none. (ap Vp9Pack (goes_on ∙ rw (none, skip) refl), rw skip (sym same)))
+    (λ skip none. (ap Vp9Packetizing (goes_on ∙ rw (none, skip) refl), rw skip (sym same)))
     (λ roomy first others some.
     let is : next ≡ advanced true b = goes_on ∙ rw some refl in
-    (ap Vp9Pack (is ∙ rw roomy refl), λ m. ap (λ (n : Sender). id_later (id_in n.mode n.picture_id) m) is ∙ goes_round b.mode b.picture_id m))
+    (ap Vp9Packetizing (is ∙ rw roomy refl), λ m. ap (λ (n : Sender). id_later (id_in n.mode n.picture_id) m) is ∙ goes_round b.mode b.picture_id m))
     answer

@@ -24,7 +24,7 @@ use Rattle.codec_payload_runs.specs.RunUnits.{IsHeldWhole}
 use Rattle.codec_payload_buffer.specs.Scan.{first_of}
 use Rattle.codec_payload_runs.specs.SentStream.{SentUnit, packets_of, EndsWithTail}
 use Rattle.codec_payload_buffer.specs.Steps.{State}
-use Rattle.codec_payload_buffer.specs.declared.buffer.frames.Segment.{Segment}
+use Rattle.codec_payload_buffer.specs.declared.buffer.frames.CompleteFrame.{CompleteFrame}
 
 false_true : {A : Type 0} → false ≡ true → A
 false_true h = absurd (cc)
@@ -34,7 +34,7 @@ frames_append : (earlier xs ys : List Held) → frames_after earlier (xs ++ ys) 
 frames_append earlier [] ys = refl
 frames_append earlier (x ∷ xs) ys =
     let r : reverse xs ++ x ∷ earlier ≡ reverse (x ∷ xs) ++ earlier = sym (ap (λ (zs : List Held). zs ++ earlier) (reverse-append (x ∷ []) xs) ∙ append_assoc (reverse xs) (x ∷ []) earlier) in
-    ap (λ (zs : List Segment). frame_at x earlier ++ zs) (frames_append (x ∷ earlier) xs ys ∙ ap (λ (e : List Held). frames_after (x ∷ earlier) xs ++ frames_after e ys) r)
+    ap (λ (zs : List CompleteFrame). frame_at x earlier ++ zs) (frames_append (x ∷ earlier) xs ys ∙ ap (λ (e : List Held). frames_after (x ∷ earlier) xs ++ frames_after e ys) r)
     ∙ sym (append_assoc (frame_at x earlier) (frames_after (x ∷ earlier) xs) (frames_after (reverse (x ∷ xs) ++ earlier) ys))
 
 -- a later number
@@ -97,31 +97,32 @@ under_run (b ∷ bs) (p ∷ ps) rest first last time run r =
     (omega (arith, a.0, run_first p ps first last time run), under_run bs (p ∷ ps) rest first last time run r.1)
 
 -- a frame ends at one of the packets
-frame_under : (below earlier : List Held) (m : ℕ) (f : Segment) → AllUnder m below → first_of (frames_after earlier below) ≡ Some f → f.last < m
+frame_under : (below earlier : List Held) (m : ℕ) (f : CompleteFrame) → AllUnder m below → first_of (frames_after earlier below) ≡ Some f → f.last < m
 frame_under [] earlier m f a h = absurd (cc)
 frame_under (p ∷ ps) earlier m f a h =
     by_test p.tail (λ b. first_of (cond b (ended_at p (lowest_head (p ∷ row_before p earlier))) [] ++ frames_after (p ∷ earlier) ps) ≡ Some f → f.last < m)
     (λ tail. by_option (lowest_head (p ∷ row_before p earlier)) (λ o. first_of (ended_at p o ++ frames_after (p ∷ earlier) ps) ≡ Some f → f.last < m)
     (λ none h. frame_under ps (p ∷ earlier) m f a.1 h)
-    (λ n is h. let frame : Segment = record { first = n; last = number_of p } in let e : frame ≡ f = cc in let l : number_of p ≡ f.last = ap (λ (x : Segment). x.last) e in omega (arith, a.0, l)))
+    (λ n is h. let frame : CompleteFrame = record { first = n; last = number_of p } in let e : frame ≡ f = cc in let l : number_of p ≡ f.last = ap
+        (λ (x : CompleteFrame). x.last) e in omega (arith, a.0, l)))
     (λ no h. frame_under ps (p ∷ earlier) m f a.1 h)
     h
 
-first_cases : (xs ys : List Segment) (f : Segment) → first_of (xs ++ ys) ≡ Some f → (first_of xs ≡ Some f) ⊎ (first_of ys ≡ Some f)
+first_cases : (xs ys : List CompleteFrame) (f : CompleteFrame) → first_of (xs ++ ys) ≡ Some f → (first_of xs ≡ Some f) ⊎ (first_of ys ≡ Some f)
 first_cases [] ys f h = inr h
 first_cases (x ∷ xs) ys f h = inl h
 
 -- where a row from a head to a tail is held, the lowest frame lies below it, or ends with it
-pub lowest_frame : (below row rest : List Held) (first last : ℕ) (time : Time) (f : Segment) → Rises (below ++ (row ++ rest)) → IsRun first last time row → BeginsWithHead row
+pub lowest_frame : (below row rest : List Held) (first last : ℕ) (time : Time) (f : CompleteFrame) → Rises (below ++ (row ++ rest)) → IsRun first last time row → BeginsWithHead row
     → first_of (frames (below ++ (row ++ rest))) ≡ Some f → (f.last < first) ⊎ ((f.last ≡ last) × (f.first ≤ first))
 lowest_frame below row rest first last time f r run begins h =
     elim (first_cases (frames_after [] below) (frames_after (reverse below ++ []) (row ++ rest)) f (ap first_of (sym (frames_append [] below (row ++ rest))) ∙ h)) [
       | inl early ↦ inl (frame_under below [] first f (under_run below row rest first last time run r) early)
       | inr here ↦
           let found = row_first row rest (reverse below ++ []) first last time run begins in
-          let frame : Segment = record { first = found.0; last = last } in
+          let frame : CompleteFrame = record { first = found.0; last = last } in
           let e : frame ≡ f = cc (found.1, here) in
-          inr (sym (ap (λ (x : Segment). x.last) e), omega (arith, found.2, ap (λ (x : Segment). x.first) e))
+          inr (sym (ap (λ (x : CompleteFrame). x.last) e), omega (arith, found.2, ap (λ (x : CompleteFrame). x.first) e))
     ]
 
 -- the packets of a unit among all

@@ -34,7 +34,7 @@ pub record Tells (clock_rate : ℕ) (q : Packet) (meta : RtpMeta) : Type 0 where
 abbrev pub Meets : ℕ → List Packet → List Event → State → List Answer → State → Type 0
 Meets clock_rate packets [] s answers t = (answers ≡ []) × (t ≡ s)
 Meets clock_rate packets (Arrives k meta ∷ events) s answers t =
-    (q : Packet) × (slice_get packets k ≡ Some q) × Tells clock_rate q meta × Meets clock_rate packets events (pushed s (arrived s.depack meta q.payload)) answers t
+    (q : Packet) × (slice_get packets k ≡ Some q) × Tells clock_rate q meta × Meets clock_rate packets events (pushed s (arrived s.depacketizer meta q.payload)) answers t
 Meets clock_rate packets (Asked wait ∷ events) s answers t =
     (answer : Answer) × (more : List Answer) × (mid : State) × (answers ≡ answer ∷ more) × PopsWaiting wait s answer mid × Meets clock_rate packets events mid more t
 
@@ -74,16 +74,16 @@ pub record AllArriveFirst (limit : ℕ) (packets : List Packet) (events : List E
 -- the units that the run sends are released in order, each at most once, of packets that came; and where all come first, all of them
 pub record ReleasesArrivals (samples : List Sample) (all_steps : List Step) (s t : RunState) (events : List Event) (answers : List Answer) : Type 0 where
   pub units : List SentUnit
-  pub canonical : map (λ (u : SentUnit). u.parts) units ≡ units_of_run s.payloading.pack samples all_steps
+  pub canonical : map (λ (u : SentUnit). u.parts) units ≡ units_of_run s.payloading.packetizer samples all_steps
   pub packets : packets_of units ≡ t.sink.packets
-  pub ends : AllEndWithTail (payloads_by s.payloading.pack) units
-  pub in_order : InOrder (IsMet s.payloading.clock_rate events) (may_split s.payloading.pack) units 0 answers
+  pub ends : AllEndWithTail (payloads_by s.payloading.packetizer) units
+  pub in_order : InOrder (IsMet s.payloading.clock_rate events) (may_split s.payloading.packetizer) units 0 answers
   pub exactly : AllArriveFirst s.buffer.limit t.sink.packets events → AnswersAll (IsMet s.payloading.clock_rate events) 0 units answers
 
 -- this holds of what any run of unused parts sends, whatever of it comes to the buffer
 abbrev pub ReleaseInOrder : Type 0
 ReleaseInOrder =
     (samples : List Sample) (all_steps : List Step) (s t : RunState) (sends : List Sent) (pops : List Answer) → Runs samples 0 all_steps s sends pops t → IsUnused s
-        → AreReadable s.payloading.pack samples
+        → AreReadable s.payloading.packetizer samples
     → (events : List Event) (answers : List Answer) (left : State) → Meets s.payloading.clock_rate t.sink.packets events s.buffer answers left
     → ReleasesArrivals samples all_steps s t events answers

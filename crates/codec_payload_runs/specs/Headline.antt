@@ -1,8 +1,8 @@
 -- What a buffer releases of a run, whatever is lost, repeated and reordered.
 use Rattle.std.specs.Prelude.{◌≡◌, ℕ, ◌+◌, ◌<◌, ◌≤◌, Bool, true, false, List, [], ◌∷◌, ◌++◌, Some, None, Ok, Err, length, map, take, slice_get}
 use Rattle.codec_payload_buffer.specs.ContiguityTable.{contiguity_for}
-use Rattle.codec_payload_codec.specs.Depack.{kind_of_depack}
-use Rattle.codec_payload_codec.specs.Pack.{is_built_in}
+use Rattle.codec_payload_codec.specs.Depacketizers.{kind_of_depacketizer}
+use Rattle.codec_payload_codec.specs.Packetizers.{is_built_in}
 use Rattle.codec_payload_send.specs.Packets.{Packet}
 use Rattle.codec_payload_runs.specs.RunCounts.{sent_before}
 use Rattle.codec_payload_runs.specs.ToldIds.{read_by}
@@ -74,22 +74,22 @@ InOrder known splits units from (Some (Ok r) ∷ answers) =
 -- the packetizer is that of a codec, the sink and the buffer are unused, and the buffer's depacketizer reads what the
 -- payloader's packetizer makes, and has extended no picture ids
 pub record IsUnused (s : RunState) : Type 0 where
-  pub built_in : is_built_in s.payloading.pack ≡ true
+  pub built_in : is_built_in s.payloading.packetizer ≡ true
   pub nothing_sent : s.sink.packets ≡ []
   pub nothing_held : s.buffer.held ≡ []
   pub no_cutoff : s.buffer.cutoff ≡ None
-  pub no_mark : s.buffer.mark ≡ false
-  pub alike : kind_of_depack s.buffer.depack ≡ payloads_by s.payloading.pack
-  pub nothing_read : read_by s.buffer.depack ≡ None
-  pub nothing_kept : s.buffer.contiguity ≡ contiguity_for (kind_of_depack s.buffer.depack)
+  pub no_mark : s.buffer.evicted ≡ false
+  pub alike : kind_of_depacketizer s.buffer.depacketizer ≡ payloads_by s.payloading.packetizer
+  pub nothing_read : read_by s.buffer.depacketizer ≡ None
+  pub nothing_kept : s.buffer.contiguity ≡ contiguity_for (kind_of_depacketizer s.buffer.depacketizer)
 
 -- the units of the samples, as the steps send them, with their packets, of which the last alone ends a unit,
 -- and which the sink holds; and what the pops answered are these units, in order, each at most once, of packets that were
 -- pushed before the pop
 pub record ReleasesInOrder (samples : List Sample) (all_steps : List Step) (s : RunState) (sends : List Sent) (pops : List Answer) (t : RunState) : Type 0 where
   pub units : List SentUnit
-  pub canonical : map (λ (u : SentUnit). u.parts) units ≡ units_of_run s.payloading.pack samples all_steps
+  pub canonical : map (λ (u : SentUnit). u.parts) units ≡ units_of_run s.payloading.packetizer samples all_steps
   pub packets : packets_of units ≡ t.sink.packets
-  pub ends : AllEndWithTail (payloads_by s.payloading.pack) units
-  pub in_order : InOrder (IsPushOf all_steps sends s.payloading.clock_rate) (may_split s.payloading.pack) units 0 pops
+  pub ends : AllEndWithTail (payloads_by s.payloading.packetizer) units
+  pub in_order : InOrder (IsPushOf all_steps sends s.payloading.clock_rate) (may_split s.payloading.packetizer) units 0 pops
   pub before_pops : AreOfEarlier 0 all_steps pops

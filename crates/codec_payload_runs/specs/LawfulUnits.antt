@@ -2,7 +2,7 @@
 use Rattle.std.specs.Prelude.{◌≡◌, ℕ, List, [], ◌∷◌, ◌++◌, Result, Ok, MatchResult, Bool, true, map}
 use Rattle.codec_payload_base.specs.declared.error.PacketError.{PacketError}
 use Rattle.codec_payload_base.specs.declared.error.PacketError.TheVariants as faults
-use Rattle.codec_payload_codec.specs.Depack.{Depack, DepackKind, kind_of_depack, head_in}
+use Rattle.codec_payload_codec.specs.Depacketizers.{DepacketizerState, DepacketizerKind, kind_of_depacketizer, head_in}
 use Rattle.codec_payload_buffer.specs.Held.{Held}
 use Rattle.codec_payload_buffer.specs.Steps.{Unpacked, Unpacks, nothing_unpacked}
 use Rattle.codec_payload_send.specs.Packets.{Packet}
@@ -10,7 +10,7 @@ use Rattle.codec_payload_runs.specs.SentStream.{SentUnit, EndsWithTail, IsReleas
 use Rattle.codec_payload_runs.specs.ToldIds.{Tells, read_by}
 
 -- the first packet begins a unit
-abbrev pub StartsWithHead : DepackKind → List Packet → Type 0
+abbrev pub StartsWithHead : DepacketizerKind → List Packet → Type 0
 StartsWithHead kind [] = ⊥
 StartsWithHead kind (p ∷ ps) = head_in kind p.payload ≡ true
 
@@ -23,20 +23,20 @@ payloads_sent ps = map (λ (p : Packet). p.payload) ps
 -- what a codec owes for each unit that it sends: it ends with its only tail and begins with a head; and from its first
 -- packet, or from a later one that is a head, to its last, a depacketizer of the kind, whatever it holds, gives the unit
 -- or its last parts, and refuses nothing but for want of memory; and it tells the picture id that the packets carry
-pub record IsLawful (kind : DepackKind) (splits : Bool) (u : SentUnit) : Type 0 where
+pub record IsLawful (kind : DepacketizerKind) (splits : Bool) (u : SentUnit) : Type 0 where
   pub ends : EndsWithTail kind u.packets
   pub starts : StartsWithHead kind u.packets
   pub gives :
       (missing rest : List Packet) → missing ++ rest ≡ u.packets → StartsWithHead kind rest
       → (ps : List Held) → payloads_held ps ≡ payloads_sent rest
-      → (d : Depack) (answer : Result Unpacked PacketError) (e : Depack) → kind_of_depack d ≡ kind → Unpacks d ps nothing_unpacked answer e
-      → (kind_of_depack e ≡ kind) × MatchResult answer (λ unpacked. IsReleaseOf splits u missing unpacked.bytes) (λ fault. fault ≡ faults.OutOfMemory)
+      → (d : DepacketizerState) (answer : Result Unpacked PacketError) (e : DepacketizerState) → kind_of_depacketizer d ≡ kind → Unpacks d ps nothing_unpacked answer e
+      → (kind_of_depacketizer e ≡ kind) × MatchResult answer (λ unpacked. IsReleaseOf splits u missing unpacked.bytes) (λ fault. fault ≡ faults.OutOfMemory)
   pub tells :
       (missing rest : List Packet) → missing ++ rest ≡ u.packets → StartsWithHead kind rest
       → (ps : List Held) → payloads_held ps ≡ payloads_sent rest
-      → (d : Depack) (unpacked : Unpacked) (e : Depack) → kind_of_depack d ≡ kind → Unpacks d ps nothing_unpacked (Ok unpacked) e
+      → (d : DepacketizerState) (unpacked : Unpacked) (e : DepacketizerState) → kind_of_depacketizer d ≡ kind → Unpacks d ps nothing_unpacked (Ok unpacked) e
       → Tells u.id (read_by d) unpacked.extra (read_by e)
 
-abbrev pub AllLawful : DepackKind → Bool → List SentUnit → Type 0
+abbrev pub AllLawful : DepacketizerKind → Bool → List SentUnit → Type 0
 AllLawful kind splits [] = Unit {0}
 AllLawful kind splits (u ∷ us) = IsLawful kind splits u × AllLawful kind splits us

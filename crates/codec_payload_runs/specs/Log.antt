@@ -1,7 +1,7 @@
 -- A run told pop by pop: what was pushed before each, what it answered, and what the buffer was.
 use Rattle.std.specs.Prelude.{◌≡◌, ◌≢◌, ℕ, ◌+◌, List, [], ◌∷◌, ◌++◌, Option, Some, None, Err, map, take, slice_get}
 use Rattle.codec_payload_base.specs.declared.error.PacketError.TheVariants as faults
-use Rattle.codec_payload_codec.specs.Depack.{Depack}
+use Rattle.codec_payload_codec.specs.Depacketizers.{DepacketizerState}
 use Rattle.codec_payload_runs.specs.Headline.{ReleasesInOrder}
 use Rattle.codec_payload_buffer.specs.Held.{Held}
 use Rattle.codec_payload_runs.specs.LawfulUnits.{AllLawful}
@@ -11,7 +11,7 @@ use Rattle.codec_payload_runs.specs.Schedule.{Answer, RunState, meta_of_push}
 use Rattle.codec_payload_send.specs.Sending.{Sample}
 use Rattle.codec_payload_buffer.specs.Steps.{State, arrived, PopsOver}
 use Rattle.codec_payload_buffer.specs.Stretches.{after_pushes}
-use Rattle.codec_payload_buffer.specs.declared.buffer.frames.Segment.{Segment}
+use Rattle.codec_payload_buffer.specs.declared.buffer.frames.CompleteFrame.{CompleteFrame}
 use Rattle.codec_payload_runs.specs.Units.{payloads_by, may_split}
 use Rattle.codec_payload_runs.specs.declared.run.Sent.{Sent}
 use Rattle.codec_payload_runs.specs.declared.run.Step.{Step}
@@ -28,7 +28,7 @@ pub record Stretch : Type 0 where
 -- afterwards
 pub record Turn : Type 0 where
   pub stretch : Stretch
-  pub passed : List Segment
+  pub passed : List CompleteFrame
   pub answer : Answer
   pub after : State
 
@@ -45,17 +45,17 @@ abbrev pub packet_named : List Packet → List Sent → ℕ → ℕ → Option P
 packet_named packets sends place k = slice_get (take (sent_before place sends) packets) k
 
 -- what step `place` pushes of that packet, if there is one
-abbrev pub held_of : ℕ → ℕ → Option Packet → Depack → List Held
-held_of place clock_rate None depack = []
-held_of place clock_rate (Some p) depack = arrived depack (meta_of_push place clock_rate p) p.payload ∷ []
+abbrev pub held_of : ℕ → ℕ → Option Packet → DepacketizerState → List Held
+held_of place clock_rate None depacketizer = []
+held_of place clock_rate (Some p) depacketizer = arrived depacketizer (meta_of_push place clock_rate p) p.payload ∷ []
 
 -- the steps from place `place` on, with the stretch so far: each pop has its turn, and what comes after the last of them
 -- is the stretch at the end; `named` says what a step pushes, by its place, the index that it names, and the depacketizer
-abbrev pub IsLogBy : (ℕ → ℕ → Depack → List Held) → ℕ → List Step → Stretch → List Turn → Stretch → Type 0
+abbrev pub IsLogBy : (ℕ → ℕ → DepacketizerState → List Held) → ℕ → List Step → Stretch → List Turn → Stretch → Type 0
 IsLogBy named place [] w [] end = end ≡ w
 IsLogBy named place [] w (turn ∷ turns) end = ⊥
 IsLogBy named place (steps.Send i mtu ∷ later) w turns end = IsLogBy named (place + 1) later w turns end
-IsLogBy named place (steps.Push k ∷ later) w turns end = IsLogBy named (place + 1) later (with_pushes w (named place k w.now.depack)) turns end
+IsLogBy named place (steps.Push k ∷ later) w turns end = IsLogBy named (place + 1) later (with_pushes w (named place k w.now.depacketizer)) turns end
 IsLogBy named place (steps.Pop ∷ later) w [] end = ⊥
 IsLogBy named place (steps.Pop ∷ later) w (turn ∷ turns) end =
     (turn.stretch ≡ w) × PopsOver w.now turn.passed turn.answer turn.after × (turn.answer ≢ Some (Err faults.OutOfMemory))
@@ -68,7 +68,7 @@ IsLog packets clock_rate sends = IsLogBy (λ place k. held_of place clock_rate (
 -- a run told pop by pop, with the units that it sends, for each of which the codec keeps what it owes; `end` is what comes after the last pop
 pub record RunLog (samples : List Sample) (all_steps : List Step) (s : RunState) (sends : List Sent) (pops : List Answer) (t : RunState) : Type 0 where
   pub released : ReleasesInOrder samples all_steps s sends pops t
-  pub lawful : AllLawful (payloads_by s.payloading.pack) (may_split s.payloading.pack) released.units
+  pub lawful : AllLawful (payloads_by s.payloading.packetizer) (may_split s.payloading.packetizer) released.units
   pub turns : List Turn
   pub end : Stretch
   pub is_log : IsLog t.sink.packets s.payloading.clock_rate sends 0 all_steps (begun s.buffer) turns end

@@ -4,7 +4,7 @@ use Rattle.std.specs.Borrow.{MutBor}
 use Rattle.std.specs.List.{AllByRecursion}
 use Rattle.std.proofs.Common.{inl, inr}
 use Rattle.codec_payload_base.specs.declared.wire.ToPayload.{ToPayload}
-use Rattle.codec_payload_codec.specs.Depack.{Depack}
+use Rattle.codec_payload_codec.specs.Depacketizers.{DepacketizerState}
 use Rattle.codec_payload_buffer.specs.Held.{Held}
 use Rattle.codec_payload_buffer.specs.Steps.{arrived}
 use Rattle.codec_payload_buffer.specs.declared.buffer.unit.RtpMeta.{RtpMeta}
@@ -65,8 +65,8 @@ sent_in r = r.after.plain.sink.packets
 pub record IsRedFresh (r : RedRan) : Type 0 where
   pub unused : IsUnused r.before.plain
   pub none_in_sink : r.before.images ≡ []
-  pub readable : AreReadable r.before.plain.payloading.pack r.samples
-  pub no_video : is_video r.before.plain.payloading.pack ≡ false
+  pub readable : AreReadable r.before.plain.payloading.packetizer r.samples
+  pub no_video : is_video r.before.plain.payloading.packetizer ≡ false
   pub recoverable : IsRecoverable r.before.sender r.with.receiver r.with.budget (all_remembered (sent_in r))
 
 -- the packet of index k is that of index `carrier` or stands in a kept level of it
@@ -97,10 +97,10 @@ pub record WasSent (r : RedRan) (k : ℕ) (x : RecoveredPacket) : Type 0 where
 -- pops answered are these units, in order, each at most once, of packets that were pushed before the pop
 pub record ReleasesRecovered (r : RedRan) : Type 0 where
   pub units : List SentUnit
-  pub canonical : map (λ (u : SentUnit). u.parts) units ≡ units_of_run r.before.plain.payloading.pack r.samples r.steps
+  pub canonical : map (λ (u : SentUnit). u.parts) units ≡ units_of_run r.before.plain.payloading.packetizer r.samples r.steps
   pub packets : packets_of units ≡ sent_in r
-  pub ends : AllEndWithTail (payloads_by r.before.plain.payloading.pack) units
-  pub in_order : InOrder (IsRedPushOf r) (may_split r.before.plain.payloading.pack) units 0 r.pops
+  pub ends : AllEndWithTail (payloads_by r.before.plain.payloading.packetizer) units
+  pub in_order : InOrder (IsRedPushOf r) (may_split r.before.plain.payloading.packetizer) units 0 r.pops
   pub before_pops : AreOfEarlier 0 r.steps r.pops
 
 -- the buffer has room for all packets that were sent, and each of them is in one that is pushed before the first pop
@@ -114,18 +114,19 @@ pub record RecoversUnits (r : RedRan) : Type 0 where
   pub exactly : IsAllThere r → AnswersAll (IsRedPushOf r) 0 released.units r.pops
 
 -- what step `place` pushes of that packet, if there is one
-abbrev pub recovered_held : ℕ → ℕ → Receiver → Option Packet → Depack → List Held
-recovered_held place clock_rate receiver None depack = []
-recovered_held place clock_rate receiver (Some p) depack = map (λ (x : RecoveredPacket). arrived depack (meta_of_recovered place clock_rate receiver.primary_pt p x) x.bytes) (recovered_in receiver p)
+abbrev pub recovered_held : ℕ → ℕ → Receiver → Option Packet → DepacketizerState → List Held
+recovered_held place clock_rate receiver None depacketizer = []
+recovered_held place clock_rate receiver (Some p) depacketizer = map
+    (λ (x : RecoveredPacket). arrived depacketizer (meta_of_recovered place clock_rate receiver.primary_pt p x) x.bytes) (recovered_in receiver p)
 
 -- what each step of the run pushes
-abbrev pub pushes_of : RedRan → ℕ → ℕ → Depack → List Held
+abbrev pub pushes_of : RedRan → ℕ → ℕ → DepacketizerState → List Held
 pushes_of r place k = recovered_held place r.before.plain.payloading.clock_rate r.with.receiver (packet_named r.after.images r.sends place k)
 
 -- the run told pop by pop, with the units that it sends
 pub record RedLog (r : RedRan) : Type 0 where
   pub released : ReleasesRecovered r
-  pub lawful : AllLawful (payloads_by r.before.plain.payloading.pack) (may_split r.before.plain.payloading.pack) released.units
+  pub lawful : AllLawful (payloads_by r.before.plain.payloading.packetizer) (may_split r.before.plain.payloading.packetizer) released.units
   pub turns : List Turn
   pub end : Stretch
   pub is_log : IsLogBy (pushes_of r) 0 r.steps (begun r.before.plain.buffer) turns end
@@ -173,7 +174,7 @@ TellsContiguousInRed r = OfEachRedLog r (λ log. AllFollowAsSaid r.before.plain.
 -- unless a packet of it was evicted; no pop passes a unit over.
 abbrev pub LosesNothingSilentlyInRed : RedRan → Type 0
 LosesNothingSilentlyInRed r =
-    OfEachRedLog r (λ log. NoneIsLost (IsRedPushOf r) r.before.plain.sink.first (may_split r.before.plain.payloading.pack) log.released.units log.turns log.end)
+    OfEachRedLog r (λ log. NoneIsLost (IsRedPushOf r) r.before.plain.sink.first (may_split r.before.plain.payloading.packetizer) log.released.units log.turns log.end)
 
 abbrev pub PassesNothingOverInRed : RedRan → Type 0
 PassesNothingOverInRed r = OfEachRedLog r (λ log. NonePassedOver log.turns)
@@ -182,10 +183,10 @@ PassesNothingOverInRed r = OfEachRedLog r (λ log. NonePassedOver log.turns)
 -- released are the first of those that were sent, each whole.
 abbrev pub BeginsWithFirstInRed : RedRan → Type 0
 BeginsWithFirstInRed r =
-    OfEachRedLog r (λ log. FirstIsWhole (IsRedPushOf r) (may_split r.before.plain.payloading.pack) log.released.units r.pops
+    OfEachRedLog r (λ log. FirstIsWhole (IsRedPushOf r) (may_split r.before.plain.payloading.packetizer) log.released.units r.pops
     → NoneEvicted r.before.plain.sink.first (length (sent_in r)) log.turns
     → IsPatient r.before.plain.sink.first log.released.units 0 log.turns
-    → AreNext (IsRedPushOf r) (may_split r.before.plain.payloading.pack) log.released.units 0 r.pops)
+    → AreNext (IsRedPushOf r) (may_split r.before.plain.payloading.packetizer) log.released.units 0 r.pops)
 
 -- all of it
 pub record KeepsRedPromises (r : RedRan) : Type 0 where

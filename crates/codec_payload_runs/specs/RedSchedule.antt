@@ -3,7 +3,7 @@ use Rattle.std.specs.Prelude.{◌≡◌, ◌⊎◌, ℕ, ◌+◌, ◌%◌, ◌^�
 use Rattle.codec_payload_base.specs.Extensions.{no_values}
 use Rattle.codec_payload_base.specs.declared.error.PacketError.TheVariants as faults
 use Rattle.codec_payload_buffer.specs.Held.{Held}
-use Rattle.codec_payload_codec.specs.Pack.{Pack, PackStep, is_built_in}
+use Rattle.codec_payload_codec.specs.Packetizers.{PacketizerState, PacketizerStep, is_built_in}
 use Rattle.codec_payload_buffer.specs.Steps.{State, IsArrived, pushed, Pops}
 use Rattle.codec_payload_buffer.specs.declared.buffer.unit.RtpMeta.{RtpMeta}
 use Rattle.codec_payload_send.specs.Packets.{Packet, SentPackets}
@@ -91,7 +91,7 @@ recovered_in receiver p = recovered_of receiver p (red_at p.payload)
 abbrev pub PushesAll : ℕ → ℕ → ℕ → Packet → List RecoveredPacket → State → State → Type 0
 PushesAll place clock_rate pt carrier [] s t = t ≡ s
 PushesAll place clock_rate pt carrier (x ∷ xs) s t =
-    (held : Held) × IsArrived s.depack (meta_of_recovered place clock_rate pt carrier x) x.bytes held × PushesAll place clock_rate pt carrier xs (pushed s held) t
+    (held : Held) × IsArrived s.depacketizer (meta_of_recovered place clock_rate pt carrier x) x.bytes held × PushesAll place clock_rate pt carrier xs (pushed s held) t
 
 -- memory was refused to one of them, once those before it were pushed
 abbrev pub StopsAmong : ℕ → ℕ → ℕ → Packet → List RecoveredPacket → State → State → Type 0
@@ -123,13 +123,13 @@ RunsInRed w samples place (step ∷ later) s sends pops t =
 -- memory was refused while a sample was sent: by the packetizer; or by the sink or the sender to one of the packets, once
 -- those before had gone out, and the sender has remembered that one too, or not
 abbrev pub StopsSendingInRed : ℕ → ℕ → Sample → RedState → RedState → Type 0
-StopsSendingInRed budget mtu sample s t = (pack : Pack) × (
-    (PackStep s.plain.payloading.pack mtu sample.bytes (Err faults.OutOfMemory) pack × (t ≡ record s { plain = after_send s.plain pack [] }))
-    ⊎ ((payloads : List (List ℕ)) × (begun : List Packet) × (refused : Packet) × (left : List Packet) × PackStep s.plain.payloading.pack mtu sample.bytes (Ok payloads) pack
-    × AreAs (is_built_in pack) (begun ++ refused ∷ left) (packets_sent s.plain pack sample payloads)
+StopsSendingInRed budget mtu sample s t = (packetizer : PacketizerState) × (
+    (PacketizerStep s.plain.payloading.packetizer mtu sample.bytes (Err faults.OutOfMemory) packetizer × (t ≡ record s { plain = after_send s.plain packetizer [] }))
+    ⊎ ((payloads : List (List ℕ)) × (begun : List Packet) × (refused : Packet) × (left : List Packet) × PacketizerStep s.plain.payloading.packetizer mtu sample.bytes (Ok payloads) packetizer
+    × AreAs (is_built_in packetizer) (begun ++ refused ∷ left) (packets_sent s.plain packetizer sample payloads)
     × (kept : List Packet) × ((kept ≡ begun) ⊎ (kept ≡ begun ++ refused ∷ []))
     × (t ≡ record {
-      plain = after_send s.plain pack begun;
+      plain = after_send s.plain packetizer begun;
       images = s.images ++ all_in_red s.sender budget begun;
       sender = sender_after s.sender (all_remembered kept);
     })))

@@ -88,7 +88,7 @@ AllFollowAsSaid first count last evicted (turn ∷ turns) =
 -- Order independence, the second sentence: of codecs that do not send both picture id and TL0PICIDX
 abbrev pub IsContiguousAsSaid : {samples : List Sample} {all_steps : List Step} {s : RunState} {sends : List Sent} {pops : List Answer} {t : RunState}
     → RunLog samples all_steps s sends pops t → Type 0
-IsContiguousAsSaid {s = s} {t = t} log = next_id s.payloading.pack ≡ None → AllFollowAsSaid s.sink.first (length t.sink.packets) None false log.turns
+IsContiguousAsSaid {s = s} {t = t} log = next_id s.payloading.packetizer ≡ None → AllFollowAsSaid s.sink.first (length t.sink.packets) None false log.turns
 
 -- all but when a packet was received
 abbrev pub bare_meta : RtpMeta → RtpMeta
@@ -115,6 +115,6 @@ PushTheSame (turn ∷ turns) (other ∷ others) = ((n : ℕ) → has_number n tu
 abbrev pub OnlySetsCount : Type 0
 OnlySetsCount = (samples : List Sample) (all_steps other_steps : List Step) (s t u : RunState) (sends other_sends : List Sent) (pops other_pops : List Answer)
     → Runs samples 0 all_steps s sends pops t → Runs samples 0 other_steps s other_sends other_pops u → t.sink.packets ≡ u.sink.packets
-    → IsUnused s → AreReadable s.payloading.pack samples
+    → IsUnused s → AreReadable s.payloading.packetizer samples
     → (log : RunLog samples all_steps s sends pops t) (other : RunLog samples other_steps s other_sends other_pops u) → PushTheSame log.turns other.turns
     → map (answer_with bare_meta) pops ≡ map (answer_with bare_meta) other_pops

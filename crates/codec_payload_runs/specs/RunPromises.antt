@@ -31,7 +31,7 @@ ran samples steps before run after = record { samples = map sample_of samples; s
 -- the premises: the packetizer is that of a codec, the sink and the buffer are unused, the buffer reads what the payloader makes, and what is sent of the
 -- samples can be read again
 abbrev pub IsFresh : Ran → Type 0
-IsFresh r = IsUnused r.before × AreReadable r.before.payloading.pack r.samples
+IsFresh r = IsUnused r.before × AreReadable r.before.payloading.packetizer r.samples
 
 -- a log tells the run pop by pop
 abbrev pub LogOf : Ran → Type 0

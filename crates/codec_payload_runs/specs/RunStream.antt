@@ -1,8 +1,8 @@
 -- A run of a stream: samples sent by a fresh payloader of a specification, and received by a fresh buffer of the same.
 use Rattle.std.specs.Prelude.{◌≡◌, List, [], Some, option_map, map}
 use Rattle.codec_payload_base.specs.declared.wire.ToPayload.{ToPayload}
-use Rattle.codec_payload_codec.specs.Depack.{Depack, depack_for, configured_depack}
-use Rattle.codec_payload_codec.specs.Pack.{Pack, pack_for, configured}
+use Rattle.codec_payload_codec.specs.Depacketizers.{DepacketizerState, depacketizer_state_for, configured_depacketizer}
+use Rattle.codec_payload_codec.specs.Packetizers.{PacketizerState, packetizer_state_for, configured}
 use Rattle.codec_payload_runs.specs.RunPromises.{KeepsPromisesIf, ran}
 use Rattle.codec_payload_runs.specs.Schedule.{RunState, run_state}
 use Rattle.codec_payload_send.specs.Sending.{sample_of}
@@ -13,18 +13,18 @@ use Rattle.codec_payload_runs.specs.declared.run.Step.{Step}
 use Rattle.codec_payload_runs.specs.declared.run.Stream.{Stream}
 
 -- the payloader, the buffer and the sink of a stream before anything is sent
-abbrev pub fresh : Stream → Pack → Depack → RunState
-fresh stream pack depack = run_state
-    (record { pack = pack; clock_rate = stream.spec.clock_rate })
-    (empty_buffer stream.hold_back stream.limit depack)
+abbrev pub fresh : Stream → PacketizerState → DepacketizerState → RunState
+fresh stream packetizer depacketizer = run_state
+    (record { packetizer = packetizer; clock_rate = stream.spec.clock_rate })
+    (empty_buffer stream.hold_back stream.limit depacketizer)
     (record { first = stream.first_number; packets = [] })
 
 -- packetizer and depacketizer are those of the codec, both configured by the specification; and every promise of a run is
 -- kept, where the samples can be read again, which is the one premise left
 pub record RunsStream (stream : Stream) (samples : List ToPayload) (steps : List Step) (run : Run) : Type 0 where
-  pub pack : Pack
-  pub sender : option_map (configured stream.spec.octet_align) (pack_for stream.mode stream.first_id stream.spec.codec) ≡ Some pack
-  pub depack : Depack
-  pub receiver : option_map (configured_depack stream.spec.octet_align stream.spec.clock_rate) (depack_for stream.spec.codec) ≡ Some depack
+  pub packetizer : PacketizerState
+  pub sender : option_map (configured stream.spec.octet_align) (packetizer_state_for stream.mode stream.first_id stream.spec.codec) ≡ Some packetizer
+  pub depacketizer : DepacketizerState
+  pub receiver : option_map (configured_depacketizer stream.spec.octet_align stream.spec.clock_rate) (depacketizer_state_for stream.spec.codec) ≡ Some depacketizer
   pub after : RunState
-  pub promises : KeepsPromisesIf (AreReadable pack (map sample_of samples)) (ran samples steps (fresh stream pack depack) run after)
+  pub promises : KeepsPromisesIf (AreReadable packetizer (map sample_of samples)) (ran samples steps (fresh stream packetizer depacketizer) run after)

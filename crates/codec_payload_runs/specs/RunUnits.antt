@@ -13,7 +13,7 @@ use Rattle.codec_payload_runs.specs.SentStream.{SentUnit, packets_of}
 use Rattle.codec_payload_buffer.specs.Steps.{State}
 use Rattle.codec_payload_runs.specs.ToldIds.{next_id}
 use Rattle.codec_payload_runs.specs.Units.{may_split}
-use Rattle.codec_payload_buffer.specs.declared.buffer.frames.Segment.{Segment}
+use Rattle.codec_payload_buffer.specs.declared.buffer.frames.CompleteFrame.{CompleteFrame}
 use Rattle.codec_payload_buffer.specs.declared.buffer.unit.RtpMeta.{RtpMeta}
 use Rattle.codec_payload_runs.specs.declared.run.Sent.{Sent}
 use Rattle.codec_payload_runs.specs.declared.run.Step.{Step}
@@ -44,9 +44,9 @@ IsReleasedIn known splits units place (turn ∷ turns) =
     ReleasesWhole known splits units place turn.answer ⊎ IsReleasedIn known splits units place turns
 
 -- one of these frames is that of the whole unit
-abbrev pub IsAmong : ℕ → List SentUnit → ℕ → List Segment → Type 0
+abbrev pub IsAmong : ℕ → List SentUnit → ℕ → List CompleteFrame → Type 0
 IsAmong first units place passed =
-    (f : Segment) × Contains passed f × (f.first ≡ first + packets_before place units) × (f.last + 1 ≡ first + packets_before (place + 1) units)
+    (f : CompleteFrame) × Contains passed f × (f.first ≡ first + packets_before place units) × (f.last + 1 ≡ first + packets_before (place + 1) units)
 
 -- one of these pops passes the unit over
 abbrev pub IsPassedOverIn : ℕ → List SentUnit → ℕ → List Turn → Type 0
@@ -79,7 +79,7 @@ NoneIsLost known first splits units (turn ∷ turns) end =
 -- No silent loss
 abbrev pub LosesNoneSilently : {samples : List Sample} {all_steps : List Step} {s : RunState} {sends : List Sent} {pops : List Answer} {t : RunState} → RunLog samples all_steps s sends pops t → Type 0
 LosesNoneSilently {all_steps = all_steps} {s = s} {sends = sends} log =
-    NoneIsLost (IsPushOf all_steps sends s.payloading.clock_rate) s.sink.first (may_split s.payloading.pack) log.released.units log.turns log.end
+    NoneIsLost (IsPushOf all_steps sends s.payloading.clock_rate) s.sink.first (may_split s.payloading.packetizer) log.released.units log.turns log.end
 
 -- no pop passes a frame over
 abbrev pub NonePassedOver : List Turn → Type 0
@@ -88,10 +88,10 @@ NonePassedOver (turn ∷ turns) = (turn.passed ≡ []) × NonePassedOver turns
 
 -- nor any of a run of a codec that does not send both picture id and TL0PICIDX
 abbrev pub PassesNoneOver : {samples : List Sample} {all_steps : List Step} {s : RunState} {sends : List Sent} {pops : List Answer} {t : RunState} → RunLog samples all_steps s sends pops t → Type 0
-PassesNoneOver {s = s} log = next_id s.payloading.pack ≡ None → NonePassedOver log.turns
+PassesNoneOver {s = s} log = next_id s.payloading.packetizer ≡ None → NonePassedOver log.turns
 
 -- these frames all end at such numbers
-abbrev pub AllEnd : (ℕ → Type 0) → List Segment → Type 0
+abbrev pub AllEnd : (ℕ → Type 0) → List CompleteFrame → Type 0
 AllEnd P [] = Unit {0}
 AllEnd P (f ∷ fs) = P f.last × AllEnd P fs
 
@@ -111,7 +111,7 @@ abbrev pub EndsOutside : ℕ → List SentUnit → ℕ → ℕ → Type 0
 EndsOutside first units n e = (e < first + packets_before n units) ⊎ (first + packets_before (n + 16384) units ≤ e)
 
 -- these frames all start at n or above
-abbrev pub AllStartFrom : ℕ → List Segment → Type 0
+abbrev pub AllStartFrom : ℕ → List CompleteFrame → Type 0
 AllStartFrom n [] = Unit {0}
 AllStartFrom n (f ∷ fs) = (n ≤ f.first) × AllStartFrom n fs
 
@@ -170,7 +170,7 @@ IsPatient first units n (turn ∷ turns) =
 -- Beginning
 abbrev pub BeginsAsSent : {samples : List Sample} {all_steps : List Step} {s : RunState} {sends : List Sent} {pops : List Answer} {t : RunState} → RunLog samples all_steps s sends pops t → Type 0
 BeginsAsSent {all_steps = all_steps} {s = s} {sends = sends} {pops = pops} {t = t} log =
-    FirstIsWhole (IsPushOf all_steps sends s.payloading.clock_rate) (may_split s.payloading.pack) log.released.units pops
+    FirstIsWhole (IsPushOf all_steps sends s.payloading.clock_rate) (may_split s.payloading.packetizer) log.released.units pops
     → NoneEvicted s.sink.first (length t.sink.packets) log.turns
     → IsPatient s.sink.first log.released.units 0 log.turns
-    → AreNext (IsPushOf all_steps sends s.payloading.clock_rate) (may_split s.payloading.pack) log.released.units 0 pops
+    → AreNext (IsPushOf all_steps sends s.payloading.clock_rate) (may_split s.payloading.packetizer) log.released.units 0 pops

@@ -4,7 +4,7 @@ use Rattle.codec_payload_base.specs.Extensions.{no_values}
 use Rattle.codec_payload_base.specs.declared.error.PacketError.{PacketError}
 use Rattle.codec_payload_base.specs.declared.error.PacketError.TheVariants as faults
 use Rattle.codec_payload_buffer.specs.Held.{Held}
-use Rattle.codec_payload_codec.specs.Pack.{Pack, PackStep, is_built_in}
+use Rattle.codec_payload_codec.specs.Packetizers.{PacketizerState, PacketizerStep, is_built_in}
 use Rattle.codec_payload_send.specs.Packets.{Packet, SentPackets, AreNumbered}
 use Rattle.codec_payload_send.specs.Sending.{Sample, Payloading, packets_for, rtp_time_at, AreAs}
 use Rattle.codec_payload_buffer.specs.Release.{Release}
@@ -34,26 +34,26 @@ fault_of (Ok payloads) = None
 fault_of (Err fault) = Some fault
 
 -- the packets that the sink gains of a packetizer that is built in
-abbrev pub packets_sent : RunState → Pack → Sample → List (List ℕ) → List Packet
-packets_sent s pack sample payloads =
-    packets_for pack sample (rtp_time_at s.payloading.clock_rate sample.rtp_time) (s.sink.first + length s.sink.packets) payloads
+abbrev pub packets_sent : RunState → PacketizerState → Sample → List (List ℕ) → List Packet
+packets_sent s packetizer sample payloads =
+    packets_for packetizer sample (rtp_time_at s.payloading.clock_rate sample.rtp_time) (s.sink.first + length s.sink.packets) payloads
 
 -- after the packetizer went on and the sink gained these packets
-abbrev pub after_send : RunState → Pack → List Packet → RunState
-after_send s pack packets = record s { payloading = record s.payloading { pack = pack }; sink = record s.sink { packets = s.sink.packets ++ packets } }
+abbrev pub after_send : RunState → PacketizerState → List Packet → RunState
+after_send s packetizer packets = record s { payloading = record s.payloading { packetizer = packetizer }; sink = record s.sink { packets = s.sink.packets ++ packets } }
 
 -- the sample was sent, or refused by the packetizer, which sends nothing
 pub record SendsIt (place mtu : ℕ) (sample : Sample) (s : RunState) (entry : Sent) (t : RunState) : Type 0 where
   pub answer : Result (List (List ℕ)) PacketError
-  pub pack : Pack
-  pub packetized : PackStep s.payloading.pack mtu sample.bytes answer pack
+  pub packetizer : PacketizerState
+  pub packetized : PacketizerStep s.payloading.packetizer mtu sample.bytes answer packetizer
   pub not_memory : answer ≢ Err faults.OutOfMemory
   pub entry_is : entry ≡ record { step = place; first = length s.sink.packets; count = length (payloads_of answer); fault = fault_of answer }
   pub packets : List Packet
-  pub are : AreAs (is_built_in pack) packets (packets_sent s pack sample (payloads_of answer))
+  pub are : AreAs (is_built_in packetizer) packets (packets_sent s packetizer sample (payloads_of answer))
   pub numbered : AreNumbered (s.sink.first + length s.sink.packets) packets
   pub few : length t.sink.packets < 2 ^ 63
-  pub left : t ≡ after_send s pack packets
+  pub left : t ≡ after_send s packetizer packets
 
 -- what is known of a packet that step `place` pushes
 abbrev pub meta_of_push : ℕ → ℕ → Packet → RtpMeta
@@ -75,7 +75,7 @@ meta_of_push place clock_rate p = record {
 -- step `place` pushed that packet, if there is one
 abbrev pub Pushes : ℕ → ℕ → Option Packet → State → State → Type 0
 Pushes place clock_rate None s t = t ≡ s
-Pushes place clock_rate (Some p) s t = (held : Held) × IsArrived s.depack (meta_of_push place clock_rate p) p.payload held × (t ≡ pushed s held)
+Pushes place clock_rate (Some p) s t = (held : Held) × IsArrived s.depacketizer (meta_of_push place clock_rate p) p.payload held × (t ≡ pushed s held)
 
 -- one step, at its place: the entry of a `Send` and the answer of a `Pop`, if it is one
 abbrev pub DoesStep : List Sample → ℕ → Step → RunState → List Sent → List Answer → RunState → Type 0
@@ -96,10 +96,10 @@ Runs samples place (step ∷ later) s sends pops t =
 -- memory was refused while a sample was sent: by the packetizer, or by the sink to one of the packets, once it had those
 -- before
 abbrev pub StopsSending : ℕ → Sample → RunState → RunState → Type 0
-StopsSending mtu sample s t = (pack : Pack) × (
-    (PackStep s.payloading.pack mtu sample.bytes (Err faults.OutOfMemory) pack × (t ≡ after_send s pack []))
-    ⊎ ((payloads : List (List ℕ)) × (begun : List Packet) × (refused : Packet) × (left : List Packet) × PackStep s.payloading.pack mtu sample.bytes (Ok payloads) pack
-    × AreAs (is_built_in pack) (begun ++ refused ∷ left) (packets_sent s pack sample payloads) × (t ≡ after_send s pack begun)))
+StopsSending mtu sample s t = (packetizer : PacketizerState) × (
+    (PacketizerStep s.payloading.packetizer mtu sample.bytes (Err faults.OutOfMemory) packetizer × (t ≡ after_send s packetizer []))
+    ⊎ ((payloads : List (List ℕ)) × (begun : List Packet) × (refused : Packet) × (left : List Packet) × PacketizerStep s.payloading.packetizer mtu sample.bytes (Ok payloads) packetizer
+    × AreAs (is_built_in packetizer) (begun ++ refused ∷ left) (packets_sent s packetizer sample payloads) × (t ≡ after_send s packetizer begun)))
 
 -- memory was refused to a step: before it began, or as the refused call leaves things
 abbrev pub StopsAt : List Sample → Step → RunState → RunState → Type 0

@@ -2,35 +2,35 @@
 use Rattle.std.specs.Prelude.{◌≡◌, ℕ, ◌<◌, ◌⊎◌, Bool, true, false, List, [], ◌∷◌, ◌++◌, Option, Some, None, length, slice_get}
 use Rattle.std.specs.List.{flat_map}
 use Rattle.codec_payload_base.specs.Pieces.{joined}
-use Rattle.codec_payload_codec.specs.Depack.{DepackKind, tail_in}
-use Rattle.codec_payload_codec.specs.Pack.{Pack}
+use Rattle.codec_payload_codec.specs.Depacketizers.{DepacketizerKind, tail_in}
+use Rattle.codec_payload_codec.specs.Packetizers.{PacketizerState}
 use Rattle.codec_payload_send.specs.Packets.{Packet}
 use Rattle.codec_payload_send.specs.Sending.{Sample}
-use Rattle.codec_payload_runs.specs.Units.{canonical_units, is_readable, pack_after}
+use Rattle.codec_payload_runs.specs.Units.{canonical_units, is_readable, packetizer_after}
 use Rattle.codec_payload_runs.specs.declared.run.Step.{Step}
 use Rattle.codec_payload_runs.specs.declared.run.Step.TheVariants as steps
 
 -- the units of a sample, if there is one
-abbrev pub units_of_sample : Pack → ℕ → Option Sample → List (List (List ℕ))
-units_of_sample pack mtu None = []
-units_of_sample pack mtu (Some sample) = canonical_units pack mtu sample.bytes
+abbrev pub units_of_sample : PacketizerState → ℕ → Option Sample → List (List (List ℕ))
+units_of_sample packetizer mtu None = []
+units_of_sample packetizer mtu (Some sample) = canonical_units packetizer mtu sample.bytes
 
-abbrev pub pack_after_sample : Pack → ℕ → Option Sample → Pack
-pack_after_sample pack mtu None = pack
-pack_after_sample pack mtu (Some sample) = pack_after pack mtu sample.bytes
+abbrev pub packetizer_after_sample : PacketizerState → ℕ → Option Sample → PacketizerState
+packetizer_after_sample packetizer mtu None = packetizer
+packetizer_after_sample packetizer mtu (Some sample) = packetizer_after packetizer mtu sample.bytes
 
 -- the units that the steps of a run send, in order: told by the samples and the steps alone
-abbrev pub units_of_run : Pack → List Sample → List Step → List (List (List ℕ))
-units_of_run pack samples [] = []
-units_of_run pack samples (steps.Send i mtu ∷ later) =
-    units_of_sample pack mtu (slice_get samples i) ++ units_of_run (pack_after_sample pack mtu (slice_get samples i)) samples later
-units_of_run pack samples (steps.Push k ∷ later) = units_of_run pack samples later
-units_of_run pack samples (steps.Pop ∷ later) = units_of_run pack samples later
+abbrev pub units_of_run : PacketizerState → List Sample → List Step → List (List (List ℕ))
+units_of_run packetizer samples [] = []
+units_of_run packetizer samples (steps.Send i mtu ∷ later) =
+    units_of_sample packetizer mtu (slice_get samples i) ++ units_of_run (packetizer_after_sample packetizer mtu (slice_get samples i)) samples later
+units_of_run packetizer samples (steps.Push k ∷ later) = units_of_run packetizer samples later
+units_of_run packetizer samples (steps.Pop ∷ later) = units_of_run packetizer samples later
 
 -- what is sent of these samples can be read again
-abbrev pub AreReadable : Pack → List Sample → Type 0
-AreReadable pack [] = Unit {0}
-AreReadable pack (sample ∷ samples) = (is_readable pack sample.bytes ≡ true) × AreReadable pack samples
+abbrev pub AreReadable : PacketizerState → List Sample → Type 0
+AreReadable packetizer [] = Unit {0}
+AreReadable packetizer (sample ∷ samples) = (is_readable packetizer sample.bytes ≡ true) × AreReadable packetizer samples
 
 -- a unit that was sent, in its parts, with its packets, and the picture id that these carry, if they carry that of the
 -- base layer besides
@@ -44,13 +44,13 @@ abbrev pub packets_of : List SentUnit → List Packet
 packets_of units = flat_map (λ (u : SentUnit). u.packets) units
 
 -- there is a packet, and the last is the only one that ends a unit
-abbrev pub EndsWithTail : DepackKind → List Packet → Type 0
+abbrev pub EndsWithTail : DepacketizerKind → List Packet → Type 0
 EndsWithTail kind [] = ⊥
 EndsWithTail kind (p ∷ []) = tail_in kind p.marker p.payload ≡ true
 EndsWithTail kind (p ∷ q ∷ ps) = (tail_in kind p.marker p.payload ≡ false) × EndsWithTail kind (q ∷ ps)
 
 -- the packets of each of these units end with their only tail
-abbrev pub AllEndWithTail : DepackKind → List SentUnit → Type 0
+abbrev pub AllEndWithTail : DepacketizerKind → List SentUnit → Type 0
 AllEndWithTail kind [] = Unit {0}
 AllEndWithTail kind (u ∷ us) = EndsWithTail kind u.packets × AllEndWithTail kind us
 

@@ -5,8 +5,8 @@ use Rattle.codec_payload_base.specs.declared.interface.CodecExtra.TheVariants as
 use Rattle.codec_payload_base.specs.declared.interface.Vp9CodecExtra.{Vp9CodecExtra}
 use Rattle.codec_payload_base.specs.declared.interface.Vp9PacketizerMode.{Vp9PacketizerMode}
 use Rattle.codec_payload_base.specs.declared.interface.Vp9PacketizerMode.TheVariants.{Flexible, NonFlexible}
-use Rattle.codec_payload_codec.specs.Depack.{Depack, G711Depack, OpusDepack, NullDepack, Vp8Depack, Vp9Depack, ComfortNoiseDepack, TeleDepack, Av1Depack, AmrWbDepack, BoxedDepack}
-use Rattle.codec_payload_codec.specs.Pack.{Pack, G711Pack, G722Pack, OpusPack, NullPack, Vp8Pack, Vp9Pack, ComfortNoisePack, TelePack, Av1Pack, AmrWbPack, BoxedPack}
+use Rattle.codec_payload_codec.specs.Depacketizers.{DepacketizerState, G711Depacketizing, OpusDepacketizing, NullDepacketizing, Vp8Depacketizing, Vp9Depacketizing, ComfortNoiseDepacketizing, TeleDepacketizing, Av1Depacketizing, AmrWbDepacketizing, BoxedDepacketizing}
+use Rattle.codec_payload_codec.specs.Packetizers.{PacketizerState, G711Packetizing, G722Packetizing, OpusPacketizing, NullPacketizing, Vp8Packetizing, Vp9Packetizing, ComfortNoisePacketizing, TelePacketizing, Av1Packetizing, AmrWbPacketizing, BoxedPacketizing}
 
 -- the picture id that was read last, as it was carried, and extended
 pub record ReadId : Type 0 where
@@ -57,17 +57,17 @@ Tells None before extra after = lacks_base extra ≡ true
 Tells (Some id) before extra after = TellsPicture id before extra after
 
 -- what a depacketizer read last, where it extends the ids of frames with both
-abbrev pub read_by : Depack → Option ReadId
-read_by G711Depack = None
-read_by OpusDepack = None
-read_by NullDepack = None
-read_by (Vp8Depack d) = None
-read_by (Vp9Depack d) = read_last d.extended_pid d.picture_id
-read_by ComfortNoiseDepack = None
-read_by (TeleDepack rate) = None
-read_by (Av1Depack pending) = None
-read_by (AmrWbDepack octet) = None
-read_by BoxedDepack = None
+abbrev pub read_by : DepacketizerState → Option ReadId
+read_by G711Depacketizing = None
+read_by OpusDepacketizing = None
+read_by NullDepacketizing = None
+read_by (Vp8Depacketizing d) = None
+read_by (Vp9Depacketizing d) = read_last d.extended_pid d.picture_id
+read_by ComfortNoiseDepacketizing = None
+read_by (TeleDepacketizing rate) = None
+read_by (Av1Depacketizing pending) = None
+read_by (AmrWbDepacketizing octet) = None
+read_by BoxedDepacketizing = None
 
 -- frames of the non-flexible mode of VP9 carry both ids
 abbrev pub id_in : Vp9PacketizerMode → ℕ → Option ℕ
@@ -75,18 +75,18 @@ id_in NonFlexible id = Some id
 id_in Flexible id = None
 
 -- the id of the next unit, where units carry both ids
-abbrev pub next_id : Pack → Option ℕ
-next_id G711Pack = None
-next_id G722Pack = None
-next_id OpusPack = None
-next_id NullPack = None
-next_id (Vp8Pack id) = None
-next_id (Vp9Pack sender) = id_in sender.mode sender.picture_id
-next_id ComfortNoisePack = None
-next_id TelePack = None
-next_id Av1Pack = None
-next_id (AmrWbPack octet) = None
-next_id BoxedPack = None
+abbrev pub next_id : PacketizerState → Option ℕ
+next_id G711Packetizing = None
+next_id G722Packetizing = None
+next_id OpusPacketizing = None
+next_id NullPacketizing = None
+next_id (Vp8Packetizing id) = None
+next_id (Vp9Packetizing sender) = id_in sender.mode sender.picture_id
+next_id ComfortNoisePacketizing = None
+next_id TelePacketizing = None
+next_id Av1Packetizing = None
+next_id (AmrWbPacketizing octet) = None
+next_id BoxedPacketizing = None
 
 -- the id of the unit that comes m units later
 abbrev pub id_later : Option ℕ → ℕ → Option ℕ

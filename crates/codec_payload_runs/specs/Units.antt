@@ -12,36 +12,36 @@ use Rattle.codec_payload_av1.specs.Av1Obu.{Obu, canonical, frame_kept}
 use Rattle.codec_payload_av1.specs.Av1Steps.{av1_is_skipped, av1_refusal}
 use Rattle.codec_payload_vp8.specs.Vp8Sent.{advanced, header_size}
 use Rattle.codec_payload_vp9.specs.Vp9Sent.{advanced as sender_advanced, begun, reserve_in}
-use Rattle.codec_payload_codec.specs.Depack.{DepackKind, G711Payloads, OpusPayloads, NullPayloads, Vp8Payloads, Vp9Payloads, ComfortNoisePayloads, TelePayloads, Av1Payloads, AmrWbPayloads, BoxedPayloads}
-use Rattle.codec_payload_codec.specs.Pack.{Pack, G711Pack, G722Pack, OpusPack, NullPack, Vp8Pack, Vp9Pack, ComfortNoisePack, TelePack, Av1Pack, AmrWbPack, BoxedPack}
+use Rattle.codec_payload_codec.specs.Depacketizers.{DepacketizerKind, G711Payloads, OpusPayloads, NullPayloads, Vp8Payloads, Vp9Payloads, ComfortNoisePayloads, TelePayloads, Av1Payloads, AmrWbPayloads, BoxedPayloads}
+use Rattle.codec_payload_codec.specs.Packetizers.{PacketizerState, G711Packetizing, G722Packetizing, OpusPacketizing, NullPacketizing, Vp8Packetizing, Vp9Packetizing, ComfortNoisePacketizing, TelePacketizing, Av1Packetizing, AmrWbPacketizing, BoxedPacketizing}
 
 -- whether a frame gives no packets, and no fault
-abbrev pub is_skipped : Pack → ℕ → List ℕ → Bool
-is_skipped G711Pack mtu frame = pieces_are_skipped mtu frame
-is_skipped G722Pack mtu frame = pieces_are_skipped mtu frame
-is_skipped OpusPack mtu frame = pieces_are_skipped mtu frame
-is_skipped NullPack mtu frame = false
-is_skipped (Vp8Pack id) mtu frame = described_is_skipped (header_size id) mtu frame
-is_skipped (Vp9Pack sender) mtu frame = described_is_skipped (reserve_in sender.mode) mtu frame
-is_skipped ComfortNoisePack mtu frame = is_empty frame
-is_skipped TelePack mtu frame = is_empty frame
-is_skipped Av1Pack mtu frame = av1_is_skipped mtu frame
-is_skipped (AmrWbPack octet) mtu frame = amr_wb_is_skipped frame
-is_skipped BoxedPack mtu frame = false
+abbrev pub is_skipped : PacketizerState → ℕ → List ℕ → Bool
+is_skipped G711Packetizing mtu frame = pieces_are_skipped mtu frame
+is_skipped G722Packetizing mtu frame = pieces_are_skipped mtu frame
+is_skipped OpusPacketizing mtu frame = pieces_are_skipped mtu frame
+is_skipped NullPacketizing mtu frame = false
+is_skipped (Vp8Packetizing id) mtu frame = described_is_skipped (header_size id) mtu frame
+is_skipped (Vp9Packetizing sender) mtu frame = described_is_skipped (reserve_in sender.mode) mtu frame
+is_skipped ComfortNoisePacketizing mtu frame = is_empty frame
+is_skipped TelePacketizing mtu frame = is_empty frame
+is_skipped Av1Packetizing mtu frame = av1_is_skipped mtu frame
+is_skipped (AmrWbPacketizing octet) mtu frame = amr_wb_is_skipped frame
+is_skipped BoxedPacketizing mtu frame = false
 
 -- the fault with which a frame that is not skipped is refused, if it is; want of memory is no such fault
-abbrev pub refusal_of : Pack → ℕ → List ℕ → Option PacketError
-refusal_of G711Pack mtu frame = None
-refusal_of G722Pack mtu frame = None
-refusal_of OpusPack mtu frame = None
-refusal_of NullPack mtu frame = None
-refusal_of (Vp8Pack id) mtu frame = None
-refusal_of (Vp9Pack sender) mtu frame = None
-refusal_of ComfortNoisePack mtu frame = whole_refusal mtu frame
-refusal_of TelePack mtu frame = whole_refusal mtu frame
-refusal_of Av1Pack mtu frame = av1_refusal mtu frame
-refusal_of (AmrWbPack octet) mtu frame = amr_wb_refusal octet mtu frame
-refusal_of BoxedPack mtu frame = None
+abbrev pub refusal_of : PacketizerState → ℕ → List ℕ → Option PacketError
+refusal_of G711Packetizing mtu frame = None
+refusal_of G722Packetizing mtu frame = None
+refusal_of OpusPacketizing mtu frame = None
+refusal_of NullPacketizing mtu frame = None
+refusal_of (Vp8Packetizing id) mtu frame = None
+refusal_of (Vp9Packetizing sender) mtu frame = None
+refusal_of ComfortNoisePacketizing mtu frame = whole_refusal mtu frame
+refusal_of TelePacketizing mtu frame = whole_refusal mtu frame
+refusal_of Av1Packetizing mtu frame = av1_refusal mtu frame
+refusal_of (AmrWbPacketizing octet) mtu frame = amr_wb_refusal octet mtu frame
+refusal_of BoxedPacketizing mtu frame = None
 
 -- each of these byte strings is a unit of one part
 abbrev pub each_whole : List (List ℕ) → List (List (List ℕ))
@@ -59,88 +59,88 @@ canonical_obus (Some os) = map canonical os
 
 -- the units of a frame that is sent, each in its parts: units of several parts are those of which a receiver may lose
 -- the first
-abbrev pub units_sent : Pack → ℕ → List ℕ → List (List (List ℕ))
-units_sent G711Pack mtu frame = each_whole (pieces_of mtu frame)
-units_sent G722Pack mtu frame = each_whole (pieces_of mtu frame)
-units_sent OpusPack mtu frame = each_whole (pieces_of mtu frame)
-units_sent NullPack mtu frame = each_whole (frame ∷ [])
-units_sent (Vp8Pack id) mtu frame = each_whole (frame ∷ [])
-units_sent (Vp9Pack sender) mtu frame = each_whole (frame ∷ [])
-units_sent ComfortNoisePack mtu frame = each_whole (frame ∷ [])
-units_sent TelePack mtu frame = each_whole (take 4 frame ∷ [])
-units_sent Av1Pack mtu frame = canonical_obus (frame_kept frame) ∷ []
-units_sent (AmrWbPack octet) mtu frame = each_whole (bytes_of_frame (stored frame) ∷ [])
-units_sent BoxedPack mtu frame = []
+abbrev pub units_sent : PacketizerState → ℕ → List ℕ → List (List (List ℕ))
+units_sent G711Packetizing mtu frame = each_whole (pieces_of mtu frame)
+units_sent G722Packetizing mtu frame = each_whole (pieces_of mtu frame)
+units_sent OpusPacketizing mtu frame = each_whole (pieces_of mtu frame)
+units_sent NullPacketizing mtu frame = each_whole (frame ∷ [])
+units_sent (Vp8Packetizing id) mtu frame = each_whole (frame ∷ [])
+units_sent (Vp9Packetizing sender) mtu frame = each_whole (frame ∷ [])
+units_sent ComfortNoisePacketizing mtu frame = each_whole (frame ∷ [])
+units_sent TelePacketizing mtu frame = each_whole (take 4 frame ∷ [])
+units_sent Av1Packetizing mtu frame = canonical_obus (frame_kept frame) ∷ []
+units_sent (AmrWbPacketizing octet) mtu frame = each_whole (bytes_of_frame (stored frame) ∷ [])
+units_sent BoxedPacketizing mtu frame = []
 
 -- none of a frame that is skipped or refused
 abbrev pub units_by : Bool → Option PacketError → List (List (List ℕ)) → List (List (List ℕ))
 units_by skips refusal units = if skips || is_some refusal then [] else units
 
 -- the units of a frame at an MTU
-abbrev pub canonical_units : Pack → ℕ → List ℕ → List (List (List ℕ))
-canonical_units pack mtu frame = units_by (is_skipped pack mtu frame) (refusal_of pack mtu frame) (units_sent pack mtu frame)
+abbrev pub canonical_units : PacketizerState → ℕ → List ℕ → List (List (List ℕ))
+canonical_units packetizer mtu frame = units_by (is_skipped packetizer mtu frame) (refusal_of packetizer mtu frame) (units_sent packetizer mtu frame)
 
 -- the packetizer after a frame that was not refused for memory
-abbrev pub pack_after : Pack → ℕ → List ℕ → Pack
-pack_after G711Pack mtu frame = G711Pack
-pack_after G722Pack mtu frame = G722Pack
-pack_after OpusPack mtu frame = OpusPack
-pack_after NullPack mtu frame = NullPack
-pack_after (Vp8Pack id) mtu frame = Vp8Pack (advanced (not (is_skipped (Vp8Pack id) mtu frame)) id)
-pack_after (Vp9Pack sender) mtu frame = Vp9Pack (sender_advanced (not (is_skipped (Vp9Pack sender) mtu frame)) (begun sender mtu frame))
-pack_after ComfortNoisePack mtu frame = ComfortNoisePack
-pack_after TelePack mtu frame = TelePack
-pack_after Av1Pack mtu frame = Av1Pack
-pack_after (AmrWbPack octet) mtu frame = AmrWbPack octet
-pack_after BoxedPack mtu frame = BoxedPack
+abbrev pub packetizer_after : PacketizerState → ℕ → List ℕ → PacketizerState
+packetizer_after G711Packetizing mtu frame = G711Packetizing
+packetizer_after G722Packetizing mtu frame = G722Packetizing
+packetizer_after OpusPacketizing mtu frame = OpusPacketizing
+packetizer_after NullPacketizing mtu frame = NullPacketizing
+packetizer_after (Vp8Packetizing id) mtu frame = Vp8Packetizing (advanced (not (is_skipped (Vp8Packetizing id) mtu frame)) id)
+packetizer_after (Vp9Packetizing sender) mtu frame = Vp9Packetizing (sender_advanced (not (is_skipped (Vp9Packetizing sender) mtu frame)) (begun sender mtu frame))
+packetizer_after ComfortNoisePacketizing mtu frame = ComfortNoisePacketizing
+packetizer_after TelePacketizing mtu frame = TelePacketizing
+packetizer_after Av1Packetizing mtu frame = Av1Packetizing
+packetizer_after (AmrWbPacketizing octet) mtu frame = AmrWbPacketizing octet
+packetizer_after BoxedPacketizing mtu frame = BoxedPacketizing
 
 -- the payloads that a packetizer makes
-abbrev pub payloads_by : Pack → DepackKind
-payloads_by G711Pack = G711Payloads
-payloads_by G722Pack = G711Payloads
-payloads_by OpusPack = OpusPayloads
-payloads_by NullPack = NullPayloads
-payloads_by (Vp8Pack id) = Vp8Payloads
-payloads_by (Vp9Pack sender) = Vp9Payloads
-payloads_by ComfortNoisePack = ComfortNoisePayloads
-payloads_by TelePack = TelePayloads
-payloads_by Av1Pack = Av1Payloads
-payloads_by (AmrWbPack octet) = AmrWbPayloads octet
-payloads_by BoxedPack = BoxedPayloads
+abbrev pub payloads_by : PacketizerState → DepacketizerKind
+payloads_by G711Packetizing = G711Payloads
+payloads_by G722Packetizing = G711Payloads
+payloads_by OpusPacketizing = OpusPayloads
+payloads_by NullPacketizing = NullPayloads
+payloads_by (Vp8Packetizing id) = Vp8Payloads
+payloads_by (Vp9Packetizing sender) = Vp9Payloads
+payloads_by ComfortNoisePacketizing = ComfortNoisePayloads
+payloads_by TelePacketizing = TelePayloads
+payloads_by Av1Packetizing = Av1Payloads
+payloads_by (AmrWbPacketizing octet) = AmrWbPayloads octet
+payloads_by BoxedPacketizing = BoxedPayloads
 
 -- whether a receiver may be given the last parts of a unit alone
-abbrev pub may_split : Pack → Bool
-may_split G711Pack = false
-may_split G722Pack = false
-may_split OpusPack = false
-may_split NullPack = false
-may_split (Vp8Pack id) = false
-may_split (Vp9Pack sender) = false
-may_split ComfortNoisePack = false
-may_split TelePack = false
-may_split Av1Pack = true
-may_split (AmrWbPack octet) = false
-may_split BoxedPack = false
+abbrev pub may_split : PacketizerState → Bool
+may_split G711Packetizing = false
+may_split G722Packetizing = false
+may_split OpusPacketizing = false
+may_split NullPacketizing = false
+may_split (Vp8Packetizing id) = false
+may_split (Vp9Packetizing sender) = false
+may_split ComfortNoisePacketizing = false
+may_split TelePacketizing = false
+may_split Av1Packetizing = true
+may_split (AmrWbPacketizing octet) = false
+may_split BoxedPacketizing = false
 
 -- whether what is sent of a frame can be read again: of telephone events whole reports, and all of any other codec
-abbrev pub is_readable : Pack → List ℕ → Bool
-is_readable TelePack frame = is_empty frame || are_reports frame
-is_readable pack frame = true
+abbrev pub is_readable : PacketizerState → List ℕ → Bool
+is_readable TelePacketizing frame = is_empty frame || are_reports frame
+is_readable packetizer frame = true
 
 -- Opus at an MTU of 2: three bytes are two units; at an MTU of 0 they are none
-pub canonical_units-opus : canonical_units OpusPack 2 (0x90 ∷ 0x90 ∷ 0x90 ∷ []) ≡ ((0x90 ∷ 0x90 ∷ []) ∷ []) ∷ ((0x90 ∷ []) ∷ []) ∷ []
+pub canonical_units-opus : canonical_units OpusPacketizing 2 (0x90 ∷ 0x90 ∷ 0x90 ∷ []) ≡ ((0x90 ∷ 0x90 ∷ []) ∷ []) ∷ ((0x90 ∷ []) ∷ []) ∷ []
 canonical_units-opus = refl
 
-pub canonical_units-mtu_zero : canonical_units OpusPack 0 (0x90 ∷ 0x90 ∷ 0x90 ∷ []) ≡ []
+pub canonical_units-mtu_zero : canonical_units OpusPacketizing 0 (0x90 ∷ 0x90 ∷ 0x90 ∷ []) ≡ []
 canonical_units-mtu_zero = refl
 
 -- an empty Null frame is one empty unit
-pub canonical_units-null : canonical_units NullPack 0 [] ≡ ([] ∷ []) ∷ []
+pub canonical_units-null : canonical_units NullPacketizing 0 [] ≡ ([] ∷ []) ∷ []
 canonical_units-null = refl
 
 -- two telephone reports at an MTU of 8 are one unit, the first of them; at an MTU of 7 they are refused
-pub canonical_units-tele : canonical_units TelePack 8 (0x05 ∷ 0x8a ∷ 0x03 ∷ 0x20 ∷ 0x06 ∷ 0x0a ∷ 0x01 ∷ 0x40 ∷ []) ≡ ((0x05 ∷ 0x8a ∷ 0x03 ∷ 0x20 ∷ []) ∷ []) ∷ []
+pub canonical_units-tele : canonical_units TelePacketizing 8 (0x05 ∷ 0x8a ∷ 0x03 ∷ 0x20 ∷ 0x06 ∷ 0x0a ∷ 0x01 ∷ 0x40 ∷ []) ≡ ((0x05 ∷ 0x8a ∷ 0x03 ∷ 0x20 ∷ []) ∷ []) ∷ []
 canonical_units-tele = refl
 
-pub canonical_units-tele_refused : canonical_units TelePack 7 (0x05 ∷ 0x8a ∷ 0x03 ∷ 0x20 ∷ 0x06 ∷ 0x0a ∷ 0x01 ∷ 0x40 ∷ []) ≡ []
+pub canonical_units-tele_refused : canonical_units TelePacketizing 7 (0x05 ∷ 0x8a ∷ 0x03 ∷ 0x20 ∷ 0x06 ∷ 0x0a ∷ 0x01 ∷ 0x40 ∷ []) ≡ []
 canonical_units-tele_refused = refl

@@ -34,7 +34,7 @@ fn push_recovered<D: Depacketizer>(
     pt: u8,
     place: usize,
 ) -> Result<(), PacketError>
-    ensures ok { OnOk result ((held : Held) × IsArrived buffer.old.depack (meta_of_recovered place clock_rate pt (packet_of packet.now) (recovered_of recovered.now)) recovered.now.payload.now held
+    ensures ok { OnOk result ((held : Held) × IsArrived buffer.old.depacketizer (meta_of_recovered place clock_rate pt (packet_of packet.now) (recovered_of recovered.now)) recovered.now.payload.now held
         × (buffer.new ≡ pushed buffer.old held)) }
     ensures limit { buffer.new.limit ≡ buffer.old.limit }
     ensures fault { IfErr result (λ fault. fault ≡ OutOfMemory) }

@@ -4,7 +4,7 @@ ghost use Rattle.std.specs.Prelude.{◌≡◌, ◌≢◌, ◌∷◌, ◌++◌, �
 ghost use Rattle.std.specs.Result.{result_err};
 ghost use Rattle.codec_payload_base.specs.declared.error.PacketError.TheVariants.{OutOfMemory};
 ghost use Rattle.codec_payload_red.specs.RedLevels.{Sender};
-ghost use Rattle.codec_payload_codec.specs.Pack.{pack_for};
+ghost use Rattle.codec_payload_codec.specs.Packetizers.{packetizer_state_for};
 ghost use Rattle.codec_payload_buffer.specs.Steps.{Pops};
 ghost use Rattle.codec_payload_send.specs.Packets.{Packet};
 ghost use Rattle.codec_payload_send.specs.Sending.{sample_of};
@@ -148,18 +148,18 @@ pub fn run_stream(
     requires number { stream.first_number ≤ 2 ^ 62 }
     requires least { 1 ≤ stream.limit }
     requires most { stream.limit ≤ 65536 }
-    ensures none { (result ≡ Result.Ok Option.None) ↔ (pack_for stream.mode stream.first_id stream.spec.codec ≡ Option.None) }
+    ensures none { (result ≡ Result.Ok Option.None) ↔ (packetizer_state_for stream.mode stream.first_id stream.spec.codec ≡ Option.None) }
     ensures promises { IfOk result (λ run. IfSome run (RunsStream stream samples.now steps.now)) }
     ensures fault { IfErr result (λ fault. fault ≡ OutOfMemory) }
 {
     let Some(mut payloader) = Payloader::new(stream.spec, stream.mode, stream.first_id) else {
         return Ok(None);
     };
-    let Some(mut depack) = CodecDepacketizer::from_codec(alloc, stream.spec.codec) else {
+    let Some(mut depacketizer) = CodecDepacketizer::from_codec(alloc, stream.spec.codec) else {
         return Ok(None);
     };
-    depack.configure_for(&stream.spec);
-    let mut buffer = DepacketizingBuffer::with_limit(alloc, depack, stream.hold_back, stream.limit);
+    depacketizer.configure_for(&stream.spec);
+    let mut buffer = DepacketizingBuffer::with_limit(alloc, depacketizer, stream.hold_back, stream.limit);
     let mut sink = MemorySink::new(alloc, stream.first_number);
     let run = run_schedule(
         alloc,

@@ -5,7 +5,7 @@ use Rattle.std.specs.Global.{Vec}
 use Rattle.std.proofs.lemmas.List.{length-map}
 use Rattle.codec_payload_base.specs.declared.error.PacketError.{PacketError}
 use Rattle.codec_payload_base.specs.declared.wire.extension.ExtensionValues.{ExtensionValues}
-use Rattle.codec_payload_codec.specs.Pack.{PackStep, pack_of, is_built_in}
+use Rattle.codec_payload_codec.specs.Packetizers.{PacketizerStep, packetizer_state_of, is_built_in}
 use Rattle.codec_payload_codec.specs.declared.codec.packetizer.CodecPacketizer.{CodecPacketizer}
 use Rattle.codec_payload_codec.specs.declared.codec.packetizer.CodecPacketizer.TheVariants as variants
 use Rattle.codec_payload_send.specs.Packets.{Packet}
@@ -15,27 +15,28 @@ use Rattle.codec_payload_base.specs.StrippedValues.{stripped}
 use Rattle.codec_payload_send.proofs.SendLemmas.{is_last_at_end}
 
 -- one that is not built in is the caller's
-pub own_pack : {B : Type 0} (p : CodecPacketizer B) → is_built_in (pack_of p) ≡ false → (b : B) × (p ≡ variants.Boxed b)
-own_pack (variants.G711 _) other = absurd (cc)
-own_pack (variants.G722 _) other = absurd (cc)
-own_pack (variants.Opus _) other = absurd (cc)
-own_pack (variants.Null _) other = absurd (cc)
-own_pack (variants.Vp8 _) other = absurd (cc)
-own_pack (variants.Vp9 _) other = absurd (cc)
-own_pack (variants.ComfortNoise _) other = absurd (cc)
-own_pack (variants.Tele _) other = absurd (cc)
-own_pack (variants.Av1 _) other = absurd (cc)
-own_pack (variants.AmrWb _) other = absurd (cc)
-own_pack (variants.Boxed b) other = (b, refl)
+pub own_packetizer : {B : Type 0} (p : CodecPacketizer B) → is_built_in (packetizer_state_of p) ≡ false → (b : B) × (p ≡ variants.Boxed b)
+own_packetizer (variants.G711 _) other = absurd (cc)
+own_packetizer (variants.G722 _) other = absurd (cc)
+own_packetizer (variants.Opus _) other = absurd (cc)
+own_packetizer (variants.Null _) other = absurd (cc)
+own_packetizer (variants.Vp8 _) other = absurd (cc)
+own_packetizer (variants.Vp9 _) other = absurd (cc)
+own_packetizer (variants.ComfortNoise _) other = absurd (cc)
+own_packetizer (variants.Tele _) other = absurd (cc)
+own_packetizer (variants.Av1 _) other = absurd (cc)
+own_packetizer (variants.AmrWb _) other = absurd (cc)
+own_packetizer (variants.Boxed b) other = (b, refl)
 
 -- it stays the caller's
-pub still_own_pack : {B : Type 0} (p q : CodecPacketizer B) (b : B) → p ≡ variants.Boxed b → pack_of q ≡ pack_of p → (b' : B) × (q ≡ variants.Boxed b')
-still_own_pack {B} p q b is same = own_pack q (ap is_built_in same ∙ ap (λ (x : CodecPacketizer B). is_built_in (pack_of x)) is)
+pub still_own_packetizer : {B : Type 0} (p q : CodecPacketizer B) (b : B) → p ≡ variants.Boxed b → packetizer_state_of q ≡ packetizer_state_of p → (b' : B) × (q ≡ variants.Boxed b')
+still_own_packetizer {B} p q b is same = own_packetizer q (ap is_built_in same ∙ ap (λ (x : CodecPacketizer B). is_built_in (packetizer_state_of x)) is)
 
 -- so does one that was asked for payloads
 pub still_own_cut : {B : Type 0} (p q : CodecPacketizer B) (b : B) (mtu : ℕ) (frame : List ℕ) (answer : Result (List (List ℕ)) PacketError) → p ≡ variants.Boxed b
-    → PackStep (pack_of p) mtu frame answer (pack_of q) → (b' : B) × (q ≡ variants.Boxed b')
-still_own_cut {B} p q b mtu frame answer is step = own_pack q (ap is_built_in (subst (λ (x : CodecPacketizer B). PackStep (pack_of x) mtu frame answer (pack_of q)) is step))
+    → PacketizerStep (packetizer_state_of p) mtu frame answer (packetizer_state_of q) → (b' : B) × (q ≡ variants.Boxed b')
+still_own_cut {B} p q b mtu frame answer is step = own_packetizer q
+    (ap is_built_in (subst (λ (x : CodecPacketizer B). PacketizerStep (packetizer_state_of x) mtu frame answer (packetizer_state_of q)) is step))
 
 -- what follows from what holds of an answer
 pub both_ways : {T E P P' : Type 0} {Q Q' : E → Type 0} (r : Result T E) → (P → P') → ((e : E) → Q e → Q' e) → OnOk r P → IfErr r Q → MatchResult r (λ _. P') Q'

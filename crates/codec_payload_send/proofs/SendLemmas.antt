@@ -9,7 +9,7 @@ use Rattle.codec_payload_codec.proofs.CaseLemmas.{by_test}
 use Rattle.codec_payload_send.specs.Packets.{Packet, SentPackets, AreNumbered}
 use Rattle.codec_payload_send.specs.Sending.{Sends, Sample, packet_for, packets_for, packets_from, is_last, number_after, IsAs, AreAs}
 use Rattle.codec_payload_base.specs.declared.error.PacketError.{PacketError}
-use Rattle.codec_payload_codec.specs.Pack.{Pack, is_built_in, marker_of, talkspurt_of, nackable_of}
+use Rattle.codec_payload_codec.specs.Packetizers.{PacketizerState, is_built_in, marker_of, talkspurt_of, nackable_of}
 use Rattle.codec_payload_base.specs.StrippedValues.{stripped}
 use Rattle.codec_payload_base.specs.declared.wire.extension.ExtensionValues.{ExtensionValues}
 
@@ -47,7 +47,7 @@ as_many b [] (q ∷ qs) are = absurd are
 as_many b (p ∷ ps) [] are = absurd are
 
 -- one packet, of which this packetizer told the marker, and whether it may be asked for again
-pub as_for : (p : Pack) (sample : Sample) (rtp_time n number : ℕ) (values : ExtensionValues) (last marker nackable : Bool) (payload : List ℕ) → number ≡ n
+pub as_for : (p : PacketizerState) (sample : Sample) (rtp_time n number : ℕ) (values : ExtensionValues) (last marker nackable : Bool) (payload : List ℕ) → number ≡ n
     → (is_built_in p ≡ true → marker ≡ (marker_of p last || (talkspurt_of p && sample.start_of_talk_spurt))) → (is_built_in p ≡ true → nackable ≡ nackable_of p)
     → IsAs (is_built_in p) (record { pt = sample.pt; number = number; rtp_time = rtp_time; wallclock = sample.wallclock; marker = marker; nackable = nackable;
         ext_vals = values; payload = payload }) (packet_for p sample rtp_time n values last payload)
@@ -110,38 +110,39 @@ is_last_at_end (v ∷ vs) place count e = grind (arith, nat_tests, e)
 
 -- the next packet, at its place, and those after it
 unfolded_so_far : {S : Type 0} (accepts : S → Packet → Packet → S → Type 0) (sent : S → List Packet) (next : S → ℕ)
-    (before : S) (all : List Packet) (pack : Pack) (sample : Sample) (rtp_time : ℕ) (vs : List (Vec ℕ)) (v : Vec ℕ) (left : List (Vec ℕ)) (place count : ℕ) (values : ExtensionValues) (mid : S)
+    (before : S) (all : List Packet) (packetizer : PacketizerState) (sample : Sample) (rtp_time : ℕ) (vs : List (Vec ℕ)) (v : Vec ℕ) (left : List (Vec ℕ))
+        (place count : ℕ) (values : ExtensionValues) (mid : S)
     → vs ≡ v ∷ left → count ≡ place + 1 + length left → values ≡ stripped sample.ext_vals place count
-    → SentSoFar (is_built_in pack) accepts sent next before all (packets_from pack sample rtp_time (next mid) place (map (λ w. w.items) vs)) mid
-    → SentSoFar (is_built_in pack) accepts sent next before all (packet_for pack sample rtp_time (next mid) values (place + 1 == count) v.items
-        ∷ packets_from pack sample rtp_time ((next mid + 1) % 2 ^ 64) (place + 1) (map (λ w. w.items) left)) mid
-unfolded_so_far accepts sent next before all pack sample rtp_time vs v left place count values mid split many given so_far =
-    let here : ExtensionValues → Bool → List Packet = λ x last. packet_for pack sample rtp_time (next mid) x last v.items
-        ∷ packets_from pack sample rtp_time ((next mid + 1) % 2 ^ 64) (place + 1) (map (λ w. w.items) left) in
+    → SentSoFar (is_built_in packetizer) accepts sent next before all (packets_from packetizer sample rtp_time (next mid) place (map (λ w. w.items) vs)) mid
+    → SentSoFar (is_built_in packetizer) accepts sent next before all (packet_for packetizer sample rtp_time (next mid) values (place + 1 == count) v.items
+        ∷ packets_from packetizer sample rtp_time ((next mid + 1) % 2 ^ 64) (place + 1) (map (λ w. w.items) left)) mid
+unfolded_so_far accepts sent next before all packetizer sample rtp_time vs v left place count values mid split many given so_far =
+    let here : ExtensionValues → Bool → List Packet = λ x last. packet_for packetizer sample rtp_time (next mid) x last v.items
+        ∷ packets_from packetizer sample rtp_time ((next mid + 1) % 2 ^ 64) (place + 1) (map (λ w. w.items) left) in
     let size : count ≡ place + 1 + length (map (λ w. w.items) left) = many ∙ ap (λ (n : ℕ). place + 1 + n) (sym (length-map left (λ w. w.items))) in
-    let is : here values (place + 1 == count) ≡ packets_from pack sample rtp_time (next mid) place (map (λ w. w.items) (v ∷ left)) =
+    let is : here values (place + 1 == count) ≡ packets_from packetizer sample rtp_time (next mid) place (map (λ w. w.items) (v ∷ left)) =
     ap (here values) (is_last_at_end left place count many) ∙ ap (λ (x : ExtensionValues). here x (is_last (map (λ w. w.items) left))) (given ∙ ap (stripped sample.ext_vals place) size) in
-    subst (λ (ps : List Packet). SentSoFar (is_built_in pack) accepts sent next before all ps mid) (sym is)
-        (subst (λ (ws : List (Vec ℕ)). SentSoFar (is_built_in pack) accepts sent next before all
-        (packets_from pack sample rtp_time (next mid) place (map (λ w. w.items) ws)) mid) split so_far)
+    subst (λ (ps : List Packet). SentSoFar (is_built_in packetizer) accepts sent next before all ps mid) (sym is)
+        (subst (λ (ws : List (Vec ℕ)). SentSoFar (is_built_in packetizer) accepts sent next before all
+        (packets_from packetizer sample rtp_time (next mid) place (map (λ w. w.items) ws)) mid) split so_far)
 
 -- the next payload was sent
 pub next_so_far : {S : Type 0} (accepts : S → Packet → Packet → S → Type 0) (sent : S → List Packet) (next : S → ℕ)
-    (before : S) (all : List Packet) (pack here : Pack) (sample : Sample) (rtp_time : ℕ) (vs : List (Vec ℕ)) (v : Vec ℕ) (left : List (Vec ℕ)) (place count : ℕ)
+    (before : S) (all : List Packet) (packetizer here : PacketizerState) (sample : Sample) (rtp_time : ℕ) (vs : List (Vec ℕ)) (v : Vec ℕ) (left : List (Vec ℕ)) (place count : ℕ)
         (values : ExtensionValues) (mid after : S)
-    → vs ≡ v ∷ left → count ≡ place + 1 + length left → values ≡ stripped sample.ext_vals place count → here ≡ pack
-    → SentSoFar (is_built_in pack) accepts sent next before all (packets_from pack sample rtp_time (next mid) place (map (λ w. w.items) vs)) mid
+    → vs ≡ v ∷ left → count ≡ place + 1 + length left → values ≡ stripped sample.ext_vals place count → here ≡ packetizer
+    → SentSoFar (is_built_in packetizer) accepts sent next before all (packets_from packetizer sample rtp_time (next mid) place (map (λ w. w.items) vs)) mid
     → (packet : Packet) × IsAs (is_built_in here) packet (packet_for here sample rtp_time (next mid) values (place + 1 == count) v.items) × (image : Packet)
         × accepts mid packet image after × (sent after ≡ sent mid ++ image ∷ []) × (next after ≡ (next mid + 1) % 2 ^ 64)
-    → SentSoFar (is_built_in pack) accepts sent next before all (packets_from pack sample rtp_time (next after) (place + 1) (map (λ w. w.items) left)) after
-next_so_far accepts sent next before all pack here sample rtp_time vs v left place count values mid after split many given same so_far one =
-    let unfolded : SentSoFar (is_built_in pack) accepts sent next before all (packet_for pack sample rtp_time (next mid) values (place + 1 == count) v.items
-        ∷ packets_from pack sample rtp_time (next after) (place + 1) (map (λ w. w.items) left)) mid =
-    subst (λ (n : ℕ). SentSoFar (is_built_in pack) accepts sent next before all (packet_for pack sample rtp_time (next mid) values (place + 1 == count) v.items
-        ∷ packets_from pack sample rtp_time n (place + 1) (map (λ w. w.items) left)) mid) (sym one.5)
-    (unfolded_so_far accepts sent next before all pack sample rtp_time vs v left place count values mid split many given so_far) in
-    one_so_far (is_built_in pack) accepts sent next before all one.0 _
-        (subst (λ (p : Pack). IsAs (is_built_in p) one.0 (packet_for p sample rtp_time (next mid) values (place + 1 == count) v.items)) same one.1) _ mid one.2 after
+    → SentSoFar (is_built_in packetizer) accepts sent next before all (packets_from packetizer sample rtp_time (next after) (place + 1) (map (λ w. w.items) left)) after
+next_so_far accepts sent next before all packetizer here sample rtp_time vs v left place count values mid after split many given same so_far one =
+    let unfolded : SentSoFar (is_built_in packetizer) accepts sent next before all (packet_for packetizer sample rtp_time (next mid) values (place + 1 == count) v.items
+        ∷ packets_from packetizer sample rtp_time (next after) (place + 1) (map (λ w. w.items) left)) mid =
+    subst (λ (n : ℕ). SentSoFar (is_built_in packetizer) accepts sent next before all (packet_for packetizer sample rtp_time (next mid) values (place + 1 == count) v.items
+        ∷ packets_from packetizer sample rtp_time n (place + 1) (map (λ w. w.items) left)) mid) (sym one.5)
+    (unfolded_so_far accepts sent next before all packetizer sample rtp_time vs v left place count values mid split many given so_far) in
+    one_so_far (is_built_in packetizer) accepts sent next before all one.0 _
+        (subst (λ (p : PacketizerState). IsAs (is_built_in p) one.0 (packet_for p sample rtp_time (next mid) values (place + 1 == count) v.items)) same one.1) _ mid one.2 after
         unfolded one.3 one.4 one.5
 
 -- what a sink in memory makes of packets: it keeps them
@@ -159,14 +160,14 @@ kept_all before (p ∷ ps) images after sends =
     )
 
 -- the packets of a sample have consecutive numbers in a sink in memory
-numbered_from : (b : Bool) (pack : Pack) (sample : Sample) (rtp_time number place : ℕ) (payloads : List (List ℕ)) (before : SentPackets) (images : List Packet) (after : SentPackets)
-    → (packets : List Packet) → AreAs b packets (packets_from pack sample rtp_time number place payloads)
+numbered_from : (b : Bool) (packetizer : PacketizerState) (sample : Sample) (rtp_time number place : ℕ) (payloads : List (List ℕ)) (before : SentPackets) (images : List Packet) (after : SentPackets)
+    → (packets : List Packet) → AreAs b packets (packets_from packetizer sample rtp_time number place payloads)
     → number ≡ before.first + length before.packets → Sends Keeps before packets images after
     → AreNumbered number packets
-numbered_from b pack sample rtp_time number place [] before images after [] are at sends = tt
-numbered_from b pack sample rtp_time number place [] before images after (packet ∷ packets) are at sends = absurd are
-numbered_from b pack sample rtp_time number place (payload ∷ payloads) before images after [] are at sends = absurd are
-numbered_from b pack sample rtp_time number place (payload ∷ payloads) before images after (packet ∷ packets) are at sends =
+numbered_from b packetizer sample rtp_time number place [] before images after [] are at sends = tt
+numbered_from b packetizer sample rtp_time number place [] before images after (packet ∷ packets) are at sends = absurd are
+numbered_from b packetizer sample rtp_time number place (payload ∷ payloads) before images after [] are at sends = absurd are
+numbered_from b packetizer sample rtp_time number place (payload ∷ payloads) before images after (packet ∷ packets) are at sends =
     let mid = sends.2 in
     let grown : mid.first + length mid.packets ≡ number + 1 =
     ap (λ (s : SentPackets). s.first + length s.packets) sends.4.1 ∙ omega (arith, length-append before.packets (packet ∷ []), at) in
@@ -174,14 +175,15 @@ numbered_from b pack sample rtp_time number place (payload ∷ payloads) before 
     let next : (number + 1) % 2 ^ 64 ≡ mid.first + length mid.packets = small ∙ sym grown in (
       as_number b packet _ are.0,
       subst (λ (n : ℕ). AreNumbered n packets) small
-          (numbered_from b pack sample rtp_time ((number + 1) % 2 ^ 64) (place + 1) payloads mid sends.1 after packets are.1 next sends.5),
+          (numbered_from b packetizer sample rtp_time ((number + 1) % 2 ^ 64) (place + 1) payloads mid sends.1 after packets are.1 next sends.5),
     )
 
-pub kept_numbered : (b : Bool) (pack : Pack) (sample : Sample) (rtp_time number : ℕ) (payloads : List (List ℕ)) (before : SentPackets) (images : List Packet) (after : SentPackets)
-    → (packets : List Packet) → AreAs b packets (packets_for pack sample rtp_time number payloads)
+pub kept_numbered : (b : Bool) (packetizer : PacketizerState) (sample : Sample) (rtp_time number : ℕ) (payloads : List (List ℕ)) (before : SentPackets) (images : List Packet) (after : SentPackets)
+    → (packets : List Packet) → AreAs b packets (packets_for packetizer sample rtp_time number payloads)
     → number ≡ before.first + length before.packets → Sends Keeps before packets images after
     → AreNumbered number packets
-kept_numbered b pack sample rtp_time number payloads before images after packets are at sends = numbered_from b pack sample rtp_time number 0 payloads before images after packets are at sends
+kept_numbered b packetizer sample rtp_time number payloads before images after packets are at sends = numbered_from b packetizer sample rtp_time number 0 payloads
+    before images after packets are at sends
 
 -- a payload was refused: those before it were sent
 pub record RefusedSoFar (b : Bool) {S : Type 0} (accepts : S → Packet → Packet → S → Type 0) (refuses : S → Packet → PacketError → S → Type 0)
@@ -198,21 +200,21 @@ pub record RefusedSoFar (b : Bool) {S : Type 0} (accepts : S → Packet → Pack
   pub goes_on : next after ≡ number_after (next before) images
 
 pub refused_so_far : {S : Type 0} (accepts : S → Packet → Packet → S → Type 0) (refuses : S → Packet → PacketError → S → Type 0) (sent : S → List Packet) (next : S → ℕ)
-    (before : S) (all : List Packet) (pack here : Pack) (sample : Sample) (rtp_time : ℕ) (vs : List (Vec ℕ)) (v : Vec ℕ) (left : List (Vec ℕ)) (place count : ℕ)
+    (before : S) (all : List Packet) (packetizer here : PacketizerState) (sample : Sample) (rtp_time : ℕ) (vs : List (Vec ℕ)) (v : Vec ℕ) (left : List (Vec ℕ)) (place count : ℕ)
         (values : ExtensionValues) (mid after : S) (fault : PacketError)
-    → vs ≡ v ∷ left → count ≡ place + 1 + length left → values ≡ stripped sample.ext_vals place count → here ≡ pack
-    → SentSoFar (is_built_in pack) accepts sent next before all (packets_from pack sample rtp_time (next mid) place (map (λ w. w.items) vs)) mid
+    → vs ≡ v ∷ left → count ≡ place + 1 + length left → values ≡ stripped sample.ext_vals place count → here ≡ packetizer
+    → SentSoFar (is_built_in packetizer) accepts sent next before all (packets_from packetizer sample rtp_time (next mid) place (map (λ w. w.items) vs)) mid
     → (packet : Packet) × IsAs (is_built_in here) packet (packet_for here sample rtp_time (next mid) values (place + 1 == count) v.items)
         × refuses mid packet fault after × (sent after ≡ sent mid) × (next after ≡ next mid)
-    → RefusedSoFar (is_built_in pack) accepts refuses sent next before all fault after
-refused_so_far accepts refuses sent next before all pack here sample rtp_time vs v left place count values mid after fault split many given same so_far one =
-    let unfolded = unfolded_so_far accepts sent next before all pack sample rtp_time vs v left place count values mid split many given so_far in
+    → RefusedSoFar (is_built_in packetizer) accepts refuses sent next before all fault after
+refused_so_far accepts refuses sent next before all packetizer here sample rtp_time vs v left place count values mid after fault split many given same so_far one =
+    let unfolded = unfolded_so_far accepts sent next before all packetizer sample rtp_time vs v left place count values mid split many given so_far in
     record {
       begun = unfolded.begun;
       refused = one.0;
-      left = packets_from pack sample rtp_time ((next mid + 1) % 2 ^ 64) (place + 1) (map (λ w. w.items) left);
-      whole = as_in_place (is_built_in pack) unfolded.begun one.0 _ _ all
-          (subst (λ (p : Pack). IsAs (is_built_in p) one.0 (packet_for p sample rtp_time (next mid) values (place + 1 == count) v.items)) same one.1) unfolded.whole;
+      left = packets_from packetizer sample rtp_time ((next mid + 1) % 2 ^ 64) (place + 1) (map (λ w. w.items) left);
+      whole = as_in_place (is_built_in packetizer) unfolded.begun one.0 _ _ all
+          (subst (λ (p : PacketizerState). IsAs (is_built_in p) one.0 (packet_for p sample rtp_time (next mid) values (place + 1 == count) v.items)) same one.1) unfolded.whole;
       images = unfolded.images;
       mid = mid;
       sends = unfolded.sends;

@@ -2,7 +2,7 @@
 use Rattle.std.specs.Prelude.{◌≡◌, ℕ, ◌+◌, ◌&&◌, ◌||◌, ◌⊎◌, Bool, false, List, [], ◌∷◌, Option, Some, None, Result, Ok, Err, MatchResult, length, ⊤}
 use Rattle.codec_payload_base.specs.declared.error.PacketError.{PacketError}
 use Rattle.codec_payload_base.specs.declared.wire.extension.ExtensionValues.{ExtensionValues}
-use Rattle.codec_payload_codec.specs.Pack.{BoxedPack}
+use Rattle.codec_payload_codec.specs.Packetizers.{BoxedPacketizing}
 use Rattle.codec_payload_send.specs.Packets.{Packet, last_payload}
 use Rattle.codec_payload_send.specs.Sending.{Sample, packet_for, is_last, rtp_time_at, IsAs}
 use Rattle.codec_payload_base.specs.StrippedValues.{stripped}
@@ -23,7 +23,7 @@ module _ {B S : Type 0} (state : B → List ℕ) (mark : B → List ℕ → Opti
   -- packet, or refuses it with that fault
   pub record OwnPacket (values : ExtensionValues) (last : Bool) (payload : List ℕ) (b : B) (before : S) (answer : Result ⊤ PacketError) (b' : B) (after : S) : Type 0 where
     pub packet : Packet
-    pub told : IsAs false packet (packet_for BoxedPack sample rtp_time (next before) values last payload)
+    pub told : IsAs false packet (packet_for BoxedPacketizing sample rtp_time (next before) values last payload)
     pub asked : IsAsked state mark spurts may_ask b sample.start_of_talk_spurt payload (last_payload (sent before)) last packet.marker packet.nackable b'
     pub came : MatchResult answer (λ _. (image : Packet) × accepts before packet image after) (λ fault. refuses before packet fault after)
 

@@ -4,7 +4,7 @@ use Rattle.codec_payload_base.specs.Time.{Time, rebased}
 use Rattle.codec_payload_base.specs.declared.error.PacketError.{PacketError}
 use Rattle.codec_payload_base.specs.declared.wire.extension.ExtensionValues.{ExtensionValues}
 use Rattle.codec_payload_base.specs.declared.wire.ToPayload.{ToPayload}
-use Rattle.codec_payload_codec.specs.Pack.{Pack, PackStep, is_built_in, marker_of, talkspurt_of, nackable_of}
+use Rattle.codec_payload_codec.specs.Packetizers.{PacketizerState, PacketizerStep, is_built_in, marker_of, talkspurt_of, nackable_of}
 use Rattle.codec_payload_send.specs.Packets.{Packet}
 use Rattle.codec_payload_base.specs.StrippedValues.{stripped}
 
@@ -29,7 +29,7 @@ sample_of s = record {
 
 -- a payloader: its packetizer and the rate of the RTP clock
 pub record Payloading : Type 0 where
-  pub pack : Pack
+  pub packetizer : PacketizerState
   pub clock_rate : ℕ
 
 -- the RTP time: that of the sample by the RTP clock, of which 32 bits are kept
@@ -37,14 +37,14 @@ abbrev pub rtp_time_at : ℕ → Time → ℕ
 rtp_time_at clock_rate time = (rebased time clock_rate).numer % 2 ^ 32
 
 -- one packet of a sample, with those of its extension values that go on it; `last` says that no other of the sample follows
-abbrev pub packet_for : Pack → Sample → ℕ → ℕ → ExtensionValues → Bool → List ℕ → Packet
-packet_for pack sample rtp_time number ext_vals last payload = record {
+abbrev pub packet_for : PacketizerState → Sample → ℕ → ℕ → ExtensionValues → Bool → List ℕ → Packet
+packet_for packetizer sample rtp_time number ext_vals last payload = record {
   pt = sample.pt;
   number = number;
   rtp_time = rtp_time;
   wallclock = sample.wallclock;
-  marker = marker_of pack last || (talkspurt_of pack && sample.start_of_talk_spurt);
-  nackable = nackable_of pack;
+  marker = marker_of packetizer last || (talkspurt_of packetizer && sample.start_of_talk_spurt);
+  nackable = nackable_of packetizer;
   ext_vals = ext_vals;
   payload = payload;
 }
@@ -54,15 +54,15 @@ is_last [] = true
 is_last (payload ∷ payloads) = false
 
 -- the packets of a sample from one at that place on, with consecutive numbers
-abbrev pub packets_from : Pack → Sample → ℕ → ℕ → ℕ → List (List ℕ) → List Packet
-packets_from pack sample rtp_time number place [] = []
-packets_from pack sample rtp_time number place (payload ∷ payloads) =
-    packet_for pack sample rtp_time number (stripped sample.ext_vals place (place + 1 + length payloads)) (is_last payloads) payload
-    ∷ packets_from pack sample rtp_time ((number + 1) % 2 ^ 64) (place + 1) payloads
+abbrev pub packets_from : PacketizerState → Sample → ℕ → ℕ → ℕ → List (List ℕ) → List Packet
+packets_from packetizer sample rtp_time number place [] = []
+packets_from packetizer sample rtp_time number place (payload ∷ payloads) =
+    packet_for packetizer sample rtp_time number (stripped sample.ext_vals place (place + 1 + length payloads)) (is_last payloads) payload
+    ∷ packets_from packetizer sample rtp_time ((number + 1) % 2 ^ 64) (place + 1) payloads
 
 -- all packets of a sample
-abbrev pub packets_for : Pack → Sample → ℕ → ℕ → List (List ℕ) → List Packet
-packets_for pack sample rtp_time number payloads = packets_from pack sample rtp_time number 0 payloads
+abbrev pub packets_for : PacketizerState → Sample → ℕ → ℕ → List (List ℕ) → List Packet
+packets_for packetizer sample rtp_time number payloads = packets_from packetizer sample rtp_time number 0 payloads
 
 -- the packet is q where the packetizer is built in; one that a caller brings tells the marker, and whether the packet may be asked for
 -- again, as it likes
@@ -92,9 +92,9 @@ number_after number (packet ∷ packets) = number_after ((number + 1) % 2 ^ 64) 
 pub record SendsSample {S : Type 0} (accepts : S → Packet → Packet → S → Type 0) (sent : S → List Packet) (next : S → ℕ) (mtu : ℕ) (sample : Sample) (p : Payloading)
     (before : S) (p' : Payloading) (after : S) : Type 0 where
   pub payloads : List (List ℕ)
-  pub packetized : PackStep p.pack mtu sample.bytes (Ok payloads) p'.pack
+  pub packetized : PacketizerStep p.packetizer mtu sample.bytes (Ok payloads) p'.packetizer
   pub packets : List Packet
-  pub are : AreAs (is_built_in p'.pack) packets (packets_for p'.pack sample (rtp_time_at p.clock_rate sample.rtp_time) (next before) payloads)
+  pub are : AreAs (is_built_in p'.packetizer) packets (packets_for p'.packetizer sample (rtp_time_at p.clock_rate sample.rtp_time) (next before) payloads)
   pub images : List Packet
   pub sends : Sends accepts before packets images after
   pub gained : sent after ≡ sent before ++ images
@@ -104,11 +104,11 @@ pub record SendsSample {S : Type 0} (accepts : S → Packet → Packet → S →
 pub record SendsBeginning {S : Type 0} (accepts : S → Packet → Packet → S → Type 0) (refuses : S → Packet → PacketError → S → Type 0) (sent : S → List Packet)
     (next : S → ℕ) (mtu : ℕ) (sample : Sample) (fault : PacketError) (p : Payloading) (before : S) (p' : Payloading) (after : S) : Type 0 where
   pub payloads : List (List ℕ)
-  pub packetized : PackStep p.pack mtu sample.bytes (Ok payloads) p'.pack
+  pub packetized : PacketizerStep p.packetizer mtu sample.bytes (Ok payloads) p'.packetizer
   pub begun : List Packet
   pub refused : Packet
   pub left : List Packet
-  pub whole : AreAs (is_built_in p'.pack) (begun ++ refused ∷ left) (packets_for p'.pack sample (rtp_time_at p.clock_rate sample.rtp_time) (next before) payloads)
+  pub whole : AreAs (is_built_in p'.packetizer) (begun ++ refused ∷ left) (packets_for p'.packetizer sample (rtp_time_at p.clock_rate sample.rtp_time) (next before) payloads)
   pub images : List Packet
   pub mid : S
   pub sends : Sends accepts before begun images mid
@@ -118,7 +118,7 @@ pub record SendsBeginning {S : Type 0} (accepts : S → Packet → Packet → S 
 
 -- the packetizer refused the sample, and nothing was sent
 pub record SendsNothing {S : Type 0} (mtu : ℕ) (sample : Sample) (fault : PacketError) (p : Payloading) (before : S) (p' : Payloading) (after : S) : Type 0 where
-  pub packetized : PackStep p.pack mtu sample.bytes (Err fault) p'.pack
+  pub packetized : PacketizerStep p.packetizer mtu sample.bytes (Err fault) p'.packetizer
   pub same : after ≡ before
 
 -- a third of a second at 90 kHz is 16,000 ticks at 48 kHz

@@ -1,7 +1,7 @@
 //! Samples cut into packets and sent to a sink.
 
 ghost use Rattle.std.specs.Prelude.{◌≡◌, ◌∷◌, ◌++◌, ◌+◌, ◌%◌, ◌^◌, ◌<◌, ◌≤◌, ◌⊎◌, [], Option, option_map, OnOk, IfErr, Ok, false};
-ghost use Rattle.codec_payload_codec.specs.Pack.{pack_of, pack_for, configured, is_built_in};
+ghost use Rattle.codec_payload_codec.specs.Packetizers.{packetizer_state_of, packetizer_state_for, configured, is_built_in};
 ghost use Rattle.codec_payload_codec.specs.declared.codec.packetizer.CodecPacketizer.TheVariants.{Boxed};
 ghost use Rattle.codec_payload_send.specs.Packets.{Packet};
 ghost use Rattle.codec_payload_send.specs.OwnSending.{OwnPacket, OwnSample};
@@ -17,7 +17,7 @@ use std::marker::Model;
 /// Cuts samples of one codec into packets and sends them.
 #[derive(Debug, Drop)]
 pub struct Payloader<B = NoBox> {
-    pack: CodecPacketizer<B>,
+    packetizer: CodecPacketizer<B>,
     clock_rate: Frequency,
 }
 
@@ -26,9 +26,9 @@ impl<B> Model for Payloader<B> {
 
     ghost Value = { Payloading };
 
-    ghost use Rattle.codec_payload_codec.specs.Pack.{pack_of};
+    ghost use Rattle.codec_payload_codec.specs.Packetizers.{packetizer_state_of};
 
-    ghost view = { λ p. record { pack = pack_of p.pack; clock_rate = p.clock_rate } };
+    ghost view = { λ p. record { packetizer = packetizer_state_of p.packetizer; clock_rate = p.clock_rate } };
 }
 
 impl Payloader {
@@ -37,21 +37,21 @@ impl Payloader {
     /// the picture id of the first frame, of at most 15 bits, which is asked for whatever the codec.
     pub fn new(spec: CodecSpec, mode: Vp9PacketizerMode, first_id: u16) -> Option<Self>
         requires { first_id ≤ 32767 }
-        ensures { result ≡ option_map (λ pack. record { pack = configured spec.octet_align pack; clock_rate = spec.clock_rate }) (pack_for mode first_id spec.codec) }
+        ensures { result ≡ option_map (λ packetizer. record { packetizer = configured spec.octet_align packetizer; clock_rate = spec.clock_rate }) (packetizer_state_for mode first_id spec.codec) }
     {
-        let mut pack = CodecPacketizer::new(spec.codec, mode, first_id)?;
-        pack.configure_for(&spec);
-        Some(Payloader::with_packetizer(pack, spec.clock_rate))
+        let mut packetizer = CodecPacketizer::new(spec.codec, mode, first_id)?;
+        packetizer.configure_for(&spec);
+        Some(Payloader::with_packetizer(packetizer, spec.clock_rate))
     }
 }
 
 impl<B: Packetizer> Payloader<B> {
     /// A payloader over that packetizer, with an RTP clock of that rate.
-    pub fn with_packetizer(pack: CodecPacketizer<B>, rate: Frequency) -> Self
-        ensures { result ≡ record { pack = pack_of pack; clock_rate = rate } }
+    pub fn with_packetizer(packetizer: CodecPacketizer<B>, rate: Frequency) -> Self
+        ensures { result ≡ record { packetizer = packetizer_state_of packetizer; clock_rate = rate } }
     {
         Payloader {
-            pack,
+            packetizer,
             clock_rate: rate,
         }
     }
@@ -81,31 +81,31 @@ impl<B: Packetizer> Payloader<B> {
         ensures err { IfErr result (λ fault. SendsNothing mtu (sample_of sample.now) fault self.old sink.old self.new sink.new
             ⊎ SendsBeginning S.accepts S.refuses S.sent S.next mtu (sample_of sample.now) fault self.old sink.old self.new sink.new) }
         // A packetizer that the caller brings is asked once for the payloads, and once for each marker.
-        ensures own { is_built_in self.old.pack ≡ false → (before : B) × (after : B)
+        ensures own { is_built_in self.old.packetizer ≡ false → (before : B) × (after : B)
             × OwnSample B.state B.packetize_step B.marker_step B.marks_spurts B.may_be_asked_for S.accepts S.refuses S.sent S.next self.old.clock_rate mtu (sample_of sample.now) before sink.old result after sink.new }
         ensures kept { S.keeps sink.old sink.new }
     {
-        send_sample(&mut self.pack, self.clock_rate, alloc, sample, mtu, sink)
+        send_sample(&mut self.packetizer, self.clock_rate, alloc, sample, mtu, sink)
     }
 }
 
 /// Sends the packets of a sample that the packetizer gives, by an RTP clock of that rate.
 fn send_sample<B: Packetizer, S: PacketSink>(
-    pack: &mut CodecPacketizer<B>,
+    packetizer: &mut CodecPacketizer<B>,
     clock_rate: Frequency,
     alloc: Global,
     sample: &ToPayload,
     mtu: usize,
     sink: &mut S,
 ) -> Result<(), PacketError>
-    ensures ok { OnOk result (SendsSample S.accepts S.sent S.next mtu (sample_of sample.now) (record { pack = pack_of pack.old; clock_rate = clock_rate }) sink.old (record { pack = pack_of pack.new; clock_rate = clock_rate }) sink.new) }
-    ensures err { IfErr result (λ fault. SendsNothing mtu (sample_of sample.now) fault (record { pack = pack_of pack.old; clock_rate = clock_rate }) sink.old (record { pack = pack_of pack.new; clock_rate = clock_rate }) sink.new
-        ⊎ SendsBeginning S.accepts S.refuses S.sent S.next mtu (sample_of sample.now) fault (record { pack = pack_of pack.old; clock_rate = clock_rate }) sink.old (record { pack = pack_of pack.new; clock_rate = clock_rate }) sink.new) }
-    ensures own { (before : B) → pack.old ≡ Boxed before → (after : B) × (pack.new ≡ Boxed after)
+    ensures ok { OnOk result (SendsSample S.accepts S.sent S.next mtu (sample_of sample.now) (record { packetizer = packetizer_state_of packetizer.old; clock_rate = clock_rate }) sink.old (record { packetizer = packetizer_state_of packetizer.new; clock_rate = clock_rate }) sink.new) }
+    ensures err { IfErr result (λ fault. SendsNothing mtu (sample_of sample.now) fault (record { packetizer = packetizer_state_of packetizer.old; clock_rate = clock_rate }) sink.old (record { packetizer = packetizer_state_of packetizer.new; clock_rate = clock_rate }) sink.new
+        ⊎ SendsBeginning S.accepts S.refuses S.sent S.next mtu (sample_of sample.now) fault (record { packetizer = packetizer_state_of packetizer.old; clock_rate = clock_rate }) sink.old (record { packetizer = packetizer_state_of packetizer.new; clock_rate = clock_rate }) sink.new) }
+    ensures own { (before : B) → packetizer.old ≡ Boxed before → (after : B) × (packetizer.new ≡ Boxed after)
         × OwnSample B.state B.packetize_step B.marker_step B.marks_spurts B.may_be_asked_for S.accepts S.refuses S.sent S.next clock_rate mtu (sample_of sample.now) before sink.old result after sink.new }
     ensures kept { S.keeps sink.old sink.new }
 {
-    let payloads = pack.packetize(alloc, mtu, &sample.bytes)?;
+    let payloads = packetizer.packetize(alloc, mtu, &sample.bytes)?;
     let rtp_time = (sample.rtp_time.rebase(clock_rate).numer() % (1 << 32)) as u32;
     let count = payloads.len();
     let mut place = 0;
@@ -113,7 +113,7 @@ fn send_sample<B: Packetizer, S: PacketSink>(
         let ext_vals = sample.ext_vals.for_packet(place, count);
         place += 1;
         send_payload(
-            pack,
+            packetizer,
             sample,
             rtp_time,
             ext_vals,
@@ -127,7 +127,7 @@ fn send_sample<B: Packetizer, S: PacketSink>(
 
 /// Sends one payload of a sample, with those of its extension values that go on it.
 fn send_payload<B: Packetizer, S: PacketSink>(
-    pack: &mut CodecPacketizer<B>,
+    packetizer: &mut CodecPacketizer<B>,
     sample: &ToPayload,
     rtp_time: u32,
     ext_vals: ExtensionValues,
@@ -135,19 +135,19 @@ fn send_payload<B: Packetizer, S: PacketSink>(
     last: bool,
     sink: &mut S,
 ) -> Result<(), PacketError>
-    ensures same { pack_of pack.new ≡ pack_of pack.old }
-    ensures ok { let told = packet_for (pack_of pack.old) (sample_of sample.now) rtp_time (S.next sink.old) ext_vals last payload.items in
-        OnOk result ((packet : Packet) × IsAs (is_built_in (pack_of pack.old)) packet told × (image : Packet) × S.accepts sink.old packet image sink.new
+    ensures same { packetizer_state_of packetizer.new ≡ packetizer_state_of packetizer.old }
+    ensures ok { let told = packet_for (packetizer_state_of packetizer.old) (sample_of sample.now) rtp_time (S.next sink.old) ext_vals last payload.items in
+        OnOk result ((packet : Packet) × IsAs (is_built_in (packetizer_state_of packetizer.old)) packet told × (image : Packet) × S.accepts sink.old packet image sink.new
         × (S.sent sink.new ≡ S.sent sink.old ++ image ∷ []) × (S.next sink.new ≡ (S.next sink.old + 1) % 2 ^ 64)) }
-    ensures err { let told = packet_for (pack_of pack.old) (sample_of sample.now) rtp_time (S.next sink.old) ext_vals last payload.items in
-        IfErr result (λ fault. (packet : Packet) × IsAs (is_built_in (pack_of pack.old)) packet told × S.refuses sink.old packet fault sink.new
+    ensures err { let told = packet_for (packetizer_state_of packetizer.old) (sample_of sample.now) rtp_time (S.next sink.old) ext_vals last payload.items in
+        IfErr result (λ fault. (packet : Packet) × IsAs (is_built_in (packetizer_state_of packetizer.old)) packet told × S.refuses sink.old packet fault sink.new
         × (S.sent sink.new ≡ S.sent sink.old) × (S.next sink.new ≡ S.next sink.old)) }
-    ensures own { (before : B) → pack.old ≡ Boxed before → (after : B) × (pack.new ≡ Boxed after)
+    ensures own { (before : B) → packetizer.old ≡ Boxed before → (after : B) × (packetizer.new ≡ Boxed after)
         × OwnPacket B.state B.marker_step B.marks_spurts B.may_be_asked_for S.accepts S.refuses S.sent S.next (sample_of sample.now) rtp_time ext_vals last payload.items before sink.old result after sink.new }
     ensures kept { S.keeps sink.old sink.new }
 {
-    let starts = pack.marks_talkspurt() && sample.start_of_talk_spurt;
-    let marker = pack.is_marker(&payload, sink.last_packet(), last) || starts;
+    let starts = packetizer.marks_talkspurt() && sample.start_of_talk_spurt;
+    let marker = packetizer.is_marker(&payload, sink.last_packet(), last) || starts;
     let seq_no = sink.next_seq_no();
     sink.send(OutgoingPacket {
         pt: sample.pt,
@@ -155,7 +155,7 @@ fn send_payload<B: Packetizer, S: PacketSink>(
         rtp_time,
         wallclock: sample.wallclock,
         marker,
-        nackable: pack.nackable(),
+        nackable: packetizer.nackable(),
         ext_vals,
         payload,
     })

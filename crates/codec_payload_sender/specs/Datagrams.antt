@@ -3,7 +3,7 @@ use Rattle.std.specs.Prelude.{◌≡◌, ℕ, ◌+◌, ◌%◌, ◌^◌, ◌<◌
 use Rattle.codec_payload_base.specs.Time.{Time, rebased}
 use Rattle.codec_payload_base.specs.StrippedValues.{stripped}
 use Rattle.codec_payload_base.specs.declared.wire.extension.ExtensionValues.{ExtensionValues}
-use Rattle.codec_payload_codec.specs.Pack.{Pack, is_built_in, marker_of, talkspurt_of}
+use Rattle.codec_payload_codec.specs.Packetizers.{PacketizerState, is_built_in, marker_of, talkspurt_of}
 use Rattle.codec_payload_rtp.specs.ExtensionWriting.{elements_for, extension_for}
 use Rattle.codec_payload_rtp.specs.RtpPackets.{Header}
 use Rattle.codec_payload_rtp.specs.RtpReading.{rtp_at}
@@ -46,31 +46,31 @@ abbrev pub header_at : Stream → Sample → ℕ → ℕ → Bool → Header
 header_at stream sample place count marker = header_with stream (fields_at stream sample place marker) (stripped sample.ext_vals place count)
 
 -- the marker of a packetizer that is built in, for the packet at a place of so many; one that a caller brings marks as it likes
-abbrev pub IsMarker : Pack → Sample → ℕ → ℕ → Bool → Type 0
-IsMarker pack sample place count marker =
-    is_built_in pack ≡ true → marker ≡ (marker_of pack (place + 1 == count) || (talkspurt_of pack && sample.start_of_talk_spurt))
+abbrev pub IsMarker : PacketizerState → Sample → ℕ → ℕ → Bool → Type 0
+IsMarker packetizer sample place count marker =
+    is_built_in packetizer ≡ true → marker ≡ (marker_of packetizer (place + 1 == count) || (talkspurt_of packetizer && sample.start_of_talk_spurt))
 
 -- before any payload, the bytes read as that header
 abbrev pub IsHeader : List ℕ → Header → Type 0
 IsHeader bytes header = (payload : List ℕ) → rtp_at (bytes ++ payload) ≡ Ok (record { header = header; payload = payload; padding = 0 })
 
 -- the header of the packet at a place
-pub record IsHeadedAt (stream : Stream) (pack : Pack) (sample : Sample) (count place : ℕ) (bytes : List ℕ) : Type 0 where
+pub record IsHeadedAt (stream : Stream) (packetizer : PacketizerState) (sample : Sample) (count place : ℕ) (bytes : List ℕ) : Type 0 where
   pub marker : Bool
-  pub marked : IsMarker pack sample place count marker
+  pub marked : IsMarker packetizer sample place count marker
   pub reads : IsHeader bytes (header_at stream sample place count marker)
 
 -- the datagram reads as the packet at a place, with that payload
-pub record IsSentAt (stream : Stream) (pack : Pack) (sample : Sample) (count place : ℕ) (payload datagram : List ℕ) : Type 0 where
+pub record IsSentAt (stream : Stream) (packetizer : PacketizerState) (sample : Sample) (count place : ℕ) (payload datagram : List ℕ) : Type 0 where
   pub marker : Bool
-  pub marked : IsMarker pack sample place count marker
+  pub marked : IsMarker packetizer sample place count marker
   pub reads : rtp_at datagram ≡ Ok (record { header = header_at stream sample place count marker; payload = payload; padding = 0 })
 
 -- each of these datagrams reads as the packet at its place, with its payload
-abbrev pub AreSent : Stream → Pack → Sample → List (List ℕ) → List (List ℕ) → Type 0
-AreSent stream pack sample payloads datagrams =
+abbrev pub AreSent : Stream → PacketizerState → Sample → List (List ℕ) → List (List ℕ) → Type 0
+AreSent stream packetizer sample payloads datagrams =
     (length datagrams ≡ length payloads)
-    × ((place : ℕ) → place < length payloads → IsSentAt stream pack sample (length payloads) place (slice_index_or payloads place []) (slice_index_or datagrams place []))
+    × ((place : ℕ) → place < length payloads → IsSentAt stream packetizer sample (length payloads) place (slice_index_or payloads place []) (slice_index_or datagrams place []))
 
 -- headers in front of payloads
 abbrev pub joined : List (List ℕ) → List (List ℕ) → List (List ℕ)

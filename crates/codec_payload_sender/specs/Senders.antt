@@ -2,7 +2,7 @@
 use Rattle.std.specs.Prelude.{◌≡◌, ℕ, ◌+◌, ◌%◌, ◌^◌, nat_lt, not, if◌then◌else◌, true, List, [], Option, Some, None, Result, Ok, Err, length}
 use Rattle.codec_payload_base.specs.Answers.{Lands}
 use Rattle.codec_payload_base.specs.declared.error.PacketError.{PacketError}
-use Rattle.codec_payload_codec.specs.Pack.{Pack, PackStep, is_built_in}
+use Rattle.codec_payload_codec.specs.Packetizers.{PacketizerState, PacketizerStep, is_built_in}
 use Rattle.codec_payload_rtp.specs.ExtensionWriting.{ids_fit}
 use Rattle.codec_payload_sender.specs.Datagrams.{Sample, AreSent, octets_in, time_of}
 use Rattle.codec_payload_sender.specs.declared.sender.Counts.{Counts}
@@ -14,7 +14,7 @@ use Rattle.codec_payload_sender.specs.declared.sender.Stream.{Stream}
 -- a sender, as contracts see it: its packetizer, the most bytes of a payload, what its packets share and the number of the next,
 -- the bytes that are free behind each datagram, what reports count, and the datagrams of the sample that was sent last
 pub record Sending : Type 0 where
-  pub pack : Pack
+  pub packetizer : PacketizerState
   pub mtu : ℕ
   pub stream : Stream
   pub tailroom : ℕ
@@ -34,9 +34,9 @@ refusal_of s =
 abbrev pub nothing_sent : Counts
 nothing_sent = record { packets = 0; octets = 0; rtp_time = None }
 
-abbrev pub sender_by : SenderSettings → Pack → Sending
-sender_by s pack = record {
-  pack = pack;
+abbrev pub sender_by : SenderSettings → PacketizerState → Sending
+sender_by s packetizer = record {
+  packetizer = packetizer;
   mtu = s.mtu;
   stream = record { ssrc = s.ssrc; payload_type = s.payload_type; clock_rate = s.clock_rate; ids = s.extension_ids; number = s.first_number };
   tailroom = s.tailroom;
@@ -57,10 +57,10 @@ counted counts time payloads = record {
 -- a sample was sent: of the payloads that the packetizer gives each is a datagram, with consecutive numbers
 pub record Sends (s : Sending) (sample : Sample) (t : Sending) : Type 0 where
   pub payloads : List (List ℕ)
-  pub packetized : is_built_in s.pack ≡ true → PackStep s.pack s.mtu sample.bytes (Ok payloads) t.pack
-  pub sent : AreSent s.stream t.pack sample payloads t.datagrams
+  pub packetized : is_built_in s.packetizer ≡ true → PacketizerStep s.packetizer s.mtu sample.bytes (Ok payloads) t.packetizer
+  pub sent : AreSent s.stream t.packetizer sample payloads t.datagrams
   pub left : t ≡ record s {
-    pack = t.pack;
+    packetizer = t.packetizer;
     stream = record s.stream { number = (s.stream.number + length payloads) % 2 ^ 16 };
     counts = counted s.counts (time_of s.stream sample) payloads;
     datagrams = t.datagrams;
@@ -68,5 +68,5 @@ pub record Sends (s : Sending) (sample : Sample) (t : Sending) : Type 0 where
 
 -- nothing was sent: the packetizer answered with the fault, or it gave payloads and memory was wanting for them or their headers
 pub record Refuses (s : Sending) (sample : Sample) (fault : PacketError) (t : Sending) : Type 0 where
-  pub packetized : is_built_in s.pack ≡ true → (answer : Result (List (List ℕ)) PacketError) × PackStep s.pack s.mtu sample.bytes answer t.pack × Lands answer (Err fault) []
-  pub left : t ≡ record s { pack = t.pack; datagrams = [] }
+  pub packetized : is_built_in s.packetizer ≡ true → (answer : Result (List (List ℕ)) PacketError) × PacketizerStep s.packetizer s.mtu sample.bytes answer t.packetizer × Lands answer (Err fault) []
+  pub left : t ≡ record s { packetizer = t.packetizer; datagrams = [] }

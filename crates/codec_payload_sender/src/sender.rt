@@ -3,7 +3,7 @@
 ghost use Rattle.std.specs.Prelude.{◌≡◌, ◌+◌, ◌%◌, ◌^◌, ◌<◌, ◌≤◌, ◌∷◌, ℕ, List, [], Option, true, length, IfOk, IfErr, IfSome, OnOk, OnErr, IsTrue, Err, slice_index_or, slice_set};
 ghost use Rattle.std.specs.Option.{option_map};
 ghost use Rattle.codec_payload_base.specs.declared.error.PacketError.TheVariants.{OutOfMemory};
-ghost use Rattle.codec_payload_codec.specs.Pack.{pack_of};
+ghost use Rattle.codec_payload_codec.specs.Packetizers.{packetizer_state_of};
 ghost use Rattle.codec_payload_rtp.specs.ExtensionWriting.{ids_fit};
 ghost use Rattle.codec_payload_rtp.specs.RtpValues.{extension_of, header_of};
 ghost use Rattle.codec_payload_sender.specs.Datagrams.{IsHeader, IsHeadedAt, IsMarker, header_with, octets_in, sample_of, time_of};
@@ -117,7 +117,7 @@ struct Packets {
 #[derive(Drop)]
 pub struct Sender<B = NoBox> {
     alloc: Global,
-    pack: CodecPacketizer<B>,
+    packetizer: CodecPacketizer<B>,
     mtu: usize,
     stream: Stream,
     counts: Counts,
@@ -126,7 +126,7 @@ pub struct Sender<B = NoBox> {
 
 impl<B> Model for Sender<B> {
     ghost use Rattle.std.specs.Prelude.{◌≡◌, ◌<◌, IsTrue};
-    ghost use Rattle.codec_payload_codec.specs.Pack.{pack_of};
+    ghost use Rattle.codec_payload_codec.specs.Packetizers.{packetizer_state_of};
     ghost use Rattle.codec_payload_rtp.specs.ExtensionWriting.{ids_fit};
     ghost use Rattle.codec_payload_sender.specs.Datagrams.{joined};
     ghost use Rattle.codec_payload_sender.specs.Senders.{Sending};
@@ -134,7 +134,7 @@ impl<B> Model for Sender<B> {
     ghost Value = { Sending };
 
     ghost view = { λ s. record {
-      pack = pack_of s.pack;
+      packetizer = packetizer_state_of s.packetizer;
       mtu = s.mtu;
       stream = s.stream;
       tailroom = s.packets.out.tailroom;
@@ -204,28 +204,28 @@ fn time_of(stream: &Stream, sample: &Sample<'_>) -> u32
 
 /// Whether the packet at a place is marked.
 fn is_marked<B: Packetizer>(
-    pack: &mut CodecPacketizer<B>,
+    packetizer: &mut CodecPacketizer<B>,
     sample: &Sample<'_>,
     place: usize,
     out: &Payloads,
 ) -> bool
     requires { place < length out.now.payloads }
-    ensures marker { IsMarker (pack_of pack.old) (sample_of sample.now) place (length out.now.payloads) result }
-    ensures same { pack_of pack.new ≡ pack_of pack.old }
+    ensures marker { IsMarker (packetizer_state_of packetizer.old) (sample_of sample.now) place (length out.now.payloads) result }
+    ensures same { packetizer_state_of packetizer.new ≡ packetizer_state_of packetizer.old }
 {
     let count = out.len();
     let last = place + 1 == count;
-    let starts = pack.marks_talkspurt() && sample.start_of_talk_spurt;
+    let starts = packetizer.marks_talkspurt() && sample.start_of_talk_spurt;
     let payload = out.get(place);
     if place == 0 {
-        return pack.is_marker(payload, None, last) || starts;
+        return packetizer.is_marker(payload, None, last) || starts;
     }
-    pack.is_marker(payload, Some(out.get(place - 1)), last) || starts
+    packetizer.is_marker(payload, Some(out.get(place - 1)), last) || starts
 }
 
 /// Puts the header of the packet at a place in front of its payload.
 fn put_header<B: Packetizer>(
-    pack: &mut CodecPacketizer<B>,
+    packetizer: &mut CodecPacketizer<B>,
     stream: &Stream,
     sample: &Sample<'_>,
     place: usize,
@@ -235,13 +235,13 @@ fn put_header<B: Packetizer>(
     requires place { place < length packets.old.out.payloads }
     requires payload_type { stream.now.payload_type < 128 }
     requires ids { IsTrue (ids_fit stream.now.ids) }
-    ensures ok { OnOk result ((header : List ℕ) × IsHeadedAt stream.now (pack_of pack.old) (sample_of sample.now) (length packets.old.out.payloads) place header
+    ensures ok { OnOk result ((header : List ℕ) × IsHeadedAt stream.now (packetizer_state_of packetizer.old) (sample_of sample.now) (length packets.old.out.payloads) place header
         × (packets.new.out.headers ≡ slice_set packets.old.out.headers place header)) }
-    ensures same { pack_of pack.new ≡ pack_of pack.old }
+    ensures same { packetizer_state_of packetizer.new ≡ packetizer_state_of packetizer.old }
     ensures rest { packets.new.out ≡ record packets.old.out { headers = packets.new.out.headers } }
     ensures fault { IfErr result (λ fault. fault ≡ OutOfMemory) }
 {
-    let marker = is_marked(pack, sample, place, &packets.out);
+    let marker = is_marked(packetizer, sample, place, &packets.out);
     let fields = Fields {
         marker,
         number: stream.number.wrapping_add((place % 65_536) as u16),
@@ -261,7 +261,7 @@ fn put_header<B: Packetizer>(
 
 /// Puts the headers of all packets of a sample in front of their payloads.
 fn put_headers<B: Packetizer>(
-    pack: &mut CodecPacketizer<B>,
+    packetizer: &mut CodecPacketizer<B>,
     stream: &Stream,
     sample: &Sample<'_>,
     packets: &mut Packets,
@@ -270,13 +270,13 @@ fn put_headers<B: Packetizer>(
     requires payload_type { stream.now.payload_type < 128 }
     requires ids { IsTrue (ids_fit stream.now.ids) }
     ensures ok { OnOk result ((place : ℕ) → place < length packets.old.out.payloads
-        → IsHeadedAt stream.now (pack_of pack.old) (sample_of sample.now) (length packets.old.out.payloads) place (slice_index_or packets.new.out.headers place [])) }
-    ensures same { pack_of pack.new ≡ pack_of pack.old }
+        → IsHeadedAt stream.now (packetizer_state_of packetizer.old) (sample_of sample.now) (length packets.old.out.payloads) place (slice_index_or packets.new.out.headers place [])) }
+    ensures same { packetizer_state_of packetizer.new ≡ packetizer_state_of packetizer.old }
     ensures rest { packets.new.out ≡ record packets.old.out { headers = packets.new.out.headers } }
     ensures fault { IfErr result (λ fault. fault ≡ OutOfMemory) }
 {
     for place in 0..packets.out.len() {
-        put_header(pack, stream, sample, place, packets)?;
+        put_header(packetizer, stream, sample, place, packets)?;
     }
     Ok(())
 }
@@ -296,10 +296,10 @@ impl<B: Packetizer> Sender<B> {
     /// A sender over that packetizer, by settings that are looked at in their order. It takes memory for the longest header.
     pub fn new(
         alloc: Global,
-        pack: CodecPacketizer<B>,
+        packetizer: CodecPacketizer<B>,
         settings: SenderSettings,
     ) -> Result<Self, SenderError>
-        ensures ok { IfOk result (λ s. s ≡ sender_by settings (pack_of pack)) }
+        ensures ok { IfOk result (λ s. s ≡ sender_by settings (packetizer_state_of packetizer)) }
         // Which setting is out of range.
         ensures refused { IfSome (refusal_of settings) (λ e. result ≡ Err e) }
         // Where none is, it is made, if there is memory.
@@ -319,7 +319,7 @@ impl<B: Packetizer> Sender<B> {
         };
         Ok(Sender {
             alloc,
-            pack,
+            packetizer,
             mtu: settings.mtu,
             stream: stream_by(&settings),
             counts: no_counts(),
@@ -335,9 +335,9 @@ impl<B: Packetizer> Sender<B> {
         ensures ok { OnOk result (Sends self.old (sample_of sample.now) self.new) }
         ensures err { IfErr result (λ fault. Refuses self.old (sample_of sample.now) fault self.new) }
     {
-        self.pack
+        self.packetizer
             .packetize_into(self.alloc, self.mtu, sample.bytes, &mut self.packets.out)?;
-        let answer = put_headers(&mut self.pack, &self.stream, sample, &mut self.packets);
+        let answer = put_headers(&mut self.packetizer, &self.stream, sample, &mut self.packets);
         self.packets.out.settle(answer)?;
         let count = self.packets.out.len();
         self.counts = Counts {

@@ -5,7 +5,7 @@ use Rattle.codec_payload_base.specs.declared.wire.Ticks.{Ticks}
 use Rattle.codec_payload_red.specs.RedBlocks.{Block}
 use Rattle.codec_payload_red.specs.RedRecovery.{RecoveredPacket, recovered_from}
 use Rattle.codec_payload_rtp.specs.ExtendedTimes.{extended_time}
-use Rattle.codec_payload_codec.specs.Depack.{Depack}
+use Rattle.codec_payload_codec.specs.Depacketizers.{DepacketizerState}
 use Rattle.codec_payload_buffer.specs.Release.{Release}
 use Rattle.codec_payload_buffer.specs.Steps.{empty_buffer}
 use Rattle.codec_payload_jitter.specs.Numbers.{Numbering, numbering_within}
@@ -213,31 +213,31 @@ abbrev pub retransmission_fits : Option Retransmission → Bool
 retransmission_fits None = true
 retransmission_fits (Some r) = nat_le r.payload_type 127
 
-abbrev pub session_with : Settings → Depack → Option RedStream → Numbering → Session
-session_with s depack red numbering = record {
+abbrev pub session_with : Settings → DepacketizerState → Option RedStream → Numbering → Session
+session_with s depacketizer red numbering = record {
   stream = record { payload_type = s.payload_type; no_media = s.no_media.items; red = red; retransmission = s.retransmission; ids = s.extension_ids };
   named = s.ssrc;
   ssrc = s.ssrc;
-  packets = no_packets numbering (empty_buffer s.patience.hold_back s.limit depack) s.clock_rate s.patience;
+  packets = no_packets numbering (empty_buffer s.patience.hold_back s.limit depacketizer) s.clock_rate s.patience;
   arrived = nothing_arrived;
   time = None;
   reception = no_reception numbering s.tick_rate s.clock_rate;
   no_reception = no_reception numbering s.tick_rate s.clock_rate;
 }
 
-abbrev pub session_within : Settings → Depack → Option RedStream → Result Numbering WindowError → Result Session SettingsError
-session_within s depack red (Ok numbering) = Ok (session_with s depack red numbering)
-session_within s depack red (Err windows.Forward) = Err settings.Forward
-session_within s depack red (Err windows.Backward) = Err settings.Backward
+abbrev pub session_within : Settings → DepacketizerState → Option RedStream → Result Numbering WindowError → Result Session SettingsError
+session_within s depacketizer red (Ok numbering) = Ok (session_with s depacketizer red numbering)
+session_within s depacketizer red (Err windows.Forward) = Err settings.Forward
+session_within s depacketizer red (Err windows.Backward) = Err settings.Backward
 
-abbrev pub session_in : Settings → Depack → Result (Option RedStream) SettingsError → Result Session SettingsError
-session_in s depack (Err fault) = Err fault
-session_in s depack (Ok red) = session_within s depack red (numbering_within s.forward s.backward)
+abbrev pub session_in : Settings → DepacketizerState → Result (Option RedStream) SettingsError → Result Session SettingsError
+session_in s depacketizer (Err fault) = Err fault
+session_in s depacketizer (Ok red) = session_within s depacketizer red (numbering_within s.forward s.backward)
 
 -- of settings in range; else the first that is not is told
-abbrev pub session_by : Settings → Depack → Result Session SettingsError
-session_by s depack =
+abbrev pub session_by : Settings → DepacketizerState → Result Session SettingsError
+session_by s depacketizer =
     if nat_le s.payload_type 127 then (if nat_le 1 s.limit && nat_le s.limit 65536
-    then (if retransmission_fits s.retransmission then session_in s depack (red_within s.payload_type s.red) else Err settings.RetransmissionPayloadType)
+    then (if retransmission_fits s.retransmission then session_in s depacketizer (red_within s.payload_type s.red) else Err settings.RetransmissionPayloadType)
     else Err settings.Limit)
     else Err settings.PayloadType

@@ -1,7 +1,7 @@
 -- A receiver as it is made.
 use Rattle.std.proofs.Common.{◌≡◌, ◌∙◌, refl, sym, ap, ℕ, ◌<◌, ◌≤◌, ◌&&◌, Bool, true, false, cond, ltb, leb, Option, Result, Ok, Err, arith}
 use Rattle.std.proofs.lemmas.Bool.{and_parts, leb-true, ltb-true}
-use Rattle.codec_payload_codec.specs.Depack.{Depack}
+use Rattle.codec_payload_codec.specs.Depacketizers.{DepacketizerState}
 use Rattle.codec_payload_jitter.specs.Numbers.{IsNumbering, Numbering, no_numbers, numbering_within}
 use Rattle.codec_payload_jitter.specs.declared.numbers.WindowError.{WindowError}
 use Rattle.codec_payload_jitter.specs.declared.numbers.WindowError.TheVariants as windows
@@ -27,27 +27,28 @@ windows_of forward backward numbering e =
     (cc, record { some = some; apart = omega (arith, most, order); order = order; far = tt })
 
 -- nothing came to it so far, and its windows are in range
-pub record IsBegun (s : Settings) (depack : Depack) (receiver : Session) : Type 0 where
+pub record IsBegun (s : Settings) (depacketizer : DepacketizerState) (receiver : Session) : Type 0 where
   pub red : Option RedStream
   pub windows : IsNumbering (no_numbers s.forward s.backward)
-  pub is : receiver ≡ session_with s depack red (no_numbers s.forward s.backward)
+  pub is : receiver ≡ session_with s depacketizer red (no_numbers s.forward s.backward)
 
-begun_within : (s : Settings) (depack : Depack) (red : Option RedStream) (n : Result Numbering WindowError) (receiver : Session)
-    → numbering_within s.forward s.backward ≡ n → session_within s depack red n ≡ Ok receiver → IsBegun s depack receiver
-begun_within s depack red (Ok numbering) receiver is e =
+begun_within : (s : Settings) (depacketizer : DepacketizerState) (red : Option RedStream) (n : Result Numbering WindowError) (receiver : Session)
+    → numbering_within s.forward s.backward ≡ n → session_within s depacketizer red n ≡ Ok receiver → IsBegun s depacketizer receiver
+begun_within s depacketizer red (Ok numbering) receiver is e =
     let w = windows_of s.forward s.backward numbering is in
-    let made : session_with s depack red numbering ≡ receiver = cc in
-    record { red = red; windows = w.1; is = sym made ∙ ap (session_with s depack red) (sym w.0) }
-begun_within s depack red (Err windows.Forward) receiver is e = absurd (cc)
-begun_within s depack red (Err windows.Backward) receiver is e = absurd (cc)
+    let made : session_with s depacketizer red numbering ≡ receiver = cc in
+    record { red = red; windows = w.1; is = sym made ∙ ap (session_with s depacketizer red) (sym w.0) }
+begun_within s depacketizer red (Err windows.Forward) receiver is e = absurd (cc)
+begun_within s depacketizer red (Err windows.Backward) receiver is e = absurd (cc)
 
-begun_in : (s : Settings) (depack : Depack) (red : Result (Option RedStream) SettingsError) (receiver : Session) → session_in s depack red ≡ Ok receiver → IsBegun s depack receiver
-begun_in s depack (Ok red) receiver e = begun_within s depack red (numbering_within s.forward s.backward) receiver refl e
-begun_in s depack (Err fault) receiver e = absurd (cc)
+begun_in : (s : Settings) (depacketizer : DepacketizerState) (red : Result (Option RedStream) SettingsError) (receiver : Session)
+    → session_in s depacketizer red ≡ Ok receiver → IsBegun s depacketizer receiver
+begun_in s depacketizer (Ok red) receiver e = begun_within s depacketizer red (numbering_within s.forward s.backward) receiver refl e
+begun_in s depacketizer (Err fault) receiver e = absurd (cc)
 
-pub new_is_begun : (s : Settings) (depack : Depack) (receiver : Session) → session_by s depack ≡ Ok receiver → IsBegun s depack receiver
-new_is_begun s depack receiver e =
+pub new_is_begun : (s : Settings) (depacketizer : DepacketizerState) (receiver : Session) → session_by s depacketizer ≡ Ok receiver → IsBegun s depacketizer receiver
+new_is_begun s depacketizer receiver e =
     let a = passed (leb s.payload_type 127) _ settings.PayloadType receiver e in
     let b = passed (leb 1 s.limit && leb s.limit 65536) _ settings.Limit receiver a.1 in
     let c = passed (retransmission_fits s.retransmission) _ settings.RetransmissionPayloadType receiver b.1 in
-    begun_in s depack (red_within s.payload_type s.red) receiver c.1
+    begun_in s depacketizer (red_within s.payload_type s.red) receiver c.1

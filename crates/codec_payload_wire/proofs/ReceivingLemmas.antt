@@ -3,8 +3,8 @@ use Rattle.std.proofs.Common.{◌≡◌, ◌≢◌, ◌∙◌, refl, sym, ap, su
 use Rattle.std.proofs.lemmas.Bool.{eq-eqb, or_left}
 use Rattle.codec_payload_base.specs.declared.error.PacketError.TheVariants as faults
 use Rattle.codec_payload_base.specs.declared.wire.Ticks.{Ticks}
-use Rattle.codec_payload_codec.specs.Depack.{is_built_in_depack}
-use Rattle.codec_payload_codec.specs.Pack.{NullPack}
+use Rattle.codec_payload_codec.specs.Depacketizers.{is_built_in_depacketizer}
+use Rattle.codec_payload_codec.specs.Packetizers.{NullPacketizing}
 use Rattle.codec_payload_buffer.specs.Steps.{State, arrived, pushed, Pops}
 use Rattle.codec_payload_buffer.specs.declared.buffer.unit.RtpMeta.{RtpMeta}
 use Rattle.codec_payload_runs.proofs.BuiltInRuns.{pop_exactly, push_keeps}
@@ -38,7 +38,7 @@ pub record IsListening (stream : Stream) (s : Session) : Type 0 where
   pub rate : s.packets.rate ≡ stream.clock_rate
   pub running : s.packets.anew ≡ false
   pub no_blanks : s.packets.blanks ≡ []
-  pub of_codec : is_built_in_depack s.packets.buffer.depack ≡ true
+  pub of_codec : is_built_in_depacketizer s.packets.buffer.depacketizer ≡ true
 
 -- Receiving
 
@@ -60,14 +60,14 @@ answer_is r low n running is = rw running (by_ended r.ended)
 
 -- a push of the packet of that number
 pub record TakesIn (n : ℕ) (a : Arrival) (r t : Receiving) : Type 0 where
-  pub buffer : t.buffer ≡ pushed r.buffer (arrived r.buffer.depack (meta_for a.now r.rate a.header n) a.bytes)
+  pub buffer : t.buffer ≡ pushed r.buffer (arrived r.buffer.depacketizer (meta_for a.now r.rate a.header n) a.bytes)
   pub numbering : t.numbering ≡ numbering_after r.numbering a.header.sequence_number
   pub rate : t.rate ≡ r.rate
   pub running : t.anew ≡ false
   pub blanks : t.blanks ≡ r.blanks
   pub ended : t.ended ≡ r.ended
 
-takes_in : (n : ℕ) (a : Arrival) (r t : Receiving) (outcome : Outcome) → r.anew ≡ false → is_built_in_depack r.buffer.depack ≡ true
+takes_in : (n : ℕ) (a : Arrival) (r t : Receiving) (outcome : Outcome) → r.anew ≡ false → is_built_in_depacketizer r.buffer.depacketizer ≡ true
     → answer_for r.numbering a.header.sequence_number ≡ extended.Number n
     → Receives a r outcome t → TakesIn n a r t
 takes_in n a r t outcome running of_codec numbered receives =
@@ -77,7 +77,7 @@ takes_in n a r t outcome running of_codec numbered receives =
     let went = subst (λ (e : Extended). ReceivesAs e a r outcome mid) is receives.1 in
     let trusted : mid ≡ record went.0 { kept = None } = went.2 in
     let accepted = went.1.3 in
-    let packet : went.1.1.0 ≡ arrived r.buffer.depack (meta_for a.now r.rate a.header n) a.bytes = went.1.1.1.2 of_codec in
+    let packet : went.1.1.0 ≡ arrived r.buffer.depacketizer (meta_for a.now r.rate a.header n) a.bytes = went.1.1.1.2 of_codec in
     record {
       buffer = ap (λ (x : Receiving). x.buffer) receives.2 ∙ (ap (λ (x : Receiving). x.buffer) trusted ∙ (ap (λ (x : Receiving). x.buffer) accepted ∙ (went.1.1.2 ∙ ap (pushed r.buffer) packet)));
       numbering = ap (λ (x : Receiving). x.numbering) receives.2 ∙ ap (λ (e : Extended). numbering_with r.numbering e low) (is ∙ sym numbered);
@@ -92,7 +92,7 @@ pub record IsPushed (stream : Stream) (now : Ticks) (q : Packet) (s t : Session)
   pub meta : RtpMeta
   pub tells : Tells stream.clock_rate q meta
   pub received : meta.received ≡ now
-  pub buffer : t.packets.buffer ≡ pushed s.packets.buffer (arrived s.packets.buffer.depack meta q.payload)
+  pub buffer : t.packets.buffer ≡ pushed s.packets.buffer (arrived s.packets.buffer.depacketizer meta q.payload)
   pub numbering : t.packets.numbering ≡ numbering_after s.packets.numbering (q.number % 2 ^ 16)
   pub listening : IsListening stream t
   pub ended : t.packets.ended ≡ s.packets.ended
@@ -109,7 +109,7 @@ pushes stream now q bytes s t receipt types listening reads numbered delivers =
     let one = takes_in q.number a s.packets hears.packets hears.outcome listening.running listening.of_codec numbered hears.takes in
     let meta : RtpMeta = meta_for now s.packets.rate a.header q.number in
     let packets : t.packets ≡ hears.packets = ap (λ (x : Session). x.packets) hears.left in
-    let buffer : t.packets.buffer ≡ pushed s.packets.buffer (arrived s.packets.buffer.depack meta q.payload) = ap (λ (x : Receiving). x.buffer) packets ∙ one.buffer in
+    let buffer : t.packets.buffer ≡ pushed s.packets.buffer (arrived s.packets.buffer.depacketizer meta q.payload) = ap (λ (x : Receiving). x.buffer) packets ∙ one.buffer in
     record {
       meta = meta;
       tells = record {
@@ -127,7 +127,8 @@ pushes stream now q bytes s t receipt types listening reads numbered delivers =
         rate = ap (λ (x : Receiving). x.rate) packets ∙ (one.rate ∙ listening.rate);
         running = ap (λ (x : Receiving). x.anew) packets ∙ one.running;
         no_blanks = ap (λ (x : Receiving). x.blanks) packets ∙ (one.blanks ∙ listening.no_blanks);
-        of_codec = ap (λ (x : State). is_built_in_depack x.depack) buffer ∙ (ap is_built_in_depack (push_keeps s.packets.buffer (arrived s.packets.buffer.depack meta q.payload)) ∙ listening.of_codec);
+        of_codec = ap (λ (x : State). is_built_in_depacketizer x.depacketizer) buffer
+            ∙ (ap is_built_in_depacketizer (push_keeps s.packets.buffer (arrived s.packets.buffer.depacketizer meta q.payload)) ∙ listening.of_codec);
       };
       ended = ap (λ (x : Receiving). x.ended) packets ∙ one.ended;
     }
@@ -140,9 +141,9 @@ settled_none r none =
     ap (λ (ns : List ℕ). record r { buffer = passed_blanks r.buffer ns; blanks = blanks_left r.buffer ns }) none ∙ ap (λ (ns : List ℕ). record r { blanks = ns }) (sym none)
 
 -- a depacketizer that is built in stays so
-pop_stays : (s t : State) (answer : Answer) → is_built_in_depack s.depack ≡ true → answer ≢ Some (Err faults.OutOfMemory) → Pops s answer t → is_built_in_depack t.depack ≡ true
+pop_stays : (s t : State) (answer : Answer) → is_built_in_depacketizer s.depacketizer ≡ true → answer ≢ Some (Err faults.OutOfMemory) → Pops s answer t → is_built_in_depacketizer t.depacketizer ≡ true
 pop_stays s t answer of_codec not_memory pops =
-    let c : State → RunState = λ (x : State). run_state (record { pack = NullPack; clock_rate = 0 }) x (record { first = 0; packets = [] }) in
+    let c : State → RunState = λ (x : State). run_state (record { packetizer = NullPacketizing; clock_rate = 0 }) x (record { first = 0; packets = [] }) in
     (pop_exactly [] 0 (c s) (c t) [] (answer ∷ []) refl of_codec (refl, answer, t, refl, not_memory, pops, refl)).1
 
 -- a pop of the receiver is one of its buffer
@@ -157,18 +158,18 @@ pub record IsPopped (stream : Stream) (now : Ticks) (answer : Answer) (s t : Ses
 -- what a pop of the jitter buffer leaves as it was, and what it does to the buffer
 pub record IsTurn (wait : Option ℕ) (r : Receiving) (answer : Answer) (t : Receiving) : Type 0 where
   pub pops : PopsWaiting wait r.buffer answer t.buffer
-  pub of_codec : is_built_in_depack t.buffer.depack ≡ true
+  pub of_codec : is_built_in_depacketizer t.buffer.depacketizer ≡ true
   pub blanks : t.blanks ≡ r.blanks
   pub rate : t.rate ≡ r.rate
   pub numbering : t.numbering ≡ r.numbering
   pub anew : t.anew ≡ r.anew
   pub ended : t.ended ≡ r.ended
 
-turn_of : (wait : Option ℕ) (r : Receiving) (answer : Answer) (t : Receiving) → is_built_in_depack r.buffer.depack ≡ true → answer ≢ Some (Err faults.OutOfMemory)
+turn_of : (wait : Option ℕ) (r : Receiving) (answer : Answer) (t : Receiving) → is_built_in_depacketizer r.buffer.depacketizer ≡ true → answer ≢ Some (Err faults.OutOfMemory)
     → PopsWith wait r answer t → IsTurn wait r answer t
 turn_of None r answer t of_codec not_memory pops = record {
   pops = (pops.0, ap (λ (x : Receiving). x.buffer) pops.1);
-  of_codec = ap (λ (x : Receiving). is_built_in_depack x.buffer.depack) pops.1 ∙ of_codec;
+  of_codec = ap (λ (x : Receiving). is_built_in_depacketizer x.buffer.depacketizer) pops.1 ∙ of_codec;
   blanks = ap (λ (x : Receiving). x.blanks) pops.1;
   rate = ap (λ (x : Receiving). x.rate) pops.1;
   numbering = ap (λ (x : Receiving). x.numbering) pops.1;
@@ -177,7 +178,7 @@ turn_of None r answer t of_codec not_memory pops = record {
 }
 turn_of (Some h) r answer t of_codec not_memory pops = record {
   pops = (not_memory, subst (λ (s : State). Pops (record r.buffer { hold_back = h }) answer s) (sym (ap (λ (x : Receiving). x.buffer) pops.2)) pops.1);
-  of_codec = ap (λ (x : Receiving). is_built_in_depack x.buffer.depack) pops.2 ∙ pop_stays (record r.buffer { hold_back = h }) pops.0 answer of_codec not_memory pops.1;
+  of_codec = ap (λ (x : Receiving). is_built_in_depacketizer x.buffer.depacketizer) pops.2 ∙ pop_stays (record r.buffer { hold_back = h }) pops.0 answer of_codec not_memory pops.1;
   blanks = ap (λ (x : Receiving). x.blanks) pops.2;
   rate = ap (λ (x : Receiving). x.rate) pops.2;
   numbering = ap (λ (x : Receiving). x.numbering) pops.2;
@@ -211,7 +212,7 @@ pops_as stream now answer s t listening not_memory popped =
         rate = ap (λ (x : Receiving). x.rate) packets ∙ (turn.rate ∙ listening.rate);
         running = ap (λ (x : Receiving). x.anew) packets ∙ (turn.anew ∙ listening.running);
         no_blanks = ap (λ (x : Receiving). x.blanks) packets ∙ (turn.blanks ∙ listening.no_blanks);
-        of_codec = ap (λ (x : Receiving). is_built_in_depack x.buffer.depack) packets ∙ turn.of_codec;
+        of_codec = ap (λ (x : Receiving). is_built_in_depacketizer x.buffer.depacketizer) packets ∙ turn.of_codec;
       };
       ended = ap (λ (x : Receiving). x.ended) packets ∙ turn.ended;
     }

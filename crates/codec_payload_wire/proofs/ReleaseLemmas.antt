@@ -3,8 +3,8 @@ use Rattle.std.proofs.Common.{◌≡◌, ◌∙◌, refl, sym, ap, subst, ℕ, �
 use Rattle.std.proofs.lemmas.Option.{same_Some, slice_get_within}
 use Rattle.codec_payload_buffer.proofs.MemberLemmas.{contains_in, in_contains}
 use Rattle.codec_payload_buffer.specs.ContiguityTable.{contiguity_for}
-use Rattle.codec_payload_codec.specs.Depack.{is_built_in_depack, is_codec, kind_of_depack}
-use Rattle.codec_payload_codec.specs.Pack.{Pack, G711Pack, G722Pack, OpusPack, ComfortNoisePack, TelePack, Vp8Pack, Vp9Pack, Av1Pack, AmrWbPack, NullPack, BoxedPack, is_built_in}
+use Rattle.codec_payload_codec.specs.Depacketizers.{is_built_in_depacketizer, is_codec, kind_of_depacketizer}
+use Rattle.codec_payload_codec.specs.Packetizers.{PacketizerState, G711Packetizing, G722Packetizing, OpusPacketizing, ComfortNoisePacketizing, TelePacketizing, Vp8Packetizing, Vp9Packetizing, Av1Packetizing, AmrWbPacketizing, NullPacketizing, BoxedPacketizing, is_built_in}
 use Rattle.codec_payload_buffer.specs.declared.buffer.unit.RtpMeta.{RtpMeta}
 use Rattle.codec_payload_runs.proofs.ArrivalLemmas.{release_in_order}
 use Rattle.codec_payload_runs.specs.Arrivals.{AllArriveFirst, Arrives, Meets, ReleasesArrivals, Tells}
@@ -111,18 +111,18 @@ numbered_within forward backward number bound (k ∷ ks) windows low few below w
     (are_true_numbers forward backward windows (number + k) (trues number ks) fits near) (none_restarts forward backward windows (number + k) (trues number ks) fits near)
 
 -- a depacketizer of what a packetizer of a codec makes is one of a codec
-of_codec : (p : Pack) → is_built_in p ≡ true → is_codec (payloads_by p) ≡ true
-of_codec G711Pack built_in = refl
-of_codec G722Pack built_in = refl
-of_codec OpusPack built_in = refl
-of_codec NullPack built_in = refl
-of_codec (Vp8Pack id) built_in = refl
-of_codec (Vp9Pack sender) built_in = refl
-of_codec ComfortNoisePack built_in = refl
-of_codec TelePack built_in = refl
-of_codec Av1Pack built_in = refl
-of_codec (AmrWbPack octet) built_in = refl
-of_codec BoxedPack built_in = absurd (cc)
+of_codec : (p : PacketizerState) → is_built_in p ≡ true → is_codec (payloads_by p) ≡ true
+of_codec G711Packetizing built_in = refl
+of_codec G722Packetizing built_in = refl
+of_codec OpusPacketizing built_in = refl
+of_codec NullPacketizing built_in = refl
+of_codec (Vp8Packetizing id) built_in = refl
+of_codec (Vp9Packetizing sender) built_in = refl
+of_codec ComfortNoisePacketizing built_in = refl
+of_codec TelePacketizing built_in = refl
+of_codec Av1Packetizing built_in = refl
+of_codec (AmrWbPacketizing octet) built_in = refl
+of_codec BoxedPacketizing built_in = absurd (cc)
 
 -- The theorem
 
@@ -156,8 +156,8 @@ module _ (samples : List Sample) (all_steps : List DatagramStep) (sender : Sendi
   abbrev backward : ℕ
   backward = within.settings.backward
 
-  begun : IsBegun within.settings within.depack receiver
-  begun = new_is_begun within.settings within.depack receiver within.new
+  begun : IsBegun within.settings within.depacketizer receiver
+  begun = new_is_begun within.settings within.depacketizer receiver within.new
 
   listening : IsListening sender.stream receiver
   listening = record {
@@ -167,7 +167,7 @@ module _ (samples : List Sample) (all_steps : List DatagramStep) (sender : Sendi
     rate = ap (λ (x : Session). x.packets.rate) begun.is ∙ within.one_stream.clock_rate;
     running = ap (λ (x : Session). x.packets.anew) begun.is;
     no_blanks = ap (λ (x : Session). x.packets.blanks) begun.is;
-    of_codec = ap (λ (x : Session). is_built_in_depack x.packets.buffer.depack) begun.is ∙ (ap is_codec within.one_stream.alike ∙ of_codec sender.pack within.one_stream.built_in);
+    of_codec = ap (λ (x : Session). is_built_in_depacketizer x.packets.buffer.depacketizer) begun.is ∙ (ap is_codec within.one_stream.alike ∙ of_codec sender.packetizer within.one_stream.built_in);
   }
 
   -- from a number with those low bits on
@@ -199,10 +199,10 @@ module _ (samples : List Sample) (all_steps : List DatagramStep) (sender : Sendi
     nothing_sent = refl;
     nothing_held = ap (λ (x : Session). x.packets.buffer.held) begun.is;
     no_cutoff = ap (λ (x : Session). x.packets.buffer.cutoff) begun.is;
-    no_mark = ap (λ (x : Session). x.packets.buffer.mark) begun.is;
-    alike = ap (λ (x : Session). kind_of_depack x.packets.buffer.depack) begun.is ∙ within.one_stream.alike;
-    nothing_read = ap (λ (x : Session). read_by x.packets.buffer.depack) begun.is ∙ within.one_stream.nothing_read;
-    nothing_kept = ap (λ (x : Session). x.packets.buffer.contiguity) begun.is ∙ sym (ap (λ (x : Session). contiguity_for (kind_of_depack x.packets.buffer.depack)) begun.is);
+    no_mark = ap (λ (x : Session). x.packets.buffer.evicted) begun.is;
+    alike = ap (λ (x : Session). kind_of_depacketizer x.packets.buffer.depacketizer) begun.is ∙ within.one_stream.alike;
+    nothing_read = ap (λ (x : Session). read_by x.packets.buffer.depacketizer) begun.is ∙ within.one_stream.nothing_read;
+    nothing_kept = ap (λ (x : Session). x.packets.buffer.contiguity) begun.is ∙ sym (ap (λ (x : Session). contiguity_for (kind_of_depacketizer x.packets.buffer.depacketizer)) begun.is);
   }
 
   releases : ReleasesArrivals samples (sending_steps sender.mtu all_steps) start (running receiver.packets.buffer first rate t.sending sent.all) come.events t.pops
@@ -234,7 +234,7 @@ module _ (samples : List Sample) (all_steps : List DatagramStep) (sender : Sendi
     canonical = releases.canonical;
     datagrams = subst (λ (ps : List Packet). AreDatagrams sender.stream ps t.datagrams) (sym releases.packets) sent.at.reads;
     ends = releases.ends;
-    in_order = order_told (core.IsMet rate come.events) (IsDelivery rate received) told (may_split sender.pack) releases.units 0 t.pops releases.in_order;
+    in_order = order_told (core.IsMet rate come.events) (IsDelivery rate received) told (may_split sender.packetizer) releases.units 0 t.pops releases.in_order;
     exactly = λ come_first. all_told (core.IsMet rate come.events) (IsDelivery rate received) told 0 releases.units t.pops (releases.exactly (all_come come_first));
   }
 

@@ -8,7 +8,7 @@ use Rattle.codec_payload_base.specs.StrippedValues.{stripped}
 use Rattle.codec_payload_base.specs.declared.error.PacketError.{PacketError}
 use Rattle.codec_payload_base.specs.declared.error.PacketError.TheVariants as faults
 use Rattle.codec_payload_base.specs.declared.wire.extension.ExtensionValues.{ExtensionValues}
-use Rattle.codec_payload_codec.specs.Pack.{Pack, G711Pack, G722Pack, OpusPack, ComfortNoisePack, TelePack, Vp8Pack, Vp9Pack, Av1Pack, AmrWbPack, NullPack, BoxedPack, PackStep, is_built_in, marker_of, talkspurt_of}
+use Rattle.codec_payload_codec.specs.Packetizers.{PacketizerState, G711Packetizing, G722Packetizing, OpusPacketizing, ComfortNoisePacketizing, TelePacketizing, Vp8Packetizing, Vp9Packetizing, Av1Packetizing, AmrWbPacketizing, NullPacketizing, BoxedPacketizing, PacketizerStep, is_built_in, marker_of, talkspurt_of}
 use Rattle.codec_payload_buffer.specs.Steps.{State}
 use Rattle.codec_payload_send.specs.Packets.{Packet, AreNumbered}
 use Rattle.codec_payload_runs.specs.Schedule as core
@@ -29,18 +29,19 @@ use Rattle.codec_payload_wire.specs.declared.run.DatagramStep.TheVariants as ste
 use Rattle.codec_payload_wire.specs.declared.run.SentSample.{SentSample}
 
 -- a packetizer stays built in
-pub pack_stays : (p : Pack) (mtu : ℕ) (frame : List ℕ) (answer : Result (List (List ℕ)) PacketError) (q : Pack) → PackStep p mtu frame answer q → is_built_in q ≡ is_built_in p
-pack_stays G711Pack mtu frame answer q step = ap is_built_in step.1
-pack_stays G722Pack mtu frame answer q step = ap is_built_in step.1
-pack_stays OpusPack mtu frame answer q step = ap is_built_in step.1
-pack_stays NullPack mtu frame answer q step = ap is_built_in step.1
-pack_stays (Vp8Pack id) mtu frame answer q step = ap is_built_in step.3
-pack_stays (Vp9Pack sender) mtu frame answer q step = ap is_built_in step.3
-pack_stays ComfortNoisePack mtu frame answer q step = ap is_built_in step.1
-pack_stays TelePack mtu frame answer q step = ap is_built_in step.1
-pack_stays Av1Pack mtu frame answer q step = ap is_built_in step.1
-pack_stays (AmrWbPack octet) mtu frame answer q step = ap is_built_in step.1
-pack_stays BoxedPack mtu frame answer q step = ap is_built_in step
+pub packetizer_stays : (p : PacketizerState) (mtu : ℕ) (frame : List ℕ) (answer : Result (List (List ℕ)) PacketError) (q : PacketizerState)
+    → PacketizerStep p mtu frame answer q → is_built_in q ≡ is_built_in p
+packetizer_stays G711Packetizing mtu frame answer q step = ap is_built_in step.1
+packetizer_stays G722Packetizing mtu frame answer q step = ap is_built_in step.1
+packetizer_stays OpusPacketizing mtu frame answer q step = ap is_built_in step.1
+packetizer_stays NullPacketizing mtu frame answer q step = ap is_built_in step.1
+packetizer_stays (Vp8Packetizing id) mtu frame answer q step = ap is_built_in step.3
+packetizer_stays (Vp9Packetizing sender) mtu frame answer q step = ap is_built_in step.3
+packetizer_stays ComfortNoisePacketizing mtu frame answer q step = ap is_built_in step.1
+packetizer_stays TelePacketizing mtu frame answer q step = ap is_built_in step.1
+packetizer_stays Av1Packetizing mtu frame answer q step = ap is_built_in step.1
+packetizer_stays (AmrWbPacketizing octet) mtu frame answer q step = ap is_built_in step.1
+packetizer_stays BoxedPacketizing mtu frame answer q step = ap is_built_in step
 
 -- Lists of packets
 
@@ -66,19 +67,20 @@ are_as_themselves [] = tt
 are_as_themselves (p ∷ ps) = (refl, are_as_themselves ps)
 
 -- the packets of a sample have consecutive numbers
-from_numbered : (pack : Pack) (sample : Sample) (rtp_time number place : ℕ) (payloads : List (List ℕ)) → number + length payloads < 2 ^ 64
-    → AreNumbered number (packets_from pack sample rtp_time number place payloads)
-from_numbered pack sample rtp_time number place [] few = tt
-from_numbered pack sample rtp_time number place (payload ∷ payloads) few =
+from_numbered : (packetizer : PacketizerState) (sample : Sample) (rtp_time number place : ℕ) (payloads : List (List ℕ)) → number + length payloads < 2 ^ 64
+    → AreNumbered number (packets_from packetizer sample rtp_time number place payloads)
+from_numbered packetizer sample rtp_time number place [] few = tt
+from_numbered packetizer sample rtp_time number place (payload ∷ payloads) few =
     let next : (number + 1) % 2 ^ 64 ≡ number + 1 = omega arith in (
       refl,
-      subst (λ (n : ℕ). AreNumbered n (packets_from pack sample rtp_time ((number + 1) % 2 ^ 64) (place + 1) payloads)) next
-          (from_numbered pack sample rtp_time ((number + 1) % 2 ^ 64) (place + 1) payloads (omega arith)),
+      subst (λ (n : ℕ). AreNumbered n (packets_from packetizer sample rtp_time ((number + 1) % 2 ^ 64) (place + 1) payloads)) next
+          (from_numbered packetizer sample rtp_time ((number + 1) % 2 ^ 64) (place + 1) payloads (omega arith)),
     )
 
-from_count : (pack : Pack) (sample : Sample) (rtp_time number place : ℕ) (payloads : List (List ℕ)) → length (packets_from pack sample rtp_time number place payloads) ≡ length payloads
-from_count pack sample rtp_time number place [] = refl
-from_count pack sample rtp_time number place (payload ∷ payloads) = ap suc (from_count pack sample rtp_time ((number + 1) % 2 ^ 64) (place + 1) payloads)
+from_count : (packetizer : PacketizerState) (sample : Sample) (rtp_time number place : ℕ) (payloads : List (List ℕ))
+    → length (packets_from packetizer sample rtp_time number place payloads) ≡ length payloads
+from_count packetizer sample rtp_time number place [] = refl
+from_count packetizer sample rtp_time number place (payload ∷ payloads) = ap suc (from_count packetizer sample rtp_time ((number + 1) % 2 ^ 64) (place + 1) payloads)
 
 -- One sample
 
@@ -102,40 +104,40 @@ same_header sending stream m m' n n' t t' values values' kept e1 e2 e3 e4 =
     ∙ ap (λ (v : ExtensionValues). headed stream m' n' t' v) e4)))
 
 -- the datagrams of a sample, from a place on, read as its packets
-sent_reads : (sending stream : Stream) (pack : Pack) (sample : Sample) (count number place : ℕ) (payloads datagrams : List (List ℕ))
-    → sending ≡ record stream { number = sending.number } → is_built_in pack ≡ true → length datagrams ≡ length payloads → place + length payloads ≡ count
+sent_reads : (sending stream : Stream) (packetizer : PacketizerState) (sample : Sample) (count number place : ℕ) (payloads datagrams : List (List ℕ))
+    → sending ≡ record stream { number = sending.number } → is_built_in packetizer ≡ true → length datagrams ≡ length payloads → place + length payloads ≡ count
     → number + length payloads < 2 ^ 64 → number % 2 ^ 16 ≡ (sending.number + place) % 2 ^ 16
-    → ((i : ℕ) → i < length payloads → IsSentAt sending pack (sent_sample sample) count (place + i) (slice_index_or payloads i []) (slice_index_or datagrams i []))
-    → AreDatagrams stream (packets_from pack sample (rtp_time_at stream.clock_rate sample.rtp_time) number place payloads) datagrams
-sent_reads sending stream pack sample count number place [] [] kept built_in same whole few low each = tt
-sent_reads sending stream pack sample count number place [] (d ∷ ds) kept built_in same whole few low each = absurd (omega (arith, same))
-sent_reads sending stream pack sample count number place (payload ∷ payloads) [] kept built_in same whole few low each = absurd (omega (arith, same))
-sent_reads sending stream pack sample count number place (payload ∷ payloads) (d ∷ ds) kept built_in same whole few low each =
-    let first : IsSentAt sending pack (sent_sample sample) count place payload d =
-    subst (λ (n : ℕ). IsSentAt sending pack (sent_sample sample) count n payload d) (omega arith) (each 0 (omega arith)) in
+    → ((i : ℕ) → i < length payloads → IsSentAt sending packetizer (sent_sample sample) count (place + i) (slice_index_or payloads i []) (slice_index_or datagrams i []))
+    → AreDatagrams stream (packets_from packetizer sample (rtp_time_at stream.clock_rate sample.rtp_time) number place payloads) datagrams
+sent_reads sending stream packetizer sample count number place [] [] kept built_in same whole few low each = tt
+sent_reads sending stream packetizer sample count number place [] (d ∷ ds) kept built_in same whole few low each = absurd (omega (arith, same))
+sent_reads sending stream packetizer sample count number place (payload ∷ payloads) [] kept built_in same whole few low each = absurd (omega (arith, same))
+sent_reads sending stream packetizer sample count number place (payload ∷ payloads) (d ∷ ds) kept built_in same whole few low each =
+    let first : IsSentAt sending packetizer (sent_sample sample) count place payload d =
+    subst (λ (n : ℕ). IsSentAt sending packetizer (sent_sample sample) count n payload d) (omega arith) (each 0 (omega arith)) in
     let all : count ≡ place + 1 + length payloads = omega (arith, whole) in
-    let q : Packet = packet_for pack sample (rtp_time_at stream.clock_rate sample.rtp_time) number (stripped sample.ext_vals place (place + 1 + length payloads)) (is_last payloads) payload in
+    let q : Packet = packet_for packetizer sample (rtp_time_at stream.clock_rate sample.rtp_time) number (stripped sample.ext_vals place (place + 1 + length payloads)) (is_last payloads) payload in
     let marker : first.marker ≡ q.marker = first.marked built_in
-        ∙ ap (λ (b : Bool). marker_of pack b || (talkspurt_of pack && sample.start_of_talk_spurt)) (ap (eqb (place + 1)) all ∙ last_is place payloads) in
+        ∙ ap (λ (b : Bool). marker_of packetizer b || (talkspurt_of packetizer && sample.start_of_talk_spurt)) (ap (eqb (place + 1)) all ∙ last_is place payloads) in
     let header : header_at sending (sent_sample sample) place count first.marker ≡ headed stream q.marker (q.number % 2 ^ 16) q.rtp_time q.ext_vals =
     same_header sending stream first.marker q.marker ((sending.number + place) % 2 ^ 16) (q.number % 2 ^ 16) _ q.rtp_time _ q.ext_vals kept marker (sym low)
     (ap (λ (x : Stream). rtp_time_at x.clock_rate sample.rtp_time) kept) (ap (stripped sample.ext_vals place) all) in
     let reads : ReadsAs stream q d = first.reads ∙ ap (λ (h : Header). Ok (record { header = h; payload = payload; padding = 0 })) header in
     let next : (number + 1) % 2 ^ 64 ≡ number + 1 = omega arith in (
       reads,
-      sent_reads sending stream pack sample count ((number + 1) % 2 ^ 64) (place + 1) payloads ds kept built_in (omega (arith, same)) (omega (arith, whole))
+      sent_reads sending stream packetizer sample count ((number + 1) % 2 ^ 64) (place + 1) payloads ds kept built_in (omega (arith, same)) (omega (arith, whole))
           (omega (arith, next)) (omega (arith, next, low))
-          (λ i l. subst (λ (n : ℕ). IsSentAt sending pack (sent_sample sample) count n (slice_index_or payloads i []) (slice_index_or ds i [])) (omega arith) (each (suc i) (omega (arith, l)))),
+          (λ i l. subst (λ (n : ℕ). IsSentAt sending packetizer (sent_sample sample) count n (slice_index_or payloads i []) (slice_index_or ds i [])) (omega arith) (each (suc i) (omega (arith, l)))),
     )
 
 -- a payloader that has sent these packets, beside a sender
 abbrev pub running : State → ℕ → ℕ → Sending → List Packet → RunState
-running buffer first clock_rate s packets = run_state (record { pack = s.pack; clock_rate = clock_rate }) buffer (record { first = first; packets = packets })
+running buffer first clock_rate s packets = run_state (record { packetizer = s.packetizer; clock_rate = clock_rate }) buffer (record { first = first; packets = packets })
 
 -- the sender's datagrams so far are these packets
 pub record IsAt (stream : Stream) (budget start : ℕ) (s : Sending) (datagrams : List (List ℕ)) (packets : List Packet) : Type 0 where
   pub mtu : s.mtu ≡ budget
-  pub built_in : is_built_in s.pack ≡ true
+  pub built_in : is_built_in s.packetizer ≡ true
   pub kept : s.stream ≡ record stream { number = s.stream.number }
   pub number : s.stream.number % 2 ^ 16 ≡ (start + length packets) % 2 ^ 16
   pub reads : AreDatagrams stream packets datagrams
@@ -156,20 +158,21 @@ sent_both : (buffer : State) (stream : Stream) (budget start place : ℕ) (sampl
 sent_both buffer stream budget start place sample s t before after packets small at gained few sends =
     let payloads : List (List ℕ) = sends.payloads in
     let number : ℕ = start + length packets in
-    let more : List Packet = packets_from t.pack sample (rtp_time_at stream.clock_rate sample.rtp_time) number 0 payloads in
+    let more : List Packet = packets_from t.packetizer sample (rtp_time_at stream.clock_rate sample.rtp_time) number 0 payloads in
     let after_number : ℕ = (s.stream.number + length payloads) % 2 ^ 16 in
-    let step : PackStep s.pack s.mtu sample.bytes (Ok payloads) t.pack = sends.packetized at.built_in in
-    let built_in : is_built_in t.pack ≡ true = pack_stays s.pack s.mtu sample.bytes (Ok payloads) t.pack step ∙ at.built_in in
-    let count : length more ≡ length payloads = from_count t.pack sample (rtp_time_at stream.clock_rate sample.rtp_time) number 0 payloads in
+    let step : PacketizerStep s.packetizer s.mtu sample.bytes (Ok payloads) t.packetizer = sends.packetized at.built_in in
+    let built_in : is_built_in t.packetizer ≡ true = packetizer_stays s.packetizer s.mtu sample.bytes (Ok payloads) t.packetizer step ∙ at.built_in in
+    let count : length more ≡ length payloads = from_count t.packetizer sample (rtp_time_at stream.clock_rate sample.rtp_time) number 0 payloads in
     let datagrams : length t.datagrams ≡ length payloads = sends.sent.0 in
     let known : length packets ≡ length before = same_count stream packets before at.reads in
     let whole : length after ≡ length before + length t.datagrams = ap length gained ∙ length-append before t.datagrams in
     let fits : number + length payloads < 2 ^ 64 = omega (arith, small, datagrams, known, whole, few) in
     let low : number % 2 ^ 16 ≡ (s.stream.number + 0) % 2 ^ 16 = omega (arith, at.number) in
     let reads : AreDatagrams stream more t.datagrams =
-    sent_reads s.stream stream t.pack sample (length payloads) number 0 payloads t.datagrams at.kept built_in datagrams (omega arith) fits low
-    (λ i l. subst (λ (n : ℕ). IsSentAt s.stream t.pack (sent_sample sample) (length payloads) n (slice_index_or payloads i []) (slice_index_or t.datagrams i [])) (omega arith) (sends.sent.1 i l)) in
-    let numbered : AreNumbered number more = from_numbered t.pack sample (rtp_time_at stream.clock_rate sample.rtp_time) number 0 payloads fits in
+    sent_reads s.stream stream t.packetizer sample (length payloads) number 0 payloads t.datagrams at.kept built_in datagrams (omega arith) fits low
+    (λ i l. subst (λ (n : ℕ). IsSentAt s.stream t.packetizer (sent_sample sample) (length payloads) n (slice_index_or payloads i [])
+        (slice_index_or t.datagrams i [])) (omega arith) (sends.sent.1 i l)) in
+    let numbered : AreNumbered number more = from_numbered t.packetizer sample (rtp_time_at stream.clock_rate sample.rtp_time) number 0 payloads fits in
     let all : length (packets ++ more) ≡ length packets + length more = length-append packets more in
     let few_packets : length (packets ++ more) < 2 ^ 63 = omega (arith, all, count, datagrams, known, whole, few) in
     let goes_on : t.stream.number ≡ after_number = ap (λ (x : Sending). x.stream.number) sends.left in
@@ -178,8 +181,8 @@ sent_both buffer stream budget start place sample s t before after packets small
       entry = record { step = place; first = length packets; count = length payloads; fault = None };
       sends = record {
         answer = Ok payloads;
-        pack = t.pack;
-        packetized = subst (λ (mtu : ℕ). PackStep s.pack mtu sample.bytes (Ok payloads) t.pack) at.mtu step;
+        packetizer = t.packetizer;
+        packetized = subst (λ (mtu : ℕ). PacketizerStep s.packetizer mtu sample.bytes (Ok payloads) t.packetizer) at.mtu step;
         not_memory = λ e. cc;
         entry_is = refl;
         packets = more;
@@ -213,7 +216,8 @@ refused_both : (buffer : State) (stream : Stream) (budget start place : ℕ) (sa
 refused_both buffer stream budget start place sample fault s t before after packets at gained not_memory refuses =
     let answered = refuses.packetized at.built_in in
     let is : answered.0 ≡ Err fault = refused_as answered.0 fault not_memory answered.2 in
-    let step : PackStep s.pack s.mtu sample.bytes (Err fault) t.pack = subst (λ (a : Result (List (List ℕ)) PacketError). PackStep s.pack s.mtu sample.bytes a t.pack) is answered.1 in
+    let step : PacketizerStep s.packetizer s.mtu sample.bytes (Err fault) t.packetizer = subst
+        (λ (a : Result (List (List ℕ)) PacketError). PacketizerStep s.packetizer s.mtu sample.bytes a t.packetizer) is answered.1 in
     let nothing : t.datagrams ≡ [] = ap (λ (x : Sending). x.datagrams) refuses.left in
     let same : after ≡ before = gained ∙ (ap (λ (ds : List (List ℕ)). before ++ ds) nothing ∙ append-nil before) in
     let number : t.stream.number ≡ s.stream.number = ap (λ (x : Sending). x.stream.number) refuses.left in
@@ -223,19 +227,19 @@ refused_both buffer stream budget start place sample fault s t before after pack
       entry = record { step = place; first = length packets; count = 0; fault = Some fault };
       sends = record {
         answer = Err fault;
-        pack = t.pack;
-        packetized = subst (λ (mtu : ℕ). PackStep s.pack mtu sample.bytes (Err fault) t.pack) at.mtu step;
+        packetizer = t.packetizer;
+        packetized = subst (λ (mtu : ℕ). PacketizerStep s.packetizer mtu sample.bytes (Err fault) t.packetizer) at.mtu step;
         not_memory = λ e. let memory : fault ≡ faults.OutOfMemory = cc in not_memory memory;
         entry_is = refl;
         packets = [];
-        are = subst (λ (b : Bool). AreAs b [] []) (sym (pack_stays s.pack s.mtu sample.bytes (Err fault) t.pack step ∙ at.built_in)) tt;
+        are = subst (λ (b : Bool). AreAs b [] []) (sym (packetizer_stays s.packetizer s.mtu sample.bytes (Err fault) t.packetizer step ∙ at.built_in)) tt;
         numbered = tt;
         few = subst (λ (ps : List Packet). length ps < 2 ^ 63) (sym nil) at.few;
         left = refl;
       };
       at = subst (IsAt stream budget start t after) (sym nil) record {
         mtu = ap (λ (x : Sending). x.mtu) refuses.left ∙ at.mtu;
-        built_in = pack_stays s.pack s.mtu sample.bytes (Err fault) t.pack step ∙ at.built_in;
+        built_in = packetizer_stays s.packetizer s.mtu sample.bytes (Err fault) t.packetizer step ∙ at.built_in;
         kept = ap (λ (x : Sending). x.stream) refuses.left ∙ (at.kept ∙ ap (λ (n : ℕ). record stream { number = n }) (sym number));
         number = omega (arith, number, at.number);
         reads = subst (AreDatagrams stream packets) (sym same) at.reads;

@@ -2,8 +2,8 @@
 use Rattle.std.specs.Prelude.{◌≡◌, ℕ, ◌+◌, ◌%◌, ◌^◌, ◌<◌, ◌≤◌, ◌⊎◌, ◌==◌, ◌&&◌, nat_lt, max, if◌then◌else◌, Bool, true, false, List, [], ◌∷◌, ◌++◌, Option, Some, None, Ok, Contains, length, map, slice_get, refl}
 use Rattle.std.proofs.Common.{lit<, lit≤}
 use Rattle.codec_payload_base.specs.declared.wire.Ticks.{Ticks}
-use Rattle.codec_payload_codec.specs.Depack.{Depack, kind_of_depack}
-use Rattle.codec_payload_codec.specs.Pack.{is_built_in}
+use Rattle.codec_payload_codec.specs.Depacketizers.{DepacketizerState, kind_of_depacketizer}
+use Rattle.codec_payload_codec.specs.Packetizers.{is_built_in}
 use Rattle.codec_payload_buffer.specs.declared.buffer.unit.RtpMeta.{RtpMeta}
 use Rattle.codec_payload_runs.specs.Arrivals.{Tells}
 use Rattle.codec_payload_runs.specs.Exact.{AnswersAll}
@@ -94,10 +94,10 @@ is_sent_again_by (Some r) stream = (r.ssrc == stream.ssrc) && (r.payload_type ==
 
 -- a sender of a codec, and the settings and the depacketizer of a receiver of its stream: this reads what the packetizer makes, and
 -- takes the sender's packets for neither RTCP (RFC 5761, section 4) nor another stream, nor for packets that are sent again
-pub record AreOfOneStream (sender : Sending) (settings : Settings) (depack : Depack) : Type 0 where
-  pub built_in : is_built_in sender.pack ≡ true
-  pub alike : kind_of_depack depack ≡ payloads_by sender.pack
-  pub nothing_read : read_by depack ≡ None
+pub record AreOfOneStream (sender : Sending) (settings : Settings) (depacketizer : DepacketizerState) : Type 0 where
+  pub built_in : is_built_in sender.packetizer ≡ true
+  pub alike : kind_of_depacketizer depacketizer ≡ payloads_by sender.packetizer
+  pub nothing_read : read_by depacketizer ≡ None
   pub clock_rate : settings.clock_rate ≡ sender.stream.clock_rate
   pub payload_type : settings.payload_type ≡ sender.stream.payload_type
   pub not_rtcp : (sender.stream.payload_type < 64) ⊎ (95 < sender.stream.payload_type)
@@ -118,10 +118,10 @@ ComeWithin forward backward (k ∷ ks) = (k < 65536) × StayWithin forward backw
 -- comes within the windows
 pub record IsWithinWindows (samples : List Sample) (all_steps : List DatagramStep) (sender : Sending) (receiver : Session) (sends : List SentSample) : Type 0 where
   pub settings : Settings
-  pub depack : Depack
-  pub new : session_by settings depack ≡ Ok receiver
-  pub one_stream : AreOfOneStream sender settings depack
-  pub readable : AreReadable sender.pack samples
+  pub depacketizer : DepacketizerState
+  pub new : session_by settings depacketizer ≡ Ok receiver
+  pub one_stream : AreOfOneStream sender settings depacketizer
+  pub readable : AreReadable sender.packetizer samples
   pub within : ComeWithin settings.forward settings.backward (delivered (received_steps samples 0 all_steps sends))
 
 -- Promises
@@ -147,10 +147,10 @@ pub record AllComeFirst (limit count : ℕ) (received : List DatagramStep) : Typ
 -- packets that were delivered; and where all come before the stream ends, and pops come after, all of them
 pub record ReleasesUnits (samples : List Sample) (all_steps : List DatagramStep) (s t : Wire) : Type 0 where
   pub units : List SentUnit
-  pub canonical : map (λ (u : SentUnit). u.parts) units ≡ units_of_run s.sending.pack samples (sending_steps s.sending.mtu all_steps)
+  pub canonical : map (λ (u : SentUnit). u.parts) units ≡ units_of_run s.sending.packetizer samples (sending_steps s.sending.mtu all_steps)
   pub datagrams : AreDatagrams s.sending.stream (packets_of units) t.datagrams
-  pub ends : AllEndWithTail (payloads_by s.sending.pack) units
-  pub in_order : InOrder (IsDelivery s.sending.stream.clock_rate (received_steps samples 0 all_steps t.sends)) (may_split s.sending.pack) units 0 t.pops
+  pub ends : AllEndWithTail (payloads_by s.sending.packetizer) units
+  pub in_order : InOrder (IsDelivery s.sending.stream.clock_rate (received_steps samples 0 all_steps t.sends)) (may_split s.sending.packetizer) units 0 t.pops
   pub exactly : AllComeFirst s.session.packets.buffer.limit (length t.datagrams) (received_steps samples 0 all_steps t.sends)
       → AnswersAll (IsDelivery s.sending.stream.clock_rate (received_steps samples 0 all_steps t.sends)) 0 units t.pops
 

@@ -1,8 +1,8 @@
 //! The fields of lines.
 
 ghost use Rattle.std.specs.Prelude.{ℕ, ◌≡◌, IsSome, IfSome};
-ghost use Rattle.codec_payload_core.specs.Depack.{depack_for};
-ghost use Rattle.codec_payload_core.specs.Pack.{pack_for};
+ghost use Rattle.codec_payload_core.specs.Depacketizers.{depacketizer_state_for};
+ghost use Rattle.codec_payload_core.specs.Packetizers.{packetizer_state_for};
 ghost use Rattle.payload_vectors.specs.Fields.{codec_of, names_octet_aligned, names_vp8_ids, vp9_mode_of};
 ghost use Rattle.codec_payload_core.specs.declared.interface.Vp9PacketizerMode.{Vp9PacketizerMode as Mode};
 
@@ -12,8 +12,8 @@ use codec_payload_core::wire::Codec;
 /// The codec of that name, if a payloader and a buffer can be made for it.
 pub fn codec_named(name: &str) -> Option<Codec>
     ensures name { result ≡ codec_of name.now }
-    ensures has_packetizer { IfSome result (λ codec. (mode : Mode) (id : ℕ) → IsSome (pack_for mode id codec)) }
-    ensures has_depacketizer { IfSome result (λ codec. IsSome (depack_for codec)) }
+    ensures has_packetizer { IfSome result (λ codec. (mode : Mode) (id : ℕ) → IsSome (packetizer_state_for mode id codec)) }
+    ensures has_depacketizer { IfSome result (λ codec. IsSome (depacketizer_state_for codec)) }
 {
     match name {
         "opus" => Some(Codec::Opus),

@@ -2,8 +2,8 @@
 
 ghost use Rattle.std.specs.Prelude.{ℕ, List, ◌≡◌, ◌∷◌, [], ◌↔◌, ◌≤◌, ◌^◌, map, codes, IsSome, IfSome, IfOk, Some, None};
 ghost use Rattle.std.specs.Str.Parse.{digits_value};
-ghost use Rattle.codec_payload_core.specs.Depack.{depack_for};
-ghost use Rattle.codec_payload_core.specs.Pack.{pack_for};
+ghost use Rattle.codec_payload_core.specs.Depacketizers.{depacketizer_state_for};
+ghost use Rattle.codec_payload_core.specs.Packetizers.{packetizer_state_for};
 ghost use Rattle.payload_vectors.specs.Fields.{AreSetup, IsLimitField};
 
 use crate::fields::{codec_named, has_vp8_ids, is_octet_aligned, vp9_mode};
@@ -43,8 +43,8 @@ pub struct Setup {
     pub first_id: u16,
     ghost number_fits: { first_number ≤ 2 ^ 62 },
     ghost id_fits: { first_id ≤ 32767 },
-    ghost has_packetizer: { IsSome (pack_for vp9_mode first_id codec) },
-    ghost has_depacketizer: { IsSome (depack_for codec) },
+    ghost has_packetizer: { IsSome (packetizer_state_for vp9_mode first_id codec) },
+    ghost has_depacketizer: { IsSome (depacketizer_state_for codec) },
 }
 
 impl Setup {

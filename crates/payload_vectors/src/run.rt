@@ -1,8 +1,8 @@
 //! The program's work, over any reader and writer.
 
 ghost use Rattle.std.specs.Prelude.{◌≡◌, ◌≢◌, ◌≤◌, ◌<◌, ◌^◌, ℕ, [], length, true, false, Some, option_map, IfOk, IfErr, IfSome, OnOk};
-ghost use Rattle.codec_payload_core.specs.Depack.{configured_depack, depack_for};
-ghost use Rattle.codec_payload_core.specs.Pack.{Vp8Pack, configured, pack_for};
+ghost use Rattle.codec_payload_core.specs.Depacketizers.{configured_depacketizer, depacketizer_state_for};
+ghost use Rattle.codec_payload_core.specs.Packetizers.{Vp8Packetizing, configured, packetizer_state_for};
 ghost use Rattle.payload_lines.specs.Ends.{status_of};
 ghost use Rattle.payload_lines.specs.declared.streams.ProgramFault.TheVariants.{BadLine, OutOfMemory, TooLong};
 
@@ -66,14 +66,14 @@ fn codec_spec(setup: &Setup) -> CodecSpec
 /// The payloader that is set up.
 fn payloader(setup: &Setup) -> Payloader
     ensures vp8_ids { setup.now.vp8_ids ≡ true
-        → result ≡ record { pack = Vp8Pack (Some setup.now.first_id); clock_rate = setup.now.rate } }
+        → result ≡ record { packetizer = Vp8Packetizing (Some setup.now.first_id); clock_rate = setup.now.rate } }
     ensures by_codec { setup.now.vp8_ids ≡ false
-        → Some result ≡ option_map (λ pack. record { pack = configured setup.now.octet_align pack; clock_rate = setup.now.rate })
-        (pack_for setup.now.vp9_mode setup.now.first_id setup.now.codec) }
+        → Some result ≡ option_map (λ packetizer. record { packetizer = configured setup.now.octet_align packetizer; clock_rate = setup.now.rate })
+        (packetizer_state_for setup.now.vp9_mode setup.now.first_id setup.now.codec) }
 {
     if setup.vp8_ids {
-        let pack = CodecPacketizer::Vp8(Vp8Packetizer::with_picture_id(setup.first_id));
-        return Payloader::with_packetizer(pack, setup.rate);
+        let packetizer = CodecPacketizer::Vp8(Vp8Packetizer::with_picture_id(setup.first_id));
+        return Payloader::with_packetizer(packetizer, setup.rate);
     }
     Payloader::new(codec_spec(setup), setup.vp9_mode, setup.first_id).unwrap()
 }
@@ -83,11 +83,11 @@ fn buffer(alloc: Global, setup: &Setup, limit: Limit) -> DepacketizingBuffer
     ensures empty { result.held ≡ [] }
     ensures limit { result.limit ≡ limit.packets }
     ensures hold_back { result.hold_back ≡ setup.now.hold_back }
-    ensures depack { Some result.depack ≡ option_map (configured_depack setup.now.octet_align setup.now.rate) (depack_for setup.now.codec) }
+    ensures depacketizer { Some result.depacketizer ≡ option_map (configured_depacketizer setup.now.octet_align setup.now.rate) (depacketizer_state_for setup.now.codec) }
 {
-    let mut depack = CodecDepacketizer::from_codec(alloc, setup.codec).unwrap();
-    depack.configure_for(&codec_spec(setup));
-    DepacketizingBuffer::with_limit(alloc, depack, setup.hold_back, limit.packets)
+    let mut depacketizer = CodecDepacketizer::from_codec(alloc, setup.codec).unwrap();
+    depacketizer.configure_for(&codec_spec(setup));
+    DepacketizingBuffer::with_limit(alloc, depacketizer, setup.hold_back, limit.packets)
 }
 
 /// A sender in RED that has sent nothing.

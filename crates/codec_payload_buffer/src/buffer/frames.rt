@@ -10,17 +10,17 @@ use std::collections::VecDeque;
 
 /// A complete frame: the sequence numbers of its first packet and its last.
 #[derive(Clone, Copy, Debug, PartialEq, Eq)]
-pub struct Segment {
+pub struct CompleteFrame {
     pub first: u64,
     pub last: u64,
 }
 
 /// The frame of a row: from its lowest head to its tail, where it has both.
-pub(super) fn frame_of(row: &Row) -> Option<Segment>
+pub(super) fn frame_of(row: &Row) -> Option<CompleteFrame>
     ensures { result ≡ frame_of_row row.now }
 {
     match row.head {
-        Some(first) if row.tail => Some(Segment {
+        Some(first) if row.tail => Some(CompleteFrame {
             first,
             last: row.last,
         }),
@@ -29,42 +29,42 @@ pub(super) fn frame_of(row: &Row) -> Option<Segment>
 }
 
 /// Where the first frame that ends at that number or above stands or would stand.
-fn find_end(segments: &VecDeque<Segment>, last: u64) -> usize
-    requires { EndsRise segments.now.items }
-    ensures { result ≡ frame_place last segments.now.items }
+fn find_end(complete_frames: &VecDeque<CompleteFrame>, last: u64) -> usize
+    requires { EndsRise complete_frames.now.items }
+    ensures { result ≡ frame_place last complete_frames.now.items }
 {
-    place_of_number(segments, last)
+    place_of_number(complete_frames, last)
 }
 
 /// Takes a frame into the list, in the stead of the one with the same end, if there is one. The room was found before.
-pub(super) fn note(segments: &mut VecDeque<Segment>, frame: Option<Segment>)
-    requires rises { EndsRise segments.old.items }
-    requires room { deque_len segments.old < deque_capacity segments.old }
-    ensures { segments.new.items ≡ noted_if frame segments.old.items }
+pub(super) fn note(complete_frames: &mut VecDeque<CompleteFrame>, frame: Option<CompleteFrame>)
+    requires rises { EndsRise complete_frames.old.items }
+    requires room { deque_len complete_frames.old < deque_capacity complete_frames.old }
+    ensures { complete_frames.new.items ≡ noted_if frame complete_frames.old.items }
 {
     if let Some(frame) = frame {
-        let place = find_end(segments, frame.last);
-        if place < segments.len() && segments[place].last == frame.last {
-            segments[place] = frame;
+        let place = find_end(complete_frames, frame.last);
+        if place < complete_frames.len() && complete_frames[place].last == frame.last {
+            complete_frames[place] = frame;
         } else {
-            segments.insert(place, frame).unwrap();
+            complete_frames.insert(place, frame).unwrap();
         }
     }
 }
 
 /// The lowest frame, if it was there before, becomes the one that is there after, or leaves.
 pub(super) fn mend_first(
-    segments: &mut VecDeque<Segment>,
-    before: Option<Segment>,
-    after: Option<Segment>,
+    complete_frames: &mut VecDeque<CompleteFrame>,
+    before: Option<CompleteFrame>,
+    after: Option<CompleteFrame>,
 )
-    requires { IfSome before (λ _. 0 < deque_len segments.old) }
-    ensures { segments.new.items ≡ first_mended before after segments.old.items }
+    requires { IfSome before (λ _. 0 < deque_len complete_frames.old) }
+    ensures { complete_frames.new.items ≡ first_mended before after complete_frames.old.items }
 {
     match (before, after) {
-        (Some(_), Some(frame)) => segments[0] = frame,
+        (Some(_), Some(frame)) => complete_frames[0] = frame,
         (Some(_), None) => {
-            segments.pop_front();
+            complete_frames.pop_front();
         }
         (None, _) => {}
     }

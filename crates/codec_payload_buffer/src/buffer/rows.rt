@@ -5,7 +5,7 @@ ghost use Rattle.std.specs.VecDeque.{deque_len, deque_capacity};
 ghost use Rattle.codec_payload_buffer.specs.Held.{held_of};
 ghost use Rattle.codec_payload_buffer.specs.Rows.{row_of, meet, joined, join_if, RowsRise, AreLongest, row_place, row_end, put_at, join_at, with_next, row_placed, merged, next_head, shortened, with_row, frame_of_rest, IsHeadKept, IsFirstShort, IsShortened};
 
-use super::frames::{Segment, frame_of};
+use super::frames::{CompleteFrame, frame_of};
 use super::held_packet::HeldPacket;
 use super::search::place_of_number;
 use codec_payload_base::wire::MediaTime;
@@ -182,7 +182,7 @@ fn replace_first(rows: &mut VecDeque<Row>, rest: Option<Row>)
 }
 
 /// The frame of what is left of a row.
-fn frame_of_left(rest: &Option<Row>) -> Option<Segment>
+fn frame_of_left(rest: &Option<Row>) -> Option<CompleteFrame>
     ensures { result ≡ frame_of_rest rest.now }
 {
     match rest {
@@ -196,7 +196,7 @@ fn frame_of_left(rest: &Option<Row>) -> Option<Segment>
 pub(super) fn shorten_first(
     rows: &mut VecDeque<Row>,
     packets: &VecDeque<HeldPacket>,
-) -> (Option<Segment>, Option<Segment>)
+) -> (Option<CompleteFrame>, Option<CompleteFrame>)
     requires { IsFirstShort rows.old.items (map held_of packets.now.items) }
     ensures { IsShortened rows.old.items (map held_of packets.now.items) result.0 result.1 rows.new.items }
 {

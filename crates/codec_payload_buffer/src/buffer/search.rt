@@ -5,7 +5,7 @@ ghost use Rattle.std.specs.List.{AllWithin};
 ghost use Rattle.std.specs.List.Sorted.{IsNonDecreasingBy, IsPartitionPoint};
 ghost use Rattle.std.specs.VecDeque.{deque_len};
 
-use super::frames::Segment;
+use super::frames::CompleteFrame;
 use super::held_packet::HeldPacket;
 use super::rows::Row;
 use std::collections::VecDeque;
@@ -36,7 +36,7 @@ impl Numbered for Row {
 }
 
 /// By their ends.
-impl Numbered for Segment {
+impl Numbered for CompleteFrame {
     ghost number_of = { λ frame. frame.last };
 
     fn number(&self) -> u64 {

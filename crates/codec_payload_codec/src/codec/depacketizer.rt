@@ -1,7 +1,7 @@
 //! A depacketizer of any codec that is there.
 
 ghost use Rattle.std.specs.Prelude.{◌≡◌, option_map, true};
-ghost use Rattle.codec_payload_codec.specs.Depack.{depack_of, depack_for, configured_depack, kind_of_depack, is_built_in_depack, DepackStep, DepackStepTo, numbers_of_depack, head_of, tail_of, hint_of};
+ghost use Rattle.codec_payload_codec.specs.Depacketizers.{depacketizer_state_of, depacketizer_state_for, configured_depacketizer, kind_of_depacketizer, is_built_in_depacketizer, DepacketizerStep, DepacketizerStepTo, numbers_of_depacketizer, head_of, tail_of, hint_of};
 
 use super::boxed::NoBox;
 use codec_payload_audio::amr_wb::AmrWbDepacketizer;
@@ -54,7 +54,7 @@ impl<B> fmt::Debug for CodecDepacketizer<B> {
 impl CodecDepacketizer {
     /// The depacketizer of a codec, or `None` where the codec has none. G.722 is put together as G.711 is.
     pub fn from_codec(alloc: Global, codec: Codec) -> Option<Self>
-        ensures { option_map depack_of result ≡ depack_for codec }
+        ensures { option_map depacketizer_state_of result ≡ depacketizer_state_for codec }
     {
         match codec {
             Codec::PCMU | Codec::PCMA | Codec::G722 => {
@@ -77,7 +77,7 @@ impl<B> CodecDepacketizer<B> {
     /// Takes over what a specification says of payloads: the layout of AMR-WB, and the clock of telephone events. Other
     /// codecs stay as they are.
     pub fn configure_for(&mut self, spec: &CodecSpec)
-        ensures { depack_of self.new ≡ configured_depack spec.now.octet_align spec.now.clock_rate (depack_of self.old) }
+        ensures { depacketizer_state_of self.new ≡ configured_depacketizer spec.now.octet_align spec.now.clock_rate (depacketizer_state_of self.old) }
     {
         match self {
             CodecDepacketizer::AmrWb(d) => d.octet_align = spec.octet_align,
@@ -91,19 +91,19 @@ impl<B> CodecDepacketizer<B> {
 impl<B: Depacketizer> Depacketizer for CodecDepacketizer<B> {
     ghost use Rattle.codec_payload_codec.specs.declared.codec.depacketizer.CodecDepacketizer.TheVariants.{Boxed as BoxedIn};
 
-    ghost state = { elim [ BoxedIn b ↦ B.state b | d ↦ numbers_of_depack (depack_of d) ] };
+    ghost state = { elim [ BoxedIn b ↦ B.state b | d ↦ numbers_of_depacketizer (depacketizer_state_of d) ] };
 
-    ghost depacketize_step = { elim [ BoxedIn b ↦ B.depacketize_step b | d ↦ DepackStepTo (depack_of d) ] };
+    ghost depacketize_step = { elim [ BoxedIn b ↦ B.depacketize_step b | d ↦ DepacketizerStepTo (depacketizer_state_of d) ] };
 
-    ghost size_hint = { elim [ BoxedIn b ↦ B.size_hint b | d ↦ hint_of (depack_of d) ] };
+    ghost size_hint = { elim [ BoxedIn b ↦ B.size_hint b | d ↦ hint_of (depacketizer_state_of d) ] };
 
-    ghost is_head = { elim [ BoxedIn b ↦ B.is_head b | d ↦ head_of (depack_of d) ] };
+    ghost is_head = { elim [ BoxedIn b ↦ B.is_head b | d ↦ head_of (depacketizer_state_of d) ] };
 
-    ghost is_tail = { elim [ BoxedIn b ↦ B.is_tail b | d ↦ tail_of (depack_of d) ] };
+    ghost is_tail = { elim [ BoxedIn b ↦ B.is_tail b | d ↦ tail_of (depacketizer_state_of d) ] };
 
     fn out_size_hint(&self, packets_size: usize) -> Option<usize>
         ensures step { result ≡ ⟦<CodecDepacketizer<B> as Depacketizer>⟧.size_hint self.now packets_size }
-        ensures built_in { is_built_in_depack (depack_of self.now) ≡ true → result ≡ hint_of (depack_of self.now) packets_size }
+        ensures built_in { is_built_in_depacketizer (depacketizer_state_of self.now) ≡ true → result ≡ hint_of (depacketizer_state_of self.now) packets_size }
     {
         match self {
             CodecDepacketizer::G711(d) => d.out_size_hint(packets_size),
@@ -126,8 +126,8 @@ impl<B: Depacketizer> Depacketizer for CodecDepacketizer<B> {
         codec_extra: &mut CodecExtra,
     ) -> Result<(), PacketError>
         ensures step { ⟦<CodecDepacketizer<B> as Depacketizer>⟧.depacketize_step self.old packet.now out.old.items codec_extra.old result (⟦<CodecDepacketizer<B> as Depacketizer>⟧.state self.new) out.new.items codec_extra.new }
-        ensures built_in { DepackStep (depack_of self.old) packet.now out.old.items codec_extra.old result (depack_of self.new) out.new.items codec_extra.new }
-        ensures kind { kind_of_depack (depack_of self.new) ≡ kind_of_depack (depack_of self.old) }
+        ensures built_in { DepacketizerStep (depacketizer_state_of self.old) packet.now out.old.items codec_extra.old result (depacketizer_state_of self.new) out.new.items codec_extra.new }
+        ensures kind { kind_of_depacketizer (depacketizer_state_of self.new) ≡ kind_of_depacketizer (depacketizer_state_of self.old) }
     {
         match self {
             CodecDepacketizer::G711(d) => d.depacketize(packet, out, codec_extra),
@@ -145,7 +145,7 @@ impl<B: Depacketizer> Depacketizer for CodecDepacketizer<B> {
 
     fn is_partition_head(&self, packet: &[u8]) -> bool
         ensures step { result ≡ ⟦<CodecDepacketizer<B> as Depacketizer>⟧.is_head self.now packet.now }
-        ensures built_in { is_built_in_depack (depack_of self.now) ≡ true → result ≡ head_of (depack_of self.now) packet.now }
+        ensures built_in { is_built_in_depacketizer (depacketizer_state_of self.now) ≡ true → result ≡ head_of (depacketizer_state_of self.now) packet.now }
     {
         match self {
             CodecDepacketizer::G711(d) => d.is_partition_head(packet),
@@ -163,7 +163,7 @@ impl<B: Depacketizer> Depacketizer for CodecDepacketizer<B> {
 
     fn is_partition_tail(&self, marker: bool, packet: &[u8]) -> bool
         ensures step { result ≡ ⟦<CodecDepacketizer<B> as Depacketizer>⟧.is_tail self.now marker packet.now }
-        ensures built_in { is_built_in_depack (depack_of self.now) ≡ true → result ≡ tail_of (depack_of self.now) marker packet.now }
+        ensures built_in { is_built_in_depacketizer (depacketizer_state_of self.now) ≡ true → result ≡ tail_of (depacketizer_state_of self.now) marker packet.now }
     {
         match self {
             CodecDepacketizer::G711(d) => d.is_partition_tail(marker, packet),

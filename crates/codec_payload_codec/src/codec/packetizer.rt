@@ -5,7 +5,7 @@ ghost use Rattle.std.specs.Option.{option_copied};
 ghost use Rattle.codec_payload_base.specs.Answers.{packets_of, written, IsWritten};
 ghost use Rattle.codec_payload_base.specs.PayloadLists.{rooms_of};
 ghost use Rattle.codec_payload_base.specs.declared.interface.Vp9PacketizerMode.TheVariants.{NonFlexible};
-ghost use Rattle.codec_payload_codec.specs.Pack.{pack_of, pack_for, configured, is_built_in, PackStep, PackStepTo, MarkerStep, numbers_of_pack, marker_of, talkspurt_of, nackable_of};
+ghost use Rattle.codec_payload_codec.specs.Packetizers.{packetizer_state_of, packetizer_state_for, configured, is_built_in, PacketizerStep, PacketizerStepTo, MarkerStep, numbers_of_packetizer, marker_of, talkspurt_of, nackable_of};
 
 use super::boxed::NoBox;
 use codec_payload_audio::amr_wb::AmrWbPacketizer;
@@ -64,7 +64,7 @@ impl CodecPacketizer {
     /// picture ids.
     pub fn new(codec: Codec, mode: Vp9PacketizerMode, first_id: u16) -> Option<Self>
         requires { first_id ≤ 32767 }
-        ensures { option_map pack_of result ≡ pack_for mode first_id codec }
+        ensures { option_map packetizer_state_of result ≡ packetizer_state_for mode first_id codec }
     {
         match codec {
             Codec::PCMU | Codec::PCMA => Some(CodecPacketizer::G711(G711Packetizer {})),
@@ -83,7 +83,7 @@ impl CodecPacketizer {
 
     /// The same with the non-flexible mode and the picture id 0.
     pub fn from_codec(codec: Codec) -> Option<Self>
-        ensures { option_map pack_of result ≡ pack_for NonFlexible 0 codec }
+        ensures { option_map packetizer_state_of result ≡ packetizer_state_for NonFlexible 0 codec }
     {
         CodecPacketizer::new(codec, Vp9PacketizerMode::NonFlexible, 0)
     }
@@ -92,7 +92,7 @@ impl CodecPacketizer {
 impl<B> CodecPacketizer<B> {
     /// Takes over what a specification says of payloads: the layout of AMR-WB. Other codecs stay as they are.
     pub fn configure_for(&mut self, spec: &CodecSpec)
-        ensures { pack_of self.new ≡ configured spec.now.octet_align (pack_of self.old) }
+        ensures { packetizer_state_of self.new ≡ configured spec.now.octet_align (packetizer_state_of self.old) }
     {
         if let CodecPacketizer::AmrWb(p) = self {
             p.octet_align = spec.octet_align;
@@ -104,15 +104,15 @@ impl<B> CodecPacketizer<B> {
 impl<B: Packetizer> Packetizer for CodecPacketizer<B> {
     ghost use Rattle.codec_payload_codec.specs.declared.codec.packetizer.CodecPacketizer.TheVariants.{Boxed};
 
-    ghost state = { elim [ Boxed b ↦ B.state b | p ↦ numbers_of_pack (pack_of p) ] };
+    ghost state = { elim [ Boxed b ↦ B.state b | p ↦ numbers_of_packetizer (packetizer_state_of p) ] };
 
-    ghost packetize_step = { elim [ Boxed b ↦ B.packetize_step b | p ↦ PackStepTo (pack_of p) ] };
+    ghost packetize_step = { elim [ Boxed b ↦ B.packetize_step b | p ↦ PacketizerStepTo (packetizer_state_of p) ] };
 
-    ghost marker_step = { elim [ Boxed b ↦ B.marker_step b | p ↦ MarkerStep (pack_of p) ] };
+    ghost marker_step = { elim [ Boxed b ↦ B.marker_step b | p ↦ MarkerStep (packetizer_state_of p) ] };
 
-    ghost marks_spurts = { elim [ Boxed b ↦ B.marks_spurts b | p ↦ talkspurt_of (pack_of p) ] };
+    ghost marks_spurts = { elim [ Boxed b ↦ B.marks_spurts b | p ↦ talkspurt_of (packetizer_state_of p) ] };
 
-    ghost may_be_asked_for = { elim [ Boxed b ↦ B.may_be_asked_for b | p ↦ nackable_of (pack_of p) ] };
+    ghost may_be_asked_for = { elim [ Boxed b ↦ B.may_be_asked_for b | p ↦ nackable_of (packetizer_state_of p) ] };
 
     fn packetize(
         &mut self,
@@ -121,7 +121,7 @@ impl<B: Packetizer> Packetizer for CodecPacketizer<B> {
         b: &[u8],
     ) -> Result<Vec<Vec<u8>>, PacketError>
         ensures step { ⟦<CodecPacketizer<B> as Packetizer>⟧.packetize_step self.old mtu b.now (packets_of result) (⟦<CodecPacketizer<B> as Packetizer>⟧.state self.new) }
-        ensures built_in { PackStep (pack_of self.old) mtu b.now (packets_of result) (pack_of self.new) }
+        ensures built_in { PacketizerStep (packetizer_state_of self.old) mtu b.now (packets_of result) (packetizer_state_of self.new) }
     {
         match self {
             CodecPacketizer::G711(p) => p.packetize(alloc, mtu, b),
@@ -146,7 +146,7 @@ impl<B: Packetizer> Packetizer for CodecPacketizer<B> {
         out: &mut Payloads,
     ) -> Result<(), PacketError>
         ensures step { IsWritten (λ answer. ⟦<CodecPacketizer<B> as Packetizer>⟧.packetize_step self.old mtu b.now answer (⟦<CodecPacketizer<B> as Packetizer>⟧.state self.new)) result out.new.payloads }
-        ensures built_in { is_built_in (pack_of self.old) ≡ true → PackStep (pack_of self.old) mtu b.now (written result out.new.payloads) (pack_of self.new) }
+        ensures built_in { is_built_in (packetizer_state_of self.old) ≡ true → PacketizerStep (packetizer_state_of self.old) mtu b.now (written result out.new.payloads) (packetizer_state_of self.new) }
         ensures fault { OnErr result (out.new.payloads ≡ []) }
         ensures rooms { rooms_of out.new ≡ rooms_of out.old }
     {
@@ -167,8 +167,8 @@ impl<B: Packetizer> Packetizer for CodecPacketizer<B> {
 
     fn is_marker(&mut self, data: &[u8], previous: Option<&[u8]>, last: bool) -> bool
         ensures step { ⟦<CodecPacketizer<B> as Packetizer>⟧.marker_step self.old «data».now (option_copied previous.entry) last result (⟦<CodecPacketizer<B> as Packetizer>⟧.state self.new) }
-        ensures built_in { is_built_in (pack_of self.old) ≡ true → result ≡ marker_of (pack_of self.old) last }
-        ensures same { pack_of self.new ≡ pack_of self.old }
+        ensures built_in { is_built_in (packetizer_state_of self.old) ≡ true → result ≡ marker_of (packetizer_state_of self.old) last }
+        ensures same { packetizer_state_of self.new ≡ packetizer_state_of self.old }
     {
         match self {
             CodecPacketizer::G711(p) => p.is_marker(data, previous, last),
@@ -187,7 +187,7 @@ impl<B: Packetizer> Packetizer for CodecPacketizer<B> {
 
     fn marks_talkspurt(&self) -> bool
         ensures step { result ≡ ⟦<CodecPacketizer<B> as Packetizer>⟧.marks_spurts self.now }
-        ensures built_in { is_built_in (pack_of self.now) ≡ true → result ≡ talkspurt_of (pack_of self.now) }
+        ensures built_in { is_built_in (packetizer_state_of self.now) ≡ true → result ≡ talkspurt_of (packetizer_state_of self.now) }
     {
         match self {
             CodecPacketizer::G711(p) => p.marks_talkspurt(),
@@ -206,7 +206,7 @@ impl<B: Packetizer> Packetizer for CodecPacketizer<B> {
 
     fn nackable(&self) -> bool
         ensures step { result ≡ ⟦<CodecPacketizer<B> as Packetizer>⟧.may_be_asked_for self.now }
-        ensures built_in { is_built_in (pack_of self.now) ≡ true → result ≡ nackable_of (pack_of self.now) }
+        ensures built_in { is_built_in (packetizer_state_of self.now) ≡ true → result ≡ nackable_of (packetizer_state_of self.now) }
     {
         match self {
             CodecPacketizer::G711(p) => p.nackable(),

@@ -11,4 +11,4 @@ returns-clause-ok g c =
     let bytes : c.in_ok-payload.payload.items ≡ c.args.packet.now.payload.items = search rules in
     let known : RtpMeta = record (meta_of_push c.args.place c.args.clock_rate (packet_of c.args.packet.now)) { time = c.new.result } in
     let meta : known ≡ meta_of_push c.args.place c.args.clock_rate (packet_of c.args.packet.now) = search rules in
-    on_ok c.push.result (λ pushed. (pushed.0, arrived_as c.args.buffer.now.depack known _ _ _ pushed.0 meta bytes pushed.1, pushed.2)) c.push.ensures.ok
+    on_ok c.push.result (λ pushed. (pushed.0, arrived_as c.args.buffer.now.depacketizer known _ _ _ pushed.0 meta bytes pushed.1, pushed.2)) c.push.ensures.ok

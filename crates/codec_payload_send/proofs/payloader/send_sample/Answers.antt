@@ -1,7 +1,7 @@
 use Rattle.std.proofs.Common.{inl, inr, refl, Some, None, rules, ◌≡◌, ◌∷◌, ◌+◌, [], length, map, ◌∙◌, ◌%◌, ◌^◌}
 use Rattle.std.proofs.lemmas.List.{nil_from_length}
 use Rattle.std.proofs.lemmas.Result.{err_from_is_err_and}
-use Rattle.codec_payload_codec.specs.Pack.{pack_of, is_built_in}
+use Rattle.codec_payload_codec.specs.Packetizers.{packetizer_state_of, is_built_in}
 use Rattle.codec_payload_send.specs.Sending.{sample_of, rtp_time_at}
 use Rattle.std.specs.Vec.Iter.{into_iter_items}
 use Rattle.codec_payload_send.proofs.OwnSendLemmas.{still_own_cut, own_next}
@@ -27,8 +27,8 @@ loop-payload-preserved g c =
       kept = g.met.S.PacketSink.keeps_on _ _ _ c.loop-payload.invariant.kept c.send_payload.ensures.kept;
       counted = search rules;
       placed = search rules;
-      so_far = next_so_far g.S.PacketSink.accepts g.S.PacketSink.sent g.S.PacketSink.next c.args.sink.now _ (pack_of c.packetize.new.self)
-          (pack_of c.loop-payload.pack) (sample_of c.args.sample.now)
+      so_far = next_so_far g.S.PacketSink.accepts g.S.PacketSink.sent g.S.PacketSink.next c.args.sink.now _ (packetizer_state_of c.packetize.new.self)
+          (packetizer_state_of c.loop-payload.packetizer) (sample_of c.args.sample.now)
           (c.numer.result % 2 ^ 32) _ _ _ _ c.len-count.result c.for_packet-ext_vals.result c.loop-payload.sink c.send_payload.new.sink
           split many c.for_packet-ext_vals.ensures c.loop-payload.invariant.same c.loop-payload.invariant.so_far c.in_ok-send_payload.ensures.ok;
       own = λ b is.
@@ -48,17 +48,17 @@ loop-payload-preserved g c =
 pub returns-clause-ok : goal.returns-clause-ok
 returns-clause-ok g c =
     let none_left : into_iter_items c.loop-payload.payload-iterator ≡ [] = nil_from_length _ (c.loop-payload.invariant.counted ∙ c.in-None.ensures.steps.0) in
-    let pack : pack_of c.loop-payload.pack ≡ pack_of c.packetize.new.self = c.loop-payload.invariant.same in
+    let packetizer : packetizer_state_of c.loop-payload.packetizer ≡ packetizer_state_of c.packetize.new.self = c.loop-payload.invariant.same in
     let time : rtp_time_at c.args.clock_rate c.args.sample.now.rtp_time ≡ c.numer.result % 2 ^ 32 = search rules in
     let bytes : c.deref.result.now ≡ c.args.sample.now.bytes.items = search rules in
     let items : into_iter_items c.into_iter-payload-iterator.result ≡ c.in_ok-payloads.payloads.items = search rules in
-    let all : SentSoFar (is_built_in (pack_of c.packetize.new.self)) g.S.PacketSink.accepts g.S.PacketSink.sent g.S.PacketSink.next c.args.sink.now _ []
+    let all : SentSoFar (is_built_in (packetizer_state_of c.packetize.new.self)) g.S.PacketSink.accepts g.S.PacketSink.sent g.S.PacketSink.next c.args.sink.now _ []
         c.loop-payload.sink = rw none_left at c.loop-payload.invariant.so_far in
     record {
       payloads = map (λ p. p.items) (into_iter_items c.into_iter-payload-iterator.result);
-      packetized = rw (items, pack, ← bytes) c.in_ok-payloads.ensures.built_in;
+      packetized = rw (items, packetizer, ← bytes) c.in_ok-payloads.ensures.built_in;
       packets = all.begun;
-      are = rw (pack, time) (all_so_far (is_built_in (pack_of c.packetize.new.self)) g.S.PacketSink.accepts g.S.PacketSink.sent g.S.PacketSink.next _ _ _ all);
+      are = rw (packetizer, time) (all_so_far (is_built_in (packetizer_state_of c.packetize.new.self)) g.S.PacketSink.accepts g.S.PacketSink.sent g.S.PacketSink.next _ _ _ all);
       images = all.images;
       sends = all.sends;
       gained = all.gained;
@@ -71,21 +71,21 @@ returns-in_err-send_payload-clause-err g c =
     let exit = err_from_is_err_and c.from_residual-in_err-send_payload.result c.from_residual-in_err-send_payload.ensures.1 in
     let split : into_iter_items c.loop-payload.payload-iterator ≡ c.in-Some.payload ∷ into_iter_items c.next.new.self = search rules in
     let many : c.len-count.result ≡ c.loop-payload.place + 1 + length (into_iter_items c.next.new.self) = search rules in
-    let here : pack_of c.loop-payload.pack ≡ pack_of c.packetize.new.self = c.loop-payload.invariant.same in
-    let pack : pack_of c.send_payload.new.pack ≡ pack_of c.packetize.new.self = c.send_payload.ensures.same ∙ here in
+    let here : packetizer_state_of c.loop-payload.packetizer ≡ packetizer_state_of c.packetize.new.self = c.loop-payload.invariant.same in
+    let packetizer : packetizer_state_of c.send_payload.new.packetizer ≡ packetizer_state_of c.packetize.new.self = c.send_payload.ensures.same ∙ here in
     let time : rtp_time_at c.args.clock_rate c.args.sample.now.rtp_time ≡ c.numer.result % 2 ^ 32 = search rules in
     let bytes : c.deref.result.now ≡ c.args.sample.now.bytes.items = search rules in
     let items : into_iter_items c.into_iter-payload-iterator.result ≡ c.in_ok-payloads.payloads.items = search rules in
-    let refused = refused_so_far sink.accepts sink.refuses sink.sent sink.next c.args.sink.now _ (pack_of c.packetize.new.self) (pack_of c.loop-payload.pack)
+    let refused = refused_so_far sink.accepts sink.refuses sink.sent sink.next c.args.sink.now _ (packetizer_state_of c.packetize.new.self) (packetizer_state_of c.loop-payload.packetizer)
         (sample_of c.args.sample.now) (c.numer.result % 2 ^ 32) _ _ _ _ c.len-count.result c.for_packet-ext_vals.result c.loop-payload.sink c.send_payload.new.sink
     c.in_err-send_payload.field-0.0 split many c.for_packet-ext_vals.ensures here c.loop-payload.invariant.so_far c.in_err-send_payload.ensures.err in
     rw (exit.1, exit.2) (inr (record {
       payloads = map (λ p. p.items) (into_iter_items c.into_iter-payload-iterator.result);
-      packetized = rw (items, pack, ← bytes) c.in_ok-payloads.ensures.built_in;
+      packetized = rw (items, packetizer, ← bytes) c.in_ok-payloads.ensures.built_in;
       begun = refused.begun;
       refused = refused.refused;
       left = refused.left;
-      whole = rw (pack, time) refused.whole;
+      whole = rw (packetizer, time) refused.whole;
       images = refused.images;
       mid = refused.mid;
       sends = refused.sends;
@@ -100,7 +100,7 @@ returns-clause-own g c = λ before is.
     let time : rtp_time_at c.args.clock_rate c.args.sample.now.rtp_time ≡ c.numer.result % 2 ^ 32 = search rules in
     let bytes : c.deref.result.now ≡ c.args.sample.now.bytes.items = search rules in
     let items : into_iter_items c.into_iter-payload-iterator.result ≡ c.in_ok-payloads.payloads.items = search rules in
-    let cut = still_own_cut c.args.pack.now c.packetize.new.self before _ _ _ is c.packetize.ensures.built_in in
+    let cut = still_own_cut c.args.packetizer.now c.packetize.new.self before _ _ _ is c.packetize.ensures.built_in in
     let now = c.loop-payload.invariant.own cut.0 cut.1 in (
       now.0,
       now.1,
@@ -116,7 +116,7 @@ pub returns-in_err-payloads-clause-own : goal.returns-in_err-payloads-clause-own
 returns-in_err-payloads-clause-own g c = λ before is.
     let exit = err_from_is_err_and c.from_residual.result c.from_residual.ensures.1 in
     let bytes : c.deref.result.now ≡ c.args.sample.now.bytes.items = search rules in
-    let cut = still_own_cut c.args.pack.now c.packetize.new.self before _ _ _ is c.packetize.ensures.built_in in
+    let cut = still_own_cut c.args.packetizer.now c.packetize.new.self before _ _ _ is c.packetize.ensures.built_in in
     (cut.0, cut.1, rw (exit.1, exit.2) (inl (rw (bytes, is, cut.1) at c.in_err-payloads.ensures.step, refl)))
 
 pub returns-in_err-send_payload-clause-own : goal.returns-in_err-send_payload-clause-own
@@ -127,7 +127,7 @@ returns-in_err-send_payload-clause-own g c = λ before is.
     let time : rtp_time_at c.args.clock_rate c.args.sample.now.rtp_time ≡ c.numer.result % 2 ^ 32 = search rules in
     let bytes : c.deref.result.now ≡ c.args.sample.now.bytes.items = search rules in
     let items : into_iter_items c.into_iter-payload-iterator.result ≡ c.in_ok-payloads.payloads.items = search rules in
-    let cut = still_own_cut c.args.pack.now c.packetize.new.self before _ _ _ is c.packetize.ensures.built_in in
+    let cut = still_own_cut c.args.packetizer.now c.packetize.new.self before _ _ _ is c.packetize.ensures.built_in in
     let now = c.loop-payload.invariant.own cut.0 cut.1 in
     let one = c.send_payload.ensures.own now.0 now.1 in (
       one.0,

@@ -1,11 +1,11 @@
 use Rattle.std.proofs.Common.{◌≡◌, ◌≤◌, List, length}
 use Rattle.codec_payload_buffer.specs.Steps.{Passes}
-use Rattle.codec_payload_buffer.specs.declared.buffer.frames.Segment.{Segment}
+use Rattle.codec_payload_buffer.specs.declared.buffer.frames.CompleteFrame.{CompleteFrame}
 use Rattle.codec_payload_buffer.proofs.buffer.DepacketizingBuffer.pop_into.Given as goal
 
 abbrev pub invariant-loop-frame : goal.invariant-loop-frame
 invariant-loop-frame g l = record {
-  over : List Segment;
+  over : List CompleteFrame;
   -- these frames were passed over so far
   passes : Passes l.initial.self over l.self;
   -- none came

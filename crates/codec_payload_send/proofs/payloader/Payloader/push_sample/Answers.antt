@@ -1,15 +1,15 @@
 use Rattle.std.proofs.Common.{◌≡◌, ◌∙◌, ap, subst, ℕ}
-use Rattle.codec_payload_codec.specs.Pack.{pack_of, is_built_in}
+use Rattle.codec_payload_codec.specs.Packetizers.{packetizer_state_of, is_built_in}
 use Rattle.codec_payload_send.specs.OwnSending.{OwnSample}
 use Rattle.codec_payload_send.specs.Sending.{sample_of}
-use Rattle.codec_payload_send.proofs.OwnSendLemmas.{own_pack}
+use Rattle.codec_payload_send.proofs.OwnSendLemmas.{own_packetizer}
 use Rattle.codec_payload_send.proofs.payloader.Payloader.push_sample.Goals as goal
 
 pub returns-clause-own : goal.returns-clause-own
 returns-clause-own g c = λ other.
-    let view : pack_of c.self.inside.pack ≡ c.args.self.now.pack = ap (λ p. p.pack) c.self.view_is in
+    let view : packetizer_state_of c.self.inside.packetizer ≡ c.args.self.now.packetizer = ap (λ p. p.packetizer) c.self.view_is in
     let clock : c.self.inside.clock_rate ≡ c.args.self.now.clock_rate = ap (λ p. p.clock_rate) c.self.view_is in
-    let before = own_pack c.self.inside.pack (ap is_built_in view ∙ other) in
+    let before = own_packetizer c.self.inside.packetizer (ap is_built_in view ∙ other) in
     let own = c.send_sample.ensures.own before.0 before.1 in (
       before.0,
       own.0,

@@ -7,7 +7,7 @@ use Rattle.codec_payload_audio.specs.Payloads.{Appends, AppendsSome}
 use Rattle.codec_payload_base.specs.TelephoneReport.{TakesFirst}
 use Rattle.codec_payload_base.specs.declared.error.PacketError.{PacketError}
 use Rattle.codec_payload_base.specs.declared.interface.CodecExtra.{CodecExtra}
-use Rattle.codec_payload_codec.specs.Depack.{Depack, G711Depack, OpusDepack, ComfortNoiseDepack, TeleDepack, NullDepack, Vp8Depack, Vp9Depack, Av1Depack, AmrWbDepack, BoxedDepack, is_built_in_depack, DepackStep}
+use Rattle.codec_payload_codec.specs.Depacketizers.{DepacketizerState, G711Depacketizing, OpusDepacketizing, ComfortNoiseDepacketizing, TeleDepacketizing, NullDepacketizing, Vp8Depacketizing, Vp9Depacketizing, Av1Depacketizing, AmrWbDepacketizing, BoxedDepacketizing, is_built_in_depacketizer, DepacketizerStep}
 use Rattle.codec_payload_buffer.specs.Held.{Held}
 use Rattle.codec_payload_buffer.specs.Steps.{Unpacked, Unpacks}
 use Rattle.codec_payload_av1.specs.Av1Steps.{Av1Step}
@@ -86,38 +86,38 @@ amr_wb_same octet payload out extra o p x y a b =
     let frames : a.0 ≡ b.0 = cc in
     (a.2 ∙ ap (λ (zs : List ℕ). out ++ bytes_of zs) frames ∙ sym b.2, a.3 ∙ sym b.3)
 
-step_same : (d : Depack) (payload out : List ℕ) (extra : CodecExtra) (e f : Depack) (o p : List ℕ) (x y : CodecExtra) → is_built_in_depack d ≡ true
-    → DepackStep d payload out extra (Ok tt) e o x → DepackStep d payload out extra (Ok tt) f p y → (e ≡ f) × (o ≡ p) × (x ≡ y)
-step_same G711Depack payload out extra e f o p x y built_in a b = let same = appends_same payload out extra o p x y a.0 b.0 in (a.1 ∙ sym b.1, same.0, same.1)
-step_same OpusDepack payload out extra e f o p x y built_in a b = let same = appends_same payload out extra o p x y a.0 b.0 in (a.1 ∙ sym b.1, same.0, same.1)
-step_same NullDepack payload out extra e f o p x y built_in a b = let same = appends_same payload out extra o p x y a.0 b.0 in (a.1 ∙ sym b.1, same.0, same.1)
-step_same ComfortNoiseDepack payload out extra e f o p x y built_in a b = let same = some_same payload out extra o p x y a.0 b.0 in (a.1 ∙ sym b.1, same.0, same.1)
-step_same (TeleDepack rate) payload out extra e f o p x y built_in a b = let same = first_same rate payload out o p x y a.0.1 b.0.1 in (a.1 ∙ sym b.1, same.0, same.1)
-step_same (AmrWbDepack octet) payload out extra e f o p x y built_in a b = let same = amr_wb_same octet payload out extra o p x y a.0 b.0 in (a.1 ∙ sym b.1, same.0, same.1)
-step_same (Vp8Depack d) payload out extra e f o p x y built_in a b =
+step_same : (d : DepacketizerState) (payload out : List ℕ) (extra : CodecExtra) (e f : DepacketizerState) (o p : List ℕ) (x y : CodecExtra) → is_built_in_depacketizer d ≡ true
+    → DepacketizerStep d payload out extra (Ok tt) e o x → DepacketizerStep d payload out extra (Ok tt) f p y → (e ≡ f) × (o ≡ p) × (x ≡ y)
+step_same G711Depacketizing payload out extra e f o p x y built_in a b = let same = appends_same payload out extra o p x y a.0 b.0 in (a.1 ∙ sym b.1, same.0, same.1)
+step_same OpusDepacketizing payload out extra e f o p x y built_in a b = let same = appends_same payload out extra o p x y a.0 b.0 in (a.1 ∙ sym b.1, same.0, same.1)
+step_same NullDepacketizing payload out extra e f o p x y built_in a b = let same = appends_same payload out extra o p x y a.0 b.0 in (a.1 ∙ sym b.1, same.0, same.1)
+step_same ComfortNoiseDepacketizing payload out extra e f o p x y built_in a b = let same = some_same payload out extra o p x y a.0 b.0 in (a.1 ∙ sym b.1, same.0, same.1)
+step_same (TeleDepacketizing rate) payload out extra e f o p x y built_in a b = let same = first_same rate payload out o p x y a.0.1 b.0.1 in (a.1 ∙ sym b.1, same.0, same.1)
+step_same (AmrWbDepacketizing octet) payload out extra e f o p x y built_in a b = let same = amr_wb_same octet payload out extra o p x y a.0 b.0 in (a.1 ∙ sym b.1, same.0, same.1)
+step_same (Vp8Depacketizing d) payload out extra e f o p x y built_in a b =
     let same = vp8_same d payload out extra a.0 b.0 o p x y a.1 b.1 in
-    (a.2 ∙ ap Vp8Depack same.0 ∙ sym b.2, same.1, same.2)
-step_same (Vp9Depack d) payload out extra e f o p x y built_in a b =
+    (a.2 ∙ ap Vp8Depacketizing same.0 ∙ sym b.2, same.1, same.2)
+step_same (Vp9Depacketizing d) payload out extra e f o p x y built_in a b =
     let same = vp9_same d payload out extra a.0 b.0 o p x y a.1 b.1 in
-    (a.2 ∙ ap Vp9Depack same.0 ∙ sym b.2, same.1, same.2)
-step_same (Av1Depack pending) payload out extra e f o p x y built_in a b =
+    (a.2 ∙ ap Vp9Depacketizing same.0 ∙ sym b.2, same.1, same.2)
+step_same (Av1Depacketizing pending) payload out extra e f o p x y built_in a b =
     let same = av1_same pending payload out extra a.0 b.0 o p x y a.1 b.1 in
-    (a.2 ∙ ap Av1Depack same.0 ∙ sym b.2, same.1, same.2)
-step_same BoxedDepack payload out extra e f o p x y built_in a b = absurd (cc)
+    (a.2 ∙ ap Av1Depacketizing same.0 ∙ sym b.2, same.1, same.2)
+step_same BoxedDepacketizing payload out extra e f o p x y built_in a b = absurd (cc)
 
 -- the depacketizer of a codec stays one
-still_built_in : (d : Depack) (payload out : List ℕ) (extra : CodecExtra) (x : Unit {0}) (e : Depack) (out' : List ℕ) (extra' : CodecExtra)
-    → is_built_in_depack d ≡ true → DepackStep d payload out extra (Ok x) e out' extra' → is_built_in_depack e ≡ true
-still_built_in G711Depack payload out extra x e out' extra' built_in a = ap is_built_in_depack a.1
-still_built_in OpusDepack payload out extra x e out' extra' built_in a = ap is_built_in_depack a.1
-still_built_in NullDepack payload out extra x e out' extra' built_in a = ap is_built_in_depack a.1
-still_built_in ComfortNoiseDepack payload out extra x e out' extra' built_in a = ap is_built_in_depack a.1
-still_built_in (TeleDepack rate) payload out extra x e out' extra' built_in a = ap is_built_in_depack a.1
-still_built_in (AmrWbDepack octet) payload out extra x e out' extra' built_in a = ap is_built_in_depack a.1
-still_built_in (Vp8Depack d) payload out extra x e out' extra' built_in a = ap is_built_in_depack a.2
-still_built_in (Vp9Depack d) payload out extra x e out' extra' built_in a = ap is_built_in_depack a.2
-still_built_in (Av1Depack pending) payload out extra x e out' extra' built_in a = ap is_built_in_depack a.2
-still_built_in BoxedDepack payload out extra x e out' extra' built_in a = absurd (cc)
+still_built_in : (d : DepacketizerState) (payload out : List ℕ) (extra : CodecExtra) (x : Unit {0}) (e : DepacketizerState) (out' : List ℕ) (extra' : CodecExtra)
+    → is_built_in_depacketizer d ≡ true → DepacketizerStep d payload out extra (Ok x) e out' extra' → is_built_in_depacketizer e ≡ true
+still_built_in G711Depacketizing payload out extra x e out' extra' built_in a = ap is_built_in_depacketizer a.1
+still_built_in OpusDepacketizing payload out extra x e out' extra' built_in a = ap is_built_in_depacketizer a.1
+still_built_in NullDepacketizing payload out extra x e out' extra' built_in a = ap is_built_in_depacketizer a.1
+still_built_in ComfortNoiseDepacketizing payload out extra x e out' extra' built_in a = ap is_built_in_depacketizer a.1
+still_built_in (TeleDepacketizing rate) payload out extra x e out' extra' built_in a = ap is_built_in_depacketizer a.1
+still_built_in (AmrWbDepacketizing octet) payload out extra x e out' extra' built_in a = ap is_built_in_depacketizer a.1
+still_built_in (Vp8Depacketizing d) payload out extra x e out' extra' built_in a = ap is_built_in_depacketizer a.2
+still_built_in (Vp9Depacketizing d) payload out extra x e out' extra' built_in a = ap is_built_in_depacketizer a.2
+still_built_in (Av1Depacketizing pending) payload out extra x e out' extra' built_in a = ap is_built_in_depacketizer a.2
+still_built_in BoxedDepacketizing payload out extra x e out' extra' built_in a = absurd (cc)
 
 unpacked_same : (u v : Unpacked) → u.bytes ≡ v.bytes → u.extra ≡ v.extra → u ≡ v
 unpacked_same u v a b = ap (λ (n : List ℕ). unpacked n u.extra) a ∙ ap (λ (x : CodecExtra). unpacked v.bytes x) b
@@ -126,18 +126,19 @@ unpacked_same u v a b = ap (λ (n : List ℕ). unpacked n u.extra) a ∙ ap (λ 
     unpacked n x = record { bytes = n; extra = x }
 
 -- what is put together from payloads of a codec is fixed
-pub unpacks_same : (d : Depack) (ps : List Held) (u n m : Unpacked) (e f : Depack) → is_built_in_depack d ≡ true → Unpacks d ps u (Ok n) e → Unpacks d ps u (Ok m) f → (n ≡ m) × (e ≡ f)
+pub unpacks_same : (d : DepacketizerState) (ps : List Held) (u n m : Unpacked) (e f : DepacketizerState) → is_built_in_depacketizer d ≡ true
+    → Unpacks d ps u (Ok n) e → Unpacks d ps u (Ok m) f → (n ≡ m) × (e ≡ f)
 unpacks_same d [] u n m e f built_in x y = let i : n ≡ u = cc in let j : m ≡ u = cc in (i ∙ sym j, x.1 ∙ sym y.1)
 unpacks_same d (p ∷ ps) u n m e f built_in x y = cases (λ c v kept x y. unpacks_same c ps v n m e f kept x y) x.0 y.0 x.1 y.1 x.2 y.2 x.3 y.3 x.4 y.4
   where
-    cases : ((c : Depack) (v : Unpacked) → is_built_in_depack c ≡ true → Unpacks c ps v (Ok n) e → Unpacks c ps v (Ok m) f → (n ≡ m) × (e ≡ f))
-        → (a b : Result (Unit {0}) PacketError) (c k : Depack) (v w : Unpacked)
-        → DepackStep d p.bytes u.bytes u.extra a c v.bytes v.extra → DepackStep d p.bytes u.bytes u.extra b k w.bytes w.extra
+    cases : ((c : DepacketizerState) (v : Unpacked) → is_built_in_depacketizer c ≡ true → Unpacks c ps v (Ok n) e → Unpacks c ps v (Ok m) f → (n ≡ m) × (e ≡ f))
+        → (a b : Result (Unit {0}) PacketError) (c k : DepacketizerState) (v w : Unpacked)
+        → DepacketizerStep d p.bytes u.bytes u.extra a c v.bytes v.extra → DepacketizerStep d p.bytes u.bytes u.extra b k w.bytes w.extra
         → MatchResult a (λ _. Unpacks c ps v (Ok n) e) (λ fault. (Ok n ≡ Err fault) × (e ≡ c))
             → MatchResult b (λ _. Unpacks k ps w (Ok m) f) (λ fault. (Ok m ≡ Err fault) × (f ≡ k)) → (n ≡ m) × (e ≡ f)
     cases again (Ok _) (Ok _) c k v w i j x y =
         let same = step_same d p.bytes u.bytes u.extra c k v.bytes w.bytes v.extra w.extra built_in i j in
         again c v (still_built_in d p.bytes u.bytes u.extra tt c v.bytes v.extra built_in i) x
-            (subst (λ (z : Depack). Unpacks z ps v (Ok m) f) (sym same.0) (subst (λ (z : Unpacked). Unpacks k ps z (Ok m) f) (sym (unpacked_same v w same.1 same.2)) y))
+            (subst (λ (z : DepacketizerState). Unpacks z ps v (Ok m) f) (sym same.0) (subst (λ (z : Unpacked). Unpacks k ps z (Ok m) f) (sym (unpacked_same v w same.1 same.2)) y))
     cases again (Err a) b c k v w i j x y = let no = x.0 in absurd (cc)
     cases again (Ok a) (Err b) c k v w i j x y = let no = y.0 in absurd (cc)

@@ -1,6 +1,5 @@
 use Rattle.codec_payload_buffer.proofs.FrameLemmas.{are_frames, are_in_order, are_apart, are_only_list}
-use Rattle.codec_payload_buffer.proofs.LongestRowLemmas.{both_say_same}
-use Rattle.codec_payload_buffer.proofs.buffer.frames_of_set.Goals as goal
+use Rattle.codec_payload_buffer.proofs.buffer.laws.frames_of_set.Goals as goal
 
 pub returns-clause-same : goal.returns-clause-same
 returns-clause-same c = are_frames
@@ -13,6 +12,3 @@ returns-clause-apart c = are_apart
 
 pub returns-clause-only : goal.returns-clause-only
 returns-clause-only c = are_only_list
-
-pub returns-clause-longest : goal.returns-clause-longest
-returns-clause-longest c = both_say_same
