@@ -7,7 +7,8 @@ use Rattle.codec_payload_audio.specs.Payloads.{Appends, AppendsSome}
 use Rattle.codec_payload_base.specs.TelephoneReport.{TakesFirst}
 use Rattle.codec_payload_base.specs.declared.error.PacketError.{PacketError}
 use Rattle.codec_payload_base.specs.declared.interface.CodecExtra.{CodecExtra}
-use Rattle.codec_payload_codec.specs.Depacketizers.{DepacketizerState, G711Depacketizing, OpusDepacketizing, ComfortNoiseDepacketizing, TeleDepacketizing, NullDepacketizing, Vp8Depacketizing, Vp9Depacketizing, Av1Depacketizing, AmrWbDepacketizing, BoxedDepacketizing, is_built_in_depacketizer, DepacketizerStep}
+use Rattle.codec_payload_codec.specs.Depacketizers.{DepacketizerState, G711Depacketizing, OpusDepacketizing, ComfortNoiseDepacketizing, TeleDepacketizing, NullDepacketizing, Vp8Depacketizing}
+use Rattle.codec_payload_codec.specs.Depacketizers.{Vp9Depacketizing, Av1Depacketizing, AmrWbDepacketizing, BoxedDepacketizing, is_built_in_depacketizer, DepacketizerStep}
 use Rattle.codec_payload_buffer.specs.Held.{Held}
 use Rattle.codec_payload_buffer.specs.Steps.{Unpacked, Unpacks}
 use Rattle.codec_payload_av1.specs.Av1Steps.{Av1Step}
@@ -135,10 +136,10 @@ unpacks_same d (p ∷ ps) u n m e f built_in x y = cases (λ c v kept x y. unpac
         → (a b : Result (Unit {0}) PacketError) (c k : DepacketizerState) (v w : Unpacked)
         → DepacketizerStep d p.bytes u.bytes u.extra a c v.bytes v.extra → DepacketizerStep d p.bytes u.bytes u.extra b k w.bytes w.extra
         → MatchResult a (λ _. Unpacks c ps v (Ok n) e) (λ fault. (Ok n ≡ Err fault) × (e ≡ c))
-            → MatchResult b (λ _. Unpacks k ps w (Ok m) f) (λ fault. (Ok m ≡ Err fault) × (f ≡ k)) → (n ≡ m) × (e ≡ f)
+        → MatchResult b (λ _. Unpacks k ps w (Ok m) f) (λ fault. (Ok m ≡ Err fault) × (f ≡ k)) → (n ≡ m) × (e ≡ f)
     cases again (Ok _) (Ok _) c k v w i j x y =
         let same = step_same d p.bytes u.bytes u.extra c k v.bytes w.bytes v.extra w.extra built_in i j in
         again c v (still_built_in d p.bytes u.bytes u.extra tt c v.bytes v.extra built_in i) x
-            (subst (λ (z : DepacketizerState). Unpacks z ps v (Ok m) f) (sym same.0) (subst (λ (z : Unpacked). Unpacks k ps z (Ok m) f) (sym (unpacked_same v w same.1 same.2)) y))
+        (subst (λ (z : DepacketizerState). Unpacks z ps v (Ok m) f) (sym same.0) (subst (λ (z : Unpacked). Unpacks k ps z (Ok m) f) (sym (unpacked_same v w same.1 same.2)) y))
     cases again (Err a) b c k v w i j x y = let no = x.0 in absurd (cc)
     cases again (Ok a) (Err b) c k v w i j x y = let no = y.0 in absurd (cc)

@@ -4,7 +4,8 @@ use Rattle.std.specs.Prelude.{Contains}
 use Rattle.std.proofs.lemmas.Bool.{cases_lt}
 use Rattle.codec_payload_buffer.specs.declared.buffer.frames.CompleteFrame.{CompleteFrame}
 use Rattle.codec_payload_buffer.specs.Held.{Held, Rises, AllAbove}
-use Rattle.codec_payload_buffer.specs.Frames.{frames, frames_after, frame_at, ended_at, lowest_head, row_before, leads_to, start_or_here, IsRow, IsHeadAt, IsFrame, StartAbove, StartsRise, StandApart, AreFramesOfSet, AreInOrder, AreApart, AreOnlyList}
+use Rattle.codec_payload_buffer.specs.Frames.{frames, frames_after, frame_at, ended_at, lowest_head, row_before, leads_to, start_or_here, IsRow}
+use Rattle.codec_payload_buffer.specs.Frames.{IsHeadAt, IsFrame, StartAbove, StartsRise, StandApart, AreFramesOfSet, AreInOrder, AreApart, AreOnlyList}
 use Rattle.codec_payload_codec.proofs.CaseLemmas.{by_test, not_both}
 use Rattle.codec_payload_buffer.proofs.RowLemmas.{leads_parts, leads_from}
 use Rattle.codec_payload_buffer.proofs.MemberLemmas.{IsIn, contains_in, in_contains, in_left, in_right, in_append, KeysAbove, KeysRise, same_members}
@@ -303,7 +304,7 @@ apart_after : (held earlier later : List Held) → IsParted held earlier later �
 apart_after held earlier [] parted = tt
 apart_after held earlier (p ∷ later) parted =
     joined (apart_after held (p ∷ earlier) later (parted_next held earlier p later parted)) (frame_at p earlier) (found_at held earlier p later parted)
-        (by_test p.tail (λ b. AtMostOne (cond b (ended_at p (lowest_head (p ∷ row_before p earlier))) [])) (λ e. one (lowest_head (p ∷ row_before p earlier))) (λ e. tt))
+    (by_test p.tail (λ b. AtMostOne (cond b (ended_at p (lowest_head (p ∷ row_before p earlier))) [])) (λ e. one (lowest_head (p ∷ row_before p earlier))) (λ e. tt))
   where
     one : (o : Option ℕ) → AtMostOne (ended_at p o)
     one None = tt

@@ -4,7 +4,8 @@ use Rattle.std.specs.Prelude.{IfSome}
 use Rattle.std.proofs.lemmas.Bool.Decides.{nat_tests}
 use Rattle.codec_payload_buffer.specs.Held.{Held, Rises, AllAbove, has_number, placed, above, TakesLowest}
 use Rattle.codec_payload_buffer.specs.Frames.{frames, start_or_here}
-use Rattle.codec_payload_buffer.specs.Rows.{row_of, meet, or_else, joined, put_before, rows, frame_in, frame_of_row, with_frame, row_frames, row_placed, merged, noted_if, next_head, shortened, first_mended, row_end, RowsAbove, RowsRise, EndsRise, IsFirstShort, IsShortened}
+use Rattle.codec_payload_buffer.specs.Rows.{row_of, meet, or_else, joined, put_before, rows, frame_in, frame_of_row, with_frame, row_frames, row_placed}
+use Rattle.codec_payload_buffer.specs.Rows.{merged, noted_if, next_head, shortened, first_mended, row_end, RowsAbove, RowsRise, EndsRise, IsFirstShort, IsShortened}
 use Rattle.codec_payload_buffer.specs.Scan.{first_of}
 use Rattle.codec_payload_buffer.specs.declared.buffer.frames.CompleteFrame.{CompleteFrame}
 use Rattle.codec_payload_buffer.specs.declared.buffer.rows.Row.{Row}
@@ -80,7 +81,7 @@ left_before p ps [] before after new up is left =
     gone (Some f) = refl
 left_before p ps (r ∷ rs) before after new up is left =
     by_test (meet (row_of p) r) (λ b. IsShortened (cond b (joined (row_of p) r ∷ rs) (row_of p ∷ r ∷ rs)) ps before after new → (new ≡ r ∷ rs)
-        × (first_mended before after (row_frames (cond b (joined (row_of p) r ∷ rs) (row_of p ∷ r ∷ rs))) ≡ row_frames (r ∷ rs)))
+    × (first_mended before after (row_frames (cond b (joined (row_of p) r ∷ rs) (row_of p ∷ r ∷ rs))) ≡ row_frames (r ∷ rs)))
     (λ e left. rw (left.0, left.1, left.2, rest (meet_parts (row_of p) r e).next) (refl, shorter r.tail r.head (row_frames rs)))
     (λ e left.
     let same : eqb p.meta.seq_no.0 p.meta.seq_no.0 ≡ true = grind (arith, nat_tests) in
@@ -142,7 +143,7 @@ left_rows p last [] left le a more here (inl e) = here e ∙ sym (one_end last (
 left_rows p last [] left le a more here (inr e) = absurd e
 left_rows p last (r ∷ rs) left le a more here ends =
     by_test (meet (row_of p) r) (λ b. EndsAt last (cond b (joined (row_of p) r ∷ rs) (row_of p ∷ r ∷ rs))
-        → left ≡ drop (row_end last (cond b (joined (row_of p) r ∷ rs) (row_of p ∷ r ∷ rs))) (cond b (joined (row_of p) r ∷ rs) (row_of p ∷ r ∷ rs)))
+    → left ≡ drop (row_end last (cond b (joined (row_of p) r ∷ rs) (row_of p ∷ r ∷ rs))) (cond b (joined (row_of p) r ∷ rs) (row_of p ∷ r ∷ rs)))
     (λ e ends. more ends ∙ one_end last r rs (start ends) ∙ sym (one_end last (joined (row_of p) r) rs le))
     (λ e ends. behind ends ∙ sym (one_end last (row_of p) (r ∷ rs) le)) ends
   where

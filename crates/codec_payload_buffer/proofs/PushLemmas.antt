@@ -1,5 +1,6 @@
 -- Pushes one by one keep the greatest of what was pushed.
-use Rattle.std.proofs.Common.{◌≡◌, if◌then◌else◌, ℕ, ◌<◌, ◌≤◌, ◌+◌, ◌-◌, [], ◌∷◌, ◌++◌, List, length, take, drop, refl, ap, sym, ◌∙◌, subst, arith, true, false, cond, Option, Some, None, append_assoc, inl, inr, ltb, ◌||◌, Bool}
+use Rattle.std.proofs.Common.{◌≡◌, if◌then◌else◌, ℕ, ◌<◌, ◌≤◌, ◌+◌, ◌-◌, [], ◌∷◌, ◌++◌, List, length, take, drop, refl, ap}
+use Rattle.std.proofs.Common.{sym, ◌∙◌, subst, arith, true, false, cond, Option, Some, None, append_assoc, inl, inr, ltb, ◌||◌, Bool}
 use Rattle.std.proofs.lemmas.Bool.{cases_lt}
 use Rattle.std.proofs.lemmas.Bool.Decides.{nat_tests}
 use Rattle.std.proofs.lemmas.List.{length-append, take-append-drop, take_at, drop_at, length-take-le}
@@ -121,10 +122,10 @@ with_one cutoff hs p = if is_at_most cutoff p.meta.seq_no.0 || has_number p.meta
 push_none_left : (s : State) (high : List Held) (p : Held) → length high - s.limit ≡ 0 → pushed (record s { held = high }) p ≡ with_kept s (with_one s.cutoff high p)
 push_none_left s high p n =
     by_test (is_at_most s.cutoff p.meta.seq_no.0 || has_number p.meta.seq_no.0 high)
-        (λ b. cond b (record s { held = high }) (kept_to_limit (record s { held = placed p high })) ≡ with_kept s (cond b high (placed p high)))
+    (λ b. cond b (record s { held = high }) (kept_to_limit (record s { held = placed p high })) ≡ with_kept s (cond b high (placed p high)))
     (λ e. sym (kept_is s [] high n))
     (λ e. by_test (ltb s.limit (length (placed p high))) (λ b. cond b (without_lowest (record s { held = placed p high }) (placed p high))
-        (record s { held = placed p high }) ≡ with_kept s (placed p high))
+    (record s { held = placed p high }) ≡ with_kept s (placed p high))
     (λ over. let full : length (placed p high) ≡ s.limit + 1 = grind (arith, nat_tests, over, n, length_placed p high) in evicted s [] (placed p high) (omega (arith, full)))
     (λ fits. let room : length (placed p high) - s.limit ≡ 0 = grind (arith, nat_tests, fits) in sym (kept_is s [] (placed p high) room)))
 
@@ -150,9 +151,9 @@ push_some_left s q low high p m facts n = elim (cases_lt m p.meta.seq_no.0) [
       let behind = placed_behind p (q ∷ low) high (up_more m p.meta.seq_no.0 (q ∷ low) (omega arith) facts.up_to) fresh in
       let free : is_at_most (last_number (q ∷ low) s.cutoff) p.meta.seq_no.0 ≡ false = rw facts.last (grind (arith, nat_tests, over)) in
       let same : (is_at_most s.cutoff p.meta.seq_no.0 || has_number p.meta.seq_no.0 (q ∷ low ++ high)) ≡ has_number p.meta.seq_no.0 high = rw
-          (facts.lower p.meta.seq_no.0 (omega arith)) (has_append p.meta.seq_no.0 (q ∷ low) high ∙ rw fresh refl) in
+      (facts.lower p.meta.seq_no.0 (omega arith)) (has_append p.meta.seq_no.0 (q ∷ low) high ∙ rw fresh refl) in
       rw (free, same) (by_test (has_number p.meta.seq_no.0 high)
-          (λ b. cond b (held_now s q low high) (kept_to_limit (held_now s q low (placed p high))) ≡ with_kept s (cond b (q ∷ low ++ high) (placed p (q ∷ low ++ high))))
+      (λ b. cond b (held_now s q low high) (kept_to_limit (held_now s q low (placed p high))) ≡ with_kept s (cond b (q ∷ low ++ high) (placed p (q ∷ low ++ high))))
       (λ e. sym (kept_is s (q ∷ low) high (omega (arith, n, length-append (q ∷ low) high))))
       (λ e.
       let full : ltb s.limit (length (placed p high)) ≡ true = grind (arith, nat_tests, n, length_placed p high) in
@@ -160,7 +161,7 @@ push_some_left s q low high p m facts n = elim (cases_lt m p.meta.seq_no.0) [
   | inr under ↦
       let gone : is_at_most (last_number (q ∷ low) s.cutoff) p.meta.seq_no.0 ≡ true = rw facts.last (grind (arith, nat_tests, under)) in
       rw gone (by_test (is_at_most s.cutoff p.meta.seq_no.0 || has_number p.meta.seq_no.0 (q ∷ low ++ high))
-          (λ b. held_now s q low high ≡ with_kept s (cond b (q ∷ low ++ high) (placed p (q ∷ low ++ high))))
+      (λ b. held_now s q low high ≡ with_kept s (cond b (q ∷ low ++ high) (placed p (q ∷ low ++ high))))
       (λ e. sym (kept_is s (q ∷ low) high (omega (arith, n, length-append (q ∷ low) high))))
       (λ e.
       let absent : has_number p.meta.seq_no.0 (q ∷ low ++ high) ≡ false = grind (arith, e) in
@@ -187,7 +188,7 @@ push_one s all p r a =
     let count : length all - s.limit ≡ length (take n all) = omega (arith, length-take-le n all (omega arith)) in
     subst (λ (zs : List Held). pushed (with_kept s zs) p ≡ with_kept s (with_one s.cutoff zs p)) whole
     (push_kept s (take n all) (drop n all) p (subst Rises (sym whole) r) (subst (IsAboveCutoff s.cutoff) (sym whole) a)
-        (subst (λ (zs : List Held). length zs - s.limit ≡ length (take n all)) (sym whole) count))
+    (subst (λ (zs : List Held). length zs - s.limit ≡ length (take n all)) (sym whole) count))
 
 pub with_one_rises : (c : Option ℕ) (all : List Held) (p : Held) → Rises all → Rises (with_one c all p)
 with_one_rises c all p r = by_test (is_at_most c p.meta.seq_no.0 || has_number p.meta.seq_no.0 all) (λ b. Rises (cond b all (placed p all))) (λ e. r) (λ e. placed_rises p all r (grind (arith, e)))
@@ -216,7 +217,7 @@ is_arrived depacketizer here is meta bytes seen again one two head tail begins e
       let b = ap is_built_in_depacketizer is ∙ built_in in
       ap (λ (h : Bool). record { meta = meta; bytes = bytes; head = h; tail = tail }) (begins b ∙ (ap (λ (d : DepacketizerState). head_of d seen) is ∙ ap (head_of depacketizer) one))
       ∙ ap (λ (t : Bool). record { meta = meta; bytes = bytes; head = head_of depacketizer bytes; tail = t })
-          (ends b ∙ (ap (λ (d : DepacketizerState). tail_of d meta.header.marker again) is ∙ ap (tail_of depacketizer meta.header.marker) two)),
+      (ends b ∙ (ap (λ (d : DepacketizerState). tail_of d meta.header.marker again) is ∙ ap (tail_of depacketizer meta.header.marker) two)),
 )
 
 -- a new packet is placed, and the lowest leaves where there are too many then
@@ -231,10 +232,10 @@ pushed_over s p [] left n late fresh at more takes = absurd takes
 pushed_over s p (q ∷ qs) left n late fresh at more takes =
     new_placed s p late fresh ∙ (ap (λ (hs : List Held). kept_to_limit (record s { held = hs })) (sym at)
     ∙ (by_test (ltb s.limit (length (q ∷ qs))) (λ b. cond b (record s { held = qs; cutoff = Some (number_of q); evicted = true })
-        (record s { held = q ∷ qs }) ≡ record s { held = qs; cutoff = Some (number_of q); evicted = true })
+    (record s { held = q ∷ qs }) ≡ record s { held = qs; cutoff = Some (number_of q); evicted = true })
     (λ e. refl) (λ e. absurd (grind (arith, nat_tests, e, more)))
     ∙ (ap (λ (hs : List Held). record s { held = hs; cutoff = Some (number_of q); evicted = true }) (sym takes.1)
-        ∙ ap (λ (k : ℕ). record s { held = left; cutoff = Some k; evicted = true }) (sym takes.0))))
+    ∙ ap (λ (k : ℕ). record s { held = left; cutoff = Some k; evicted = true }) (sym takes.0))))
 
 pub pushed_within : (s : State) (p : Held) (new : List Held) → is_at_most s.cutoff (number_of p) ≡ false → has_number (number_of p) s.held ≡ false → new ≡ placed p s.held
     → length new ≤ s.limit → pushed s p ≡ record s { held = new }

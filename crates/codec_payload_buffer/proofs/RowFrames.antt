@@ -3,7 +3,8 @@ use Rattle.std.proofs.Common.{◌≡◌, ℕ, ◌<◌, ◌≤◌, [], ◌∷◌,
 use Rattle.std.proofs.lemmas.Bool.Decides.{nat_tests}
 use Rattle.codec_payload_buffer.specs.Held.{Held}
 use Rattle.codec_payload_buffer.specs.Frames.{frames, frames_after, ended_at, lowest_head, row_before, leads_to, start_or_here}
-use Rattle.codec_payload_buffer.specs.Rows.{row_of, meet, or_else, joined, join_if, put_before, rows, frame_in, frame_of_row, with_frame, row_frames, row_placed, with_next, merged_after, merged, noted_if, RowsAbove, RowsRise, AreLongest, EndsAbove, EndsRise}
+use Rattle.codec_payload_buffer.specs.Rows.{row_of, meet, or_else, joined, join_if, put_before, rows, frame_in, frame_of_row, with_frame, row_frames}
+use Rattle.codec_payload_buffer.specs.Rows.{row_placed, with_next, merged_after, merged, noted_if, RowsAbove, RowsRise, AreLongest, EndsAbove, EndsRise}
 use Rattle.codec_payload_buffer.specs.declared.buffer.frames.CompleteFrame.{CompleteFrame}
 use Rattle.codec_payload_buffer.specs.declared.buffer.rows.Row.{Row}
 use Rattle.codec_payload_codec.proofs.CaseLemmas.{by_test}
@@ -222,20 +223,20 @@ placed_next r p rs l a =
     ∙ by_test (meet r m) (λ b. row_frames (cond b (joined r m ∷ rest_of p rs) (r ∷ m ∷ rest_of p rs)) ≡ noted_if (frame_of_row (cond b (joined r m) m)) (with_frame (frame_of_row r) (row_frames rs)))
     (λ e. rw (no_frame r.head r.last r.tail (meet_parts r m e).no_tail) (low (joined r m) p rs a (record { last = refl; tail = refl; head = none_right r.head m.head })))
     (λ e. ap (with_frame (frame_of_row r)) (low m p rs a (like_self m))
-        ∙ noted_skip (frame_of_row m) (frame_of_row r) r.last m.last (row_frames rs) (row_last m) (row_last r) (next_above r.last p rs l a))
+    ∙ noted_skip (frame_of_row m) (frame_of_row r) r.last m.last (row_frames rs) (row_last m) (row_last r) (next_above r.last p rs l a))
 
 placed_after : (r p : Row) (rs : List Row) → r.last < p.first → p.first ≡ p.last → RowsAbove r.last rs → AreLongest (r ∷ rs) → Outside p.first rs
     → row_frames (put_before r (row_placed p rs)) ≡ noted_if (frame_of_row (merged_after r p rs)) (with_frame (frame_of_row r) (row_frames rs))
 placed_after r p [] l one a long o = placed_next r p [] (omega (arith, one)) tt
 placed_after r p (s ∷ rs) l one a long o =
     by_test (ltb s.first p.first) (λ b. row_frames (put_before r (cond b (put_before s (row_placed p rs)) (put_before p (s ∷ rs)))) ≡ noted_if
-        (frame_of_row (cond b (merged_after s p rs) (join_if r (with_next p (s ∷ rs))))) (with_frame (frame_of_row r) (row_frames (s ∷ rs))))
+    (frame_of_row (cond b (merged_after s p rs) (join_if r (with_next p (s ∷ rs))))) (with_frame (frame_of_row r) (row_frames (s ∷ rs))))
     (λ e.
     let below : s.last < p.first = lower e o.0 in
     ap row_frames (no_meet_before r s (row_placed p rs) long.0)
     ∙ ap (with_frame (frame_of_row r)) (placed_after s p rs below one a.2 long.1 o.1)
     ∙ noted_skip (frame_of_row (merged_after s p rs)) (frame_of_row r) r.last (merged_after s p rs).last (row_frames (s ∷ rs)) (row_last (merged_after s p rs))
-        (row_last r) (merged_above r.last s p rs (omega (arith, one)) one a.2 o.1))
+    (row_last r) (merged_above r.last s p rs (omega (arith, one)) one a.2 o.1))
     (λ e. placed_next r p (s ∷ rs) (omega (arith, one)) (above_from p r.last s rs one e o.0 a))
   where
     lower : ltb s.first p.first ≡ true → ((p.first < s.first) ⊎ (s.last < p.first)) → s.last < p.first
@@ -248,7 +249,7 @@ pub frames_placed : (p : Row) (rs : List Row) → p.first ≡ p.last → RowsRis
 frames_placed p [] one a long o = noted_low (frame_of_row p) p.last [] (row_last p) tt
 frames_placed p (r ∷ rs) one a long o =
     by_test (ltb r.first p.first) (λ b. row_frames (cond b (put_before r (row_placed p rs)) (put_before p (r ∷ rs))) ≡ noted_if
-        (frame_of_row (cond b (merged_after r p rs) (with_next p (r ∷ rs)))) (row_frames (r ∷ rs)))
+    (frame_of_row (cond b (merged_after r p rs) (with_next p (r ∷ rs)))) (row_frames (r ∷ rs)))
     (λ e. placed_after r p rs (lower e o.0) one a.1 long o.1)
     (λ e. ap row_frames (before_is p (r ∷ rs)) ∙ low (with_next p (r ∷ rs)) p (r ∷ rs) (upper e o.0) (like_self (with_next p (r ∷ rs))))
   where

@@ -98,9 +98,9 @@ first_split earlier (p ∷ later) f h =
       },
     ) in
     by_test p.tail (λ b. first_of (cond b (ended_at p (lowest_head (p ∷ row_before p earlier))) [] ++ frames_after (p ∷ earlier) later) ≡ Some f
-        → (packets after : List Held) × IsPart (reverse earlier ++ p ∷ later) f packets after)
+    → (packets after : List Held) × IsPart (reverse earlier ++ p ∷ later) f packets after)
     (λ tail. by_option (lowest_head (p ∷ row_before p earlier)) (λ o. first_of (ended_at p o ++ frames_after (p ∷ earlier) later) ≡ Some f
-        → (packets after : List Held) × IsPart (reverse earlier ++ p ∷ later) f packets after)
+    → (packets after : List Held) × IsPart (reverse earlier ++ p ∷ later) f packets after)
     (λ none h. on h)
     (λ n is h.
     let frame : CompleteFrame = record { first = n; last = p.meta.seq_no.0 } in

@@ -4,7 +4,8 @@ use Rattle.std.specs.Prelude.{slice_set}
 use Rattle.std.specs.List.{insert, remove}
 use Rattle.std.specs.List.Sorted.{IsNonDecreasingBy, IsPartitionPoint}
 use Rattle.std.proofs.lemmas.Bool.Decides.{nat_tests}
-use Rattle.codec_payload_buffer.specs.Rows.{meet, joined, join_if, put_before, row_place, row_placed, with_next, merged_after, merged, put_at, join_at, noted, frame_place, RowsAbove, RowsRise, AreLongest, EndsAbove, EndsRise}
+use Rattle.codec_payload_buffer.specs.Rows.{meet, joined, join_if, put_before, row_place, row_placed, with_next, merged_after, merged}
+use Rattle.codec_payload_buffer.specs.Rows.{put_at, join_at, noted, frame_place, RowsAbove, RowsRise, AreLongest, EndsAbove, EndsRise}
 use Rattle.codec_payload_buffer.specs.declared.buffer.frames.CompleteFrame.{CompleteFrame}
 use Rattle.codec_payload_buffer.specs.declared.buffer.rows.Row.{Row}
 use Rattle.codec_payload_codec.proofs.CaseLemmas.{by_test}
@@ -194,7 +195,7 @@ note_new zero f (g ∷ gs) at other =
     by_test (ltb g.last f.last) (λ b. 0 ≡ cond b (frame_place f.last gs + 1) 0 → f ∷ g ∷ gs ≡ cond b (g ∷ noted f gs) (cond (eqb g.last f.last) (f ∷ gs) (f ∷ g ∷ gs)))
     (λ e at. absurd (omega (arith, at)))
     (λ e at. by_test (eqb g.last f.last) (λ b. f ∷ g ∷ gs ≡ cond b (f ∷ gs) (f ∷ g ∷ gs))
-        (λ u. absurd (there.2 (ap (λ (y : CompleteFrame). y.last) there.1 ∙ grind (arith, nat_tests, u)))) (λ u. refl)) at
+    (λ u. absurd (there.2 (ap (λ (y : CompleteFrame). y.last) there.1 ∙ grind (arith, nat_tests, u)))) (λ u. refl)) at
 note_new (suc k) f (g ∷ gs) at other =
     by_test (ltb g.last f.last) (λ b. suc k ≡ cond b (frame_place f.last gs + 1) 0 → g ∷ insert gs k f ≡ cond b (g ∷ noted f gs) (cond (eqb g.last f.last) (f ∷ gs) (f ∷ g ∷ gs)))
     (λ e at. ap (λ (zs : List CompleteFrame). g ∷ zs) (note_new k f gs (omega (arith, at)) (λ l. other (omega arith))))
@@ -202,8 +203,13 @@ note_new (suc k) f (g ∷ gs) at other =
 
 -- a row among rows, from the two steps of the code
 pub added : (place : ℕ) (p row : Row) (rs new : List Row) → place ≡ row_place p.first rs → AreLongest rs → 0 < place → new ≡ put_at place p rs → row ≡ with_next p (drop place rs)
-    → record { all : join_at (place - 1) new ≡ row_placed p rs; one : join_if
-        (get_or new (place - 1) row) row ≡ merged p rs; within : place - 1 + 1 < length new; there : row ≡ get_or new (place - 1 + 1) row }
+    → record {
+      all : join_at (place - 1) new ≡ row_placed p rs;
+      one : join_if
+          (get_or new (place - 1) row) row ≡ merged p rs;
+      within : place - 1 + 1 < length new;
+      there : row ≡ get_or new (place - 1 + 1) row;
+    }
 added zero p row rs new at long some put is = absurd (omega arith)
 added (suc k) p row rs new at long some put is =
     let le : suc k ≤ length rs = omega (arith, at, row_place_within p.first rs) in

@@ -1,5 +1,6 @@
 -- A stretch of pushes leaves what the set of pushed numbers says.
-use Rattle.std.proofs.Common.{◌≡◌, ℕ, zero, suc, ◌<◌, ◌≤◌, ◌+◌, ◌-◌, [], ◌∷◌, List, length, map, take, refl, ap, sym, ◌∙◌, subst, arith, Bool, true, false, cond, Option, Some, eqb, ltb, not, ◌&&◌, ◌||◌, inl, inr, ◌⊎◌}
+use Rattle.std.proofs.Common.{◌≡◌, ℕ, zero, suc, ◌<◌, ◌≤◌, ◌+◌, ◌-◌, [], ◌∷◌, List, length, map, take, refl, ap, sym}
+use Rattle.std.proofs.Common.{◌∙◌, subst, arith, Bool, true, false, cond, Option, Some, eqb, ltb, not, ◌&&◌, ◌||◌, inl, inr, ◌⊎◌}
 use Rattle.std.specs.Prelude.{filter}
 use Rattle.std.proofs.lemmas.Bool.{cases_lt}
 use Rattle.std.proofs.lemmas.Bool.Decides.{nat_tests}
@@ -121,8 +122,11 @@ pub range_in : (test : ℕ → Bool) (n low count : ℕ) → low ≤ n → n < l
 range_in test n low zero le l t = absurd (omega arith)
 range_in test n low (suc count) le l t = by_test (test low) (λ b. test low ≡ b → IsIn n (cond b (low ∷ filter test (numbers_from (low + 1) count)) (filter test (numbers_from (low + 1) count))))
     (λ e is. elim (cases_lt low n) [ inl over ↦ inr (range_in test n (low + 1) count (omega arith) (omega arith) t) | inr at ↦ inl (omega arith) ])
-    (λ e is. elim (cases_lt low n) [ inl over ↦ range_in test n (low + 1) count (omega arith) (omega arith) t | inr at
-        ↦ let same : low ≡ n = omega arith in absurd (clash (test n) t (ap test (sym same) ∙ is)) ]) refl
+    (λ e is. elim (cases_lt low n) [
+      | inl over ↦ range_in test n (low + 1) count (omega arith) (omega arith) t
+      | inr at
+          ↦ let same : low ≡ n = omega arith in absurd (clash (test n) t (ap test (sym same) ∙ is))
+    ]) refl
   where
     clash : (b : Bool) → b ≡ true → b ≡ false → ⊥
     clash b t f = cc

@@ -6,7 +6,8 @@ use Rattle.codec_payload_codec.specs.Depacketizers.{DepacketizerState}
 use Rattle.codec_payload_buffer.specs.Held.{Held, number_of, placed}
 use Rattle.codec_payload_buffer.specs.Steps.{State, pushed, is_dropped, without_lowest, Pops}
 use Rattle.codec_payload_buffer.specs.Stretches.{after_pushes}
-use Rattle.codec_payload_jitter.specs.Numbers.{Numbering, low_bits, no_numbers, number_for, numbering_after, numbers_for, answer_for, numbering_with, without_restart, number_in, is_restart, GoOn, moved}
+use Rattle.codec_payload_jitter.specs.Numbers.{Numbering, low_bits, no_numbers, number_for, numbering_after, numbers_for, answer_for}
+use Rattle.codec_payload_jitter.specs.Numbers.{numbering_with, without_restart, number_in, is_restart, GoOn, moved}
 use Rattle.codec_payload_jitter.specs.Receiving.{Receiving, Arrival, answer_in, Receives, ReceivesAs, TakesIn, settled, waiting_at, PopsWith}
 use Rattle.codec_payload_jitter.specs.Blanks.{passed_blanks, blanks_left}
 use Rattle.codec_payload_jitter.specs.Runs.{ReceivesAll, low_numbers, ArriveAs, AreStretches, AreTrueStretches, Answer, numbering_past, numbers_by_round, TurnWith, IsChain, GoOnByRound, AreChains}

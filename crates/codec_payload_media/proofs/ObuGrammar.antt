@@ -145,7 +145,9 @@ not_zero (suc zero) h e = refl
 not_zero (suc (suc k)) h e = absurd (omega (arith, h))
 
 module _ (n : ℕ) (bytes : List ℕ) (are : AreBytes (n ∷ bytes)) where
-  cut_payload : (extension : Option Av1Extension) (text : List ℕ) (size : ℕ × List ℕ) (x : Obu × List ℕ) → IsExtension extension text → extended_by extension ≡ eqb (n / 4 % 2) 1 → eqb (n / 128) 1 || eqb (n / 2 % 2) 0 ≡ false → (s : IsSize (drop (length text) bytes) size) → bytes ≡ text ++ drop (length text) bytes → sized (n / 8 % 16) extension (Some size) ≡ Ok x → Taken (n ∷ bytes) x
+  cut_payload : (extension : Option Av1Extension) (text : List ℕ) (size : ℕ × List ℕ) (x : Obu × List ℕ) → IsExtension extension text
+      → extended_by extension ≡ eqb (n / 4 % 2) 1 → eqb (n / 128) 1 || eqb (n / 2 % 2) 0 ≡ false → (s : IsSize (drop (length text) bytes) size) → bytes ≡ text
+      ++ drop (length text) bytes → sized (n / 8 % 16) extension (Some size) ≡ Ok x → Taken (n ∷ bytes) x
   cut_payload extension text size x is_text there fine s parts e =
       let o : Obu = record { obu_type = n / 8 % 16; extension = extension; payload = take size.0 size.1 } in
       let g = guard_ok (ltb (length size.1) size.0) errors.SizesDoNotFit (Ok (o, drop size.0 size.1)) x e in
@@ -179,7 +181,9 @@ module _ (n : ℕ) (bytes : List ℕ) (are : AreBytes (n ∷ bytes)) where
       regrouped : (a b c d : List ℕ) → a ++ (b ++ (c ++ d)) ≡ (a ++ (b ++ c)) ++ d
       regrouped a b c d = ap (λ (t : List ℕ). a ++ t) (sym (append_assoc b c d)) ∙ sym (append_assoc a (b ++ c) d)
 
-  cut_size : (extension : Option Av1Extension) (text : List ℕ) (o : Option (ℕ × List ℕ)) (x : Obu × List ℕ) → IsExtension extension text → extended_by extension ≡ eqb (n / 4 % 2) 1 → eqb (n / 128) 1 || eqb (n / 2 % 2) 0 ≡ false → leb_low 7 (drop (length text) bytes) ≡ o → bytes ≡ text ++ drop (length text) bytes → sized (n / 8 % 16) extension o ≡ Ok x → Taken (n ∷ bytes) x
+  cut_size : (extension : Option Av1Extension) (text : List ℕ) (o : Option (ℕ × List ℕ)) (x : Obu × List ℕ) → IsExtension extension text
+      → extended_by extension ≡ eqb (n / 4 % 2) 1 → eqb (n / 128) 1 || eqb (n / 2 % 2) 0 ≡ false → leb_low 7 (drop (length text) bytes) ≡ o → bytes ≡ text
+      ++ drop (length text) bytes → sized (n / 8 % 16) extension o ≡ Ok x → Taken (n ∷ bytes) x
   cut_size extension text None x is_text there fine is parts e = absurd cc
   cut_size extension text (Some size) x is_text there fine is parts e = cut_payload extension text size x is_text there fine (size_taken (drop (length text) bytes) size is) parts e
 

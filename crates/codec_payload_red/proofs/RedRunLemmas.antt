@@ -328,7 +328,9 @@ module _ (s : Sender) (r : Receiver) (budget first time : ℕ) (sent : List Entr
     primary = let other : (o.index == k) ≡ false = grind (arith, nat_tests, o.at, o.back) in sym other;
   }
 
-  finds_each : (k at_time : ℕ) (bs : List Redundant) (rest : List Block) → AllByRecursion (IsOlder k at_time) bs → AllByRecursion (IsCarried s budget first sent k) (filter_map (finds k at_time) rest) → AllByRecursion (IsCarried s budget first sent k) (filter_map (finds k at_time) (map older bs ++ rest))
+  finds_each : (k at_time : ℕ) (bs : List Redundant) (rest : List Block) → AllByRecursion (IsOlder k at_time) bs
+      → AllByRecursion (IsCarried s budget first sent k) (filter_map (finds k at_time) rest)
+      → AllByRecursion (IsCarried s budget first sent k) (filter_map (finds k at_time) (map older bs ++ rest))
   finds_each k at_time [] rest all more = more
   finds_each k at_time (b ∷ bs) rest all more = rw (finds_older k at_time b all.0) (sent_older k at_time b all.0, finds_each k at_time bs rest all.1 more)
 

@@ -70,22 +70,22 @@ module _ (plain : Bool) where
   goes_same s u t v a b of_s of_u rise_s rise_u e (over p g) (stays y) = absurd (complete_frame_same p.frame (sym y ∙ sym (due_same s u e) ∙ p.is_due))
   goes_same s u t v a b of_s of_u rise_s rise_u e (gives {r = r} x) (gives {r = o} y) =
       let left : Releases (bare_state plain u) (release_with (strip plain) r) (bare_state plain t) = subst
-          (λ (z : State). Releases z (release_with (strip plain) r) (bare_state plain t)) e (bare_releases plain s t r x) in
+      (λ (z : State). Releases z (release_with (strip plain) r) (bare_state plain t)) e (bare_releases plain s t r x) in
       let same = releases_same (bare_state plain u) (bare_state plain t) (bare_state plain v) (release_with (strip plain) r) (release_with (strip plain) o) of_u
-          (bare_rises u.held rise_u) left (bare_releases plain u v o y) in
+      (bare_rises u.held rise_u) left (bare_releases plain u v o y) in
       (ap (λ (z : Release). Some (Ok z)) same.0, same.1)
   goes_same s u t v a b of_s of_u rise_s rise_u e (gives {r = r} x) (over {m = m} p g) =
       let left : Releases (bare_state plain u) (release_with (strip plain) r) (bare_state plain t) = subst
-          (λ (z : State). Releases z (release_with (strip plain) r) (bare_state plain t)) e (bare_releases plain s t r x) in
+      (λ (z : State). Releases z (release_with (strip plain) r) (bare_state plain t)) e (bare_releases plain s t r x) in
       absurd (one_way (bare_state plain u) (bare_state plain t) (bare_state plain m) (release_with (strip plain) r) of_u left (bare_passes plain u m p))
   goes_same s u t v a b of_s of_u rise_s rise_u e (over {m = m} p g) (gives {r = o} y) =
       let right : Releases (bare_state plain s) (release_with (strip plain) o) (bare_state plain v) = subst
-          (λ (z : State). Releases z (release_with (strip plain) o) (bare_state plain v)) (sym e) (bare_releases plain u v o y) in
+      (λ (z : State). Releases z (release_with (strip plain) o) (bare_state plain v)) (sym e) (bare_releases plain u v o y) in
       absurd (one_way (bare_state plain s) (bare_state plain v) (bare_state plain m) (release_with (strip plain) o) of_s right (bare_passes plain s m p))
   goes_same s u t v a b of_s of_u rise_s rise_u e (over {m = m} p g) (over {m = n} q h) =
       let left : PassesOver (bare_state plain u) (bare_state plain m) = subst (λ (z : State). PassesOver z (bare_state plain m)) e (bare_passes plain s m p) in
       goes_same m n t v a b (passed_stays s m p ∙ of_s) (passed_stays u n q ∙ of_u) (passed_rises s m rise_s p) (passed_rises u n rise_u q)
-          (passes_same (bare_state plain u) (bare_state plain m) (bare_state plain n) of_u left (bare_passes plain u n q)) g h
+      (passes_same (bare_state plain u) (bare_state plain m) (bare_state plain n) of_u left (bare_passes plain u n q)) g h
 
 goes_of : (c : Setting) (s t : State) (passed : List CompleteFrame) (a : Answer) → IsPop c s t passed a → Goes s a t
 goes_of c s t passed None (waits passes nothing) = goes_after s t t passed None passes (stays nothing)
@@ -113,8 +113,12 @@ module _ (plain : Bool) (c : Setting) (known : ℕ → Packet → RtpMeta → Ty
 
   bare_one : (p q : Held) → IsPush c p → IsPush other q → number_of p ≡ number_of q → bare plain p ≡ bare plain q
   bare_one p q i j e =
-      let k : i.0 ≡ j.0 = omega (arith, e, number_of_sent c.known c.clock_rate c.first c.kind c.faithful c.splits c.units c.lawful c.numbered p i,
-          number_of_sent other.known c.clock_rate c.first c.kind other.faithful c.splits c.units c.lawful c.numbered q j) in
+      let k : i.0 ≡ j.0 = omega (
+        arith,
+        e,
+        number_of_sent c.known c.clock_rate c.first c.kind c.faithful c.splits c.units c.lawful c.numbered p i,
+        number_of_sent other.known c.clock_rate c.first c.kind other.faithful c.splits c.units c.lawful c.numbered q j,
+      ) in
       let at : slice_get (packets_of c.units) j.0 ≡ Some i.1 = subst (λ (n : ℕ). slice_get (packets_of c.units) n ≡ Some i.1) k i.2 in
       let x : i.1 ≡ j.1 = packet_same i.1 j.1 (sym at ∙ j.2) in
       bare_as c.known c.faithful told p i.0 i.1 i.3 i.4 ∙ ap (λ (z : Packet). held_with (told_as z) (tail_in c.kind z.marker z.payload) z) x ∙ sym (bare_as known faithful told_too q j.0 j.1 j.3 j.4)
@@ -170,8 +174,8 @@ module _ (plain : Bool) (c : Setting) (known : ℕ → Packet → RtpMeta → Ty
       let ready_t = span_ready c from t.stretch left chain_s.1 in
       let ready_w = span_ready other to w.stretch right chain_u.1 in
       let step = goes_same plain t.stretch.now w.stretch.now t.after w.after t.answer w.answer (ap is_codec ready_t.beyond.reads ∙ c.codec)
-          (ap is_codec ready_w.beyond.reads ∙ c.codec) ready_t.beyond.rises ready_w.beyond.rises now (goes_of c t.stretch.now t.after t.passed t.answer chain_s.2)
-          (goes_of other w.stretch.now w.after w.passed w.answer chain_u.2) in
+      (ap is_codec ready_w.beyond.reads ∙ c.codec) ready_t.beyond.rises ready_w.beyond.rises now (goes_of c t.stretch.now t.after t.passed t.answer chain_s.2)
+      (goes_of other w.stretch.now w.after w.passed w.answer chain_u.2) in
       let next_t = ready_pops c from t.stretch.now t.after t.passed t.answer ready_t chain_s.2 in
       let next_w = ready_pops other to w.stretch.now w.after w.passed w.answer ready_w chain_u.2 in
       let later = chains_same next_t.0 next_w.0 t.after w.after turns more end rest next_t.1 next_w.1 step.1 chain_s.3 chain_u.3 same.1 in

@@ -101,8 +101,17 @@ module _ (c : Setting) where
       }
 
   exactly_with : (k h : ℕ) (rest : List SentUnit) (s : State) → Exactly c k rest s → Exactly c k rest (record s { hold_back = h })
-  exactly_with k h rest s e = record { row = e.row; rises = e.rises; next = e.next; count = e.count; lawful = e.lawful; numbered = e.numbered; one_time = e.one_time;
-      reads = e.reads; may_go = e.may_go }
+  exactly_with k h rest s e = record {
+    row = e.row;
+    rises = e.rises;
+    next = e.next;
+    count = e.count;
+    lawful = e.lawful;
+    numbered = e.numbered;
+    one_time = e.one_time;
+    reads = e.reads;
+    may_go = e.may_go;
+  }
 
   -- from then on each push is dropped, and each pop answers the next unit
   answers_on : (k : ℕ) (rest : List SentUnit) (events : List Event) (s t : State) (answers : List Answer) → AllKnown events → AllAreMade events → Exactly c k rest s
@@ -116,7 +125,7 @@ module _ (c : Setting) where
       let number : p.meta.seq_no.0 ≡ c.first + j = number_of_sent c.known c.clock_rate c.first c.kind c.faithful c.splits c.units c.lawful c.numbered p push in
       let drop : is_dropped s (number_of p) ≡ true =
       subst (λ (n : ℕ). is_dropped s n ≡ true) (sym number) (dropped c.known c.clock_rate c.first c.kind c.faithful c.splits c.units k j rest s exactly
-          (slice_get_within (packets_of c.units) j q meets.1)) in
+      (slice_get_within (packets_of c.units) j q meets.1)) in
       let same : pushed s p ≡ s = rw drop refl in
       answers_on k rest events s t answers (λ i m is. known i m (inr is)) made exactly (subst (λ (x : State). Meets c.clock_rate (packets_of c.units) events x answers t) same meets.3)
   answers_on k rest (Asked None ∷ events) s t answers known made exactly meets = absurd made

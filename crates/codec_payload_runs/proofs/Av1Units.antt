@@ -1,6 +1,7 @@
 -- An AV1 frame is one lawful unit, whose parts are its kept OBUs: a receiver that lost its first packets may be given the
 -- last of them.
-use Rattle.std.proofs.Common.{◌≡◌, ◌≢◌, ◌∙◌, sym, ap, refl, subst, ℕ, ◌+◌, ◌*◌, ◌<◌, ◌≤◌, ◌%◌, ◌^◌, ◌||◌, inl, inr, List, [], ◌∷◌, ◌++◌, length, map, arith, append_assoc, Bool, true, false, Option, Some, None, Result, Ok, Err, cond, leb, ltb}
+use Rattle.std.proofs.Common.{◌≡◌, ◌≢◌, ◌∙◌, sym, ap, refl, subst, ℕ, ◌+◌, ◌*◌, ◌<◌, ◌≤◌, ◌%◌, ◌^◌, ◌||◌, inl, inr, List, []}
+use Rattle.std.proofs.Common.{◌∷◌, ◌++◌, length, map, arith, append_assoc, Bool, true, false, Option, Some, None, Result, Ok, Err, cond, leb, ltb}
 use Rattle.std.specs.Prelude.{MatchResult}
 use Rattle.std.specs.Int.Bits.{bit_and}
 use Rattle.std.specs.List.{AllByRecursion, flat_map}
@@ -135,14 +136,14 @@ none_begun [] begun is full stands = let e : is_begun begun ≡ false = ap is_be
 none_begun (p ∷ ps) begun is full (continues, elements, (rest, strings, stands)) =
     let parts = left_nil (ended p.goes_on begun p.elements) rest strings in
     none_begun ps (left_open p.goes_on begun p.elements) (goes_on_begun p.elements p.goes_on begun elements full.0 parts.0) full.1
-        (subst (StandsAfter (left_open p.goes_on begun p.elements) ps) parts.1 stands)
+    (subst (StandsAfter (left_open p.goes_on begun p.elements) ps) parts.1 stands)
 
 none_sent : (ps : List Payload) → AllByRecursion HasElement ps → StandsFor ps [] → ps ≡ []
 none_sent [] full stands = refl
 none_sent (p ∷ ps) full (continues, elements, (rest, strings, stands)) =
     let parts = left_nil (ended p.goes_on [] p.elements) rest strings in
     absurd (none_begun ps (left_open p.goes_on [] p.elements) (goes_on_begun p.elements p.goes_on [] elements full.0 parts.0) full.1
-        (subst (StandsAfter (left_open p.goes_on [] p.elements) ps) parts.1 stands))
+    (subst (StandsAfter (left_open p.goes_on [] p.elements) ps) parts.1 stands))
 
 module _ (sample : Sample) (rtp_time : ℕ) where
   abbrev laid : ℕ → ℕ → List (List ℕ) → List Packet
@@ -181,13 +182,13 @@ module _ (sample : Sample) (rtp_time : ℕ) where
 
     gives_unit : (missing rest : List Packet) → missing ++ rest ≡ laid number 0 (packet ∷ others) → StartsWithHead Av1Payloads rest → (ps : List Held) → payloads_held ps ≡ payloads_sent rest
         → (d : DepacketizerState) (answer : Result Unpacked PacketError) (e : DepacketizerState) → kind_of_depacketizer d ≡ Av1Payloads
-            → Unpacks d ps nothing_unpacked answer e → Released missing answer e
+        → Unpacks d ps nothing_unpacked answer e → Released missing answer e
     gives_unit [] rest whole head ps same d answer e is gives =
         let holds = is_av1 d is in
         let read = s.comes_back holds.0 in
         let all : payloads_held ps ≡ packet ∷ others = same ∙ (ap payloads_sent whole ∙ payloads_laid number 0 (packet ∷ others)) in
         whole_released answer e (all_given ps holds.0 (canonical_unit s.obus) read.0 nothing_unpacked answer e (ap (all_received holds.0) all ∙ read.1)
-            (subst (λ (x : DepacketizerState). Unpacks x ps nothing_unpacked answer e) holds.1 gives))
+        (subst (λ (x : DepacketizerState). Unpacks x ps nothing_unpacked answer e) holds.1 gives))
     gives_unit (m ∷ ms) [] whole head ps same d answer e is gives = absurd head
     gives_unit (m ∷ ms) (r ∷ rs) whole head ps same d answer e is gives =
         let holds = is_av1 d is in
@@ -195,7 +196,7 @@ module _ (sample : Sample) (rtp_time : ℕ) where
         sym (payloads_laid number 0 (packet ∷ others)) ∙ (ap payloads_sent (sym whole) ∙ map-append (λ (p : Packet). p.payload) (m ∷ ms) (r ∷ rs)) in
         let (first, last, end, parts, some, read) = s.last_come_back (payloads_sent (m ∷ ms)) r.payload (payloads_sent rs) split head holds.0 in
         last_released m ms first last answer e parts some (all_given ps holds.0 (flat_map canonical last) end nothing_unpacked answer e
-            (ap (all_received holds.0) same ∙ read) (subst (λ (x : DepacketizerState). Unpacks x ps nothing_unpacked answer e) holds.1 gives))
+        (ap (all_received holds.0) same ∙ read) (subst (λ (x : DepacketizerState). Unpacks x ps nothing_unpacked answer e) holds.1 gives))
 
     first_head : (ps : List Payload) → packet ∷ others ≡ map written ps → StandsFor ps (strings_of s.obus) → is_head packet ≡ true
     first_head [] are stands = absurd (cc)

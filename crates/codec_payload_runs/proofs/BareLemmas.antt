@@ -45,15 +45,17 @@ releases_same s t u r q built_in rises x y =
     let extra : r.codec_extra ≡ q.codec_extra = ap (λ (z : Unpacked). z.extra) out.0 in
     let metas : r.metas ≡ q.metas = x.metas ∙ ap (λ (z : CompleteFrame). metas_of (packets_of_frame s z)) f ∙ sym y.metas in
     let both : checked s.contiguity r.codec_extra (follows s x.frame) ≡ checked s.contiguity q.codec_extra (follows s y.frame) = ap
-        (λ (e : CodecExtra). checked s.contiguity e (follows s x.frame)) extra ∙ ap (checked s.contiguity q.codec_extra) seq in
+    (λ (e : CodecExtra). checked s.contiguity e (follows s x.frame)) extra ∙ ap (checked s.contiguity q.codec_extra) seq in
     let cont : r.contiguous ≡ q.contiguous = x.contiguous ∙ ap (λ z. z.1) both ∙ sym y.contiguous in
     let time : r.time ≡ q.time = one_time (packets_of_frame s x.frame) r.time q.time (due_packets s x.frame rises x.is_due).2 x.time
-        (subst (λ (z : CompleteFrame). AllOfTime q.time (packets_of_frame s z)) (sym f) y.time) in
+    (subst (λ (z : CompleteFrame). AllOfTime q.time (packets_of_frame s z)) (sym f) y.time) in
     let left : t ≡ u = x.left ∙ ap (λ (z : CompleteFrame). without s z x.depacketizer (checked s.contiguity r.codec_extra (follows s x.frame)).2 false) f
     ∙ ap (λ z. without s y.frame x.depacketizer z.2 false) both
-        ∙ ap (λ (d : DepacketizerState). without s y.frame d (checked s.contiguity q.codec_extra (follows s y.frame)).2 false) out.1 ∙ sym y.left in
-    (ap (λ (z : Time). release_of z r.contiguous one r.metas) time ∙ ap (λ (z : Bool). release_of q.time z one r.metas) cont
-        ∙ ap (λ (z : Unpacked). release_of q.time q.contiguous z r.metas) out.0 ∙ ap (release_of q.time q.contiguous two) metas, left)
+    ∙ ap (λ (d : DepacketizerState). without s y.frame d (checked s.contiguity q.codec_extra (follows s y.frame)).2 false) out.1 ∙ sym y.left in (
+      ap (λ (z : Time). release_of z r.contiguous one r.metas) time ∙ ap (λ (z : Bool). release_of q.time z one r.metas) cont
+          ∙ ap (λ (z : Unpacked). release_of q.time q.contiguous z r.metas) out.0 ∙ ap (release_of q.time q.contiguous two) metas,
+      left,
+    )
   where
     some_is : (x y : CompleteFrame) → Some x ≡ Some y → x ≡ y
     some_is x y e = cc
@@ -78,7 +80,7 @@ one_way s t u r built_in x y =
     let gives : Gives s x.frame (Ok y.unpacked) y.depacketizer = subst (λ (z : CompleteFrame). Gives s z (Ok y.unpacked) y.depacketizer) (sym f) y.gives in
     let out = unpacks_same s.depacketizer (packets_of_frame s x.frame) nothing_unpacked one y.unpacked x.depacketizer y.depacketizer built_in x.gives gives in
     clash (sym x.may ∙ ap (λ (z : Unpacked). (checked s.contiguity z.extra (follows s x.frame)).0) out.0
-        ∙ ap (λ (z : CompleteFrame). (checked s.contiguity y.unpacked.extra (follows s z)).0) f ∙ y.may_not)
+    ∙ ap (λ (z : CompleteFrame). (checked s.contiguity y.unpacked.extra (follows s z)).0) f ∙ y.may_not)
   where
     clash : true ≡ false → ⊥
     clash e = cc
@@ -128,11 +130,11 @@ module _ (plain : Bool) where
   bare_between first last [] = refl
   bare_between first last (p ∷ ps) =
       by_test (ltb (number_of p) first) (λ b. cond b (between first last (map bare ps))
-          (cond (ltb last (number_of p)) (between first last (map bare ps)) (bare p ∷ between first last (map bare ps))) ≡ map bare
-          (cond b (between first last ps) (cond (ltb last (number_of p)) (between first last ps) (p ∷ between first last ps))))
+      (cond (ltb last (number_of p)) (between first last (map bare ps)) (bare p ∷ between first last (map bare ps))) ≡ map bare
+      (cond b (between first last ps) (cond (ltb last (number_of p)) (between first last ps) (p ∷ between first last ps))))
       (λ e. bare_between first last ps)
       (λ e. by_test (ltb last (number_of p)) (λ b. cond b (between first last (map bare ps)) (bare p ∷ between first last (map bare ps)) ≡ map bare
-          (cond b (between first last ps) (p ∷ between first last ps)))
+      (cond b (between first last ps) (p ∷ between first last ps)))
       (λ e. bare_between first last ps) (λ e. ap (λ (zs : List Held). bare p ∷ zs) (bare_between first last ps)))
 
   bare_above : (last : ℕ) (hs : List Held) → above last (map bare hs) ≡ map bare (above last hs)
@@ -152,9 +154,14 @@ module _ (plain : Bool) where
 
   bare_unpacks : (d : DepacketizerState) (ps : List Held) (u : Unpacked) (answer : Result Unpacked PacketError) (e : DepacketizerState) → Unpacks d ps u answer e → Unpacks d (map bare ps) u answer e
   bare_unpacks d [] u answer e h = h
-  bare_unpacks d (p ∷ ps) u answer e h =
-      (h.0, h.1, h.2, h.3, match_map (λ _. Unpacks h.1 ps h.2 answer e) (λ _. Unpacks h.1 (map bare ps) h.2 answer e) (λ fault. (answer ≡ Err fault) × (e ≡ h.1)) h.0
-          (λ _ rest. bare_unpacks h.1 ps h.2 answer e rest) h.4)
+  bare_unpacks d (p ∷ ps) u answer e h = (
+    h.0,
+    h.1,
+    h.2,
+    h.3,
+    match_map (λ _. Unpacks h.1 ps h.2 answer e) (λ _. Unpacks h.1 (map bare ps) h.2 answer e) (λ fault. (answer ≡ Err fault) × (e ≡ h.1)) h.0
+        (λ _ rest. bare_unpacks h.1 ps h.2 answer e rest) h.4,
+  )
 
   pub bare_releases : (s t : State) (r : Release) → Releases s r t → Releases (bare_state s) (release_with (strip plain) r) (bare_state t)
   bare_releases s t r out =
@@ -171,8 +178,14 @@ module _ (plain : Bool) where
         time = subst (AllOfTime r.time) (sym packets) (bare_times r.time (packets_of_frame s f) out.time);
         metas = ap (map (strip plain)) out.metas ∙ bare_metas (packets_of_frame s f) ∙ ap metas_of (sym packets);
         contiguous = out.contiguous;
-        left = ap bare_state out.left ∙ ap (λ (hs : List Held). record s { held = hs; cutoff = Some f.last; depacketizer = out.depacketizer; contiguity =
-            (checked s.contiguity r.codec_extra (follows s f)).2; evicted = false }) (sym (bare_above f.last s.held));
+        left = ap bare_state out.left ∙ ap (λ (hs : List Held). record s {
+          held = hs;
+          cutoff = Some f.last;
+          depacketizer = out.depacketizer;
+          contiguity =
+              (checked s.contiguity r.codec_extra (follows s f)).2;
+          evicted = false;
+        }) (sym (bare_above f.last s.held));
       }
 
   -- a frame that is passed over
@@ -188,8 +201,13 @@ module _ (plain : Bool) where
         gives = subst (λ (ps : List Held). Unpacks s.depacketizer ps nothing_unpacked (Ok over.unpacked) over.depacketizer) (sym packets)
             (bare_unpacks s.depacketizer (packets_of_frame s f) nothing_unpacked (Ok over.unpacked) over.depacketizer over.gives);
         may_not = over.may_not;
-        left = ap bare_state over.left ∙ ap (λ (hs : List Held). record s { held = hs; cutoff = Some f.last; depacketizer = over.depacketizer; contiguity =
-            (checked s.contiguity over.unpacked.extra (follows s f)).2 }) (sym (bare_above f.last s.held));
+        left = ap bare_state over.left ∙ ap (λ (hs : List Held). record s {
+          held = hs;
+          cutoff = Some f.last;
+          depacketizer = over.depacketizer;
+          contiguity =
+              (checked s.contiguity over.unpacked.extra (follows s f)).2;
+        }) (sym (bare_above f.last s.held));
       }
 
   pub bare_has : (n : ℕ) (hs : List Held) → has_number n (map bare hs) ≡ has_number n hs

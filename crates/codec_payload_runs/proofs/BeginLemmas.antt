@@ -1,6 +1,7 @@
 -- Where the first unit comes first and whole, nothing is evicted and no pop is made too early, the released units are a
 -- beginning of those that were sent.
-use Rattle.std.proofs.Common.{◌≡◌, ◌∙◌, refl, sym, ap, ℕ, zero, suc, subst, List, [], Option, Some, None, Ok, Err, true, false, cond, ◌++◌, ◌+◌, ◌∷◌, ◌<◌, ◌≤◌, ◌⊎◌, ◌||◌, arith, length, map, inl, inr, ltb}
+use Rattle.std.proofs.Common.{◌≡◌, ◌∙◌, refl, sym, ap, ℕ, zero, suc, subst, List, [], Option, Some, None, Ok, Err}
+use Rattle.std.proofs.Common.{true, false, cond, ◌++◌, ◌+◌, ◌∷◌, ◌<◌, ◌≤◌, ◌⊎◌, ◌||◌, arith, length, map, inl, inr, ltb}
 use Rattle.std.specs.Prelude.{slice_get}
 use Rattle.std.proofs.lemmas.Bool.{cases_lt}
 use Rattle.std.proofs.lemmas.Bool.Decides.{nat_tests}
@@ -40,7 +41,7 @@ due_starts s [] f h few = absurd (cc)
 due_starts s (g ∷ gs) f h few =
     let full : ltb s.hold_back (length (g ∷ gs)) ≡ false = grind (arith, nat_tests, few) in
     by_test (starts_right_after s.cutoff g.first) (λ b. starts_right_after s.cutoff g.first ≡ b
-        → cond (b || ltb s.hold_back (length (g ∷ gs))) (Some g) None ≡ Some f → starts_right_after s.cutoff f.first ≡ true)
+    → cond (b || ltb s.hold_back (length (g ∷ gs))) (Some g) None ≡ Some f → starts_right_after s.cutoff f.first ≡ true)
     (λ e is h. let same : g ≡ f = cc in subst (λ (x : CompleteFrame). starts_right_after s.cutoff x.first ≡ true) same is)
     (λ e is h. let nothing : cond (false || ltb s.hold_back (length (g ∷ gs))) (Some g) None ≡ None = rw full refl in absurd (cc))
     refl h
@@ -111,7 +112,7 @@ module _ (c : Setting) where
       let whole = whole_release c from s t r n ready.beyond out is.1 is.2 in
       let kept = (checked s.contiguity r.codec_extra (follows s out.frame)).2 in
       let next : Follows c (frame.place + 1) out.depacketizer kept =
-          (goes_on c from s out.frame ready.beyond out.is_due is.0 taken (record { bytes = r.bytes; extra = r.codec_extra }) out.depacketizer out.gives (follows s out.frame)).1 in
+      (goes_on c from s out.frame ready.beyond out.is_due is.0 taken (record { bytes = r.bytes; extra = r.codec_extra }) out.depacketizer out.gives (follows s out.frame)).1 in
       record {
         whole = whole.whole;
         ready = record { beyond = whole.next; few = few_released c s t r ready.few out };
@@ -219,10 +220,14 @@ module _ (c : Setting) where
       let now = span_ready c 0 w left chain.1 in
       let step = first_at w.now turn.after turn.passed turn.answer (answers_of turns) now (span_taken 0 s w chain.0 left chain.1 taken) whole chain.2 in
       elim step.then_ [
-        | inl before ↦
-            (step.next, subst (λ (n : ℕ). NextAre n turns) (sym before.0)
-                (begins_from turn.after turns end before.1 before.2 chain.3 before.3 nothing.1 (subst (λ (n : ℕ). IsPatient c.first c.units n turns) before.0 patient.1)))
-        | inr after ↦
-            (step.next, subst (λ (n : ℕ). NextAre n turns) (sym after.0)
-                (next_from 1 turn.after turns end after.1 after.2 after.3 chain.3 nothing.1 (subst (λ (n : ℕ). IsPatient c.first c.units n turns) after.0 patient.1)))
+        | inl before ↦ (
+          step.next,
+          subst (λ (n : ℕ). NextAre n turns) (sym before.0)
+              (begins_from turn.after turns end before.1 before.2 chain.3 before.3 nothing.1 (subst (λ (n : ℕ). IsPatient c.first c.units n turns) before.0 patient.1)),
+        )
+        | inr after ↦ (
+          step.next,
+          subst (λ (n : ℕ). NextAre n turns) (sym after.0)
+              (next_from 1 turn.after turns end after.1 after.2 after.3 chain.3 nothing.1 (subst (λ (n : ℕ). IsPatient c.first c.units n turns) after.0 patient.1)),
+        )
       ]

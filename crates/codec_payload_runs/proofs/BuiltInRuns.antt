@@ -5,10 +5,12 @@ use Rattle.codec_payload_base.specs.declared.error.PacketError.{PacketError}
 use Rattle.codec_payload_base.specs.declared.error.PacketError.TheVariants as faults
 use Rattle.codec_payload_codec.proofs.CaseLemmas.{by_test}
 use Rattle.codec_payload_send.proofs.SendLemmas.{as_built_in}
-use Rattle.codec_payload_codec.specs.Depacketizers.{DepacketizerState, G711Depacketizing, OpusDepacketizing, ComfortNoiseDepacketizing, TeleDepacketizing, Vp8Depacketizing, Vp9Depacketizing, Av1Depacketizing, AmrWbDepacketizing, NullDepacketizing, BoxedDepacketizing, DepacketizerStep, is_built_in_depacketizer, is_codec}
+use Rattle.codec_payload_codec.specs.Depacketizers.{DepacketizerState, G711Depacketizing, OpusDepacketizing, ComfortNoiseDepacketizing, TeleDepacketizing, Vp8Depacketizing, Vp9Depacketizing}
+use Rattle.codec_payload_codec.specs.Depacketizers.{Av1Depacketizing, AmrWbDepacketizing, NullDepacketizing, BoxedDepacketizing, DepacketizerStep, is_built_in_depacketizer, is_codec}
 use Rattle.codec_payload_runs.specs.Headline.{IsUnused}
 use Rattle.codec_payload_buffer.specs.Held.{Held, placed, number_of}
-use Rattle.codec_payload_codec.specs.Packetizers.{PacketizerState, G711Packetizing, G722Packetizing, OpusPacketizing, ComfortNoisePacketizing, TelePacketizing, Vp8Packetizing, Vp9Packetizing, Av1Packetizing, AmrWbPacketizing, NullPacketizing, BoxedPacketizing, PacketizerStep, is_built_in}
+use Rattle.codec_payload_codec.specs.Packetizers.{PacketizerState, G711Packetizing, G722Packetizing, OpusPacketizing, ComfortNoisePacketizing, TelePacketizing, Vp8Packetizing}
+use Rattle.codec_payload_codec.specs.Packetizers.{Vp9Packetizing, Av1Packetizing, AmrWbPacketizing, NullPacketizing, BoxedPacketizing, PacketizerStep, is_built_in}
 use Rattle.codec_payload_send.specs.Packets.{Packet, AreNumbered}
 use Rattle.codec_payload_runs.specs.Schedule as any
 use Rattle.codec_payload_runs.specs.Schedule.{Answer, RunState, payloads_of, fault_of, packets_sent, after_send, meta_of_push}

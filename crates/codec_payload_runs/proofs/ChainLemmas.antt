@@ -70,7 +70,7 @@ module _ (all_steps : List Step) (named : ℕ → ℕ → DepacketizerState → 
               let send = next.0 in
               let index : k ≡ j = cc in
               inr (has_more n w.pushes ps (inr (subst (λ (m : ℕ). has_number n (named m j w.now.depacketizer) ≡ true) same
-                  (subst (λ (i : ℕ). has_number n (named at i w.now.depacketizer) ≡ true) index (has w.now.depacketizer)))))
+              (subst (λ (i : ℕ). has_number n (named at i w.now.depacketizer) ≡ true) index (has w.now.depacketizer)))))
         ]
         | inr h ↦ inr (has_more n w.pushes ps (inl h))
       ])
@@ -138,7 +138,7 @@ module _ (c : Setting) where
       let number = number_of_sent c.known c.clock_rate c.first c.kind c.faithful c.splits c.units c.lawful c.numbered p i in
       let drop : is_dropped s (number_of p) ≡ true =
       subst (λ (n : ℕ). is_dropped s n ≡ true) (sym number) (dropped c.known c.clock_rate c.first c.kind c.faithful c.splits c.units k i.0 rest s exactly
-          (slice_get_within (packets_of c.units) i.0 i.1 i.2)) in
+      (slice_get_within (packets_of c.units) i.0 i.1 i.2)) in
       rw drop (all_dropped k rest s ps sent.1 exactly)
 
   is_pop : (s t : State) (over : List CompleteFrame) (a : Answer) → IsPop c s t over a → Pops s a t × (a ≢ Some (Err faults.OutOfMemory))

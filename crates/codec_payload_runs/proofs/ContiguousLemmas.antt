@@ -1,6 +1,7 @@
 -- A released unit is contiguous exactly where its first number follows the last of the one before, or it is the first and
 -- nothing was evicted before it.
-use Rattle.std.proofs.Common.{◌≡◌, ◌∙◌, refl, sym, ap, ℕ, subst, List, [], Option, Some, None, Ok, Err, Bool, true, false, ◌++◌, ◌+◌, ◌-◌, ◌∷◌, ◌<◌, ◌≤◌, ◌⊎◌, arith, length, inl, inr, ◌||◌, ◌&&◌, not, eqb}
+use Rattle.std.proofs.Common.{◌≡◌, ◌∙◌, refl, sym, ap, ℕ, subst, List, [], Option, Some, None, Ok, Err, Bool, true}
+use Rattle.std.proofs.Common.{false, ◌++◌, ◌+◌, ◌-◌, ◌∷◌, ◌<◌, ◌≤◌, ◌⊎◌, arith, length, inl, inr, ◌||◌, ◌&&◌, not, eqb}
 use Rattle.std.specs.Prelude.{IsTrue, ◌↔◌}
 use Rattle.std.proofs.lemmas.Bool.Decides.{nat_tests}
 use Rattle.std.proofs.lemmas.List.{take-append-drop}
@@ -93,8 +94,11 @@ tracked_left last evicted s t ns r a left known =
 -- what counts in a stretch lies above the cutoff
 above_held : (n c : ℕ) (hs : List Held) → AllAbove c hs → has_number n hs ≡ true → c < n
 above_held n c [] a h = absurd (cc)
-above_held n c (p ∷ ps) a h = elim (or_cases (eqb (number_of p) n) (has_number n ps) h) [ inl here
-    ↦ (let over = a.0 in grind (arith, nat_tests, here, over)) | inr later ↦ above_held n c ps a.1 later ]
+above_held n c (p ∷ ps) a h = elim (or_cases (eqb (number_of p) n) (has_number n ps) h) [
+  | inl here
+      ↦ (let over = a.0 in grind (arith, nat_tests, here, over))
+  | inr later ↦ above_held n c ps a.1 later
+]
 
 and_left : (a b : Bool) → (a && b) ≡ true → a ≡ true
 and_left true b h = refl

@@ -84,9 +84,9 @@ module _ (kind : DepacketizerKind) (Keeps : List ℕ → CodecExtra → Type 0) 
       (starts : Keeps [] extras.None) (tell : (piece : List ℕ) (pieces : List (List ℕ)) → TellAll kind Keeps id (cut header after sample rtp_time true number 0 (piece ∷ pieces)))
       (reads : payloads_by packetizer ≡ kind) (splits : may_split packetizer ≡ false) (next : next_id packetizer ≡ id) (first_id : id ≡ id_later id 0)
       (skips : is_skipped packetizer mtu sample.bytes ≡ is_empty sample.bytes || leb mtu reserve) (refuses : refusal_of packetizer mtu sample.bytes ≡ None)
-          (sends : units_sent packetizer mtu sample.bytes ≡ each_whole (sample.bytes ∷ []))
+      (sends : units_sent packetizer mtu sample.bytes ≡ each_whole (sample.bytes ∷ []))
       (skipping : is_skipped packetizer mtu sample.bytes ≡ true → payloads ≡ [] → (after ≡ packetizer_after packetizer mtu sample.bytes)
-          × (next_id (packetizer_after packetizer mtu sample.bytes) ≡ next_id packetizer))
+      × (next_id (packetizer_after packetizer mtu sample.bytes) ≡ next_id packetizer))
       (sending : is_skipped packetizer mtu sample.bytes ≡ false → (first : List ℕ) (others : List (List ℕ)) → payloads ≡ first ∷ others
       → (after ≡ packetizer_after packetizer mtu sample.bytes) × ((m : ℕ) → id_later (next_id after) m ≡ id_later id (1 + m))) where
     roomy : (piece : List ℕ) (pieces : List (List ℕ)) → leb mtu reserve ≡ false → ArePieces (mtu - reserve) sample.bytes (piece ∷ pieces)
@@ -103,7 +103,7 @@ module _ (kind : DepacketizerKind) (Keeps : List ℕ → CodecExtra → Type 0) 
     one_unit : is_skipped packetizer mtu sample.bytes ≡ false → (first : Packet) (others : List Packet) (pieces : List (List ℕ))
         → cut header after sample rtp_time true number 0 pieces ≡ first ∷ others → joined pieces ≡ sample.bytes
         → payloads ≡ described header true pieces → NoHeads kind others → head_in kind first.payload ≡ true → CarryPieces kind Keeps (first ∷ others) pieces
-            → EndsWithTail kind (first ∷ others) → TellAll kind Keeps id (first ∷ others)
+        → EndsWithTail kind (first ∷ others) → TellAll kind Keeps id (first ∷ others)
         → after ≡ packetizer_after packetizer mtu sample.bytes → ((m : ℕ) → id_later (next_id after) m ≡ id_later id (1 + m)) → SendsUnits packetizer mtu sample rtp_time number payloads after
     one_unit skip first others pieces cuts join is none head carries ends_so tells goes_on ids = record {
       units = whole kind Keeps first others pieces none id ∷ [];
@@ -123,13 +123,13 @@ module _ (kind : DepacketizerKind) (Keeps : List ℕ → CodecExtra → Type 0) 
         let full = none_empty (mtu - reserve) (piece ∷ []) (omega arith) are.sizes in
         let on = sending (roomy piece [] large are full) (header true true ++ piece) [] is in
         one_unit (roomy piece [] large are full) _ [] (piece ∷ []) refl are.join is tt (heads true true piece) (carry true number 0 (piece ∷ []) full)
-            (ends true number 0 piece []) (tell piece []) on.0 on.1
+        (ends true number 0 piece []) (tell piece []) on.0 on.1
     pieces_sent large some (piece ∷ more ∷ pieces) are is =
         let full = none_empty (mtu - reserve) (piece ∷ more ∷ pieces) (omega arith) are.sizes in
         let on = sending (roomy piece (more ∷ pieces) large are full) (header true false ++ piece) (described header false (more ∷ pieces)) is in
         one_unit (roomy piece (more ∷ pieces) large are full) _ (cut header after sample rtp_time false ((number + 1) % 2 ^ 64) 1 (more ∷ pieces)) (piece ∷ more ∷ pieces) refl are.join is
         (no_heads ((number + 1) % 2 ^ 64) 1 (more ∷ pieces)) (heads true false piece) (carry true number 0 (piece ∷ more ∷ pieces) full)
-            (ends true number 0 piece (more ∷ pieces)) (tell piece (more ∷ pieces)) on.0 on.1
+        (ends true number 0 piece (more ∷ pieces)) (tell piece (more ∷ pieces)) on.0 on.1
 
     -- the frame gives no packets, or those of one unit
     pub described_sends : AnswersDescribed header reserve mtu sample.bytes (Ok payloads) → SendsUnits packetizer mtu sample rtp_time number payloads after

@@ -68,8 +68,24 @@ no_pop_before (suc (suc zero)) l e = cc
 no_pop_before (suc (suc (suc n))) l e = omega (arith, l)
 
 all_pushed_first : (k : ℕ) → k < 2 → IsPushedFirst example_steps (example_entry ∷ []) k
-all_pushed_first zero l = record { place = 2; pushes = refl; before_pops = λ other m. no_pop_before other (omega (arith, m)); entry = example_entry; noted =
-    (0, omega arith, refl); sent_before = omega arith; reaches = omega arith }
-all_pushed_first (suc zero) l = record { place = 1; pushes = refl; before_pops = λ other m. no_pop_before other (omega (arith, m)); entry = example_entry; noted =
-    (0, omega arith, refl); sent_before = omega arith; reaches = omega arith }
+all_pushed_first zero l = record {
+  place = 2;
+  pushes = refl;
+  before_pops = λ other m. no_pop_before other (omega (arith, m));
+  entry = example_entry;
+  noted =
+      (0, omega arith, refl);
+  sent_before = omega arith;
+  reaches = omega arith;
+}
+all_pushed_first (suc zero) l = record {
+  place = 1;
+  pushes = refl;
+  before_pops = λ other m. no_pop_before other (omega (arith, m));
+  entry = example_entry;
+  noted =
+      (0, omega arith, refl);
+  sent_before = omega arith;
+  reaches = omega arith;
+}
 all_pushed_first (suc (suc k)) l = absurd (omega (arith, l))

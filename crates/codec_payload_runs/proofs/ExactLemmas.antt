@@ -31,7 +31,8 @@ use Rattle.codec_payload_buffer.specs.Release.{Release}
 use Rattle.codec_payload_runs.specs.Schedule.{Answer}
 use Rattle.codec_payload_runs.specs.LawfulUnits.{payloads_held, payloads_sent, AllLawful}
 use Rattle.codec_payload_runs.specs.SentStream.{SentUnit, packets_of, EndsWithTail, IsReleaseOf}
-use Rattle.codec_payload_buffer.specs.Steps.{State, is_dropped, is_at_most, due_of, due_among, follows, metas_of, packets_of_frame, Unpacked, Unpacks, nothing_unpacked, Gives, Pops, PassesOver, Refuses}
+use Rattle.codec_payload_buffer.specs.Steps.{State, is_dropped, is_at_most, due_of, due_among, follows, metas_of, packets_of_frame}
+use Rattle.codec_payload_buffer.specs.Steps.{Unpacked, Unpacks, nothing_unpacked, Gives, Pops, PassesOver, Refuses}
 use Rattle.codec_payload_buffer.specs.declared.buffer.frames.CompleteFrame.{CompleteFrame}
 use Rattle.codec_payload_buffer.specs.declared.buffer.unit.RtpMeta.{RtpMeta}
 use Rattle.codec_payload_buffer.specs.declared.contiguity.Contiguity.{Contiguity}
@@ -172,7 +173,7 @@ module _ (known : ℕ → Packet → RtpMeta → Type 0) (clock_rate first : ℕ
       let at = held_time known clock_rate kind faithful time in
       let run : IsRun f.first f.last at split.front =
       subst (λ (n : ℕ). IsRun n f.last at split.front) (sym next.2)
-          (run_of_exact known clock_rate kind faithful k (first + k) time u.packets split.front law.ends times numbers split.of_front f.last next.3) in
+      (run_of_exact known clock_rate kind faithful k (first + k) time u.packets split.front law.ends times numbers split.of_front f.last next.3) in
       let parts = part_between [] split.front split.back f.first f.last at run (subst Rises split.whole exactly.rises) in
       record {
         frame = f;
@@ -249,7 +250,7 @@ module _ (known : ℕ → Packet → RtpMeta → Type 0) (clock_rate first : ℕ
       never : (r : State) → PassesOver s r → ⊥
       never r over =
           let may = exactly.may_go unit.packets same_payloads over.unpacked over.depacketizer
-              (gives_unit over.frame over.is_due (Ok over.unpacked) over.depacketizer over.gives) (follows s over.frame) in
+          (gives_unit over.frame over.is_due (Ok over.unpacked) over.depacketizer over.gives) (follows s over.frame) in
           let yes : (checked s.contiguity over.unpacked.extra (follows s over.frame)).0 ≡ true = may.0 in
           let wrong : true ≡ false = sym yes ∙ over.may_not in
           cc

@@ -73,7 +73,7 @@ module _ (first m : ℕ) (before after : Option ReadId) (c : Contiguity) (extra 
   taken s was small is =
       let answer : checked c extra seq ≡ kept_by kept.Vp9 (verdict_with s.last_picture_id s.last_tl0_picture_id tells.picture tells.base (Some 0) tells.told.is_keyframe) =
       ap (λ (x : Contiguity). checked x extra seq) was ∙ (ap (λ (x : CodecExtra). checked (kept.Vp9 s) x seq) tells.is
-          ∙ by_ids s tells.told tells.picture tells.base seq tells.has_picture tells.has_base tells.base_layer) in
+      ∙ by_ids s tells.told tells.picture tells.base seq tells.has_picture tells.has_base tells.base_layer) in
       record {
         may = ap (λ (a : Bool × Bool × Contiguity). a.0) answer ∙ is.may;
         follows = record {

@@ -55,7 +55,7 @@ module _ (c : Setting) where
       let frame = frame_due c n s p.frame beyond p.is_due in
       let reads = (given c.known c.clock_rate c.first c.kind c.faithful c.splits c.units c.lawful c.numbered n s p.frame beyond p.is_due (Ok p.unpacked) p.depacketizer p.gives).0 in
       subst (Beyond c (frame.place + 1)) (sym p.left) (beyond_without c.known c.clock_rate c.first c.kind c.faithful c.splits c.units c.lawful c.numbered n s p.frame
-          beyond p.is_due (frame.place + 1) (omega (arith, frame.stop)) p.depacketizer reads _ s.evicted)
+      beyond p.is_due (frame.place + 1) (omega (arith, frame.stop)) p.depacketizer reads _ s.evicted)
 
   released_beyond : (n : ℕ) (s t : State) (r : Release) (beyond : Beyond c n s) (out : Releases s r t) → Beyond c ((frame_due c n s out.frame beyond out.is_due).place + 1) t
   released_beyond n s t r beyond out = (released_at c.known c.clock_rate c.first c.kind c.faithful c.splits c.units c.lawful c.numbered n s t r beyond out).2

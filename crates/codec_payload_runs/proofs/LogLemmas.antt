@@ -71,17 +71,29 @@ entry_before pushing samples place (steps.Send i mtu ∷ later) s t sends pops r
           omega (arith, split, made.reach, gains samples place i mtu s run.4 run.0 run.2 run.7 n (omega (arith, made.at, l)))
       | inr there ↦
           let after = made_from pushing samples (place + 1) later run.4 t run.1 run.3 entry run.8 there in
-          omega (arith, split, entry_before pushing samples (place + 1) later run.4 t run.1 run.3 run.8 entry there n l,
-              gains samples place i mtu s run.4 run.0 run.2 run.7 n (omega (arith, after, l)))
+          omega (
+            arith,
+            split,
+            entry_before pushing samples (place + 1) later run.4 t run.1 run.3 run.8 entry there n l,
+            gains samples place i mtu s run.4 run.0 run.2 run.7 n (omega (arith, after, l)),
+          )
     ]
 entry_before pushing samples place (steps.Push k ∷ later) s t sends pops run entry is n l =
     let same : sends ≡ run.1 = run.5 ∙ ap (λ (es : List Sent). es ++ run.1) run.7.0 in
-    omega (arith, entry_before pushing samples (place + 1) later run.4 t run.1 run.3 run.8 entry (subst (IsIn entry) same is) n l, ap (sent_before n) same,
-        ap (λ (x : RunState). length x.sink.packets) run.7.2)
+    omega (
+      arith,
+      entry_before pushing samples (place + 1) later run.4 t run.1 run.3 run.8 entry (subst (IsIn entry) same is) n l,
+      ap (sent_before n) same,
+      ap (λ (x : RunState). length x.sink.packets) run.7.2,
+    )
 entry_before pushing samples place (steps.Pop ∷ later) s t sends pops run entry is n l =
     let same : sends ≡ run.1 = run.5 ∙ ap (λ (es : List Sent). es ++ run.1) run.7.0 in
-    omega (arith, entry_before pushing samples (place + 1) later run.4 t run.1 run.3 run.8 entry (subst (IsIn entry) same is) n l, ap (sent_before n) same,
-        ap (λ (x : RunState). length x.sink.packets) run.7.6)
+    omega (
+      arith,
+      entry_before pushing samples (place + 1) later run.4 t run.1 run.3 run.8 entry (subst (IsIn entry) same is) n l,
+      ap (sent_before n) same,
+      ap (λ (x : RunState). length x.sink.packets) run.7.6,
+    )
 
 -- the steps that are left have their part of the log
 pub record Logs (named : ℕ → ℕ → DepacketizerState → List Held) (place : ℕ) (later : List Step) (w : Stretch) (pops : List Answer) (after : State) : Type 0 where
@@ -95,7 +107,7 @@ pub record Logs (named : ℕ → ℕ → DepacketizerState → List Held) (place
 abbrev pub DoesAsNamed : Pushing → (ℕ → ℕ → DepacketizerState → List Held) → List Packet → ℕ → List Sent → Type 0
 DoesAsNamed pushing named packets clock_rate all =
     (place k : ℕ) (s : RunState) → take (sent_before place all) packets ≡ s.sink.packets → s.payloading.clock_rate ≡ clock_rate
-        → after_pushes s.buffer (named place k s.buffer.depacketizer) ≡ pushing place k s
+    → after_pushes s.buffer (named place k s.buffer.depacketizer) ≡ pushing place k s
 
 module _ (pushing : Pushing) (named : ℕ → ℕ → DepacketizerState → List Held) (packets : List Packet) (clock_rate : ℕ) (all : List Sent) (samples : List Sample)
     (does : DoesAsNamed pushing named packets clock_rate all) where
@@ -106,15 +118,26 @@ module _ (pushing : Pushing) (named : ℕ → ℕ → DepacketizerState → List
   sent_by place later s t sends before pops run whole entries sent =
       let stream = streams pushing samples place later s t sends pops run in
       let count : sent_before place all ≡ length s.sink.packets =
-      omega (arith, ap (sent_before place) entries, before_append place before sends, sent place (omega arith),
-          none_before place sends (λ entry is. made_from pushing samples place later s t sends pops entry run is)) in
+      omega (
+        arith,
+        ap (sent_before place) entries,
+        before_append place before sends,
+        sent place (omega arith),
+        none_before place sends (λ entry is. made_from pushing samples place later s t sends pops entry run is),
+      ) in
       ap (take (sent_before place all)) (sym whole ∙ stream.gained) ∙ take_front s.sink.packets (packets_of stream.units) (sent_before place all) count
 
   pub log_from : (later : List Step) (place : ℕ) (s t : RunState) (sends before : List Sent) (pops : List Answer) (w : Stretch)
       → Runs pushing samples place later s sends pops t → t.sink.packets ≡ packets → s.payloading.clock_rate ≡ clock_rate → all ≡ before ++ sends
       → ((n : ℕ) → place ≤ n → sent_before n before ≡ length s.sink.packets) → w.now ≡ s.buffer → Logs named place later w pops t.buffer
-  log_from [] place s t sends before pops w run whole clock entries sent now = record { turns = []; end = w; is_log = refl; answers = sym run.1; left = now
-      ∙ ap (λ (x : RunState). x.buffer) (sym run.2) }
+  log_from [] place s t sends before pops w run whole clock entries sent now = record {
+    turns = [];
+    end = w;
+    is_log = refl;
+    answers = sym run.1;
+    left = now
+        ∙ ap (λ (x : RunState). x.buffer) (sym run.2);
+  }
   log_from (steps.Send i mtu ∷ later) place s t sends before pops w run whole clock entries sent now =
       let mid = run.4 in
       let kept = send_keeps samples place i mtu s mid run.0 run.2 run.7 in
@@ -128,7 +151,7 @@ module _ (pushing : Pushing) (named : ℕ → ℕ → DepacketizerState → List
       let taken = sent_by place (steps.Push k ∷ later) s t sends before pops run whole entries sent in
       let sink : mid.sink ≡ s.sink = ap (λ (x : RunState). x.sink) run.7.2 in
       let rest = log_from later (place + 1) mid t run.1 (before ++ run.0) run.3 (with_pushes w (named place k w.now.depacketizer)) run.8 whole
-          (ap (λ (x : RunState). x.payloading.clock_rate) run.7.2 ∙ clock)
+      (ap (λ (x : RunState). x.payloading.clock_rate) run.7.2 ∙ clock)
       (entries ∙ ap (λ (es : List Sent). before ++ es) run.5 ∙ sym (append_assoc before run.0 run.1))
       (λ n l. before_append n before run.0 ∙ omega (arith, sent n (omega (arith, l)), ap (sent_before n) run.7.0, ap (λ x. length x.packets) sink))
       (ap (λ (b : State). after_pushes b (named place k b.depacketizer)) now ∙ does place k s taken clock ∙ sym (ap (λ (x : RunState). x.buffer) run.7.2)) in

@@ -1,6 +1,7 @@
 -- A unit that is held whole before a pop is released, or held whole in the end, or a push evicted one of its packets, or a
 -- pop passed it over.
-use Rattle.std.proofs.Common.{◌≡◌, ◌∙◌, refl, sym, ap, ℕ, zero, suc, subst, List, [], Some, None, Ok, Err, Bool, true, false, ◌+◌, ◌-◌, ◌∷◌, ◌<◌, ◌≤◌, ◌⊎◌, ◌||◌, ◌&&◌, not, arith, length, take, drop, inl, inr}
+use Rattle.std.proofs.Common.{◌≡◌, ◌∙◌, refl, sym, ap, ℕ, zero, suc, subst, List, [], Some, None, Ok, Err, Bool, true}
+use Rattle.std.proofs.Common.{false, ◌+◌, ◌-◌, ◌∷◌, ◌<◌, ◌≤◌, ◌⊎◌, ◌||◌, ◌&&◌, not, arith, length, take, drop, inl, inr}
 use Rattle.std.specs.Prelude.{slice_get, Contains}
 use Rattle.std.proofs.lemmas.Bool.{cases_lt}
 use Rattle.std.proofs.lemmas.List.{take-append-drop}
@@ -8,7 +9,8 @@ use Rattle.codec_payload_buffer.proofs.MemberLemmas.{IsIn, contains_in, in_appen
 use Rattle.codec_payload_buffer.proofs.PopLemmas.{due_first}
 use Rattle.codec_payload_runs.proofs.SafetyLemmas.{before_later, before_next, lawful_at, released_at}
 use Rattle.codec_payload_buffer.proofs.StretchLemmas.{in_number, range_in}
-use Rattle.codec_payload_runs.proofs.TurnLemmas.{Setting, Beyond, frame_due, count, IsSpan, IsPop, waits, releases, Chain, IsReady, span_within, span_left, span_ready, ready_pops, left_ready, passed_beyond}
+use Rattle.codec_payload_runs.proofs.TurnLemmas.{Setting, Beyond, frame_due, count, IsSpan, IsPop, waits, releases}
+use Rattle.codec_payload_runs.proofs.TurnLemmas.{Chain, IsReady, span_within, span_left, span_ready, ready_pops, left_ready, passed_beyond}
 use Rattle.codec_payload_runs.proofs.WholeLemmas.{has_above, lowest_frame, unit_in, some_packets}
 use Rattle.codec_payload_buffer.specs.Frames.{frames}
 use Rattle.codec_payload_runs.specs.Headline.{packets_before}
@@ -68,7 +70,7 @@ module _ (c : Setting) where
   -- the frame that is due, where a unit is held whole: it lies below the unit, or it is the unit's, whole
   pub due_whole : (from : ℕ) (s : State) (f : CompleteFrame) (place : ℕ) (u : SentUnit) (beyond : Beyond c from s) → slice_get c.units place ≡ Some u → Whole place s → (due : due_of s ≡ Some f)
       → (f.last < c.first + packets_before place c.units) ⊎ (let frame = frame_due c from s f beyond due in (frame.place ≡ place) × (frame.missing ≡ [])
-          × (f.first ≤ c.first + packets_before place c.units) × (f.last + 1 ≡ c.first + packets_before (place + 1) c.units))
+      × (f.first ≤ c.first + packets_before place c.units) × (f.last + 1 ≡ c.first + packets_before (place + 1) c.units))
   due_whole from s f place u beyond at whole due =
       let law = lawful_at c.kind c.splits c.units place u c.lawful at in
       let size = before_next c.units place u at in
@@ -84,7 +86,7 @@ module _ (c : Setting) where
             let stop : f.last + 1 ≡ c.first + packets_before (place + 1) c.units = omega (arith, here.0, l) in
             let same : frame.place ≡ place = same_end frame.place place frame.sent u frame.at_place at (omega (arith, frame.stop, stop)) in
             let start : f.first ≡ c.first + (packets_before place c.units + length frame.missing) = subst
-                (λ (p : ℕ). f.first ≡ c.first + (packets_before p c.units + length frame.missing)) same frame.start in
+            (λ (p : ℕ). f.first ≡ c.first + (packets_before p c.units + length frame.missing)) same frame.start in
             inr (same, no_length frame.missing (omega (arith, start, here.1)), here.1, stop)
       ]
 

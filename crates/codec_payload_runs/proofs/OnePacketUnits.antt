@@ -13,7 +13,8 @@ use Rattle.codec_payload_base.specs.declared.error.PacketError.{PacketError}
 use Rattle.codec_payload_base.specs.declared.error.PacketError.TheVariants as faults
 use Rattle.codec_payload_base.specs.declared.interface.CodecExtra.{CodecExtra}
 use Rattle.codec_payload_runs.proofs.TellLemmas.{is_quiet, quiet_tells}
-use Rattle.codec_payload_codec.specs.Depacketizers.{DepacketizerState, DepacketizerKind, ComfortNoiseDepacketizing, TeleDepacketizing, AmrWbDepacketizing, ComfortNoisePayloads, TelePayloads, AmrWbPayloads, kind_of_depacketizer, DepacketizerStep, head_in, tail_in}
+use Rattle.codec_payload_codec.specs.Depacketizers.{DepacketizerState, DepacketizerKind, ComfortNoiseDepacketizing, TeleDepacketizing, AmrWbDepacketizing, ComfortNoisePayloads}
+use Rattle.codec_payload_codec.specs.Depacketizers.{TelePayloads, AmrWbPayloads, kind_of_depacketizer, DepacketizerStep, head_in, tail_in}
 use Rattle.codec_payload_buffer.specs.Held.{Held}
 use Rattle.codec_payload_codec.specs.Packetizers.{PacketizerState, ComfortNoisePacketizing, TelePacketizing, AmrWbPacketizing}
 use Rattle.codec_payload_send.specs.Packets.{Packet}
@@ -80,7 +81,7 @@ abbrev pub OneOrNone : PacketizerState → ℕ → List ℕ → List (List ℕ) 
 OneOrNone packetizer mtu frame payloads =
     ((payloads ≡ []) × (canonical_units packetizer mtu frame ≡ []))
     ⊎ ((payload : List ℕ) × (bytes : List ℕ) × (payloads ≡ payload ∷ []) × (canonical_units packetizer mtu frame ≡ (bytes ∷ []) ∷ [])
-        × (is_readable packetizer frame ≡ true → IsCarried (payloads_by packetizer) payload bytes))
+    × (is_readable packetizer frame ≡ true → IsCarried (payloads_by packetizer) payload bytes))
 
 -- none of a frame that is skipped or refused, and all of any other
 pub none_skipped : (skips : Bool) (refusal : Option PacketError) (units : List (List (List ℕ))) → skips ≡ true → units_by skips refusal units ≡ []
@@ -149,8 +150,13 @@ tele_units mtu frame answer is found =
     by_answer (is_empty frame) (whole_refusal mtu frame) (λ packets. packets ≡ frame ∷ []) answer is found (OneOrNone TelePacketizing mtu frame)
     (λ skips. inl (refl, none_skipped (is_empty frame) (whole_refusal mtu frame) (each_whole (take 4 frame ∷ [])) skips))
     (λ fault sent refused. inl (refl, none_refused (is_empty frame) (whole_refusal mtu frame) fault (each_whole (take 4 frame ∷ [])) sent refused))
-    (λ packets sent taken is. inr (frame, take 4 frame, is, all_sent (is_empty frame) (whole_refusal mtu frame) (each_whole (take 4 frame ∷ [])) sent taken,
-        λ whole. tele_carried frame (reports sent whole)))
+    (λ packets sent taken is. inr (
+      frame,
+      take 4 frame,
+      is,
+      all_sent (is_empty frame) (whole_refusal mtu frame) (each_whole (take 4 frame ∷ [])) sent taken,
+      λ whole. tele_carried frame (reports sent whole),
+    ))
   where
     reports : is_empty frame ≡ false → (is_empty frame || are_reports frame) ≡ true → are_reports frame ≡ true
     reports some whole = rw some at whole
@@ -170,8 +176,13 @@ amr_wb_given (AmrWbDepacketizing own) octet packet frames extra one e out' extra
 amr_wb_given d octet packet frames extra one e out' extra' reads is step = absurd (cc)
 
 amr_wb_carried : (octet : Bool) (packet frames : List ℕ) → received octet (bits_of packet) ≡ Ok frames → IsCarried (AmrWbPayloads octet) packet (bytes_of frames)
-amr_wb_carried octet packet frames reads = record { head = refl; tail = λ marker. refl; quiet = refl; gives = λ d extra one e out' extra' is step. amr_wb_given d
-    octet packet frames extra one e out' extra' reads is step }
+amr_wb_carried octet packet frames reads = record {
+  head = refl;
+  tail = λ marker. refl;
+  quiet = refl;
+  gives = λ d extra one e out' extra' is step. amr_wb_given d
+      octet packet frames extra one e out' extra' reads is step;
+}
 
 -- the one packet of a stored frame
 abbrev SendsFrame : Bool → Option Frame → List (List ℕ) → Type 0

@@ -22,7 +22,7 @@ module _ (kind : DepacketizerKind) (Keeps : List ℕ → CodecExtra → Type 0) 
   abbrev pub IsPiece : List ℕ → List ℕ → Type 0
   IsPiece payload piece =
       (d : DepacketizerState) (out : List ℕ) (extra : CodecExtra) (one : Result (Unit {0}) PacketError) (e : DepacketizerState) (out' : List ℕ) (extra' : CodecExtra)
-          → kind_of_depacketizer d ≡ kind → Keeps out extra
+      → kind_of_depacketizer d ≡ kind → Keeps out extra
       → DepacketizerStep d payload out extra one e out' extra'
       → (kind_of_depacketizer e ≡ kind) × MatchResult one (λ _. (out' ≡ out ++ piece) × Keeps out' extra') (λ fault. fault ≡ faults.OutOfMemory)
 
@@ -50,7 +50,7 @@ module _ (kind : DepacketizerKind) (Keeps : List ℕ → CodecExtra → Type 0) 
 
   all_given : (packets : List Packet) (pieces : List (List ℕ)) (ps : List Held) (d : DepacketizerState) (u : Unpacked) (answer : Result Unpacked PacketError) (e : DepacketizerState)
       → CarryPieces packets pieces → kind_of_depacketizer d ≡ kind → Keeps u.bytes u.extra → payloads_held ps ≡ payloads_sent packets → Unpacks d ps u answer e
-          → Given (u.bytes ++ joined pieces) answer e
+      → Given (u.bytes ++ joined pieces) answer e
   all_given [] [] [] d u answer e carry is keeps same gives = (ap kind_of_depacketizer gives.1 ∙ is, rw gives.0 (sym (append-nil u.bytes)))
   all_given [] [] (h ∷ hs) d u answer e carry is keeps same gives = absurd (cc)
   all_given (p ∷ ps) (piece ∷ pieces) [] d u answer e carry is keeps same gives = absurd (cc)
@@ -58,7 +58,7 @@ module _ (kind : DepacketizerKind) (Keeps : List ℕ → CodecExtra → Type 0) 
       let here : h.bytes ≡ p.payload = cc in
       let later : payloads_held hs ≡ payloads_sent ps = cc in
       let step : DepacketizerStep d p.payload u.bytes u.extra gives.0 gives.1 gives.2.bytes gives.2.extra = subst
-          (λ (bytes : List ℕ). DepacketizerStep d bytes u.bytes u.extra gives.0 gives.1 gives.2.bytes gives.2.extra) here gives.3 in
+      (λ (bytes : List ℕ). DepacketizerStep d bytes u.bytes u.extra gives.0 gives.1 gives.2.bytes gives.2.extra) here gives.3 in
       others_given piece pieces hs u gives.2 gives.0 gives.1 answer e (carry.0 d u.bytes u.extra gives.0 gives.1 gives.2.bytes gives.2.extra is keeps step) gives.4
       (λ kept keeps_on rest. all_given ps pieces hs gives.1 gives.2 answer e carry.1 kept keeps_on later rest)
   all_given [] (piece ∷ pieces) hs d u answer e carry is keeps same gives = absurd carry
@@ -80,7 +80,7 @@ module _ (kind : DepacketizerKind) (Keeps : List ℕ → CodecExtra → Type 0) 
 
     gives_whole : (id : Option ℕ) → Keeps [] extras.None → CarryPieces (first ∷ others) pieces → (missing rest : List Packet) → missing ++ rest ≡ first ∷ others → StartsWithHead kind rest
         → (ps : List Held) → payloads_held ps ≡ payloads_sent rest → (d : DepacketizerState) (answer : Result Unpacked PacketError) (e : DepacketizerState)
-            → kind_of_depacketizer d ≡ kind → Unpacks d ps nothing_unpacked answer e
+        → kind_of_depacketizer d ≡ kind → Unpacks d ps nothing_unpacked answer e
         → (kind_of_depacketizer e ≡ kind) × MatchResult answer (λ unpacked. IsReleaseOf false (whole id) missing unpacked.bytes) (λ fault. fault ≡ faults.OutOfMemory)
     gives_whole id starts carry [] rest is head ps same d answer e reads gives =
         released id answer e (all_given (first ∷ others) pieces ps d nothing_unpacked answer e carry reads starts (same ∙ ap payloads_sent is) gives)
@@ -89,7 +89,7 @@ module _ (kind : DepacketizerKind) (Keeps : List ℕ → CodecExtra → Type 0) 
     tells_whole : (id : Option ℕ) → TellAll id (first ∷ others) → (missing rest : List Packet) → missing ++ rest ≡ first ∷ others → StartsWithHead kind rest
         → (ps : List Held) → payloads_held ps ≡ payloads_sent rest
         → (d : DepacketizerState) (unpacked : Unpacked) (e : DepacketizerState) → kind_of_depacketizer d ≡ kind → Unpacks d ps nothing_unpacked (Ok unpacked) e
-            → Tells id (read_by d) unpacked.extra (read_by e)
+        → Tells id (read_by d) unpacked.extra (read_by e)
     tells_whole None silent [] rest is head ps same d unpacked e reads gives =
         silent_unpacks kind ps d nothing_unpacked unpacked e (subst (AllSilent kind) (sym (same ∙ ap payloads_sent is)) silent) reads refl gives
     tells_whole None silent (m ∷ ms) rest is head ps same d unpacked e reads gives = absurd (none_later kind ms rest others none (cc) head)

@@ -37,11 +37,11 @@ red_sets_count with samples before all_steps other_steps sends other_sends pops 
     let other_ready : IsReady d 0 s.buffer = record { beyond = beyond; few = ready.few } in
     let other_chain : Chain d s.buffer other.turns other.end =
     chain_of d other_steps (pushes_of q) (λ place k dep at reads. as_sent d.known d.clock_rate d.first d.kind e.faithful d.faithful d.splits d.units e.lawful
-        d.lawful e.numbered d.numbered (pushes_of q place k dep)
-        (logs.named_sent q other_run other_is log.released.units log.lawful (log.released.packets ∙ packets) place k dep at reads))
+    d.lawful e.numbered d.numbered (pushes_of q place k dep)
+    (logs.named_sent q other_run other_is log.released.units log.lawful (log.released.packets ∙ packets) place k dep at reads))
     other_steps 0 (begun s.buffer) other.turns other.end refl 0 beyond (record { sent = tt; now = refl }) other.is_log in
     ap (map (answer_with bare_block)) (sym log.answers)
     ∙ chains_same false c d.known d.faithful (λ p. bare_block (meta_of_block 0 s.payloading.clock_rate with.receiver.primary_pt false p))
-        (λ k p m push. ap bare_block push.told) (λ k p m push. ap bare_block push.told)
+    (λ k p m push. ap bare_block push.told) (λ k p m push. ap bare_block push.told)
     0 0 s.buffer s.buffer log.turns other.turns log.end other.end ready other_ready refl (logs.log_chain r run is log) other_chain same
     ∙ ap (map (answer_with bare_block)) other.answers

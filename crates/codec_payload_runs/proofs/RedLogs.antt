@@ -24,7 +24,8 @@ use Rattle.codec_payload_runs.proofs.TurnLemmas.{Setting, ArePushes, Chain, IsRe
 use Rattle.codec_payload_runs.proofs.UnitRows.{IsFaithful, held_as}
 use Rattle.codec_payload_codec.specs.Depacketizers.{DepacketizerState, DepacketizerKind, kind_of_depacketizer, is_codec, tail_in}
 use Rattle.codec_payload_buffer.specs.Held.{has_number}
-use Rattle.codec_payload_codec.specs.Packetizers.{PacketizerState, G711Packetizing, G722Packetizing, OpusPacketizing, ComfortNoisePacketizing, TelePacketizing, Vp8Packetizing, Vp9Packetizing, Av1Packetizing, AmrWbPacketizing, NullPacketizing, BoxedPacketizing}
+use Rattle.codec_payload_codec.specs.Packetizers.{PacketizerState, G711Packetizing, G722Packetizing, OpusPacketizing, ComfortNoisePacketizing, TelePacketizing}
+use Rattle.codec_payload_codec.specs.Packetizers.{Vp8Packetizing, Vp9Packetizing, Av1Packetizing, AmrWbPacketizing, NullPacketizing, BoxedPacketizing}
 use Rattle.codec_payload_buffer.specs.Steps.{arrived}
 use Rattle.codec_payload_buffer.specs.Stretches.{after_pushes}
 use Rattle.codec_payload_buffer.specs.declared.buffer.unit.RtpMeta.{RtpMeta}
@@ -33,7 +34,8 @@ use Rattle.codec_payload_runs.specs.Headline.{InOrder}
 use Rattle.codec_payload_runs.specs.LawfulUnits.{AllLawful}
 use Rattle.codec_payload_runs.specs.Log.{Stretch, Turn, begun, packet_named, IsLogBy}
 use Rattle.codec_payload_send.specs.Packets.{Packet}
-use Rattle.codec_payload_runs.specs.RedPromises.{RedRan, sent_in, IsRedFresh, IsIn as IsInPacket, IsRedPushOf, WasSent, ReleasesRecovered, RecoversUnits, recovered_held, pushes_of, RedLog, RunsAsRedSteps, KeepsRedPromises}
+use Rattle.codec_payload_runs.specs.RedPromises.{RedRan, sent_in, IsRedFresh, IsIn as IsInPacket, IsRedPushOf, WasSent, ReleasesRecovered}
+use Rattle.codec_payload_runs.specs.RedPromises.{RecoversUnits, recovered_held, pushes_of, RedLog, RunsAsRedSteps, KeepsRedPromises}
 use Rattle.codec_payload_runs.specs.RedSchedule.{remembered, all_remembered, all_in_red, meta_of_block, meta_of_recovered, recovered_of, recovered_in}
 use Rattle.codec_payload_runs.specs.RunCounts.{sent_before}
 use Rattle.codec_payload_runs.specs.RunOrder.{AreStretches, AllFollowAsSaid}
@@ -197,7 +199,7 @@ module _ (r : RedRan) (run : RunsAsRedSteps r) (is : IsRedFresh r) where
   found : Logs (pushes_of r) 0 r.steps (begun s.buffer) r.pops t.buffer
   found =
       log_from (wrapped_by r.with red) (pushes_of r) t.sink.packets s.payloading.clock_rate r.sends r.samples does r.steps 0 s t r.sends [] r.pops
-          (begun s.buffer) runs.0 refl refl refl (λ n l. sym (ap length is.unused.nothing_sent)) refl
+      (begun s.buffer) runs.0 refl refl refl (λ n l. sym (ap length is.unused.nothing_sent)) refl
 
   module _ (units : List SentUnit) (lawful : AllLawful (payloads_by s.payloading.packetizer) (may_split s.payloading.packetizer) units) (packets : packets_of units ≡ t.sink.packets) where
     abbrev pub red_setting : Setting
@@ -213,7 +215,7 @@ module _ (r : RedRan) (run : RunsAsRedSteps r) (is : IsRedFresh r) where
         let there : slice_get (packets_of units) one.index ≡ Some one.packet = subst (λ (ps : List Packet). slice_get ps one.index ≡ Some one.packet) (sym packets) one.there in
         let meta = meta_is place s.payloading.clock_rate r.with.receiver.primary_pt p one.packet x (one.index == k) one.primary one.number one.time (λ same. own one same) in
         let push : IsRedPushOf r one.index one.packet (meta_of_recovered place s.payloading.clock_rate r.with.receiver.primary_pt p x) = record
-            { place = place; carrier = k; pushes = at; after_send = early; carried = one.carried; told = meta } in (
+        { place = place; carrier = k; pushes = at; after_send = early; carried = one.carried; told = meta } in (
           (
             one.index,
             one.packet,

@@ -91,12 +91,28 @@ no_pop_before (suc (suc (suc (suc zero)))) l e = cc
 no_pop_before (suc (suc (suc (suc (suc n))))) l e = omega (arith, l)
 
 second : IsPushedFirst all_steps run.sends 1
-second = record { place = 3; pushes = refl; before_pops = λ other m. no_pop_before other (omega (arith, m)); entry = entry_of 1; noted =
-    (1, omega arith, refl); sent_before = omega arith; reaches = omega arith }
+second = record {
+  place = 3;
+  pushes = refl;
+  before_pops = λ other m. no_pop_before other (omega (arith, m));
+  entry = entry_of 1;
+  noted =
+      (1, omega arith, refl);
+  sent_before = omega arith;
+  reaches = omega arith;
+}
 
 third : IsPushedFirst all_steps run.sends 2
-third = record { place = 4; pushes = refl; before_pops = λ other m. no_pop_before other (omega (arith, m)); entry = entry_of 2; noted =
-    (2, omega arith, refl); sent_before = omega arith; reaches = omega arith }
+third = record {
+  place = 4;
+  pushes = refl;
+  before_pops = λ other m. no_pop_before other (omega (arith, m));
+  entry = entry_of 2;
+  noted =
+      (2, omega arith, refl);
+  sent_before = omega arith;
+  reaches = omega arith;
+}
 
 there : (k : ℕ) → k < 3 → (carrier : ℕ) × IsPushedFirst all_steps run.sends carrier × IsIn run k carrier
 there zero l = (1, second, in_second)

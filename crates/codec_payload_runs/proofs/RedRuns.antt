@@ -112,7 +112,7 @@ runs_in_red w red samples place (steps.Push k ∷ later) s t sends pops packetiz
     one.0 ∙ ap (λ (ps : List Packet). after_pushes s.plain.buffer (recovered_held place s.plain.payloading.clock_rate w.receiver (slice_get ps k) s.plain.buffer.depacketizer)) now.images in
     let kept = in_step_kept red w.budget s run.4 (ap (λ (x : RedState). x.images) step.4) (ap (λ (x : RedState). x.sender) step.4) (ap (λ (x : RunState). x.sink.packets) plain) now in
     let rest = runs_in_red w red samples (place + 1) later run.4 t run.1 run.3 (ap (λ (x : RunState). is_built_in x.payloading.packetizer) plain ∙ packetizer)
-        (ap (λ (x : RunState). is_built_in_depacketizer x.buffer.depacketizer) plain ∙ one.1) kept run.8 in
+    (ap (λ (x : RunState). is_built_in_depacketizer x.buffer.depacketizer) plain ∙ one.1) kept run.8 in
     ((run.0, run.1, run.2, run.3, run.4.plain, run.5, run.6, (step.0, step.1, plain ∙ ap (λ (b : State). record s.plain { buffer = b }) is), rest.0), rest.1)
 runs_in_red w red samples place (steps.Pop ∷ later) s t sends pops packetizer depacketizer now run =
     let step = run.7.0 in

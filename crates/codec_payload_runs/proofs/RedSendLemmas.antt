@@ -1,5 +1,6 @@
 -- What a sample that was sent in RED leaves, as a step of a run.
-use Rattle.std.proofs.Common.{◌≡◌, ◌≢◌, ◌∙◌, sym, ap, refl, subst, ℕ, ◌+◌, ◌-◌, ◌<◌, ◌%◌, ◌^◌, ◌⊎◌, inl, inr, List, [], ◌∷◌, ◌++◌, length, arith, append_assoc, length-append, Option, Some, None, Result, Ok, Err, OnOk, IfErr}
+use Rattle.std.proofs.Common.{◌≡◌, ◌≢◌, ◌∙◌, sym, ap, refl, subst, ℕ, ◌+◌, ◌-◌, ◌<◌, ◌%◌, ◌^◌, ◌⊎◌, inl, inr}
+use Rattle.std.proofs.Common.{List, [], ◌∷◌, ◌++◌, length, arith, append_assoc, length-append, Option, Some, None, Result, Ok, Err, OnOk, IfErr}
 use Rattle.std.proofs.lemmas.List.{append-nil, map-append}
 use Rattle.std.specs.Result.{result_err}
 use Rattle.codec_payload_base.specs.declared.error.PacketError.{PacketError}
@@ -68,7 +69,7 @@ sends_plainly before (p ∷ ps) images after sends sent long =
     let mid = sends.2 in
     let kept = sends.4.0 in
     let grown : length (stream_of mid).packets ≡ length (stream_of before).packets + 1 = ap (λ (s : SentPackets). length s.packets) kept.1
-        ∙ length-append (stream_of before).packets (handed_on before p ∷ []) in
+    ∙ length-append (stream_of before).packets (handed_on before p ∷ []) in
     let longer : length (sent ++ p ∷ []) ≡ length (stream_of mid).packets = length-append sent (p ∷ []) ∙ omega (arith, long, grown) in
     let rest = sends_plainly mid ps sends.1 after sends.5 (sent ++ p ∷ []) longer in (
       p,
@@ -99,7 +100,7 @@ sample_plainly mtu sample p p' before after sent long did =
     let kept = all_kept_in_red before did.packets did.images after did.sends in
     let total : length (stream_of after).packets ≡ length (sent ++ did.packets) =
     ap (λ (s : SentPackets). length s.packets) kept.0 ∙ (length-append (stream_of before).packets _
-        ∙ omega (arith, length_in_red (sender_of before) (budget_of before) did.packets, long, length-append sent did.packets)) in
+    ∙ omega (arith, length_in_red (sender_of before) (budget_of before) did.packets, long, length-append sent did.packets)) in
     record {
       payloads = did.payloads;
       packetized = did.packetized;
@@ -126,13 +127,13 @@ sent_in_red : (place mtu : ℕ) (sample : Sample) (p p' : Payloading) (b : State
     → length sent ≡ length (stream_of before).packets → p'.clock_rate ≡ p.clock_rate
     → length (stream_of after).packets < 2 ^ 63 → SendsSample KeepsInRed kept_in_red next_in_red mtu sample p before p' after
     → SentInRed place mtu sample p p' b (stream_of before) (stream_of after) (sender_of before) (sender_of after) (budget_of before) sent
-        (length (stream_of after).packets - length (stream_of before).packets) None
+    (length (stream_of after).packets - length (stream_of before).packets) None
 sent_in_red place mtu sample p p' b before after sent long clock few did =
     let kept = all_kept_in_red before did.packets did.images after did.sends in
     let now = sent ++ did.packets in
     let total : length now ≡ length (stream_of after).packets =
     length-append sent did.packets ∙ (omega (arith, length_in_red (sender_of before) (budget_of before) did.packets, long)
-        ∙ (sym (length-append (stream_of before).packets _) ∙ sym (ap (λ (s : SentPackets). length s.packets) kept.0))) in
+    ∙ (sym (length-append (stream_of before).packets _) ∙ sym (ap (λ (s : SentPackets). length s.packets) kept.0))) in
     let count : length now - length sent ≡ length (stream_of after).packets - length (stream_of before).packets = omega (arith, total, long) in
     record {
       now = now;
@@ -140,7 +141,7 @@ sent_in_red place mtu sample p p' b before after sent long clock few did =
       plain = subst (λ (n : ℕ). SendsIt place mtu sample (run_state p b (plain_sink before sent))
           (record { step = place; first = length (stream_of before).packets; count = n; fault = None }) (run_state p' b (plain_sink after now))) count
           (subst (λ (n : ℕ). SendsIt place mtu sample (run_state p b (plain_sink before sent))
-              (record { step = place; first = n; count = length now - length sent; fault = None }) (run_state p' b (plain_sink after now))) long
+          (record { step = place; first = n; count = length now - length sent; fault = None }) (run_state p' b (plain_sink after now))) long
           (sent_it place mtu sample p p' b (plain_sink before sent) (plain_sink after now) clock (sample_plainly mtu sample p p' before after sent long did) (omega (arith, few, total))));
       in_red = record {
         packets = did.packets;
@@ -155,7 +156,7 @@ refused_in_red : (place mtu : ℕ) (sample : Sample) (fault : PacketError) (p p'
     → fault ≢ faults.OutOfMemory → length (stream_of before).packets < 2 ^ 63
     → (SendsNothing mtu sample fault p before p' after ⊎ SendsBeginning KeepsInRed RefusesInRed kept_in_red next_in_red mtu sample fault p before p' after)
     → SentInRed place mtu sample p p' b (stream_of before) (stream_of after) (sender_of before) (sender_of after) (budget_of before) sent
-        (length (stream_of after).packets - length (stream_of before).packets) (Some fault)
+    (length (stream_of after).packets - length (stream_of before).packets) (Some fault)
 refused_in_red place mtu sample fault p p' b before after sent long clock other few (inl nothing) =
     let same : plain_sink after sent ≡ plain_sink before sent = ap (λ (x : RedSink SentPackets). plain_sink x sent) nothing.same in
     let many = ap (λ (x : RedSink SentPackets). length (stream_of x).packets) nothing.same in
@@ -166,9 +167,9 @@ refused_in_red place mtu sample fault p p' b before after sent long clock other 
       plain = subst (λ (n : ℕ). SendsIt place mtu sample (run_state p b (plain_sink before sent))
           (record { step = place; first = length (stream_of before).packets; count = n; fault = Some fault }) (run_state p' b (plain_sink after sent))) count
           (subst (λ (n : ℕ). SendsIt place mtu sample (run_state p b (plain_sink before sent))
-              (record { step = place; first = n; count = length sent - length sent; fault = Some fault }) (run_state p' b (plain_sink after sent))) long
+          (record { step = place; first = n; count = length sent - length sent; fault = Some fault }) (run_state p' b (plain_sink after sent))) long
           (refused_it place mtu sample fault p p' b (plain_sink before sent) (plain_sink after sent) clock other (omega (arith, few, long))
-              (inl (record { packetized = nothing.packetized; same = same }))));
+          (inl (record { packetized = nothing.packetized; same = same }))));
       in_red = record {
         packets = [];
         gained = sym (append-nil sent);
@@ -187,7 +188,7 @@ pub noted_in_red : {T : Type 0} (place mtu : ℕ) (sample : Sample) (answer : Re
     → OnOk answer (SendsSample KeepsInRed kept_in_red next_in_red mtu sample p before p' after)
     → IfErr answer (λ refused. SendsNothing mtu sample refused p before p' after ⊎ SendsBeginning KeepsInRed RefusesInRed kept_in_red next_in_red mtu sample refused p before p' after)
     → SentInRed place mtu sample p p' b (stream_of before) (stream_of after) (sender_of before) (sender_of after) (budget_of before) sent
-        (length (stream_of after).packets - length (stream_of before).packets) fault
+    (length (stream_of after).packets - length (stream_of before).packets) fault
 noted_in_red place mtu sample (Ok x) fault p p' b before after sent long clock is other few few_after did refused = rw is
     (sent_in_red place mtu sample p p' b before after sent long clock few_after did)
 noted_in_red place mtu sample (Err e) fault p p' b before after sent long clock is other few few_after did refused =

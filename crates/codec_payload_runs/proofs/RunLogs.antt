@@ -110,8 +110,8 @@ module _ (samples : List Sample) (all_steps : List Step) (s t : RunState) (sends
   found : Logs named 0 all_steps (begun s.buffer) pops t.buffer
   found =
       log_from plainly named t.sink.packets s.payloading.clock_rate sends samples
-          (plain_as_named t.sink.packets s.payloading.clock_rate sends) all_steps 0 s t sends [] pops (begun s.buffer) run refl refl refl
-          (λ n l. sym (ap length unused.nothing_sent)) refl
+      (plain_as_named t.sink.packets s.payloading.clock_rate sends) all_steps 0 s t sends [] pops (begun s.buffer) run refl refl refl
+      (λ n l. sym (ap length unused.nothing_sent)) refl
 
   module _ (units : List SentUnit) (lawful : AllLawful (payloads_by s.payloading.packetizer) (may_split s.payloading.packetizer) units) (packets : packets_of units ≡ t.sink.packets) where
     abbrev pub run_setting : Setting
@@ -126,7 +126,7 @@ module _ (samples : List Sample) (all_steps : List Step) (s t : RunState) (sends
     pub run_chain : (turns : List Turn) (end : Stretch) → IsLog t.sink.packets s.payloading.clock_rate sends 0 all_steps (begun s.buffer) turns end → Chain run_setting s.buffer turns end
     run_chain turns end log =
         plain_chain run_setting all_steps sends turns end s.buffer run_fresh
-            (subst (λ (ps : List Packet). IsLog ps s.payloading.clock_rate sends 0 all_steps (begun s.buffer) turns end) (sym packets) log)
+        (subst (λ (ps : List Packet). IsLog ps s.payloading.clock_rate sends 0 all_steps (begun s.buffer) turns end) (sym packets) log)
 
   -- the units of the stream, and the packets that were sent
   sent : SendsAll s t stream.units
@@ -221,7 +221,7 @@ module _ (samples : List Sample) (all_steps : List Step) (s t : RunState) (sends
     contiguous_as_said plain =
         subst (λ (ps : List Packet). AllFollowAsSaid s.sink.first (length ps) None false log.turns) log.released.packets
         (all_follow log_setting 0 None false s.buffer log.turns log.end plain log_ready
-            (tracked samples all_steps s t stream unused readable Known faithful log.released.units log.lawful log.released.packets) log_chain)
+        (tracked samples all_steps s t stream unused readable Known faithful log.released.units log.lawful log.released.packets) log_chain)
 
     pub passes_none_over : PassesNoneOver log
     passes_none_over plain = none_is_passed log_setting 0 s.buffer log.turns log.end plain log_ready log_chain
@@ -253,8 +253,8 @@ only_sets_count samples all_steps other_steps s t u sends other_sends pops other
     let other_chain = plain_chain c other_steps other_sends other.turns other.end s.buffer beyond other_log in
     ap (map (answer_with bare_meta)) (sym log.answers)
     ∙ chains_same true c d.known d.faithful (λ q. bare_meta (meta_of_push 0 s.payloading.clock_rate q)) (λ k q m push. ap bare_meta push.3)
-        (λ k q m push. ap bare_meta push.3) 0 0 s.buffer s.buffer log.turns other.turns log.end other.end ready_of_log ready_of_other refl
-        (log_chain samples all_steps s t sends pops exactly unused readable log) other_chain same
+    (λ k q m push. ap bare_meta push.3) 0 0 s.buffer s.buffer log.turns other.turns log.end other.end ready_of_log ready_of_other refl
+    (log_chain samples all_steps s t sends pops exactly unused readable log) other_chain same
     ∙ ap (map (answer_with bare_meta)) other.answers
 
 -- what is promised of a run follows from its steps alone

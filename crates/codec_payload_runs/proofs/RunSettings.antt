@@ -54,7 +54,7 @@ module _ (samples : List Sample) (all_steps : List Step) (s t : RunState) (strea
       let sent = sends_all samples all_steps s t unused stream in
       let few = stream.few (omega (arith, ap length unused.nothing_sent)) in
       may_go_all kind splits (next_id s.payloading.packetizer) 0 stream.units s.buffer.depacketizer s.buffer.contiguity lawful stream.ids
-          (omega (arith, ap length sent.whole, few, no_more_units kind splits stream.units lawful)) unused.alike
+      (omega (arith, ap length sent.whole, few, no_more_units kind splits stream.units lawful)) unused.alike
       (begins s.payloading.packetizer (read_by s.buffer.depacketizer) s.buffer.contiguity unused.nothing_read (unused.nothing_kept ∙ ap contiguity_for unused.alike))
 
   module _ (units : List SentUnit) (lawful : AllLawful (payloads_by s.payloading.packetizer) (may_split s.payloading.packetizer) units) (packets : packets_of units ≡ t.sink.packets) where

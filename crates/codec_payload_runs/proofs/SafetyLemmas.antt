@@ -1,5 +1,6 @@
 -- Whatever is lost, repeated and reordered, units are released in order, each at most once.
-use Rattle.std.proofs.Common.{◌≡◌, ℕ, zero, suc, ◌<◌, ◌≤◌, ◌+◌, [], ◌∷◌, ◌++◌, List, length, take, drop, refl, ap, sym, ◌∙◌, subst, arith, Bool, false, cond, Option, Some, None, Result, Ok, Err, add-one, inl, inr, ltb}
+use Rattle.std.proofs.Common.{◌≡◌, ℕ, zero, suc, ◌<◌, ◌≤◌, ◌+◌, [], ◌∷◌, ◌++◌, List, length, take, drop, refl, ap, sym}
+use Rattle.std.proofs.Common.{◌∙◌, subst, arith, Bool, false, cond, Option, Some, None, Result, Ok, Err, add-one, inl, inr, ltb}
 use Rattle.std.specs.Prelude.{slice_get, MatchResult, MatchOption}
 use Rattle.std.proofs.lemmas.Bool.{cases_lt}
 use Rattle.std.proofs.lemmas.List.{length-append}
@@ -23,7 +24,8 @@ use Rattle.codec_payload_runs.specs.Schedule.{Answer, RunState}
 use Rattle.codec_payload_send.specs.Sending.{Sample}
 use Rattle.codec_payload_runs.specs.LawfulUnits.{StartsWithHead, IsLawful, AllLawful}
 use Rattle.codec_payload_runs.specs.SentStream.{SentUnit, packets_of, AllEndWithTail, IsReleaseOf}
-use Rattle.codec_payload_buffer.specs.Steps.{State, pushed, kept_to_limit, without_lowest, is_dropped, is_at_most, without, metas_of, due_of, packets_of_frame, Unpacked, Unpacks, nothing_unpacked, Gives, Passes, none, one_more, PassesOver, Releases, Refuses}
+use Rattle.codec_payload_buffer.specs.Steps.{State, pushed, kept_to_limit, without_lowest, is_dropped, is_at_most, without, metas_of, due_of, packets_of_frame}
+use Rattle.codec_payload_buffer.specs.Steps.{Unpacked, Unpacks, nothing_unpacked, Gives, Passes, none, one_more, PassesOver, Releases, Refuses}
 use Rattle.codec_payload_buffer.specs.declared.buffer.frames.CompleteFrame.{CompleteFrame}
 use Rattle.codec_payload_buffer.specs.declared.buffer.unit.RtpMeta.{RtpMeta}
 use Rattle.codec_payload_buffer.specs.declared.contiguity.Contiguity.{Contiguity}
@@ -39,15 +41,23 @@ next_after first (Some c) = c + 1
 pub before_next : (units : List SentUnit) (place : ℕ) (u : SentUnit) → slice_get units place ≡ Some u → packets_before (place + 1) units ≡ packets_before place units + length u.packets
 before_next [] place u h = absurd (cc)
 before_next (v ∷ us) zero u h = let e : v ≡ u = cc in rw (← e) (omega (arith, length-append v.packets []))
-before_next (v ∷ us) (suc place) u h = rw add-one (omega (arith, rw add-one at (before_next us place u h),
-    length-append v.packets (packets_of (take (suc place) us)), length-append v.packets (packets_of (take place us))))
+before_next (v ∷ us) (suc place) u h = rw add-one (omega (
+  arith,
+  rw add-one at (before_next us place u h),
+  length-append v.packets (packets_of (take (suc place) us)),
+  length-append v.packets (packets_of (take place us)),
+))
 
 pub before_later : (units : List SentUnit) (place n : ℕ) (u : SentUnit) → slice_get units place ≡ Some u → place < n → packets_before place units + length u.packets ≤ packets_before n units
 before_later [] place n u h l = absurd (cc)
 before_later (v ∷ us) place zero u h l = absurd (omega arith)
 before_later (v ∷ us) zero (suc n) u h l = let e : v ≡ u = cc in rw (← e) (omega (arith, length-append v.packets (packets_of (take n us))))
-before_later (v ∷ us) (suc place) (suc n) u h l = omega (arith, before_later us place n u h (omega arith), length-append v.packets (packets_of (take place us)),
-    length-append v.packets (packets_of (take n us)))
+before_later (v ∷ us) (suc place) (suc n) u h l = omega (
+  arith,
+  before_later us place n u h (omega arith),
+  length-append v.packets (packets_of (take place us)),
+  length-append v.packets (packets_of (take n us)),
+)
 
 pub lawful_at : (kind : DepacketizerKind) (splits : Bool) (units : List SentUnit) (place : ℕ) (u : SentUnit) → AllLawful kind splits units → slice_get units place ≡ Some u → IsLawful kind splits u
 lawful_at kind splits [] place u l h = absurd (cc)
@@ -160,9 +170,9 @@ module _ (known : ℕ → Packet → RtpMeta → Type 0) (clock_rate first : ℕ
       let zero : 0 + k ≡ k = omega arith in
       let row : RowOf known clock_rate kind faithful k (drop k (packets_of all)) packets = row_of_run k f.last part.time packets run (sent_front packets after sent) in
       let end = unit_of_row known clock_rate kind faithful splits all k 0 (first + k) f.last part.time packets lawful run
-          (subst (λ (n : ℕ). RowOf known clock_rate kind faithful n (drop k (packets_of all)) packets) (sym zero) row) in
+      (subst (λ (n : ℕ). RowOf known clock_rate kind faithful n (drop k (packets_of all)) packets) (sym zero) row) in
       let exact : Exact known clock_rate kind faithful (packets_before end.place all + length end.missing) end.rest packets = subst
-          (λ (n : ℕ). Exact known clock_rate kind faithful n end.rest packets) (zero ∙ end.index) end.exact in
+      (λ (n : ℕ). Exact known clock_rate kind faithful n end.rest packets) (zero ∙ end.index) end.exact in
       let low = above_next s.cutoff part.before packets after k f.first f.last part.time begin.1 part.run (rw part.whole at sound.beyond) in
       let long = run_length packets f.first f.last part.time part.run in
       let full = exact_length known clock_rate kind faithful (packets_before end.place all + length end.missing) end.rest packets exact in
@@ -235,7 +245,7 @@ module _ (known : ℕ → Packet → RtpMeta → Type 0) (clock_rate first : ℕ
   -- what the depacketizer answers for the frame that is due
   pub given : (from : ℕ) (s : State) (f : CompleteFrame) (sound : IsBeyond from s) (due : due_of s ≡ Some f) (answer : Result Unpacked PacketError) (e : DepacketizerState) → Gives s f answer e
       → let frame = frame_of from s f sound due in (kind_of_depacketizer e ≡ kind)
-          × MatchResult answer (λ unpacked. IsReleaseOf splits frame.sent frame.missing unpacked.bytes) (λ fault. fault ≡ faults.OutOfMemory)
+      × MatchResult answer (λ unpacked. IsReleaseOf splits frame.sent frame.missing unpacked.bytes) (λ fault. fault ≡ faults.OutOfMemory)
   given from s f sound due answer e gives =
       let frame = frame_of from s f sound due in
       let law = lawful_at kind splits all frame.place frame.sent lawful frame.at_place in

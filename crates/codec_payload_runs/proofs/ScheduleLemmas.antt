@@ -1,5 +1,6 @@
 -- What a sent sample leaves, as a step of a run.
-use Rattle.std.proofs.Common.{◌≡◌, ◌≢◌, ◌∙◌, sym, ap, refl, subst, ℕ, suc, ◌+◌, ◌-◌, ◌<◌, ◌%◌, ◌^◌, ◌⊎◌, inl, inr, List, [], ◌∷◌, ◌++◌, length, arith, length-append, Option, Some, None, Result, Ok, Err, OnOk, OnErr, IfErr}
+use Rattle.std.proofs.Common.{◌≡◌, ◌≢◌, ◌∙◌, sym, ap, refl, subst, ℕ, suc, ◌+◌, ◌-◌, ◌<◌, ◌%◌, ◌^◌, ◌⊎◌, inl, inr}
+use Rattle.std.proofs.Common.{List, [], ◌∷◌, ◌++◌, length, arith, length-append, Option, Some, None, Result, Ok, Err, OnOk, OnErr, IfErr}
 use Rattle.std.proofs.lemmas.List.{append-nil}
 use Rattle.std.specs.Result.{result_err}
 use Rattle.codec_payload_base.specs.declared.error.PacketError.{PacketError}
@@ -67,8 +68,13 @@ sent_it place mtu sample p p' b sink sink' clock sent few =
 pub refused_it : (place mtu : ℕ) (sample : Sample) (fault : PacketError) (p p' : Payloading) (b : State) (sink sink' : SentPackets) → p'.clock_rate ≡ p.clock_rate
     → fault ≢ faults.OutOfMemory → length sink.packets < 2 ^ 63
     → (SendsNothing mtu sample fault p sink p' sink' ⊎ SendsBeginning Keeps Stays kept_packets next_number mtu sample fault p sink p' sink')
-    → SendsIt place mtu sample (run_state p b sink) (record { step = place; first = length sink.packets; count = length sink'.packets - length sink.packets; fault =
-        Some fault }) (run_state p' b sink')
+    → SendsIt place mtu sample (run_state p b sink) (record {
+      step = place;
+      first = length sink.packets;
+      count = length sink'.packets - length sink.packets;
+      fault =
+          Some fault;
+    }) (run_state p' b sink')
 refused_it place mtu sample fault p p' b sink sink' clock other few (inl nothing) =
     let many = ap (λ (s : SentPackets). length s.packets) nothing.same in
     let count : length sink'.packets - length sink.packets ≡ 0 = omega (arith, many) in

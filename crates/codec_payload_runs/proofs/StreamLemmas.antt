@@ -1,5 +1,6 @@
 -- What a run sends is the stream of its canonical units, each lawful.
-use Rattle.std.proofs.Common.{◌≡◌, ◌≢◌, ◌∙◌, sym, ap, refl, subst, ℕ, zero, suc, ◌+◌, ◌<◌, ◌%◌, ◌^◌, inl, inr, List, [], ◌∷◌, ◌++◌, length, map, arith, length-append, append_assoc, Bool, true, false, Option, Some, None, Result, Ok, Err}
+use Rattle.std.proofs.Common.{◌≡◌, ◌≢◌, ◌∙◌, sym, ap, refl, subst, ℕ, zero, suc, ◌+◌, ◌<◌, ◌%◌, ◌^◌, inl, inr, List}
+use Rattle.std.proofs.Common.{[], ◌∷◌, ◌++◌, length, map, arith, length-append, append_assoc, Bool, true, false, Option, Some, None, Result, Ok, Err}
 use Rattle.std.specs.Prelude.{MatchResult, MatchOption, slice_get}
 use Rattle.std.proofs.lemmas.List.{append-nil, map-append}
 use Rattle.codec_payload_audio.specs.Payloads.{Appends}
@@ -20,8 +21,10 @@ use Rattle.codec_payload_runs.proofs.UnitTimes.{AllOneTime, times_of_sample, tim
 use Rattle.codec_payload_runs.proofs.UnitValues.{AllCarry, carried_by_sample, carry_append, same_video}
 use Rattle.codec_payload_base.specs.declared.wire.extension.ExtensionValues.{ExtensionValues}
 use Rattle.codec_payload_runs.specs.RunValues.{is_video, values_of_run, values_of_sample}
-use Rattle.codec_payload_codec.specs.Depacketizers.{DepacketizerState, G711Depacketizing, OpusDepacketizing, NullDepacketizing, DepacketizerKind, G711Payloads, OpusPayloads, NullPayloads, kind_of_depacketizer, DepacketizerStep, head_in, tail_in}
-use Rattle.codec_payload_codec.specs.Packetizers.{PacketizerState, G711Packetizing, G722Packetizing, OpusPacketizing, ComfortNoisePacketizing, TelePacketizing, NullPacketizing, Vp8Packetizing, Vp9Packetizing, Av1Packetizing, AmrWbPacketizing, PacketizerStep, BoxedPacketizing, is_built_in}
+use Rattle.codec_payload_codec.specs.Depacketizers.{DepacketizerState, G711Depacketizing, OpusDepacketizing, NullDepacketizing, DepacketizerKind, G711Payloads}
+use Rattle.codec_payload_codec.specs.Depacketizers.{OpusPayloads, NullPayloads, kind_of_depacketizer, DepacketizerStep, head_in, tail_in}
+use Rattle.codec_payload_codec.specs.Packetizers.{PacketizerState, G711Packetizing, G722Packetizing, OpusPacketizing, ComfortNoisePacketizing, TelePacketizing, NullPacketizing}
+use Rattle.codec_payload_codec.specs.Packetizers.{Vp8Packetizing, Vp9Packetizing, Av1Packetizing, AmrWbPacketizing, PacketizerStep, BoxedPacketizing, is_built_in}
 use Rattle.codec_payload_send.specs.Packets.{Packet, SentPackets, AreNumbered}
 use Rattle.codec_payload_runs.specs.ToldIds.{next_id}
 use Rattle.codec_payload_send.specs.Sending.{Sample, packets_for, packets_from, rtp_time_at}
@@ -139,7 +142,7 @@ one_sends : (packetizer after : PacketizerState) (mtu : ℕ) (sample : Sample) (
     → SendsUnits packetizer mtu sample rtp_time number payloads after
 one_sends packetizer after mtu sample rtp_time number payloads whole no_id none_after goes_on (inl none) =
     subst (SendsUnits packetizer mtu sample rtp_time number payloads) (sym goes_on)
-        (no_units packetizer mtu sample rtp_time number payloads none.0 none.1 (ap next_id (sym goes_on) ∙ (none_after ∙ sym no_id)))
+    (no_units packetizer mtu sample rtp_time number payloads none.0 none.1 (ap next_id (sym goes_on) ∙ (none_after ∙ sym no_id)))
 one_sends packetizer after mtu sample rtp_time number payloads whole no_id none_after goes_on (inr (payload, bytes, is, canonical, carried)) = record {
   units = map (one_packet bytes) (packets_for after sample rtp_time number (payload ∷ []));
   canonical = sym canonical;
@@ -257,7 +260,7 @@ no_stream samples s t same = record {
 -- a step that does not send, and those after it
 keeps_stream : (samples : List Sample) (later all : List Step) (s mid t : RunState) → mid.payloading.packetizer ≡ s.payloading.packetizer → mid.sink ≡ s.sink
     → units_of_run s.payloading.packetizer samples all ≡ units_of_run s.payloading.packetizer samples later
-        → values_of_run s.payloading.packetizer samples all ≡ values_of_run s.payloading.packetizer samples later
+    → values_of_run s.payloading.packetizer samples all ≡ values_of_run s.payloading.packetizer samples later
     → Streams samples later mid t → Streams samples all s t
 keeps_stream samples later all s mid t packetizer sink units values rest = record {
   units = rest.units;
@@ -287,10 +290,10 @@ sends_stream samples later i mtu place sample entry s mid t there sent rest =
     let kind = ap payloads_by packetizer ∙ same_payloads s.payloading.packetizer mtu sample.bytes in
     let splits = ap may_split packetizer ∙ same_splits s.payloading.packetizer mtu sample.bytes in
     let whole : units_of_run s.payloading.packetizer samples (steps.Send i mtu ∷ later) ≡ canonical_units s.payloading.packetizer mtu sample.bytes
-        ++ units_of_run (packetizer_after s.payloading.packetizer mtu sample.bytes) samples later =
+    ++ units_of_run (packetizer_after s.payloading.packetizer mtu sample.bytes) samples later =
     ap (λ (o : Option Sample). units_of_sample s.payloading.packetizer mtu o ++ units_of_run (packetizer_after_sample s.payloading.packetizer mtu o) samples later) there in
     let told : values_of_run s.payloading.packetizer samples (steps.Send i mtu ∷ later) ≡ values_of_sample s.payloading.packetizer mtu (Some sample)
-        ++ values_of_run (packetizer_after s.payloading.packetizer mtu sample.bytes) samples later =
+    ++ values_of_run (packetizer_after s.payloading.packetizer mtu sample.bytes) samples later =
     ap (λ (o : Option Sample). values_of_sample s.payloading.packetizer mtu o ++ values_of_run (packetizer_after_sample s.payloading.packetizer mtu o) samples later) there in
     let next : mid.sink.first + length mid.sink.packets ≡ (s.sink.first + length s.sink.packets) + length packets =
     omega (arith, first, ap length sink, length-append s.sink.packets packets) in
@@ -299,13 +302,13 @@ sends_stream samples later i mtu place sample entry s mid t there sent rest =
       canonical = map-append (λ (u : SentUnit). u.parts) here.units rest.units
           ∙ (ap (λ (us : List (List (List ℕ))). us ++ map (λ (u : SentUnit). u.parts) rest.units) here.canonical
           ∙ (ap (λ (us : List (List (List ℕ))). canonical_units s.payloading.packetizer mtu sample.bytes ++ us)
-              (rest.canonical ∙ ap (λ (p : PacketizerState). units_of_run p samples later) packetizer) ∙ sym whole));
+          (rest.canonical ∙ ap (λ (p : PacketizerState). units_of_run p samples later) packetizer) ∙ sym whole));
       gained = rest.gained ∙ (ap (λ (ps : List Packet). ps ++ packets_of rest.units) (sink ∙ ap (λ (ps : List Packet). s.sink.packets ++ ps) (sym here.packets))
           ∙ (append_assoc s.sink.packets (packets_of here.units) (packets_of rest.units) ∙ ap (λ (ps : List Packet). s.sink.packets ++ ps) (sym (packets_append here.units rest.units))));
       lawful = λ readable. lawful_append (payloads_by s.payloading.packetizer) (may_split s.payloading.packetizer) here.units rest.units
           (here.lawful (readable_at s.payloading.packetizer samples i sample readable there))
           (subst (λ (b : Bool). AllLawful (payloads_by s.payloading.packetizer) b rest.units) splits
-              (subst (λ (k : DepacketizerKind). AllLawful k (may_split mid.payloading.packetizer) rest.units) kind
+          (subst (λ (k : DepacketizerKind). AllLawful k (may_split mid.payloading.packetizer) rest.units) kind
           (rest.lawful (subst (λ (p : PacketizerState). AreReadable p samples) (sym packetizer) (readable_after s.payloading.packetizer mtu sample.bytes samples readable)))));
       one_time = times_append here.units rest.units (times_of_sample sent.packetizer sample time (s.sink.first + length s.sink.packets)
           (payloads_of sent.answer) here.units here.packets) rest.one_time;
@@ -319,7 +322,7 @@ sends_stream samples later i mtu place sample entry s mid t there sent rest =
           (carry_append (values_of_sample s.payloading.packetizer mtu (Some sample)) (values_of_run (packetizer_after s.payloading.packetizer mtu sample.bytes) samples later) here.units rest.units
           (carried_by_sample s.payloading.packetizer sent.packetizer mtu sample time (s.sink.first + length s.sink.packets) (payloads_of sent.answer) here.units video here.canonical here.packets)
           (subst (λ (p : PacketizerState). AllCarry (values_of_run p samples later) rest.units) packetizer
-              (rest.values (ap is_video packetizer ∙ (same_video s.payloading.packetizer mtu sample.bytes ∙ video)))));
+          (rest.values (ap is_video packetizer ∙ (same_video s.payloading.packetizer mtu sample.bytes ∙ video)))));
     }
 
 pub streams : (pushing : Pushing) (samples : List Sample) (place : ℕ) (later : List Step) (s t : RunState) (sends : List Sent) (pops : List Answer)

@@ -23,7 +23,7 @@ use Rattle.codec_payload_runs.specs.declared.run.Stream.{Stream}
 Ends : Bool → ℕ → Option PacketizerState → Option DepacketizerState → Type 0
 Ends octet rate (Some p) (Some d) =
     (kind_of_depacketizer (configured_depacketizer octet rate d) ≡ payloads_by (configured octet p)) × (read_by (configured_depacketizer octet rate d) ≡ None)
-        × (is_built_in (configured octet p) ≡ true)
+    × (is_built_in (configured octet p) ≡ true)
 Ends octet rate None None = Unit {0}
 Ends octet rate (Some p) None = ⊥
 Ends octet rate None (Some d) = ⊥
@@ -56,7 +56,7 @@ no_receiver octet rate (Some p) (Some d) ends h = absurd (cc)
 
 joined_ends : (octet : Bool) (rate : ℕ) (p : PacketizerState) (d : DepacketizerState) (op : Option PacketizerState) (od : Option DepacketizerState) → Ends octet rate op od → op ≡ Some p → od ≡ Some d
     → (kind_of_depacketizer (configured_depacketizer octet rate d) ≡ payloads_by (configured octet p)) × (read_by (configured_depacketizer octet rate d) ≡ None)
-        × (is_built_in (configured octet p) ≡ true)
+    × (is_built_in (configured octet p) ≡ true)
 unfolding Ends
 joined_ends octet rate p d op od ends sends receives = subst (λ (o : Option DepacketizerState). Ends octet rate (Some p) o) receives
     (subst (λ (o : Option PacketizerState). Ends octet rate o od) sends ends)
@@ -124,7 +124,7 @@ runs_stream stream samples steps run payloading buffer sink after d sends receiv
     let found = some_of_map _ _ payloading sends in
     let starts : run_state payloading buffer sink ≡ fresh stream (configured stream.spec.octet_align found.0) (configured_depacketizer stream.spec.octet_align stream.spec.clock_rate d) =
     ap (λ (b : State). run_state payloading b sink) empty ∙ (ap
-        (λ (k : SentPackets). run_state payloading (empty_buffer stream.hold_back stream.limit (configured_depacketizer stream.spec.octet_align stream.spec.clock_rate d)) k) unused
+    (λ (k : SentPackets). run_state payloading (empty_buffer stream.hold_back stream.limit (configured_depacketizer stream.spec.octet_align stream.spec.clock_rate d)) k) unused
     ∙ ap (λ (p : Payloading). run_state p (empty_buffer stream.hold_back stream.limit (configured_depacketizer stream.spec.octet_align stream.spec.clock_rate d))
-        (record { first = stream.first_number; packets = [] })) (sym found.2)) in
+    (record { first = stream.first_number; packets = [] })) (sym found.2)) in
     from_start stream samples steps run after found.0 d found.1 receives (subst (λ (s : RunState). KeepsPromises (ran samples steps s run after)) starts kept)

@@ -55,7 +55,7 @@ module _ (c : Setting) where
       let frame = frame_due c n s f beyond due in
       let small : frame.place < 2 ^ 63 = omega (arith, c.short, slice_get_within c.units frame.place frame.sent frame.at_place) in
       let on = law.goes_on c.start n frame.place (read_by s.depacketizer) (read_by e) s.contiguity unpacked.extra seq before frame.not_before near small
-          (tells_due n s f beyond due unpacked e gives) in
+      (tells_due n s f beyond due unpacked e gives) in
       let next : suc frame.place ≡ frame.place + 1 = omega arith in
       (on.may, subst (λ (m : ℕ). law.Follows c.start m (read_by e) (checked s.contiguity unpacked.extra seq).2) next on.follows)
 

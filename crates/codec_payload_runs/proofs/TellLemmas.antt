@@ -7,7 +7,8 @@ use Rattle.codec_payload_base.specs.TelephoneReport.{TakesFirst}
 use Rattle.codec_payload_base.specs.declared.picture_id.PictureId.TheVariants.{Long}
 use Rattle.codec_payload_base.specs.declared.error.PacketError.{PacketError}
 use Rattle.codec_payload_base.specs.declared.interface.CodecExtra.{CodecExtra}
-use Rattle.codec_payload_codec.specs.Depacketizers.{DepacketizerState, ComfortNoiseDepacketizing, TeleDepacketizing, Vp8Depacketizing, Vp9Depacketizing, Av1Depacketizing, AmrWbDepacketizing, DepacketizerKind, Vp8Payloads, Vp9Payloads, kind_of_depacketizer, DepacketizerStep, head_in, BoxedDepacketizing, BoxedPayloads}
+use Rattle.codec_payload_codec.specs.Depacketizers.{DepacketizerState, ComfortNoiseDepacketizing, TeleDepacketizing, Vp8Depacketizing, Vp9Depacketizing, Av1Depacketizing, AmrWbDepacketizing, DepacketizerKind}
+use Rattle.codec_payload_codec.specs.Depacketizers.{Vp8Payloads, Vp9Payloads, kind_of_depacketizer, DepacketizerStep, head_in, BoxedDepacketizing, BoxedPayloads}
 use Rattle.codec_payload_buffer.specs.Held.{Held}
 use Rattle.codec_payload_send.specs.Packets.{Packet}
 use Rattle.codec_payload_runs.specs.LawfulUnits.{payloads_held, payloads_sent, StartsWithHead}
@@ -41,7 +42,7 @@ pub silent_unpacks : (kind : DepacketizerKind) (ps : List Held) (d : Depacketize
 silent_unpacks kind [] d u unpacked e silent is lacks gives = let same : unpacked ≡ u = cc (gives.0) in ap (λ (x : Unpacked). lacks_base x.extra) same ∙ lacks
 silent_unpacks kind (p ∷ ps) d u unpacked e silent is lacks gives =
     after_silent kind ps p d u unpacked gives.2 gives.0 gives.1 e silent.0 is lacks gives.3 gives.4
-        (λ is_on lacks_on rest. silent_unpacks kind ps gives.1 gives.2 unpacked e silent.1 is_on lacks_on rest)
+    (λ is_on lacks_on rest. silent_unpacks kind ps gives.1 gives.2 unpacked e silent.1 is_on lacks_on rest)
 
 -- payloads of these kinds never tell ids, whatever they are
 abbrev pub is_quiet : DepacketizerKind → Bool
@@ -120,7 +121,7 @@ after_told : (kind : DepacketizerKind) (id : ℕ) (start : Option ReadId) (ps : 
     → DepacketizerStep d p.bytes u.bytes u.extra one mid v.bytes v.extra
     → MatchResult one (λ _. Unpacks mid ps v (Ok unpacked) e) (λ fault. (◌≡◌ {A = Result Unpacked PacketError} (Ok unpacked) (Err fault)) × (e ≡ mid))
     → (kind_of_depacketizer mid ≡ kind → TellsPicture id (read_by d) v.extra (read_by mid) → Unpacks mid ps v (Ok unpacked) e
-        → TellsPicture id start unpacked.extra (read_by e)) → TellsPicture id start unpacked.extra (read_by e)
+    → TellsPicture id start unpacked.extra (read_by e)) → TellsPicture id start unpacked.extra (read_by e)
 after_told kind id start ps p d u unpacked v (Ok x) mid e told is step rest later = let here = told d u.bytes u.extra x mid v.bytes v.extra is step in later here.0 here.1 rest
 after_told kind id start ps p d u unpacked v (Err fault) mid e told is step rest later = let wrong = rest.0 in absurd (cc)
 
@@ -170,7 +171,7 @@ none_later kind (m ∷ ms) rest (p ∷ ps) none whole head = none_later kind ms 
 pub told_unit : (kind : DepacketizerKind) (id : ℕ) (first : Packet) (others : List Packet) → id < 32768 → NoHeads kind others → AllTold kind id (payloads_sent (first ∷ others))
     → (missing rest : List Packet) → missing ++ rest ≡ first ∷ others → StartsWithHead kind rest → (ps : List Held) → payloads_held ps ≡ payloads_sent rest
     → (d : DepacketizerState) (unpacked : Unpacked) (e : DepacketizerState) → kind_of_depacketizer d ≡ kind → Unpacks d ps nothing_unpacked (Ok unpacked) e
-        → TellsPicture id (read_by d) unpacked.extra (read_by e)
+    → TellsPicture id (read_by d) unpacked.extra (read_by e)
 told_unit kind id first others small none told (m ∷ ms) rest whole head ps same d unpacked e is gives = absurd (none_later kind ms rest others none (cc) head)
 told_unit kind id first others small none told [] rest whole head ps same d unpacked e is gives =
     let payloads : payloads_held ps ≡ payloads_sent (first ∷ others) = same ∙ ap payloads_sent whole in

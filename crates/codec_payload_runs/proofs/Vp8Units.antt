@@ -42,7 +42,7 @@ pub vp8_sends : (id next : Option ℕ) (mtu : ℕ) (sample : Sample) (rtp_time n
 vp8_sends id next mtu sample rtp_time number payloads small answer goes_on =
     described_sends Vp8Payloads Anything (header id) (Vp8Packetizing next) sample rtp_time (first_starts id) (λ number last payload. marks id sample last) (is_piece id small)
     (Vp8Packetizing id) None mtu (header_size id) number payloads tt
-        (λ piece pieces. all_silent Vp8Payloads (header id) (is_silent id small) (Vp8Packetizing next) sample rtp_time true number 0 (piece ∷ pieces))
+    (λ piece pieces. all_silent Vp8Payloads (header id) (is_silent id small) (Vp8Packetizing next) sample rtp_time true number 0 (piece ∷ pieces))
     refl refl refl refl refl refl refl
     (λ skip none. (ap Vp8Packetizing (goes_on ∙ rw (none, skip) refl), refl))
     (λ roomy first others some. (ap Vp8Packetizing (goes_on ∙ rw (some, roomy) refl), λ m. refl))

@@ -64,10 +64,12 @@ is_told id tl0 key small first last piece d out extra x e out' extra' is step = 
 
 tell : (mode : Vp9PacketizerMode) (id tl0 : ℕ) (key : Bool) (next : Sender) (sample : Sample) (rtp_time number : ℕ) → id < 2 ^ 15 → (piece : List ℕ) (pieces : List (List ℕ))
     → TellAll Vp9Payloads (IsInPlace mode) (id_in mode id) (cut (header (record { mode = mode; picture_id = id; tl0picidx = tl0 }) key)
-        (Vp9Packetizing next) sample rtp_time true number 0 (piece ∷ pieces))
-tell NonFlexible id tl0 key next sample rtp_time number small piece pieces =
-    (small, all_told Vp9Payloads id (header (record { mode = NonFlexible; picture_id = id; tl0picidx = tl0 }) key) (is_told id tl0 key small)
-        (Vp9Packetizing next) sample rtp_time true number 0 (piece ∷ pieces))
+    (Vp9Packetizing next) sample rtp_time true number 0 (piece ∷ pieces))
+tell NonFlexible id tl0 key next sample rtp_time number small piece pieces = (
+  small,
+  all_told Vp9Payloads id (header (record { mode = NonFlexible; picture_id = id; tl0picidx = tl0 }) key) (is_told id tl0 key small)
+      (Vp9Packetizing next) sample rtp_time true number 0 (piece ∷ pieces),
+)
 tell Flexible id tl0 key next sample rtp_time number small piece pieces =
     all_silent Vp9Payloads (header (record { mode = Flexible; picture_id = id; tl0picidx = tl0 }) key) (is_silent id tl0 key small) (Vp9Packetizing next) sample rtp_time true number 0 (piece ∷ pieces)
 
@@ -91,7 +93,7 @@ goes_round Flexible id m = refl
 begun_keeps : (s : Sender) (mtu : ℕ) (frame : List ℕ) → ((begun s mtu frame).mode ≡ s.mode) × ((begun s mtu frame).picture_id ≡ s.picture_id)
 begun_keeps s mtu frame =
     by_test (is_empty frame || eqb mtu 0) (λ b. ((cond b s (record s { tl0picidx = next_tl0_in s.mode s.tl0picidx })).mode ≡ s.mode)
-        × ((cond b s (record s { tl0picidx = next_tl0_in s.mode s.tl0picidx })).picture_id ≡ s.picture_id))
+    × ((cond b s (record s { tl0picidx = next_tl0_in s.mode s.tl0picidx })).picture_id ≡ s.picture_id))
     (λ _. (refl, refl)) (λ _. (refl, refl))
 
 pub vp9_sends : (s next : Sender) (mtu : ℕ) (sample : Sample) (rtp_time number : ℕ) (payloads : List (List ℕ)) → s.picture_id < 2 ^ 15

@@ -1,5 +1,6 @@
 -- A unit that is held whole: its packets stand together, and no later frame goes first.
-use Rattle.std.proofs.Common.{◌≡◌, ◌∙◌, refl, sym, ap, ℕ, zero, suc, subst, List, [], Some, None, true, false, cond, ◌++◌, ◌+◌, ◌∷◌, ◌<◌, ◌≤◌, ◌⊎◌, ◌||◌, arith, length, take, drop, append_assoc, add-one, inl, inr, eqb, ltb, reverse}
+use Rattle.std.proofs.Common.{◌≡◌, ◌∙◌, refl, sym, ap, ℕ, zero, suc, subst, List, [], Some, None, true, false, cond, ◌++◌}
+use Rattle.std.proofs.Common.{◌+◌, ◌∷◌, ◌<◌, ◌≤◌, ◌⊎◌, ◌||◌, arith, length, take, drop, append_assoc, add-one, inl, inr, eqb, ltb, reverse}
 use Rattle.std.specs.Prelude.{slice_get}
 use Rattle.std.proofs.lemmas.Bool.{cases_lt}
 use Rattle.std.proofs.lemmas.Bool.Decides.{nat_tests}
@@ -76,14 +77,20 @@ row_first : (ps rest earlier : List Held) (first last : ℕ) (time : Time) → I
     × (first_of (frames_after earlier (ps ++ rest)) ≡ Some (record { first = n; last = last })) × (n ≤ first)
 row_first [] rest earlier first last time run begins = absurd run
 row_first (p ∷ []) rest earlier first last time run begins =
-    let low = lowest_at p earlier begins in
-    (low.0, ends_here p.tail (lowest_head (p ∷ row_before p earlier)) p (frames_after (p ∷ earlier) rest) low.0 run.3 low.1
-        ∙ ap (λ (k : ℕ). Some (record { first = low.0; last = k })) run.1, omega (arith, low.2, run.0))
+    let low = lowest_at p earlier begins in (
+      low.0,
+      ends_here p.tail (lowest_head (p ∷ row_before p earlier)) p (frames_after (p ∷ earlier) rest) low.0 run.3 low.1
+          ∙ ap (λ (k : ℕ). Some (record { first = low.0; last = k })) run.1,
+      omega (arith, low.2, run.0),
+    )
 row_first (p ∷ q ∷ ps) rest earlier first last time run begins =
     let low = lowest_at p earlier begins in
-    let next : IsRun (number_of p + 1) last time (q ∷ ps) = subst (λ (k : ℕ). IsRun (k + 1) last time (q ∷ ps)) (sym run.0) run.3 in
-    (low.0, goes_on p.tail (ended_at p (lowest_head (p ∷ row_before p earlier))) (frames_after (p ∷ earlier) (q ∷ ps ++ rest)) run.2
-        ∙ walk earlier p (q ∷ ps) rest low.0 last time low.1 run.2 run.1 next, omega (arith, low.2, run.0))
+    let next : IsRun (number_of p + 1) last time (q ∷ ps) = subst (λ (k : ℕ). IsRun (k + 1) last time (q ∷ ps)) (sym run.0) run.3 in (
+      low.0,
+      goes_on p.tail (ended_at p (lowest_head (p ∷ row_before p earlier))) (frames_after (p ∷ earlier) (q ∷ ps ++ rest)) run.2
+          ∙ walk earlier p (q ∷ ps) rest low.0 last time low.1 run.2 run.1 next,
+      omega (arith, low.2, run.0),
+    )
 
 abbrev AllUnder : ℕ → List Held → Type 0
 AllUnder m [] = Unit {0}
@@ -104,7 +111,7 @@ frame_under (p ∷ ps) earlier m f a h =
     (λ tail. by_option (lowest_head (p ∷ row_before p earlier)) (λ o. first_of (ended_at p o ++ frames_after (p ∷ earlier) ps) ≡ Some f → f.last < m)
     (λ none h. frame_under ps (p ∷ earlier) m f a.1 h)
     (λ n is h. let frame : CompleteFrame = record { first = n; last = number_of p } in let e : frame ≡ f = cc in let l : number_of p ≡ f.last = ap
-        (λ (x : CompleteFrame). x.last) e in omega (arith, a.0, l)))
+    (λ (x : CompleteFrame). x.last) e in omega (arith, a.0, l)))
     (λ no h. frame_under ps (p ∷ earlier) m f a.1 h)
     h
 
@@ -132,7 +139,7 @@ unit_at [] place u h = absurd (cc)
 unit_at (v ∷ us) zero u h = let e : v ≡ u = cc in rw e refl
 unit_at (v ∷ us) (suc place) u h =
     ap (λ (n : ℕ). drop n (v.packets ++ packets_of us)) (length-append v.packets (packets_of (take place us)))
-        ∙ drop-append-add v.packets (packets_of us) (packets_before place us) ∙ rw add-one (rw add-one at (unit_at us place u h))
+    ∙ drop-append-add v.packets (packets_of us) (packets_before place us) ∙ rw add-one (rw add-one at (unit_at us place u h))
 
 numbered_drop : (n k : ℕ) (ps : List Packet) → AreNumbered n ps → AreNumbered (n + k) (drop k ps)
 numbered_drop n zero ps a = let z : n ≡ n + 0 = omega arith in subst (λ (m : ℕ). AreNumbered m ps) z a

@@ -84,6 +84,6 @@ pub record ReleasesArrivals (samples : List Sample) (all_steps : List Step) (s t
 abbrev pub ReleaseInOrder : Type 0
 ReleaseInOrder =
     (samples : List Sample) (all_steps : List Step) (s t : RunState) (sends : List Sent) (pops : List Answer) → Runs samples 0 all_steps s sends pops t → IsUnused s
-        → AreReadable s.payloading.packetizer samples
+    → AreReadable s.payloading.packetizer samples
     → (events : List Event) (answers : List Answer) (left : State) → Meets s.payloading.clock_rate t.sink.packets events s.buffer answers left
     → ReleasesArrivals samples all_steps s t events answers

@@ -119,6 +119,15 @@ abbrev pub run_state : Payloading → State → SentPackets → RunState
 run_state payloading buffer sink = record { payloading = payloading; buffer = buffer; sink = sink }
 
 -- the packet pushed at step 3 came from step 3, with the low bits of its number and of its time in the header
-pub meta_of_push-number : (meta_of_push 3 48000 (record { pt = 96; number = 65537; rtp_time = 960; wallclock = 0; marker = false; nackable = false; ext_vals =
-    no_values; payload = [] })).header.sequence_number ≡ 1
+pub meta_of_push-number : (meta_of_push 3 48000 (record {
+  pt = 96;
+  number = 65537;
+  rtp_time = 960;
+  wallclock = 0;
+  marker = false;
+  nackable = false;
+  ext_vals =
+      no_values;
+  payload = [];
+})).header.sequence_number ≡ 1
 meta_of_push-number = refl

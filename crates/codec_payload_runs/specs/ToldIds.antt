@@ -5,8 +5,10 @@ use Rattle.codec_payload_base.specs.declared.interface.CodecExtra.TheVariants as
 use Rattle.codec_payload_base.specs.declared.interface.Vp9CodecExtra.{Vp9CodecExtra}
 use Rattle.codec_payload_base.specs.declared.interface.Vp9PacketizerMode.{Vp9PacketizerMode}
 use Rattle.codec_payload_base.specs.declared.interface.Vp9PacketizerMode.TheVariants.{Flexible, NonFlexible}
-use Rattle.codec_payload_codec.specs.Depacketizers.{DepacketizerState, G711Depacketizing, OpusDepacketizing, NullDepacketizing, Vp8Depacketizing, Vp9Depacketizing, ComfortNoiseDepacketizing, TeleDepacketizing, Av1Depacketizing, AmrWbDepacketizing, BoxedDepacketizing}
-use Rattle.codec_payload_codec.specs.Packetizers.{PacketizerState, G711Packetizing, G722Packetizing, OpusPacketizing, NullPacketizing, Vp8Packetizing, Vp9Packetizing, ComfortNoisePacketizing, TelePacketizing, Av1Packetizing, AmrWbPacketizing, BoxedPacketizing}
+use Rattle.codec_payload_codec.specs.Depacketizers.{DepacketizerState, G711Depacketizing, OpusDepacketizing, NullDepacketizing, Vp8Depacketizing, Vp9Depacketizing}
+use Rattle.codec_payload_codec.specs.Depacketizers.{ComfortNoiseDepacketizing, TeleDepacketizing, Av1Depacketizing, AmrWbDepacketizing, BoxedDepacketizing}
+use Rattle.codec_payload_codec.specs.Packetizers.{PacketizerState, G711Packetizing, G722Packetizing, OpusPacketizing, NullPacketizing, Vp8Packetizing}
+use Rattle.codec_payload_codec.specs.Packetizers.{Vp9Packetizing, ComfortNoisePacketizing, TelePacketizing, Av1Packetizing, AmrWbPacketizing, BoxedPacketizing}
 
 -- the picture id that was read last, as it was carried, and extended
 pub record ReadId : Type 0 where

@@ -12,8 +12,10 @@ use Rattle.codec_payload_av1.specs.Av1Obu.{Obu, canonical, frame_kept}
 use Rattle.codec_payload_av1.specs.Av1Steps.{av1_is_skipped, av1_refusal}
 use Rattle.codec_payload_vp8.specs.Vp8Sent.{advanced, header_size}
 use Rattle.codec_payload_vp9.specs.Vp9Sent.{advanced as sender_advanced, begun, reserve_in}
-use Rattle.codec_payload_codec.specs.Depacketizers.{DepacketizerKind, G711Payloads, OpusPayloads, NullPayloads, Vp8Payloads, Vp9Payloads, ComfortNoisePayloads, TelePayloads, Av1Payloads, AmrWbPayloads, BoxedPayloads}
-use Rattle.codec_payload_codec.specs.Packetizers.{PacketizerState, G711Packetizing, G722Packetizing, OpusPacketizing, NullPacketizing, Vp8Packetizing, Vp9Packetizing, ComfortNoisePacketizing, TelePacketizing, Av1Packetizing, AmrWbPacketizing, BoxedPacketizing}
+use Rattle.codec_payload_codec.specs.Depacketizers.{DepacketizerKind, G711Payloads, OpusPayloads, NullPayloads, Vp8Payloads, Vp9Payloads}
+use Rattle.codec_payload_codec.specs.Depacketizers.{ComfortNoisePayloads, TelePayloads, Av1Payloads, AmrWbPayloads, BoxedPayloads}
+use Rattle.codec_payload_codec.specs.Packetizers.{PacketizerState, G711Packetizing, G722Packetizing, OpusPacketizing, NullPacketizing, Vp8Packetizing}
+use Rattle.codec_payload_codec.specs.Packetizers.{Vp9Packetizing, ComfortNoisePacketizing, TelePacketizing, Av1Packetizing, AmrWbPacketizing, BoxedPacketizing}
 
 -- whether a frame gives no packets, and no fault
 abbrev pub is_skipped : PacketizerState → ℕ → List ℕ → Bool

@@ -9,9 +9,9 @@ ghost use Rattle.codec_payload_runs.specs.RunPromises.{KeepsPromises, ran};
 ghost use Rattle.codec_payload_runs.specs.Schedule.{run_state, SendsIt, StopsSending, DoesStep, StopsAt, Stops, Answer, Pushes};
 ghost use Rattle.codec_payload_runs.specs.declared.run.Sent.{Sent as Entry};
 
-use crate::run::{Run, Sent, Step, pop_step, refusal};
+use crate::run::{Run, Sent, Step, pop_step, push_copy, refusal};
 use codec_payload_base::error::PacketError;
-use codec_payload_base::wire::{Frequency, MediaTime, RtpHeader, Ticks, ToPayload};
+use codec_payload_base::wire::{Frequency, MediaTime, Ticks, ToPayload};
 use codec_payload_buffer::buffer::{DepacketizingBuffer, RtpMeta};
 use codec_payload_codec::codec::{Depacketizer, Packetizer};
 use codec_payload_send::memory_sink::MemorySink;
@@ -117,20 +117,9 @@ fn push_step<D: Depacketizer>(
     ensures fault { IfErr result (λ fault. fault ≡ OutOfMemory) }
     ensures err { OnErr result (buffer.new ≡ buffer.old) }
 {
-    let payload = Vec::from_slice(alloc, &packet.payload)?;
-    let meta = RtpMeta {
-        received: Ticks(place as u64),
-        time: MediaTime::new(u64::from(packet.rtp_time), clock_rate),
-        seq_no: packet.seq_no,
-        header: RtpHeader {
-            payload_type: packet.pt,
-            sequence_number: (packet.seq_no.0 % (1 << 16)) as u16,
-            timestamp: packet.rtp_time,
-            ssrc: 0,
-            marker: packet.marker,
-            ext_vals: packet.ext_vals,
-        },
-        last_sender_info: None,
-    };
-    buffer.push(meta, payload)
+    let time = MediaTime::new(u64::from(packet.rtp_time), clock_rate);
+    let mut meta = RtpMeta::of(packet.seq_no, time, packet.pt, Ticks(place as u64));
+    meta.header.marker = packet.marker;
+    meta.header.ext_vals = packet.ext_vals;
+    push_copy(alloc, buffer, meta, &packet.payload)
 }

@@ -12,9 +12,9 @@ ghost use Rattle.codec_payload_send.specs.Sending.{sample_of};
 ghost use Rattle.codec_payload_runs.specs.declared.run.Sent.{Sent as Entry};
 ghost use Rattle.codec_payload_red.specs.RedRecovery.{packet_of as recovered_of};
 
-use crate::run::{RedRun, Run, Sent, Step, pop_step, refusal};
+use crate::run::{RedRun, Run, Sent, Step, pop_step, push_copy, refusal};
 use codec_payload_base::error::PacketError;
-use codec_payload_base::wire::{ExtensionValues, Frequency, MediaTime, Pt, RtpHeader, Ticks, ToPayload};
+use codec_payload_base::wire::{Frequency, MediaTime, Pt, Ticks, ToPayload};
 use codec_payload_buffer::buffer::{DepacketizingBuffer, RtpMeta};
 use codec_payload_codec::codec::{Depacketizer, Packetizer};
 use codec_payload_red::red::{Recovered, RedReceiver, RedSender};
@@ -40,27 +40,14 @@ fn push_recovered<D: Depacketizer>(
     ensures fault { IfErr result (λ fault. fault ≡ OutOfMemory) }
     ensures err { OnErr result (buffer.new ≡ buffer.old) }
 {
-    let payload = Vec::from_slice(alloc, recovered.payload)?;
-    let ext_vals = if recovered.is_primary {
-        packet.ext_vals
-    } else {
-        ExtensionValues::default()
-    };
-    let meta = RtpMeta {
-        received: Ticks(place as u64),
-        time: MediaTime::new(u64::from(recovered.rtp_time), clock_rate),
-        seq_no: recovered.seq_no,
-        header: RtpHeader {
-            payload_type: Pt::new_with_value(pt),
-            sequence_number: (recovered.seq_no.0 % (1 << 16)) as u16,
-            timestamp: recovered.rtp_time,
-            ssrc: 0,
-            marker: recovered.is_primary && packet.marker,
-            ext_vals,
-        },
-        last_sender_info: None,
-    };
-    buffer.push(meta, payload)
+    let time = MediaTime::new(u64::from(recovered.rtp_time), clock_rate);
+    let pt = Pt::new_with_value(pt);
+    let mut meta = RtpMeta::of(recovered.seq_no, time, pt, Ticks(place as u64));
+    if recovered.is_primary {
+        meta.header.marker = packet.marker;
+        meta.header.ext_vals = packet.ext_vals;
+    }
+    push_copy(alloc, buffer, meta, recovered.payload)
 }
 
 /// Pushes packets that were recovered from `packet`, in order.

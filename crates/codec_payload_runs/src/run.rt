@@ -5,25 +5,25 @@ ghost use Rattle.std.specs.Result.{result_err};
 ghost use Rattle.codec_payload_base.specs.declared.error.PacketError.TheVariants.{OutOfMemory};
 ghost use Rattle.codec_payload_red.specs.RedLevels.{Sender};
 ghost use Rattle.codec_payload_codec.specs.Packetizers.{packetizer_state_for};
-ghost use Rattle.codec_payload_buffer.specs.Steps.{Pops};
+ghost use Rattle.codec_payload_buffer.specs.Held.{Held};
+ghost use Rattle.codec_payload_buffer.specs.Steps.{IsArrived, Pops, pushed};
 ghost use Rattle.codec_payload_send.specs.Packets.{Packet};
 ghost use Rattle.codec_payload_send.specs.Sending.{sample_of};
 ghost use Rattle.codec_payload_runs.specs.RedPromises.{KeepsRedPromises, LeavesSender, ran_in_red, protection_of};
 ghost use Rattle.codec_payload_runs.specs.RedSchedule.{red_state, StopsInRed};
 ghost use Rattle.codec_payload_runs.specs.RunPromises.{KeepsPromises, ran};
 ghost use Rattle.codec_payload_runs.specs.RunStream.{RunsStream};
-ghost use Rattle.codec_payload_runs.specs.Schedule.{run_state, Stops, Answer, Pushes};
+ghost use Rattle.codec_payload_runs.specs.Schedule.{run_state, Stops, Answer};
 
 use crate::plain::run_plain;
 use crate::red::run_with_sender;
 use codec_payload_base::error::PacketError;
 use codec_payload_base::wire::{CodecSpec, ToPayload};
-use codec_payload_buffer::buffer::{Depacketized, DepacketizingBuffer};
+use codec_payload_buffer::buffer::{Depacketized, DepacketizingBuffer, RtpMeta};
 use codec_payload_codec::codec::{CodecDepacketizer, Depacketizer, Packetizer, Vp9PacketizerMode};
 use codec_payload_red::red::{RedReceiver, RedSender};
 use codec_payload_send::memory_sink::MemorySink;
 use codec_payload_send::payloader::Payloader;
-use codec_payload_send::red_sink::RedSink;
 use std::alloc::Global;
 
 /// One step of a run.
@@ -159,7 +159,12 @@ pub fn run_stream(
         return Ok(None);
     };
     depacketizer.configure_for(&stream.spec);
-    let mut buffer = DepacketizingBuffer::with_limit(alloc, depacketizer, stream.hold_back, stream.limit);
+    let mut buffer = DepacketizingBuffer::with_limit(
+        alloc,
+        depacketizer,
+        stream.hold_back,
+        stream.limit,
+    );
     let mut sink = MemorySink::new(alloc, stream.first_number);
     let run = run_schedule(
         alloc,
@@ -183,6 +188,22 @@ pub(crate) fn refusal(answer: Result<(), PacketError>) -> Result<Option<PacketEr
         Some(PacketError::OutOfMemory) => Err(PacketError::OutOfMemory),
         fault => Ok(fault),
     }
+}
+
+/// Pushes a copy of a payload, of whose packet this is known.
+pub(crate) fn push_copy<D: Depacketizer>(
+    alloc: Global,
+    buffer: &mut DepacketizingBuffer<D>,
+    meta: RtpMeta,
+    payload: &[u8],
+) -> Result<(), PacketError>
+    ensures ok { OnOk result ((held : Held) × IsArrived buffer.old.depacketizer meta payload.now held × (buffer.new ≡ pushed buffer.old held)) }
+    ensures limit { buffer.new.limit ≡ buffer.old.limit }
+    ensures fault { IfErr result (λ fault. fault ≡ OutOfMemory) }
+    ensures err { OnErr result (buffer.new ≡ buffer.old) }
+{
+    let payload = Vec::from_slice(alloc, payload)?;
+    buffer.push(meta, payload)
 }
 
 /// Pops, and notes the answer, for which it finds room first. Want of memory is no answer.

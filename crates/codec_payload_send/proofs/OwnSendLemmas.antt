@@ -47,11 +47,11 @@ both_ways (Err e) f h p q = h e q
 pub own_next : {B S : Type 0} (state : B → List ℕ) (mark : B → List ℕ → Option (List ℕ) → Bool → Bool → List ℕ → Type 0) (spurts may_ask : B → Bool)
     (accepts : S → Packet → Packet → S → Type 0) (refuses : S → Packet → PacketError → S → Type 0) (sent : S → List Packet) (next : S → ℕ) (sample : Sample) (rtp_time : ℕ)
     (vs : List (Vec ℕ)) (v : Vec ℕ) (left : List (Vec ℕ)) (place count : ℕ) (values : ExtensionValues) (b asked b' : B) (before mid after : S)
-        (answer : Result ⊤ PacketError) (fault : Option PacketError)
+    (answer : Result ⊤ PacketError) (fault : Option PacketError)
     → vs ≡ v ∷ left → count ≡ place + 1 + length left → values ≡ stripped sample.ext_vals place count
     → OwnPacket state mark spurts may_ask accepts refuses sent next sample rtp_time values (place + 1 == count) v.items b before answer asked mid
     → MatchResult answer (λ _. OwnSends state mark spurts may_ask accepts refuses sent next sample rtp_time (place + 1) asked mid
-        (map (λ w. w.items) left) fault b' after) (λ refusal. (fault ≡ Some refusal) × (b' ≡ asked) × (after ≡ mid))
+    (map (λ w. w.items) left) fault b' after) (λ refusal. (fault ≡ Some refusal) × (b' ≡ asked) × (after ≡ mid))
     → OwnSends state mark spurts may_ask accepts refuses sent next sample rtp_time place b before (map (λ w. w.items) vs) fault b' after
 own_next {B} {S} state mark spurts may_ask accepts refuses sent next sample rtp_time vs v left place count values b asked b' before mid after answer fault split many given one rest =
     let size : count ≡ place + 1 + length (map (λ w. w.items) left) = many ∙ ap (λ (n : ℕ). place + 1 + n) (sym (length-map left (λ w. w.items))) in
@@ -59,4 +59,4 @@ own_next {B} {S} state mark spurts may_ask accepts refuses sent next sample rtp_
     let told = subst (λ (last : Bool). here (stripped sample.ext_vals place (place + 1 + length (map (λ w. w.items) left))) last) (is_last_at_end left place count many)
     (subst (λ (x : ExtensionValues). here x (place + 1 == count)) (given ∙ ap (stripped sample.ext_vals place) size) one) in
     subst (λ (ws : List (Vec ℕ)). OwnSends state mark spurts may_ask accepts refuses sent next sample rtp_time place b before (map (λ w. w.items) ws) fault b' after)
-        (sym split) (answer, asked, mid, told, rest)
+    (sym split) (answer, asked, mid, told, rest)

@@ -49,11 +49,27 @@ as_many b (p ∷ ps) [] are = absurd are
 -- one packet, of which this packetizer told the marker, and whether it may be asked for again
 pub as_for : (p : PacketizerState) (sample : Sample) (rtp_time n number : ℕ) (values : ExtensionValues) (last marker nackable : Bool) (payload : List ℕ) → number ≡ n
     → (is_built_in p ≡ true → marker ≡ (marker_of p last || (talkspurt_of p && sample.start_of_talk_spurt))) → (is_built_in p ≡ true → nackable ≡ nackable_of p)
-    → IsAs (is_built_in p) (record { pt = sample.pt; number = number; rtp_time = rtp_time; wallclock = sample.wallclock; marker = marker; nackable = nackable;
-        ext_vals = values; payload = payload }) (packet_for p sample rtp_time n values last payload)
+    → IsAs (is_built_in p) (record {
+      pt = sample.pt;
+      number = number;
+      rtp_time = rtp_time;
+      wallclock = sample.wallclock;
+      marker = marker;
+      nackable = nackable;
+      ext_vals = values;
+      payload = payload;
+    }) (packet_for p sample rtp_time n values last payload)
 as_for p sample rtp_time n number values last marker nackable payload same marks asks =
-    let told : Bool → Bool → ℕ → Packet = λ m a k. record { pt = sample.pt; number = k; rtp_time = rtp_time; wallclock = sample.wallclock; marker = m; nackable = a;
-        ext_vals = values; payload = payload } in
+    let told : Bool → Bool → ℕ → Packet = λ m a k. record {
+      pt = sample.pt;
+      number = k;
+      rtp_time = rtp_time;
+      wallclock = sample.wallclock;
+      marker = m;
+      nackable = a;
+      ext_vals = values;
+      payload = payload;
+    } in
     by_test (is_built_in p) (λ b. IsAs b (told marker nackable number) (packet_for p sample rtp_time n values last payload))
     (λ e. ap (told marker nackable) same ∙ (ap (λ (m : Bool). told m nackable n) (marks e) ∙ ap (λ (a : Bool). told (marker_of p last || (talkspurt_of p && sample.start_of_talk_spurt)) a n) (asks e)))
     (λ e. ap (told marker nackable) same)
@@ -111,39 +127,39 @@ is_last_at_end (v ∷ vs) place count e = grind (arith, nat_tests, e)
 -- the next packet, at its place, and those after it
 unfolded_so_far : {S : Type 0} (accepts : S → Packet → Packet → S → Type 0) (sent : S → List Packet) (next : S → ℕ)
     (before : S) (all : List Packet) (packetizer : PacketizerState) (sample : Sample) (rtp_time : ℕ) (vs : List (Vec ℕ)) (v : Vec ℕ) (left : List (Vec ℕ))
-        (place count : ℕ) (values : ExtensionValues) (mid : S)
+    (place count : ℕ) (values : ExtensionValues) (mid : S)
     → vs ≡ v ∷ left → count ≡ place + 1 + length left → values ≡ stripped sample.ext_vals place count
     → SentSoFar (is_built_in packetizer) accepts sent next before all (packets_from packetizer sample rtp_time (next mid) place (map (λ w. w.items) vs)) mid
     → SentSoFar (is_built_in packetizer) accepts sent next before all (packet_for packetizer sample rtp_time (next mid) values (place + 1 == count) v.items
-        ∷ packets_from packetizer sample rtp_time ((next mid + 1) % 2 ^ 64) (place + 1) (map (λ w. w.items) left)) mid
+    ∷ packets_from packetizer sample rtp_time ((next mid + 1) % 2 ^ 64) (place + 1) (map (λ w. w.items) left)) mid
 unfolded_so_far accepts sent next before all packetizer sample rtp_time vs v left place count values mid split many given so_far =
     let here : ExtensionValues → Bool → List Packet = λ x last. packet_for packetizer sample rtp_time (next mid) x last v.items
-        ∷ packets_from packetizer sample rtp_time ((next mid + 1) % 2 ^ 64) (place + 1) (map (λ w. w.items) left) in
+    ∷ packets_from packetizer sample rtp_time ((next mid + 1) % 2 ^ 64) (place + 1) (map (λ w. w.items) left) in
     let size : count ≡ place + 1 + length (map (λ w. w.items) left) = many ∙ ap (λ (n : ℕ). place + 1 + n) (sym (length-map left (λ w. w.items))) in
     let is : here values (place + 1 == count) ≡ packets_from packetizer sample rtp_time (next mid) place (map (λ w. w.items) (v ∷ left)) =
     ap (here values) (is_last_at_end left place count many) ∙ ap (λ (x : ExtensionValues). here x (is_last (map (λ w. w.items) left))) (given ∙ ap (stripped sample.ext_vals place) size) in
     subst (λ (ps : List Packet). SentSoFar (is_built_in packetizer) accepts sent next before all ps mid) (sym is)
-        (subst (λ (ws : List (Vec ℕ)). SentSoFar (is_built_in packetizer) accepts sent next before all
-        (packets_from packetizer sample rtp_time (next mid) place (map (λ w. w.items) ws)) mid) split so_far)
+    (subst (λ (ws : List (Vec ℕ)). SentSoFar (is_built_in packetizer) accepts sent next before all
+    (packets_from packetizer sample rtp_time (next mid) place (map (λ w. w.items) ws)) mid) split so_far)
 
 -- the next payload was sent
 pub next_so_far : {S : Type 0} (accepts : S → Packet → Packet → S → Type 0) (sent : S → List Packet) (next : S → ℕ)
     (before : S) (all : List Packet) (packetizer here : PacketizerState) (sample : Sample) (rtp_time : ℕ) (vs : List (Vec ℕ)) (v : Vec ℕ) (left : List (Vec ℕ)) (place count : ℕ)
-        (values : ExtensionValues) (mid after : S)
+    (values : ExtensionValues) (mid after : S)
     → vs ≡ v ∷ left → count ≡ place + 1 + length left → values ≡ stripped sample.ext_vals place count → here ≡ packetizer
     → SentSoFar (is_built_in packetizer) accepts sent next before all (packets_from packetizer sample rtp_time (next mid) place (map (λ w. w.items) vs)) mid
     → (packet : Packet) × IsAs (is_built_in here) packet (packet_for here sample rtp_time (next mid) values (place + 1 == count) v.items) × (image : Packet)
-        × accepts mid packet image after × (sent after ≡ sent mid ++ image ∷ []) × (next after ≡ (next mid + 1) % 2 ^ 64)
+    × accepts mid packet image after × (sent after ≡ sent mid ++ image ∷ []) × (next after ≡ (next mid + 1) % 2 ^ 64)
     → SentSoFar (is_built_in packetizer) accepts sent next before all (packets_from packetizer sample rtp_time (next after) (place + 1) (map (λ w. w.items) left)) after
 next_so_far accepts sent next before all packetizer here sample rtp_time vs v left place count values mid after split many given same so_far one =
     let unfolded : SentSoFar (is_built_in packetizer) accepts sent next before all (packet_for packetizer sample rtp_time (next mid) values (place + 1 == count) v.items
-        ∷ packets_from packetizer sample rtp_time (next after) (place + 1) (map (λ w. w.items) left)) mid =
+    ∷ packets_from packetizer sample rtp_time (next after) (place + 1) (map (λ w. w.items) left)) mid =
     subst (λ (n : ℕ). SentSoFar (is_built_in packetizer) accepts sent next before all (packet_for packetizer sample rtp_time (next mid) values (place + 1 == count) v.items
-        ∷ packets_from packetizer sample rtp_time n (place + 1) (map (λ w. w.items) left)) mid) (sym one.5)
+    ∷ packets_from packetizer sample rtp_time n (place + 1) (map (λ w. w.items) left)) mid) (sym one.5)
     (unfolded_so_far accepts sent next before all packetizer sample rtp_time vs v left place count values mid split many given so_far) in
     one_so_far (is_built_in packetizer) accepts sent next before all one.0 _
-        (subst (λ (p : PacketizerState). IsAs (is_built_in p) one.0 (packet_for p sample rtp_time (next mid) values (place + 1 == count) v.items)) same one.1) _ mid one.2 after
-        unfolded one.3 one.4 one.5
+    (subst (λ (p : PacketizerState). IsAs (is_built_in p) one.0 (packet_for p sample rtp_time (next mid) values (place + 1 == count) v.items)) same one.1) _ mid one.2 after
+    unfolded one.3 one.4 one.5
 
 -- what a sink in memory makes of packets: it keeps them
 abbrev pub Keeps : SentPackets → Packet → Packet → SentPackets → Type 0
@@ -201,11 +217,11 @@ pub record RefusedSoFar (b : Bool) {S : Type 0} (accepts : S → Packet → Pack
 
 pub refused_so_far : {S : Type 0} (accepts : S → Packet → Packet → S → Type 0) (refuses : S → Packet → PacketError → S → Type 0) (sent : S → List Packet) (next : S → ℕ)
     (before : S) (all : List Packet) (packetizer here : PacketizerState) (sample : Sample) (rtp_time : ℕ) (vs : List (Vec ℕ)) (v : Vec ℕ) (left : List (Vec ℕ)) (place count : ℕ)
-        (values : ExtensionValues) (mid after : S) (fault : PacketError)
+    (values : ExtensionValues) (mid after : S) (fault : PacketError)
     → vs ≡ v ∷ left → count ≡ place + 1 + length left → values ≡ stripped sample.ext_vals place count → here ≡ packetizer
     → SentSoFar (is_built_in packetizer) accepts sent next before all (packets_from packetizer sample rtp_time (next mid) place (map (λ w. w.items) vs)) mid
     → (packet : Packet) × IsAs (is_built_in here) packet (packet_for here sample rtp_time (next mid) values (place + 1 == count) v.items)
-        × refuses mid packet fault after × (sent after ≡ sent mid) × (next after ≡ next mid)
+    × refuses mid packet fault after × (sent after ≡ sent mid) × (next after ≡ next mid)
     → RefusedSoFar (is_built_in packetizer) accepts refuses sent next before all fault after
 refused_so_far accepts refuses sent next before all packetizer here sample rtp_time vs v left place count values mid after fault split many given same so_far one =
     let unfolded = unfolded_so_far accepts sent next before all packetizer sample rtp_time vs v left place count values mid split many given so_far in

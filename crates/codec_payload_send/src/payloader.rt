@@ -85,7 +85,14 @@ impl<B: Packetizer> Payloader<B> {
             × OwnSample B.state B.packetize_step B.marker_step B.marks_spurts B.may_be_asked_for S.accepts S.refuses S.sent S.next self.old.clock_rate mtu (sample_of sample.now) before sink.old result after sink.new }
         ensures kept { S.keeps sink.old sink.new }
     {
-        send_sample(&mut self.packetizer, self.clock_rate, alloc, sample, mtu, sink)
+        send_sample(
+            &mut self.packetizer,
+            self.clock_rate,
+            alloc,
+            sample,
+            mtu,
+            sink,
+        )
     }
 }
 

@@ -3,14 +3,16 @@ use Rattle.std.proofs.Common.{◌≡◌, ◌⊎◌, ◌∙◌, refl, ap, sym, su
 use Rattle.codec_payload_base.specs.declared.wire.Ticks.{Ticks}
 use Rattle.codec_payload_red.specs.RedBlocks.{Block}
 use Rattle.codec_payload_red.specs.RedRecovery.{RecoveredPacket}
-use Rattle.codec_payload_jitter.specs.Receiving.{Receiving, Arrival, Confirms, ReceivesAs, ReceivesAgainAs, RecoversAs, RecoversIf, NotesAs, Accepts, counted, counted_again, counted_in_again, goes_in, next, number_again, outcome_at}
+use Rattle.codec_payload_jitter.specs.Receiving.{Receiving, Arrival, Confirms, ReceivesAs, ReceivesAgainAs, RecoversAs, RecoversIf, NotesAs}
+use Rattle.codec_payload_jitter.specs.Receiving.{Accepts, counted, counted_again, counted_in_again, goes_in, next, number_again, outcome_at}
 use Rattle.codec_payload_jitter.specs.declared.numbers.Extended.{Extended}
 use Rattle.codec_payload_jitter.specs.declared.numbers.Extended.TheVariants as extended
 use Rattle.codec_payload_jitter.specs.declared.outcome.Outcome.{Outcome}
 use Rattle.codec_payload_jitter.specs.declared.outcome.Outcome.TheVariants as outcomes
 use Rattle.codec_payload_jitter.specs.declared.outcome.PacketCounters.{PacketCounters}
 use Rattle.codec_payload_stream.specs.Kinds.{Kinds, Carrier, Datagram, RtcpPacket, Malformed, OfOthers, WithoutMedia, WithMedia, InRed, Again, AgainEmpty}
-use Rattle.codec_payload_stream.specs.Sessions.{Session, TakesDatagram, TakesPrimaryIf, RecoversOr, RecoversBlock, RecoversAll, RecoversUnless, AnswersFor, Heard, IsSorted, arrived_with, ssrc_after, packet_in, is_suspect, error_of, observed_in}
+use Rattle.codec_payload_stream.specs.Sessions.{Session, TakesDatagram, TakesPrimaryIf, RecoversOr, RecoversBlock, RecoversAll, RecoversUnless, AnswersFor}
+use Rattle.codec_payload_stream.specs.Sessions.{Heard, IsSorted, arrived_with, ssrc_after, packet_in, is_suspect, error_of, observed_in}
 use Rattle.codec_payload_stream.specs.declared.datagram.Malformation.{Malformation}
 use Rattle.codec_payload_stream.specs.declared.datagram.Malformation.TheVariants as malformations
 use Rattle.codec_payload_stream.specs.declared.receiver.Arrived.{Arrived}

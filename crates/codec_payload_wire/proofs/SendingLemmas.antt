@@ -1,5 +1,6 @@
 -- What a sender sends over a run are the packets that a payloader sends over the same samples.
-use Rattle.std.proofs.Common.{◌≡◌, ◌≢◌, ◌∙◌, refl, sym, ap, subst, ℕ, suc, ◌+◌, ◌%◌, ◌^◌, ◌<◌, ◌||◌, ◌&&◌, List, [], ◌∷◌, ◌++◌, Bool, true, eqb, Option, Some, None, Result, Ok, Err, MatchOption, length, arith, append-nil}
+use Rattle.std.proofs.Common.{◌≡◌, ◌≢◌, ◌∙◌, refl, sym, ap, subst, ℕ, suc, ◌+◌, ◌%◌, ◌^◌, ◌<◌, ◌||◌, ◌&&◌, List}
+use Rattle.std.proofs.Common.{[], ◌∷◌, ◌++◌, Bool, true, eqb, Option, Some, None, Result, Ok, Err, MatchOption, length, arith, append-nil}
 use Rattle.std.specs.Prelude.{slice_get, slice_index_or}
 use Rattle.std.proofs.lemmas.Bool.{eq-eqb, ne_eqb}
 use Rattle.std.proofs.lemmas.List.{length-append}
@@ -8,7 +9,8 @@ use Rattle.codec_payload_base.specs.StrippedValues.{stripped}
 use Rattle.codec_payload_base.specs.declared.error.PacketError.{PacketError}
 use Rattle.codec_payload_base.specs.declared.error.PacketError.TheVariants as faults
 use Rattle.codec_payload_base.specs.declared.wire.extension.ExtensionValues.{ExtensionValues}
-use Rattle.codec_payload_codec.specs.Packetizers.{PacketizerState, G711Packetizing, G722Packetizing, OpusPacketizing, ComfortNoisePacketizing, TelePacketizing, Vp8Packetizing, Vp9Packetizing, Av1Packetizing, AmrWbPacketizing, NullPacketizing, BoxedPacketizing, PacketizerStep, is_built_in, marker_of, talkspurt_of}
+use Rattle.codec_payload_codec.specs.Packetizers.{PacketizerState, G711Packetizing, G722Packetizing, OpusPacketizing, ComfortNoisePacketizing, TelePacketizing, Vp8Packetizing, Vp9Packetizing}
+use Rattle.codec_payload_codec.specs.Packetizers.{Av1Packetizing, AmrWbPacketizing, NullPacketizing, BoxedPacketizing, PacketizerStep, is_built_in, marker_of, talkspurt_of}
 use Rattle.codec_payload_buffer.specs.Steps.{State}
 use Rattle.codec_payload_send.specs.Packets.{Packet, AreNumbered}
 use Rattle.codec_payload_runs.specs.Schedule as core

@@ -5,7 +5,9 @@ ghost use Rattle.codec_payload_codec.specs.Depacketizers.{depacketizer_state_of,
 
 use super::boxed::NoBox;
 use codec_payload_audio::amr_wb::AmrWbDepacketizer;
-use codec_payload_audio::plain::{ComfortNoiseDepacketizer, G711Depacketizer, NullDepacketizer, OpusDepacketizer};
+use codec_payload_audio::plain::{
+    ComfortNoiseDepacketizer, G711Depacketizer, NullDepacketizer, OpusDepacketizer,
+};
 use codec_payload_audio::tele::TelephoneEventDepacketizer;
 use codec_payload_av1::av1::Av1Depacketizer;
 use codec_payload_base::error::PacketError;

@@ -9,7 +9,9 @@ ghost use Rattle.codec_payload_codec.specs.Packetizers.{packetizer_state_of, pac
 
 use super::boxed::NoBox;
 use codec_payload_audio::amr_wb::AmrWbPacketizer;
-use codec_payload_audio::plain::{ComfortNoisePacketizer, G711Packetizer, G722Packetizer, NullPacketizer, OpusPacketizer};
+use codec_payload_audio::plain::{
+    ComfortNoisePacketizer, G711Packetizer, G722Packetizer, NullPacketizer, OpusPacketizer,
+};
 use codec_payload_audio::tele::TelephoneEventPacketizer;
 use codec_payload_av1::av1::Av1Packetizer;
 use codec_payload_base::error::PacketError;

@@ -13,10 +13,19 @@ use Rattle.codec_payload_runs.proofs.red.do_red_step.Goals as goal
 pub returns-in_default-clause-ok : goal.returns-in_default-clause-ok
 returns-in_default-clause-ok g c = λ sent long.
     let none = slice_get_past c.args.samples.now c.in-Send.sample c.in_default.ensures.lookup.3 in
-    let here = slice_get-map sample_of c.args.samples.now c.in-Send.sample ∙ ap (λ o. option_map sample_of o) none in
-    (sent, [], [], long, sym (append-nil _), sym (append-nil _),
-        rw c.in-Send.is ((refl, rw here (refl, refl)), sends_nothing c.args.red.now.budget
-        (red_state c.args.payloader.now c.args.buffer.now c.args.sink.now sent c.args.red.now.sender.now)))
+    let here = slice_get-map sample_of c.args.samples.now c.in-Send.sample ∙ ap (λ o. option_map sample_of o) none in (
+      sent,
+      [],
+      [],
+      long,
+      sym (append-nil _),
+      sym (append-nil _),
+      rw c.in-Send.is (
+        (refl, rw here (refl, refl)),
+        sends_nothing c.args.red.now.budget
+            (red_state c.args.payloader.now c.args.buffer.now c.args.sink.now sent c.args.red.now.sender.now),
+      ),
+    )
 
 pub returns-in_err-reserve-in-Send-clause-err : goal.returns-in_err-reserve-in-Send-clause-err
 returns-in_err-reserve-in-Send-clause-err g c =

@@ -28,7 +28,7 @@ loop-place-preserved g c =
       long = did.3;
       completes = λ sends pops after run.
           let whole = before.completes (did.1 ++ sends) (did.2 ++ pops) after
-              (rw (drop_more c.args.steps.now c.loop-place.place (steps.Send 0 0) inside) (did.1, sends, did.2, pops, _, refl, refl, did.6, run)) in
+          (rw (drop_more c.args.steps.now c.loop-place.place (steps.Send 0 0) inside) (did.1, sends, did.2, pops, _, refl, refl, did.6, run)) in
           rw (did.4, did.5, append_assoc c.loop-place.run.sends.items did.1 sends, append_assoc c.loop-place.run.pops.items did.2 pops) whole;
       limit = c.in_ok-do_red_step.ensures.limit ∙ before.limit;
       stops = λ after stopped. before.stops after (rw (drop_more c.args.steps.now c.loop-place.place (steps.Send 0 0) inside) (inr (did.1, did.2, _, did.6, stopped)));
@@ -43,7 +43,7 @@ returns-clause-promises g c =
     let after = red_state c.loop-place.payloader c.loop-place.buffer c.loop-place.sink before.now c.loop-place.red.sender.now in
     let whole = before.completes [] [] after (rw (drop_all _ _ at_end) (refl, refl, refl)) in
     let ran = ran_in_red (protection_of c.args.red.now) c.args.samples.now c.args.steps.now
-        (red_state c.args.payloader.now c.args.buffer.now c.args.sink.now c.args.sink.now.packets c.args.red.now.sender.now) c.loop-place.run after in
+    (red_state c.args.payloader.now c.args.buffer.now c.args.sink.now c.args.sink.now.packets c.args.red.now.sender.now) c.loop-place.run after in
     let runs : RunsAsRedSteps ran = simp append-nil at whole in
     (before.now, red_promises ran runs)
 

@@ -38,9 +38,9 @@ loop-payload-preserved g c =
             one.1,
             λ fault b' after rest. now.2 fault b' after
                 (own_next g.B.Packetizer.state g.B.Packetizer.marker_step g.B.Packetizer.marks_spurts g.B.Packetizer.may_be_asked_for g.S.PacketSink.accepts
-                    g.S.PacketSink.refuses g.S.PacketSink.sent g.S.PacketSink.next
+                g.S.PacketSink.refuses g.S.PacketSink.sent g.S.PacketSink.next
                 (sample_of c.args.sample.now) (c.numer.result % 2 ^ 32) _ c.in-Some.payload _ c.loop-payload.place c.len-count.result c.for_packet-ext_vals.result
-                    now.0 one.0 b' c.loop-payload.sink c.send_payload.new.sink after c.send_payload.result fault
+                now.0 one.0 b' c.loop-payload.sink c.send_payload.new.sink after c.send_payload.result fault
                 split many c.for_packet-ext_vals.ensures one.2 (rw c.in_ok-send_payload.was rest)),
           );
     }
@@ -53,7 +53,7 @@ returns-clause-ok g c =
     let bytes : c.deref.result.now ≡ c.args.sample.now.bytes.items = search rules in
     let items : into_iter_items c.into_iter-payload-iterator.result ≡ c.in_ok-payloads.payloads.items = search rules in
     let all : SentSoFar (is_built_in (packetizer_state_of c.packetize.new.self)) g.S.PacketSink.accepts g.S.PacketSink.sent g.S.PacketSink.next c.args.sink.now _ []
-        c.loop-payload.sink = rw none_left at c.loop-payload.invariant.so_far in
+    c.loop-payload.sink = rw none_left at c.loop-payload.invariant.so_far in
     record {
       payloads = map (λ p. p.items) (into_iter_items c.into_iter-payload-iterator.result);
       packetized = rw (items, packetizer, ← bytes) c.in_ok-payloads.ensures.built_in;
@@ -77,7 +77,7 @@ returns-in_err-send_payload-clause-err g c =
     let bytes : c.deref.result.now ≡ c.args.sample.now.bytes.items = search rules in
     let items : into_iter_items c.into_iter-payload-iterator.result ≡ c.in_ok-payloads.payloads.items = search rules in
     let refused = refused_so_far sink.accepts sink.refuses sink.sent sink.next c.args.sink.now _ (packetizer_state_of c.packetize.new.self) (packetizer_state_of c.loop-payload.packetizer)
-        (sample_of c.args.sample.now) (c.numer.result % 2 ^ 32) _ _ _ _ c.len-count.result c.for_packet-ext_vals.result c.loop-payload.sink c.send_payload.new.sink
+    (sample_of c.args.sample.now) (c.numer.result % 2 ^ 32) _ _ _ _ c.len-count.result c.for_packet-ext_vals.result c.loop-payload.sink c.send_payload.new.sink
     c.in_err-send_payload.field-0.0 split many c.for_packet-ext_vals.ensures here c.loop-payload.invariant.so_far c.in_err-send_payload.ensures.err in
     rw (exit.1, exit.2) (inr (record {
       payloads = map (λ p. p.items) (into_iter_items c.into_iter-payload-iterator.result);
@@ -138,9 +138,9 @@ returns-in_err-send_payload-clause-own g c = λ before is.
         rw (items, ← bytes) (rw (is, cut.1) at c.in_ok-payloads.ensures.step),
         rw time (now.2 _ one.0 c.send_payload.new.sink
             (own_next g.B.Packetizer.state g.B.Packetizer.marker_step g.B.Packetizer.marks_spurts g.B.Packetizer.may_be_asked_for g.S.PacketSink.accepts
-                g.S.PacketSink.refuses g.S.PacketSink.sent g.S.PacketSink.next
+            g.S.PacketSink.refuses g.S.PacketSink.sent g.S.PacketSink.next
             (sample_of c.args.sample.now) (c.numer.result % 2 ^ 32) _ c.in-Some.payload _ c.loop-payload.place c.len-count.result c.for_packet-ext_vals.result now.0
-                one.0 one.0 c.loop-payload.sink c.send_payload.new.sink c.send_payload.new.sink c.send_payload.result (Some c.in_err-send_payload.field-0.0)
+            one.0 one.0 c.loop-payload.sink c.send_payload.new.sink c.send_payload.new.sink c.send_payload.result (Some c.in_err-send_payload.field-0.0)
             split many c.for_packet-ext_vals.ensures one.2 (rw c.in_err-send_payload.was (refl, refl, refl)))),
       )),
     )

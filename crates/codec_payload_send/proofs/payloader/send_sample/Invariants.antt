@@ -25,7 +25,7 @@ invariant-loop-payload g l =
       -- what a packetizer that a caller brings does with the rest is what it does with all
       own : (b : g.row.B.Denot) → l.initial.packetizer ≡ Boxed b → (now : g.row.B.Denot) × (l.packetizer ≡ Boxed now) × ((fault : Option PacketError) (b' : g.row.B.Denot) (after : g.row.S.Denot)
           → OwnSends packetizer.state packetizer.marker_step packetizer.marks_spurts packetizer.may_be_asked_for sink.accepts sink.refuses sink.sent sink.next
-              (sample_of l.sample) l.rtp_time l.place now l.sink (map (λ p. p.items) (into_iter_items l.payload-iterator)) fault b' after
+          (sample_of l.sample) l.rtp_time l.place now l.sink (map (λ p. p.items) (into_iter_items l.payload-iterator)) fault b' after
           → OwnSends packetizer.state packetizer.marker_step packetizer.marks_spurts packetizer.may_be_asked_for sink.accepts sink.refuses sink.sent sink.next
-              (sample_of l.sample) l.rtp_time 0 b l.fn.sink (map (λ p. p.items) (into_iter_items l.initial.payload-iterator)) fault b' after);
+          (sample_of l.sample) l.rtp_time 0 b l.fn.sink (map (λ p. p.items) (into_iter_items l.initial.payload-iterator)) fault b' after);
     }

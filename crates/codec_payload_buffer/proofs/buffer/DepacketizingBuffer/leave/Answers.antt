@@ -24,9 +24,9 @@ invariant_of-self g c =
     ap (map held_of) (c.give_back.ensures ∙ c.drop_front.ensures) ∙ sym (drop-map held_of c.args.count c.self.inside.packets.items)
     ∙ ap (λ k. drop k s.held) (c.requires.count ∙ ap (λ (t : State). end_of last t.held) (sym c.self.view_is)) ∙ drop_above last s.held c.self.invariant.sound.rises in
     let index = left_index_of s.held (map held_of c.give_back.new.queue.items) c.args.frame c.self.inside.rows.items c.give_back-2.new.queue.items
-        c.self.inside.complete_frames.items c.give_back-3.new.queue.items
+    c.self.inside.complete_frames.items c.give_back-3.new.queue.items
     c.self.invariant.sound.rises (due_is_first s c.args.frame due) c.self.invariant.rows_are c.self.invariant.frames_are left
-        (c.give_back-2.ensures ∙ c.remove_rows.ensures) (c.give_back-3.ensures ∙ c.pop_front.ensures.rest) in
+    (c.give_back-2.ensures ∙ c.remove_rows.ensures) (c.give_back-3.ensures ∙ c.pop_front.ensures.rest) in
     record { sound = sound_left s _ last c.self.invariant.sound left refl refl; least = c.self.invariant.least; most = c.self.invariant.most; rows_are = index.rows_are; frames_are = index.frames_are }
 
 pub returns : goal.returns

@@ -29,19 +29,33 @@ returns-in-Err-clause-waits g c = λ waits. absurd (nothing_passed c.args.self.n
     c.loop-frame.invariant.passes (sym c.due.ensures.due ∙ c.in-Some.is))
 
 pub returns-in-Ok-Some-clause-fewer : goal.returns-in-Ok-Some-clause-fewer
-returns-in-Ok-Some-clause-fewer g c = omega (arith, c.loop-frame.invariant.fewer,
-    release_shorter c.loop-frame.self c.take_frame.new.self (released_into c.in-Ok-Some.info c.take_frame.new.bytes.items c.take_frame.new.metas.items)
-    c.due.ensures.rises (rw c.in-Ok-Some.field-0-is at c.in-Ok-Some.ensures.takes))
+returns-in-Ok-Some-clause-fewer g c = omega (
+  arith,
+  c.loop-frame.invariant.fewer,
+  release_shorter c.loop-frame.self c.take_frame.new.self (released_into c.in-Ok-Some.info c.take_frame.new.bytes.items c.take_frame.new.metas.items)
+      c.due.ensures.rises (rw c.in-Ok-Some.field-0-is at c.in-Ok-Some.ensures.takes),
+)
 
 pub returns-in-Err-clause-fewer : goal.returns-in-Err-clause-fewer
-returns-in-Err-clause-fewer g c = λ other. omega (arith, c.loop-frame.invariant.fewer,
-    refusal_shorter c.loop-frame.self c.take_frame.new.self c.in-Err.fault c.due.ensures.rises c.in-Err.ensures.takes other)
+returns-in-Err-clause-fewer g c = λ other. omega (
+  arith,
+  c.loop-frame.invariant.fewer,
+  refusal_shorter c.loop-frame.self c.take_frame.new.self c.in-Err.fault c.due.ensures.rises c.in-Err.ensures.takes other,
+)
 
 pub returns-in-Ok-Some-clause-own : goal.returns-in-Ok-Some-clause-own
 returns-in-Ok-Some-clause-own g c = λ other.
-    let own = c.take_frame.ensures.own (passes_stays c.args.self.now c.loop-frame.self c.loop-frame.invariant.over c.loop-frame.invariant.passes ∙ other) in
-    (c.loop-frame.invariant.over, c.loop-frame.self, c.in-Some.frame, c.loop-frame.invariant.passes, sym c.due.ensures.due
-        ∙ c.in-Some.is, own.0, own.1, rw (c.in-Ok-Some.is, c.in-Ok-Some.field-0-is) at own.2)
+    let own = c.take_frame.ensures.own (passes_stays c.args.self.now c.loop-frame.self c.loop-frame.invariant.over c.loop-frame.invariant.passes ∙ other) in (
+      c.loop-frame.invariant.over,
+      c.loop-frame.self,
+      c.in-Some.frame,
+      c.loop-frame.invariant.passes,
+      sym c.due.ensures.due
+          ∙ c.in-Some.is,
+      own.0,
+      own.1,
+      rw (c.in-Ok-Some.is, c.in-Ok-Some.field-0-is) at own.2,
+    )
 
 pub returns-in-Err-clause-own : goal.returns-in-Err-clause-own
 returns-in-Err-clause-own g c = λ other.

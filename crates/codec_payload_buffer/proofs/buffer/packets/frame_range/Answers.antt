@@ -9,15 +9,31 @@ pub overflow_add-result : goal.overflow_add-result
 overflow_add-result c =
     let items = c.args.packets.now.items in
     let end = end_from_place c.args.frame.first c.args.frame.last (map held_of items) c.requires.rises c.requires.order c.requires.whole in
-    omega (arith, c.find_place-from.ensures, end, end_within c.args.frame.last (map held_of items), length-map items held_of, c.args.packets.now.ok.0,
-        c.args.packets.now.small.0, c.args.packets.now.small.1)
+    omega (
+      arith,
+      c.find_place-from.ensures,
+      end,
+      end_within c.args.frame.last (map held_of items),
+      length-map items held_of,
+      c.args.packets.now.ok.0,
+      c.args.packets.now.small.0,
+      c.args.packets.now.small.1,
+    )
 
 pub overflow_add-result-2 : goal.overflow_add-result-2
 overflow_add-result-2 c =
     let items = c.args.packets.now.items in
     let end = end_from_place c.args.frame.first c.args.frame.last (map held_of items) c.requires.rises c.requires.order c.requires.whole in
-    omega (arith, c.find_place-from.ensures, end, end_within c.args.frame.last (map held_of items), length-map items held_of, c.args.packets.now.ok.0,
-        c.args.packets.now.small.0, c.args.packets.now.small.1)
+    omega (
+      arith,
+      c.find_place-from.ensures,
+      end,
+      end_within c.args.frame.last (map held_of items),
+      length-map items held_of,
+      c.args.packets.now.ok.0,
+      c.args.packets.now.small.0,
+      c.args.packets.now.small.1,
+    )
 
 pub returns : goal.returns
 returns c =

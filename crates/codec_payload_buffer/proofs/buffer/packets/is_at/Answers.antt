@@ -9,7 +9,7 @@ use Rattle.codec_payload_buffer.proofs.buffer.packets.is_at.Goals as goal
 pub returns-then-place-len : goal.returns-then-place-len
 returns-then-place-len c =
     at_found c.args.number c.args.packets.now.items c.args.place c.index.result.now c.requires.rises c.requires.place
-        (omega (arith, c.if-place-len.true, c.len.ensures, c.args.packets.now.ok.0)) c.index.ensures
+    (omega (arith, c.if-place-len.true, c.len.ensures, c.args.packets.now.ok.0)) c.index.ensures
 
 pub returns-else-place-len : goal.returns-else-place-len
 returns-else-place-len c =

@@ -7,20 +7,24 @@ put_in-row-requires-clause-within c = omega (arith, c.find_row-place.ensures, ro
 
 pub join_back-requires-clause-within : goal.join_back-requires-clause-within
 join_back-requires-clause-within c =
-    omega (arith, c.put_in-row.new.rows.ok.0, (added c.find_row-place.result c.args.row c.put_in-row.result c.args.rows.now.items c.put_in-row.new.rows.items
-        c.find_row-place.ensures c.requires.normal c.if-place-gt0.true c.put_in-row.ensures.rows c.put_in-row.ensures.row).within)
+    omega (
+      arith,
+      c.put_in-row.new.rows.ok.0,
+      (added c.find_row-place.result c.args.row c.put_in-row.result c.args.rows.now.items c.put_in-row.new.rows.items
+          c.find_row-place.ensures c.requires.normal c.if-place-gt0.true c.put_in-row.ensures.rows c.put_in-row.ensures.row).within,
+    )
 
 pub join_back-requires-clause-there : goal.join_back-requires-clause-there
 join_back-requires-clause-there c =
     (added c.find_row-place.result c.args.row c.put_in-row.result c.args.rows.now.items c.put_in-row.new.rows.items c.find_row-place.ensures c.requires.normal
-        c.if-place-gt0.true c.put_in-row.ensures.rows c.put_in-row.ensures.row).there
+    c.if-place-gt0.true c.put_in-row.ensures.rows c.put_in-row.ensures.row).there
 
 pub returns-then-place-gt0-clause-rows : goal.returns-then-place-gt0-clause-rows
 returns-then-place-gt0-clause-rows c =
     c.join_back.ensures.rows ∙ (added c.find_row-place.result c.args.row c.put_in-row.result c.args.rows.now.items c.put_in-row.new.rows.items
-        c.find_row-place.ensures c.requires.normal c.if-place-gt0.true c.put_in-row.ensures.rows c.put_in-row.ensures.row).all
+    c.find_row-place.ensures c.requires.normal c.if-place-gt0.true c.put_in-row.ensures.rows c.put_in-row.ensures.row).all
 
 pub returns-then-place-gt0-clause-row : goal.returns-then-place-gt0-clause-row
 returns-then-place-gt0-clause-row c =
     c.join_back.ensures.row ∙ (added c.find_row-place.result c.args.row c.put_in-row.result c.args.rows.now.items c.put_in-row.new.rows.items
-        c.find_row-place.ensures c.requires.normal c.if-place-gt0.true c.put_in-row.ensures.rows c.put_in-row.ensures.row).one
+    c.find_row-place.ensures c.requires.normal c.if-place-gt0.true c.put_in-row.ensures.rows c.put_in-row.ensures.row).one

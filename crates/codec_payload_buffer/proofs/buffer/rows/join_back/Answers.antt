@@ -17,4 +17,4 @@ returns-clause-rows c =
     let there : c.args.row ≡ get_or items (suc c.args.place) c.args.row = rw add-one at c.requires.there in
     let left = on_some c.remove.result _ (c.remove.ensures.variant.1 c.requires.within) c.remove.ensures.items in
     joined_back c.args.place c.index.result.now c.args.row c.join.result items c.remove.new.self.items c.set_row.new.rows.items within c.index.ensures there
-        (sym c.meets.ensures ∙ c.if-not-meets.false) left c.join.ensures c.set_row.ensures.items
+    (sym c.meets.ensures ∙ c.if-not-meets.false) left c.join.ensures c.set_row.ensures.items

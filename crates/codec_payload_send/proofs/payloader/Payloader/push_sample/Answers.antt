@@ -15,5 +15,5 @@ returns-clause-own g c = λ other.
       own.0,
       subst (λ (rate : ℕ). OwnSample g.B.Packetizer.state g.B.Packetizer.packetize_step g.B.Packetizer.marker_step g.B.Packetizer.marks_spurts g.B.Packetizer.may_be_asked_for
           g.S.PacketSink.accepts g.S.PacketSink.refuses g.S.PacketSink.sent g.S.PacketSink.next rate c.args.mtu
-              (sample_of c.args.sample.now) before.0 c.args.sink.now c.send_sample.result own.0 c.send_sample.new.sink) clock own.2,
+          (sample_of c.args.sample.now) before.0 c.args.sink.now c.send_sample.result own.0 c.send_sample.new.sink) clock own.2,
     )
