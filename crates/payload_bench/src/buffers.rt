@@ -6,7 +6,7 @@ use anyhow::{Result, anyhow};
 use codec_payload_core::buffer::{DepacketizingBuffer, RtpMeta};
 use codec_payload_core::codec::CodecDepacketizer;
 use codec_payload_core::error::PacketError;
-use codec_payload_core::wire::{Codec, ExtensionValues, MediaTime, Pt, RtpHeader, SeqNo, Ticks};
+use codec_payload_core::wire::{Codec, MediaTime, Pt, SeqNo, Ticks};
 use std::alloc::Global;
 use std::time::Clock;
 
@@ -27,20 +27,11 @@ pub fn buffer_of(alloc: Global, codec: Codec) -> Result<DepacketizingBuffer, Pac
 
 /// What is known of the packet of that number.
 fn meta_of(number: u64, time: u64, marker: bool) -> RtpMeta {
-    RtpMeta {
-        received: Ticks(number),
-        time: MediaTime::from_90khz(time),
-        seq_no: SeqNo(number),
-        header: RtpHeader {
-            payload_type: Pt::new_with_value(96),
-            sequence_number: (number % (1 << 16)) as u16,
-            timestamp: (time % (1 << 32)) as u32,
-            ssrc: 0,
-            marker,
-            ext_vals: ExtensionValues::default(),
-        },
-        last_sender_info: None,
-    }
+    let time = MediaTime::from_90khz(time);
+    let pt = Pt::new_with_value(96);
+    let mut meta = RtpMeta::of(SeqNo(number), time, pt, Ticks(number));
+    meta.header.marker = marker;
+    meta
 }
 
 /// Pushes the packet of that number, which is a frame.

@@ -11,28 +11,17 @@ use codec_payload_core::error::PacketError;
 use codec_payload_core::payload::{MemorySink, Payloader};
 use codec_payload_core::red::{RedReceiver, RedSender};
 use codec_payload_core::schedule::{RedRun, Run, Step, run_schedule};
-use codec_payload_core::wire::{
-    Codec, CodecSpec, ExtensionValues, Frequency, MediaTime, Pt, RtpHeader, SeqNo, Ticks,
-};
+use codec_payload_core::wire::{Codec, CodecSpec, Frequency, MediaTime, Pt, SeqNo, Ticks};
 use std::alloc::{AllocError, Global};
 use std::fmt::Write;
 
 /// What is known of a packet of that number and time.
 fn meta(number: u64, time: u64, marker: bool) -> RtpMeta {
-    RtpMeta {
-        received: Ticks(0),
-        time: MediaTime::new(time, Frequency::EIGHT_KHZ),
-        seq_no: SeqNo(number),
-        header: RtpHeader {
-            payload_type: Pt::new_with_value(96),
-            sequence_number: (number % 65_536) as u16,
-            timestamp: (time % 4_294_967_296) as u32,
-            ssrc: 0,
-            marker,
-            ext_vals: ExtensionValues::default(),
-        },
-        last_sender_info: None,
-    }
+    let time = MediaTime::new(time, Frequency::EIGHT_KHZ);
+    let pt = Pt::new_with_value(96);
+    let mut meta = RtpMeta::of(SeqNo(number), time, pt, Ticks(0));
+    meta.header.marker = marker;
+    meta
 }
 
 fn put_held(text: &mut String, buffer: &DepacketizingBuffer) -> Result<(), AllocError> {
