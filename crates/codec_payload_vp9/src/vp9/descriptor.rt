@@ -1,4 +1,4 @@
-//! VP9: the descriptor of a payload, read in order (docs/FORMATS.md, "VP9").
+//! VP9: the descriptor of a payload, read in order, and the bits of its bytes (docs/FORMATS.md, "VP9").
 
 ghost use Rattle.std.specs.Prelude.{◌≡◌, ◌<◌, IfErr, false, true};
 ghost use Rattle.codec_payload_base.specs.Answers.{seen};
@@ -9,6 +9,45 @@ use crate::vp9::depacketizer::Vp9Depacketizer;
 use codec_payload_base::error::PacketError;
 use codec_payload_base::picture_id::PictureId;
 use codec_payload_base::wire::extend_u8;
+
+/// I of the first byte (RFC 9628, section 4.2): the picture id is there.
+pub(crate) const PICTURE_ID_PRESENT: u8 = 0x80;
+
+/// P of the first byte: the frame refers to others.
+pub(crate) const INTER_PICTURE_PREDICTED: u8 = 0x40;
+
+/// L of the first byte: the layers are there.
+pub(crate) const LAYERS_PRESENT: u8 = 0x20;
+
+/// F of the first byte: the mode is the flexible one.
+pub(crate) const FLEXIBLE_MODE: u8 = 0x10;
+
+/// B of the first byte: a frame begins here.
+pub(crate) const START_OF_FRAME: u8 = 0x08;
+
+/// E of the first byte: a frame ends here.
+pub(crate) const END_OF_FRAME: u8 = 0x04;
+
+/// V of the first byte: a scalability structure is there.
+pub(crate) const STRUCTURE_PRESENT: u8 = 0x02;
+
+/// Z of the first byte: upper spatial layers do without this frame.
+const NO_UPPER_REFERENCE: u8 = 0x01;
+
+/// U, beside TID, SID and D, and beside the TID of a group: the temporal layer may be switched up to.
+pub(crate) const SWITCHING_UP_POINT: u8 = 0x10;
+
+/// D, beside TID, U and SID: the layer refers to the spatial layer below.
+const INTER_LAYER_DEPENDENCY: u8 = 0x01;
+
+/// N, beside P_DIFF: another difference follows.
+const MORE_DIFFERENCES: u8 = 0x01;
+
+/// Y of a structure: the sizes of its layers are there.
+const SIZES_PRESENT: u8 = 0x10;
+
+/// G of a structure: groups of pictures are there.
+const GROUPS_PRESENT: u8 = 0x08;
 
 /// A number of 16 bits at the front, and what is behind it.
 fn u16_of(bytes: &[u8]) -> Result<(u16, &[u8]), PacketError>
@@ -25,14 +64,14 @@ impl Vp9Depacketizer {
     pub(crate) fn note_flags(&mut self, flags: u8)
         ensures { fields_of self.new ≡ with_flags (fields_of self.old) flags }
     {
-        self.i = flags & 0x80 != 0;
-        self.p = flags & 0x40 != 0;
-        self.l = flags & 0x20 != 0;
-        self.f = flags & 0x10 != 0;
-        self.b = flags & 0x08 != 0;
-        self.e = flags & 0x04 != 0;
-        self.v = flags & 0x02 != 0;
-        self.z = flags & 0x01 != 0;
+        self.i = flags & PICTURE_ID_PRESENT != 0;
+        self.p = flags & INTER_PICTURE_PREDICTED != 0;
+        self.l = flags & LAYERS_PRESENT != 0;
+        self.f = flags & FLEXIBLE_MODE != 0;
+        self.b = flags & START_OF_FRAME != 0;
+        self.e = flags & END_OF_FRAME != 0;
+        self.v = flags & STRUCTURE_PRESENT != 0;
+        self.z = flags & NO_UPPER_REFERENCE != 0;
     }
 
     /// Reads the picture id, if it is there, and answers what is behind it.
@@ -63,9 +102,9 @@ impl Vp9Depacketizer {
             return Err(PacketError::ErrShortPacket);
         };
         self.tid = octet / 32;
-        self.u = octet & 0x10 != 0;
+        self.u = octet & SWITCHING_UP_POINT != 0;
         self.sid = octet / 2 % 8;
-        self.d = octet & 0x01 != 0;
+        self.d = octet & INTER_LAYER_DEPENDENCY != 0;
         if self.sid > 2 {
             return Err(PacketError::ErrTooManySpatialLayers);
         }
@@ -95,7 +134,7 @@ impl Vp9Depacketizer {
             };
             self.pdiff[place] = byte / 2;
             rest = others;
-            if byte & 0x01 == 0 {
+            if byte & MORE_DIFFERENCES == 0 {
                 return Ok(rest);
             }
         }
@@ -117,8 +156,8 @@ impl Vp9Depacketizer {
         ensures { fields_of self.new ≡ with_structure (fields_of self.old) head }
     {
         self.ns = head / 32;
-        self.y = head & 0x10 != 0;
-        self.g = head & 0x08 != 0;
+        self.y = head & SIZES_PRESENT != 0;
+        self.g = head & GROUPS_PRESENT != 0;
         self.ng = 0;
     }
 
@@ -243,7 +282,7 @@ impl Vp9Depacketizer {
         self.pgu.reserve(1)?;
         self.pgpdiff.reserve(1)?;
         self.pgtid.push(head / 32).unwrap();
-        self.pgu.push(head & 0x10 != 0).unwrap();
+        self.pgu.push(head & SWITCHING_UP_POINT != 0).unwrap();
         self.pgpdiff.push(differences).unwrap();
         if rest.len() < count {
             return Err(PacketError::ErrShortPacket);
