@@ -7,51 +7,11 @@ use Rattle.codec_payload_base.specs.declared.error.PacketError.{PacketError}
 use Rattle.codec_payload_base.specs.declared.error.PacketError.TheVariants as faults
 use Rattle.codec_payload_base.specs.declared.picture_id.PictureId.{PictureId}
 use Rattle.codec_payload_vp9.specs.Vp9Fields.{Fields, Groups}
-use Rattle.codec_payload_vp9.specs.Vp9Reading.{
-  SameButGroups,
-  group_count,
-  Reading,
-  reads,
-  refuses,
-  next_from,
-  then_read,
-  with_id,
-  read_id,
-  with_layers,
-  layers_at,
-  read_tl0,
-  read_layers,
-  with_difference,
-  differences_at,
-  read_differences,
-  read_before,
-  number_at,
-  with_height,
-  with_width,
-  read_size,
-  sizes_at,
-  read_sizes,
-  group_count_at,
-  read_group_count,
-  with_structure,
-  behind_head,
-  head_at,
-  read_head,
-  GroupReading,
-  no_groups,
-  with_group,
-  count_of_differences,
-  group_at,
-  groups_at,
-  groups_from,
-  if_read,
-  structure_groups,
-  read_groups,
-  groups_of,
-  if_before,
-  all_groups,
-  is_no_memory,
-}
+use Rattle.codec_payload_vp9.specs.Vp9Reading.{SameButGroups, group_count, Reading, reads, refuses, next_from, then_read, with_id, read_id, with_layers, layers_at, read_tl0}
+use Rattle.codec_payload_vp9.specs.Vp9Reading.{read_layers, with_difference, differences_at, read_differences, read_before, number_at, with_height, with_width, read_size}
+use Rattle.codec_payload_vp9.specs.Vp9Reading.{sizes_at, read_sizes, group_count_at, read_group_count, with_structure, behind_head, head_at, read_head, GroupReading, no_groups}
+use Rattle.codec_payload_vp9.specs.Vp9Reading.{with_group, count_of_differences, group_at, groups_at, groups_from, if_read, structure_groups, read_groups, groups_of, if_before}
+use Rattle.codec_payload_vp9.specs.Vp9Reading.{all_groups, is_no_memory}
 
 abbrev Named : {X : Type 0} → Result X PacketError → Type 0
 Named r = is_no_memory r ≡ false

@@ -1,41 +1,6 @@
 -- What is read is spelled so.
-use Rattle.std.proofs.Common.{
-  ◌≡◌,
-  ◌∙◌,
-  sym,
-  ap,
-  refl,
-  ℕ,
-  zero,
-  suc,
-  ◌+◌,
-  ◌*◌,
-  ◌/◌,
-  ◌%◌,
-  ◌<◌,
-  ◌≤◌,
-  List,
-  [],
-  ◌∷◌,
-  ◌++◌,
-  length,
-  take,
-  drop,
-  Bool,
-  true,
-  false,
-  ◌&&◌,
-  Option,
-  Some,
-  None,
-  Result,
-  Ok,
-  Err,
-  append_assoc,
-  arith,
-  subst,
-  ltb-false,
-}
+use Rattle.std.proofs.Common.{◌≡◌, ◌∙◌, sym, ap, refl, ℕ, zero, suc, ◌+◌, ◌*◌, ◌/◌, ◌%◌, ◌<◌, ◌≤◌, List, [], ◌∷◌, ◌++◌, length, take, drop, Bool, true, false, ◌&&◌, Option, Some}
+use Rattle.std.proofs.Common.{None, Result, Ok, Err, append_assoc, arith, subst, ltb-false}
 use Rattle.std.proofs.lemmas.List.{length-take, take-append-drop}
 use Rattle.std.specs.Prelude.{is_some, nat_lt, IfSome, if◌then◌else◌}
 use Rattle.codec_payload_base.specs.Flags.{has_bit, AreBytes}
@@ -45,65 +10,12 @@ use Rattle.codec_payload_base.specs.declared.error.PacketError.TheVariants as fa
 use Rattle.codec_payload_base.specs.declared.picture_id.PictureId.{PictureId}
 use Rattle.codec_payload_base.proofs.PictureIdLemmas.{spelled_taken}
 use Rattle.codec_payload_vp9.specs.Vp9Fields.{Fields, Groups}
-use Rattle.codec_payload_vp9.specs.Vp9Descriptor.{
-  Descriptor,
-  Group,
-  Structure,
-  spelled,
-  spelled_sizes,
-  spelled_groups,
-  spelled_structure,
-  spelled_tail,
-  HasLayers,
-  AreDifferences,
-  HasDifferences,
-  HasSizes,
-  AreGroups,
-  HasGroups,
-  IsDescriptor,
-  IsStructure,
-  HasStructure,
-}
-use Rattle.codec_payload_vp9.specs.Vp9Reading.{
-  Reading,
-  reads,
-  refuses,
-  next_from,
-  then_read,
-  with_flags,
-  with_id,
-  read_id,
-  with_layers,
-  layers_at,
-  behind_layers,
-  read_tl0,
-  read_layers,
-  with_difference,
-  differences_at,
-  read_differences,
-  read_before,
-  number_at,
-  with_height,
-  with_width,
-  read_size,
-  sizes_at,
-  read_sizes,
-  group_count_at,
-  read_group_count,
-  with_structure,
-  behind_head,
-  GroupReading,
-  no_groups,
-  groups_of,
-  with_group,
-  count_of_differences,
-  groups_at,
-  if_read,
-  structure_groups,
-  read_groups,
-  if_before,
-  all_groups,
-}
+use Rattle.codec_payload_vp9.specs.Vp9Descriptor.{Descriptor, Group, Structure, spelled, spelled_sizes, spelled_groups, spelled_structure, spelled_tail, HasLayers, AreDifferences}
+use Rattle.codec_payload_vp9.specs.Vp9Descriptor.{HasDifferences, HasSizes, AreGroups, HasGroups, IsDescriptor, IsStructure, HasStructure}
+use Rattle.codec_payload_vp9.specs.Vp9Reading.{Reading, reads, refuses, next_from, then_read, with_flags, with_id, read_id, with_layers, layers_at, behind_layers, read_tl0}
+use Rattle.codec_payload_vp9.specs.Vp9Reading.{read_layers, with_difference, differences_at, read_differences, read_before, number_at, with_height, with_width, read_size}
+use Rattle.codec_payload_vp9.specs.Vp9Reading.{sizes_at, read_sizes, group_count_at, read_group_count, with_structure, behind_head, GroupReading, no_groups, groups_of, with_group}
+use Rattle.codec_payload_vp9.specs.Vp9Reading.{count_of_differences, groups_at, if_read, structure_groups, read_groups, if_before, all_groups}
 
 -- what is read next was read from where the first reading came to its end
 next_reads : (d : Fields) (x : Result (List ℕ) PacketError) (next : Fields → List ℕ → Reading) (rest : List ℕ) → (next_from d x next).rest ≡ Ok rest
