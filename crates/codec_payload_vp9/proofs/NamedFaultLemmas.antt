@@ -7,7 +7,11 @@ use Rattle.codec_payload_base.specs.declared.error.PacketError.{PacketError}
 use Rattle.codec_payload_base.specs.declared.error.PacketError.TheVariants as faults
 use Rattle.codec_payload_base.specs.declared.picture_id.PictureId.{PictureId}
 use Rattle.codec_payload_vp9.specs.Vp9Fields.{Fields, Groups}
-use Rattle.codec_payload_vp9.specs.Vp9Reading.{SameButGroups, group_count, Reading, reads, refuses, next_from, then_read, with_id, read_id, with_layers, layers_at, read_tl0, read_layers, with_difference, differences_at, read_differences, read_before, number_at, with_height, with_width, read_size, sizes_at, read_sizes, group_count_at, read_group_count, with_structure, behind_head, head_at, read_head, GroupReading, no_groups, with_group, count_of_differences, group_at, groups_at, groups_from, if_read, structure_groups, read_groups, groups_of, if_before, all_groups, is_no_memory}
+use Rattle.codec_payload_vp9.specs.Vp9Reading.{SameButGroups, group_count, Reading, reads, refuses, next_from, then_read, with_id, read_id, with_layers, layers_at, read_tl0}
+use Rattle.codec_payload_vp9.specs.Vp9Reading.{read_layers, with_difference, differences_at, read_differences, read_before, number_at, with_height, with_width, read_size}
+use Rattle.codec_payload_vp9.specs.Vp9Reading.{sizes_at, read_sizes, group_count_at, read_group_count, with_structure, behind_head, head_at, read_head, GroupReading, no_groups}
+use Rattle.codec_payload_vp9.specs.Vp9Reading.{with_group, count_of_differences, group_at, groups_at, groups_from, if_read, structure_groups, read_groups, groups_of, if_before}
+use Rattle.codec_payload_vp9.specs.Vp9Reading.{all_groups, is_no_memory}
 
 abbrev Named : {X : Type 0} → Result X PacketError → Type 0
 Named r = is_no_memory r ≡ false
@@ -35,7 +39,8 @@ layers_at_named : (d : Fields) (bytes : List ℕ) → Named (layers_at d bytes).
 layers_at_named d [] = refl
 layers_at_named d (octet ∷ bytes) =
     let e = with_layers d octet in
-    if_named (nat_lt 2 e.sid) (refuses e faults.ErrTooManySpatialLayers) (if e.f then reads e bytes else read_tl0 e bytes) refl (if_named e.f (reads e bytes) (read_tl0 e bytes) refl (read_tl0_named e bytes))
+    if_named (nat_lt 2 e.sid) (refuses e faults.ErrTooManySpatialLayers) (if e.f then reads e bytes else read_tl0 e bytes) refl
+    (if_named e.f (reads e bytes) (read_tl0 e bytes) refl (read_tl0_named e bytes))
 
 read_layers_named : (d : Fields) (bytes : List ℕ) → Named (read_layers d bytes).rest
 read_layers_named d bytes = if_named d.l (layers_at d bytes) (reads d bytes) (layers_at_named d bytes) refl
@@ -88,7 +93,8 @@ group_count_named d bytes = if_named d.g (group_count_at d bytes) (reads d bytes
 behind_head_named : (d : Fields) (bytes : List ℕ) → Named (behind_head d bytes).rest
 behind_head_named d bytes =
     let sizes = read_sizes d bytes in
-    if_named (nat_lt 2 d.ns) (refuses d faults.ErrVP9CorruptedPacket) (then_read sizes read_group_count) refl (then_named sizes.rest sizes.fields read_group_count (read_sizes_named d bytes) group_count_named)
+    if_named (nat_lt 2 d.ns) (refuses d faults.ErrVP9CorruptedPacket) (then_read sizes read_group_count) refl
+    (then_named sizes.rest sizes.fields read_group_count (read_sizes_named d bytes) group_count_named)
 
 -- the groups
 
@@ -102,7 +108,8 @@ group_named groups (head ∷ bytes) =
     if_group_named (nat_lt (length bytes) (count_of_differences head)) (record { groups = with_group groups head bytes; rest = Err faults.ErrShortPacket })
     (record { groups = with_group groups head (take (count_of_differences head) bytes); rest = Ok (drop (count_of_differences head) bytes) }) refl refl
 
-from_named : (groups : Groups) (r : Result (List ℕ) PacketError) (next : Groups → List ℕ → GroupReading) → Named r → ((g : Groups) (bytes : List ℕ) → Named (next g bytes).rest) → Named (groups_from groups r next).rest
+from_named : (groups : Groups) (r : Result (List ℕ) PacketError) (next : Groups → List ℕ → GroupReading) → Named r → ((g : Groups) (bytes : List ℕ) → Named (next g bytes).rest)
+    → Named (groups_from groups r next).rest
 from_named groups (Ok bytes) next is on = on groups bytes
 from_named groups (Err fault) next is on = is
 
@@ -133,7 +140,8 @@ names_no_memory d bytes is = let never = sym (ap is_no_memory is) ∙ all_named 
 
 -- The structure but for its groups, and then these.
 
-then_v : (r : Result (List ℕ) PacketError) (d : Fields) (v : Bool) (next : Fields → List ℕ → Reading) → d.v ≡ v → ((e : Fields) (bytes : List ℕ) → (next e bytes).fields.v ≡ e.v) → (next_from d r next).fields.v ≡ v
+then_v : (r : Result (List ℕ) PacketError) (d : Fields) (v : Bool) (next : Fields → List ℕ → Reading) → d.v ≡ v → ((e : Fields) (bytes : List ℕ) → (next e bytes).fields.v ≡ e.v)
+    → (next_from d r next).fields.v ≡ v
 then_v (Ok bytes) d v next is on = on d bytes ∙ is
 then_v (Err fault) d v next is on = is
 

@@ -48,7 +48,8 @@ module _ (d start after : Fields) (flags : ℕ) (bytes out : List ℕ) (extra : 
           → (is_taken answer ≡ true → groups_of after ≡ here.groups) → AppendedIf misplaced after rest out extra answer out' extra' → Vp9Step d (flags ∷ bytes) out extra answer after out' extra'
       placed misplaced answer out' extra' is groups appended =
           on answer out' extra' groups
-          (subst (λ (r : Result (List ℕ) PacketError). Vp9Rest after r out extra answer out' extra') (sym whole) (subst (λ (m : Bool). AppendedIf m after rest out extra answer out' extra') (sym is) appended))
+          (subst (λ (r : Result (List ℕ) PacketError). Vp9Rest after r out extra answer out' extra') (sym whole)
+          (subst (λ (m : Bool). AppendedIf m after rest out extra answer out' extra') (sym is) appended))
 
       -- they are all there, and what is behind them is misplaced
       pub misplaced : is_misplaced after (length out) (told_before extra) ≡ true → Vp9Step d (flags ∷ bytes) out extra (Err faults.ErrVP9CorruptedPacket) after out extra

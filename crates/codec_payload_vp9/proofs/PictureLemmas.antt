@@ -32,7 +32,8 @@ taken_extra true after piece out extra x out' extra' a = let no = a.0 in absurd 
 taken_extra false after piece out extra x out' extra' a = a.1
 
 module _ (d : Fields) (id tl0 : ℕ) (small : id < 2 ^ 15) (piece out : List ℕ) (extra : CodecExtra) (x : Unit {0}) (after : Fields) (out' : List ℕ) (extra' : CodecExtra) where
-  plain_tells : (p first e : Bool) → StepFromId (flagged d p true false first e false) (take_id (id_bytes (Long id) ++ 16 ∷ tl0 ∷ piece)) out extra (Ok x) after out' extra' → TellsBoth d id tl0 after extra'
+  plain_tells : (p first e : Bool) → StepFromId (flagged d p true false first e false) (take_id (id_bytes (Long id) ++ 16 ∷ tl0 ∷ piece)) out extra (Ok x) after out' extra'
+      → TellsBoth d id tl0 after extra'
   plain_tells p first e step =
       let d0 = flagged d p true false first e false in
       let known : StepFromId d0 (Some (Long id, 16 ∷ tl0 ∷ piece)) out extra (Ok x) after out' extra' =
@@ -49,7 +50,8 @@ module _ (d : Fields) (id tl0 : ℕ) (small : id < 2 ^ 15) (piece out : List ℕ
         extended_last = ap (λ (f : Fields). f.extended_pid) known.0;
       }
 
-  structure_tells : (p first e : Bool) → StepFromId (flagged d p true false first e true) (take_id (id_bytes (Long id) ++ 16 ∷ tl0 ∷ 0 ∷ piece)) out extra (Ok x) after out' extra' → TellsBoth d id tl0 after extra'
+  structure_tells : (p first e : Bool) → StepFromId (flagged d p true false first e true) (take_id (id_bytes (Long id) ++ 16 ∷ tl0 ∷ 0 ∷ piece)) out extra (Ok x) after out' extra'
+      → TellsBoth d id tl0 after extra'
   structure_tells p first e step =
       let d0 = flagged d p true false first e true in
       let known : StepFromId d0 (Some (Long id, 16 ∷ tl0 ∷ 0 ∷ piece)) out extra (Ok x) after out' extra' =

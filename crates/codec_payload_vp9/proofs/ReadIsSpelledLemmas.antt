@@ -1,5 +1,6 @@
 -- What is read is spelled so.
-use Rattle.std.proofs.Common.{◌≡◌, ◌∙◌, sym, ap, refl, ℕ, zero, suc, ◌+◌, ◌*◌, ◌/◌, ◌%◌, ◌<◌, ◌≤◌, List, [], ◌∷◌, ◌++◌, length, take, drop, Bool, true, false, ◌&&◌, Option, Some, None, Result, Ok, Err, append_assoc, arith, subst, ltb-false}
+use Rattle.std.proofs.Common.{◌≡◌, ◌∙◌, sym, ap, refl, ℕ, zero, suc, ◌+◌, ◌*◌, ◌/◌, ◌%◌, ◌<◌, ◌≤◌, List, [], ◌∷◌, ◌++◌, length, take, drop, Bool, true, false, ◌&&◌, Option, Some}
+use Rattle.std.proofs.Common.{None, Result, Ok, Err, append_assoc, arith, subst, ltb-false}
 use Rattle.std.proofs.lemmas.List.{length-take, take-append-drop}
 use Rattle.std.specs.Prelude.{is_some, nat_lt, IfSome, if◌then◌else◌}
 use Rattle.codec_payload_base.specs.Flags.{has_bit, AreBytes}
@@ -9,8 +10,12 @@ use Rattle.codec_payload_base.specs.declared.error.PacketError.TheVariants as fa
 use Rattle.codec_payload_base.specs.declared.picture_id.PictureId.{PictureId}
 use Rattle.codec_payload_base.proofs.PictureIdLemmas.{spelled_taken}
 use Rattle.codec_payload_vp9.specs.Vp9Fields.{Fields, Groups}
-use Rattle.codec_payload_vp9.specs.Vp9Descriptor.{Descriptor, Group, Structure, spelled, spelled_sizes, spelled_groups, spelled_structure, spelled_tail, HasLayers, AreDifferences, HasDifferences, HasSizes, AreGroups, HasGroups, IsDescriptor, IsStructure, HasStructure}
-use Rattle.codec_payload_vp9.specs.Vp9Reading.{Reading, reads, refuses, next_from, then_read, with_flags, with_id, read_id, with_layers, layers_at, behind_layers, read_tl0, read_layers, with_difference, differences_at, read_differences, read_before, number_at, with_height, with_width, read_size, sizes_at, read_sizes, group_count_at, read_group_count, with_structure, behind_head, GroupReading, no_groups, groups_of, with_group, count_of_differences, groups_at, if_read, structure_groups, read_groups, if_before, all_groups}
+use Rattle.codec_payload_vp9.specs.Vp9Descriptor.{Descriptor, Group, Structure, spelled, spelled_sizes, spelled_groups, spelled_structure, spelled_tail, HasLayers, AreDifferences}
+use Rattle.codec_payload_vp9.specs.Vp9Descriptor.{HasDifferences, HasSizes, AreGroups, HasGroups, IsDescriptor, IsStructure, HasStructure}
+use Rattle.codec_payload_vp9.specs.Vp9Reading.{Reading, reads, refuses, next_from, then_read, with_flags, with_id, read_id, with_layers, layers_at, behind_layers, read_tl0}
+use Rattle.codec_payload_vp9.specs.Vp9Reading.{read_layers, with_difference, differences_at, read_differences, read_before, number_at, with_height, with_width, read_size}
+use Rattle.codec_payload_vp9.specs.Vp9Reading.{sizes_at, read_sizes, group_count_at, read_group_count, with_structure, behind_head, GroupReading, no_groups, groups_of, with_group}
+use Rattle.codec_payload_vp9.specs.Vp9Reading.{count_of_differences, groups_at, if_read, structure_groups, read_groups, if_before, all_groups}
 
 -- what is read next was read from where the first reading came to its end
 next_reads : (d : Fields) (x : Result (List ℕ) PacketError) (next : Fields → List ℕ → Reading) (rest : List ℕ) → (next_from d x next).rest ≡ Ok rest
@@ -222,7 +227,8 @@ abbrev GroupsRead : ℕ → List ℕ → List ℕ → Type 0
 GroupsRead count bytes rest = (all : List Group) × (bytes ≡ spelled_groups all ++ rest) × (length all ≡ count) × AreGroups all
 
 group_by : (short : Bool) (count : ℕ) (groups : Groups) (head : ℕ) (bytes rest : List ℕ) → nat_lt (length bytes) (count_of_differences head) ≡ short
-    → ((groups_at count (with_group groups head (take (count_of_differences head) bytes)) (drop (count_of_differences head) bytes)).rest ≡ Ok rest → GroupsRead count (drop (count_of_differences head) bytes) rest)
+    → ((groups_at count (with_group groups head (take (count_of_differences head) bytes)) (drop (count_of_differences head) bytes)).rest ≡ Ok rest
+    → GroupsRead count (drop (count_of_differences head) bytes) rest)
     → (groups_at (suc count) groups (head ∷ bytes)).rest ≡ Ok rest → GroupsRead (suc count) (head ∷ bytes) rest
 group_by true count groups head bytes rest is others h = let never = rw is at h in cc
 group_by false count groups head bytes rest is others h =
@@ -317,7 +323,8 @@ read_is_spelled d flags bytes rest are h =
     let keeps_one = keeps_id start bytes in
     let are_one : AreBytes behind_id = are_behind (id_if id) behind_id (subst AreBytes id_is are) in
     let (layers, tl0, layers_is, layers_had) = layers_read one.fields.l one.fields behind_id behind_layers in_layers in
-    let has_layers : HasLayers (has_bit flags 5) (has_bit flags 4) layers tl0 = subst (λ (b : Bool). HasLayers (has_bit flags 5) b layers tl0) keeps_one.2 (subst (λ (b : Bool). HasLayers b one.fields.f layers tl0) keeps_one.1 layers_had) in
+    let has_layers : HasLayers (has_bit flags 5) (has_bit flags 4) layers tl0 =
+    subst (λ (b : Bool). HasLayers (has_bit flags 5) b layers tl0) keeps_one.2 (subst (λ (b : Bool). HasLayers b one.fields.f layers tl0) keeps_one.1 layers_had) in
     let keeps_layered = keeps_layers one.fields behind_id in
     let fields_two : two.fields ≡ (read_layers one.fields behind_id).fields = ap (λ (x : Reading). x.fields) two_is in
     let f_two : two.fields.f ≡ has_bit flags 4 = ap (λ (x : Fields). x.f) fields_two ∙ keeps_layered.2 ∙ keeps_one.2 in
@@ -328,10 +335,12 @@ read_is_spelled d flags bytes rest are h =
     let v_three : r.fields.v ≡ has_bit flags 1 = ap (λ (x : Reading). x.fields.v) three_is ∙ (keeps_differences two.fields behind_layers).3 ∙ v_two in
     let front = id_if id ++ (byte_if layers ++ (byte_if tl0 ++ differences)) in
     let whole : bytes ≡ front ++ before =
-    id_is ∙ ap (λ (t : List ℕ). id_if id ++ t) (layers_is ∙ ap (λ (t : List ℕ). byte_if layers ++ (byte_if tl0 ++ t)) differences_is) ∙ four_joined (id_if id) (byte_if layers) (byte_if tl0) differences before in
+    id_is ∙ ap (λ (t : List ℕ). id_if id ++ t) (layers_is ∙ ap (λ (t : List ℕ). byte_if layers ++ (byte_if tl0 ++ t)) differences_is)
+    ∙ four_joined (id_if id) (byte_if layers) (byte_if tl0) differences before in
     let are_before : AreBytes before = are_behind front before (subst AreBytes whole are) in
     let (structure, structure_is, structure_had) = groups_read r.fields.v r.fields before rest are_before in_structure in
     let has_structure : HasStructure (has_bit flags 1) structure = subst (λ (b : Bool). HasStructure b structure) v_three structure_had in
     let x : Descriptor = record { flags = flags; picture_id = id; layers = layers; tl0picidx = tl0; differences = differences; structure = structure } in
-    let tail : bytes ≡ spelled_tail x ++ rest = whole ∙ ap (λ (t : List ℕ). front ++ t) structure_is ∙ five_joined (id_if id) (byte_if layers) (byte_if tl0) differences (spelled_structure structure) rest in
+    let tail : bytes ≡ spelled_tail x ++ rest = whole ∙ ap (λ (t : List ℕ). front ++ t) structure_is
+    ∙ five_joined (id_if id) (byte_if layers) (byte_if tl0) differences (spelled_structure structure) rest in
     (x, record { id = has_id; width = fits; layers = has_layers; differences = has_differences; structure = has_structure }, ap (λ (t : List ℕ). flags ∷ t) tail)

@@ -12,7 +12,8 @@ returns-in_err-groups c =
     let packet : c.args.packet.now ≡ c.in-Some.field-0-0.now ∷ c.in-Some.bytes.now = search rules in
     let exit = err_from_is_err_and c.from_residual.result c.from_residual.ensures.1 in
     rw (packet, exit.1, exit.2)
-    (refused (fields_of c.args.self.now) (fields_of c.note_flags.new.self) (fields_of c.read_fields.new.self) c.in-Some.field-0-0.now c.in-Some.bytes.now c.args.out.now.items c.args.codec_extra.now c.note_flags.ensures c.in_err-groups.ensures.kept
+    (refused (fields_of c.args.self.now) (fields_of c.note_flags.new.self)
+    (fields_of c.read_fields.new.self) c.in-Some.field-0-0.now c.in-Some.bytes.now c.args.out.now.items c.args.codec_extra.now c.note_flags.ensures c.in_err-groups.ensures.kept
     c.in_err-groups.field-0.0 _ (sym c.in_err-groups.ensures.rest) c.in_err-groups.ensures.groups)
 
 pub returns-in_err-rest : goal.returns-in_err-rest
@@ -29,7 +30,8 @@ returns-in_err-rest c =
     let counted : here ≡ groups_at (group_count mid) (groups_of mid) behind = ap (λ (n : ℕ). groups_at n (groups_of mid) behind) c.group_count-count.ensures in
     let all : all_groups start bytes ≡ here = c.in_ok-groups.ensures.groups ∙ ap (λ r. groups_from (groups_of mid) r (groups_at (group_count mid))) read ∙ sym counted in
     let kept = same_on after mid (read_all start bytes).fields c.read_groups-taken.ensures.kept c.in_ok-groups.ensures.kept in
-    let begins = begins_either (is_no_memory c.read_groups-taken.result) c.read_groups-taken.result (groups_of after) here.groups refl c.read_groups-taken.ensures.groups c.read_groups-taken.ensures.no_memory in
+    let begins = begins_either (is_no_memory c.read_groups-taken.result) c.read_groups-taken.result
+    (groups_of after) here.groups refl c.read_groups-taken.ensures.groups c.read_groups-taken.ensures.no_memory in
     rw (packet, exit.1, exit.2)
     (short (fields_of c.args.self.now) start after c.in-Some.field-0-0.now bytes c.args.out.now.items c.args.codec_extra.now c.note_flags.ensures kept here all behind read begins
     c.in_err-rest.field-0.0 (sym (c.in_err-rest.ensures (groups_of mid))))
@@ -48,7 +50,8 @@ returns-then-is_misplaced c =
     let counted : here ≡ groups_at (group_count mid) (groups_of mid) behind = ap (λ (n : ℕ). groups_at n (groups_of mid) behind) c.group_count-count.ensures in
     let all : all_groups start bytes ≡ here = c.in_ok-groups.ensures.groups ∙ ap (λ r. groups_from (groups_of mid) r (groups_at (group_count mid))) read ∙ sym counted in
     let kept = same_on after mid (read_all start bytes).fields c.read_groups-taken.ensures.kept c.in_ok-groups.ensures.kept in
-    let begins = begins_either (is_no_memory c.read_groups-taken.result) c.read_groups-taken.result (groups_of after) here.groups refl c.read_groups-taken.ensures.groups c.read_groups-taken.ensures.no_memory in
+    let begins = begins_either (is_no_memory c.read_groups-taken.result) c.read_groups-taken.result
+    (groups_of after) here.groups refl c.read_groups-taken.ensures.groups c.read_groups-taken.ensures.no_memory in
     rw (packet)
     (misplaced (fields_of c.args.self.now) start after c.in-Some.field-0-0.now bytes c.args.out.now.items c.args.codec_extra.now c.note_flags.ensures kept here all behind read begins
     c.in_ok-rest.rest.now (sym (c.in_ok-rest.ensures (groups_of mid))) (ap (λ (n : ℕ). is_misplaced after n (told_before c.args.codec_extra.now)) size ∙ sym c.if-is_misplaced.ensures))
@@ -68,11 +71,14 @@ returns-in_err-taken c =
     let counted : here ≡ groups_at (group_count mid) (groups_of mid) behind = ap (λ (n : ℕ). groups_at n (groups_of mid) behind) c.group_count-count.ensures in
     let all : all_groups start bytes ≡ here = c.in_ok-groups.ensures.groups ∙ ap (λ r. groups_from (groups_of mid) r (groups_at (group_count mid))) read ∙ sym counted in
     let kept = same_on after mid (read_all start bytes).fields c.read_groups-taken.ensures.kept c.in_ok-groups.ensures.kept in
-    let begins = begins_either (is_no_memory c.read_groups-taken.result) c.read_groups-taken.result (groups_of after) here.groups refl c.read_groups-taken.ensures.groups c.read_groups-taken.ensures.no_memory in
+    let begins = begins_either (is_no_memory c.read_groups-taken.result) c.read_groups-taken.result
+    (groups_of after) here.groups refl c.read_groups-taken.ensures.groups c.read_groups-taken.ensures.no_memory in
     rw (packet, exit.1, exit.2)
     (wanting (fields_of c.args.self.now) start after c.in-Some.field-0-0.now bytes c.args.out.now.items c.args.codec_extra.now c.note_flags.ensures kept here all behind read begins
-    c.in_ok-rest.rest.now (sym (c.in_ok-rest.ensures (groups_of mid))) c.in_err-taken.field-0.0 (ap (λ (n : ℕ). is_misplaced after n (told_before c.args.codec_extra.now)) size ∙ sym c.if-is_misplaced.ensures)
-    (lacks_memory (is_no_memory {X = Unit {0}} (Err c.in_err-taken.field-0.0)) c.in_err-taken.field-0.0 here.rest c.in_ok-rest.rest.now refl (sym (c.in_ok-rest.ensures (groups_of mid))) c.in_err-taken.ensures.rest)
+    c.in_ok-rest.rest.now (sym (c.in_ok-rest.ensures (groups_of mid))) c.in_err-taken.field-0.0
+    (ap (λ (n : ℕ). is_misplaced after n (told_before c.args.codec_extra.now)) size ∙ sym c.if-is_misplaced.ensures)
+    (lacks_memory (is_no_memory {X = Unit {0}} (Err c.in_err-taken.field-0.0)) c.in_err-taken.field-0.0 here.rest c.in_ok-rest.rest.now refl
+    (sym (c.in_ok-rest.ensures (groups_of mid))) c.in_err-taken.ensures.rest)
     (subst (λ (n : ℕ). 0 < n) (c.group_count-count.ensures ∙ sym (ap group_count c.read_groups-taken.ensures.kept)) c.in_err-taken.ensures.some))
 
 pub returns : goal.returns
@@ -89,7 +95,9 @@ returns c =
     let counted : here ≡ groups_at (group_count mid) (groups_of mid) behind = ap (λ (n : ℕ). groups_at n (groups_of mid) behind) c.group_count-count.ensures in
     let all : all_groups start bytes ≡ here = c.in_ok-groups.ensures.groups ∙ ap (λ r. groups_from (groups_of mid) r (groups_at (group_count mid))) read ∙ sym counted in
     let kept = same_on after mid (read_all start bytes).fields c.read_groups-taken.ensures.kept c.in_ok-groups.ensures.kept in
-    let begins = begins_either (is_no_memory c.read_groups-taken.result) c.read_groups-taken.result (groups_of after) here.groups refl c.read_groups-taken.ensures.groups c.read_groups-taken.ensures.no_memory in
+    let begins = begins_either (is_no_memory c.read_groups-taken.result) c.read_groups-taken.result
+    (groups_of after) here.groups refl c.read_groups-taken.ensures.groups c.read_groups-taken.ensures.no_memory in
     rw (packet)
     (appended (fields_of c.args.self.now) start after c.in-Some.field-0-0.now bytes c.args.out.now.items c.args.codec_extra.now c.note_flags.ensures kept here all behind read begins
-    c.in_ok-rest.rest.now (sym (c.in_ok-rest.ensures (groups_of mid))) c.append.result c.append.new.out.items c.append.new.codec_extra (ap (λ (n : ℕ). is_misplaced after n (told_before c.args.codec_extra.now)) size ∙ sym c.if-is_misplaced.ensures) (c.in_ok-taken.ensures.groups refl) c.append.ensures)
+    c.in_ok-rest.rest.now (sym (c.in_ok-rest.ensures (groups_of mid))) c.append.result c.append.new.out.items c.append.new.codec_extra
+    (ap (λ (n : ℕ). is_misplaced after n (told_before c.args.codec_extra.now)) size ∙ sym c.if-is_misplaced.ensures) (c.in_ok-taken.ensures.groups refl) c.append.ensures)

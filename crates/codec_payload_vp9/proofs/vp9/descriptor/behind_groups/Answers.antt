@@ -2,7 +2,7 @@ use Rattle.std.proofs.Common.{◌≡◌, ◌-◌, ℕ, sym, ◌∙◌, ap, Err, 
 use Rattle.std.proofs.lemmas.Result.{err_from_is_err_and}
 use Rattle.codec_payload_vp9.proofs.GroupLemmas.{groups_go, groups_refuse}
 use Rattle.codec_payload_vp9.specs.Vp9Reading.{group_at, groups_at, GroupReading}
-use Rattle.codec_payload_vp9.proofs.vp9.depacketizer.behind_groups.Goals as goal
+use Rattle.codec_payload_vp9.proofs.vp9.descriptor.behind_groups.Goals as goal
 
 pub loop-init : goal.loop-init
 loop-init c = λ groups.

@@ -1,7 +1,7 @@
 use Rattle.std.proofs.Common.{◌≡◌, ◌-◌}
 use Rattle.codec_payload_vp9.specs.Vp9Fields.{Groups}
 use Rattle.codec_payload_vp9.specs.Vp9Reading.{groups_at}
-use Rattle.codec_payload_vp9.proofs.vp9.depacketizer.behind_groups.Given as goal
+use Rattle.codec_payload_vp9.proofs.vp9.descriptor.behind_groups.Given as goal
 
 -- what is read from here on, behind some groups, is what is read from the start
 abbrev pub invariant-loop : goal.invariant-loop
