@@ -5,13 +5,13 @@
 
 ghost use Rattle.std.specs.Prelude.{◌≡◌, ◌<◌, false};
 ghost use Rattle.codec_payload_audio.specs.AmrWb.{speech_size};
-ghost use Rattle.codec_payload_audio.specs.AmrWbPayload.{ReceivedIsSpelled, SentIsSpelled, SpelledIsReceived};
 
 mod receive;
 mod send;
 mod shift;
 mod toc;
 
+pub use crate::laws::payloads_follow_the_grammar;
 pub use receive::AmrWbDepacketizer;
 pub use send::AmrWbPacketizer;
 
@@ -22,15 +22,6 @@ pub fn defaults_of_amr_wb() -> (AmrWbPacketizer, AmrWbDepacketizer)
 {
     (AmrWbPacketizer::default(), AmrWbDepacketizer::default())
 }
-
-/// A payload that is spelled from a mode request, a table of contents and the speech of its entries, with any bits where
-/// their value means nothing, is received as those frames, each in canonical form; and whatever is received was spelled
-/// so (RFC 4867, sections 4.3 and 4.4). What is sent of a frame is spelled so too.
-pub fn payloads_follow_the_grammar()
-    ensures received { SpelledIsReceived }
-    ensures spelled { ReceivedIsSpelled }
-    ensures sent { SentIsSpelled }
-{}
 
 /// How many speech bits a frame type has; `None` for a reserved one. Types 14 and 15 stand for a lost frame and for a
 /// frame without data (3GPP TS 26.201, table 1a).

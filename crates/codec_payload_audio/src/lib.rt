@@ -2,6 +2,7 @@
 #![tactic(auto)]
 
 pub mod amr_wb;
+mod laws;
 pub mod plain;
 pub mod tele;
 mod whole;

@@ -1,23 +1,18 @@
 //! The codecs whose payloads carry themselves: Opus, G.711 and G.722, comfort noise, and Null.
 
 ghost use Rattle.codec_payload_audio.specs.Payloads.{Appends};
-ghost use Rattle.codec_payload_base.specs.Pieces.{IsOneList};
 
 mod comfort_noise;
 mod g7xx;
 mod null;
 mod opus;
 
+pub use crate::laws::pieces_are_one;
 use codec_payload_base::error::PacketError;
 pub use comfort_noise::{ComfortNoiseDepacketizer, ComfortNoisePacketizer};
 pub use g7xx::{G7xxPacketizer, G711Depacketizer, G711Packetizer, G722Packetizer};
 pub use null::{NullDepacketizer, NullPacketizer};
 pub use opus::{OpusDepacketizer, OpusPacketizer};
-
-/// The pieces of a frame are one list: whatever has their sizes and joins to the frame is that list.
-pub fn pieces_are_one()
-    ensures { IsOneList }
-{}
 
 /// Appends a payload that carries itself.
 fn append_payload(payload: &[u8], out: &mut Vec<u8>) -> Result<(), PacketError>

@@ -2,9 +2,9 @@
 
 ghost use Rattle.std.specs.Prelude.{◌≡◌, ◌+◌, ◌*◌, ◌/◌, ◌%◌, ◌<◌, ◌≤◌, length, min, None, true, false};
 ghost use Rattle.std.specs.Option.{option_map};
-ghost use Rattle.codec_payload_base.specs.Bits.{Reader, ReadsBits, ReadsLeb128, LendsBytes, ReadsLebAtFront, Skips, left, here, moved, at_end};
-ghost use Rattle.codec_payload_base.specs.Leb.{WritesLeb, WritesShortest, TakesNine, FindsLeb};
+ghost use Rattle.codec_payload_base.specs.Bits.{Reader, ReadsBits, ReadsLeb128, LendsBytes, Skips, left, here, moved, at_end};
 
+pub use crate::laws::leb128_says_numbers;
 use std::marker::Model;
 
 /// Reads the bits of a payload in order, the highest of each byte first. What a call lends lives as long as the payload,
@@ -236,14 +236,3 @@ impl<'a> BitRead<'a> for BitReader<'a> {
         }
     }
 }
-
-/// The laws of LEB128 (AV1 bitstream specification, section 4.10.5): what is written of a number says it, in as few bytes
-/// as can be, which are at most nine below 2^63; reading finds the number that a text at the front says, and no other; and
-/// so does [`BitRead::get_leb128`] where it stands at a whole byte.
-pub fn leb128_says_numbers()
-    ensures says { WritesLeb }
-    ensures shortest { WritesShortest }
-    ensures nine { TakesNine }
-    ensures found { FindsLeb }
-    ensures read { ReadsLebAtFront }
-{}

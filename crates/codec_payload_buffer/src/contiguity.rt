@@ -1,4 +1,5 @@
-//! Whether a frame may go out, and whether it follows the frame before it, by the picture ids of VP8 and VP9.
+//! VP8 and VP9: whether a frame may go out, and whether it follows the frame before it, by picture ids (docs/FORMATS.md,
+//! "Contiguity").
 
 ghost use Rattle.std.specs.Prelude.{◌≡◌};
 ghost use Rattle.codec_payload_buffer.specs.ContiguityTable.{no_ids, verdict, vp8_verdict, vp9_verdict, checked, contiguity_for, Advances};

@@ -1,7 +1,7 @@
 -- What the calls on a packetizer do.
 use Rattle.std.specs.Prelude.{◌≡◌, ◌≢◌, ℕ, ◌+◌, ◌==◌, ◌&&◌, ◌||◌, Bool, nat_le, if◌then◌else◌, List, [], Option, Some, None, Ok, Err, IfSome, length, map, slice_get}
 use Rattle.codec_payload_core.specs.Faults.{fault_number}
-use Rattle.codec_payload_core.specs.Packetizers.{PacketizerState, PacketizerStep, packetizer_state_of, is_built_in, marker_of, talkspurt_of, nackable_of}
+use Rattle.codec_payload_core.specs.Packetizers.{PacketizerState, PacketizerStep, packetizer_state_of, is_built_in, marker_of, talk_spurt_of, nackable_of}
 use Rattle.codec_payload_core.specs.declared.error.PacketError.{PacketError}
 use Rattle.codec_payload_handle.specs.Bytes.{filled}
 use Rattle.codec_payload_handle.specs.declared.object.Object.{Object}
@@ -24,7 +24,7 @@ pub record CutsFrame (r : Sender) (mtu : ℕ) (starts : Bool) (frame : List ℕ)
   pub ok : status ≡ 0 → PacketizerStep (packetizer_state_of r.packetizer) mtu frame (Ok (packets_in s)) (packetizer_state_of s.packetizer)
   pub counted : status ≡ 0 → count ≡ length (packets_in s)
   pub none_taken : status ≡ 0 → s.taken ≡ 0
-  pub marked : status ≡ 0 → is_built_in (packetizer_state_of s.packetizer) ≡ Bool.true → s.marked ≡ (starts && talkspurt_of (packetizer_state_of s.packetizer))
+  pub marked : status ≡ 0 → is_built_in (packetizer_state_of s.packetizer) ≡ Bool.true → s.marked ≡ (starts && talk_spurt_of (packetizer_state_of s.packetizer))
   pub fault : status ≢ 0 → (e : PacketError) × (status ≡ fault_number e) × PacketizerStep (packetizer_state_of r.packetizer) mtu frame (Err e) (packetizer_state_of s.packetizer)
   pub stays : status ≢ 0 → (s.packets ≡ r.packets) × (s.taken ≡ r.taken) × (s.marked ≡ r.marked)
 

@@ -131,18 +131,18 @@ abbrev pub MarkerStep : PacketizerState → List ℕ → Option (List ℕ) → B
 MarkerStep packetizer packet previous last answer after = (answer ≡ marker_of packetizer last) × (after ≡ numbers_of_packetizer packetizer)
 
 -- whether the marker tells where a talk spurt starts
-abbrev pub talkspurt_of : PacketizerState → Bool
-talkspurt_of G711Packetizing = true
-talkspurt_of G722Packetizing = true
-talkspurt_of OpusPacketizing = true
-talkspurt_of NullPacketizing = false
-talkspurt_of (Vp8Packetizing id) = false
-talkspurt_of (Vp9Packetizing sender) = false
-talkspurt_of ComfortNoisePacketizing = false
-talkspurt_of TelePacketizing = true
-talkspurt_of Av1Packetizing = false
-talkspurt_of (AmrWbPacketizing octet) = true
-talkspurt_of BoxedPacketizing = false
+abbrev pub talk_spurt_of : PacketizerState → Bool
+talk_spurt_of G711Packetizing = true
+talk_spurt_of G722Packetizing = true
+talk_spurt_of OpusPacketizing = true
+talk_spurt_of NullPacketizing = false
+talk_spurt_of (Vp8Packetizing id) = false
+talk_spurt_of (Vp9Packetizing sender) = false
+talk_spurt_of ComfortNoisePacketizing = false
+talk_spurt_of TelePacketizing = true
+talk_spurt_of Av1Packetizing = false
+talk_spurt_of (AmrWbPacketizing octet) = true
+talk_spurt_of BoxedPacketizing = false
 
 -- whether a lost packet may be asked for again
 abbrev pub nackable_of : PacketizerState → Bool

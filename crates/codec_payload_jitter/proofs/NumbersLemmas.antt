@@ -117,7 +117,7 @@ given_by s h n v g false false false is_near is_back is_next below some order is
 given_above : (s : Numbering) (h n v g : ℕ) → s.greatest ≡ Some h → g + s.forward ≤ h → 0 < s.forward → s.backward < s.forward → number_for s n ≡ Some v → g < v
 given_above s h n v g greatest below some order is =
     given_by s h n v g (nat_lt (ahead h n) s.forward) (nat_le (behind h n) s.backward) (follows_suspect s.suspect n) refl refl refl below some order
-        (ap (λ (o : Option ℕ). number_in (answer_by s o n)) (sym greatest) ∙ is)
+    (ap (λ (o : Option ℕ). number_in (answer_by s o n)) (sym greatest) ∙ is)
 
 all_above : (ns : List ℕ) (s : Numbering) (h g : ℕ) → s.greatest ≡ Some h → g + s.forward ≤ h → 0 < s.forward → s.backward < s.forward → AllGivenAbove g (numbers_for s ns)
 all_above [] s h g greatest below some order = tt

@@ -128,7 +128,7 @@ are_true_stretches forward backward first ts arrivals r t outcomes running kept 
     let stretch = are_stretches arrivals r t outcomes running on all in
     let numbers : numbers_for r.numbering (low_numbers arrivals) ≡ map (moved first) (first ∷ ts) =
     ap (λ (n : Numbering). numbers_for n (low_numbers arrivals)) fresh ∙ ap (λ (ns : List ℕ). numbers_for (no_numbers forward backward) ns) lows
-        ∙ are_true_numbers forward backward kept first ts fits near in
+    ∙ are_true_numbers forward backward kept first ts fits near in
     (stretch.0, subst (λ (ns : List (Option ℕ)). ArriveAs r.buffer.depacketizer r.rate arrivals ns stretch.0) numbers stretch.1, stretch.2)
 
 -- Rounds

@@ -4,8 +4,9 @@ ghost use Rattle.std.specs.Prelude.{◌≡◌, OnOk, OnErr};
 ghost use Rattle.std.specs.Option.{option_map};
 ghost use Rattle.codec_payload_buffer.specs.Blanks.{is_right_after};
 ghost use Rattle.codec_payload_buffer.specs.Steps.{is_at_most};
-ghost use Rattle.codec_payload_jitter.specs.Blanks.{below, blank_in, kept_few, noted_blank, is_done, passed_blanks, blanks_left, is_in, PassesBlanksAlone, PassesInPlace};
+ghost use Rattle.codec_payload_jitter.specs.Blanks.{below, blank_in, kept_few, noted_blank, is_done, passed_blanks, blanks_left, is_in};
 
+pub use crate::laws::passes_blanks_alone;
 use codec_payload_base::wire::SeqNo;
 use codec_payload_buffer::buffer::DepacketizingBuffer;
 use codec_payload_codec::codec::Depacketizer;
@@ -117,9 +118,3 @@ fn is_next(cutoff: Option<SeqNo>, number: SeqNo) -> bool
         None => false,
     }
 }
-
-/// The cutoff goes over numbers without media alone, and nothing else changes.
-pub fn passes_blanks_alone()
-    ensures alone { PassesBlanksAlone }
-    ensures in_place { PassesInPlace }
-{}

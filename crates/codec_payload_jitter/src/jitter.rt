@@ -12,9 +12,9 @@ ghost use Rattle.codec_payload_jitter.specs.Missing.{floor_of, is_absent, missin
 ghost use Rattle.codec_payload_jitter.specs.Receiving.{Accepts, Confirms, GoesOn, NotesAs, ReceivesAs, ReceivesAgain, Recovers, RecoversAs, Restarts, answer_in, goes_in, begun_anew, number_again, counted_in_again, counted_recovered, GoesInAgain, IsConserved, Notes, PopsWith, Receives, TakesIn, arrival_of, counted, counted_again, counted_pop, counted_restart, deadline_by, deadline_of, is_overdue, is_pressed, is_starting, no_packets, outcome_at, restarted, settled, trusted, units_in, waiting_at};
 ghost use Rattle.codec_payload_jitter.specs.Blanks.{noted_blank};
 ghost use Rattle.codec_payload_jitter.specs.declared.outcome.Outcome.TheVariants as outcomes;
-ghost use Rattle.codec_payload_jitter.specs.Runs.{AreChains, AreStretches, AreTrueStretches};
 
 use crate::blanks::{is_late, is_noted, note_blank, pass_blanks};
+pub use crate::laws::receives_are_pushes;
 use crate::missing::MissingNumbers;
 use crate::numbers::{Extended, SequenceNumbers, lowest_with, number_within, without_restart};
 use crate::outcome::{
@@ -635,12 +635,3 @@ fn outcome_in<B: Depacketizer>(buffer: &DepacketizingBuffer<B>, number: SeqNo) -
         Outcome::HeldAndEvicted
     }
 }
-
-/// Pushes into a jitter buffer, of a sender that does not restart, are pushes into its buffer, under the numbers that are
-/// extended; and where the true numbers each lie within the windows of the greatest true number so far, under the true ones
-/// plus one constant. So what is proved of pushes into a buffer holds of those into a jitter buffer.
-pub fn receives_are_pushes()
-    ensures stretches { AreStretches }
-    ensures true_numbers { AreTrueStretches }
-    ensures rounds { AreChains }
-{}

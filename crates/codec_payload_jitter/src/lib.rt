@@ -4,6 +4,7 @@
 
 pub mod blanks;
 pub mod jitter;
+mod laws;
 pub mod missing;
 pub mod numbers;
 pub mod outcome;

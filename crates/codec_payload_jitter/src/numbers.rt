@@ -1,9 +1,10 @@
 //! Sequence numbers of 16 bits, extended to numbers of 64 bits that do not wrap.
 
 ghost use Rattle.std.specs.Prelude.{◌≡◌, ◌≤◌, ◌<◌, ◌+◌, ◌%◌, None, IfSome};
-ghost use Rattle.codec_payload_jitter.specs.Numbers.{no_numbers, numbering_within, number_in, answer_for, answer_anew, answer_above, without_restart, number_within, lesser, lowest_with, numbering_with, numbering_after, ahead, behind, fitting, follows_suspect, AreTrueNumbers, NoneRestarts, NeverMix, AreTrueAnew};
+ghost use Rattle.codec_payload_jitter.specs.Numbers.{no_numbers, numbering_within, number_in, answer_for, answer_anew, without_restart, number_within, lowest_with, numbering_with, numbering_after, ahead, behind, follows_suspect};
 ghost use Rattle.codec_payload_jitter.specs.declared.numbers.Extended.TheVariants as extended;
 
+pub use crate::laws::numbers_are_true;
 use std::marker::Model;
 use thiserror::Error;
 
@@ -251,13 +252,3 @@ fn follows(suspect: Option<u16>, low: u16) -> bool
         None => false,
     }
 }
-
-/// Where the true numbers of a sender's packets each lie within the windows of the greatest true number so far, the numbers
-/// that they get are the true ones plus one constant, and no restart is told. Where the sender restarts, so are those from then on, by a constant of
-/// their own, and each of them is above all before.
-pub fn numbers_are_true()
-    ensures numbers { AreTrueNumbers }
-    ensures goes_on { NoneRestarts }
-    ensures above { NeverMix }
-    ensures anew { AreTrueAnew }
-{}

@@ -4,11 +4,12 @@ ghost use Rattle.std.specs.Prelude.{◌≡◌, ◌≤◌, ◌<◌, ◌+◌, ◌+
 ghost use Rattle.std.specs.Option.{option_map};
 ghost use Rattle.codec_payload_rtp.specs.Elements.{element_of, all_fit};
 ghost use Rattle.codec_payload_rtp.specs.ExtensionFormats.{elements_of, timing_bytes};
-ghost use Rattle.codec_payload_rtp.specs.ExtensionWriting.{ValuesComeBack, capture_bytes, one_byte, audio_byte, row_elements, rows_elements, elements_for, extension_for, id_fits, is_id, is_apart, is_apart_from, are_ids, ids_fit};
+ghost use Rattle.codec_payload_rtp.specs.ExtensionWriting.{capture_bytes, one_byte, audio_byte, row_elements, rows_elements, elements_for, extension_for, id_fits, is_id, is_apart, is_apart_from, are_ids, ids_fit};
 ghost use Rattle.codec_payload_rtp.specs.ExtensionRows.{in_use, row_of};
 ghost use Rattle.codec_payload_rtp.specs.declared.elements.ElementForm.TheVariants.{TwoByte};
 
 use crate::elements::{Element, write_elements};
+pub use crate::laws::values_come_back;
 use crate::values::{ExtensionIds, audio_level_byte, video_timing_bytes};
 use codec_payload_base::wire::{AbsCaptureTime, ExtensionValues, VideoTiming};
 use std::alloc::AllocError;
@@ -268,9 +269,3 @@ impl ExtensionIds {
         write_extension(&elements[..count], out)
     }
 }
-
-/// What is written under ids that fit is read: each value that has an id comes back, of the audio a level that has a byte, and
-/// speech with it.
-pub fn values_come_back()
-    ensures { ValuesComeBack }
-{}

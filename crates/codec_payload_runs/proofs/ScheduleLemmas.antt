@@ -126,9 +126,3 @@ stopped_it mtu sample p p' b sink sink' clock (inr beginning) =
         left_by p p' b sink sink' beginning.begun clock (beginning.refusal.1 ∙ kept.1),
       ),
     )
-
--- a packet that arrived, under another spelling of what is known of it
-pub arrived_as : (depacketizer : DepacketizerState) (here there : RtpMeta) (bytes others : List ℕ) (x : Held) → here ≡ there → bytes ≡ others
-    → IsArrived depacketizer here bytes x → IsArrived depacketizer there others x
-arrived_as depacketizer here there bytes others x same equal is =
-    subst (λ (m : RtpMeta). IsArrived depacketizer m others x) same (subst (λ (bs : List ℕ). IsArrived depacketizer here bs x) equal is)

@@ -9,7 +9,7 @@ use Rattle.codec_payload_codec.proofs.CaseLemmas.{by_test}
 use Rattle.codec_payload_send.specs.Packets.{Packet, SentPackets, AreNumbered}
 use Rattle.codec_payload_send.specs.Sending.{Sends, Sample, packet_for, packets_for, packets_from, is_last, number_after, IsAs, AreAs}
 use Rattle.codec_payload_base.specs.declared.error.PacketError.{PacketError}
-use Rattle.codec_payload_codec.specs.Packetizers.{PacketizerState, is_built_in, marker_of, talkspurt_of, nackable_of}
+use Rattle.codec_payload_codec.specs.Packetizers.{PacketizerState, is_built_in, marker_of, talk_spurt_of, nackable_of}
 use Rattle.codec_payload_base.specs.StrippedValues.{stripped}
 use Rattle.codec_payload_base.specs.declared.wire.extension.ExtensionValues.{ExtensionValues}
 
@@ -48,7 +48,7 @@ as_many b (p ∷ ps) [] are = absurd are
 
 -- one packet, of which this packetizer told the marker, and whether it may be asked for again
 pub as_for : (p : PacketizerState) (sample : Sample) (rtp_time n number : ℕ) (values : ExtensionValues) (last marker nackable : Bool) (payload : List ℕ) → number ≡ n
-    → (is_built_in p ≡ true → marker ≡ (marker_of p last || (talkspurt_of p && sample.start_of_talk_spurt))) → (is_built_in p ≡ true → nackable ≡ nackable_of p)
+    → (is_built_in p ≡ true → marker ≡ (marker_of p last || (talk_spurt_of p && sample.start_of_talk_spurt))) → (is_built_in p ≡ true → nackable ≡ nackable_of p)
     → IsAs (is_built_in p) (record {
       pt = sample.pt;
       number = number;
@@ -71,7 +71,7 @@ as_for p sample rtp_time n number values last marker nackable payload same marks
       payload = payload;
     } in
     by_test (is_built_in p) (λ b. IsAs b (told marker nackable number) (packet_for p sample rtp_time n values last payload))
-    (λ e. ap (told marker nackable) same ∙ (ap (λ (m : Bool). told m nackable n) (marks e) ∙ ap (λ (a : Bool). told (marker_of p last || (talkspurt_of p && sample.start_of_talk_spurt)) a n) (asks e)))
+    (λ e. ap (told marker nackable) same ∙ (ap (λ (m : Bool). told m nackable n) (marks e) ∙ ap (λ (a : Bool). told (marker_of p last || (talk_spurt_of p && sample.start_of_talk_spurt)) a n) (asks e)))
     (λ e. ap (told marker nackable) same)
 
 -- packets of a packetizer that is built in

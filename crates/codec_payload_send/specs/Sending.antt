@@ -4,7 +4,7 @@ use Rattle.codec_payload_base.specs.Time.{Time, rebased}
 use Rattle.codec_payload_base.specs.declared.error.PacketError.{PacketError}
 use Rattle.codec_payload_base.specs.declared.wire.extension.ExtensionValues.{ExtensionValues}
 use Rattle.codec_payload_base.specs.declared.wire.ToPayload.{ToPayload}
-use Rattle.codec_payload_codec.specs.Packetizers.{PacketizerState, PacketizerStep, is_built_in, marker_of, talkspurt_of, nackable_of}
+use Rattle.codec_payload_codec.specs.Packetizers.{PacketizerState, PacketizerStep, is_built_in, marker_of, talk_spurt_of, nackable_of}
 use Rattle.codec_payload_send.specs.Packets.{Packet}
 use Rattle.codec_payload_base.specs.StrippedValues.{stripped}
 
@@ -43,7 +43,7 @@ packet_for packetizer sample rtp_time number ext_vals last payload = record {
   number = number;
   rtp_time = rtp_time;
   wallclock = sample.wallclock;
-  marker = marker_of packetizer last || (talkspurt_of packetizer && sample.start_of_talk_spurt);
+  marker = marker_of packetizer last || (talk_spurt_of packetizer && sample.start_of_talk_spurt);
   nackable = nackable_of packetizer;
   ext_vals = ext_vals;
   payload = payload;

@@ -3,7 +3,7 @@ use Rattle.std.specs.Prelude.{◌≡◌, ℕ, ◌+◌, ◌%◌, ◌^◌, ◌<◌
 use Rattle.codec_payload_base.specs.Time.{Time, rebased}
 use Rattle.codec_payload_base.specs.StrippedValues.{stripped}
 use Rattle.codec_payload_base.specs.declared.wire.extension.ExtensionValues.{ExtensionValues}
-use Rattle.codec_payload_codec.specs.Packetizers.{PacketizerState, is_built_in, marker_of, talkspurt_of}
+use Rattle.codec_payload_codec.specs.Packetizers.{PacketizerState, is_built_in, marker_of, talk_spurt_of}
 use Rattle.codec_payload_rtp.specs.ExtensionWriting.{elements_for, extension_for}
 use Rattle.codec_payload_rtp.specs.RtpPackets.{Header}
 use Rattle.codec_payload_rtp.specs.RtpReading.{rtp_at}
@@ -48,7 +48,7 @@ header_at stream sample place count marker = header_with stream (fields_at strea
 -- the marker of a packetizer that is built in, for the packet at a place of so many; one that a caller brings marks as it likes
 abbrev pub IsMarker : PacketizerState → Sample → ℕ → ℕ → Bool → Type 0
 IsMarker packetizer sample place count marker =
-    is_built_in packetizer ≡ true → marker ≡ (marker_of packetizer (place + 1 == count) || (talkspurt_of packetizer && sample.start_of_talk_spurt))
+    is_built_in packetizer ≡ true → marker ≡ (marker_of packetizer (place + 1 == count) || (talk_spurt_of packetizer && sample.start_of_talk_spurt))
 
 -- before any payload, the bytes read as that header
 abbrev pub IsHeader : List ℕ → Header → Type 0

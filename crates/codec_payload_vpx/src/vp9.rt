@@ -1,4 +1,5 @@
-//! VP9 frames (VP9 bitstream and decoding process specification, sections 6.2 and 7.2).
+//! VP9: frames (VP9 bitstream and decoding process specification, sections 6.2 and 7.2; docs/FORMATS.md, "What a frame
+//! says").
 
 ghost use Rattle.std.specs.Prelude.{◌≡◌, Ok, IfOk};
 ghost use Rattle.codec_payload_base.specs.Bits.{bits_of};

@@ -10,7 +10,7 @@ use Rattle.codec_payload_base.specs.declared.error.PacketError.{PacketError}
 use Rattle.codec_payload_base.specs.declared.error.PacketError.TheVariants as faults
 use Rattle.codec_payload_base.specs.declared.wire.extension.ExtensionValues.{ExtensionValues}
 use Rattle.codec_payload_codec.specs.Packetizers.{PacketizerState, G711Packetizing, G722Packetizing, OpusPacketizing, ComfortNoisePacketizing, TelePacketizing, Vp8Packetizing, Vp9Packetizing}
-use Rattle.codec_payload_codec.specs.Packetizers.{Av1Packetizing, AmrWbPacketizing, NullPacketizing, BoxedPacketizing, PacketizerStep, is_built_in, marker_of, talkspurt_of}
+use Rattle.codec_payload_codec.specs.Packetizers.{Av1Packetizing, AmrWbPacketizing, NullPacketizing, BoxedPacketizing, PacketizerStep, is_built_in, marker_of, talk_spurt_of}
 use Rattle.codec_payload_buffer.specs.Steps.{State}
 use Rattle.codec_payload_send.specs.Packets.{Packet, AreNumbered}
 use Rattle.codec_payload_runs.specs.Schedule as core
@@ -120,7 +120,7 @@ sent_reads sending stream packetizer sample count number place (payload ∷ payl
     let all : count ≡ place + 1 + length payloads = omega (arith, whole) in
     let q : Packet = packet_for packetizer sample (rtp_time_at stream.clock_rate sample.rtp_time) number (stripped sample.ext_vals place (place + 1 + length payloads)) (is_last payloads) payload in
     let marker : first.marker ≡ q.marker = first.marked built_in
-        ∙ ap (λ (b : Bool). marker_of packetizer b || (talkspurt_of packetizer && sample.start_of_talk_spurt)) (ap (eqb (place + 1)) all ∙ last_is place payloads) in
+        ∙ ap (λ (b : Bool). marker_of packetizer b || (talk_spurt_of packetizer && sample.start_of_talk_spurt)) (ap (eqb (place + 1)) all ∙ last_is place payloads) in
     let header : header_at sending (sent_sample sample) place count first.marker ≡ headed stream q.marker (q.number % 2 ^ 16) q.rtp_time q.ext_vals =
     same_header sending stream first.marker q.marker ((sending.number + place) % 2 ^ 16) (q.number % 2 ^ 16) _ q.rtp_time _ q.ext_vals kept marker (sym low)
     (ap (λ (x : Stream). rtp_time_at x.clock_rate sample.rtp_time) kept) (ap (stripped sample.ext_vals place) all) in

@@ -5,7 +5,7 @@ ghost use Rattle.std.specs.Option.{option_copied};
 ghost use Rattle.codec_payload_base.specs.Answers.{packets_of, written, IsWritten};
 ghost use Rattle.codec_payload_base.specs.PayloadLists.{rooms_of};
 ghost use Rattle.codec_payload_base.specs.declared.interface.Vp9PacketizerMode.TheVariants.{NonFlexible};
-ghost use Rattle.codec_payload_codec.specs.Packetizers.{packetizer_state_of, packetizer_state_for, configured, is_built_in, PacketizerStep, PacketizerStepTo, MarkerStep, numbers_of_packetizer, marker_of, talkspurt_of, nackable_of};
+ghost use Rattle.codec_payload_codec.specs.Packetizers.{packetizer_state_of, packetizer_state_for, configured, is_built_in, PacketizerStep, PacketizerStepTo, MarkerStep, numbers_of_packetizer, marker_of, talk_spurt_of, nackable_of};
 
 use super::boxed::NoBox;
 use codec_payload_audio::amr_wb::AmrWbPacketizer;
@@ -112,7 +112,7 @@ impl<B: Packetizer> Packetizer for CodecPacketizer<B> {
 
     ghost marker_step = { elim [ Boxed b ↦ B.marker_step b | p ↦ MarkerStep (packetizer_state_of p) ] };
 
-    ghost marks_spurts = { elim [ Boxed b ↦ B.marks_spurts b | p ↦ talkspurt_of (packetizer_state_of p) ] };
+    ghost marks_spurts = { elim [ Boxed b ↦ B.marks_spurts b | p ↦ talk_spurt_of (packetizer_state_of p) ] };
 
     ghost may_be_asked_for = { elim [ Boxed b ↦ B.may_be_asked_for b | p ↦ nackable_of (packetizer_state_of p) ] };
 
@@ -189,7 +189,7 @@ impl<B: Packetizer> Packetizer for CodecPacketizer<B> {
 
     fn marks_talkspurt(&self) -> bool
         ensures step { result ≡ ⟦<CodecPacketizer<B> as Packetizer>⟧.marks_spurts self.now }
-        ensures built_in { is_built_in (packetizer_state_of self.now) ≡ true → result ≡ talkspurt_of (packetizer_state_of self.now) }
+        ensures built_in { is_built_in (packetizer_state_of self.now) ≡ true → result ≡ talk_spurt_of (packetizer_state_of self.now) }
     {
         match self {
             CodecPacketizer::G711(p) => p.marks_talkspurt(),

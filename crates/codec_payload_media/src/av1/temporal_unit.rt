@@ -1,4 +1,5 @@
-//! What a temporal unit tells up to its first frame header (sections 5.3, 5.9.2 and 7.5).
+//! AV1: what a temporal unit tells up to its first frame header (sections 5.3, 5.9.2 and 7.5; docs/FORMATS.md, "What a
+//! frame says").
 
 ghost use Rattle.std.specs.Prelude.{◌≡◌};
 ghost use Rattle.codec_payload_base.specs.Bits.{bits_of};

@@ -1,4 +1,4 @@
-//! The receiver of RED payloads, which finds lost media in the payloads of later packets (RFC 2198, section 3).
+//! RED: the receiver, which finds lost media in the payloads of later packets (RFC 2198, section 3; docs/FORMATS.md, "RED").
 
 ghost use Rattle.std.specs.Prelude.{◌≡◌, ◌%◌, ◌<◌, ◌≤◌, ◌↔◌, IsSome, IfSome, IfOk, MatchResult, map};
 ghost use Rattle.std.specs.List.{filter_map};
@@ -6,7 +6,6 @@ ghost use Rattle.codec_payload_base.specs.Answers.{Finds};
 ghost use Rattle.codec_payload_red.specs.RedReading.{red_at};
 ghost use Rattle.codec_payload_red.specs.RedBlocks.{Fails, block_of, blocks_of};
 ghost use Rattle.codec_payload_red.specs.RedRecovery.{recovered_from, packet_of, Recovers};
-ghost use Rattle.codec_payload_red.specs.RedRun.{RecoversSent};
 
 use crate::red::blocks::{MAX_OFFSET, RedBlock, RedDecoder};
 use crate::red::sender::MAX_RED_RECOVERY_DEPTH;
@@ -155,14 +154,3 @@ impl RedReceiver {
         Ok(self.recover_blocks(alloc, seq_no, rtp_time, &blocks)?)
     }
 }
-
-/// What is recovered was sent. Let a new sender wrap payloads whose RTP times are a fixed step of 1 to 16,383 ticks apart,
-/// modulo 2^32, each shorter than the budget, and let the packets be numbered one by one. A receiver of the sender's primary
-/// type and of that step is handed what the sender made of one packet, with that packet's number and RTP time. Then it
-/// answers that packet, last, and before it just those earlier ones whose payload stands in a level that the budget left to
-/// it, each with the number, the RTP time and the payload that it was sent with.
-///
-/// No step of 0 is granted: packets of one RTP time, as those of a frame that was cut, have one offset for several numbers.
-pub fn recovered_were_sent()
-    ensures { RecoversSent }
-{}

@@ -1,4 +1,5 @@
-//! Superframes: a unit that holds several frames, of which all but the last are not shown (Annex B).
+//! VP9: superframes, units that hold several frames, of which all but the last are not shown (Annex B; docs/FORMATS.md,
+//! "What a frame says").
 
 ghost use Rattle.std.specs.Prelude.{◌≡◌, ◌<◌, ◌≤◌, ◌∷◌, [], length, option_map, take, drop};
 ghost use Rattle.codec_payload_vpx.specs.Reading.{told};

@@ -2,7 +2,7 @@ use Rattle.std.proofs.Common.{rules, ◌≡◌, ◌||◌, ◌&&◌, Bool, true, 
 use Rattle.codec_payload_codec.proofs.AnswerLemmas.{on_ok, if_err}
 use Rattle.codec_payload_send.proofs.SendLemmas.{as_for}
 use Rattle.codec_payload_send.proofs.OwnSendLemmas.{still_own_packetizer, both_ways}
-use Rattle.codec_payload_codec.specs.Packetizers.{BoxedPacketizing, packetizer_state_of, is_built_in, marker_of, talkspurt_of, nackable_of}
+use Rattle.codec_payload_codec.specs.Packetizers.{BoxedPacketizing, packetizer_state_of, is_built_in, marker_of, talk_spurt_of, nackable_of}
 use Rattle.codec_payload_send.specs.Sending.{sample_of}
 use Rattle.codec_payload_send.proofs.payloader.send_payload.Goals as goal
 
@@ -10,7 +10,7 @@ pub returns-clause-ok : goal.returns-clause-ok
 returns-clause-ok g c =
     let marker : is_built_in (packetizer_state_of c.args.packetizer.now) ≡ true
     → c.if-is_marker.marker ≡ (marker_of (packetizer_state_of c.args.packetizer.now) c.args.last ||
-    (talkspurt_of (packetizer_state_of c.args.packetizer.now) && c.args.sample.now.start_of_talk_spurt)) = λ built_in. search rules in
+    (talk_spurt_of (packetizer_state_of c.args.packetizer.now) && c.args.sample.now.start_of_talk_spurt)) = λ built_in. search rules in
     let nackable : is_built_in (packetizer_state_of c.args.packetizer.now) ≡ true → c.nackable.result ≡ nackable_of (packetizer_state_of c.args.packetizer.now) = λ built_in. search rules in
     let told = as_for (packetizer_state_of c.args.packetizer.now) (sample_of c.args.sample.now) c.args.rtp_time _ _ c.args.ext_vals c.args.last _ _ c.args.payload.items
     c.next_seq_no-seq_no.ensures.number marker nackable in
@@ -20,7 +20,7 @@ pub returns-clause-err : goal.returns-clause-err
 returns-clause-err g c =
     let marker : is_built_in (packetizer_state_of c.args.packetizer.now) ≡ true
     → c.if-is_marker.marker ≡ (marker_of (packetizer_state_of c.args.packetizer.now) c.args.last ||
-    (talkspurt_of (packetizer_state_of c.args.packetizer.now) && c.args.sample.now.start_of_talk_spurt)) = λ built_in. search rules in
+    (talk_spurt_of (packetizer_state_of c.args.packetizer.now) && c.args.sample.now.start_of_talk_spurt)) = λ built_in. search rules in
     let nackable : is_built_in (packetizer_state_of c.args.packetizer.now) ≡ true → c.nackable.result ≡ nackable_of (packetizer_state_of c.args.packetizer.now) = λ built_in. search rules in
     let told = as_for (packetizer_state_of c.args.packetizer.now) (sample_of c.args.sample.now) c.args.rtp_time _ _ c.args.ext_vals c.args.last _ _ c.args.payload.items
     c.next_seq_no-seq_no.ensures.number marker nackable in

@@ -13,7 +13,7 @@ returns-clause-drained g c = λ pressed none.
     let t : State = c.pop-answer.new.self in
     let pops : Pops s None t = subst (λ (answer : Option (Result Release PacketError)). Pops s answer t) none c.pop-answer.ensures.pops in
     let zero_is : c.in-Some.hold_back ≡ 0 = pressed_waits_for_none c.settle.new.self c.args.now.0 c.in-Some.hold_back
-        (ap (λ (r : Receiving). is_pressed r c.args.now.0) c.settle.ensures ∙ pressed) (sym c.waiting.ensures ∙ c.in-Some.is) in
+    (ap (λ (r : Receiving). is_pressed r c.args.now.0) c.settle.ensures ∙ pressed) (sym c.waiting.ensures ∙ c.in-Some.is) in
     let set : s.hold_back ≡ c.in-Some.hold_back = ap (λ (x : State). x.hold_back) c.set_hold_back.ensures in
     let few : length (frames t.held) ≤ s.hold_back = c.pops_leave_few.ensures.few s t pops in
     omega (arith, few, set, zero_is)

@@ -11,8 +11,8 @@ loop-block-preserved c =
       | then-left-gt0+then-fits+in_ok-put_part w ↦
           let fit : fits (redundant_of c.block-item.result) ≡ true = search rules in
           rw (w.out-is, w.left-is, w.in_ok-put_part.ensures, w.deref.ensures.value)
-              (kept_one (part_of c.args.part) c.loop-block.out.items _ c.loop-block.left c.args.redundant.now c.loop-block.block-index c.block-item.result
-              c.block-item.is c.loop-block-test.true fit w.if-left-gt0.true c.loop-block.invariant)
+          (kept_one (part_of c.args.part) c.loop-block.out.items _ c.loop-block.left c.args.redundant.now c.loop-block.block-index c.block-item.result
+          c.block-item.is c.loop-block-test.true fit w.if-left-gt0.true c.loop-block.invariant)
       | else-left-gt0 w ↦
           elim w.else-left-gt0.branch [
             | else-left-gt0-via-then-left-gt0+else-fits w' ↦

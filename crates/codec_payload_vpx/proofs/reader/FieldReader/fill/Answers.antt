@@ -13,24 +13,24 @@ pub overflow_add-self : goal.overflow_add-self
 overflow_add-self c =
     let held = held_is c.self.inside.held c.self.inside.window c.self.inside.behind.now c.args.self.now c.self.view_is in
     let f = filled c.self.inside.held (c.self.inside.window % (1 * 2 ^ c.self.inside.held % 18446744073709551616)) c.from.result c.self.inside.behind.now
-        c.cut_four.result.0.now (low c.self.inside.held c.self.inside.window c.self.invariant) (omega (arith, c.requires, held)) c.cut_four.ensures.front
-        (omega (arith, c.from.ensures, c.front_number.ensures.small)) in
+    c.cut_four.result.0.now (low c.self.inside.held c.self.inside.window c.self.invariant) (omega (arith, c.requires, held)) c.cut_four.ensures.front
+    (omega (arith, c.from.ensures, c.front_number.ensures.small)) in
     omega (arith, f.value, f.fits)
 
 pub invariant_of-self : goal.invariant_of-self
 invariant_of-self c =
     let held = held_is c.self.inside.held c.self.inside.window c.self.inside.behind.now c.args.self.now c.self.view_is in
     let f = filled c.self.inside.held (c.self.inside.window % (1 * 2 ^ c.self.inside.held % 18446744073709551616)) c.from.result c.self.inside.behind.now
-        c.cut_four.result.0.now (low c.self.inside.held c.self.inside.window c.self.invariant) (omega (arith, c.requires, held)) c.cut_four.ensures.front
-        (omega (arith, c.from.ensures, c.front_number.ensures.small)) in
+    c.cut_four.result.0.now (low c.self.inside.held c.self.inside.window c.self.invariant) (omega (arith, c.requires, held)) c.cut_four.ensures.front
+    (omega (arith, c.from.ensures, c.front_number.ensures.small)) in
     f.room
 
 pub returns-clause-same : goal.returns-clause-same
 returns-clause-same c =
     let held = held_is c.self.inside.held c.self.inside.window c.self.inside.behind.now c.args.self.now c.self.view_is in
     let f = filled c.self.inside.held (c.self.inside.window % (1 * 2 ^ c.self.inside.held % 18446744073709551616)) c.from.result c.self.inside.behind.now
-        c.cut_four.result.0.now (low c.self.inside.held c.self.inside.window c.self.invariant) (omega (arith, c.requires, held)) c.cut_four.ensures.front
-        (omega (arith, c.from.ensures, c.front_number.ensures.small)) in
+    c.cut_four.result.0.now (low c.self.inside.held c.self.inside.window c.self.invariant) (omega (arith, c.requires, held)) c.cut_four.ensures.front
+    (omega (arith, c.from.ensures, c.front_number.ensures.small)) in
     let front : List ℕ = c.cut_four.result.0.now in
     let rest : List ℕ = c.cut_four.result.1.now in
     let n : ℕ = 8 * length front in

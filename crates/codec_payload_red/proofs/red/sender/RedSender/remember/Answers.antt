@@ -10,6 +10,10 @@ returns-clause-ok c =
     let pushed : c.push_front.new.self.items ≡ sent ∷ c.self.inside.history.items = search rules in
     let bytes : c.replace-bytes.result.items ≡ c.args.payload.now = search rules in
     let depth : c.depth_of-depth.result ≡ deepest c.self.inside.distances = c.depth_of-depth.ensures ∙ ap deepest c.as_slice.ensures in
-    rw (← c.self.view_is, ← bytes) (ap (λ h. record { red_pt = c.self.inside.red_pt; primary_pt = c.self.inside.primary_pt; distances = c.self.inside.distances;
-        history = h }) (recorded_is c.self.inside.distances c.self.inside.history.items c.push_front.new.self.items c.take_past.new.history.items sent
-        c.depth_of-depth.result depth pushed c.take_past.ensures))
+    rw (← c.self.view_is, ← bytes) (ap (λ h. record {
+      red_pt = c.self.inside.red_pt;
+      primary_pt = c.self.inside.primary_pt;
+      distances = c.self.inside.distances;
+      history = h;
+    }) (recorded_is c.self.inside.distances c.self.inside.history.items c.push_front.new.self.items c.take_past.new.history.items sent
+    c.depth_of-depth.result depth pushed c.take_past.ensures))

@@ -1,5 +1,5 @@
 use Rattle.codec_payload_jitter.proofs.RunLemmas.{are_stretches, are_true_stretches, are_chains}
-use Rattle.codec_payload_jitter.proofs.jitter.receives_are_pushes.Goals as goal
+use Rattle.codec_payload_jitter.proofs.laws.receives_are_pushes.Goals as goal
 
 pub returns-clause-stretches : goal.returns-clause-stretches
 returns-clause-stretches c = are_stretches

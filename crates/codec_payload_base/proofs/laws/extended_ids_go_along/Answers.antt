@@ -1,5 +1,5 @@
 use Rattle.codec_payload_base.proofs.ExtendedLemmas.{ids_go_along_128, ids_go_along_32768, numbers_go_along_128, numbers_go_along_256, numbers_go_along_32768}
-use Rattle.codec_payload_base.proofs.picture_id.extended_ids_go_along.Goals as goal
+use Rattle.codec_payload_base.proofs.laws.extended_ids_go_along.Goals as goal
 
 pub returns-clause-of_7_bits : goal.returns-clause-of_7_bits
 returns-clause-of_7_bits c = numbers_go_along_128

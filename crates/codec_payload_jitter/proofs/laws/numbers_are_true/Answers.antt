@@ -1,5 +1,5 @@
 use Rattle.codec_payload_jitter.proofs.NumbersLemmas.{are_true_numbers, none_restarts, never_mix, are_true_anew}
-use Rattle.codec_payload_jitter.proofs.numbers.numbers_are_true.Goals as goal
+use Rattle.codec_payload_jitter.proofs.laws.numbers_are_true.Goals as goal
 
 pub returns-clause-numbers : goal.returns-clause-numbers
 returns-clause-numbers c = are_true_numbers

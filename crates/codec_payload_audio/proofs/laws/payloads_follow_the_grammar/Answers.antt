@@ -1,5 +1,5 @@
 use Rattle.codec_payload_audio.proofs.AmrWbGrammarLemmas.{spelled_is_received, received_is_spelled, sent_is_spelled}
-use Rattle.codec_payload_audio.proofs.amr_wb.payloads_follow_the_grammar.Goals as goal
+use Rattle.codec_payload_audio.proofs.laws.payloads_follow_the_grammar.Goals as goal
 
 pub returns-clause-received : goal.returns-clause-received
 returns-clause-received c = spelled_is_received
