@@ -83,7 +83,7 @@ fn extra(packet: &[u8], before: &CodecExtra) -> CodecExtra
 {
     let was_keyframe = match before {
         CodecExtra::Av1(extra) => extra.is_keyframe,
-        CodecExtra::None | CodecExtra::Vp8(_) | CodecExtra::Vp9(_) | CodecExtra::Tele(_) => false,
+        _ => false,
     };
     CodecExtra::Av1(Av1CodecExtra {
         is_keyframe: detect_av1_keyframe(packet) || was_keyframe,
