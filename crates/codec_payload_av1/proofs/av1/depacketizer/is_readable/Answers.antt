@@ -30,8 +30,10 @@ returns-in_default c =
 pub returns-then-not-can_be_taken : goal.returns-then-not-can_be_taken
 returns-then-not-can_be_taken c =
     let some : 0 < length c.loop-begun.rest.now = grind (arith, common_steps) in
-    refused (can_take c.loop-begun.is_orphan c.goes_on-may_go_on.result c.loop-begun.w c.loop-begun.begun.now c.in-Some.element.now c.in-Some.after.now) (are_taken c.goes_on-may_go_on.result false [] (w_after c.loop-begun.w) (elements_at (w_after c.loop-begun.w) c.in-Some.after.now)) (search rules)
-    ∙ sym (taken_next c.goes_on-may_go_on.result c.loop-begun.is_orphan c.loop-begun.begun.now c.loop-begun.w c.loop-begun.rest.now c.in-Some.element.now c.in-Some.after.now some c.in-Some.ensures c.loop-begun.invariant.lost)
+    refused (can_take c.loop-begun.is_orphan c.goes_on-may_go_on.result c.loop-begun.w c.loop-begun.begun.now c.in-Some.element.now c.in-Some.after.now)
+    (are_taken c.goes_on-may_go_on.result false [] (w_after c.loop-begun.w) (elements_at (w_after c.loop-begun.w) c.in-Some.after.now)) (search rules)
+    ∙ sym (taken_next c.goes_on-may_go_on.result c.loop-begun.is_orphan c.loop-begun.begun.now c.loop-begun.w c.loop-begun.rest.now c.in-Some.element.now
+    c.in-Some.after.now some c.in-Some.ensures c.loop-begun.invariant.lost)
     ∙ c.loop-begun.invariant.so_far
 
 pub loop-begun-smaller : goal.loop-begun-smaller
@@ -44,8 +46,10 @@ loop-begun-preserved c =
     let some : 0 < length c.loop-begun.rest.now = grind (arith, common_steps) in
     record {
       so_far = rw c.w_after_one-w.ensures
-          (goes_on (can_take c.loop-begun.is_orphan c.goes_on-may_go_on.result c.loop-begun.w c.loop-begun.begun.now c.in-Some.element.now c.in-Some.after.now) (are_taken c.goes_on-may_go_on.result false [] (w_after c.loop-begun.w) (elements_at (w_after c.loop-begun.w) c.in-Some.after.now)) (search rules)
-          ∙ sym (taken_next c.goes_on-may_go_on.result c.loop-begun.is_orphan c.loop-begun.begun.now c.loop-begun.w c.loop-begun.rest.now c.in-Some.element.now c.in-Some.after.now some c.in-Some.ensures c.loop-begun.invariant.lost)
+          (goes_on (can_take c.loop-begun.is_orphan c.goes_on-may_go_on.result c.loop-begun.w c.loop-begun.begun.now c.in-Some.element.now c.in-Some.after.now)
+          (are_taken c.goes_on-may_go_on.result false [] (w_after c.loop-begun.w) (elements_at (w_after c.loop-begun.w) c.in-Some.after.now)) (search rules)
+          ∙ sym (taken_next c.goes_on-may_go_on.result c.loop-begun.is_orphan c.loop-begun.begun.now c.loop-begun.w c.loop-begun.rest.now c.in-Some.element.now
+          c.in-Some.after.now some c.in-Some.ensures c.loop-begun.invariant.lost)
           ∙ c.loop-begun.invariant.so_far);
       lost = λ _. refl;
     }
