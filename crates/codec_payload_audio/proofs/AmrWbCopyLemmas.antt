@@ -68,7 +68,8 @@ cut_last xs ys b n r s whole some e =
     ∙ sym (ap padded front)
 
 -- what the code of a cut leaves, where the last byte kept is at k
-pub cut_items : (items : List ℕ) (n m k b s : ℕ) → 0 < n → n ≤ 8 * length items → m ≡ k + 1 → 8 * k < n → n ≤ 8 * m → s ≡ (8 - n % 8) % 8 → b ≡ get_or items k 0 → bits_of (set (take m items) k (b / 2 ^ s * 2 ^ s)) ≡ padded (take n (bits_of items))
+pub cut_items : (items : List ℕ) (n m k b s : ℕ) → 0 < n → n ≤ 8 * length items → m ≡ k + 1 → 8 * k < n → n ≤ 8 * m → s ≡ (8 - n % 8) % 8 → b ≡ get_or items k 0
+    → bits_of (set (take m items) k (b / 2 ^ s * 2 ^ s)) ≡ padded (take n (bits_of items))
 cut_items items n m k b s some within last above below spare is =
     let v : ℕ = b / 2 ^ s * 2 ^ s in
     let inside : k < length items = omega arith in

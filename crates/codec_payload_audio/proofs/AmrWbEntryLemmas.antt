@@ -70,16 +70,19 @@ record IsOf (t : TocEntry) (e : ℕ) : Type 0 where
   pub frame_type : t.frame_type ≡ e / 2 % 16
   pub quality : bit_of t.quality ≡ e % 2
 
-then_same : (t : TocEntry) (e : ℕ) (rest : List ℕ) (more : Result (List Entry × List ℕ) PacketError) → IsOf t e → entry_then (e / 32) (six_bits e) rest more ≡ entry_then (bit_of t.follows) (entry_of t) rest more
+then_same : (t : TocEntry) (e : ℕ) (rest : List ℕ) (more : Result (List Entry × List ℕ) PacketError) → IsOf t e
+    → entry_then (e / 32) (six_bits e) rest more ≡ entry_then (bit_of t.follows) (entry_of t) rest more
 then_same t e rest more is = rw (is.follows, is.frame_type, is.quality) refl
 
-pub reads_six : (old new : Reader) (e : ℕ) (t : TocEntry) → ReadsBits 6 old new (Some e) → bit_of t.follows ≡ e / 32 → t.frame_type ≡ e / 2 % 16 → bit_of t.quality ≡ e % 2 → ReadsEntry false (left old) (left new) (Some t)
+pub reads_six : (old new : Reader) (e : ℕ) (t : TocEntry) → ReadsBits 6 old new (Some e) → bit_of t.follows ≡ e / 32 → t.frame_type ≡ e / 2 % 16
+    → bit_of t.quality ≡ e % 2 → ReadsEntry false (left old) (left new) (Some t)
 reads_six old new e t r f k q = (
   ap (entries_at false) r.1 ∙ entries_six e (left new) r.0 ∙ then_same t e (left new) (entries_at false (left new)) record { follows = f; frame_type = k; quality = q },
   omega (arith, ap length r.1, length-append (bits 6 e) (left new), length-bits 6 e),
 )
 
-pub reads_eight : (old new : Reader) (b : ℕ) (t : TocEntry) → ReadsBits 8 old new (Some b) → bit_of t.follows ≡ b / 4 / 32 → t.frame_type ≡ b / 4 / 2 % 16 → bit_of t.quality ≡ b / 4 % 2 → ReadsEntry true (left old) (left new) (Some t)
+pub reads_eight : (old new : Reader) (b : ℕ) (t : TocEntry) → ReadsBits 8 old new (Some b) → bit_of t.follows ≡ b / 4 / 32 → t.frame_type ≡ b / 4 / 2 % 16
+    → bit_of t.quality ≡ b / 4 % 2 → ReadsEntry true (left old) (left new) (Some t)
 reads_eight old new b t r f k q = (
   ap (entries_at true) r.1 ∙ entries_eight b (left new) r.0 ∙ then_same t (b / 4) (left new) (entries_at true (left new)) record { follows = f; frame_type = k; quality = q },
   omega (arith, ap length r.1, length-append (bits 8 b) (left new), length-bits 8 b),
@@ -101,7 +104,8 @@ with_front_more es e (Err f) = refl
 pub so_far_none : (octet : Bool) (old : List ℕ) → SoFar octet old old
 so_far_none octet old = record { es = []; before = with_front_none (entries_at octet old) }
 
-pub entries_more : (octet : Bool) (now next : List ℕ) (e : TocEntry) → ReadsEntry octet now next (Some e) → e.follows ≡ true → entries_at octet now ≡ with_front (entry_of e ∷ []) (entries_at octet next)
+pub entries_more : (octet : Bool) (now next : List ℕ) (e : TocEntry) → ReadsEntry octet now next (Some e) → e.follows ≡ true
+    → entries_at octet now ≡ with_front (entry_of e ∷ []) (entries_at octet next)
 entries_more octet now next e r on = rw on at r.0
 
 pub entries_last : (octet : Bool) (now next : List ℕ) (e : TocEntry) → ReadsEntry octet now next (Some e) → e.follows ≡ false → entries_at octet now ≡ Ok (entry_of e ∷ [], next)
@@ -111,14 +115,16 @@ pub so_far_more : (octet : Bool) (old now next : List ℕ) (e : TocEntry) → So
 so_far_more octet old now next e s r on =
     record { es = s.es ++ entry_of e ∷ []; before = sym (with_front_more s.es (entry_of e) (entries_at octet next)) ∙ ap (with_front s.es) (sym (entries_more octet now next e r on)) ∙ s.before }
 
-pub reads_last : (octet : Bool) (old now next : List ℕ) (e : TocEntry) → SoFar octet old now → ReadsEntry octet now next (Some e) → e.follows ≡ false → (es : List Entry) × (entries_at octet old ≡ Ok (es, next))
+pub reads_last : (octet : Bool) (old now next : List ℕ) (e : TocEntry) → SoFar octet old now → ReadsEntry octet now next (Some e) → e.follows ≡ false
+    → (es : List Entry) × (entries_at octet old ≡ Ok (es, next))
 reads_last octet old now next e s r off = (s.es ++ entry_of e ∷ [], sym s.before ∙ ap (with_front s.es) (entries_last octet now next e r off))
 
 pub reads_short : (octet : Bool) (old now next : List ℕ) → SoFar octet old now → ReadsEntry octet now next None → entries_at octet old ≡ Err faults.ErrShortPacket
 reads_short octet old now next s r = sym s.before ∙ ap (with_front s.es) r
 
 -- where no entry is read, the fault is that of the entries
-pub entry_missing : (octet : Bool) (old now next : List ℕ) (o : Option TocEntry) (e : PacketError) → SoFar octet old now → ReadsEntry octet now next o → Err e ≡ ok_or o faults.ErrShortPacket → entries_at octet old ≡ Err e
+pub entry_missing : (octet : Bool) (old now next : List ℕ) (o : Option TocEntry) (e : PacketError) → SoFar octet old now → ReadsEntry octet now next o
+    → Err e ≡ ok_or o faults.ErrShortPacket → entries_at octet old ≡ Err e
 entry_missing octet old now next None e s r is =
     let same : e ≡ faults.ErrShortPacket = cc in
     reads_short octet old now next s r ∙ ap (λ t. Err t) (sym same)

@@ -38,7 +38,8 @@ bit_small : (b : Bool) → bit_of b < 2
 bit_small true = omega arith
 bit_small false = omega arith
 
-pub frame_gains : (octet : Bool) (e : TocEntry) (n : ℕ) (bs rest out mid new : List ℕ) → e.frame_type < 16 → mid ≡ out ++ (8 * e.frame_type + 4 * bit_of e.quality) ∷ [] → bits_of new ≡ bits_of mid ++ padded (take n bs) → n ≤ length bs
+pub frame_gains : (octet : Bool) (e : TocEntry) (n : ℕ) (bs rest out mid new : List ℕ) → e.frame_type < 16 → mid ≡ out ++ (8 * e.frame_type + 4 * bit_of e.quality)
+    ∷ [] → bits_of new ≡ bits_of mid ++ padded (take n bs) → n ≤ length bs
     → rest ≡ drop (cond octet (n + gap n) n) bs → Gains out new rest (frame_at octet (entry_of e) bs (Some n))
 frame_gains octet e n bs rest out mid new small pushed copied within skipped =
     let speech : List ℕ = take n bs in
@@ -69,7 +70,8 @@ enough true n g size whole e = let all = whole refl in omega arith
 enough false n g size whole e = omega arith
 
 -- what fills a byte up is there, and skipped
-pub gap_skipped : (octet : Bool) (old new : Reader) (n g : ℕ) (o : Option ℕ) → (octet ≡ true → (length (left old) + n) % 8 ≡ 0) → g ≡ cond octet (gap n) 0 → ReadsBits g old new o → left new ≡ drop (cond octet (gap n) 0) (left old)
+pub gap_skipped : (octet : Bool) (old new : Reader) (n g : ℕ) (o : Option ℕ) → (octet ≡ true → (length (left old) + n) % 8 ≡ 0) → g ≡ cond octet (gap n) 0
+    → ReadsBits g old new o → left new ≡ drop (cond octet (gap n) 0) (left old)
 gap_skipped octet old new n g o whole e r =
     plain_rest old new g (gap_moved g old new o r (enough octet n g (length (left old)) whole e)) ∙ ap (λ t. drop t (left old)) e
 
@@ -93,11 +95,13 @@ pub whole_after : (n : ℕ) (now new : List ℕ) → (length now + n) % 8 ≡ 0 
 whole_after n now new whole e = omega (arith, ap length e, length-drop (gap n) now)
 
 -- speech that is there, and speech that is not
-pub frame_there : (octet : Bool) (e : TocEntry) (n : ℕ) (bs rest : List ℕ) → speech_size e.frame_type ≡ Some n → n ≤ length bs → rest ≡ drop (cond octet (n + gap n) n) bs → (frame : List ℕ) × (frame_at octet (entry_of e) bs (speech_size e.frame_type) ≡ Ok (frame, rest))
+pub frame_there : (octet : Bool) (e : TocEntry) (n : ℕ) (bs rest : List ℕ) → speech_size e.frame_type ≡ Some n → n ≤ length bs
+    → rest ≡ drop (cond octet (n + gap n) n) bs → (frame : List ℕ) × (frame_at octet (entry_of e) bs (speech_size e.frame_type) ≡ Ok (frame, rest))
 frame_there octet e n bs rest size within skipped =
     (canonical (record { kind = e.frame_type; quality = bit_of e.quality; speech = take n bs }), rw (size, le-ltb (length bs) n within, skipped) refl)
 
-pub frame_short : (octet : Bool) (e : TocEntry) (n : ℕ) (bs : List ℕ) → speech_size e.frame_type ≡ Some n → length bs < n → frame_at octet (entry_of e) bs (speech_size e.frame_type) ≡ Err faults.ErrShortPacket
+pub frame_short : (octet : Bool) (e : TocEntry) (n : ℕ) (bs : List ℕ) → speech_size e.frame_type ≡ Some n → length bs < n
+    → frame_at octet (entry_of e) bs (speech_size e.frame_type) ≡ Err faults.ErrShortPacket
 frame_short octet e n bs size short = rw (size, lt-ltb (length bs) n short) refl
 
 pub frame_reserved : (octet : Bool) (e : TocEntry) (bs : List ℕ) → speech_size e.frame_type ≡ None → frame_at octet (entry_of e) bs (speech_size e.frame_type) ≡ Err faults.ErrAmrWbCorruptedPacket

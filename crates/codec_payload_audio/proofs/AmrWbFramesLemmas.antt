@@ -30,12 +30,14 @@ record Step (octet : Bool) (en : Entry) (speech : List ℕ) (r r' : Result (List
   pub table : (y : List Entry × List ℕ) × (r' ≡ Ok y)
   pub is : frames_of octet r speech ≡ then_frames (frame_at octet en speech (speech_size en.kind)) (λ rest. frames_of octet r' rest)
 
-step_more : (octet : Bool) (en : Entry) (speech : List ℕ) (r r' : Result (List Entry × List ℕ) PacketError) (x : List Entry × List ℕ) → r ≡ with_front (en ∷ []) r' → r ≡ Ok x → Step octet en speech r r'
+step_more : (octet : Bool) (en : Entry) (speech : List ℕ) (r r' : Result (List Entry × List ℕ) PacketError) (x : List Entry × List ℕ) → r ≡ with_front (en ∷ []) r'
+    → r ≡ Ok x → Step octet en speech r r'
 unfolding frames_at
 step_more octet en speech r (Ok y) x e h = record { table = (y, refl); is = ap (λ t. frames_of octet t speech) e }
 step_more octet en speech r (Err g) x e h = let bad : ◌≡◌ {A = Result (List Entry × List ℕ) PacketError} (Err g) (Ok x) = sym e ∙ h in cc
 
-step_last : (octet : Bool) (en : Entry) (speech next : List ℕ) (r : Result (List Entry × List ℕ) PacketError) → r ≡ Ok (en ∷ [], next) → frames_of octet r speech ≡ then_frames (frame_at octet en speech (speech_size en.kind)) (λ rest. Ok ([], rest))
+step_last : (octet : Bool) (en : Entry) (speech next : List ℕ) (r : Result (List Entry × List ℕ) PacketError) → r ≡ Ok (en ∷ [], next)
+    → frames_of octet r speech ≡ then_frames (frame_at octet en speech (speech_size en.kind)) (λ rest. Ok ([], rest))
 unfolding frames_at
 step_last octet en speech next r e = ap (λ t. frames_of octet t speech) e
 
@@ -49,7 +51,8 @@ module _ (octet : Bool) (toc0 speech0 toc speech added next : List ℕ) (e : Toc
   last : e.follows ≡ false → frames_of octet (entries_at octet toc) speech ≡ then_frames (frame_at octet (entry_of e) speech (speech_size e.frame_type)) (λ rest. Ok ([], rest))
   last off = step_last octet (entry_of e) speech next (entries_at octet toc) (entries_last octet toc next e r off)
 
-  pub frames_more : (frame rest : List ℕ) → e.follows ≡ true → frame_at octet (entry_of e) speech (speech_size e.frame_type) ≡ Ok (frame, rest) → FramesSoFar octet toc0 speech0 next rest (added ++ frame)
+  pub frames_more : (frame rest : List ℕ) → e.follows ≡ true → frame_at octet (entry_of e) speech (speech_size e.frame_type) ≡ Ok (frame, rest)
+      → FramesSoFar octet toc0 speech0 next rest (added ++ frame)
   frames_more frame rest on given = record {
     table = (more on).table;
     before =
@@ -59,7 +62,8 @@ module _ (octet : Bool) (toc0 speech0 toc speech added next : List ℕ) (e : Toc
         ∙ s.before;
   }
 
-  pub frames_last : (frame rest : List ℕ) → e.follows ≡ false → frame_at octet (entry_of e) speech (speech_size e.frame_type) ≡ Ok (frame, rest) → frames_of octet (entries_at octet toc0) speech0 ≡ Ok (added ++ frame, rest)
+  pub frames_last : (frame rest : List ℕ) → e.follows ≡ false → frame_at octet (entry_of e) speech (speech_size e.frame_type) ≡ Ok (frame, rest)
+      → frames_of octet (entries_at octet toc0) speech0 ≡ Ok (added ++ frame, rest)
   frames_last frame rest off given =
       sym s.before
       ∙ ap (with_frame added) (last off)
@@ -73,7 +77,8 @@ module _ (octet : Bool) (toc0 speech0 toc speech added next : List ℕ) (e : Toc
   pub frames_fail : (f : PacketError) → frame_at octet (entry_of e) speech (speech_size e.frame_type) ≡ Err f → frames_of octet (entries_at octet toc0) speech0 ≡ Err f
   frames_fail f given = sym s.before ∙ ap (with_frame added) (fail_by e.follows f refl given)
 
-pub frames_short : (octet : Bool) (toc0 speech0 toc speech added next : List ℕ) → FramesSoFar octet toc0 speech0 toc speech added → ReadsEntry octet toc next None → frames_of octet (entries_at octet toc0) speech0 ≡ Err faults.ErrShortPacket
+pub frames_short : (octet : Bool) (toc0 speech0 toc speech added next : List ℕ) → FramesSoFar octet toc0 speech0 toc speech added → ReadsEntry octet toc next None
+    → frames_of octet (entries_at octet toc0) speech0 ≡ Err faults.ErrShortPacket
 frames_short octet toc0 speech0 toc speech added next s r = sym s.before ∙ ap (λ t. with_frame added (frames_of octet t speech)) r
 
 -- out has gained the frames read so far
@@ -91,7 +96,8 @@ gained_frame out new rest (Ok x) g = (x.0, ap (λ t. Ok (x.0, t)) (sym g.1), g.0
 gained_frame out new rest (Err e) g = absurd g
 
 module _ (octet : Bool) (toc0 speech0 toc speech out0 out next : List ℕ) (e : TocEntry) (s : Gathered octet toc0 speech0 toc speech out0 out) (r : ReadsEntry octet toc next (Some e)) where
-  pub gathered_more : (new rest : List ℕ) → e.follows ≡ true → Gains out new rest (frame_at octet (entry_of e) speech (speech_size e.frame_type)) → Extends out new → Gathered octet toc0 speech0 next rest out0 new
+  pub gathered_more : (new rest : List ℕ) → e.follows ≡ true → Gains out new rest (frame_at octet (entry_of e) speech (speech_size e.frame_type)) → Extends out new
+      → Gathered octet toc0 speech0 next rest out0 new
   gathered_more new rest on gains kept =
       let g = gained_frame out new rest (frame_at octet (entry_of e) speech (speech_size e.frame_type)) gains in
       record {
@@ -101,7 +107,8 @@ module _ (octet : Bool) (toc0 speech0 toc speech out0 out next : List ℕ) (e : 
         extends = extends_on out0 out new s.extends kept;
       }
 
-  pub gathered_last : (new rest : List ℕ) → e.follows ≡ false → Gains out new rest (frame_at octet (entry_of e) speech (speech_size e.frame_type)) → Gains out0 new rest (frames_of octet (entries_at octet toc0) speech0)
+  pub gathered_last : (new rest : List ℕ) → e.follows ≡ false → Gains out new rest (frame_at octet (entry_of e) speech (speech_size e.frame_type))
+      → Gains out0 new rest (frames_of octet (entries_at octet toc0) speech0)
   gathered_last new rest off gains =
       let g = gained_frame out new rest (frame_at octet (entry_of e) speech (speech_size e.frame_type)) gains in
       rw (frames_last octet toc0 speech0 toc speech s.added next e s.so_far r g.0 rest off g.1)

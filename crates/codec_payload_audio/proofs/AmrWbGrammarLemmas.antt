@@ -15,7 +15,8 @@ entry_for f = record { kind = f.kind; quality = f.quality }
 
 -- ---- what is spelled so is received
 
-one_entry : (octet : Bool) (v : ℕ) (f : Frame) (fill rest : List ℕ) → v < 2 → IsFrame f → length fill ≡ entry_fill octet → entries_at octet (toc_entry v f ++ (fill ++ rest)) ≡ entry_then v (entry_for f) rest (entries_at octet rest)
+one_entry : (octet : Bool) (v : ℕ) (f : Frame) (fill rest : List ℕ) → v < 2 → IsFrame f → length fill ≡ entry_fill octet
+    → entries_at octet (toc_entry v f ++ (fill ++ rest)) ≡ entry_then v (entry_for f) rest (entries_at octet rest)
 unfolding entries_at bits
 one_entry false v f [] rest small is e =
     let follows : v / 1 % 2 ≡ v = omega arith in
@@ -44,13 +45,16 @@ entries_spelled octet (f ∷ g ∷ fs) bs rest all (fill, more, size, others, is
     ∙ one_entry octet 1 f fill (more ++ rest) (omega arith) all.0 size
     ∙ ap (with_front (entry_for f ∷ [])) (entries_spelled octet (g ∷ fs) more rest all.1 others)
 
-skipped : (octet : Bool) (speech fill rest : List ℕ) → length fill ≡ speech_fill octet (length speech) → drop (cond octet (length speech + gap (length speech)) (length speech)) (speech ++ (fill ++ rest)) ≡ rest
+skipped : (octet : Bool) (speech fill rest : List ℕ) → length fill ≡ speech_fill octet (length speech)
+    → drop (cond octet (length speech + gap (length speech)) (length speech)) (speech ++ (fill ++ rest)) ≡ rest
 skipped true speech fill rest size =
-    ap (drop (length speech + gap (length speech))) (sym (append_assoc speech fill rest)) ∙ drop_at (speech ++ fill) rest (length speech + gap (length speech)) (omega (arith, length-append speech fill, size))
+    ap (drop (length speech + gap (length speech))) (sym (append_assoc speech fill rest))
+    ∙ drop_at (speech ++ fill) rest (length speech + gap (length speech)) (omega (arith, length-append speech fill, size))
 skipped false speech [] rest size = drop_at speech rest (length speech) refl
 skipped false speech (x ∷ fill) rest size = absurd (omega (arith, size))
 
-one_frame : (octet : Bool) (f : Frame) (fill rest : List ℕ) → IsFrame f → length fill ≡ speech_fill octet (length f.speech) → frame_at octet (entry_for f) (f.speech ++ (fill ++ rest)) (speech_size f.kind) ≡ Ok (canonical f, rest)
+one_frame : (octet : Bool) (f : Frame) (fill rest : List ℕ) → IsFrame f → length fill ≡ speech_fill octet (length f.speech)
+    → frame_at octet (entry_for f) (f.speech ++ (fill ++ rest)) (speech_size f.kind) ≡ Ok (canonical f, rest)
 one_frame octet f fill rest is size =
     let enough : length f.speech ≤ length (f.speech ++ (fill ++ rest)) = omega (arith, length-append f.speech (fill ++ rest)) in
     rw (is.size, le-ltb (length (f.speech ++ (fill ++ rest))) (length f.speech) enough, take_at f.speech (fill ++ rest) (length f.speech) refl, skipped octet f.speech fill rest size) refl
@@ -141,14 +145,16 @@ record SmallEntry (e : Entry) : Type 0 where
 small_entry : (v a b c d q : ℕ) → AreBits v a b c d q → SmallEntry (entry_from a b c d q)
 small_entry v a b c d q s = record { kind = omega (arith, s.first, s.second, s.third, s.fourth); quality = s.last }
 
-last_spells : (octet : Bool) (v a b c d q : ℕ) (fill : List ℕ) (fs : List Frame) → AreBits v a b c d q → v ≡ 0 → length fill ≡ entry_fill octet → map entry_for fs ≡ entry_from a b c d q ∷ [] → AreEntries octet fs (six v a b c d q ++ fill)
+last_spells : (octet : Bool) (v a b c d q : ℕ) (fill : List ℕ) (fs : List Frame) → AreBits v a b c d q → v ≡ 0 → length fill ≡ entry_fill octet
+    → map entry_for fs ≡ entry_from a b c d q ∷ [] → AreEntries octet fs (six v a b c d q ++ fill)
 last_spells octet v a b c d q fill [] s last size e = cc
 last_spells octet v a b c d q fill (f ∷ []) s last size e =
     let first : entry_for f ≡ entry_from a b c d q = cc in
     (fill, size, ap (λ t. t ++ fill) (six_spelled v a b c d q f s first) ∙ ap (λ t. toc_entry t f ++ fill) last)
 last_spells octet v a b c d q fill (f ∷ g ∷ fs) s last size e = cc
 
-more_spells : (octet : Bool) (v a b c d q : ℕ) (fill entries : List ℕ) (es : List Entry) (fs : List Frame) → AreBits v a b c d q → v ≡ 1 → length fill ≡ entry_fill octet → ((gs : List Frame) → map entry_for gs ≡ es → AreEntries octet gs entries)
+more_spells : (octet : Bool) (v a b c d q : ℕ) (fill entries : List ℕ) (es : List Entry) (fs : List Frame) → AreBits v a b c d q → v ≡ 1
+    → length fill ≡ entry_fill octet → ((gs : List Frame) → map entry_for gs ≡ es → AreEntries octet gs entries)
     → map entry_for fs ≡ entry_from a b c d q ∷ es → AreEntries octet fs (six v a b c d q ++ (fill ++ entries))
 more_spells octet v a b c d q fill entries es [] s on size spells e = cc
 more_spells octet v a b c d q fill entries es (f ∷ []) s on size spells e = let none : [] ≡ es = cc in absurd (spells [] none)
@@ -164,7 +170,8 @@ record EntriesFound (octet : Bool) (es : List Entry) (bs rest : List ℕ) : Type
   pub spells : (fs : List Frame) → map entry_for fs ≡ es → AreEntries octet fs entries
   pub whole : octet ≡ true → length entries % 8 ≡ 0
 
-split_front : (e : Entry) (r : Result (List Entry × List ℕ) PacketError) (es : List Entry) (rest : List ℕ) → with_front (e ∷ []) r ≡ Ok (es, rest) → (es' : List Entry) × (r ≡ Ok (es', rest)) × (es ≡ e ∷ es')
+split_front : (e : Entry) (r : Result (List Entry × List ℕ) PacketError) (es : List Entry) (rest : List ℕ) → with_front (e ∷ []) r ≡ Ok (es, rest)
+    → (es' : List Entry) × (r ≡ Ok (es', rest)) × (es ≡ e ∷ es')
 split_front e (Ok x) es rest h = let p = ok_pair (e ∷ x.0) es x.1 rest h in (x.0, ap (λ t. Ok (x.0, t)) p.1, sym p.0)
 split_front e (Err f) es rest h = cc
 
@@ -172,7 +179,8 @@ fill_whole : (octet : Bool) (v a b c d q : ℕ) (fill : List ℕ) → length fil
 fill_whole true v a b c d q fill size o = omega (arith, size)
 fill_whole false v a b c d q fill size o = cc
 
-then_found : (octet : Bool) (v a b c d q : ℕ) (fill more : List ℕ) (es : List Entry) (rest : List ℕ) → AreBits v a b c d q → length fill ≡ entry_fill octet → entry_then v (entry_from a b c d q) more (entries_at octet more) ≡ Ok (es, rest)
+then_found : (octet : Bool) (v a b c d q : ℕ) (fill more : List ℕ) (es : List Entry) (rest : List ℕ) → AreBits v a b c d q → length fill ≡ entry_fill octet
+    → entry_then v (entry_from a b c d q) more (entries_at octet more) ≡ Ok (es, rest)
     → ((es' : List Entry) → entries_at octet more ≡ Ok (es', rest) → EntriesFound octet es' more rest) → EntriesFound octet es (six v a b c d q ++ (fill ++ more)) rest
 then_found octet v a b c d q fill more es rest s size h others = elim (cases_Bool (eqb v 0)) [
   | inl last ↦
@@ -198,16 +206,27 @@ then_found octet v a b c d q fill more es rest s size h others = elim (cases_Boo
         is = ap (λ t. six v a b c d q ++ t) (ap (λ t. fill ++ t) found.is ∙ sym (append_assoc fill found.entries rest));
         small = rw es_is (small_entry v a b c d q s, found.small);
         spells = λ fs e. more_spells octet v a b c d q fill found.entries es' fs s one_is size found.spells (e ∙ es_is);
-        whole = λ o. let here = fill_whole octet v a b c d q fill size o in let there = found.whole o in omega (arith, length-append (six v a b c d q) fill, length-append (six v a b c d q) (fill ++ found.entries), length-append fill found.entries);
+        whole = λ o. let here = fill_whole octet v a b c d q fill size o in let there = found.whole o in omega
+            (arith, length-append (six v a b c d q) fill, length-append (six v a b c d q) (fill ++ found.entries), length-append fill found.entries);
       }
 ]
 
 entries_found : (octet : Bool) (bs : List ℕ) (es : List Entry) (rest : List ℕ) → AllBits bs → entries_at octet bs ≡ Ok (es, rest) → EntriesFound octet es bs rest
 unfolding entries_at
 entries_found false (v ∷ a ∷ b ∷ c ∷ d ∷ q ∷ more) es rest all h =
-    then_found false v a b c d q [] more es rest record { follows = all.0; first = all.1.0; second = all.1.1.0; third = all.1.1.1.0; fourth = all.1.1.1.1.0; last = all.1.1.1.1.1.0 } refl h (λ es' read. entries_found false more es' rest all.1.1.1.1.1.1 read)
+    then_found false v a b c d q [] more es rest record {
+      follows = all.0;
+      first = all.1.0;
+      second = all.1.1.0;
+      third = all.1.1.1.0;
+      fourth = all.1.1.1.1.0;
+      last =
+          all.1.1.1.1.1.0;
+    } refl h (λ es' read. entries_found false more es' rest all.1.1.1.1.1.1 read)
 entries_found true (v ∷ a ∷ b ∷ c ∷ d ∷ q ∷ x ∷ y ∷ more) es rest all h =
-    then_found true v a b c d q (x ∷ y ∷ []) more es rest record { follows = all.0; first = all.1.0; second = all.1.1.0; third = all.1.1.1.0; fourth = all.1.1.1.1.0; last = all.1.1.1.1.1.0 } refl h (λ es' read. entries_found true more es' rest all.1.1.1.1.1.1.1.1 read)
+    then_found true v a b c d q (x ∷ y ∷ []) more es rest record
+    { follows = all.0; first = all.1.0; second = all.1.1.0; third = all.1.1.1.0; fourth = all.1.1.1.1.0; last = all.1.1.1.1.1.0 } refl h
+    (λ es' read. entries_found true more es' rest all.1.1.1.1.1.1.1.1 read)
 entries_found octet bs es rest all h = cc
 
 -- one frame after another
@@ -239,7 +258,8 @@ split_with : (frame frames rest : List ℕ) (r : Result (List ℕ × List ℕ) P
 split_with frame frames rest (Ok x) h = let p = ok_pair (frame ++ x.0) frames x.1 rest h in (x.0, ap (λ t. Ok (x.0, t)) p.1, sym p.0)
 split_with frame frames rest (Err e) h = cc
 
-split_then : (r : Result (List ℕ × List ℕ) PacketError) (more : List ℕ → Result (List ℕ × List ℕ) PacketError) (frames rest : List ℕ) → then_frames r more ≡ Ok (frames, rest) → Thens r more frames rest
+split_then : (r : Result (List ℕ × List ℕ) PacketError) (more : List ℕ → Result (List ℕ × List ℕ) PacketError) (frames rest : List ℕ)
+    → then_frames r more ≡ Ok (frames, rest) → Thens r more frames rest
 split_then (Err e) more frames rest h = cc
 split_then (Ok x) more frames rest h = let (others, read, is) = split_with x.0 frames rest (more x.1) h in record { frame = x.0; left = x.1; others = others; here = refl; there = read; is = is }
 
@@ -264,7 +284,8 @@ record SpeechFound (octet : Bool) (es : List Entry) (bs frames rest : List ℕ) 
   pub is : bs ≡ speech ++ rest
   pub given : frames ≡ canonicals fs
 
-speech_found : (octet : Bool) (es : List Entry) (bs frames rest : List ℕ) → AllByRecursion SmallEntry es → (octet ≡ true → length bs % 8 ≡ 0) → frames_at octet es bs ≡ Ok (frames, rest) → SpeechFound octet es bs frames rest
+speech_found : (octet : Bool) (es : List Entry) (bs frames rest : List ℕ) → AllByRecursion SmallEntry es → (octet ≡ true → length bs % 8 ≡ 0)
+    → frames_at octet es bs ≡ Ok (frames, rest) → SpeechFound octet es bs frames rest
 unfolding frames_at
 speech_found octet [] bs frames rest small aligned h = let p = ok_pair [] frames bs rest h in record { fs = []; same = refl; each = tt; speech = []; are = refl; is = p.1; given = sym p.0 }
 speech_found octet (e ∷ es) bs frames rest small aligned h =
@@ -301,7 +322,8 @@ split_whole frames (Ok x) h = elim (cases_lt (length x.1) 8) [
   | inr many ↦ let h' = rw (le-ltb (length x.1) 8 many) at h in cc
 ]
 
-split_behind : (octet : Bool) (frames : List ℕ) (r : Result (List Entry × List ℕ) PacketError) → behind_entries octet r ≡ Ok frames → (es : List Entry) × (now : List ℕ) × (r ≡ Ok (es, now)) × (whole (frames_at octet es now) ≡ Ok frames)
+split_behind : (octet : Bool) (frames : List ℕ) (r : Result (List Entry × List ℕ) PacketError) → behind_entries octet r ≡ Ok frames → (es : List Entry)
+    × (now : List ℕ) × (r ≡ Ok (es, now)) × (whole (frames_at octet es now) ≡ Ok frames)
 split_behind octet frames (Err e) h = cc
 split_behind octet frames (Ok x) h = (x.0, x.1, refl, h)
 
@@ -313,7 +335,8 @@ whole_now : (octet : Bool) (size bytes entries now : ℕ) → size ≡ 8 * bytes
 whole_now true size bytes entries now e some sum whole o = let all = whole refl in omega arith
 whole_now false size bytes entries now e some sum whole o = cc
 
-bytes_received : (octet : Bool) (payload frames : List ℕ) → 0 < length payload → received octet (bits_of payload) ≡ Ok frames → (fs : List Frame) × IsAmrWb octet (bits_of payload) fs × (frames ≡ canonicals fs)
+bytes_received : (octet : Bool) (payload frames : List ℕ) → 0 < length payload → received octet (bits_of payload) ≡ Ok frames → (fs : List Frame)
+    × IsAmrWb octet (bits_of payload) fs × (frames ≡ canonicals fs)
 bytes_received octet payload frames some h =
     let all : List ℕ = bits_of payload in
     let k : ℕ = request_size octet in
@@ -379,9 +402,19 @@ sent_is_spelled false f is =
     }
 sent_is_spelled true f is =
     let front : List ℕ = bits 4 15 ++ bits 4 0 ++ entry f ++ bits 2 0 in
-    let front_size : length front ≡ 16 = omega (arith, length-append (bits 4 15 ++ bits 4 0 ++ entry f) (bits 2 0), length-append (bits 4 15 ++ bits 4 0) (entry f), length-append (bits 4 15) (bits 4 0), length-bits 4 15, length-bits 4 0, length-bits 2 0, entry_length f) in
+    let front_size : length front ≡ 16 = omega (
+      arith,
+      length-append (bits 4 15 ++ bits 4 0 ++ entry f) (bits 2 0),
+      length-append (bits 4 15 ++ bits 4 0) (entry f),
+      length-append (bits 4 15) (bits 4 0),
+      length-bits 4 15,
+      length-bits 4 0,
+      length-bits 2 0,
+      entry_length f,
+    ) in
     let zeros : List ℕ = replicate (gap (length (front ++ f.speech))) 0 in
-    let size : length zeros ≡ gap (length f.speech) = length-replicate {A = ℕ} (gap (length (front ++ f.speech))) 0 ∙ ap gap (length-append front f.speech) ∙ gap_front (length front) (length f.speech) front_size in
+    let size : length zeros ≡ gap (length f.speech) = length-replicate {A = ℕ} (gap (length (front ++ f.speech))) 0 ∙ ap gap (length-append front f.speech)
+    ∙ gap_front (length front) (length f.speech) front_size in
     record {
       request = bits 4 15 ++ bits 4 0;
       entries = toc_entry 0 f ++ bits 2 0;

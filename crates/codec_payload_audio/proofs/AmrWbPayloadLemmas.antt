@@ -27,7 +27,8 @@ entry_is toc n rest small =
 take_head : (head xs : List ℕ) (h n : ℕ) → length head ≡ h → take (h + n) (head ++ xs) ≡ head ++ take n xs
 take_head head xs h n e = ap (λ t. take (t + n) (head ++ xs)) (sym e) ∙ take-append-add head xs n
 
-pub shifted_payload : (toc n : ℕ) (rest : List ℕ) → toc < 128 → n ≤ 8 * length rest → padded (take (10 + n) (bits 4 15 ++ bits 6 (toc / 4) ++ bits_of rest ++ bits 6 0)) ≡ payload false (frame_from toc n rest)
+pub shifted_payload : (toc n : ℕ) (rest : List ℕ) → toc < 128 → n ≤ 8 * length rest
+    → padded (take (10 + n) (bits 4 15 ++ bits 6 (toc / 4) ++ bits_of rest ++ bits 6 0)) ≡ payload false (frame_from toc n rest)
 shifted_payload toc n rest small within =
     let head : List ℕ = bits 4 15 ++ bits 6 (toc / 4) in
     let size : length head ≡ 10 = omega (arith, length-append (bits 4 15) (bits 6 (toc / 4)), length-bits 4 15, length-bits 6 (toc / 4)) in
@@ -49,12 +50,22 @@ aligned_payload toc n rest small clear =
     (ap (take (16 + n)) (sym (append_assoc (bits 8 240) (bits 8 toc) (bits_of rest)))
     ∙ take_head head (bits_of rest) 16 n size
     ∙ ap (λ t. t ++ take n (bits_of rest))
-    (ap (λ t. bits 8 240 ++ t) second ∙ sym (append_assoc (bits 8 240) (entry (frame_from toc n rest)) (bits 2 0)) ∙ ap (λ t. t ++ entry (frame_from toc n rest) ++ bits 2 0) (bits-cat 4 4 15 0 (omega arith))))
+    (ap (λ t. bits 8 240 ++ t) second ∙ sym (append_assoc (bits 8 240) (entry (frame_from toc n rest)) (bits 2 0))
+    ∙ ap (λ t. t ++ entry (frame_from toc n rest) ++ bits 2 0) (bits-cat 4 4 15 0 (omega arith))))
 
 pub shifted_length : (toc : ℕ) (items rest : List ℕ) → bits_of items ≡ bits 4 15 ++ bits 6 (toc / 4) ++ bits_of rest ++ bits 6 0 → length items ≡ length rest + 2
 shifted_length toc items rest e =
     let total : length (bits 4 15 ++ bits 6 (toc / 4) ++ bits_of rest ++ bits 6 0) ≡ 16 + 8 * length rest =
-    omega (arith, length-append (bits 4 15 ++ bits 6 (toc / 4) ++ bits_of rest) (bits 6 0), length-append (bits 4 15 ++ bits 6 (toc / 4)) (bits_of rest), length-append (bits 4 15) (bits 6 (toc / 4)), length-bits 4 15, length-bits 6 (toc / 4), length-bits 6 0, length-bits_of rest) in
+    omega (
+      arith,
+      length-append (bits 4 15 ++ bits 6 (toc / 4) ++ bits_of rest) (bits 6 0),
+      length-append (bits 4 15 ++ bits 6 (toc / 4)) (bits_of rest),
+      length-append (bits 4 15) (bits 6 (toc / 4)),
+      length-bits 4 15,
+      length-bits 6 (toc / 4),
+      length-bits 6 0,
+      length-bits_of rest,
+    ) in
     omega (arith, length-bits_of items, ap length e, total)
 
 -- the code's reading of a first byte
@@ -88,7 +99,18 @@ payload-length false first n rest within =
 payload-length true first n rest within =
     let f : Frame = frame_from first n rest in
     let all : List ℕ = bits 4 15 ++ bits 4 0 ++ entry f ++ bits 2 0 ++ f.speech in
-    let size : length all ≡ 16 + n = omega (arith, length-append (bits 4 15 ++ bits 4 0 ++ entry f ++ bits 2 0) f.speech, length-append (bits 4 15 ++ bits 4 0 ++ entry f) (bits 2 0), length-append (bits 4 15 ++ bits 4 0) (entry f), length-append (bits 4 15) (bits 4 0), length-bits 4 15, length-bits 4 0, length-bits 2 0, entry-length f, speech-length n rest within) in
+    let size : length all ≡ 16 + n = omega (
+      arith,
+      length-append (bits 4 15 ++ bits 4 0 ++ entry f ++ bits 2 0) f.speech,
+      length-append (bits 4 15 ++ bits 4 0 ++ entry f) (bits 2 0),
+      length-append (bits 4 15 ++ bits 4 0) (entry f),
+      length-append (bits 4 15) (bits 4 0),
+      length-bits 4 15,
+      length-bits 4 0,
+      length-bits 2 0,
+      entry-length f,
+      speech-length n rest within,
+    ) in
     padded-length all ∙ ap (λ t. t + gap t) size
 
 -- the answers of one frame, by the length of its payload in bytes
@@ -97,7 +119,8 @@ module _ (octet : Bool) (mtu first n size : ℕ) (rest : List ℕ) (within : n �
   total = omega (arith, payload-length octet first n rest within)
 
   pub frame_too_large : mtu < size → AnswersFrame octet mtu (frame_from first n rest) (Err faults.ErrPayloadTooLarge)
-  frame_too_large long = let over : 8 * mtu < length (payload octet (frame_from first n rest)) = omega (arith, total) in rw (lt-ltb (8 * mtu) (length (payload octet (frame_from first n rest))) over) refl
+  frame_too_large long = let over : 8 * mtu < length (payload octet (frame_from first n rest)) = omega (arith, total) in rw
+      (lt-ltb (8 * mtu) (length (payload octet (frame_from first n rest))) over) refl
 
   fits : size ≤ mtu → length (payload octet (frame_from first n rest)) ≤ 8 * mtu
   fits short = omega (arith, total)

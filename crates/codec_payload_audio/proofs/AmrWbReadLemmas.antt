@@ -34,7 +34,8 @@ padded-bytes xs ys whole =
     ap (λ t. (xs ++ ys) ++ replicate t 0) same ∙ append_assoc xs ys (replicate (gap (length ys)) 0)
 
 -- whole bytes, and then fewer bits than a byte
-pub copied_both : (old now : Reader) (out0 mid out : List ℕ) (k r n : ℕ) → n ≡ 8 * k + r → now ≡ moved old (8 * k) → 8 * k ≤ length (left old) → bits_of mid ≡ bits_of out0 ++ take (8 * k) (left old) → bits_of out ≡ bits_of mid ++ padded (take r (left now)) → bits_of out ≡ bits_of out0 ++ padded (take n (left old))
+pub copied_both : (old now : Reader) (out0 mid out : List ℕ) (k r n : ℕ) → n ≡ 8 * k + r → now ≡ moved old (8 * k) → 8 * k ≤ length (left old)
+    → bits_of mid ≡ bits_of out0 ++ take (8 * k) (left old) → bits_of out ≡ bits_of mid ++ padded (take r (left now)) → bits_of out ≡ bits_of out0 ++ padded (take n (left old))
 copied_both old now out0 mid out k r n e place within first second =
     let rest : left now ≡ drop (8 * k) (left old) = ap left place ∙ sym (drop-drop (8 * k) old.place (bits_of old.bytes)) in
     let whole : length (take (8 * k) (left old)) % 8 ≡ 0 = omega (arith, length-take-le (8 * k) (left old) within) in
@@ -46,12 +47,14 @@ copied_both old now out0 mid out k r n e place within first second =
     ∙ sym (padded-bytes (take (8 * k) (left old)) (take r (drop (8 * k) (left old))) whole)
     ∙ ap padded (sym (take-add (8 * k) r (left old)) ∙ ap (λ t. take t (left old)) (sym e)))
 
-pub place_both : (old now new : Reader) (k r n : ℕ) → n ≡ 8 * k + r → now ≡ moved old (8 * k) → 8 * k ≤ length (left old) → r ≤ length (left now) → new ≡ moved now r → (n ≤ length (left old)) × (new ≡ moved old n)
+pub place_both : (old now new : Reader) (k r n : ℕ) → n ≡ 8 * k + r → now ≡ moved old (8 * k) → 8 * k ≤ length (left old) → r ≤ length (left now) → new ≡ moved now r
+    → (n ≤ length (left old)) × (new ≡ moved old n)
 place_both old now new k r n e first within there second =
     let rest : length (left now) ≡ length (left old) - 8 * k = ap (λ t. length (left t)) first ∙ length_moved old (8 * k) in
     (omega (arith, rest), second ∙ ap (λ t. moved t r) first ∙ ap (λ p. record old { place = p }) (omega arith))
 
-pub short_both : (old now : Reader) (k r n : ℕ) (fault : PacketError) → n ≡ 8 * k + r → now ≡ moved old (8 * k) → 8 * k ≤ length (left old) → IsCopyFault (left now) r fault → IsCopyFault (left old) n fault
+pub short_both : (old now : Reader) (k r n : ℕ) (fault : PacketError) → n ≡ 8 * k + r → now ≡ moved old (8 * k) → 8 * k ≤ length (left old)
+    → IsCopyFault (left now) r fault → IsCopyFault (left old) n fault
 short_both old now k r n fault e first within short = λ other.
     let rest : length (left now) ≡ length (left old) - 8 * k = ap (λ t. length (left t)) first ∙ length_moved old (8 * k) in
     let both = short other in

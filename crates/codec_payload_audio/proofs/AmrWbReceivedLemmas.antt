@@ -50,7 +50,8 @@ module _ (octet : Bool) (packet : List ℕ) (reader : Reader) (some : 0 < length
     pub frames_fail_so : (e : PacketError) → frames_of octet (entries_at octet (left reader)) now ≡ Err e → received octet (bits_of packet) ≡ Err e
     frames_fail_so e r = received_at ∙ ap whole r
 
-    pub received_long : (frames rest : List ℕ) → frames_of octet (entries_at octet (left reader)) now ≡ Ok (frames, rest) → 8 ≤ length rest → received octet (bits_of packet) ≡ Err faults.ErrAmrWbCorruptedPacket
+    pub received_long : (frames rest : List ℕ) → frames_of octet (entries_at octet (left reader)) now ≡ Ok (frames, rest) → 8 ≤ length rest
+        → received octet (bits_of packet) ≡ Err faults.ErrAmrWbCorruptedPacket
     received_long frames rest r h = received_at ∙ ap whole r ∙ rw (le-ltb (length rest) 8 h) refl
 
     pub received_all : (frames rest : List ℕ) → frames_of octet (entries_at octet (left reader)) now ≡ Ok (frames, rest) → length rest < 8 → received octet (bits_of packet) ≡ Ok frames
@@ -66,7 +67,8 @@ module _ (octet : Bool) (packet : List ℕ) (reader : Reader) (some : 0 < length
     gains_same frames out0 out rest (Ok x) h g = g.0 ∙ ap (λ t. bits_of out0 ++ t) (whole_same frames x h)
     gains_same frames out0 out rest (Err e) h g = absurd g
 
-    pub gains_all : (frames out0 out rest : List ℕ) → received octet (bits_of packet) ≡ Ok frames → Gains out0 out rest (frames_of octet (entries_at octet (left reader)) now) → bits_of out ≡ bits_of out0 ++ frames
+    pub gains_all : (frames out0 out rest : List ℕ) → received octet (bits_of packet) ≡ Ok frames
+        → Gains out0 out rest (frames_of octet (entries_at octet (left reader)) now) → bits_of out ≡ bits_of out0 ++ frames
     gains_all frames out0 out rest is g = gains_same frames out0 out rest (frames_of octet (entries_at octet (left reader)) now) (sym received_at ∙ is) g
 
     ok_or_err : (frames : List ℕ) (e : PacketError) → ◌≡◌ {A = Result (List ℕ) PacketError} (Ok frames) (Err e) → ⊥
@@ -75,11 +77,13 @@ module _ (octet : Bool) (packet : List ℕ) (reader : Reader) (some : 0 < length
     pub fails_for_memory : (frames : List ℕ) (e : PacketError) → received octet (bits_of packet) ≡ Ok frames → FailsAs e (frames_of octet (entries_at octet (left reader)) now) → e ≡ faults.OutOfMemory
     fails_for_memory frames e is fails = only_memory e (λ other. ok_or_err frames e (sym is ∙ frames_fail_so e (fails other)))
 
-    pub appended_ok : (frames out0 out rest : List ℕ) (r : Result (Unit {0}) PacketError) → received octet (bits_of packet) ≡ Ok frames → OnOk r (Gains out0 out rest (frames_of octet (entries_at octet (left reader)) now))
+    pub appended_ok : (frames out0 out rest : List ℕ) (r : Result (Unit {0}) PacketError) → received octet (bits_of packet) ≡ Ok frames
+        → OnOk r (Gains out0 out rest (frames_of octet (entries_at octet (left reader)) now))
         → OnOk r ((fs : List ℕ) × (received octet (bits_of packet) ≡ Ok fs) × (bits_of out ≡ bits_of out0 ++ fs))
     appended_ok frames out0 out rest (Ok x) is g = (frames, is, gains_all frames out0 out rest is g)
     appended_ok frames out0 out rest (Err e) is g = tt
 
-    pub appended_err : (frames : List ℕ) (r : Result (Unit {0}) PacketError) → received octet (bits_of packet) ≡ Ok frames → IfErr r (λ e. FailsAs e (frames_of octet (entries_at octet (left reader)) now)) → IfErr r (λ e. (e ≡ faults.OutOfMemory) × (0 < length packet))
+    pub appended_err : (frames : List ℕ) (r : Result (Unit {0}) PacketError) → received octet (bits_of packet) ≡ Ok frames
+        → IfErr r (λ e. FailsAs e (frames_of octet (entries_at octet (left reader)) now)) → IfErr r (λ e. (e ≡ faults.OutOfMemory) × (0 < length packet))
     appended_err frames (Ok x) is fails = tt
     appended_err frames (Err e) is fails = (fails_for_memory frames e is fails, some)

@@ -116,6 +116,7 @@ stored_is_frame [] f is = cc
 stored_is_frame (b ∷ bs) f is = sized_frame b bs (speech_size (b / 8 % 16)) f refl is
 
 -- the packets of the frame that bytes store carry its canonical form
-pub stored_carries : (octet : Bool) (mtu : ℕ) (bytes : List ℕ) (f : Frame) → stored bytes ≡ Some f → (r : Result (List (List ℕ)) PacketError) → AnswersFrame octet mtu f r → IfOk r (λ packets. CarriesCanonical octet (stored bytes) packets)
+pub stored_carries : (octet : Bool) (mtu : ℕ) (bytes : List ℕ) (f : Frame) → stored bytes ≡ Some f → (r : Result (List (List ℕ)) PacketError)
+    → AnswersFrame octet mtu f r → IfOk r (λ packets. CarriesCanonical octet (stored bytes) packets)
 stored_carries octet mtu bytes f is (Ok packets) answer = rw is (carries octet mtu f packets (stored_is_frame bytes f is) (if_sent octet mtu f packets answer))
 stored_carries octet mtu bytes f is (Err fault) answer = tt

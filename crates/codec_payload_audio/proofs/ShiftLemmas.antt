@@ -25,7 +25,8 @@ joined s d h l width small =
     ap (λ t. bit_or t v) first ∙ or_shifted (h % 2 ^ d) s v low ∙ sym both ∙ ap (λ t. t % 2 ^ 8) (sym sum)
 
 -- the byte that stands across two neighbours
-pub across : (bs : List ℕ) (i s h l : ℕ) → 0 < s → s < 8 → 8 * i + s + 8 ≤ 8 * length bs → h ≡ get_or bs i 0 → l ≡ get_or bs (i + 1) 0 → h < 256 → l < 256 → bits 8 (bit_or (h * 2 ^ s % 256) (l / 2 ^ (8 - s))) ≡ take 8 (drop (8 * i + s) (bits_of bs))
+pub across : (bs : List ℕ) (i s h l : ℕ) → 0 < s → s < 8 → 8 * i + s + 8 ≤ 8 * length bs → h ≡ get_or bs i 0 → l ≡ get_or bs (i + 1) 0 → h < 256 → l < 256
+    → bits 8 (bit_or (h * 2 ^ s % 256) (l / 2 ^ (8 - s))) ≡ take 8 (drop (8 * i + s) (bits_of bs))
 across bs i s h l some few there high low large small =
     let d : ℕ = 8 - s in
     let next : get_or bs (i + 1) 0 < 2 ^ 8 = omega arith in
@@ -45,13 +46,15 @@ pub record Shifted (front now : List ℕ) (start : ℕ) (bs : List ℕ) (s i : �
 pub shifted_none : (front : List ℕ) (start : ℕ) (bs : List ℕ) (s : ℕ) → Shifted front front start bs s 0
 shifted_none front start bs s = record { kept = refl; size = refl; so_far = ap (λ t. bits_of (take t front)) (omega arith) ∙ sym (append-nil (bits_of (take start front))) }
 
-pub shifted_more : (front now : List ℕ) (start : ℕ) (bs : List ℕ) (s i v : ℕ) → start + i < length front → bits 8 v ≡ take 8 (drop (8 * i + s) (bits_of bs)) → Shifted front now start bs s i → Shifted front (set now (start + i) v) start bs s (i + 1)
+pub shifted_more : (front now : List ℕ) (start : ℕ) (bs : List ℕ) (s i v : ℕ) → start + i < length front → bits 8 v ≡ take 8 (drop (8 * i + s) (bits_of bs))
+    → Shifted front now start bs s i → Shifted front (set now (start + i) v) start bs s (i + 1)
 shifted_more front now start bs s i v inside is c =
     let there : start + i < length now = omega (arith, c.size) in
     let before : start ≤ start + i = omega arith in
     let more : take (start + (i + 1)) (set now (start + i) v) ≡ take (start + i) now ++ v ∷ [] = ap (λ t. take t (set now (start + i) v)) (omega arith) ∙ take_more_set now (start + i) v there in
     let next : take 8 (drop (8 * i) (drop s (bits_of bs))) ≡ bits 8 v = ap (take 8) (drop-drop (8 * i) s (bits_of bs) ∙ ap (λ t. drop t (bits_of bs)) (omega arith)) ∙ sym is in
-    let all : take (8 * (i + 1)) (drop s (bits_of bs)) ≡ take (8 * i) (drop s (bits_of bs)) ++ bits 8 v = ap (λ t. take t (drop s (bits_of bs))) (omega arith) ∙ take-add (8 * i) 8 (drop s (bits_of bs)) ∙ ap (λ t. take (8 * i) (drop s (bits_of bs)) ++ t) next in
+    let all : take (8 * (i + 1)) (drop s (bits_of bs)) ≡ take (8 * i) (drop s (bits_of bs)) ++ bits 8 v = ap (λ t. take t (drop s (bits_of bs))) (omega arith)
+    ∙ take-add (8 * i) 8 (drop s (bits_of bs)) ∙ ap (λ t. take (8 * i) (drop s (bits_of bs)) ++ t) next in
     record {
       kept = take-set-le start now (start + i) v before ∙ c.kept;
       size = length-set now (start + i) v ∙ c.size;
@@ -130,7 +133,8 @@ sent_all toc bs now n first last small clear size fits is end so_far =
     let front : take 6 (bits_of bs) ++ take (8 * n) (drop 6 (bits_of bs)) ≡ take (8 * n + 6) (bits_of bs) = sym (take-add 6 (8 * n) (bits_of bs)) ∙ ap (λ t. take t (bits_of bs)) (omega arith) in
     let rest : bits_of now ≡ head ++ take (8 * n + 6) (bits_of bs) =
     so_far ∙ ap (λ t. t ++ take (8 * n) (drop 6 (bits_of bs))) begun ∙ append_assoc head (take 6 (bits_of bs)) (take (8 * n) (drop 6 (bits_of bs))) ∙ ap (λ t. head ++ t) front in
-    let whole : take (8 * n + 6) (bits_of bs) ++ bits 2 last ≡ bits_of bs = ap (λ t. take (8 * n + 6) (bits_of bs) ++ t) (sym (last_two bs n last size end)) ∙ take-append-drop (8 * n + 6) (bits_of bs) in
+    let whole : take (8 * n + 6) (bits_of bs) ++ bits 2 last ≡ bits_of bs = ap (λ t. take (8 * n + 6) (bits_of bs) ++ t) (sym (last_two bs n last size end))
+    ∙ take-append-drop (8 * n + 6) (bits_of bs) in
     bits_of-push now (last * 64 % 256)
     ∙ ap (λ t. bits_of now ++ t) (last_byte last)
     ∙ sym (append_assoc (bits_of now) (bits 2 last) (bits 6 0))
@@ -142,4 +146,5 @@ sent_all toc bs now n first last small clear size fits is end so_far =
 -- no speech
 pub sent_none : (toc : ℕ) → toc < 128 → toc % 4 ≡ 0 → bits_of (bit_or 240 (toc / 16) ∷ (toc * 16 % 256) ∷ []) ≡ bits 4 15 ++ bits 6 (toc / 4) ++ [] ++ bits 6 0
 sent_none toc small clear =
-    carries_all (bit_or 240 (toc / 16) ∷ []) (toc * 16 % 256) (bits 4 15 ++ bits 6 (toc / 4)) (carries_first toc small clear) ∙ ap (λ t. t ++ bits 6 0) (sym (append-nil (bits 4 15 ++ bits 6 (toc / 4))))
+    carries_all (bit_or 240 (toc / 16) ∷ []) (toc * 16 % 256) (bits 4 15 ++ bits 6 (toc / 4)) (carries_first toc small clear)
+    ∙ ap (λ t. t ++ bits 6 0) (sym (append-nil (bits 4 15 ++ bits 6 (toc / 4))))

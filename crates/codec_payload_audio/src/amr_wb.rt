@@ -1,4 +1,4 @@
-//! AMR-WB (RFC 4867), one channel, in both layouts, without CRC, interleaving and robust sorting.
+//! AMR-WB (RFC 4867), one channel, in both layouts, without CRC, interleaving and robust sorting (docs/FORMATS.md, "AMR-WB").
 //!
 //! A frame is handed in and given in its storage form (RFC 4867, section 5.3): a byte with the frame type and the quality
 //! bit, then the speech bits, with zeros up to a byte.

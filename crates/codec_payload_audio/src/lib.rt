@@ -1,4 +1,5 @@
-//! The audio codecs, comfort noise, telephone events, and payloads that carry whatever they are given.
+//! The audio codecs, comfort noise, telephone events, and payloads that carry whatever they are given (docs/FORMATS.md, "Opus,
+//! G.711, G.722", "Comfort noise", "AMR-WB", "Telephone events" and "Null").
 #![tactic(auto)]
 
 pub mod amr_wb;

@@ -92,7 +92,8 @@ with_next_marks : (mid y : Bool) (n : ℕ) (es : List (List ℕ)) → AllByRecur
 with_next_marks mid y n [] h ne = absurd (omega (arith, ne))
 with_next_marks mid true n (e ∷ []) h ne = ap (λ (xs : List Bool). xs ++ false ∷ []) (append-nil (marks mid e)) ∙ one_more mid n e h.0 ∙ sym (append-nil _)
 with_next_marks mid false n (e ∷ []) h ne = ap (λ (xs : List Bool). xs ++ true ∷ []) (append-nil (marks mid e))
-with_next_marks mid y n (e ∷ f ∷ es) h ne = append_assoc (marks mid e) (segment false (f ∷ es)) (not y ∷ []) ∙ ap (λ (xs : List Bool). marks mid e ++ xs) (with_next_marks false y n (f ∷ es) h.1 (omega arith))
+with_next_marks mid y n (e ∷ f ∷ es) h ne = append_assoc (marks mid e) (segment false (f ∷ es)) (not y ∷ [])
+    ∙ ap (λ (xs : List Bool). marks mid e ++ xs) (with_next_marks false y n (f ∷ es) h.1 (omega arith))
 
 with_next_elements : (y : Bool) (n : ℕ) (es : List (List ℕ)) → AllByRecursion IsElement es → AllByRecursion IsElement (with_next y n es)
 with_next_elements y n [] h = (omega arith, tt)
@@ -132,7 +133,8 @@ full_segments mtu begun (p ∷ q ∷ ps) strings h ne full =
 
 -- ---- what other packets take
 
-within_segments : (mtu : ℕ) (begun : List ℕ) (others : List (List ℕ)) (ps : List Payload) (strings : List (List ℕ)) → StandsAfter begun ps strings → AreRead others ps → AllByRecursion (λ bytes. length bytes ≤ mtu) others
+within_segments : (mtu : ℕ) (begun : List ℕ) (others : List (List ℕ)) (ps : List Payload) (strings : List (List ℕ)) → StandsAfter begun ps strings
+    → AreRead others ps → AllByRecursion (λ bytes. length bytes ≤ mtu) others
     → AllByRecursion (λ o. packet_size leb_len (runs o) ≤ mtu) (segments ps)
 within_segments mtu begun [] [] strings h r w = tt
 within_segments mtu begun [] (p ∷ ps) strings h r w = absurd r
@@ -193,7 +195,14 @@ reach_read (suc k) [] (p ∷ ps) r = absurd r
 reach_read (suc k) (packet ∷ packets) [] r = absurd r
 reach_read (suc k) (packet ∷ packets) (p ∷ ps) r =
     let here : length (carried packet) ≡ length (joined p.elements) = ap (λ (q : Option Payload). length (bytes_in q)) r.0 in
-    omega (arith, here, reach_read k packets ps r.1, length_segment p.continues p.elements, length-append (carried packet) (flat_map carried (take k packets)), length-append (segment p.continues p.elements) (join (take k (segments ps))))
+    omega (
+      arith,
+      here,
+      reach_read k packets ps r.1,
+      length_segment p.continues p.elements,
+      length-append (carried packet) (flat_map carried (take k packets)),
+      length-append (segment p.continues p.elements) (join (take k (segments ps))),
+    )
 
 -- Each packet reaches at least as far into the strings as the packet at its place in any other list.
 pub furthest : (mtu : ℕ) (starts : Bool) (strings : List (List ℕ)) (ps : List Payload) (others : List (List ℕ)) → Sent mtu starts strings ps → AreRead (map written ps) ps → Packs mtu others strings

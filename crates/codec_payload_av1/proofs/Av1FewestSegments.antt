@@ -145,7 +145,8 @@ fewest_segments cost rises mtu (x ∷ (b ∷ y) ∷ xs) (o ∷ os) ds ne full wi
       | inr q ↦
           let s = tail_same b q.0 (y ++ join xs) (q.1 ++ join os) q.3 in
           let o-is : o ≡ ds ++ ((x ++ b ∷ []) ++ q.1) = q.2 ∙ rw (← s.0) (simp append_assoc) in
-          let less : packet_size cost (runs (x ++ b ∷ [])) ≤ packet_size cost (runs o) = rw o-is (size_rises cost rises (runs (x ++ b ∷ [])) (runs (ds ++ ((x ++ b ∷ []) ++ q.1))) (runs_inside ds (x ++ b ∷ []) q.1)) in
+          let less : packet_size cost (runs (x ++ b ∷ [])) ≤ packet_size cost (runs o) = rw o-is
+          (size_rises cost rises (runs (x ++ b ∷ [])) (runs (ds ++ ((x ++ b ∷ []) ++ q.1))) (runs_inside ds (x ++ b ∷ []) q.1)) in
           absurd (omega (arith, less, within.0, full.0 b y refl))
     ]
 
@@ -173,6 +174,7 @@ furthest_segments cost rises mtu (suc k) (x ∷ (b ∷ y) ∷ xs) (o ∷ os) ds 
       | inr q ↦
           let s = tail_same b q.0 (y ++ join xs) (q.1 ++ join os) q.3 in
           let o-is : o ≡ ds ++ ((x ++ b ∷ []) ++ q.1) = q.2 ∙ rw (← s.0) (simp append_assoc) in
-          let less : packet_size cost (runs (x ++ b ∷ [])) ≤ packet_size cost (runs o) = rw o-is (size_rises cost rises (runs (x ++ b ∷ [])) (runs (ds ++ ((x ++ b ∷ []) ++ q.1))) (runs_inside ds (x ++ b ∷ []) q.1)) in
+          let less : packet_size cost (runs (x ++ b ∷ [])) ≤ packet_size cost (runs o) = rw o-is
+          (size_rises cost rises (runs (x ++ b ∷ [])) (runs (ds ++ ((x ++ b ∷ []) ++ q.1))) (runs_inside ds (x ++ b ∷ []) q.1)) in
           absurd (omega (arith, less, within.0, full.0 b y refl))
     ]

@@ -51,7 +51,8 @@ pub skipped_frame : (mtu : ℕ) (bytes : List ℕ) (os : List Obu) → frame_kep
 skipped_frame mtu bytes [] is none = rw is (λ _. refl, λ no. absurd (or_true (leb mtu 1) no))
 skipped_frame mtu bytes (o ∷ os) is none = absurd (omega (arith, none))
 
-pub sent_is_answer : (mtu : ℕ) (bytes : List ℕ) (os : List Obu) (packets : List (List ℕ)) → 2 ≤ mtu → frame_kept bytes ≡ Some os → (length os ≡ 0 → ⊥) → IsSentFrame mtu bytes packets → AnswersAv1 mtu bytes (Ok packets)
+pub sent_is_answer : (mtu : ℕ) (bytes : List ℕ) (os : List Obu) (packets : List (List ℕ)) → 2 ≤ mtu → frame_kept bytes ≡ Some os → (length os ≡ 0 → ⊥)
+    → IsSentFrame mtu bytes packets → AnswersAv1 mtu bytes (Ok packets)
 sent_is_answer mtu bytes [] packets large is some sent = absurd (some refl)
 sent_is_answer mtu bytes (o ∷ os) packets large is some sent = rw (is_large mtu large, is) (λ no. absurd cc, λ _. sent)
 

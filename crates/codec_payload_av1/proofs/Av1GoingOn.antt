@@ -25,7 +25,8 @@ same_obu bytes more rest o is none =
     ]
 
 -- its payload goes on in these bytes
-pub unit_going_on : (bytes more rest : List ℕ) (o : Obu) → obu_at bytes ≡ Some (o, rest) → has_size o.header ≡ false → unit_of (bytes ++ more) ≡ Some (cond (is_kept_type o.header) (canonical (going_on o more)) [])
+pub unit_going_on : (bytes more rest : List ℕ) (o : Obu) → obu_at bytes ≡ Some (o, rest) → has_size o.header ≡ false
+    → unit_of (bytes ++ more) ≡ Some (cond (is_kept_type o.header) (canonical (going_on o more)) [])
 unit_going_on bytes more rest o is none =
     unit_complete (bytes ++ more) (going_on o more) (same_obu bytes more rest o is none) ∙ rw none refl
 
@@ -46,7 +47,8 @@ behind_room bytes front payload more room n is fills =
     rw place (ap (λ (t : List ℕ). drop (length before) (t ++ more)) parts ∙ ap (λ (t : List ℕ). drop (length before) t) (append_assoc before payload more) ∙ drop-append_seam before (payload ++ more))
 
 -- what stands before the payload, and the payload
-pub canonical_parts : (out : List ℕ) (o : Obu) (more : List ℕ) → (out ++ (bit_or o.header 2 ∷ (o.extension ++ leb (length o.payload + length more)))) ++ (o.payload ++ more) ≡ out ++ canonical (going_on o more)
+pub canonical_parts : (out : List ℕ) (o : Obu) (more : List ℕ) → (out ++ (bit_or o.header 2 ∷ (o.extension ++ leb (length o.payload + length more))))
+    ++ (o.payload ++ more) ≡ out ++ canonical (going_on o more)
 unfolding canonical
 canonical_parts out o more =
     let size : leb (length o.payload + length more) ≡ leb (length (o.payload ++ more)) = ap leb (sym (length-append o.payload more)) in

@@ -6,14 +6,23 @@ use Rattle.codec_payload_av1.specs.Av1Payload.{Payload, written}
 use Rattle.codec_payload_av1.specs.Av1Laying.{Laid, Laying, IsClosed, starts_next}
 use Rattle.codec_payload_av1.specs.Av1Packing.{ended, left_open, is_begun, IsElement, StandsAfter, AllFullButLast, HasElement, StartsFirst, Sent}
 
-laid_push : (begun : List ℕ) (ps : List Payload) (strings : List (List ℕ)) (left : List ℕ) (p : Payload) → Laid begun ps strings left → p.continues ≡ is_begun left → AllByRecursion IsElement p.elements
+laid_push : (begun : List ℕ) (ps : List Payload) (strings : List (List ℕ)) (left : List ℕ) (p : Payload) → Laid begun ps strings left → p.continues ≡ is_begun left
+    → AllByRecursion IsElement p.elements
     → Laid begun (ps ++ p ∷ []) (strings ++ ended p.goes_on left p.elements) (left_open p.goes_on left p.elements)
 laid_push begun [] strings left p h z es =
     subst (λ (b : List ℕ). Laid b (p ∷ []) (strings ++ ended p.goes_on left p.elements) (left_open p.goes_on left p.elements)) (sym h.1)
     (z, es, ([], rw h.0 (sym (append-nil (ended p.goes_on left p.elements))), (refl, refl)))
 laid_push begun (q ∷ ps) strings left p h z es =
-    let more = laid_push (left_open q.goes_on begun q.elements) ps h.2.0 left p h.2.2 z es in
-    (h.0, h.1, (h.2.0 ++ ended p.goes_on left p.elements, ap (λ (t : List (List ℕ)). t ++ ended p.goes_on left p.elements) h.2.1 ∙ append_assoc (ended q.goes_on begun q.elements) h.2.0 (ended p.goes_on left p.elements), more))
+    let more = laid_push (left_open q.goes_on begun q.elements) ps h.2.0 left p h.2.2 z es in (
+      h.0,
+      h.1,
+      (
+        h.2.0 ++ ended p.goes_on left p.elements,
+        ap (λ (t : List (List ℕ)). t ++ ended p.goes_on left p.elements) h.2.1
+            ∙ append_assoc (ended q.goes_on begun q.elements) h.2.0 (ended p.goes_on left p.elements),
+        more,
+      ),
+    )
 
 laid_stands : (begun : List ℕ) (ps : List Payload) (strings : List (List ℕ)) → Laid begun ps strings [] → StandsAfter begun ps strings
 laid_stands begun [] strings h = (h.1, h.0)
@@ -64,7 +73,8 @@ lay_end mtu starts before partial ps continues opened e s one = record {
   strings = s.strings;
   mid = s.mid;
   laid = s.laid;
-  next = λ f. ap (λ (t : List (List ℕ)). s.strings ++ t) (ended_push s.mid (opened ++ e ∷ []) f (omega (arith, length-append opened (e ∷ [])))) ∙ sym (append_assoc s.strings (ended false s.mid (opened ++ e ∷ [])) (f ∷ [])) ∙ ap (λ (t : List (List ℕ)). t ++ f ∷ []) (s.next e);
+  next = λ f. ap (λ (t : List (List ℕ)). s.strings ++ t) (ended_push s.mid (opened ++ e ∷ []) f (omega (arith, length-append opened (e ∷ []))))
+      ∙ sym (append_assoc s.strings (ended false s.mid (opened ++ e ∷ [])) (f ∷ [])) ∙ ap (λ (t : List (List ℕ)). t ++ f ∷ []) (s.next e);
   continues_is = s.continues_is;
   elements = elements_push opened e s.elements one;
   closed = s.closed;
@@ -78,17 +88,21 @@ begun_more (x ∷ xs) ys h = refl
 
 -- a packet is closed in the midst of a string
 pub lay_part : (mtu : ℕ) (starts : Bool) (before : List (List ℕ)) (partial : List ℕ) (ps : List Payload) (continues : Bool) (opened : List (List ℕ)) (e : List ℕ) (p : Payload)
-    → Laying mtu starts before partial ps continues opened → IsElement e → p ≡ record { continues = continues; goes_on = true; starts = starts_next starts ps; elements = opened ++ e ∷ [] } → IsClosed mtu p
+    → Laying mtu starts before partial ps continues opened → IsElement e
+    → p ≡ record { continues = continues; goes_on = true; starts = starts_next starts ps; elements = opened ++ e ∷ [] } → IsClosed mtu p
     → Laying mtu starts before (partial ++ e) (ps ++ p ∷ []) true []
 lay_part mtu starts before partial ps continues opened e p s one is closed =
     let es = elements_push opened e s.elements one in
     let parts = same_from_push (s.strings ++ ended true s.mid (opened ++ e ∷ [])) before (left_open true s.mid (opened ++ e ∷ [])) (partial ++ e)
-    (append_assoc s.strings (ended true s.mid (opened ++ e ∷ [])) (left_open true s.mid (opened ++ e ∷ []) ∷ []) ∙ ap (λ (t : List (List ℕ)). s.strings ++ t) (sym (open_push s.mid opened e)) ∙ s.next e) in
+    (append_assoc s.strings (ended true s.mid (opened ++ e ∷ [])) (left_open true s.mid (opened ++ e ∷ []) ∷ [])
+    ∙ ap (λ (t : List (List ℕ)). s.strings ++ t) (sym (open_push s.mid opened e)) ∙ s.next e) in
     let laid = laid_push [] ps s.strings s.mid p s.laid (ap (λ (q : Payload). q.continues) is ∙ s.continues_is) (subst (λ (q : Payload). AllByRecursion IsElement q.elements) (sym is) es) in
     record {
       strings = before;
       mid = partial ++ e;
-      laid = subst (λ (l : List (List ℕ)). Laid [] (ps ++ p ∷ []) l (partial ++ e)) parts.0 (subst (λ (b : List ℕ). Laid [] (ps ++ p ∷ []) (s.strings ++ ended true s.mid (opened ++ e ∷ [])) b) parts.1 (subst (λ (q : Payload). Laid [] (ps ++ p ∷ []) (s.strings ++ ended q.goes_on s.mid q.elements) (left_open q.goes_on s.mid q.elements)) is laid));
+      laid = subst (λ (l : List (List ℕ)). Laid [] (ps ++ p ∷ []) l (partial ++ e)) parts.0
+          (subst (λ (b : List ℕ). Laid [] (ps ++ p ∷ []) (s.strings ++ ended true s.mid (opened ++ e ∷ [])) b) parts.1
+          (subst (λ (q : Payload). Laid [] (ps ++ p ∷ []) (s.strings ++ ended q.goes_on s.mid q.elements) (left_open q.goes_on s.mid q.elements)) is laid));
       next = λ f. refl;
       continues_is = begun_more partial e one;
       elements = tt;
@@ -98,7 +112,8 @@ lay_part mtu starts before partial ps continues opened e p s one is closed =
 
 -- a packet is closed between two strings
 pub lay_between : (mtu : ℕ) (starts : Bool) (before : List (List ℕ)) (partial : List ℕ) (ps : List Payload) (continues : Bool) (opened : List (List ℕ)) (p : Payload)
-    → Laying mtu starts before partial ps continues opened → 0 < length opened → p ≡ record { continues = continues; goes_on = false; starts = starts_next starts ps; elements = opened } → IsClosed mtu p
+    → Laying mtu starts before partial ps continues opened → 0 < length opened
+    → p ≡ record { continues = continues; goes_on = false; starts = starts_next starts ps; elements = opened } → IsClosed mtu p
     → Laying mtu starts before [] (ps ++ p ∷ []) false []
 lay_between mtu starts before partial ps continues opened p s ne is closed =
     let parts = same_from_push (s.strings ++ ended false s.mid opened) before [] (partial ++ [])
@@ -107,7 +122,9 @@ lay_between mtu starts before partial ps continues opened p s ne is closed =
     record {
       strings = before;
       mid = [];
-      laid = subst (λ (l : List (List ℕ)). Laid [] (ps ++ p ∷ []) l []) parts.0 (subst (λ (b : List ℕ). Laid [] (ps ++ p ∷ []) (s.strings ++ ended false s.mid opened) b) (left_closed s.mid opened ne) (subst (λ (q : Payload). Laid [] (ps ++ p ∷ []) (s.strings ++ ended q.goes_on s.mid q.elements) (left_open q.goes_on s.mid q.elements)) is laid));
+      laid = subst (λ (l : List (List ℕ)). Laid [] (ps ++ p ∷ []) l []) parts.0
+          (subst (λ (b : List ℕ). Laid [] (ps ++ p ∷ []) (s.strings ++ ended false s.mid opened) b) (left_closed s.mid opened ne)
+          (subst (λ (q : Payload). Laid [] (ps ++ p ∷ []) (s.strings ++ ended q.goes_on s.mid q.elements) (left_open q.goes_on s.mid q.elements)) is laid));
       next = λ f. refl;
       continues_is = refl;
       elements = tt;
@@ -131,13 +148,16 @@ within_push mtu [] p h one = (one, tt)
 within_push mtu (q ∷ ps) p h one = (h.0.within, within_push mtu ps p h.1 one)
 
 pub lay_last : (mtu : ℕ) (starts : Bool) (before : List (List ℕ)) (partial : List ℕ) (ps : List Payload) (continues : Bool) (opened : List (List ℕ)) (p : Payload)
-    → Laying mtu starts before partial ps continues opened → 0 < length opened → p ≡ record { continues = continues; goes_on = false; starts = starts_next starts ps; elements = opened } → length (written p) ≤ mtu
+    → Laying mtu starts before partial ps continues opened → 0 < length opened
+    → p ≡ record { continues = continues; goes_on = false; starts = starts_next starts ps; elements = opened } → length (written p) ≤ mtu
     → Sent mtu starts before (ps ++ p ∷ [])
 lay_last mtu starts before partial ps continues opened p s ne is within =
     let parts = same_from_push (s.strings ++ ended false s.mid opened) before [] (partial ++ [])
     (append_assoc s.strings (ended false s.mid opened) ([] ∷ []) ∙ ap (λ (t : List (List ℕ)). s.strings ++ t) (sym (ended_push s.mid opened [] ne)) ∙ s.next []) in
     let laid = laid_push [] ps s.strings s.mid p s.laid (ap (λ (q : Payload). q.continues) is ∙ s.continues_is) (subst (λ (q : Payload). AllByRecursion IsElement q.elements) (sym is) s.elements) in
-    let all : Laid [] (ps ++ p ∷ []) before [] = subst (λ (l : List (List ℕ)). Laid [] (ps ++ p ∷ []) l []) parts.0 (subst (λ (b : List ℕ). Laid [] (ps ++ p ∷ []) (s.strings ++ ended false s.mid opened) b) (left_closed s.mid opened ne) (subst (λ (q : Payload). Laid [] (ps ++ p ∷ []) (s.strings ++ ended q.goes_on s.mid q.elements) (left_open q.goes_on s.mid q.elements)) is laid)) in
+    let all : Laid [] (ps ++ p ∷ []) before [] = subst (λ (l : List (List ℕ)). Laid [] (ps ++ p ∷ []) l []) parts.0
+    (subst (λ (b : List ℕ). Laid [] (ps ++ p ∷ []) (s.strings ++ ended false s.mid opened) b) (left_closed s.mid opened ne)
+    (subst (λ (q : Payload). Laid [] (ps ++ p ∷ []) (s.strings ++ ended q.goes_on s.mid q.elements) (left_open q.goes_on s.mid q.elements)) is laid)) in
     record {
       stands = laid_stands [] (ps ++ p ∷ []) before all;
       nonempty = nonempty_push mtu ps p s.closed (subst HasElement (sym is) ne);

@@ -18,9 +18,11 @@ abbrev ext_pair : List ℕ → List ℕ → List ℕ × List ℕ
 ext_pair a b = (a, b)
 
 extension_split : (b : Bool) (bytes ext rest : List ℕ) → extension_at b bytes ≡ Some (ext, rest) → (length ext ≡ cond b 1 0) × (bytes ≡ ext ++ rest)
-extension_split false bytes ext rest e = let same : ext_pair [] bytes ≡ ext_pair ext rest = some_is _ _ e in (ap (λ (x : List ℕ × List ℕ). length x.0) (sym same), ap (λ (x : List ℕ × List ℕ). x.0 ++ x.1) same)
+extension_split false bytes ext rest e = let same : ext_pair [] bytes ≡ ext_pair ext rest = some_is _ _ e in
+    (ap (λ (x : List ℕ × List ℕ). length x.0) (sym same), ap (λ (x : List ℕ × List ℕ). x.0 ++ x.1) same)
 extension_split true [] ext rest e = absurd cc
-extension_split true (x ∷ bytes) ext rest e = let same : ext_pair (x ∷ []) bytes ≡ ext_pair ext rest = some_is _ _ e in (ap (λ (y : List ℕ × List ℕ). length y.0) (sym same), ap (λ (y : List ℕ × List ℕ). y.0 ++ y.1) same)
+extension_split true (x ∷ bytes) ext rest e = let same : ext_pair (x ∷ []) bytes ≡ ext_pair ext rest = some_is _ _ e in
+    (ap (λ (y : List ℕ × List ℕ). length y.0) (sym same), ap (λ (y : List ℕ × List ℕ). y.0 ++ y.1) same)
 
 -- one OBU with its size stands before the rest, or one without it takes all
 abbrev pub Parts : Obu → List ℕ → List ℕ → Type 0
@@ -28,7 +30,8 @@ Parts o bytes rest = IsObu o ×
     (((has_size o.header ≡ true) × ((size : List ℕ) × IsLeb128 size (length o.payload) × (bytes ≡ o.header ∷ (o.extension ++ (size ++ (o.payload ++ rest))))))
     ⊎ ((has_size o.header ≡ false) × (rest ≡ []) × (bytes ≡ o.header ∷ (o.extension ++ o.payload))))
 
-sized_split : (header : ℕ) (ext bytes rest : List ℕ) (o : Obu) → has_size header ≡ true → length ext ≡ cond (has_extension header) 1 0 → sized_at header ext bytes ≡ Some (o, rest) → Parts o (header ∷ (ext ++ bytes)) rest
+sized_split : (header : ℕ) (ext bytes rest : List ℕ) (o : Obu) → has_size header ≡ true → length ext ≡ cond (has_extension header) 1 0
+    → sized_at header ext bytes ≡ Some (o, rest) → Parts o (header ∷ (ext ++ bytes)) rest
 sized_split header ext bytes rest o sized one e =
     let n = bind_some (leb_at bytes) (λ n. cond (ltb (length n.1) n.0) None (Some (record { header = header; extension = ext; payload = take n.0 n.1 }, drop n.0 n.1))) (o, rest) e in
     elim (chosen (ltb (length n.0.1) n.0.0) None (Some (record { header = header; extension = ext; payload = take n.0.0 n.0.1 }, drop n.0.0 n.0.1)) (Some (o, rest)) n.2) [
@@ -48,7 +51,8 @@ pub obu_split : (bytes rest : List ℕ) (o : Obu) → obu_at bytes ≡ Some (o, 
 unfolding obu_at
 obu_split [] rest o e = absurd cc
 obu_split (header ∷ bytes) rest o e =
-    let x = bind_some (extension_at (has_extension header) bytes) (λ x. cond (has_size header) (sized_at header x.0 x.1) (Some (record { header = header; extension = x.0; payload = x.1 }, []))) (o, rest) e in
+    let x = bind_some (extension_at (has_extension header) bytes)
+    (λ x. cond (has_size header) (sized_at header x.0 x.1) (Some (record { header = header; extension = x.0; payload = x.1 }, []))) (o, rest) e in
     let ext = extension_split (has_extension header) bytes x.0.0 x.0.1 x.1 in
     subst (λ (t : List ℕ). Parts o (header ∷ t) rest) (sym ext.1)
     (elim (chosen (has_size header) (sized_at header x.0.0 x.0.1) (Some (record { header = header; extension = x.0.0; payload = x.0.1 }, [])) (Some (o, rest)) x.2) [
@@ -89,7 +93,12 @@ sequence_sound bytes os e = within_sound (length bytes) bytes os e
 sized_again : (o : Obu) (size rest : List ℕ) → IsLeb128 size (length o.payload) → sized_at o.header o.extension (size ++ (o.payload ++ rest)) ≡ Some (o, rest)
 sized_again o size rest text =
     let n = leb_complete (size ++ (o.payload ++ rest)) (length o.payload) (o.payload ++ rest) size text refl in
-    rw (n, le-ltb (length (o.payload ++ rest)) (length o.payload) (omega (arith, length-append o.payload rest)), take_at o.payload rest (length o.payload) refl, drop_at o.payload rest (length o.payload) refl) refl
+    rw (
+      n,
+      le-ltb (length (o.payload ++ rest)) (length o.payload) (omega (arith, length-append o.payload rest)),
+      take_at o.payload rest (length o.payload) refl,
+      drop_at o.payload rest (length o.payload) refl,
+    ) refl
 
 pub obu_again : (o : Obu) (bytes rest : List ℕ) → Parts o bytes rest → obu_at bytes ≡ Some (o, rest)
 unfolding obu_at
@@ -143,8 +152,10 @@ sequence_good (o ∷ os) bytes fits short h =
       | inl p ↦
           let regrouped : bytes ≡ (o.header ∷ (o.extension ++ (p.1.0 ++ o.payload))) ++ p.1.1 = p.1.3 ∙ simp append_assoc in
           let fits' : IsBytes ((o.header ∷ (o.extension ++ (p.1.0 ++ o.payload))) ++ p.1.1) = subst IsBytes regrouped fits in
-          let len = simp length-append at (ap length p.1.3) in
-          (record { is_obu = h.0; byte = fits' 0; size = omega (arith, short, len) }, sequence_good os p.1.1 (tail_bytes (o.header ∷ (o.extension ++ (p.1.0 ++ o.payload))) p.1.1 fits') (omega (arith, short, len)) p.1.4)
+          let len = simp length-append at (ap length p.1.3) in (
+            record { is_obu = h.0; byte = fits' 0; size = omega (arith, short, len) },
+            sequence_good os p.1.1 (tail_bytes (o.header ∷ (o.extension ++ (p.1.0 ++ o.payload))) p.1.1 fits') (omega (arith, short, len)) p.1.4,
+          )
       | inr q ↦
           let fits' : IsBytes (o.header ∷ (o.extension ++ o.payload)) = subst IsBytes q.2 fits in
           let len = simp length-append at (ap length q.2) in

@@ -36,8 +36,10 @@ next_part next (f ∷ g ∷ es) e = ap (λ (t : List ℕ). length f ∷ t) (next
 pub lays_none : (mtu : ℕ) (starts : Bool) → 1 ≤ mtu → Lays starts [] [] [] false (record { mtu = mtu; elements = [] })
 lays_none mtu starts le = (laying_none mtu starts, le)
 
-module _ (starts : Bool) (before : List (List ℕ)) (partial : List ℕ) (ps : List Payload) (continues : Bool) (mtu : ℕ) (es : List (List ℕ)) (h : Lays starts before partial ps continues (record { mtu = mtu; elements = es })) where
-  pub lays_between : 0 < length es → 1 ≤ mtu → mtu < packet_size leb_len (lengths es ++ 1 ∷ []) → Lays starts before [] (ps ++ closing starts ps continues false es ∷ []) false (record { mtu = mtu; elements = [] })
+module _ (starts : Bool) (before : List (List ℕ)) (partial : List ℕ) (ps : List Payload) (continues : Bool) (mtu : ℕ) (es : List (List ℕ))
+    (h : Lays starts before partial ps continues (record { mtu = mtu; elements = es })) where
+  pub lays_between : 0 < length es → 1 ≤ mtu → mtu < packet_size leb_len (lengths es ++ 1 ∷ [])
+      → Lays starts before [] (ps ++ closing starts ps continues false es ∷ []) false (record { mtu = mtu; elements = [] })
   lays_between ne le most =
       let p = closing starts ps continues false es in
       let closed : IsClosed mtu p = record {
@@ -58,7 +60,8 @@ module _ (starts : Bool) (before : List (List ℕ)) (partial : List ℕ) (ps : L
       } in
       (lay_part mtu starts before partial ps continues es e p h.0 one (ap (λ (n : Bool). made continues true n (es ++ e ∷ [])) (starts_same starts ps)) closed, le)
 
-  pub lays_end : (e : List ℕ) → IsElement e → packet_size leb_len (lengths es ++ length e ∷ []) ≤ mtu → Lays starts (before ++ (partial ++ e) ∷ []) [] ps continues (record { mtu = mtu; elements = es ++ e ∷ [] })
+  pub lays_end : (e : List ℕ) → IsElement e → packet_size leb_len (lengths es ++ length e ∷ []) ≤ mtu
+      → Lays starts (before ++ (partial ++ e) ∷ []) [] ps continues (record { mtu = mtu; elements = es ++ e ∷ [] })
   lays_end e one fits = (lay_end mtu starts before partial ps continues es e h.0 one, rw (map_push (length {A = ℕ}) es e) fits)
 
   pub lays_last : 0 < length es → Sent mtu starts before (ps ++ closing starts ps continues false es ∷ [])
@@ -98,7 +101,8 @@ never_starts true (p ∷ ps) later = starts_same true (p ∷ ps)
 never_starts false (p ∷ ps) later = refl
 
 pub lays_inner : (starts : Bool) (before : List (List ℕ)) (partial : List ℕ) (ps : List Payload) (continues : Bool) (mtu : ℕ) (es : List (List ℕ)) (e : List ℕ)
-    → Lays starts before partial ps continues (record { mtu = mtu; elements = es }) → es ≡ [] → continues ≡ true → 0 < length ps → IsElement e → 1 ≤ mtu → packet_size leb_len (length e ∷ []) ≤ mtu → mtu < packet_size leb_len ((length e + 1) ∷ [])
+    → Lays starts before partial ps continues (record { mtu = mtu; elements = es }) → es ≡ [] → continues ≡ true → 0 < length ps → IsElement e → 1 ≤ mtu
+    → packet_size leb_len (length e ∷ []) ≤ mtu → mtu < packet_size leb_len ((length e + 1) ∷ [])
     → Lays starts before (partial ++ e) (ps ++ inner e ∷ []) continues (record { mtu = mtu; elements = es })
 lays_inner starts before partial ps continues mtu es e h none goes_on later one le fits most =
     let begun : Lays starts before partial ps true (record { mtu = mtu; elements = [] }) = rw (none, goes_on) at h in

@@ -42,7 +42,13 @@ element_split bytes e rest read =
 element_joined : (bytes e rest : List ℕ) → StandsFirst e bytes rest → element_at bytes ≡ Some (e, rest)
 unfolding element_at
 element_joined bytes e rest h =
-    rw (h.parts, leb_complete (h.size ++ (e ++ rest)) (length e) (e ++ rest) h.size h.spelled refl, nonzero_test (length e) (length (e ++ rest)) h.nonempty (omega (arith, length-append e rest)), take_at e rest (length e) refl, drop_at e rest (length e) refl) refl
+    rw (
+      h.parts,
+      leb_complete (h.size ++ (e ++ rest)) (length e) (e ++ rest) h.size h.spelled refl,
+      nonzero_test (length e) (length (e ++ rest)) h.nonempty (omega (arith, length-append e rest)),
+      take_at e rest (length e) refl,
+      drop_at e rest (length e) refl,
+    ) refl
 
 -- ---- each behind its length
 

@@ -92,7 +92,12 @@ nonzero_test n m lt le = rw (ne_eqb n 0 (omega arith), le-ltb m n le) refl
 element_again : (e rest : List ℕ) → Spelled e → element_at (leb (length e) ++ (e ++ rest)) ≡ Some (e, rest)
 unfolding element_at
 element_again e rest h =
-    rw (leb_again (length e) (e ++ rest) h.1, nonzero_test (length e) (length (e ++ rest)) h.0 (omega (arith, length-append e rest)), take_at e rest (length e) refl, drop_at e rest (length e) refl) refl
+    rw (
+      leb_again (length e) (e ++ rest) h.1,
+      nonzero_test (length e) (length (e ++ rest)) h.0 (omega (arith, length-append e rest)),
+      take_at e rest (length e) refl,
+      drop_at e rest (length e) refl,
+    ) refl
 
 pub each_step : (k : ℕ) (bytes : List ℕ) (e rest : List ℕ) (es : List (List ℕ)) → element_at bytes ≡ Some (e, rest) → each_at k rest ≡ Some es → each_at (suc k) bytes ≡ Some (e ∷ es)
 unfolding each_at element_at leb_at
@@ -160,13 +165,15 @@ pub payload_again : (p : Payload) → AllByRecursion Spelled p.elements → 0 < 
 unfolding payload_at written
 payload_again p h ne =
     let f = flags_again p.continues p.goes_on p.starts (element_count p.elements) (count_small p.elements) in
-    rw (f.count, body_again p.elements h ne, f.continues, f.goes_on, f.starts, whole p.elements) (ap (λ (y : Bool). Some (record { continues = p.continues; goes_on = y; starts = p.starts; elements = p.elements })) (and_one p.goes_on))
+    rw (f.count, body_again p.elements h ne, f.continues, f.goes_on, f.starts, whole p.elements)
+    (ap (λ (y : Bool). Some (record { continues = p.continues; goes_on = y; starts = p.starts; elements = p.elements })) (and_one p.goes_on))
 
 -- ---- OBUs
 
 -- a header without its size bit, read again
 abbrev mask_test : ℕ → Bool
-mask_test h = eqb (bit_and (bit_and h 0xfd) 4) (bit_and h 4) && (eqb (bit_and (bit_and h 0xfd) 2) 0 && (eqb (bit_and (bit_and h 0xfd) 0x78) (bit_and h 0x78) && eqb (bit_or (bit_and h 0xfd) 2) (bit_or h 2)))
+mask_test h = eqb (bit_and (bit_and h 0xfd) 4) (bit_and h 4) &&
+    (eqb (bit_and (bit_and h 0xfd) 2) 0 && (eqb (bit_and (bit_and h 0xfd) 0x78) (bit_and h 0x78) && eqb (bit_or (bit_and h 0xfd) 2) (bit_or h 2)))
 
 record Masked (h : ℕ) : Type 0 where
   extension : bit_and (bit_and h 0xfd) 4 ≡ bit_and h 4

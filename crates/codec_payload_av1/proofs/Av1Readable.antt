@@ -131,7 +131,8 @@ eqb_suc : (a b : ℕ) → eqb (suc a) (suc b) ≡ eqb a b
 eqb_suc a b = grind (arith, nat_tests)
 
 -- where more elements follow, the same of them goes on
-pub same_open : (y : Bool) (w : ℕ) (rest : List ℕ) (f : List ℕ) (fs : List (List ℕ)) → (w ≡ 1 → rest ≡ []) → elements_at (w_after w) rest ≡ Some (f ∷ fs) → open_at y w (suc (length (f ∷ fs))) ≡ open_at y (w_after w) (length (f ∷ fs))
+pub same_open : (y : Bool) (w : ℕ) (rest : List ℕ) (f : List ℕ) (fs : List (List ℕ)) → (w ≡ 1 → rest ≡ []) → elements_at (w_after w) rest ≡ Some (f ∷ fs)
+    → open_at y w (suc (length (f ∷ fs))) ≡ open_at y (w_after w) (length (f ∷ fs))
 same_open y zero rest f fs one read = refl
 same_open y (suc zero) rest f fs one read = let none = sym (elements_nil 1) ∙ (ap (elements_at 1) (sym (one refl)) ∙ read) in absurd cc
 same_open y (suc (suc k)) rest f fs one read =
@@ -199,13 +200,20 @@ taken_next y orphan begun w bytes e rest lt is lost =
     ap (are_taken y orphan begun w) (elements_cons w bytes e rest lt is) ∙ taken_step y orphan begun w e rest (elements_at (w_after w) rest) refl (one_rest w bytes e rest is) lost
 
 received_some : (pending : List ℕ) (h w : ℕ) (r : Option (List (List ℕ))) → are_taken (has_bit 64 h) (has_bit 128 h && not (is_begun (begun_at h pending))) (begun_at h pending) w r
-    ≡ is_some ((r >>= λ es. Some (record { continues = has_bit 128 h; goes_on = has_bit 64 h && (eqb w 0 || eqb (length es) w); starts = has_bit 8 h; elements = es })) >>= λ (p : Payload). taken p.goes_on (still_pending p pending) (usable p (still_pending p pending)))
+    ≡ is_some ((r >>= λ es. Some (record {
+      continues = has_bit 128 h;
+      goes_on = has_bit 64 h &&
+          (eqb w 0 || eqb (length es) w);
+      starts = has_bit 8 h;
+      elements = es;
+    })) >>= λ (p : Payload). taken p.goes_on (still_pending p pending) (usable p (still_pending p pending)))
 received_some pending h w None = refl
 received_some pending h w (Some es) = refl
 
 -- the elements of a payload, behind what is pending
 pub taken_first : (pending : List ℕ) (h : ℕ) (bytes : List ℕ)
-    → are_taken (has_bit 64 h) (has_bit 128 h && not (is_begun (begun_at h pending))) (begun_at h pending) (bit_and h 0x30 / 16) (elements_at (bit_and h 0x30 / 16) bytes) ≡ is_some (received pending (h ∷ bytes))
+    → are_taken (has_bit 64 h) (has_bit 128 h && not (is_begun (begun_at h pending))) (begun_at h pending) (bit_and h 0x30 / 16)
+    (elements_at (bit_and h 0x30 / 16) bytes) ≡ is_some (received pending (h ∷ bytes))
 unfolding received payload_at
 taken_first pending h bytes = received_some pending h (bit_and h 0x30 / 16) (elements_at (bit_and h 0x30 / 16) bytes)
 

@@ -18,7 +18,8 @@ unfolding each_at
 fuel k j [] a b = refl
 fuel zero j (c ∷ bytes) a b = absurd (omega (arith, a))
 fuel (suc k) zero (c ∷ bytes) a b = absurd (omega (arith, b))
-fuel (suc k) (suc j) (c ∷ bytes) a b = same_step k j (c ∷ bytes) (element_at (c ∷ bytes)) refl (λ x is. fuel k j x.1 (omega (arith, a, shorter (c ∷ bytes) x.0 x.1 is)) (omega (arith, b, shorter (c ∷ bytes) x.0 x.1 is)))
+fuel (suc k) (suc j) (c ∷ bytes) a b = same_step k j (c ∷ bytes) (element_at (c ∷ bytes)) refl
+    (λ x is. fuel k j x.1 (omega (arith, a, shorter (c ∷ bytes) x.0 x.1 is)) (omega (arith, b, shorter (c ∷ bytes) x.0 x.1 is)))
 
 pub each_cons : (bytes e rest : List ℕ) → 0 < length bytes → element_at bytes ≡ Some (e, rest) → each_at (length bytes) bytes ≡ (each_at (length rest) rest >>= λ es. Some (e ∷ es))
 unfolding each_at

@@ -51,7 +51,8 @@ by_type false o os is = rw is refl
 kept_cons : (o : Obu) (os : List Obu) → kept (o ∷ os) ≡ kept (o ∷ []) ++ kept os
 kept_cons o os = by_type (is_kept_type o.header) o os refl
 
-regroup : (front : List Obu) (o : Obu) (read : Option (List Obu)) → with_kept front ((read >>= λ os. Some (o ∷ os)) >>= λ os. Some (kept os)) ≡ with_kept (front ++ kept (o ∷ [])) (read >>= λ os. Some (kept os))
+regroup : (front : List Obu) (o : Obu) (read : Option (List Obu))
+    → with_kept front ((read >>= λ os. Some (o ∷ os)) >>= λ os. Some (kept os)) ≡ with_kept (front ++ kept (o ∷ [])) (read >>= λ os. Some (kept os))
 regroup front o None = refl
 regroup front o (Some os) = ap (λ (t : List Obu). Some t) (ap (λ (t : List Obu). front ++ t) (kept_cons o os) ∙ sym (append_assoc front (kept (o ∷ [])) (kept os)))
 
@@ -115,7 +116,8 @@ pub count_fails : (n : ℕ) (bytes : List ℕ) (total : Option ℕ) → 0 < leng
 count_fails n bytes total lt is so_far = ap (λ (r : Option (List Obu)). option_map (λ os. n + bytes_sent os) r) (sym (frame_fails [] bytes (frame_kept bytes) lt is (frame_starts bytes))) ∙ so_far
 
 pub count_ends : (n : ℕ) (bytes : List ℕ) (total : Option ℕ) → length bytes ≡ 0 → option_map (λ os. n + bytes_sent os) (frame_kept bytes) ≡ total → Some n ≡ total
-count_ends n bytes total none so_far = ap (λ (m : ℕ). Some m) (omega arith) ∙ ap (λ (r : Option (List Obu)). option_map (λ os. n + bytes_sent os) r) (sym (frame_ends [] bytes (frame_kept bytes) none (frame_starts bytes))) ∙ so_far
+count_ends n bytes total none so_far = ap (λ (m : ℕ). Some m) (omega arith)
+    ∙ ap (λ (r : Option (List Obu)). option_map (λ os. n + bytes_sent os) r) (sym (frame_ends [] bytes (frame_kept bytes) none (frame_starts bytes))) ∙ so_far
 
 from_none : (n : ℕ) (r : Option (List Obu)) → n ≡ 0 → option_map (λ os. n + bytes_sent os) r ≡ option_map bytes_sent r
 from_none n None is = refl
@@ -147,7 +149,8 @@ starts_of : (o : Obu) (r : Option (List Obu)) (os : List Obu) → with_kept (o �
 starts_of o None os is = absurd cc
 starts_of o (Some xs) os is = ap starts_sequence (some_is (o ∷ xs) os is)
 
-pub first_kept : (bytes rest : List ℕ) (o : Obu) (os : List Obu) → obu_at bytes ≡ Some (o, rest) → is_kept_type o.header ≡ true → frame_kept bytes ≡ Some os → (bit_and o.header 0x78 == 0x08) ≡ starts_sequence os
+pub first_kept : (bytes rest : List ℕ) (o : Obu) (os : List Obu) → obu_at bytes ≡ Some (o, rest) → is_kept_type o.header ≡ true → frame_kept bytes ≡ Some os
+    → (bit_and o.header 0x78 == 0x08) ≡ starts_sequence os
 first_kept bytes rest o os is keeps whole =
     let so_far = frame_goes_on [] bytes rest o (Some os) (some_read bytes rest o is) is (frame_starts bytes ∙ whole) in
     let one : kept (o ∷ []) ≡ o ∷ [] = rw keeps refl in

@@ -66,7 +66,8 @@ no_orphan : (es : List (List ℕ)) → without_orphan false es ≡ es
 no_orphan [] = refl
 no_orphan (e ∷ es) = refl
 
-pending_is : (begun pending : List ℕ) (p : Payload) → p.continues ≡ is_begun begun → (p.continues ≡ true → p.starts ≡ false) → (is_begun begun ≡ true → pending ≡ begun) → still_pending p pending ≡ begun
+pending_is : (begun pending : List ℕ) (p : Payload) → p.continues ≡ is_begun begun → (p.continues ≡ true → p.starts ≡ false)
+    → (is_begun begun ≡ true → pending ≡ begun) → still_pending p pending ≡ begun
 pending_is [] pending p z n same = rw z refl
 pending_is (b ∷ bs) pending p z n same = rw (z, n z) (same refl)
 
@@ -80,12 +81,14 @@ pub record IsSound (p : Payload) : Type 0 where
   pub later : p.continues ≡ true → p.starts ≡ false
   pub short : length (written p) < 2 ^ 64
 
-received_is : (pending packet begun a : List ℕ) (p : Payload) → payload_at packet ≡ Some p → still_pending p pending ≡ begun → usable p begun ≡ p.elements → units_of (ended p.goes_on begun p.elements) ≡ Some a
+received_is : (pending packet begun a : List ℕ) (p : Payload) → payload_at packet ≡ Some p → still_pending p pending ≡ begun → usable p begun ≡ p.elements
+    → units_of (ended p.goes_on begun p.elements) ≡ Some a
     → received pending packet ≡ Some (a, left_open p.goes_on begun p.elements)
 unfolding received taken
 received_is pending packet begun a p is still used units = rw (is, still, used, units) refl
 
-all_cons : (pending packet : List ℕ) (packets : List (List ℕ)) (a middle b end : List ℕ) → received pending packet ≡ Some (a, middle) → all_received middle packets ≡ Some (b, end) → all_received pending (packet ∷ packets) ≡ Some (a ++ b, end)
+all_cons : (pending packet : List ℕ) (packets : List (List ℕ)) (a middle b end : List ℕ) → received pending packet ≡ Some (a, middle)
+    → all_received middle packets ≡ Some (b, end) → all_received pending (packet ∷ packets) ≡ Some (a ++ b, end)
 unfolding all_received
 all_cons pending packet packets a middle b end one others = rw (one, others) refl
 
@@ -130,20 +133,24 @@ units_strings (o ∷ os) h = units_cons (string o) (map string os) (canonical o)
 
 -- ---- the packets of a frame
 
-later_sound : (mtu : ℕ) → mtu < 2 ^ 64 → (ps : List Payload) → AllByRecursion HasElement ps → AllByRecursion (λ p. length (written p) ≤ mtu) ps → AllByRecursion (λ p. p.starts ≡ false) ps → AllByRecursion IsSound ps
+later_sound : (mtu : ℕ) → mtu < 2 ^ 64 → (ps : List Payload) → AllByRecursion HasElement ps → AllByRecursion (λ p. length (written p) ≤ mtu) ps
+    → AllByRecursion (λ p. p.starts ≡ false) ps → AllByRecursion IsSound ps
 later_sound mtu lt [] ne w n = tt
 later_sound mtu lt (p ∷ ps) ne w n = (record { nonempty = ne.0; later = λ _. n.0; short = omega (arith, w.0, lt) }, later_sound mtu lt ps ne.1 w.1 n.1)
 
 sound : (mtu : ℕ) → mtu < 2 ^ 64 → (starts : Bool) (strings : List (List ℕ)) (ps : List Payload) → Sent mtu starts strings ps → AllByRecursion IsSound ps
 sound mtu lt starts strings [] sent = tt
-sound mtu lt starts strings (p ∷ ps) sent =
-    (record { nonempty = sent.nonempty.0; later = λ e. absurd (let z = sent.stands.0 in cc); short = omega (arith, sent.within.0, lt) }, later_sound mtu lt ps sent.nonempty.1 sent.within.1 sent.first.1)
+sound mtu lt starts strings (p ∷ ps) sent = (
+  record { nonempty = sent.nonempty.0; later = λ e. absurd (let z = sent.stands.0 in cc); short = omega (arith, sent.within.0, lt) },
+  later_sound mtu lt ps sent.nonempty.1 sent.within.1 sent.first.1,
+)
 
 -- From any pending bytes the packets of a frame give its kept OBUs in canonical form.
 pub frame_comes : (mtu : ℕ) (starts : Bool) (os : List Obu) (ps : List Payload) (pending : List ℕ) → mtu < 2 ^ 64 → AllByRecursion IsGood os → Sent mtu starts (map string (kept os)) ps
     → (end : List ℕ) × (all_received pending (map written ps) ≡ Some (canonical_unit os, end))
 frame_comes mtu starts os ps pending lt good sent =
-    comes [] pending ps (map string (kept os)) (canonical_unit os) sent.stands (λ e. absurd (let z = e in cc)) (sound mtu lt starts (map string (kept os)) ps sent) (units_strings (kept os) (kept_all os good))
+    comes [] pending ps (map string (kept os)) (canonical_unit os) sent.stands (λ e. absurd (let z = e in cc)) (sound mtu lt starts (map string (kept os)) ps sent)
+    (units_strings (kept os) (kept_all os good))
 
 -- ---- a last part of the packets
 
@@ -230,7 +237,8 @@ same_list : (a b : List ℕ) (xs ys : List (List ℕ)) → a ≡ b → xs ≡ ys
 same_list a b xs ys e f = cc
 
 -- the same, of the packets themselves
-pub last_packets_come : (mtu : ℕ) (starts : Bool) (os : List Obu) (ps : List Payload) (front : List (List ℕ)) (packet : List ℕ) (packets : List (List ℕ)) (pending : List ℕ) → mtu < 2 ^ 64 → AllByRecursion IsGood os
+pub last_packets_come : (mtu : ℕ) (starts : Bool) (os : List Obu) (ps : List Payload) (front : List (List ℕ)) (packet : List ℕ) (packets : List (List ℕ))
+    (pending : List ℕ) → mtu < 2 ^ 64 → AllByRecursion IsGood os
     → Sent mtu starts (map string (kept os)) ps → front ++ packet ∷ packets ≡ map written ps → is_head packet ≡ true
     → (first : List Obu) × (last : List Obu) × (end : List ℕ) × (kept os ≡ first ++ last) × (0 < length last) × (all_received pending (packet ∷ packets) ≡ Some (flat_map canonical last, end))
 last_packets_come mtu starts os ps front packet packets pending lt good sent are head =

@@ -48,14 +48,17 @@ all_three true true false is = absurd cc
 all_three true false c is = absurd cc
 all_three false b c is = absurd cc
 
-takes_open : (y : Bool) (begun : List ℕ) (w : ℕ) (bytes e rest : List ℕ) → 0 < length bytes → next_at w bytes ≡ Some (e, rest) → (y && ltb w 2 && not (is_begun rest)) ≡ true → takes y false begun w (elements_at w bytes) ≡ entry [] (begun ++ e)
+takes_open : (y : Bool) (begun : List ℕ) (w : ℕ) (bytes e rest : List ℕ) → 0 < length bytes → next_at w bytes ≡ Some (e, rest)
+    → (y && ltb w 2 && not (is_begun rest)) ≡ true → takes y false begun w (elements_at w bytes) ≡ entry [] (begun ++ e)
 takes_open y begun w bytes e rest lt is test =
     let t = all_three y (ltb w 2) (not (is_begun rest)) test in
-    let one : elements_at w bytes ≡ Some (e ∷ []) = elements_cons w bytes e rest lt is ∙ ap (λ (r : List ℕ). elements_at (w_after w) r >>= λ es. Some (e ∷ es)) (open_rest rest t.2) ∙ rw (elements_nil (w_after w)) refl in
+    let one : elements_at w bytes ≡ Some (e ∷ []) = elements_cons w bytes e rest lt is
+    ∙ ap (λ (r : List ℕ). elements_at (w_after w) r >>= λ es. Some (e ∷ es)) (open_rest rest t.2) ∙ rw (elements_nil (w_after w)) refl in
     let opened : open_at y w 1 ≡ true = last_open y w ∙ rw (t.0, t.1) refl in
     ap (takes y false begun w) one ∙ ap (λ (b : Bool). taken b begun (e ∷ [])) opened ∙ goes_open begun e
 
-orphan_read : (y : Bool) (w : ℕ) (e rest : List ℕ) (r : Option (List (List ℕ))) → elements_at (w_after w) rest ≡ r → (w ≡ 1 → rest ≡ []) → takes y true [] w (r >>= λ es. Some (e ∷ es)) ≡ takes y false [] (w_after w) r
+orphan_read : (y : Bool) (w : ℕ) (e rest : List ℕ) (r : Option (List (List ℕ))) → elements_at (w_after w) rest ≡ r → (w ≡ 1 → rest ≡ [])
+    → takes y true [] w (r >>= λ es. Some (e ∷ es)) ≡ takes y false [] (w_after w) r
 orphan_read y w e rest None read one = refl
 orphan_read y w e rest (Some []) read one = nothing_taken (open_at y w 1) false [] ∙ sym (nothing_taken (open_at y (w_after w) 0) false [])
 orphan_read y w e rest (Some (f ∷ fs)) read one = ap (λ (b : Bool). taken b [] (f ∷ fs)) (same_open y w rest f fs one read)
@@ -76,7 +79,8 @@ and_none : (u : Option (List ℕ)) → None ≡ and_then u None
 and_none None = refl
 and_none (Some u) = refl
 
-ends_of : (goes_on : Bool) (begun e : List ℕ) (es : List (List ℕ)) (u : Option (List ℕ)) → unit_of (begun ++ e) ≡ u → (goes_on ≡ false) ⊎ (0 < length es) → taken goes_on begun (e ∷ es) ≡ and_then u (taken goes_on [] es)
+ends_of : (goes_on : Bool) (begun e : List ℕ) (es : List (List ℕ)) (u : Option (List ℕ)) → unit_of (begun ++ e) ≡ u → (goes_on ≡ false) ⊎ (0 < length es)
+    → taken goes_on begun (e ∷ es) ≡ and_then u (taken goes_on [] es)
 ends_of goes_on begun e es None is ends = one_fails goes_on begun e es ends is
 ends_of goes_on begun e es (Some u) is ends = one_taken goes_on begun e es u ends is
 
@@ -99,7 +103,8 @@ after_nothing : (r : Option (List ℕ × List ℕ)) → r ≡ after [] r
 after_nothing None = refl
 after_nothing (Some x) = refl
 
-takes_next : (y orphan : Bool) (begun : List ℕ) (w : ℕ) (bytes e rest : List ℕ) → 0 < length bytes → next_at w bytes ≡ Some (e, rest) → (orphan ≡ true → begun ≡ []) → (not orphan && y && ltb w 2 && not (is_begun rest)) ≡ false
+takes_next : (y orphan : Bool) (begun : List ℕ) (w : ℕ) (bytes e rest : List ℕ) → 0 < length bytes → next_at w bytes ≡ Some (e, rest) → (orphan ≡ true → begun ≡ [])
+    → (not orphan && y && ltb w 2 && not (is_begun rest)) ≡ false
     → takes y orphan begun w (elements_at w bytes) ≡ and_then (given orphan begun e) (takes y false [] (w_after w) (elements_at (w_after w) rest))
 takes_next y true begun w bytes e rest lt is lost test =
     rw (lost refl)
@@ -112,7 +117,8 @@ takes_next y false begun w bytes e rest lt is lost test =
 
 -- ---- the steps of a loop, which has added what stands behind old
 
-module _ (y orphan : Bool) (begun : List ℕ) (w : ℕ) (bytes : List ℕ) (out old : List ℕ) (total : Option (List ℕ × List ℕ)) (so_far : after out (takes y orphan begun w (elements_at w bytes)) ≡ after old total) where
+module _ (y orphan : Bool) (begun : List ℕ) (w : ℕ) (bytes : List ℕ) (out old : List ℕ) (total : Option (List ℕ × List ℕ))
+    (so_far : after out (takes y orphan begun w (elements_at w bytes)) ≡ after old total) where
   pub all_taken : length bytes ≡ 0 → (x : List ℕ) × (total ≡ Some (x, begun)) × (out ≡ old ++ x)
   all_taken none = ends_with out begun old total (ap (after out) (sym (takes_end y orphan begun w bytes none)) ∙ so_far)
 
@@ -122,7 +128,8 @@ module _ (y orphan : Bool) (begun : List ℕ) (w : ℕ) (bytes : List ℕ) (out 
   module _ (e rest : List ℕ) (lt : 0 < length bytes) (is : next_at w bytes ≡ Some (e, rest)) where
     pub stays : (new : List ℕ) → orphan ≡ false → (y && ltb w 2 && not (is_begun rest)) ≡ true → new ≡ begun ++ e → (x : List ℕ) × (total ≡ Some (x, new)) × (out ≡ old ++ x)
     stays new whole test made =
-        let here : takes y orphan begun w (elements_at w bytes) ≡ entry [] new = ap (λ (b : Bool). takes y b begun w (elements_at w bytes)) whole ∙ takes_open y begun w bytes e rest lt is test ∙ ap (entry []) (sym made) in
+        let here : takes y orphan begun w (elements_at w bytes) ≡ entry [] new = ap (λ (b : Bool). takes y b begun w (elements_at w bytes)) whole
+        ∙ takes_open y begun w bytes e rest lt is test ∙ ap (entry []) (sym made) in
         ends_with out new old total (ap (after out) (sym here) ∙ so_far)
 
     pub goes_on : (new u : List ℕ) → (orphan ≡ true → begun ≡ []) → (not orphan && y && ltb w 2 && not (is_begun rest)) ≡ false → given orphan begun e ≡ Some u → new ≡ out ++ u
@@ -135,13 +142,15 @@ module _ (y orphan : Bool) (begun : List ℕ) (w : ℕ) (bytes : List ℕ) (out 
     pub fails : (fault : PacketError) → (orphan ≡ true → begun ≡ []) → (not orphan && y && ltb w 2 && not (is_begun rest)) ≡ false → Fails fault (given orphan begun e) → Fails fault total
     fails faults.OutOfMemory lost test f = tt
     fails faults.ErrAv1CorruptedPacket lost test f =
-        none_before old total (sym so_far ∙ ap (after out) (takes_next y orphan begun w bytes e rest lt is lost test ∙ ap (λ (r : Option (List ℕ)). and_then r (takes y false [] (w_after w) (elements_at (w_after w) rest))) f))
+        none_before old total (sym so_far ∙ ap (after out) (takes_next y orphan begun w bytes e rest lt is lost test
+        ∙ ap (λ (r : Option (List ℕ)). and_then r (takes y false [] (w_after w) (elements_at (w_after w) rest))) f))
     fails _ lost test f = absurd f
 
 -- ---- the first step
 
 received_takes : (pending : List ℕ) (h w : ℕ) (r : Option (List (List ℕ))) → takes (has_bit 64 h) (has_bit 128 h && not (is_begun (begun_at h pending))) (begun_at h pending) w r
-    ≡ ((r >>= λ es. Some (record { continues = has_bit 128 h; goes_on = has_bit 64 h && (eqb w 0 || eqb (length es) w); starts = has_bit 8 h; elements = es })) >>= λ (p : Payload). taken p.goes_on (still_pending p pending) (usable p (still_pending p pending)))
+    ≡ ((r >>= λ es. Some (record { continues = has_bit 128 h; goes_on = has_bit 64 h && (eqb w 0 || eqb (length es) w); starts = has_bit 8 h; elements = es })) >>= λ
+    (p : Payload). taken p.goes_on (still_pending p pending) (usable p (still_pending p pending)))
 received_takes pending h w None = refl
 received_takes pending h w (Some es) = refl
 
@@ -159,7 +168,8 @@ begun_twice false pending = refl
 pub received_begun : (pending : List ℕ) (h : ℕ) (bytes : List ℕ) → received (begun_at h pending) (h ∷ bytes) ≡ received pending (h ∷ bytes)
 received_begun pending h bytes =
     sym (takes_first (begun_at h pending) h bytes)
-    ∙ ap (λ (b : List ℕ). takes (has_bit 64 h) (has_bit 128 h && not (is_begun b)) b (bit_and h 0x30 / 16) (elements_at (bit_and h 0x30 / 16) bytes)) (begun_twice (has_bit 128 h && not (has_bit 8 h)) pending)
+    ∙ ap (λ (b : List ℕ). takes (has_bit 64 h) (has_bit 128 h && not (is_begun b)) b (bit_and h 0x30 / 16) (elements_at (bit_and h 0x30 / 16) bytes))
+    (begun_twice (has_bit 128 h && not (has_bit 8 h)) pending)
     ∙ takes_first pending h bytes
 
 -- ---- inside an OBU

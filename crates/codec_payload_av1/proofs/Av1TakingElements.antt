@@ -18,7 +18,8 @@ pair_up u left (Some us) = refl
 pair_up u left None = refl
 
 -- an element that ends here
-pub one_taken : (goes_on : Bool) (begun e : List ℕ) (es : List (List ℕ)) (u : List ℕ) → (goes_on ≡ false) ⊎ (0 < length es) → unit_of (begun ++ e) ≡ Some u → taken goes_on begun (e ∷ es) ≡ after u (taken goes_on [] es)
+pub one_taken : (goes_on : Bool) (begun e : List ℕ) (es : List (List ℕ)) (u : List ℕ) → (goes_on ≡ false) ⊎ (0 < length es) → unit_of (begun ++ e) ≡ Some u
+    → taken goes_on begun (e ∷ es) ≡ after u (taken goes_on [] es)
 unfolding taken units_of
 one_taken goes_on begun e (f ∷ es) u ends is = rw is (pair_up u (left_open goes_on [] (f ∷ es)) (units_of (ended goes_on [] (f ∷ es))))
 one_taken false begun e [] u ends is = rw is refl

@@ -22,7 +22,8 @@ unfolding all_received received taken unit_of units_of payload_at element_at eac
 all_received-one = refl
 
 -- the same in three packets
-pub all_received-three : all_received (0xff ∷ 0xff ∷ []) ((0x18 ∷ 0x08 ∷ 0xaa ∷ []) ∷ (0x50 ∷ 0x30 ∷ 0xbb ∷ []) ∷ (0x90 ∷ 0xcc ∷ []) ∷ []) ≡ Some ((0x0a ∷ 0x01 ∷ 0xaa ∷ 0x32 ∷ 0x02 ∷ 0xbb ∷ 0xcc ∷ []), [])
+pub all_received-three : all_received (0xff ∷ 0xff ∷ []) ((0x18 ∷ 0x08 ∷ 0xaa ∷ []) ∷ (0x50 ∷ 0x30 ∷ 0xbb ∷ []) ∷ (0x90 ∷ 0xcc ∷ []) ∷ []) ≡ Some
+    ((0x0a ∷ 0x01 ∷ 0xaa ∷ 0x32 ∷ 0x02 ∷ 0xbb ∷ 0xcc ∷ []), [])
 unfolding all_received received taken unit_of units_of payload_at element_at each_at counted_at obu_at canonical leb leb_at
 all_received-three = refl
 

@@ -29,11 +29,19 @@ abbrev pub body : List (List ℕ) → List ℕ
 body es = if nat_lt 3 (length es) then each_with_length es else all_but_last_with_length es
 
 -- W: the number of elements up to three, and 0 above
+abbrev pub count_of : ℕ → ℕ
+count_of elements = if nat_lt 3 elements then 0 else elements
+
 abbrev pub element_count : List (List ℕ) → ℕ
-element_count es = if nat_lt 3 (length es) then 0 else length es
+element_count es = count_of (length es)
+
+-- Z, Y, W and N
+abbrev pub header_byte : Bool → Bool → ℕ → Bool → ℕ
+header_byte continues goes_on count starts =
+    (if continues then 128 else 0) + (if goes_on then 64 else 0) + 16 * count + (if starts then 8 else 0)
 
 abbrev pub aggregation_header : Payload → ℕ
-aggregation_header p = (if p.continues then 128 else 0) + (if p.goes_on then 64 else 0) + 16 * element_count p.elements + (if p.starts then 8 else 0)
+aggregation_header p = header_byte p.continues p.goes_on (element_count p.elements) p.starts
 
 unfoldable pub written : Payload → List ℕ
 written p = aggregation_header p ∷ body p.elements

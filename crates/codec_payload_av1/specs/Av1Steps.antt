@@ -20,7 +20,8 @@ ComesBack obus packets = (pending : List ℕ) → (end : List ℕ) × (all_recei
 abbrev pub LastComeBack : List Obu → List (List ℕ) → Type 0
 LastComeBack obus packets =
     (front : List (List ℕ)) (packet : List ℕ) (behind : List (List ℕ)) → packets ≡ front ++ packet ∷ behind → is_head packet ≡ true
-    → (pending : List ℕ) → (first : List Obu) × (last : List Obu) × (end : List ℕ) × (kept obus ≡ first ++ last) × (0 < length last) × (all_received pending (packet ∷ behind) ≡ Some (flat_map canonical last, end))
+    → (pending : List ℕ) → (first : List Obu) × (last : List Obu) × (end : List ℕ) × (kept obus ≡ first ++ last) × (0 < length last)
+    × (all_received pending (packet ∷ behind) ≡ Some (flat_map canonical last, end))
 
 -- these are the packets in which the kept OBUs of a frame are sent
 pub record IsSentFrame (mtu : ℕ) (frame : List ℕ) (packets : List (List ℕ)) : Type 0 where

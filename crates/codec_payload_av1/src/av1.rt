@@ -1,9 +1,10 @@
-//! AV1 (RTP Payload Format for AV1, version 1.0).
+//! AV1 (RTP Payload Format for AV1, version 1.0): payloads of frames, and frames of payloads (docs/FORMATS.md, "AV1").
 
 ghost use Rattle.std.specs.Prelude.{◌≡◌, length};
 ghost use Rattle.codec_payload_base.specs.Leb.{leb};
 ghost use Rattle.codec_payload_av1.specs.Av1Steps.{is_keyframe};
 
+mod aggregation_header;
 mod depacketizer;
 mod laws;
 mod leb;
@@ -15,6 +16,7 @@ mod payload_writer;
 mod pending;
 mod piece;
 
+use aggregation_header::AggregationHeader;
 pub use codec_payload_base::interface::Av1CodecExtra;
 pub use depacketizer::Av1Depacketizer;
 pub use laws::{
@@ -35,7 +37,7 @@ pub fn detect_av1_keyframe(payload: &[u8]) -> bool
     ensures { result ≡ is_keyframe payload.now }
 {
     match payload.first() {
-        Some(header) => *header & 0x08 != 0,
+        Some(header) => AggregationHeader { byte: *header }.starts(),
         None => false,
     }
 }

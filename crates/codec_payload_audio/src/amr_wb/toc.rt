@@ -1,4 +1,4 @@
-//! Entries of AMR-WB's table of contents.
+//! AMR-WB: entries of the table of contents (docs/FORMATS.md, "AMR-WB").
 
 ghost use Rattle.std.specs.Prelude.{◌≡◌, ◌+◌, ◌*◌, ◌/◌, ◌%◌, ◌<◌};
 ghost use Rattle.codec_payload_audio.specs.AmrWb.{bit_of};

@@ -1,4 +1,4 @@
-//! AV1 payloads as frames.
+//! AV1: payloads put together to frames (docs/FORMATS.md, "AV1").
 
 ghost use Rattle.std.specs.Prelude.{◌≡◌, ◌∷◌, List, [], Some, length, take, true, nat_lt, ◌&&◌, ℕ, is_some, not, ◌++◌, OnOk, if◌then◌else◌};
 ghost use Rattle.codec_payload_av1.specs.Av1Obu.{canonical, has_bit, is_kept_type};
@@ -8,10 +8,11 @@ ghost use Rattle.codec_payload_av1.specs.Av1Receiving.{unit_of, received, begun_
 ghost use Rattle.codec_payload_av1.specs.Av1Outcome.{Appends, Takes};
 ghost use Rattle.codec_payload_av1.specs.Av1Steps.{Av1Step, TakesPayload, extra_of};
 
+use crate::av1::aggregation_header::AggregationHeader;
 use crate::av1::detect_av1_keyframe;
 use crate::av1::leb::number_len;
 use crate::av1::obu::{has_size_bit, is_kept, is_one_obu, obu_of, put_canonical};
-use crate::av1::payload::{INNER_HEADER, next_element, w_after_one};
+use crate::av1::payload::{next_element, w_after_one};
 use crate::av1::pending::{MOST_BEFORE, Pending};
 use codec_payload_base::error::PacketError;
 use codec_payload_base::interface::{Av1CodecExtra, CodecExtra, Depacketizer};
@@ -44,14 +45,14 @@ impl Av1Depacketizer {
     /// Takes the payload of an aggregation header and the bytes behind it. After a refusal anything may be pending.
     fn take_payload(
         &mut self,
-        header: u8,
+        header: AggregationHeader,
         bytes: &[u8],
         out: &mut Vec<u8>,
     ) -> Result<(), PacketError>
-        ensures taken { TakesPayload result self.old (header ∷ bytes.now) out.old.items out.new.items self.new }
+        ensures taken { TakesPayload result self.old (header.byte ∷ bytes.now) out.old.items out.new.items self.new }
         ensures kept { take (length out.old.items) out.new.items ≡ out.old.items }
     {
-        if header == INNER_HEADER && !self.pending.as_slice().is_empty() {
+        if header.is_inside() && !self.pending.as_slice().is_empty() {
             self.pending.extend(bytes)?;
             return Ok(());
         }
@@ -64,11 +65,11 @@ impl Av1Depacketizer {
     /// The same, where want of memory comes of any payload.
     fn take_elements_of(
         &mut self,
-        header: u8,
+        header: AggregationHeader,
         bytes: &[u8],
         out: &mut Vec<u8>,
     ) -> Result<(), PacketError>
-        ensures taken { Takes result out.old.items out.new.items self.new (received self.old (header ∷ bytes.now)) }
+        ensures taken { Takes result out.old.items out.new.items self.new (received self.old (header.byte ∷ bytes.now)) }
         ensures kept { take (length out.old.items) out.new.items ≡ out.old.items }
     {
         keep_begun(&mut self.pending, header);
@@ -83,7 +84,7 @@ fn extra(packet: &[u8], before: &CodecExtra) -> CodecExtra
 {
     let was_keyframe = match before {
         CodecExtra::Av1(extra) => extra.is_keyframe,
-        CodecExtra::None | CodecExtra::Vp8(_) | CodecExtra::Vp9(_) | CodecExtra::Tele(_) => false,
+        _ => false,
     };
     CodecExtra::Av1(Av1CodecExtra {
         is_keyframe: detect_av1_keyframe(packet) || was_keyframe,
@@ -120,7 +121,11 @@ impl Depacketizer for Av1Depacketizer {
         let start = out.len();
         let taken = match packet {
             [] => Err(PacketError::ErrShortPacket),
-            [header, bytes @ ..] => self.take_payload(*header, bytes, out),
+            [header, bytes @ ..] => self.take_payload(
+                AggregationHeader { byte: *header },
+                bytes,
+                out,
+            ),
         };
         match taken {
             Ok(()) => {
@@ -138,7 +143,7 @@ impl Depacketizer for Av1Depacketizer {
     /// Whether the Z bit is clear, so that the payload does not begin inside an OBU. An empty payload is no head.
     fn is_partition_head(&self, packet: &[u8]) -> bool {
         match packet.first() {
-            Some(header) => *header & 0x80 == 0,
+            Some(header) => !AggregationHeader { byte: *header }.continues(),
             None => false,
         }
     }
@@ -148,18 +153,11 @@ impl Depacketizer for Av1Depacketizer {
     }
 }
 
-/// Whether what is pending goes on in the payload of this aggregation header: Z is set, and N is clear.
-fn continues_pending(header: u8) -> bool
-    ensures { result ≡ (has_bit 128 header && not (has_bit 8 header)) }
-{
-    header & 128 != 0 && header & 8 == 0
-}
-
 /// What of the pending bytes goes on in the payload of this aggregation header.
-fn begun_of(header: u8, pending: &[u8]) -> &[u8]
-    ensures { result.now ≡ begun_at header pending.now }
+fn begun_of(header: AggregationHeader, pending: &[u8]) -> &[u8]
+    ensures { result.now ≡ begun_at header.byte pending.now }
 {
-    if continues_pending(header) {
+    if header.continues_pending() {
         pending
     } else {
         &[]
@@ -178,19 +176,19 @@ fn reserve_for_first(out: &mut Vec<u8>, count: usize) -> Result<(), AllocError>
 }
 
 /// Lets go of what is pending where it does not go on in the payload of this aggregation header.
-fn keep_begun(pending: &mut Pending, header: u8)
-    ensures { pending.new ≡ begun_at header pending.old }
+fn keep_begun(pending: &mut Pending, header: AggregationHeader)
+    ensures { pending.new ≡ begun_at header.byte pending.old }
 {
-    if !continues_pending(header) {
+    if !header.continues_pending() {
         pending.clear();
     }
 }
 
 /// Whether the first element of a payload goes on from bytes that never came.
-fn has_orphan(header: u8, begun: &[u8]) -> bool
-    ensures { result ≡ (has_bit 128 header && not (is_begun begun.now)) }
+fn has_orphan(header: AggregationHeader, begun: &[u8]) -> bool
+    ensures { result ≡ (has_bit 128 header.byte && not (is_begun begun.now)) }
 {
-    header & 128 != 0 && begun.is_empty()
+    header.continues() && begun.is_empty()
 }
 
 /// Whether an element under a W of `w` can be taken behind what was begun and before these bytes: it is dropped, it goes on
@@ -210,13 +208,13 @@ fn can_be_taken(
 
 /// Whether a depacketizer that holds these bytes can take the payload of an aggregation header and the bytes behind it. It
 /// takes no memory.
-fn is_readable(pending: &[u8], header: u8, bytes: &[u8]) -> bool
-    ensures { result ≡ is_some (received pending.now (header ∷ bytes.now)) }
+fn is_readable(pending: &[u8], header: AggregationHeader, bytes: &[u8]) -> bool
+    ensures { result ≡ is_some (received pending.now (header.byte ∷ bytes.now)) }
 {
-    let may_go_on = header & 64 != 0;
+    let may_go_on = header.goes_on();
     let mut begun = begun_of(header, pending);
     let mut is_orphan = has_orphan(header, begun);
-    let mut w = (header & 0x30) / 16;
+    let mut w = header.count();
     let mut rest = bytes;
     while !rest.is_empty() {
         let Some((element, after)) = next_element(w, rest) else {
@@ -309,16 +307,16 @@ fn stays_open(is_orphan: bool, may_go_on: bool, w: u8, rest: &[u8]) -> bool
 fn take_elements(
     pending: &mut Pending,
     out: &mut Vec<u8>,
-    header: u8,
+    header: AggregationHeader,
     bytes: &[u8],
 ) -> Result<(), PacketError>
-    requires { begun_at header pending.old ≡ pending.old }
-    ensures taken { Takes result out.old.items out.new.items pending.new (received pending.old (header ∷ bytes.now)) }
+    requires { begun_at header.byte pending.old ≡ pending.old }
+    ensures taken { Takes result out.old.items out.new.items pending.new (received pending.old (header.byte ∷ bytes.now)) }
     ensures kept { take (length out.old.items) out.new.items ≡ out.old.items }
 {
-    let may_go_on = header & 64 != 0;
+    let may_go_on = header.goes_on();
     let mut is_orphan = has_orphan(header, pending.as_slice());
-    let mut w = (header & 0x30) / 16;
+    let mut w = header.count();
     let mut rest = bytes;
     while !rest.is_empty() {
         let Some((element, after)) = next_element(w, rest) else {

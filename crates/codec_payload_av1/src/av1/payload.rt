@@ -1,13 +1,10 @@
-//! What is read of a payload (RTP Payload Format for AV1, section 4.4).
+//! AV1: what is read of a payload (RTP Payload Format for AV1, section 4.4; docs/FORMATS.md, "AV1").
 
 ghost use Rattle.std.specs.Prelude.{◌≡◌};
 ghost use Rattle.codec_payload_base.specs.Answers.{Finds};
 ghost use Rattle.codec_payload_av1.specs.Av1Payload.{element_at, next_at, w_after};
 
 use crate::av1::leb::number_at;
-
-/// The aggregation header of a payload inside an OBU: one element that goes on from the payload before, Z, and in the next, Y.
-pub const INNER_HEADER: u8 = 0xd0;
 
 /// The element behind its length at the front, and what follows it. `None` where the length is unreadable, 0 or past the
 /// end.

@@ -1,4 +1,4 @@
-//! What is pending of an OBU between packets.
+//! AV1: what is pending of an OBU between packets (docs/FORMATS.md, "AV1").
 
 ghost use Rattle.std.specs.Prelude.{◌≡◌, ◌≤◌, ℕ, List, [], true, false, Some, length, take, drop, ◌++◌, OnOk, IfOk};
 ghost use Rattle.codec_payload_av1.specs.Av1Receiving.{unit_of};

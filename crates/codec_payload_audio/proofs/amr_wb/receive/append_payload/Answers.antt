@@ -9,7 +9,8 @@ pub returns-clause-ok : goal.returns-clause-ok
 returns-clause-ok c =
     let (es, read) = c.requires.speech in
     appended_ok c.args.octet_align c.args.packet.now c.args.contents.toc c.requires.some c.requires.toc es (left c.args.contents.speech) read
-    c.requires.received.0 c.args.out.now.items c.append_frames.new.out.items (left c.append_frames.new.speech) c.append_frames.result c.requires.received.1 (rw c.in_ok-reserve.ensures.items at c.append_frames.ensures.ok)
+    c.requires.received.0 c.args.out.now.items c.append_frames.new.out.items (left c.append_frames.new.speech) c.append_frames.result c.requires.received.1
+    (rw c.in_ok-reserve.ensures.items at c.append_frames.ensures.ok)
 
 pub returns-clause-err : goal.returns-clause-err
 returns-clause-err c =

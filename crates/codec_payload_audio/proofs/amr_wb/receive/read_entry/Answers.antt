@@ -16,10 +16,12 @@ returns-in_err-bits-2-clause-read c =
 pub returns-in_ok-bits-clause-read : goal.returns-in_ok-bits-clause-read
 returns-in_ok-bits-clause-read c =
     let most : 8 ≤ 8 = omega arith in
-    rw c.if-octet_align.true (reads_eight c.args.reader.now c.get_bits.new.self c.in_ok-bits.bits c.from_bits.result (c.in_ok-bits.ensures.few most) c.from_bits.ensures.follows c.from_bits.ensures.frame_type c.from_bits.ensures.quality)
+    rw c.if-octet_align.true (reads_eight c.args.reader.now c.get_bits.new.self c.in_ok-bits.bits c.from_bits.result
+    (c.in_ok-bits.ensures.few most) c.from_bits.ensures.follows c.from_bits.ensures.frame_type c.from_bits.ensures.quality)
 
 pub returns-in_ok-bits-2-clause-read : goal.returns-in_ok-bits-2-clause-read
 returns-in_ok-bits-2-clause-read c =
     let most : 6 ≤ 8 = omega arith in
     let f = c.from_bits-else-octet_align.ensures in
-    rw c.if-octet_align.false (reads_six c.args.reader.now c.get_bits-else-octet_align.new.self c.in_ok-bits-2.bits c.from_bits-else-octet_align.result (c.in_ok-bits-2.ensures.few most) f.follows f.frame_type f.quality)
+    rw c.if-octet_align.false (reads_six c.args.reader.now c.get_bits-else-octet_align.new.self c.in_ok-bits-2.bits c.from_bits-else-octet_align.result
+    (c.in_ok-bits-2.ensures.few most) f.follows f.frame_type f.quality)

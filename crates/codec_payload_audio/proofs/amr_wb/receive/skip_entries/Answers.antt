@@ -9,7 +9,8 @@ pub returns-in_err-entry-clause-read : goal.returns-in_err-entry-clause-read
 returns-in_err-entry-clause-read c =
     let p = err_from_is_err_and c.from_residual.result c.from_residual.ensures.1 in
     rw (p.1, p.2)
-    (entry_missing c.args.octet_align (left c.args.reader.now) (left c.loop-entry.reader) (left c.read_entry.new.reader) c.read_entry.result c.in_err-entry.field-0.0 c.loop-entry.invariant.read c.read_entry.ensures.read c.in_err-entry.ensures.value)
+    (entry_missing c.args.octet_align (left c.args.reader.now) (left c.loop-entry.reader)
+    (left c.read_entry.new.reader) c.read_entry.result c.in_err-entry.field-0.0 c.loop-entry.invariant.read c.read_entry.ensures.read c.in_err-entry.ensures.value)
 
 pub loop-entry-preserved : goal.loop-entry-preserved
 loop-entry-preserved c =

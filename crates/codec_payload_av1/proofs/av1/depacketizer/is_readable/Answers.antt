@@ -18,20 +18,22 @@ goes_on false b e = absurd cc
 pub loop-begun-init : goal.loop-begun-init
 loop-begun-init c =
     record {
-      so_far = rw (c.has_orphan-is_orphan.ensures, c.begun_of-begun.ensures) (taken_first c.args.pending.now c.args.header c.args.bytes.now);
-      lost = λ is. orphan_lost (has_bit 128 c.args.header) c.begun_of-begun.result.now (sym c.has_orphan-is_orphan.ensures ∙ is);
+      so_far = rw (c.goes_on-may_go_on.ensures, c.count-w.ensures, c.has_orphan-is_orphan.ensures, c.begun_of-begun.ensures) (taken_first c.args.pending.now c.args.header.byte c.args.bytes.now);
+      lost = λ is. orphan_lost (has_bit 128 c.args.header.byte) c.begun_of-begun.result.now (sym c.has_orphan-is_orphan.ensures ∙ is);
     }
 
 pub returns-in_default : goal.returns-in_default
 returns-in_default c =
     let some : 0 < length c.loop-begun.rest.now = grind (arith, common_steps) in
-    sym (taken_none (has_bit 64 c.args.header) c.loop-begun.is_orphan c.loop-begun.begun.now c.loop-begun.w c.loop-begun.rest.now some c.in_default.ensures) ∙ c.loop-begun.invariant.so_far
+    sym (taken_none c.goes_on-may_go_on.result c.loop-begun.is_orphan c.loop-begun.begun.now c.loop-begun.w c.loop-begun.rest.now some c.in_default.ensures) ∙ c.loop-begun.invariant.so_far
 
 pub returns-then-not-can_be_taken : goal.returns-then-not-can_be_taken
 returns-then-not-can_be_taken c =
     let some : 0 < length c.loop-begun.rest.now = grind (arith, common_steps) in
-    refused (can_take c.loop-begun.is_orphan (has_bit 64 c.args.header) c.loop-begun.w c.loop-begun.begun.now c.in-Some.element.now c.in-Some.after.now) (are_taken (has_bit 64 c.args.header) false [] (w_after c.loop-begun.w) (elements_at (w_after c.loop-begun.w) c.in-Some.after.now)) (search rules)
-    ∙ sym (taken_next (has_bit 64 c.args.header) c.loop-begun.is_orphan c.loop-begun.begun.now c.loop-begun.w c.loop-begun.rest.now c.in-Some.element.now c.in-Some.after.now some c.in-Some.ensures c.loop-begun.invariant.lost)
+    refused (can_take c.loop-begun.is_orphan c.goes_on-may_go_on.result c.loop-begun.w c.loop-begun.begun.now c.in-Some.element.now c.in-Some.after.now)
+    (are_taken c.goes_on-may_go_on.result false [] (w_after c.loop-begun.w) (elements_at (w_after c.loop-begun.w) c.in-Some.after.now)) (search rules)
+    ∙ sym (taken_next c.goes_on-may_go_on.result c.loop-begun.is_orphan c.loop-begun.begun.now c.loop-begun.w c.loop-begun.rest.now c.in-Some.element.now
+    c.in-Some.after.now some c.in-Some.ensures c.loop-begun.invariant.lost)
     ∙ c.loop-begun.invariant.so_far
 
 pub loop-begun-smaller : goal.loop-begun-smaller
@@ -44,8 +46,10 @@ loop-begun-preserved c =
     let some : 0 < length c.loop-begun.rest.now = grind (arith, common_steps) in
     record {
       so_far = rw c.w_after_one-w.ensures
-          (goes_on (can_take c.loop-begun.is_orphan (has_bit 64 c.args.header) c.loop-begun.w c.loop-begun.begun.now c.in-Some.element.now c.in-Some.after.now) (are_taken (has_bit 64 c.args.header) false [] (w_after c.loop-begun.w) (elements_at (w_after c.loop-begun.w) c.in-Some.after.now)) (search rules)
-          ∙ sym (taken_next (has_bit 64 c.args.header) c.loop-begun.is_orphan c.loop-begun.begun.now c.loop-begun.w c.loop-begun.rest.now c.in-Some.element.now c.in-Some.after.now some c.in-Some.ensures c.loop-begun.invariant.lost)
+          (goes_on (can_take c.loop-begun.is_orphan c.goes_on-may_go_on.result c.loop-begun.w c.loop-begun.begun.now c.in-Some.element.now c.in-Some.after.now)
+          (are_taken c.goes_on-may_go_on.result false [] (w_after c.loop-begun.w) (elements_at (w_after c.loop-begun.w) c.in-Some.after.now)) (search rules)
+          ∙ sym (taken_next c.goes_on-may_go_on.result c.loop-begun.is_orphan c.loop-begun.begun.now c.loop-begun.w c.loop-begun.rest.now c.in-Some.element.now
+          c.in-Some.after.now some c.in-Some.ensures c.loop-begun.invariant.lost)
           ∙ c.loop-begun.invariant.so_far);
       lost = λ _. refl;
     }
@@ -53,4 +57,4 @@ loop-begun-preserved c =
 pub returns : goal.returns
 returns c =
     let none : length c.loop-begun.rest.now ≡ 0 = grind (arith, common_steps) in
-    sym (taken_end (has_bit 64 c.args.header) c.loop-begun.is_orphan c.loop-begun.begun.now c.loop-begun.w c.loop-begun.rest.now none) ∙ c.loop-begun.invariant.so_far
+    sym (taken_end c.goes_on-may_go_on.result c.loop-begun.is_orphan c.loop-begun.begun.now c.loop-begun.w c.loop-begun.rest.now none) ∙ c.loop-begun.invariant.so_far

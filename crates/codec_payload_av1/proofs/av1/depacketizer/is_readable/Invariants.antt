@@ -7,7 +7,7 @@ use Rattle.codec_payload_av1.proofs.av1.depacketizer.is_readable.Given as goal
 
 abbrev pub invariant-loop-begun : goal.invariant-loop-begun
 invariant-loop-begun l = record {
-  so_far : are_taken l.may_go_on l.is_orphan l.begun l.w (elements_at l.w l.rest) ≡ is_some (received l.pending (l.header ∷ l.bytes));
+  so_far : are_taken l.may_go_on l.is_orphan l.begun l.w (elements_at l.w l.rest) ≡ is_some (received l.pending (l.fn.header.byte ∷ l.bytes));
   lost : l.is_orphan ≡ true → l.begun ≡ [];
 }
 

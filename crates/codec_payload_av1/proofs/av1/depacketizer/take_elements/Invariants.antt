@@ -7,7 +7,7 @@ use Rattle.codec_payload_av1.proofs.av1.depacketizer.take_elements.Given as goal
 
 abbrev pub invariant-loop-rest : goal.invariant-loop-rest
 invariant-loop-rest l = record {
-  so_far : after l.out.items (takes l.may_go_on l.is_orphan l.pending l.w (elements_at l.w l.rest)) ≡ after l.fn.out.items (received l.fn.pending (l.header ∷ l.bytes));
+  so_far : after l.out.items (takes l.may_go_on l.is_orphan l.pending l.w (elements_at l.w l.rest)) ≡ after l.fn.out.items (received l.fn.pending (l.fn.header.byte ∷ l.bytes));
   lost : l.is_orphan ≡ true → l.pending ≡ [];
   kept : take (length l.fn.out.items) l.out.items ≡ l.fn.out.items;
 }

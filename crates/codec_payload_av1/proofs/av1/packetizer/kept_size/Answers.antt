@@ -24,7 +24,8 @@ pub loop-rest-preserved : goal.loop-rest-preserved
 loop-rest-preserved c =
     let some : 0 < length c.loop-rest.rest.now = grind (arith, common_steps) in
     record {
-      so_far = subst (λ (m : ℕ). option_map (λ os. c.loop-rest.size + m + bytes_sent os) (frame_kept c.in-Some.after.now) ≡ option_map bytes_sent (frame_kept c.args.frame.now)) (sym c.size_where_kept-size.ensures)
+      so_far = subst (λ (m : ℕ). option_map (λ os. c.loop-rest.size + m + bytes_sent os) (frame_kept c.in-Some.after.now) ≡ option_map bytes_sent
+          (frame_kept c.args.frame.now)) (sym c.size_where_kept-size.ensures)
           (count_goes_on c.loop-rest.size c.loop-rest.rest.now c.in-Some.after.now (view c.in-Some.obu) _ some c.in-Some.ensures c.loop-rest.invariant.so_far);
       few = omega (arith, c.size_where_kept-size.ensures, sent_and_rest c.loop-rest.rest.now c.in-Some.after.now (view c.in-Some.obu) c.in-Some.ensures);
     }

@@ -36,7 +36,8 @@ fits c = rw (← c.self.view_is) at c.requires
 fits_left : (c : In_ok-push) → c.self.inside.deferred_length + c.if-len-lt3.now.0 + c.len-len.result ≤ c.self.inside.left
 fits_left c =
     let es = c.self.inside.elements.items in
-    let h = has_room leb_len (lengths (pieces_of es)) c.self.inside.mtu c.self.inside.left c.self.inside.deferred_length c.self.invariant.0 c.self.invariant.1 (length (piece_bytes c.args.element.now)) (fits c) in
+    let h = has_room leb_len (lengths (pieces_of es)) c.self.inside.mtu c.self.inside.left c.self.inside.deferred_length c.self.invariant.0 c.self.invariant.1
+    (length (piece_bytes c.args.element.now)) (fits c) in
     omega (arith, h, (both c).0, c.len-len.ensures)
 
 pub overflow_sub-self : goal.overflow_sub-self
@@ -53,6 +54,8 @@ invariant_of-self-2 c =
     let es = c.self.inside.elements.items in
     let n = length (piece_bytes c.args.element.now) in
     let pushed : lengths (pieces_of c.push.new.self.items) ≡ lengths (pieces_of es) ++ n ∷ [] =
-    ap (λ (vs : List Piece). lengths (pieces_of vs)) c.in_ok-push.ensures.ok ∙ ap lengths (map_push piece_bytes es c.args.element.now) ∙ map_push (length {A = ℕ}) (pieces_of es) (piece_bytes c.args.element.now) in
-    let h = less_left leb_len (lengths (pieces_of es)) c.self.inside.mtu c.self.inside.left c.self.inside.deferred_length c.self.invariant.0 c.self.invariant.1 n (fits (goal.at.invariant_of-self-2 c).In_ok-push) in
+    ap (λ (vs : List Piece). lengths (pieces_of vs)) c.in_ok-push.ensures.ok ∙ ap lengths (map_push piece_bytes es c.args.element.now)
+    ∙ map_push (length {A = ℕ}) (pieces_of es) (piece_bytes c.args.element.now) in
+    let h = less_left leb_len (lengths (pieces_of es)) c.self.inside.mtu c.self.inside.left c.self.inside.deferred_length c.self.invariant.0 c.self.invariant.1 n
+    (fits (goal.at.invariant_of-self-2 c).In_ok-push) in
     rw pushed (omega (arith, h, (both (goal.at.invariant_of-self-2 c).In_ok-push).0, c.len-len.ensures), (both (goal.at.invariant_of-self-2 c).In_ok-push).1)

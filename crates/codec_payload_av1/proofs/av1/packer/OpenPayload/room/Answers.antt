@@ -10,11 +10,13 @@ returns-else-len-lt3-clause-fits c =
     let es = c.self.inside.elements.items in
     let many : 3 ≤ length (lengths (pieces_of es)) = omega (arith, c.len.ensures, length-map (pieces_of es) (length {A = ℕ}), length-map es piece_bytes) in
     rw (← c.self.view_is)
-    (λ some. many_fit leb_len (lengths (pieces_of es)) c.self.inside.mtu c.self.inside.left c.self.inside.deferred_length c.self.invariant.0 c.self.invariant.1 c.longest.result many (λ more. omega (arith, c.longest.ensures.fits more)) some)
+    (λ some. many_fit leb_len (lengths (pieces_of es)) c.self.inside.mtu c.self.inside.left c.self.inside.deferred_length c.self.invariant.0 c.self.invariant.1
+    c.longest.result many (λ more. omega (arith, c.longest.ensures.fits more)) some)
 
 pub returns-else-len-lt3-clause-most : goal.returns-else-len-lt3-clause-most
 returns-else-len-lt3-clause-most c =
     let es = c.self.inside.elements.items in
     let many : 3 ≤ length (lengths (pieces_of es)) = omega (arith, c.len.ensures, length-map (pieces_of es) (length {A = ℕ}), length-map es piece_bytes) in
     rw (← c.self.view_is)
-    (many_most leb_len (lengths (pieces_of es)) c.self.inside.mtu c.self.inside.left c.self.inside.deferred_length c.self.invariant.0 c.self.invariant.1 c.longest.result many (omega (arith, c.longest.ensures.most)))
+    (many_most leb_len (lengths (pieces_of es)) c.self.inside.mtu c.self.inside.left c.self.inside.deferred_length c.self.invariant.0 c.self.invariant.1
+    c.longest.result many (omega (arith, c.longest.ensures.most)))

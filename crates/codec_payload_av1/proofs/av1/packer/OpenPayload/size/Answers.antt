@@ -9,4 +9,6 @@ size_is : (p : Payload) (mtu left : ℕ) → left + packet_size leb_len (lengths
 size_is p mtu left filled = omega (arith, length_written p, filled)
 
 pub returns : goal.returns
-returns c = rw (← c.self.view_is) (λ continues goes_on starts. size_is (record { continues = continues; goes_on = goes_on; starts = starts; elements = pieces_of c.self.inside.elements.items }) c.self.inside.mtu c.self.inside.left c.self.invariant.0)
+returns c = rw (← c.self.view_is) (λ continues goes_on starts. size_is
+    (record { continues = continues; goes_on = goes_on; starts = starts; elements = pieces_of c.self.inside.elements.items }) c.self.inside.mtu c.self.inside.left
+    c.self.invariant.0)
