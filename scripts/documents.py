@@ -159,7 +159,7 @@ def links(pages):
 def named_pages():
     """Pages, and headings of them, that are named in the text of any file."""
     for name in files(".md", ".py", ".sh", ".c", ".h", ".rs", ".rt", ".antt", "Makefile"):
-        text = read(name)
+        text = re.sub(r"\n *(//[/!]|--|#|\*) ", " ", read(name))  # a comment's lines are one text
         for path in set(re.findall(r"\bdocs/[A-Z_]+\.md\b", text)):
             if not os.path.exists(f"{ROOT}/{path}"):
                 yield f"{name}: names {path}, which is not there"
