@@ -1,5 +1,5 @@
-//! The worked examples of the buffer, of payloaders and of whole runs, the programs of docs/RATTLE.md, and hostile input, as tests
-//! over `codec_payload_core` alone: the test of a file of the sources stands in the file of that name.
+//! The worked examples of the buffer, of payloaders and of whole runs, the programs of docs/RATTLE.md, and hostile input, as
+//! tests over `codec_payload_core` alone: the test of a file of the sources stands in the file of that name.
 #![tactic(auto)]
 
 #[cfg(test)]
