@@ -38,9 +38,9 @@ const TYPE_8_BANDWIDTH_EFFICIENT: [u8; 61] = [
     0x69, 0x69, 0x69, 0x69, 0x69, 0x69, 0x69, 0x69, 0x69, 0x69, 0x69, 0x69, 0x68,
 ];
 
-/// A frame is its header, F FT Q and two zeros, and its speech bits. A payload (RFC 4867, sections 4.3 and 4.4) begins with CMR 15: in
-/// the octet-aligned layout the byte f0, the header, and the speech as it is; in the bandwidth-efficient one 1111 and then all bits
-/// without filling.
+/// A frame is its header, F FT Q and two zeros, and its speech bits. A payload (RFC 4867, sections 4.3 and 4.4) begins with
+/// CMR 15: in the octet-aligned layout the byte f0, the header, and the speech as it is; in the bandwidth-efficient one 1111
+/// and then all bits without filling.
 static SENT: [SentRow; 9] = [
     SentRow {
         name: "amr-wb-type-14-sent, octet-aligned",

@@ -25,8 +25,9 @@ struct SentRow {
     frame: Frame,
 }
 
-/// A frame is OBUs with their sizes. A packet is the byte Z Y W W N (version 1.0.0 of AV1's RTP format, section 4.4) and elements, which
-/// are OBUs without sizes or pieces of these; each has its length in front, but for the last where W counts the elements.
+/// A frame is OBUs with their sizes. A packet is the byte Z Y W W N (version 1.0.0 of AV1's RTP format, section 4.4) and
+/// elements, which are OBUs without sizes or pieces of these; each has its length in front, but for the last where W counts
+/// the elements.
 static SENT: [SentRow; 10] = [
     SentRow {
         name: "av1-two-obus-mtu-1200",
@@ -149,7 +150,8 @@ struct FilledRow {
     lengths: [usize; 2],
 }
 
-/// Frames are OBUs of metadata without bytes and an OBU of a frame, which is long; packets cut that OBU where the MTU is reached.
+/// Frames are OBUs of metadata without bytes and an OBU of a frame, which is long; packets cut that OBU where the MTU is
+/// reached.
 const FILLED: [FilledRow; 4] = [
     FilledRow {
         name: "av1-largest-fragment-mtu-136",

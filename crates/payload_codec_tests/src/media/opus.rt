@@ -19,8 +19,8 @@ struct OpusRow {
     found: Result<(OpusMode, OpusBandwidth, u8, u8, u32), MediaError>,
 }
 
-/// The first byte is the table of contents; behind it come the count of frames with code 3, the lengths of padding and of frames
-/// (RFC 6716, section 3).
+/// The first byte is the table of contents; behind it come the count of frames with code 3, the lengths of padding and of
+/// frames (RFC 6716, section 3).
 static OPUS: [OpusRow; 14] = [
     OpusRow {
         name: "opus-20-ms",
@@ -144,9 +144,10 @@ fn opus_each_byte_alone(rt: HostRuntime) {
     }
 }
 
-/// How many strings of two bytes are packets, counted by the rules of RFC 6716, section 3.2, for each of the 64 first bytes of a code:
-/// all 256 of code 0; none of code 1, whose frames are of one length; that of a first frame of no bytes of code 2; of code 3
-/// without padding each count of at most 120 ms, and one frame of told length. The 32 configurations have 497 of these.
+/// How many strings of two bytes are packets, counted by the rules of RFC 6716, section 3.2, for each of the 64 first bytes
+/// of a code: all 256 of code 0; none of code 1, whose frames are of one length; that of a first frame of no bytes of code 2;
+/// of code 3 without padding each count of at most 120 ms, and one frame of told length. The 32 configurations have 497 of
+/// these.
 #[test]
 fn opus_each_two_bytes(rt: HostRuntime) {
     let mut packets = 0;

@@ -28,8 +28,8 @@ struct SentRow {
     payloads: &'static [Payload],
 }
 
-/// What a sender makes is, for each block, a byte of F and the type and 14 bits of offset and 10 of length, without these two for the
-/// primary block, which is the last (RFC 2198, section 3); then the bytes of all blocks.
+/// What a sender makes is, for each block, a byte of F and the type and 14 bits of offset and 10 of length, without these two
+/// for the primary block, which is the last (RFC 2198, section 3); then the bytes of all blocks.
 const SENT: [SentRow; 3] = [
     SentRow {
         name: "red-unwrapped-is-recorded",

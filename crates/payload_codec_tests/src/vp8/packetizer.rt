@@ -15,9 +15,9 @@ struct SentRow {
     frames: &'static [Frame],
 }
 
-/// A frame that begins with 0x90 is a keyframe, one with 0x91 an interframe. A packet is a descriptor (RFC 7741, section 4.2) and then
-/// bytes of its frame. The descriptor is the byte X R N S R PID; where ids are sent X is set, and then come I L T K, with I alone, and
-/// the id in one byte, or in two with the highest bit set.
+/// A frame that begins with 0x90 is a keyframe, one with 0x91 an interframe. A packet is a descriptor (RFC 7741, section 4.2)
+/// and then bytes of its frame. The descriptor is the byte X R N S R PID; where ids are sent X is set, and then come I L T K,
+/// with I alone, and the id in one byte, or in two with the highest bit set.
 static SENT: [SentRow; 8] = [
     SentRow {
         name: "vp8-no-ids-three-packets",

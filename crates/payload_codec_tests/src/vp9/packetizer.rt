@@ -15,10 +15,10 @@ struct SentRow {
     frames: &'static [Frame],
 }
 
-/// A frame that begins with 0x82 is a keyframe of profile 0, one with 0x86 an interframe; 0x92 and 0x96 begin those of profile 2. A
-/// packet is a descriptor (RFC 9628, section 4.2) and then bytes of its frame. The descriptor is the byte I P L F B E V Z and the id in
-/// two bytes; in the non-flexible mode also TID U SID D with U alone, TL0PICIDX, and, in the first packet of a keyframe, a structure of
-/// one layer without sizes and groups.
+/// A frame that begins with 0x82 is a keyframe of profile 0, one with 0x86 an interframe; 0x92 and 0x96 begin those of
+/// profile 2. A packet is a descriptor (RFC 9628, section 4.2) and then bytes of its frame. The descriptor is the byte I P L
+/// F B E V Z and the id in two bytes; in the non-flexible mode also TID U SID D with U alone, TL0PICIDX, and, in the first
+/// packet of a keyframe, a structure of one layer without sizes and groups.
 static SENT: [SentRow; 6] = [
     SentRow {
         name: "vp9-nonflex-two-packets",

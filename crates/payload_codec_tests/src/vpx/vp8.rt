@@ -16,8 +16,8 @@ struct Vp8Row {
     found: Result<Vp8FrameHeader, MediaError>,
 }
 
-/// A header is the frame tag in three bytes and, of a keyframe, the start code 9d 01 2a, the width and the height with their scales
-/// (RFC 6386, section 9.1).
+/// A header is the frame tag in three bytes and, of a keyframe, the start code 9d 01 2a, the width and the height with their
+/// scales (RFC 6386, section 9.1).
 static VP8: [Vp8Row; 6] = [
     Vp8Row {
         name: "vp8-keyframe-64x48",

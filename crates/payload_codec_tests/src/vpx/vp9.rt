@@ -60,8 +60,8 @@ fn header_of(told: Vp9Told) -> Vp9FrameHeader {
     }
 }
 
-/// A header is the frame marker, the profile and the kind, and, of a keyframe, the sync code 49 83 42, the color and the size (VP9
-/// Bitstream Specification, section 6.2).
+/// A header is the frame marker, the profile and the kind, and, of a keyframe, the sync code 49 83 42, the color and the size
+/// (VP9 Bitstream Specification, section 6.2).
 static VP9: [Vp9Row; 12] = [
     Vp9Row {
         name: "vp9-keyframe-64x48",

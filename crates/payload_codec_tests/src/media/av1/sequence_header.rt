@@ -5,8 +5,8 @@ use codec_payload_media::av1::sequence_header::Av1SequenceHeader;
 use codec_payload_media::error::MediaError;
 use std::process::Abort;
 
-/// A sequence header OBU's payload, and what is told of it: the profile, the bit depth, the subsampling in both directions, and the
-/// largest width and height.
+/// A sequence header OBU's payload, and what is told of it: the profile, the bit depth, the subsampling in both directions,
+/// and the largest width and height.
 struct Av1Row {
     name: &'static str,
     payload: &'static [u8],

@@ -15,7 +15,8 @@ struct UnitRow {
     begins: Result<bool, MediaError>,
 }
 
-/// Each OBU is a header, a size and that many bytes: 0a begins a sequence header, 32 a frame, 1a a frame header, and 2a metadata.
+/// Each OBU is a header, a size and that many bytes: 0a begins a sequence header, 32 a frame, 1a a frame header, and 2a
+/// metadata.
 static UNITS: [UnitRow; 9] = [
     UnitRow {
         name: "unit-cut-header-fault",
