@@ -1,6 +1,9 @@
-//! The worked examples of the parts, of the codecs and of RED, as tests over what these crates make public.
+//! The worked examples of the parts, of the codecs and of RED, as tests over what these crates make public: the test of a file
+//! of the sources stands in the file of that name.
 #![tactic(auto)]
 
+#[cfg(test)]
+mod asserts;
 #[cfg(test)]
 mod audio;
 #[cfg(test)]
@@ -10,16 +13,12 @@ mod base;
 #[cfg(test)]
 mod media;
 #[cfg(test)]
-mod media_av1;
-#[cfg(test)]
 mod red;
 #[cfg(test)]
 mod tables;
 #[cfg(test)]
 mod vp8;
 #[cfg(test)]
-mod vp8_table;
-#[cfg(test)]
 mod vp9;
 #[cfg(test)]
-mod vp9_table;
+mod vpx;

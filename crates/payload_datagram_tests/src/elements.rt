@@ -64,6 +64,8 @@ struct Ended {
     cut: bool,
 }
 
+/// In the one-byte form an element is a byte of its id and its length less one, and its bytes; in the two-byte form a byte of
+/// its id, one of its length, and its bytes (RFC 8285, sections 4.2 and 4.3).
 const ENDED: [Ended; 7] = [
     Ended {
         name: "padding-alone",

@@ -1,43 +1,37 @@
-//! Assertions, each proved once for all tests.
+//! Assertions, each proved once for all tests. Each names the example that it fails in.
 
-use std::alloc::Global;
-use std::fmt::{Debug, Display};
+use std::alloc::{AllocError, Global};
+use std::fmt::Debug;
 use std::process::Abort;
-use std::test::Fail;
 
-/// Ends the test unless what came is what is wanted there.
-pub(super) fn assert_same<T: Debug + PartialEq>(
-    rt: &impl Abort,
-    place: impl Display + Drop,
-    got: &T,
-    wanted: &T,
-) {
-    assert_eq!(rt; got, wanted, "in {place}");
+/// What is found is what is wanted, in the example of that name.
+pub fn assert_same<T: Debug + PartialEq>(rt: &impl Abort, name: &str, found: &T, wanted: &T) {
+    assert_eq!(rt; *found, *wanted, "in {name}");
 }
 
-/// Ends the test unless these bytes came there.
-pub(super) fn assert_bytes(rt: &impl Abort, place: impl Display + Drop, got: &[u8], wanted: &[u8]) {
-    assert_eq!(rt; got, wanted, "in {place}");
+/// The bytes that are found are those that are wanted, in the example of that name.
+pub fn assert_bytes(rt: &impl Abort, name: &str, found: &[u8], wanted: &[u8]) {
+    assert_eq!(rt; found, wanted, "in {name}");
 }
 
-/// Ends the test unless there are so many.
-pub(super) fn assert_count(rt: &impl Abort, place: impl Display + Drop, got: usize, wanted: usize) {
-    assert_eq!(rt; got, wanted, "in {place}");
+/// As many are found as are wanted, in the example of that name.
+pub fn assert_count(rt: &impl Abort, name: &str, found: usize, wanted: usize) {
+    assert_eq!(rt; found, wanted, "in {name}");
 }
 
-/// Ends the test unless it holds.
-pub(super) fn assert_holds(rt: &impl Abort, place: impl Display + Drop, holds: bool) {
-    assert!(rt; holds, "assertion failed: in {place}");
+/// It holds, in the example of that name.
+pub fn assert_holds(rt: &impl Abort, name: &str, holds: bool) {
+    assert!(rt; holds, "assertion failed: in {name}");
 }
 
-/// Ends the test unless `Debug` shows a value so.
-pub(super) fn assert_shown(
+/// A value is shown as this text, which names its fields.
+pub fn assert_shown<T: Debug>(
     rt: &impl Abort,
     alloc: Global,
-    value: &impl Debug,
-    wanted: &str,
-) -> Result<(), Fail> {
+    value: &T,
+    text: &str,
+) -> Result<(), AllocError> {
     let shown = format!(in alloc; "{value:?}")?;
-    assert_eq!(rt; shown.as_str(), wanted);
+    assert_eq!(rt; shown.as_str(), text);
     Ok(())
 }

@@ -15,9 +15,7 @@ use codec_payload_core::codec::{
 use codec_payload_core::error::PacketError;
 use codec_payload_core::payload::{MemorySink, Payloader};
 use codec_payload_core::schedule::Step;
-use codec_payload_core::wire::{
-    ExtensionValues, Frequency, MediaTime, Pt, RtpHeader, SeqNo, Ticks,
-};
+use codec_payload_core::wire::{Frequency, MediaTime, Pt, SeqNo, Ticks};
 use std::alloc::{AllocError, Global};
 use std::test::Fail;
 
@@ -146,20 +144,8 @@ impl Depacketizer for EachPacket {
 }
 
 fn meta(number: u64) -> RtpMeta {
-    RtpMeta {
-        received: Ticks(0),
-        time: MediaTime::new(number, Frequency::FORTY_EIGHT_KHZ),
-        seq_no: SeqNo(number),
-        header: RtpHeader {
-            payload_type: Pt::new_with_value(96),
-            sequence_number: (number % 65_536) as u16,
-            timestamp: (number % 4_294_967_296) as u32,
-            ssrc: 0,
-            marker: false,
-            ext_vals: ExtensionValues::default(),
-        },
-        last_sender_info: None,
-    }
+    let time = MediaTime::new(number, Frequency::FORTY_EIGHT_KHZ);
+    RtpMeta::of(SeqNo(number), time, Pt::new_with_value(96), Ticks(0))
 }
 
 /// What a payloader over that box sends of frames at an MTU.
@@ -347,7 +333,8 @@ fn debug_of_boxed_packetizers(rt: HostRuntime) -> Result<(), Fail> {
     let alloc = rt.alloc();
     let sends = BoxedPacketizer(Box::new(alloc, EachByte {})?);
     assert_shown(&rt, alloc, &sends, "BoxedPacketizer")?;
-    assert_shown(&rt, alloc, &CodecPacketizer::Boxed(sends), "Boxed")
+    assert_shown(&rt, alloc, &CodecPacketizer::Boxed(sends), "Boxed")?;
+    Ok(())
 }
 
 #[test]
@@ -359,5 +346,6 @@ fn debug_of_boxed_depacketizers(rt: HostRuntime) -> Result<(), Fail> {
     };
     let reads = BoxedDepacketizer(Box::new(alloc, each_packet)?);
     assert_shown(&rt, alloc, &reads, "BoxedDepacketizer")?;
-    assert_shown(&rt, alloc, &CodecDepacketizer::Boxed(reads), "Boxed")
+    assert_shown(&rt, alloc, &CodecDepacketizer::Boxed(reads), "Boxed")?;
+    Ok(())
 }

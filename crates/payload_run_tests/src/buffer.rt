@@ -1,42 +1,27 @@
 //! The rules of the buffer, in worked examples.
 
-mod plain_search;
 mod rows;
+mod search;
+mod unit;
 
 use crate::asserts::{assert_bytes, assert_count, assert_same};
+use crate::buffer::rows::{Packet, STEPS, Step, StepsRow, Unit};
 use crate::library::{buffer_of, depacketizer_of, pop_unit, push};
 use codec_payload_core::buffer::{Depacketized, DepacketizingBuffer, RtpMeta};
 use codec_payload_core::codec::CodecExtra;
 use codec_payload_core::error::PacketError;
-use codec_payload_core::wire::{
-    AbsCaptureTime, Codec, ExtensionValues, Frequency, MediaTime, Pt, RtpHeader, SenderInfo, SeqNo,
-    Ticks, VideoLayersAllocation,
-};
-use rows::{Packet, STEPS, Step, StepsRow, Unit};
+use codec_payload_core::wire::{Codec, Frequency, MediaTime, Pt, SeqNo, Ticks};
 use std::alloc::Global;
-use std::fmt;
 use std::process::Abort;
 use std::test::Fail;
 
-fn meta(number: u64, time: u64) -> RtpMeta {
-    RtpMeta {
-        received: Ticks(0),
-        time: MediaTime::new(time, Frequency::FORTY_EIGHT_KHZ),
-        seq_no: SeqNo(number),
-        header: RtpHeader {
-            payload_type: Pt::new_with_value(96),
-            sequence_number: (number % 65_536) as u16,
-            timestamp: (time % 4_294_967_296) as u32,
-            ssrc: 0,
-            marker: false,
-            ext_vals: ExtensionValues::default(),
-        },
-        last_sender_info: None,
-    }
+pub fn meta(number: u64, time: u64) -> RtpMeta {
+    let time = MediaTime::new(time, Frequency::FORTY_EIGHT_KHZ);
+    RtpMeta::of(SeqNo(number), time, Pt::new_with_value(96), Ticks(0))
 }
 
 /// An empty buffer of a codec, with its own limit, which is 1 to 65,536.
-fn buffer_of_limit(
+pub fn buffer_of_limit(
     alloc: Global,
     codec: Codec,
     hold_back: usize,
@@ -100,20 +85,7 @@ fn push_packet(
     push(alloc, buffer, meta, packet.payload)
 }
 
-/// A step of a row.
-#[derive(Clone, Copy)]
-struct Place<'a> {
-    name: &'a str,
-    step: usize,
-}
-
-impl fmt::Display for Place<'_> {
-    fn fmt<W: fmt::Write>(&self, f: &mut fmt::Formatter<W>) -> fmt::Result {
-        write!(f, "step {} of {}", self.step, self.name)
-    }
-}
-
-fn assert_unit(rt: &impl Abort, place: Place<'_>, unit: &Depacketized, wanted: &Unit) {
+fn assert_unit(rt: &impl Abort, place: &str, unit: &Depacketized, wanted: &Unit) {
     assert_bytes(rt, place, &unit.bytes, wanted.bytes);
     let numbers = SeqNo(wanted.first)..=SeqNo(wanted.last);
     let wanted = (numbers, wanted.contiguous);
@@ -124,13 +96,13 @@ fn assert_step(
     rt: &impl Abort,
     alloc: Global,
     buffer: &mut DepacketizingBuffer,
-    place: Place<'_>,
+    place: &str,
     step: &Step,
 ) -> Result<(), Fail> {
     match step {
         Step::Push(packet) => push_packet(alloc, buffer, packet)?,
         Step::Pop(Some(wanted)) => {
-            let unit = pop_unit(buffer, place.name)?;
+            let unit = pop_unit(buffer, place)?;
             assert_unit(rt, place, &unit, wanted);
         }
         Step::Pop(None) => assert_same(rt, place, &pop(buffer)?, &None),
@@ -141,12 +113,11 @@ fn assert_step(
 }
 
 fn assert_steps(rt: &impl Abort, alloc: Global, row: &StepsRow) -> Result<(), Fail> {
-    let name = row.name;
     let mut buffer = buffer_of_limit(alloc, row.codec, row.hold_back, row.limit)?;
-    assert_count(rt, name, buffer.limit(), row.limit);
+    assert_count(rt, row.name, buffer.limit(), row.limit);
     for (place, step) in row.steps.iter().enumerate() {
-        let place = Place { name, step: place };
-        assert_step(rt, alloc, &mut buffer, place, step)?;
+        let place = format!(in alloc; "step {place} of {}", row.name)?;
+        assert_step(rt, alloc, &mut buffer, &place, step)?;
     }
     Ok(())
 }
@@ -195,56 +166,6 @@ fn units_are_what_came_first(rt: HostRuntime) -> Result<(), Fail> {
     }
     assert_opus(&rt, &mut buffer, 5)?;
     assert_opus(&rt, &mut buffer, 7)
-}
-
-/// Pushes one of the packets 4 to 6 of a VP8 frame, which was received then.
-fn push_received(
-    alloc: Global,
-    buffer: &mut DepacketizingBuffer,
-    number: u64,
-    received: u64,
-) -> Result<(), PacketError> {
-    let mut meta = meta(number, 960);
-    meta.received = Ticks(received);
-    meta.header.marker = number == 6;
-    meta.last_sender_info = Some(SenderInfo {
-        ssrc: 1,
-        ntp_time: number,
-        rtp_time: 2,
-        packet_count: 3,
-        octet_count: 4,
-    });
-    let descriptor = if number == 4 { 0x10 } else { 0x00 };
-    push(alloc, buffer, meta, &[descriptor, 0x90])
-}
-
-/// The NTP time of the first sender report.
-fn first_ntp_time(unit: &Depacketized) -> Option<u64> {
-    match unit.first_sender_info() {
-        Some(info) => Some(info.ntp_time),
-        None => None,
-    }
-}
-
-/// A VP8 frame in three packets, of which the second and the third were received first.
-#[test]
-fn unit_tells_of_its_packets(rt: HostRuntime) -> Result<(), Fail> {
-    let mut buffer = buffer_of(rt.alloc(), Codec::Vp8)?;
-    for (number, received) in [(4, 9), (5, 8), (6, 8)] {
-        push_received(rt.alloc(), &mut buffer, number, received)?;
-    }
-    let unit = pop_unit(&mut buffer, "no unit")?;
-    assert_count(&rt, "its packets", unit.meta().len(), 3);
-    let times = (unit.first_network_time(), first_ntp_time(&unit));
-    assert_same(&rt, "when it came", &times, &(Ticks(8), Some(5)));
-    let told = (unit.seq_range(), unit.start_of_talkspurt());
-    assert_same(
-        &rt,
-        "numbers and marker",
-        &told,
-        &(SeqNo(4)..=SeqNo(6), false),
-    );
-    Ok(())
 }
 
 /// Packets 2 to 4,097 of a VP8 frame, whose first is missing.
@@ -329,60 +250,4 @@ fn limit_65536_vp8(rt: HostRuntime) -> Result<(), Fail> {
         &(SeqNo(1)..=SeqNo(4_097)),
     );
     assert_pops(&rt, &mut buffer, &[None])
-}
-
-/// The values of the unit that comes of a VP8 frame in packets with these values.
-fn merged_of(alloc: Global, values: &[ExtensionValues]) -> Result<ExtensionValues, Fail> {
-    let mut buffer = buffer_of(alloc, Codec::Vp8)?;
-    for (place, value) in values.iter().enumerate() {
-        let mut meta = meta(place as u64, 960);
-        meta.header.ext_vals = *value;
-        meta.header.marker = place + 1 == values.len();
-        // The S bit begins a frame.
-        let descriptor = if place == 0 { 0x10 } else { 0x00 };
-        push(alloc, &mut buffer, meta, &[descriptor, 0x01])?;
-    }
-    Ok(pop_unit(&mut buffer, "no unit")?.ext_vals())
-}
-
-fn captured(capture_time: u64) -> AbsCaptureTime {
-    AbsCaptureTime {
-        capture_time,
-        clock_offset: None,
-    }
-}
-
-/// Capture time and layers allocation are those of the first packet, or else of the last; all others those of the last.
-#[test]
-fn unit_merges_extension_values(rt: HostRuntime) -> Result<(), Fail> {
-    let alloc = rt.alloc();
-    let mut first = ExtensionValues::default();
-    first.abs_capture_time = Some(captured(1));
-    first.layers_allocation = VideoLayersAllocation::new(&[1]);
-    first.audio_level = Some(-1);
-    let mut last = ExtensionValues::default();
-    last.abs_capture_time = Some(captured(2));
-    last.layers_allocation = VideoLayersAllocation::new(&[2]);
-    last.video_orientation = Some(2);
-    last.video_content_type = Some(2);
-    let none = ExtensionValues::default();
-
-    let mut merged = last;
-    merged.abs_capture_time = first.abs_capture_time;
-    merged.layers_allocation = first.layers_allocation;
-    for (values, wanted) in [
-        ([first, none, last].as_slice(), merged),
-        (&[none, first, last], last),
-        (&[last], last),
-    ] {
-        assert_same(
-            &rt,
-            "the values of a unit",
-            &merged_of(alloc, values)?,
-            &wanted,
-        );
-    }
-    let turned = merged_of(alloc, &[last, none])?.video_orientation;
-    assert_same(&rt, "the orientation of a unit", &turned, &None);
-    Ok(())
 }

@@ -1,5 +1,5 @@
-//! The worked examples of the buffer, of payloaders and of whole runs, the programs of docs/RATTLE.md, and hostile input, as tests
-//! over `codec_payload_core` alone.
+//! The worked examples of the buffer, of payloaders and of whole runs, the programs of docs/RATTLE.md, and hostile input, as
+//! tests over `codec_payload_core` alone: the test of a file of the sources stands in the file of that name.
 #![tactic(auto)]
 
 #[cfg(test)]
@@ -9,9 +9,9 @@ mod boxes;
 #[cfg(test)]
 mod buffer;
 #[cfg(test)]
-mod contiguity;
+mod codec;
 #[cfg(test)]
-mod extensions;
+mod contiguity;
 #[cfg(test)]
 mod gateway;
 #[cfg(test)]
@@ -19,18 +19,14 @@ mod hostile;
 #[cfg(test)]
 mod library;
 #[cfg(test)]
-mod memory;
-#[cfg(test)]
 mod own_codec;
 #[cfg(test)]
 mod own_counts;
 #[cfg(test)]
-mod red_runs;
-#[cfg(test)]
-mod red_sink;
+mod payloads;
 #[cfg(test)]
 mod runs;
 #[cfg(test)]
-mod streams;
+mod send;
 #[cfg(test)]
 mod use_it;

@@ -1,5 +1,5 @@
-//! Whole runs of a sender and a receiver, whose datagrams are lost, come again, or come in another order: what is popped is what
-//! was sent.
+//! Whole runs of a sender and a receiver, whose datagrams are lost, come again, or come in another order: what is popped is
+//! what was sent.
 #![tactic(auto)]
 
 #[cfg(test)]

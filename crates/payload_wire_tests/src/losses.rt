@@ -1,5 +1,5 @@
-//! A network that loses one datagram in ten, brings one in ten twice, and brings each sixteen in another order. All frames come out
-//! whose datagrams both came, in order, once each and whole.
+//! A network that loses one datagram in ten, brings one in ten twice, and brings each sixteen in another order. All frames
+//! come out whose datagrams both came, in order, once each and whole.
 
 use crate::sides::{receiver_of, sample_of, sender_of};
 use codec_payload_base::error::PacketError;

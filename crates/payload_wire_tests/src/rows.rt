@@ -36,8 +36,10 @@ struct Row {
     units: &'static [Unit],
 }
 
+/// A keyframe of VP8: the lowest bit of its first byte is clear (RFC 7741, section 4.3).
 const FIRST: &[u8] = &[0x10, 1, 2];
 
+/// Two interframes.
 const SECOND: &[u8] = &[0x11, 3, 4];
 
 const THIRD: &[u8] = &[0x13, 5, 6];

@@ -1,6 +1,7 @@
 //! The descriptor of RFC 9628, section 4.2, under all flag bytes, cut off at each byte.
 
-use crate::tables::{Received, assert_bytes, assert_out, assert_parts, assert_same, receive};
+use crate::asserts::{assert_bytes, assert_same};
+use crate::tables::{Received, assert_out, assert_parts, receive};
 use codec_payload_base::error::PacketError;
 use codec_payload_base::interface::CodecExtra;
 use codec_payload_vp9::vp9::{Vp9CodecExtra, Vp9Depacketizer, detect_vp9_keyframe};
@@ -10,6 +11,8 @@ use std::test::Fail;
 
 /// What follows flags of which B, E and Z are clear, and what RFC 9628 says of it.
 struct Layout {
+    /// The flags that are set.
+    name: &'static str,
     flags: u8,
     /// The descriptor behind its first byte.
     tail: &'static [u8],
@@ -27,8 +30,8 @@ struct Layout {
 /// All combinations of I, P, L, F and V: in order the picture id (I), TID U SID D and without F TL0PICIDX (L), differences
 /// (F and P), and the scalability structure (V).
 const LAYOUTS: [Layout; 32] = [
-    // nothing
     Layout {
+        name: "no flags",
         flags: 0x00,
         tail: &[],
         picture_id: None,
@@ -37,8 +40,8 @@ const LAYOUTS: [Layout; 32] = [
         differences: [0, 0, 0],
         structure: false,
     },
-    // V
     Layout {
+        name: "V",
         flags: 0x02,
         tail: &[
             0x38, 0x01, 0x40, 0x00, 0xf0, 0x02, 0x80, 0x01, 0xe0, 0x02, 0x04, 0x01, 0x50,
@@ -49,8 +52,8 @@ const LAYOUTS: [Layout; 32] = [
         differences: [0, 0, 0],
         structure: true,
     },
-    // F
     Layout {
+        name: "F",
         flags: 0x10,
         tail: &[],
         picture_id: None,
@@ -59,8 +62,8 @@ const LAYOUTS: [Layout; 32] = [
         differences: [0, 0, 0],
         structure: false,
     },
-    // F V
     Layout {
+        name: "F V",
         flags: 0x12,
         tail: &[
             0x38, 0x01, 0x40, 0x00, 0xf0, 0x02, 0x80, 0x01, 0xe0, 0x02, 0x04, 0x01, 0x50,
@@ -71,8 +74,8 @@ const LAYOUTS: [Layout; 32] = [
         differences: [0, 0, 0],
         structure: true,
     },
-    // L
     Layout {
+        name: "L",
         flags: 0x20,
         tail: &[0x53, 0x33],
         picture_id: None,
@@ -81,8 +84,8 @@ const LAYOUTS: [Layout; 32] = [
         differences: [0, 0, 0],
         structure: false,
     },
-    // L V
     Layout {
+        name: "L V",
         flags: 0x22,
         tail: &[
             0x53, 0x33, 0x38, 0x01, 0x40, 0x00, 0xf0, 0x02, 0x80, 0x01, 0xe0, 0x02, 0x04, 0x01,
@@ -94,8 +97,8 @@ const LAYOUTS: [Layout; 32] = [
         differences: [0, 0, 0],
         structure: true,
     },
-    // L F
     Layout {
+        name: "L F",
         flags: 0x30,
         tail: &[0x53],
         picture_id: None,
@@ -104,8 +107,8 @@ const LAYOUTS: [Layout; 32] = [
         differences: [0, 0, 0],
         structure: false,
     },
-    // L F V
     Layout {
+        name: "L F V",
         flags: 0x32,
         tail: &[
             0x53, 0x38, 0x01, 0x40, 0x00, 0xf0, 0x02, 0x80, 0x01, 0xe0, 0x02, 0x04, 0x01, 0x50,
@@ -116,8 +119,8 @@ const LAYOUTS: [Layout; 32] = [
         differences: [0, 0, 0],
         structure: true,
     },
-    // P
     Layout {
+        name: "P",
         flags: 0x40,
         tail: &[],
         picture_id: None,
@@ -126,8 +129,8 @@ const LAYOUTS: [Layout; 32] = [
         differences: [0, 0, 0],
         structure: false,
     },
-    // P V
     Layout {
+        name: "P V",
         flags: 0x42,
         tail: &[
             0x38, 0x01, 0x40, 0x00, 0xf0, 0x02, 0x80, 0x01, 0xe0, 0x02, 0x04, 0x01, 0x50,
@@ -138,8 +141,8 @@ const LAYOUTS: [Layout; 32] = [
         differences: [0, 0, 0],
         structure: true,
     },
-    // P F
     Layout {
+        name: "P F",
         flags: 0x50,
         tail: &[0x03, 0x04],
         picture_id: None,
@@ -148,8 +151,8 @@ const LAYOUTS: [Layout; 32] = [
         differences: [1, 2, 0],
         structure: false,
     },
-    // P F V
     Layout {
+        name: "P F V",
         flags: 0x52,
         tail: &[
             0x03, 0x04, 0x38, 0x01, 0x40, 0x00, 0xf0, 0x02, 0x80, 0x01, 0xe0, 0x02, 0x04, 0x01,
@@ -161,8 +164,8 @@ const LAYOUTS: [Layout; 32] = [
         differences: [1, 2, 0],
         structure: true,
     },
-    // P L
     Layout {
+        name: "P L",
         flags: 0x60,
         tail: &[0x53, 0x33],
         picture_id: None,
@@ -171,8 +174,8 @@ const LAYOUTS: [Layout; 32] = [
         differences: [0, 0, 0],
         structure: false,
     },
-    // P L V
     Layout {
+        name: "P L V",
         flags: 0x62,
         tail: &[
             0x53, 0x33, 0x38, 0x01, 0x40, 0x00, 0xf0, 0x02, 0x80, 0x01, 0xe0, 0x02, 0x04, 0x01,
@@ -184,8 +187,8 @@ const LAYOUTS: [Layout; 32] = [
         differences: [0, 0, 0],
         structure: true,
     },
-    // P L F
     Layout {
+        name: "P L F",
         flags: 0x70,
         tail: &[0x53, 0x03, 0x04],
         picture_id: None,
@@ -194,8 +197,8 @@ const LAYOUTS: [Layout; 32] = [
         differences: [1, 2, 0],
         structure: false,
     },
-    // P L F V
     Layout {
+        name: "P L F V",
         flags: 0x72,
         tail: &[
             0x53, 0x03, 0x04, 0x38, 0x01, 0x40, 0x00, 0xf0, 0x02, 0x80, 0x01, 0xe0, 0x02, 0x04,
@@ -207,8 +210,8 @@ const LAYOUTS: [Layout; 32] = [
         differences: [1, 2, 0],
         structure: true,
     },
-    // I
     Layout {
+        name: "I",
         flags: 0x80,
         tail: &[0x11],
         picture_id: Some(0x11),
@@ -217,8 +220,8 @@ const LAYOUTS: [Layout; 32] = [
         differences: [0, 0, 0],
         structure: false,
     },
-    // I V
     Layout {
+        name: "I V",
         flags: 0x82,
         tail: &[
             0x11, 0x38, 0x01, 0x40, 0x00, 0xf0, 0x02, 0x80, 0x01, 0xe0, 0x02, 0x04, 0x01, 0x50,
@@ -229,8 +232,8 @@ const LAYOUTS: [Layout; 32] = [
         differences: [0, 0, 0],
         structure: true,
     },
-    // I F
     Layout {
+        name: "I F",
         flags: 0x90,
         tail: &[0x11],
         picture_id: Some(0x11),
@@ -239,8 +242,8 @@ const LAYOUTS: [Layout; 32] = [
         differences: [0, 0, 0],
         structure: false,
     },
-    // I F V
     Layout {
+        name: "I F V",
         flags: 0x92,
         tail: &[
             0x11, 0x38, 0x01, 0x40, 0x00, 0xf0, 0x02, 0x80, 0x01, 0xe0, 0x02, 0x04, 0x01, 0x50,
@@ -251,8 +254,8 @@ const LAYOUTS: [Layout; 32] = [
         differences: [0, 0, 0],
         structure: true,
     },
-    // I L
     Layout {
+        name: "I L",
         flags: 0xa0,
         tail: &[0x92, 0x34, 0x53, 0x33],
         picture_id: Some(0x1234),
@@ -261,8 +264,8 @@ const LAYOUTS: [Layout; 32] = [
         differences: [0, 0, 0],
         structure: false,
     },
-    // I L V
     Layout {
+        name: "I L V",
         flags: 0xa2,
         tail: &[
             0x92, 0x34, 0x53, 0x33, 0x38, 0x01, 0x40, 0x00, 0xf0, 0x02, 0x80, 0x01, 0xe0, 0x02,
@@ -274,8 +277,8 @@ const LAYOUTS: [Layout; 32] = [
         differences: [0, 0, 0],
         structure: true,
     },
-    // I L F
     Layout {
+        name: "I L F",
         flags: 0xb0,
         tail: &[0x92, 0x34, 0x53],
         picture_id: Some(0x1234),
@@ -284,8 +287,8 @@ const LAYOUTS: [Layout; 32] = [
         differences: [0, 0, 0],
         structure: false,
     },
-    // I L F V
     Layout {
+        name: "I L F V",
         flags: 0xb2,
         tail: &[
             0x92, 0x34, 0x53, 0x38, 0x01, 0x40, 0x00, 0xf0, 0x02, 0x80, 0x01, 0xe0, 0x02, 0x04,
@@ -297,8 +300,8 @@ const LAYOUTS: [Layout; 32] = [
         differences: [0, 0, 0],
         structure: true,
     },
-    // I P
     Layout {
+        name: "I P",
         flags: 0xc0,
         tail: &[0x92, 0x34],
         picture_id: Some(0x1234),
@@ -307,8 +310,8 @@ const LAYOUTS: [Layout; 32] = [
         differences: [0, 0, 0],
         structure: false,
     },
-    // I P V
     Layout {
+        name: "I P V",
         flags: 0xc2,
         tail: &[
             0x92, 0x34, 0x38, 0x01, 0x40, 0x00, 0xf0, 0x02, 0x80, 0x01, 0xe0, 0x02, 0x04, 0x01,
@@ -320,8 +323,8 @@ const LAYOUTS: [Layout; 32] = [
         differences: [0, 0, 0],
         structure: true,
     },
-    // I P F
     Layout {
+        name: "I P F",
         flags: 0xd0,
         tail: &[0x92, 0x34, 0x03, 0x04],
         picture_id: Some(0x1234),
@@ -330,8 +333,8 @@ const LAYOUTS: [Layout; 32] = [
         differences: [1, 2, 0],
         structure: false,
     },
-    // I P F V
     Layout {
+        name: "I P F V",
         flags: 0xd2,
         tail: &[
             0x92, 0x34, 0x03, 0x04, 0x38, 0x01, 0x40, 0x00, 0xf0, 0x02, 0x80, 0x01, 0xe0, 0x02,
@@ -343,8 +346,8 @@ const LAYOUTS: [Layout; 32] = [
         differences: [1, 2, 0],
         structure: true,
     },
-    // I P L
     Layout {
+        name: "I P L",
         flags: 0xe0,
         tail: &[0x11, 0x53, 0x33],
         picture_id: Some(0x11),
@@ -353,8 +356,8 @@ const LAYOUTS: [Layout; 32] = [
         differences: [0, 0, 0],
         structure: false,
     },
-    // I P L V
     Layout {
+        name: "I P L V",
         flags: 0xe2,
         tail: &[
             0x11, 0x53, 0x33, 0x38, 0x01, 0x40, 0x00, 0xf0, 0x02, 0x80, 0x01, 0xe0, 0x02, 0x04,
@@ -366,8 +369,8 @@ const LAYOUTS: [Layout; 32] = [
         differences: [0, 0, 0],
         structure: true,
     },
-    // I P L F
     Layout {
+        name: "I P L F",
         flags: 0xf0,
         tail: &[0x11, 0x53, 0x03, 0x04],
         picture_id: Some(0x11),
@@ -376,8 +379,8 @@ const LAYOUTS: [Layout; 32] = [
         differences: [1, 2, 0],
         structure: false,
     },
-    // I P L F V
     Layout {
+        name: "I P L F V",
         flags: 0xf2,
         tail: &[
             0x11, 0x53, 0x03, 0x04, 0x38, 0x01, 0x40, 0x00, 0xf0, 0x02, 0x80, 0x01, 0xe0, 0x02,
@@ -502,7 +505,7 @@ fn payload_of(alloc: Global, layout: &Layout, flags: u8) -> Result<Vec<u8>, Allo
 
 /// A payload under these flags through each of its beginnings.
 fn cut_off(rt: &impl Abort, alloc: Global, layout: &Layout, flags: u8) -> Result<(), AllocError> {
-    let name = format!(in alloc; "flags {flags}")?;
+    let name = format!(in alloc; "{}, flags {flags}", layout.name)?;
     let payload = payload_of(alloc, layout, flags)?;
     for len in 0..=payload.len() {
         let (beginning, _) = payload.split_at(len);

@@ -1,6 +1,6 @@
 use Rattle.std.proofs.Common.{arith}
 use Rattle.codec_payload_base.specs.Leb.{leb}
-use Rattle.payload_codec_tests.proofs.base.leb_at_the_front.Goals as goal
+use Rattle.payload_codec_tests.proofs.base.wire.leb_at_the_front.Goals as goal
 
 pub encode_leb_u63-requires-clause-room : goal.encode_leb_u63-requires-clause-room
 unfolding leb

@@ -1,7 +1,8 @@
 //! The worked examples of recovery, and what comes where memory is refused.
 
-use super::{sender_of_four, wrapped};
-use crate::tables::{assert_other, assert_same, assert_shown, found};
+use crate::asserts::{assert_other, assert_same, assert_shown};
+use crate::red::{sender_of_four, wrapped};
+use crate::tables::found;
 use codec_payload_base::error::PacketError;
 use codec_payload_base::wire::SeqNo;
 use codec_payload_red::red::{Recovered, RedReceiver};

@@ -1,6 +1,7 @@
-//! The descriptor of RFC 7741, section 4.2, in all its forms, cut off at each byte.
+//! The descriptor of RFC 7741, section 4.2, in all its forms, cut off at each byte, and texts of its faults.
 
-use crate::tables::{assert_received, assert_same, receive};
+use crate::asserts::{assert_other, assert_printed, assert_same};
+use crate::tables::{assert_received, receive};
 use codec_payload_base::error::PacketError;
 use codec_payload_base::interface::CodecExtra;
 use codec_payload_vp8::vp8::{
@@ -594,5 +595,25 @@ fn every_descriptor_cut_off_at_each_byte(rt: HostRuntime) -> Result<(), Fail> {
             assert_fields(&rt, rt.alloc(), row, fields)?;
         }
     }
+    Ok(())
+}
+
+/// The faults of descriptors, each with its text.
+static OF_DESCRIPTORS: [(Vp8DescriptorError, &str); 2] = [
+    (Vp8DescriptorError::ShortPayload, "VP8 payload is too short"),
+    (
+        Vp8DescriptorError::MalformedDescriptor,
+        "VP8 payload descriptor is malformed",
+    ),
+];
+
+#[test]
+fn vp8_descriptor_errors(rt: HostRuntime) -> Result<(), Fail> {
+    for (error, text) in &OF_DESCRIPTORS {
+        assert_printed(&rt, rt.alloc(), error, text)?;
+        assert_same(&rt, text, &error.clone()?, error);
+    }
+    let [(short, text), (malformed, _)] = &OF_DESCRIPTORS;
+    assert_other(&rt, text, short, malformed);
     Ok(())
 }

@@ -1,7 +1,7 @@
 //! A buffer of VP8 frames beside a plain one, which keeps a list and goes over all of it at each step.
 
-use super::{buffer_of_limit, meta};
 use crate::asserts::{assert_holds, assert_same};
+use crate::buffer::{buffer_of_limit, meta};
 use crate::library;
 use codec_payload_core::buffer::DepacketizingBuffer;
 use codec_payload_core::wire::Codec;
@@ -23,7 +23,7 @@ struct OddRun {
 
 /// A packet of a number, by which all else is chosen. Five numbers share a time, two of three begin a unit, and one of three
 /// ends one, or so.
-#[derive(Clone, Copy, Debug)]
+#[derive(Clone, Copy)]
 struct Packet {
     number: u64,
 }

@@ -1,0 +1,139 @@
+//! Units that are put together, payloads that are refused, and what is left where memory is refused.
+
+use crate::asserts::{assert_bytes, assert_same};
+use crate::av1::{PACKETS_OF_TWO, TWO_OBUS_UNIT, unit};
+use crate::tables::{assert_received, found};
+use codec_payload_av1::av1::{Av1CodecExtra, Av1Depacketizer};
+use codec_payload_base::error::PacketError;
+use codec_payload_base::interface::CodecExtra;
+use std::alloc::Global;
+use std::process::Abort;
+use std::test::Fail;
+
+fn told(is_keyframe: bool) -> CodecExtra {
+    CodecExtra::Av1(Av1CodecExtra { is_keyframe })
+}
+
+/// Packets that a new depacketizer is given, the unit that it puts together, and whether the N bit was set.
+struct UnitRow {
+    name: &'static str,
+    packets: &'static [&'static [u8]],
+    unit: &'static [u8],
+    is_keyframe: bool,
+}
+
+/// Packets as `packetizer` has them; a unit is OBUs with their sizes, without a temporal delimiter.
+const UNITS: [UnitRow; 5] = [
+    UnitRow {
+        name: "av1-two-obus-mtu-1200",
+        packets: &[&[0x28, 0x02, 0x08, 0xaa, 0x30, 0xbb, 0xcc]],
+        unit: &TWO_OBUS_UNIT,
+        is_keyframe: true,
+    },
+    UnitRow {
+        name: "av1-leading-obu-lost",
+        packets: &[&[0x50, 0x30, 0xbb], &[0x90, 0xcc]],
+        unit: &[0x32, 0x02, 0xbb, 0xcc],
+        is_keyframe: false,
+    },
+    UnitRow {
+        name: "av1-shortest-size",
+        packets: &[&[0x18, 0x08, 0xaa]],
+        unit: &[0x0a, 0x01, 0xaa],
+        is_keyframe: true,
+    },
+    UnitRow {
+        name: "av1-mtu-2-five-packets",
+        packets: &PACKETS_OF_TWO,
+        unit: &TWO_OBUS_UNIT,
+        is_keyframe: true,
+    },
+    UnitRow {
+        name: "av1-mtu-2-first-lost",
+        packets: &[&[0x90, 0xaa], &[0x50, 0x30], &[0xd0, 0xbb], &[0x90, 0xcc]],
+        unit: &[0x32, 0x02, 0xbb, 0xcc],
+        is_keyframe: false,
+    },
+];
+
+/// The unit of a row's packets, and whether it is a keyframe.
+fn assert_unit(rt: &impl Abort, alloc: Global, row: &UnitRow) {
+    let mut unit = unit(alloc);
+    for packet in row.packets {
+        assert_same(rt, row.name, &unit.take(packet), &Ok(()));
+    }
+    assert_bytes(rt, row.name, &unit.out, row.unit);
+    assert_same(rt, row.name, &unit.extra, &told(row.is_keyframe));
+}
+
+#[test]
+fn units_are_put_together(rt: HostRuntime) {
+    for row in &UNITS {
+        assert_unit(&rt, rt.alloc(), row);
+    }
+}
+
+/// Payloads that are corrupted, each by its name.
+const CORRUPTED: [(&str, &[u8]); 4] = [
+    // An element of no bytes.
+    ("av1-zero-length-fault", &[0x00, 0x00]),
+    // An element of 5 bytes, of which one is there.
+    ("av1-length-past-end-fault", &[0x00, 0x05, 0x30]),
+    (
+        // One element, with two OBUs that have sizes.
+        "av1-two-obus-in-element-fault",
+        &[0x10, 0x0a, 0x00, 0x0a, 0x00],
+    ),
+    (
+        // An element with the greatest length that ten bytes of LEB128 can have.
+        "av1-huge-length-fault",
+        &[
+            0x00, 0xff, 0xff, 0xff, 0xff, 0xff, 0xff, 0xff, 0xff, 0xff, 0x7f,
+        ],
+    ),
+];
+
+#[test]
+fn corrupted_payloads_are_refused(rt: HostRuntime) -> Result<(), Fail> {
+    let alloc = rt.alloc();
+    for (name, payload) in CORRUPTED {
+        let mut depacketizer = Av1Depacketizer::new(alloc);
+        let wanted = Err(PacketError::ErrAv1CorruptedPacket);
+        assert_received(&rt, alloc, name, &mut depacketizer, payload, &wanted)?;
+    }
+    Ok(())
+}
+
+#[test]
+fn a_keyframe_stays_one(rt: HostRuntime) -> Result<(), Fail> {
+    let name = "a-keyframe-stays-one";
+    let mut unit = unit(rt.alloc());
+    unit.extra = told(true);
+    unit.take(&[0x10, 0x30, 0xbb])?;
+    assert_same(&rt, name, &unit.extra, &told(true));
+    let fault = unit.take(&[]).err();
+    assert_same(&rt, name, &fault, &Some(PacketError::ErrShortPacket));
+    assert_bytes(&rt, name, &unit.out, &[0x32, 0x01, 0xbb]);
+    Ok(())
+}
+
+/// A payload whose last element goes on.
+const GOES_ON: [u8; 7] = [0x68, 0x02, 0x08, 0xaa, 0x30, 0xbb, 0xcc];
+
+/// With each allocation refused in turn: the right answer or want of memory, and then `out` and the extra as before and
+/// nothing pending.
+#[test]
+fn memory_is_refused(rt: HostRuntime) -> Result<(), Fail> {
+    let name = "memory-is-refused";
+    let mut unit = unit(rt.alloc());
+    if found(unit.take(&GOES_ON))?.is_some() {
+        assert_bytes(&rt, name, &unit.out, &[0x0a, 0x01, 0xaa]);
+        return Ok(());
+    }
+    assert_bytes(&rt, name, &unit.out, &[]);
+    assert_same(&rt, name, &unit.extra, &CodecExtra::None);
+    // Nothing is pending, so an element that goes on is skipped.
+    found(unit.take(&[0x90, 0xdd]))?;
+    assert_bytes(&rt, name, &unit.out, &[]);
+    Ok(())
+}

@@ -1,0 +1,27 @@
+//! OBUs of a unit.
+
+use crate::tables::filled;
+use codec_payload_media::av1::obu::Av1Obus;
+use codec_payload_media::error::MediaError;
+use std::test::Fail;
+
+/// The first unit of libaom's encoder: a temporal delimiter, a sequence header, and a frame of 826 bytes.
+#[test]
+fn av1_obus(rt: HostRuntime) -> Result<(), Fail> {
+    let front = [
+        0x12, 0x00, 0x0a, 0x0a, 0x00, 0x00, 0x00, 0x02, 0xaf, 0xf7, 0x9b, 0x5f, 0x20, 0x08, 0x32,
+        0xba, 0x06,
+    ];
+    let unit = filled(rt.alloc(), &front, 0x14, 826, &[])?;
+    let mut found = Vec::new(rt.alloc());
+    for obu in Av1Obus::new(&unit) {
+        let obu = obu.ok().ok_or("an OBU")?;
+        found.push((obu.obu_type, obu.payload.len()))?;
+    }
+    assert_eq!(rt; found[..], [(2, 0), (1, 10), (6, 826)][..]);
+    let mut cut = Av1Obus::new(&[0x12, 0x00, 0x0a, 0x0a, 0x00]);
+    assert!(rt; cut.next().is_some());
+    assert_eq!(rt; cut.next(), Some(Err(MediaError::SizesDoNotFit)));
+    assert_eq!(rt; cut.next(), None);
+    Ok(())
+}

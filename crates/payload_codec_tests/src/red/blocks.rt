@@ -1,0 +1,166 @@
+//! Blocks that are read and written.
+
+use crate::asserts::{assert_bytes, assert_same, assert_shown};
+use crate::tables::found;
+use codec_payload_base::error::PacketError;
+use codec_payload_red::red::{
+    RedBlock, RedDecoder, RedEncoder, RedundantBlock, red_same_pt_blocks,
+};
+use std::alloc::{AllocError, Global};
+use std::process::Abort;
+use std::test::Fail;
+
+/// So many headers of empty redundant blocks, and that of the primary block, of type 96.
+fn empty_blocks(alloc: Global, count: usize) -> Result<Vec<u8>, AllocError> {
+    let mut bytes = Vec::new(alloc);
+    for _ in 0..count {
+        bytes.extend_from_slice(&[0xe0, 0x00, 0x00, 0x00])?;
+    }
+    bytes.push(0x60)?;
+    Ok(bytes)
+}
+
+/// Bytes that are no RED payload, each by its name.
+const CORRUPTED: [(&str, &[u8]); 3] = [
+    // A block of 200 bytes, of which none is there.
+    ("red-block-past-end-fault", &[0xe0, 0x00, 0x00, 0xc8, 0x60]),
+    // A header of a redundant block of which half is there.
+    ("red-end-in-headers-fault", &[0x80, 0x00]),
+    // No byte.
+    ("red-no-bytes-fault", &[]),
+];
+
+/// The blocks of a payload.
+pub fn decoded<'a>(alloc: Global, payload: &'a [u8]) -> Result<Vec<RedBlock<'a>>, PacketError> {
+    RedDecoder::decode(alloc, payload)
+}
+
+/// How many blocks a payload has.
+fn count(alloc: Global, payload: &[u8]) -> Result<usize, PacketError> {
+    Ok(decoded(alloc, payload)?.len())
+}
+
+#[test]
+fn corrupted_payloads_are_refused(rt: HostRuntime) -> Result<(), Fail> {
+    let corrupted = Err(PacketError::ErrRedCorruptedPacket);
+    for (name, payload) in CORRUPTED {
+        assert_same(&rt, name, &count(rt.alloc(), payload), &corrupted);
+    }
+    let bytes = empty_blocks(rt.alloc(), 33)?;
+    assert_same(
+        &rt,
+        "red-33-blocks-fault",
+        &count(rt.alloc(), &bytes),
+        &corrupted,
+    );
+    Ok(())
+}
+
+#[test]
+fn red_32_redundant_blocks(rt: HostRuntime) -> Result<(), Fail> {
+    let bytes = empty_blocks(rt.alloc(), 32)?;
+    assert_same(
+        &rt,
+        "red-32-redundant-blocks",
+        &count(rt.alloc(), &bytes),
+        &Ok(33),
+    );
+    Ok(())
+}
+
+/// The offsets of blocks, and their payloads.
+pub fn assert_blocks(rt: &impl Abort, name: &str, blocks: &[RedBlock], wanted: &[(u32, &[u8])]) {
+    assert_same(rt, name, &blocks.len(), &wanted.len());
+    for (block, (timestamp_offset, payload)) in blocks.iter().zip(wanted) {
+        assert_same(rt, name, &block.timestamp_offset, timestamp_offset);
+        assert_bytes(rt, name, block.payload, payload);
+    }
+}
+
+/// An empty block that is not the primary one.
+fn empty_block(pt: u8, timestamp_offset: u32) -> RedBlock<'static> {
+    RedBlock {
+        pt,
+        timestamp_offset,
+        payload: &[],
+        is_primary: false,
+    }
+}
+
+/// The offsets of the blocks of a type.
+fn offsets_of_type(alloc: Global, blocks: &[RedBlock], pt: u8) -> Result<Vec<u32>, AllocError> {
+    let mut offsets = Vec::new(alloc);
+    for block in red_same_pt_blocks(blocks, pt) {
+        offsets.push(block.timestamp_offset)?;
+    }
+    Ok(offsets)
+}
+
+#[test]
+fn red_same_type_blocks(rt: HostRuntime) -> Result<(), Fail> {
+    let blocks = [
+        empty_block(111, 1_920),
+        empty_block(96, 960),
+        empty_block(111, 0),
+        empty_block(111, 960),
+    ];
+    let offsets = offsets_of_type(rt.alloc(), &blocks, 111)?;
+    assert_eq!(rt; offsets.as_slice(), [1_920u32, 960].as_slice());
+    Ok(())
+}
+
+/// A block of type 96 with the bytes `0909`, 960 ticks older than the primary one.
+fn redundant_block(alloc: Global) -> Result<RedundantBlock, AllocError> {
+    Ok(RedundantBlock {
+        pt: 96,
+        timestamp_offset: 960,
+        payload: Vec::from_slice(alloc, &[9, 9])?,
+    })
+}
+
+/// A payload of that block, and of a primary one of type 96 with the bytes `010203`.
+fn encoded(alloc: Global) -> Result<Vec<u8>, PacketError> {
+    let mut redundant = Vec::new(alloc);
+    redundant.push(redundant_block(alloc)?)?;
+    RedEncoder::encode(alloc, 96, &[1, 2, 3], &redundant)
+}
+
+/// Its bytes.
+const ENCODED: [u8; 10] = [0xe0, 0x0f, 0x00, 0x02, 0x60, 9, 9, 1, 2, 3];
+
+#[test]
+fn red_encode_one_block(rt: HostRuntime) -> Result<(), Fail> {
+    assert!(rt; redundant_block(rt.alloc())?.fits());
+    let bytes = encoded(rt.alloc())?;
+    assert_bytes(&rt, "red-encode-one-block", &bytes, &ENCODED);
+    Ok(())
+}
+
+#[test]
+fn blocks_are_compared_and_shown(rt: HostRuntime) -> Result<(), Fail> {
+    let name = "a block";
+    let block = RedBlock {
+        pt: 96,
+        timestamp_offset: 0,
+        payload: &[1],
+        is_primary: true,
+    };
+    let blocks = decoded(rt.alloc(), &[0x60, 0x01])?;
+    assert_same(&rt, name, &blocks.first(), &Some(&block));
+    assert_same(&rt, name, &block.clone()?, &block);
+    let shown = "RedBlock { pt: 96, timestamp_offset: 0, payload: [1], is_primary: true }";
+    assert_shown(&rt, rt.alloc(), &block, shown)?;
+    Ok(())
+}
+
+#[test]
+fn encode_and_decode_where_memory_is_refused(rt: HostRuntime) -> Result<(), Fail> {
+    let name = "red-where-memory-is-refused";
+    if let Some(bytes) = found(encoded(rt.alloc()))? {
+        assert_bytes(&rt, name, &bytes, &ENCODED);
+    }
+    if let Some(blocks) = found(decoded(rt.alloc(), &ENCODED))? {
+        assert_blocks(&rt, name, &blocks, &[(960, &[9, 9]), (0, &[1, 2, 3])]);
+    }
+    Ok(())
+}
