@@ -250,6 +250,36 @@ typedef struct {
 /** The next packet of the frame. CPAY_NONE once all were taken. */
 CPAY_CHECKED cpay_status cpay_packet(cpay_packetizer *packetizer, cpay_packet_info *info, uint8_t *bytes, size_t bytes_len);
 
+/** How cpay_packetize_into cuts a frame, and what room each of its packets gets. */
+typedef struct {
+    size_t mtu;             /**< the most bytes of a payload */
+    size_t headroom;        /**< how many bytes stay free before each payload: for an RTP header, 12 or more */
+    size_t tailroom;        /**< how many bytes stay free behind each payload: for an authentication tag */
+    bool starts_talk_spurt; /**< see cpay_packetize */
+} cpay_frame_cut;
+
+typedef struct {
+    size_t offset; /**< where the packet's payload begins in the caller's bytes; its headroom stands right before it */
+    size_t bytes;  /**< how many bytes the payload has */
+    bool marker;   /**< the marker of its RTP header */
+    bool nackable; /**< a receiver may ask for it again (RFC 4585, section 6.2.1) */
+} cpay_placed_packet;
+
+typedef struct {
+    size_t bytes; /**< how many bytes the packets take, with headroom and tailroom; SIZE_MAX where they are more */
+    size_t count; /**< how many packets there are */
+} cpay_frame_room;
+
+/** Cuts a frame as cpay_packetize does, and writes all its packets to the front of `bytes`, one behind the other: headroom,
+ * payload, tailroom. Headroom and tailroom stay as they were, and so do the bytes behind the last packet. Of each packet one
+ * element of `packets` is told, in order. *room is told on CPAY_OK and on CPAY_TOO_SMALL, which comes where `bytes` or `packets`
+ * are too few. On every status but CPAY_OK the packetizer is as it was, picture ids too, and so are `bytes` and `packets`: the
+ * same frame can be given again. What cpay_packetize cut stays to be taken. Each byte is copied twice. Memory is taken where a
+ * frame is larger than all before it, and then used again, so a steady stream takes none. [m] */
+CPAY_CHECKED cpay_status cpay_packetize_into(cpay_packetizer *packetizer, const cpay_frame_cut *cut, const uint8_t *frame,
+                                             size_t frame_len, uint8_t *bytes, size_t bytes_len, cpay_placed_packet *packets,
+                                             size_t packets_len, cpay_frame_room *room);
+
 /* ---- What payloads tell besides bytes ---- */
 
 /** A report on a telephone event (RFC 4733, section 2.3). */
@@ -367,6 +397,13 @@ typedef struct {
 /** Reads a datagram as an RTP packet. CPAY_RTP_HEADER_TOO_SHORT to CPAY_RTP_PADDING_TOO_LONG where it is none: the first fault
  * from left to right. Takes no memory. */
 CPAY_CHECKED cpay_status cpay_rtp_read(const uint8_t *datagram, size_t datagram_len, cpay_rtp_info *packet);
+
+/** The value of the first element of that id in the header extension of a datagram (RFC 8285, in both forms): 1 to 16 bytes, or
+ * 0 to 255 in the form of two bytes. CPAY_NONE where there is no such element, no extension, or one of another profile; where
+ * the datagram is no RTP packet, what cpay_rtp_read answers. Elements behind one that passes the end, or in the form of one byte
+ * behind one of id 0 or 15, are not there. Takes no memory. */
+CPAY_CHECKED cpay_status cpay_extension(const uint8_t *datagram, size_t datagram_len, uint8_t id, uint8_t *bytes,
+                                        size_t bytes_len, size_t *size);
 
 /* ---- A sender: frames go in, the datagrams of one stream come out ---- */
 
@@ -573,6 +610,21 @@ typedef struct {
 /** The block of an index from 0 of a RED payload; the primary one is the last. CPAY_NONE past it. [m] */
 CPAY_CHECKED cpay_status cpay_red_block(const uint8_t *payload, size_t payload_len, size_t index, cpay_red_block_info *info,
                                         uint8_t *bytes, size_t bytes_len);
+
+/** A block by its place in the payload, where it can be read without a copy. */
+typedef struct {
+    size_t start;    /**< where its bytes begin in the payload */
+    size_t bytes;    /**< how many it has */
+    uint32_t offset; /**< how much older than the primary block it is, in ticks; 0 of the primary one */
+    uint8_t payload_type;
+    bool is_primary; /**< this is the packet's own media */
+} cpay_red_block_place;
+
+/** The places of all blocks of a RED payload, in its order, to the front of `blocks`; the primary one is the last, and there
+ * are at most 33. *count tells how many they are, also with CPAY_TOO_SMALL, where `blocks` are too few. CPAY_RED_CORRUPTED
+ * where the bytes are no RED payload. [m] */
+CPAY_CHECKED cpay_status cpay_red_blocks(const uint8_t *payload, size_t payload_len, cpay_red_block_place *blocks,
+                                         size_t blocks_len, size_t *count);
 
 typedef struct {
     uint64_t number;   /**< of the packet */

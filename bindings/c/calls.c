@@ -55,6 +55,18 @@ cpay_status cpay_packet(cpay_packetizer *packetizer, cpay_packet_info *info, uin
     return proved_cpay_packet(&packetizer->handle, info, bytes ? bytes : (uint8_t *)nothing, bytes_len);
 }
 
+cpay_status proved_cpay_packetize_into(cpay_handle *packetizer, const cpay_frame_cut *cut, const uint8_t *frame,
+                                       size_t frame_len, uint8_t *bytes, size_t bytes_len, cpay_placed_packet *packets,
+                                       size_t packets_len, cpay_frame_room *room);
+cpay_status cpay_packetize_into(cpay_packetizer *packetizer, const cpay_frame_cut *cut, const uint8_t *frame, size_t frame_len,
+                                uint8_t *bytes, size_t bytes_len, cpay_placed_packet *packets, size_t packets_len,
+                                cpay_frame_room *room) {
+    if ((!frame && frame_len) || (!bytes && bytes_len) || (!packets && packets_len)) return CPAY_INVALID;
+    return proved_cpay_packetize_into(&packetizer->handle, cut, frame ? frame : (const uint8_t *)nothing, frame_len,
+                                      bytes ? bytes : (uint8_t *)nothing, bytes_len,
+                                      packets ? packets : (cpay_placed_packet *)nothing, packets_len, room);
+}
+
 cpay_status proved_cpay_buffer_new(cpay_handle *buffer, const cpay_spec *spec, size_t hold_back, size_t limit);
 cpay_status cpay_buffer_new(cpay_buffer *buffer, const cpay_spec *spec, size_t hold_back, size_t limit) {
     return proved_cpay_buffer_new(&buffer->handle, spec, hold_back, limit);
@@ -98,6 +110,15 @@ cpay_status proved_cpay_rtp_read(const uint8_t *datagram, size_t datagram_len, c
 cpay_status cpay_rtp_read(const uint8_t *datagram, size_t datagram_len, cpay_rtp_info *packet) {
     if (!datagram && datagram_len) return CPAY_INVALID;
     return proved_cpay_rtp_read(datagram ? datagram : (const uint8_t *)nothing, datagram_len, packet);
+}
+
+cpay_status proved_cpay_extension(const uint8_t *datagram, size_t datagram_len, uint8_t id, uint8_t *bytes, size_t bytes_len,
+                                  size_t *size);
+cpay_status cpay_extension(const uint8_t *datagram, size_t datagram_len, uint8_t id, uint8_t *bytes, size_t bytes_len,
+                           size_t *size) {
+    if ((!datagram && datagram_len) || (!bytes && bytes_len)) return CPAY_INVALID;
+    return proved_cpay_extension(datagram ? datagram : (const uint8_t *)nothing, datagram_len, id,
+                                 bytes ? bytes : (uint8_t *)nothing, bytes_len, size);
 }
 
 cpay_status proved_cpay_sender_new(cpay_handle *sender, const cpay_sender_settings *settings);
@@ -245,6 +266,15 @@ cpay_status cpay_red_block(const uint8_t *payload, size_t payload_len, size_t in
     if ((!payload && payload_len) || (!bytes && bytes_len)) return CPAY_INVALID;
     return proved_cpay_red_block(payload ? payload : (const uint8_t *)nothing, payload_len, index, info,
                                  bytes ? bytes : (uint8_t *)nothing, bytes_len);
+}
+
+cpay_status proved_cpay_red_blocks(const uint8_t *payload, size_t payload_len, cpay_red_block_place *blocks, size_t blocks_len,
+                                   size_t *count);
+cpay_status cpay_red_blocks(const uint8_t *payload, size_t payload_len, cpay_red_block_place *blocks, size_t blocks_len,
+                            size_t *count) {
+    if ((!payload && payload_len) || (!blocks && blocks_len)) return CPAY_INVALID;
+    return proved_cpay_red_blocks(payload ? payload : (const uint8_t *)nothing, payload_len,
+                                  blocks ? blocks : (cpay_red_block_place *)nothing, blocks_len, count);
 }
 
 cpay_status proved_cpay_red_recover(uint8_t primary_pt, uint32_t step, uint64_t number, uint32_t rtp_time,

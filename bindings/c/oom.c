@@ -115,6 +115,35 @@ static int video(uint32_t codec, int *met) {
     return kept == before ? 0 : 16;
 }
 
+/* Frames in one call. Once the memory has grown to the largest frame, no call takes any. */
+static int whole_frames(uint32_t codec, int *met) {
+    long before = kept;
+    cpay_packetizer sender = CPAY_INIT;
+    cpay_spec spec = {.codec = codec, .rate = 90000, .vp8_ids = true, .first_id = 126};
+    cpay_frame_cut cut = {.mtu = MTU, .headroom = 12, .tailroom = 10};
+    static uint8_t frame[FRAME], bytes[2 * FRAME];
+    cpay_placed_packet packets[8];
+    cpay_status status;
+    memset(packets, 0, sizeof packets);
+    if (codec == CPAY_AV1) memcpy(frame, "\x32\xa9\x02", 3); /* the header of an OBU, and its length, 297 */
+    AGAIN(status, cpay_packetizer_new(&sender, &spec));
+    if (status) return 1;
+    for (int i = 0; i < FRAMES; i++) {
+        cpay_frame_room room = {0, 0};
+        long taken = asked;
+        AGAIN(status, cpay_packetize_into(&sender, &cut, frame, FRAME, bytes, 0, packets, 8, &room));
+        if (status != CPAY_TOO_SMALL) return 2;
+        AGAIN(status, cpay_packetize_into(&sender, &cut, frame, FRAME, bytes, room.bytes, packets, 8, &room));
+        if (status || packets[0].offset != 12) return 3;
+        if (codec != CPAY_AV1 && codec != CPAY_NULL && packets[0].bytes > MTU) return 4;
+        if (i > 0 && codec != CPAY_AV1 && asked != taken) return 5;
+        /* the picture id is that of the frame, whatever memory was wanting before it */
+        if (codec == CPAY_VP8 && bytes[14] != (i < 2 ? 126 + i : 0x80)) return 6;
+    }
+    cpay_packetizer_free(&sender);
+    return kept == before ? 0 : 7;
+}
+
 static int red(int *met) {
     long before = kept;
     cpay_red_sender sender = CPAY_INIT;
@@ -137,6 +166,10 @@ static int red(int *met) {
         AGAIN(status, cpay_red_recover(111, 960, 10, 2880, bytes, size, i, &packet, found, 64));
         if (status || found[0] != 1 + i || packet.number != 8 + i) return 5;
     }
+    cpay_red_block_place places[3];
+    size_t count = 0;
+    AGAIN(status, cpay_red_blocks(bytes, size, places, 3, &count));
+    if (status || count != 3 || bytes[places[0].start] != 1 || bytes[places[2].start] != 3) return 8;
     cpay_red_older older[2] = {
         {.start = 0, .bytes = 1, .offset = 1920, .payload_type = 111},
         {.start = 1, .bytes = 1, .offset = 960, .payload_type = 111},
@@ -302,6 +335,7 @@ static int left_in_red(void) {
     static const uint32_t distances[2] = {1, 2};
     uint8_t bytes[64] = {0}, found[64] = {0};
     size_t size = 0;
+    size_t places = 0;
     cpay_red_block_info block = {0};
     cpay_recovered_info packet = {0};
     cpay_red_older older = {.start = 0, .bytes = 1, .offset = 960, .payload_type = 111};
@@ -311,6 +345,7 @@ static int left_in_red(void) {
     if (!gives_back(&it, before)) return 3;
     if (cpay_red_block(bytes, size, 0, &block, found, 64) || kept != before) return 4;
     if (cpay_red_block(bytes, 3, 0, &block, found, 64) != CPAY_RED_CORRUPTED || kept != before) return 5;
+    if (cpay_red_blocks(bytes, size, NULL, 0, &places) != CPAY_TOO_SMALL || kept != before) return 9;
     if (cpay_red_recover(111, 960, 10, 2880, bytes, size, 0, &packet, found, 64) || kept != before) return 6;
     if (cpay_red_encode(111, bytes, 1, &older, 1, bytes, 1, found, 64, &size) || kept != before) return 7;
     if (cpay_red_encode(111, bytes, 1, &older, 1, bytes, 1, found, 1, &size) != CPAY_TOO_SMALL || kept != before) return 8;
@@ -331,6 +366,7 @@ static int session(int *met) {
     static const uint32_t codecs[4] = {CPAY_VP8, CPAY_VP9, CPAY_AV1, CPAY_NULL};
     for (size_t i = 0; i < 4; i++) {
         int ended = video(codecs[i], met);
+        if (!ended && (ended = whole_frames(codecs[i], met))) ended += 20;
         if (ended) return 100 * (int)codecs[i] + ended;
     }
     int ended = red(met);

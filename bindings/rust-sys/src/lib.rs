@@ -83,6 +83,31 @@ pub struct PacketInfo {
 
 #[repr(C)]
 #[derive(Clone, Copy, Debug, Default)]
+pub struct FrameCut {
+    pub mtu: usize,
+    pub headroom: usize,
+    pub tailroom: usize,
+    pub starts_talk_spurt: bool,
+}
+
+#[repr(C)]
+#[derive(Clone, Copy, Debug, Default)]
+pub struct PlacedPacket {
+    pub offset: usize,
+    pub bytes: usize,
+    pub marker: bool,
+    pub nackable: bool,
+}
+
+#[repr(C)]
+#[derive(Clone, Copy, Debug, Default)]
+pub struct FrameRoom {
+    pub bytes: usize,
+    pub count: usize,
+}
+
+#[repr(C)]
+#[derive(Clone, Copy, Debug, Default)]
 pub struct TeleEvent {
     pub duration: u64,
     pub event: u8,
@@ -161,6 +186,16 @@ pub struct RedOlder {
 #[repr(C)]
 #[derive(Clone, Copy, Debug, Default)]
 pub struct RedBlockInfo {
+    pub bytes: usize,
+    pub offset: u32,
+    pub payload_type: u8,
+    pub is_primary: bool,
+}
+
+#[repr(C)]
+#[derive(Clone, Copy, Debug, Default)]
+pub struct RedBlockPlace {
+    pub start: usize,
     pub bytes: usize,
     pub offset: u32,
     pub payload_type: u8,
@@ -395,6 +430,17 @@ unsafe extern "C" {
         bytes: *mut u8,
         bytes_len: usize,
     ) -> u32;
+    pub fn cpay_packetize_into(
+        packetizer: *mut Packetizer,
+        cut: *const FrameCut,
+        frame: *const u8,
+        frame_len: usize,
+        bytes: *mut u8,
+        bytes_len: usize,
+        packets: *mut PlacedPacket,
+        packets_len: usize,
+        room: *mut FrameRoom,
+    ) -> u32;
     pub fn cpay_red_sender_new(
         sender: *mut RedSender,
         red_pt: u8,
@@ -438,6 +484,13 @@ unsafe extern "C" {
         info: *mut RedBlockInfo,
         bytes: *mut u8,
         bytes_len: usize,
+    ) -> u32;
+    pub fn cpay_red_blocks(
+        payload: *const u8,
+        payload_len: usize,
+        blocks: *mut RedBlockPlace,
+        blocks_len: usize,
+        count: *mut usize,
     ) -> u32;
     pub fn cpay_red_recover(
         primary_pt: u8,
@@ -510,6 +563,14 @@ unsafe extern "C" {
         bytes_len: usize,
     ) -> u32;
     pub fn cpay_is_rtcp(datagram: *const u8, datagram_len: usize) -> bool;
+    pub fn cpay_extension(
+        datagram: *const u8,
+        datagram_len: usize,
+        id: u8,
+        bytes: *mut u8,
+        bytes_len: usize,
+        size: *mut usize,
+    ) -> u32;
     pub fn cpay_rtp_read(datagram: *const u8, datagram_len: usize, packet: *mut RtpInfo) -> u32;
     pub fn cpay_sender_new(sender: *mut Sender, settings: *const SenderSettings) -> u32;
     pub fn cpay_sender_send(

@@ -5,7 +5,8 @@ use Rattle.std.proofs.lemmas.List.{length-set, set-append_left, take-append-drop
 use Rattle.std.specs.Prelude.{is_some, IfOk}
 use Rattle.codec_payload_base.specs.declared.picture_id.PictureId.{PictureId}
 use Rattle.codec_payload_base.specs.declared.picture_id.PictureId.TheVariants.{Short, Long}
-use Rattle.codec_payload_core.specs.Vp8Descriptor.{Descriptor, IsDescribed, byte_if, id_if}
+use Rattle.codec_payload_core.specs.Vp8Descriptor.{Descriptor, IsDescribed}
+use Rattle.codec_payload_base.specs.PictureIds.{byte_if, id_if}
 use Rattle.codec_payload_core.specs.Vp8Patch.{Builder, IsBelow, Patch, Patches, Reaches, byte_at_place, id_byte, id_low_byte, patch_for, patch_to, patched, patched_descriptor, written}
 use Rattle.codec_payload_core.specs.declared.vp8.Vp8PatchError.{Vp8PatchError}
 use Rattle.codec_payload_c.specs.Vp8.{IsPatchedBy}

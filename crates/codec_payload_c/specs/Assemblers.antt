@@ -21,7 +21,7 @@ pub record Unpacks (r : Assembler) (payload : List ℕ) (status : ℕ) (s : Asse
   pub ok : status ≡ 0 → DepacketizerStep (depacketizer_state_of r.depacketizer) payload r.bytes.items r.extra (Ok tt) (depacketizer_state_of s.depacketizer) s.bytes.items s.extra
   pub fault : status ≢ 0
       → (e : PacketError) × (status ≡ fault_number e) × DepacketizerStep (depacketizer_state_of r.depacketizer) payload r.bytes.items r.extra (Err e)
-          (depacketizer_state_of s.depacketizer) s.bytes.items s.extra
+      (depacketizer_state_of s.depacketizer) s.bytes.items s.extra
 
 -- what was put together is handed out, or stays where the caller's bytes are too few
 pub record Takes (r : Assembler) (status size : ℕ) (extra : Extra) (before bytes : List ℕ) (s : Assembler) : Type 0 where

@@ -1,8 +1,11 @@
 pub mod Assemblers
 pub mod Buffers
+pub mod Extensions
+pub mod Frames
 pub mod Looks
 pub mod Media
 pub mod RedCoding
+pub mod RedPlaces
 pub mod Reds
 pub mod RtpFields
 pub mod Senders

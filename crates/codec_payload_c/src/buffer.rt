@@ -132,8 +132,10 @@ pub extern "C" fn cpay_buffer_new(
         handle.put(object);
         return status::FULL;
     }
-    let (Some(depacketizer), Some(rate)) = (depacketizer_of(alloc, spec), Frequency::make(spec.rate))
-    else {
+    let (Some(depacketizer), Some(rate)) = (
+        depacketizer_of(alloc, spec),
+        Frequency::make(spec.rate),
+    ) else {
         return status::INVALID;
     };
     if limit == 0 || limit > MAX_LIMIT {

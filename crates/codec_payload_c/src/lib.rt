@@ -3,6 +3,8 @@
 
 mod buffer;
 mod depacketizer;
+mod extension;
+mod frames;
 mod free;
 mod looks;
 mod media;
@@ -10,6 +12,7 @@ mod packetizer;
 mod receiver;
 mod red;
 mod red_blocks;
+mod red_places;
 mod rtp;
 mod sender;
 mod tele;

@@ -6,6 +6,7 @@ ghost use Rattle.codec_payload_c.specs.Senders.{CutsFrame, GivesPacket, IsSender
 ghost use Rattle.codec_payload_handle.specs.Settings.{packetizer_set};
 
 use codec_payload_core::codec::Packetizer;
+use codec_payload_core::payloads::Payloads;
 use codec_payload_handle::bytes::fill;
 use codec_payload_handle::handle::Handle;
 use codec_payload_handle::object::{Object, Sender};
@@ -84,11 +85,15 @@ pub extern "C" fn cpay_packetizer_new(alloc: Global, handle: &mut Handle, spec: 
     let Some(packetizer) = packetizer_of(spec) else {
         return status::INVALID;
     };
+    let Ok(frame) = Payloads::new(alloc, 0, 0) else {
+        return status::OUT_OF_MEMORY;
+    };
     let sender = Sender {
         packetizer,
         packets: Vec::new(alloc),
         taken: 0,
         marked: false,
+        frame,
     };
     match Box::new(alloc, Object::Sender(sender)) {
         Ok(object) => {

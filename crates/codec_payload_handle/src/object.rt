@@ -2,6 +2,7 @@
 
 use codec_payload_core::buffer::{Depacketized, DepacketizingBuffer};
 use codec_payload_core::codec::{CodecDepacketizer, CodecExtra, CodecPacketizer};
+use codec_payload_core::payloads::Payloads;
 use codec_payload_core::red::RedSender;
 use codec_payload_core::wire::Frequency;
 use codec_payload_sender::sender::Sender as DatagramSender;
@@ -16,6 +17,8 @@ pub struct Sender {
     pub taken: usize,
     /// Whether the packets are marked as those that start a talk spurt.
     pub marked: bool,
+    /// Where a frame is cut that is written to the caller in one call: memory that is used again.
+    pub frame: Payloads,
 }
 
 /// A depacketizer, and what was put together so far.

@@ -1,11 +1,17 @@
 //! What a packetizer and a depacketizer are made from.
 
-ghost use Rattle.std.specs.Prelude.{◌≡◌, option_map};
-ghost use Rattle.codec_payload_core.specs.Packetizers.{packetizer_state_of};
+ghost use Rattle.std.specs.Prelude.{◌≡◌, true, false, IfSome, IsNone, option_map};
+ghost use Rattle.codec_payload_core.specs.Packetizers.{is_built_in, packetizer_state_of};
 ghost use Rattle.codec_payload_core.specs.Depacketizers.{depacketizer_state_of};
 ghost use Rattle.codec_payload_handle.specs.Settings.{codec_numbered, depacketizer_set, mode_set, packetizer_set};
 
+use codec_payload_core::amr_wb::AmrWbPacketizer;
+use codec_payload_core::av1::Av1Packetizer;
 use codec_payload_core::codec::{CodecDepacketizer, CodecPacketizer, Vp9PacketizerMode};
+use codec_payload_core::plain::{
+    ComfortNoisePacketizer, G711Packetizer, G722Packetizer, NullPacketizer, OpusPacketizer,
+};
+use codec_payload_core::tele::TelephoneEventPacketizer;
 use codec_payload_core::vp8::Vp8Packetizer;
 use codec_payload_core::wire::{Codec, CodecSpec, Frequency};
 use std::alloc::Global;
@@ -82,6 +88,30 @@ pub fn packetizer_of(spec: &Spec) -> Option<CodecPacketizer>
         octet_align: spec.octet_align,
     });
     Some(packetizer)
+}
+
+/// A packetizer as this one is, and none of one that a caller brings. It takes no memory.
+pub fn packetizer_as(packetizer: &CodecPacketizer) -> Option<CodecPacketizer>
+    ensures same { IfSome result (λ p. (packetizer_state_of p ≡ packetizer_state_of packetizer.now) × (is_built_in (packetizer_state_of packetizer.now) ≡ true)) }
+    ensures built_in { IsNone result → is_built_in (packetizer_state_of packetizer.now) ≡ false }
+{
+    Some(match packetizer {
+        CodecPacketizer::G711(_) => CodecPacketizer::G711(G711Packetizer {}),
+        CodecPacketizer::G722(_) => CodecPacketizer::G722(G722Packetizer {}),
+        CodecPacketizer::Opus(_) => CodecPacketizer::Opus(OpusPacketizer {}),
+        CodecPacketizer::ComfortNoise(_) => {
+            CodecPacketizer::ComfortNoise(ComfortNoisePacketizer {})
+        }
+        CodecPacketizer::Tele(_) => CodecPacketizer::Tele(TelephoneEventPacketizer {}),
+        CodecPacketizer::Vp8(sends) => CodecPacketizer::Vp8(sends.clone().ok()?),
+        CodecPacketizer::Vp9(sends) => CodecPacketizer::Vp9(sends.clone().ok()?),
+        CodecPacketizer::Av1(_) => CodecPacketizer::Av1(Av1Packetizer {}),
+        CodecPacketizer::AmrWb(sends) => CodecPacketizer::AmrWb(AmrWbPacketizer {
+            octet_align: sends.octet_align,
+        }),
+        CodecPacketizer::Null(_) => CodecPacketizer::Null(NullPacketizer {}),
+        CodecPacketizer::Boxed(_) => return None,
+    })
 }
 
 /// The depacketizer of the codec with these settings, if there is one.

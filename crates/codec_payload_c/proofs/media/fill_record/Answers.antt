@@ -11,4 +11,4 @@ returns-then-bytes-obu-clause-written c = stays c.args.header.now c.args.obu.now
 pub returns-clause-written : goal.returns-clause-written
 returns-clause-written c =
     rw (c.copy_from_slice.ensures.after, c.copy_from_slice-2.ensures.after, c.split_at_mut-front.ensures.back, c.av1c_front.ensures)
-        (written c.args.header.now c.args.obu.now c.args.bytes.now (omega (arith, c.if-bytes-obu.false)))
+    (written c.args.header.now c.args.obu.now c.args.bytes.now (omega (arith, c.if-bytes-obu.false)))

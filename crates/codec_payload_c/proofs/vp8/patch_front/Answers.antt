@@ -9,4 +9,4 @@ returns c =
     let len : length c.copy_from_slice.new.self ≡ c.min-front.result = search rules in
     let reach : Reaches c.args.patch.now (length (take c.min-front.result c.args.payload.now)) = search rules in
     patched_copy c.args.patch.now c.min-front.result c.args.payload.now c.copy_from_slice.new.self
-        (drop c.min-front.result (0 ∷ 0 ∷ 0 ∷ 0 ∷ 0 ∷ 0 ∷ [])) c.copy_to.new.dst copied len c.copy_to.ensures reach
+    (drop c.min-front.result (0 ∷ 0 ∷ 0 ∷ 0 ∷ 0 ∷ 0 ∷ [])) c.copy_to.new.dst copied len c.copy_to.ensures reach

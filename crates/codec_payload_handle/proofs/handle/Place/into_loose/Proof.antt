@@ -45,7 +45,7 @@ into_loose_spec 𝓤 𝓛 𝓜 𝓡 wired =
     let Post : Val → SProp 𝓤 = (walk_of 𝓛 ended hs c).post z in let Run : List Val → SProp 𝓤 = λ ws. WpFn 𝓤 𝓛.H 𝓣.C 𝓣.Λ fn ws Post in
     let d = z.0.3.0 in let a = z.0.3.1.0 in let made = λ (s : IsSome d.value). some_of d.value s in
     qed 𝓛 ((raw (alive 𝓛 S z.0.0 z.0.1) ⊛ ‵ (owns (types_at S.params z.0.0) z.0.3 z.0.4)) ∷ raw (fact 𝓤 (IsSome d.value)) ∷ []) ∵ move ! (1 ∷ []) $ heard !
-        (IsSome d.value) (λ is. let x : Object = (made is).0 in let full : d.value ≡ Some x = (made is).1 in
+    (IsSome d.value) (λ is. let x : Object = (made is).0 in let full : d.value ≡ Some x = (made is).1 in
     split ! $ move ! (1 ∷ []) $ fsplit ! $ place_out ! d z.0.4.0 (λ ep. rewrite ! 0 (λ (y : Option Object). ‵ (owns_object d.at y)) full refl $
     in_a_block ! d.at (λ p. box_owns may_free R p x) (fst∗ 𝓤 (never 𝓤) (sem 𝓛 (may_free (bare (lone R.mir)) null_ptr))) (λ b o e.
     move ! (1 ∷ []) $ fsplit ! $ handle_tells (al R Z LZ ghosts) ! a z.0.4.1.0 (λ h eh fits. let good = loose_good R Z LZ ghosts b o h fits in let w = word (block_ptr b o) in
@@ -58,4 +58,4 @@ into_loose_spec 𝓤 𝓛 𝓜 𝓡 wired =
     move ! (2 ∷ 0 ∷ []) $ loose_in R Z LZ ghosts ! b o h a x $
     use0 𝓛 (raw (fact 𝓤 (d.value ≡ Some x))) (fact_i 𝓤 (d.value ≡ Some x) (emp 𝓤) full) $ nothing ! $ nothing ! $ fjoin ! $ nothing ! $ fjoin ! $
     returns ! (look_at ! 0 refl) $ free_all ! refl $ keep ! (4 ∷ 0 ∷ 2 ∷ 1 ∷ []) $ by !
-        (leaves 𝓛 ended hs c z (both (vptr b o) h) (record { at = block_ptr b o; alloc = a; value = x }) (tt, (tt, tt)) (tt, (tt, tt)))))))))
+    (leaves 𝓛 ended hs c z (both (vptr b o) h) (record { at = block_ptr b o; alloc = a; value = x }) (tt, (tt, tt)) (tt, (tt, tt)))))))))

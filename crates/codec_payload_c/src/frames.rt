@@ -1,0 +1,216 @@
+//! Frames cut straight into the caller's bytes, all packets of one in one call.
+
+ghost use Rattle.std.specs.Prelude.{◌≡◌, ◌≢◌, ◌≤◌, ◌<◌, ◌+◌, ◌++◌, ◌==◌, ◌&&◌, ◌||◌, true, ℕ, Option, length, take, drop, slice_get};
+ghost use Rattle.codec_payload_core.specs.Packetizers.{is_built_in, packetizer_state_of, marker_of, talkspurt_of};
+ghost use Rattle.codec_payload_handle.specs.Kinds.{OnSender, Refuses, is_sender};
+ghost use Rattle.codec_payload_c.specs.Frames.{Laying, LaysFrame, LaysPackets, capped, laid, placed_at, rooms_in, size_with};
+
+use codec_payload_core::codec::{CodecPacketizer, Packetizer};
+use codec_payload_core::payloads::Payloads;
+use codec_payload_handle::handle::Handle;
+use codec_payload_handle::object::{Object, Sender};
+use codec_payload_handle::settings::packetizer_as;
+use codec_payload_handle::status;
+use std::alloc::Global;
+
+/// How a frame is cut, and what room each of its packets gets.
+#[repr(C)]
+#[derive(Drop)]
+pub struct FrameCut {
+    /// The most bytes of a payload.
+    pub mtu: usize,
+    /// How many bytes stay free before each payload.
+    pub headroom: usize,
+    /// How many bytes stay free behind each payload.
+    pub tailroom: usize,
+    /// Whether the frame starts a talk spurt.
+    pub starts_talk_spurt: bool,
+}
+
+/// A packet in the caller's bytes.
+#[repr(C)]
+#[derive(Clone, Copy)]
+pub struct PlacedPacket {
+    /// Where its payload begins.
+    pub offset: usize,
+    /// How many bytes its payload has.
+    pub bytes: usize,
+    /// Whether it gets the marker of the RTP header.
+    pub marker: bool,
+    /// Whether a receiver may ask for it again.
+    pub nackable: bool,
+}
+
+/// What the packets of a frame take of the caller's.
+#[repr(C)]
+#[derive(Drop)]
+pub struct FrameRoom {
+    /// How many bytes, with those before and behind each payload; the greatest number where they are more.
+    pub bytes: usize,
+    /// How many packets.
+    pub count: usize,
+}
+
+/// How many bytes the payloads take with their rooms; the greatest number where they are more.
+fn size_of(frame: &Payloads, cut: &FrameCut) -> usize
+    ensures { result ≡ capped (size_with (rooms_in cut.now) frame.now.payloads) }
+{
+    let rooms = cut.headroom.saturating_add(cut.tailroom);
+    let mut size: usize = 0;
+    for place in 0..frame.len() {
+        size = size
+            .saturating_add(rooms)
+            .saturating_add(frame.get(place).len());
+    }
+    size
+}
+
+/// Puts bytes over those at a place.
+fn put_at(bytes: &mut [u8], at: usize, given: &[u8])
+    requires { at + length given.now ≤ length bytes.old }
+    ensures { bytes.new ≡ take at bytes.old ++ (given.now ++ drop (at + length given.now) bytes.old) }
+{
+    let end = at + given.len();
+    bytes[at..end].copy_from_slice(given);
+}
+
+/// Writes the payloads, each between its rooms, which stay as they are.
+fn lay(frame: &Payloads, cut: &FrameCut, bytes: &mut [u8])
+    requires { size_with (rooms_in cut.now) frame.now.payloads ≤ length bytes.old }
+    ensures { bytes.new ≡ laid cut.now.headroom cut.now.tailroom frame.now.payloads bytes.old }
+{
+    let mut at = 0;
+    for place in 0..frame.len() {
+        let payload = frame.get(place);
+        put_at(bytes, at + cut.headroom, payload);
+        at += cut.headroom + payload.len() + cut.tailroom;
+    }
+}
+
+/// Whether the packet at a place is marked.
+fn is_marked(packetizer: &mut CodecPacketizer, frame: &Payloads, place: usize, starts: bool) -> bool
+    requires { place < length frame.now.payloads }
+    ensures marker { is_built_in (packetizer_state_of packetizer.old) ≡ true → result ≡ (marker_of (packetizer_state_of packetizer.old) (place + 1 == length frame.now.payloads) || (starts && talkspurt_of (packetizer_state_of packetizer.old))) }
+    ensures same { packetizer_state_of packetizer.new ≡ packetizer_state_of packetizer.old }
+{
+    let last = frame.len() - place == 1;
+    let previous = match place.checked_sub(1) {
+        Some(before) => Some(frame.get(before)),
+        None => None,
+    };
+    let marked = starts && packetizer.marks_talkspurt();
+    packetizer.is_marker(frame.get(place), previous, last) || marked
+}
+
+/// Tells of each packet where it lies, and what goes into its header.
+fn tell(
+    packetizer: &mut CodecPacketizer,
+    frame: &Payloads,
+    cut: &FrameCut,
+    packets: &mut [PlacedPacket],
+)
+    requires built_in { is_built_in (packetizer_state_of packetizer.old) ≡ true }
+    requires room { length frame.now.payloads ≤ length packets.old }
+    requires size { size_with (rooms_in cut.now) frame.now.payloads ≤ 18446744073709551615 }
+    ensures told { (place : ℕ) → place < length frame.now.payloads → slice_get packets.new place ≡ Option.Some (placed_at (packetizer_state_of packetizer.old) cut.now frame.now.payloads place) }
+    ensures behind { drop (length frame.now.payloads) packets.new ≡ drop (length frame.now.payloads) packets.old }
+    ensures same { packetizer_state_of packetizer.new ≡ packetizer_state_of packetizer.old }
+{
+    let mut at = 0;
+    for place in 0..frame.len() {
+        let bytes = frame.get(place).len();
+        packets[place] = PlacedPacket {
+            offset: at + cut.headroom,
+            bytes,
+            marker: is_marked(packetizer, frame, place, cut.starts_talk_spurt),
+            nackable: packetizer.nackable(),
+        };
+        at += cut.headroom + bytes + cut.tailroom;
+    }
+}
+
+/// The packets that the sender has cut go to the caller, where there is room for them.
+fn hand_over(
+    sender: &mut Sender,
+    cut: &FrameCut,
+    bytes: &mut [u8],
+    packets: &mut [PlacedPacket],
+    room: &mut FrameRoom,
+) -> u32
+    requires { is_built_in (packetizer_state_of sender.old.packetizer) ≡ true }
+    ensures lays { LaysPackets sender.old.frame.payloads (packetizer_state_of sender.old.packetizer) cut.now result (record { before = bytes.old; bytes = bytes.new; told_before = packets.old; told = packets.new; room = room.new }) }
+    ensures packetizer { packetizer_state_of sender.new.packetizer ≡ packetizer_state_of sender.old.packetizer }
+    ensures stays { (sender.new.packets ≡ sender.old.packets) × (sender.new.taken ≡ sender.old.taken) × (sender.new.marked ≡ sender.old.marked) }
+{
+    *room = FrameRoom {
+        bytes: size_of(&sender.frame, cut),
+        count: sender.frame.len(),
+    };
+    if bytes.len() < room.bytes || packets.len() < room.count {
+        return status::TOO_SMALL;
+    }
+    lay(&sender.frame, cut, bytes);
+    tell(&mut sender.packetizer, &sender.frame, cut, packets);
+    status::OK
+}
+
+/// Cuts a frame and hands its packets over. Where that cannot be, the packetizer is as it was.
+#[tactic(auto, using(crate::proofs::FrameLemmas::built_in_after))]
+fn packetize_into(
+    sender: &mut Sender,
+    alloc: Global,
+    cut: &FrameCut,
+    frame: &[u8],
+    bytes: &mut [u8],
+    packets: &mut [PlacedPacket],
+    room: &mut FrameRoom,
+) -> u32
+    ensures lays { LaysFrame sender.old cut.now frame.now result (record { before = bytes.old; bytes = bytes.new; told_before = packets.old; told = packets.new; room = room.new }) sender.new }
+    ensures untouched { result ≢ 0 → (bytes.new ≡ bytes.old) × (packets.new ≡ packets.old) }
+    ensures untold { result ≢ 0 → result ≢ 33 → room.new ≡ room.old }
+{
+    let Some(before) = packetizer_as(&sender.packetizer) else {
+        return status::INVALID;
+    };
+    let cutting = sender
+        .packetizer
+        .packetize_into(alloc, cut.mtu, frame, &mut sender.frame);
+    if let Err(fault) = cutting {
+        sender.packetizer = before;
+        return u32::from(fault.number());
+    }
+    let answer = hand_over(sender, cut, bytes, packets, room);
+    if answer != status::OK {
+        sender.packetizer = before;
+    }
+    answer
+}
+
+/// Cuts a frame and writes all its packets into the caller's bytes.
+#[unsafe(no_mangle)]
+pub extern "C" fn cpay_packetize_into(
+    alloc: Global,
+    handle: &mut Handle,
+    cut: &FrameCut,
+    frame: &[u8],
+    bytes: &mut [u8],
+    packets: &mut [PlacedPacket],
+    room: &mut FrameRoom,
+) -> u32
+    ensures lays { OnSender handle.old.place.value (λ r s. LaysFrame r cut.now frame.now result (record { before = bytes.old; bytes = bytes.new; told_before = packets.old; told = packets.new; room = room.new }) s) handle.new.place.value }
+    ensures refused { Refuses is_sender handle.old.place.value result handle.new.place.value }
+    ensures untouched { result ≢ 0 → (bytes.new ≡ bytes.old) × (packets.new ≡ packets.old) }
+    ensures untold { result ≢ 0 → result ≢ 33 → room.new ≡ room.old }
+{
+    let Some(mut object) = handle.take(alloc) else {
+        return status::EMPTY;
+    };
+    let answer = match &mut *object {
+        Object::Sender(sender) => {
+            packetize_into(sender, alloc, cut, frame, bytes, packets, room)
+        }
+        _ => status::OTHER_KIND,
+    };
+    handle.put(object);
+    answer
+}
