@@ -2,7 +2,7 @@
 use Rattle.std.proofs.Common.{◌≡◌, ◌∙◌, sym, ap, refl, subst, ℕ, zero, suc, ◌+◌, ◌<◌, ◌≤◌, ◌==◌, ◌&&◌, ◌||◌, Bool, true, Some, Result, List, [], ◌∷◌, ◌++◌, length, take, drop, get_or, slice_get, slice_set, arith, append_assoc, length-append}
 use Rattle.std.proofs.Math.Seq.{take-add}
 use Rattle.std.proofs.lemmas.List.{take_at, drop_at, take_more, drop_more, drop-drop, drop-set-lt, length-take, length-drop, take-append-drop}
-use Rattle.codec_payload_core.specs.Packetizers.{PacketizerState, PacketizerStep, G711Packetizing, G722Packetizing, OpusPacketizing, NullPacketizing, Vp8Packetizing, Vp9Packetizing, ComfortNoisePacketizing, TelePacketizing, Av1Packetizing, AmrWbPacketizing, BoxedPacketizing, is_built_in, marker_of, talkspurt_of, nackable_of}
+use Rattle.codec_payload_core.specs.Packetizers.{PacketizerState, PacketizerStep, G711Packetizing, G722Packetizing, OpusPacketizing, NullPacketizing, Vp8Packetizing, Vp9Packetizing, ComfortNoisePacketizing, TelePacketizing, Av1Packetizing, AmrWbPacketizing, BoxedPacketizing, is_built_in, marker_of, talk_spurt_of, nackable_of}
 use Rattle.codec_payload_core.specs.declared.error.PacketError.{PacketError}
 use Rattle.codec_payload_c.specs.Frames.{capped, laid, placed_at, rooms_in, size_with}
 use Rattle.codec_payload_c.specs.declared.frames.FrameCut.{FrameCut}
@@ -111,11 +111,11 @@ pub behind_more : {X : Type 0} (packets before : List X) (i : ℕ) (x : X) → d
 behind_more packets before i x same =
     drop-set-lt (i + 1) packets i x (omega arith) ∙ sym (drop-drop 1 i packets) ∙ ap (drop 1) same ∙ drop-drop 1 i before
 
-pub placed_is : (pack here : PacketizerState) (cut : FrameCut) (ps : List (List ℕ)) (i at bytes : ℕ) (marker nackable : Bool) → here ≡ pack
+pub placed_is : (packetizer here : PacketizerState) (cut : FrameCut) (ps : List (List ℕ)) (i at bytes : ℕ) (marker nackable : Bool) → here ≡ packetizer
     → at ≡ size_with (rooms_in cut) (take i ps) → bytes ≡ length (get_or ps i [])
-    → marker ≡ (marker_of here (i + 1 == length ps) || (cut.starts_talk_spurt && talkspurt_of here)) → nackable ≡ nackable_of here
-    → record { offset = at + cut.headroom; bytes = bytes; marker = marker; nackable = nackable } ≡ placed_at pack cut ps i
-placed_is pack here cut ps i at bytes marker nackable same at_is bytes_are marker_is nackable_is = rw (at_is, bytes_are, marker_is, nackable_is, same) refl
+    → marker ≡ (marker_of here (i + 1 == length ps) || (cut.starts_talk_spurt && talk_spurt_of here)) → nackable ≡ nackable_of here
+    → record { offset = at + cut.headroom; bytes = bytes; marker = marker; nackable = nackable } ≡ placed_at packetizer cut ps i
+placed_is packetizer here cut ps i at bytes marker nackable same at_is bytes_are marker_is nackable_is = rw (at_is, bytes_are, marker_is, nackable_is, same) refl
 
 -- nothing is left to count
 pub counted_all : (size rooms : ℕ) (ps : List (List ℕ)) → ps ≡ [] → size < 18446744073709551616 → size ≡ capped (size + size_with rooms ps)

@@ -1,7 +1,7 @@
 -- The packets of a frame in the caller's bytes, each with room before it and behind it.
 use Rattle.std.specs.Prelude.{◌≡◌, ◌≢◌, ◌⊎◌, ℕ, ◌+◌, ◌<◌, ◌≤◌, ◌==◌, ◌&&◌, ◌||◌, nat_le, if◌then◌else◌, false, List, [], ◌∷◌, ◌++◌, Some, Ok, Err, length, slice_get, slice_index_or, take, drop}
 use Rattle.codec_payload_core.specs.Faults.{fault_number}
-use Rattle.codec_payload_core.specs.Packetizers.{PacketizerState, PacketizerStep, packetizer_state_of, is_built_in, marker_of, talkspurt_of, nackable_of}
+use Rattle.codec_payload_core.specs.Packetizers.{PacketizerState, PacketizerStep, packetizer_state_of, is_built_in, marker_of, talk_spurt_of, nackable_of}
 use Rattle.codec_payload_core.specs.declared.error.PacketError.{PacketError}
 use Rattle.codec_payload_handle.specs.declared.object.Sender.{Sender}
 use Rattle.codec_payload_c.specs.declared.frames.FrameCut.{FrameCut}
@@ -32,7 +32,7 @@ abbrev pub placed_at : PacketizerState → FrameCut → List (List ℕ) → ℕ 
 placed_at packetizer cut payloads place = record {
   offset = size_with (rooms_in cut) (take place payloads) + cut.headroom;
   bytes = length (slice_index_or payloads place []);
-  marker = marker_of packetizer (place + 1 == length payloads) || (cut.starts_talk_spurt && talkspurt_of packetizer);
+  marker = marker_of packetizer (place + 1 == length payloads) || (cut.starts_talk_spurt && talk_spurt_of packetizer);
   nackable = nackable_of packetizer;
 }
 

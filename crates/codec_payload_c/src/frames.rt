@@ -1,7 +1,7 @@
 //! Frames cut straight into the caller's bytes, all packets of one in one call.
 
 ghost use Rattle.std.specs.Prelude.{◌≡◌, ◌≢◌, ◌≤◌, ◌<◌, ◌+◌, ◌++◌, ◌==◌, ◌&&◌, ◌||◌, true, ℕ, Option, length, take, drop, slice_get};
-ghost use Rattle.codec_payload_core.specs.Packetizers.{is_built_in, packetizer_state_of, marker_of, talkspurt_of};
+ghost use Rattle.codec_payload_core.specs.Packetizers.{is_built_in, packetizer_state_of, marker_of, talk_spurt_of};
 ghost use Rattle.codec_payload_handle.specs.Kinds.{OnSender, Refuses, is_sender};
 ghost use Rattle.codec_payload_c.specs.Frames.{Laying, LaysFrame, LaysPackets, capped, laid, placed_at, rooms_in, size_with};
 
@@ -90,7 +90,7 @@ fn lay(frame: &Payloads, cut: &FrameCut, bytes: &mut [u8])
 /// Whether the packet at a place is marked.
 fn is_marked(packetizer: &mut CodecPacketizer, frame: &Payloads, place: usize, starts: bool) -> bool
     requires { place < length frame.now.payloads }
-    ensures marker { is_built_in (packetizer_state_of packetizer.old) ≡ true → result ≡ (marker_of (packetizer_state_of packetizer.old) (place + 1 == length frame.now.payloads) || (starts && talkspurt_of (packetizer_state_of packetizer.old))) }
+    ensures marker { is_built_in (packetizer_state_of packetizer.old) ≡ true → result ≡ (marker_of (packetizer_state_of packetizer.old) (place + 1 == length frame.now.payloads) || (starts && talk_spurt_of (packetizer_state_of packetizer.old))) }
     ensures same { packetizer_state_of packetizer.new ≡ packetizer_state_of packetizer.old }
 {
     let last = frame.len() - place == 1;

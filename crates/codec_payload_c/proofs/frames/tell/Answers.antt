@@ -33,14 +33,14 @@ loop-place-preserved c =
     let below : i < length ps = omega (arith, c.loop-place-test.true, c.len-place-end.ensures.payloads) in
     let more = size_more (rooms_in cut) ps i below in
     let bytes = ap length c.get-bytes.ensures in
-    let pack = packetizer_state_of c.args.packetizer.now in
+    let packetizer = packetizer_state_of c.args.packetizer.now in
     let built = c.requires.built_in in
     record {
       at = omega (arith, c.loop-place.invariant.at, more, bytes);
       same = c.is_marked.ensures.same ∙ c.loop-place.invariant.same;
       behind = behind_more c.loop-place.packets c.args.packets.now i _ c.loop-place.invariant.behind;
-      so_far = told_more (placed_at pack cut ps) c.loop-place.packets i _ (omega (arith, below, c.requires.room, c.loop-place.auto.packets))
-          (placed_is pack (packetizer_state_of c.loop-place.packetizer) cut ps i _ _ _ _ c.loop-place.invariant.same c.loop-place.invariant.at bytes
+      so_far = told_more (placed_at packetizer cut ps) c.loop-place.packets i _ (omega (arith, below, c.requires.room, c.loop-place.auto.packets))
+          (placed_is packetizer (packetizer_state_of c.loop-place.packetizer) cut ps i _ _ _ _ c.loop-place.invariant.same c.loop-place.invariant.at bytes
           (c.is_marked.ensures.marker (ap is_built_in c.loop-place.invariant.same ∙ built))
           (c.nackable.ensures.built_in (ap is_built_in (c.is_marked.ensures.same ∙ c.loop-place.invariant.same) ∙ built) ∙ ap nackable_of c.is_marked.ensures.same))
           c.loop-place.invariant.so_far;
