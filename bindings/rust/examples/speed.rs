@@ -24,7 +24,7 @@ fn least(calls: u32, mut call: impl FnMut()) -> f64 {
         for _ in 0..calls {
             call();
         }
-        least = least.min(began.elapsed().as_nanos() as f64 / f64::from(calls));
+        least = least.min(began.elapsed().as_secs_f64() * 1e9 / f64::from(calls));
     }
     least
 }
@@ -75,7 +75,7 @@ fn packetize(codec: Codec, size: usize) -> Result<(), Error> {
     // SAFETY: an empty handle, and a struct that is borrowed for the call.
     unsafe { library::cpay_packetizer_new(&raw mut handle, &raw const spec) };
     let own = least(calls, || {
-        library_packetize(&mut handle, black_box(&frame), &mut bytes)
+        library_packetize(&mut handle, black_box(&frame), &mut bytes);
     });
     // SAFETY: the library alone wrote the struct.
     unsafe { library::cpay_packetizer_free(&raw mut handle) };
@@ -181,7 +181,7 @@ fn push_and_pop(codec: Codec, size: usize) -> Result<(), Error> {
     unsafe { library::cpay_buffer_new(&raw mut handle, &raw const spec, 0, 4_096) };
     let mut next = 0;
     let own = least(calls, || {
-        library_push_pop(&mut handle, &packets, &mut next, &mut bytes)
+        library_push_pop(&mut handle, &packets, &mut next, &mut bytes);
     });
     // SAFETY: the library alone wrote the struct.
     unsafe { library::cpay_buffer_free(&raw mut handle) };
