@@ -3,7 +3,8 @@
 //! A [`Packetizer`] cuts frames into payloads that keep an MTU. A [`Buffer`] takes received packets in any order and gives
 //! whole units back, in order; it is an [`Iterator`] over those that are ready. [`red`] has RFC 2198, [`vp8`] descriptors of
 //! VP8 payloads, [`telephone`] reports on telephone events, [`media`] what frames say of themselves. [`datagrams`] has what stands
-//! between a socket and these: RTP packets, a sender and a receiver.
+//! between a socket and these: RTP packets, a sender and a receiver. A [`Batch`] is memory for packets that is used again. [`str0m`]
+//! is for code that was written against that crate.
 //!
 //! ```
 //! use codec_payload::{Buffer, Codec, Error, Packetizer, Received, Settings};
@@ -28,7 +29,7 @@
 //! # }
 //! ```
 //!
-//! Each of them may go to another thread, and is used by one at a time.
+//! Each of them may go to another thread, and is used by one at a time; calls that only look may come from several at once.
 
 mod batch;
 pub mod datagrams;

@@ -44,8 +44,13 @@ fn through(
             packets.push((meta(began, packets.len() as u64, time, marker), chunk));
         }
     }
-    // The first packet stays the first, since a buffer begins with what comes.
-    for pair in packets[1..].chunks_mut(2) {
+    // The first frame is complete before others come, since a buffer begins with what is complete first.
+    let of_first = packets
+        .iter()
+        .filter(|(meta, _)| meta.time == packets[0].0.time)
+        .count();
+    let (first, later) = packets.split_at_mut(of_first);
+    for pair in first.chunks_mut(2).chain(later.chunks_mut(2)) {
         pair.reverse();
     }
     let mut buffer = DepacketizingBuffer::new(depack, 10);
@@ -245,7 +250,7 @@ fn faults() {
         ))
     );
     assert_eq!(
-        depacketize(Codec::AmrWb, &[0xf0]),
+        depacketize(Codec::AmrWb, &[0xf5, 0x40]),
         Err(PacketError::ErrAmrWbCorruptedPacket)
     );
     assert_eq!(

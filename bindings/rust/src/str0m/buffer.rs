@@ -165,7 +165,7 @@ impl DepacketizingBuffer {
     /// # Errors
     ///
     /// [`PacketError::OutOfMemory`], after which the call can be made again.
-    #[allow(clippy::needless_pass_by_value)]
+    #[allow(clippy::needless_pass_by_value, reason = "as str0m has it")]
     pub fn push(&mut self, meta: RtpMeta, data: impl AsRef<[u8]>) -> Result<(), PacketError> {
         let rate = *self.rate.get_or_insert(meta.time.frequency());
         let packet = Received {

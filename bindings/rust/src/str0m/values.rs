@@ -8,18 +8,28 @@ use std::ops::Deref;
 /// A payload format. Those of `str0m` that this library does not have are left out, so that none has to be refused.
 #[derive(Clone, Copy, Debug, PartialEq, Eq, Hash)]
 #[non_exhaustive]
-#[allow(missing_docs)]
 pub enum Codec {
+    /// RFC 7587.
     Opus,
+    /// G.711 with the mu law (RFC 3551).
     PCMU,
+    /// G.711 with the A law (RFC 3551).
     PCMA,
+    /// RFC 3551.
     G722,
+    /// Comfort noise (RFC 3389).
     CN,
+    /// RFC 4867.
     AmrWb,
+    /// RFC 7741.
     Vp8,
+    /// RFC 9628.
     Vp9,
+    /// The AV1 RTP payload format.
     Av1,
+    /// Payloads that carry whatever they are given.
     Null,
+    /// Telephone events (RFC 4733).
     Tele,
 }
 
@@ -183,7 +193,7 @@ impl MediaTime {
 
     /// The same time in ticks of another rate, rounded down, modulo 2^64.
     #[must_use]
-    #[allow(clippy::cast_possible_truncation)]
+    #[allow(clippy::cast_possible_truncation, reason = "modulo 2^64")]
     pub fn rebase(self, rate: Frequency) -> MediaTime {
         let ticks = self.crossed(rate) / u128::from(self.denom.get());
         MediaTime::new(ticks as u64, rate)
@@ -222,7 +232,7 @@ pub struct SeqNo(u64);
 impl SeqNo {
     /// The 16 bits of the RTP header.
     #[must_use]
-    #[allow(clippy::cast_possible_truncation)]
+    #[allow(clippy::cast_possible_truncation, reason = "the low 16 bits")]
     pub fn as_u16(self) -> u16 {
         self.0 as u16
     }
