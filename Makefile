@@ -6,7 +6,8 @@
 #                                         where `make man` was called
 #   make uninstall PREFIX=..
 #   make dist                             a tarball with the archive in it, for those who do not have rt
-#   make deb                              Debian packages, in bindings/out, by debhelper
+#   make deb                              Debian packages, in bindings/out, by debhelper: the shared library, what is wanted to
+#                                         build against it and, where libpcap and libavformat are there, the recorder
 #   make check                            installs into a fresh folder and builds against it (scripts/install_test.sh)
 #
 # The archive is proved and built by rt, once, where it is not there yet.
@@ -31,7 +32,11 @@ documents = README.md CHANGELOG.md
 pages = $(wildcard docs/*.md)
 pictures = $(wildcard docs/pictures/*.svg)
 manual = $(out)/man/man3
-shipped = Makefile include packaging bindings/c/example.c $(documents) $(pages) $(pictures) $(archive)
+recorder = tools/rtp_record
+shipped = Makefile include packaging bindings/c/example.c $(documents) $(pages) $(pictures) $(archive) \
+    $(addprefix $(recorder)/,Makefile README.md rtp_record.1 completion.bash) $(wildcard $(recorder)/*.c $(recorder)/*.h)
+# Without libpcap and libavformat the packages are made without the recorder.
+profiles = $(shell pkg-config --exists libpcap libavformat libavcodec libavutil || echo pkg.codec-payload.notools)
 
 all: $(archive) $(shared)
 
@@ -84,7 +89,7 @@ deb: dist
 	sed -e 's|@VERSION@|$(VERSION)|' -e "s|@DATE@|$$(date -R -d @$${SOURCE_DATE_EPOCH:-$$(date +%s)})|" \
 	    packaging/debian/changelog.in >$(out)/deb/$(name)/debian/changelog
 	rm $(out)/deb/$(name)/debian/changelog.in
-	cd $(out)/deb/$(name) && dpkg-buildpackage -b -us -uc
+	cd $(out)/deb/$(name) && DEB_BUILD_PROFILES="$(profiles)" dpkg-buildpackage -b -us -uc
 	mv $(out)/deb/*.deb $(out)
 
 check: all

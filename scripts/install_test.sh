@@ -5,7 +5,8 @@
 # against the shared library and against the archive, and by CMake where there is cmake; each prints what it should. The same by
 # the tarball of `make dist`, unpacked elsewhere and without rt. In the end all is uninstalled, and nothing is left. Manual pages
 # are made and installed where there is doxygen, and Debian packages where there are debhelper and doxygen: lintian finds no
-# error in them, and the example is built against what they unpack.
+# error in them, the example is built against what they unpack, and the recorder, where libpcap and libavformat are there, lists
+# and writes a capture of the repository.
 #
 # Needs make, a C and a C++ compiler, nm and pkg-config; the library as `scripts/faces.sh library` builds it. The last line says
 # what passed; the status is 0 where all did.
@@ -100,6 +101,24 @@ packs() {
     "$compiler" -std=c11 -I"$work/debian/usr/include" "$1/bindings/c/example.c" -L"$folder" -lcodec_payload -o "$work/packed" &&
         LD_LIBRARY_PATH=$folder "$work/packed" >"$work/printed" || fail "the example fails against the Debian packages"
     packed=", the Debian packages"
+    pkg-config --exists libpcap libavformat libavcodec libavutil || return 0
+    records "$folder"
+    packed="$packed with the recorder"
+}
+
+# records FOLDER: the packed recorder lists and writes a capture over the shared library in that folder
+records() {
+    recorder=$work/debian/usr/bin/rtp_record
+    for file in bin/rtp_record share/man/man1/rtp_record.1.gz share/bash-completion/completions/rtp_record; do
+        [ -f "$work/debian/usr/$file" ] || fail "the package of the recorder lacks $file"
+    done
+    LD_LIBRARY_PATH=$1 ldd "$recorder" | grep -q "libcodec_payload.so.0 => $1/" || fail "the recorder is not linked against the library"
+    LD_LIBRARY_PATH=$1 "$recorder" --help | grep -q '^usage: rtp_record' || fail "the recorder has no help"
+    captures=$root/tools/rtp_record/captures
+    LD_LIBRARY_PATH=$1 "$recorder" -q -s "$captures/vp8.sdp" -o "$work/recorded.ivf" "$captures/vp8.pcap" >"$work/listed" ||
+        fail "the recorder does not read a capture"
+    grep -q VP8 "$work/listed" || fail "the recorder lists no VP8"
+    [ -s "$work/recorded.ivf" ] || fail "the recorder writes nothing"
 }
 
 # installs FOLDER: from there into $prefix, builds against it, and uninstalls

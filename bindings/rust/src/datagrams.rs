@@ -21,15 +21,16 @@
 //! # }
 //! ```
 
-use crate::error::{Error, NONE, TOO_SMALL, told};
+use crate::error::{Error, NONE, told};
 use crate::handle::Handle;
+use crate::memory::{Expected, MOST_ADDED, append};
 use crate::raw::{
     self, RtpInfo, cpay_is_rtcp, cpay_receiver_counts, cpay_receiver_finish, cpay_receiver_missing,
     cpay_receiver_new, cpay_receiver_next_deadline, cpay_receiver_pop, cpay_receiver_receive,
     cpay_receiver_report, cpay_receiver_restart, cpay_rtp_read, cpay_sender_counts,
     cpay_sender_datagram, cpay_sender_new, cpay_sender_send,
 };
-use crate::{Settings, Unit};
+use crate::{Batch, Settings, Unit, UnitInfo};
 
 /// Whether a datagram on a port for both is RTCP, by its second byte: 192 to 223 (RFC 5761, section 4).
 #[must_use]
@@ -155,9 +156,15 @@ pub struct SenderCounts {
     pub next_number: u16,
 }
 
+/// The bytes of an RTP header without contributing sources and extension (RFC 3550, section 5.1).
+const RTP_HEADER: usize = 12;
+
 /// Makes the datagrams of one stream.
 #[derive(Debug)]
-pub struct Sender(Handle<raw::Sender>);
+pub struct Sender {
+    handle: Handle<raw::Sender>,
+    mtu: usize,
+}
 
 impl Sender {
     /// A sender by its settings.
@@ -177,11 +184,17 @@ impl Sender {
         let mut handle = Handle::empty();
         // SAFETY: an empty handle, and a struct that is borrowed for the call.
         told(unsafe { cpay_sender_new(handle.raw(), &settings) })?;
-        Ok(Sender(handle))
+        Ok(Sender {
+            handle,
+            mtu: settings.mtu,
+        })
     }
 
     /// The datagrams of a frame, whose time is in ticks of the RTP clock: its low 32 bits are sent. See
     /// [`Packetizer::packetize`](crate::Packetizer::packetize).
+    ///
+    /// Each is a vector of its own, with one call and one copy a datagram; [`send_into`](Sender::send_into) uses one memory
+    /// again and again.
     ///
     /// # Errors
     ///
@@ -192,11 +205,62 @@ impl Sender {
         starts_talk_spurt: bool,
         frame: &[u8],
     ) -> Result<Vec<Vec<u8>>, Error> {
+        let count = self.cut(rtp_time, starts_talk_spurt, frame)?;
+        let mut left = frame.len();
+        let mut datagrams = Vec::with_capacity(count);
+        for place in 0..count {
+            let most = left.saturating_add(MOST_ADDED).min(self.mtu);
+            let mut datagram = Vec::new();
+            self.datagram(place, most.saturating_add(RTP_HEADER), &mut datagram)?;
+            left = left.saturating_sub(datagram.len().saturating_sub(MOST_ADDED + RTP_HEADER));
+            datagrams.push(datagram);
+        }
+        Ok(datagrams)
+    }
+
+    /// The same datagrams, in the memory of a batch, in place of those of the frame before. It takes memory only where a frame
+    /// has more bytes or datagrams than those before.
+    ///
+    /// # Errors
+    ///
+    /// As of [`send`](Sender::send). The batch is then empty.
+    pub fn send_into(
+        &mut self,
+        rtp_time: u64,
+        starts_talk_spurt: bool,
+        frame: &[u8],
+        batch: &mut Batch,
+    ) -> Result<(), Error> {
+        batch.clear();
+        let count = self.cut(rtp_time, starts_talk_spurt, frame)?;
+        batch.reserve(count, frame.len() + count * (MOST_ADDED + RTP_HEADER));
+        for place in 0..count {
+            let before = batch.bytes().len();
+            if let Err(fault) = self.datagram(place, 0, batch.bytes_mut()) {
+                batch.clear();
+                return Err(fault);
+            }
+            let marker = batch
+                .bytes()
+                .get(before + 1)
+                .is_some_and(|byte| byte & 0x80 != 0);
+            batch.note(marker, false);
+        }
+        Ok(())
+    }
+
+    /// Cuts a frame, and tells how many datagrams it has.
+    fn cut(
+        &mut self,
+        rtp_time: u64,
+        starts_talk_spurt: bool,
+        frame: &[u8],
+    ) -> Result<usize, Error> {
         let mut count = 0;
         // SAFETY: the pointer and the length are those of one slice, and all is borrowed for the call.
         told(unsafe {
             cpay_sender_send(
-                self.0.raw(),
+                self.handle.raw(),
                 rtp_time,
                 starts_talk_spurt,
                 frame.as_ptr(),
@@ -204,30 +268,20 @@ impl Sender {
                 &mut count,
             )
         })?;
-        (0..count).map(|place| self.datagram(place)).collect()
+        Ok(count)
     }
 
-    /// The datagram at a place, whose size is asked for first.
-    fn datagram(&mut self, place: usize) -> Result<Vec<u8>, Error> {
-        let mut bytes = Vec::new();
+    /// Appends the datagram at a place, by one call where there is room for so many bytes as it has.
+    fn datagram(&mut self, place: usize, room: usize, bytes: &mut Vec<u8>) -> Result<(), Error> {
         let mut size = 0;
-        loop {
-            // SAFETY: as in `send`.
-            let status = unsafe {
-                cpay_sender_datagram(
-                    self.0.raw(),
-                    place,
-                    bytes.as_mut_ptr(),
-                    bytes.len(),
-                    &mut size,
-                )
-            };
-            if status != TOO_SMALL {
-                told(status)?;
-                return Ok(bytes);
-            }
-            bytes.resize(size, 0);
-        }
+        let handle = self.handle.raw();
+        // SAFETY: the call writes what it says to the bytes it is given, and reads none of them.
+        told(unsafe {
+            append(bytes, room, |at, room| {
+                let status = cpay_sender_datagram(handle, place, at, room, &mut size);
+                (status, size)
+            })
+        })
     }
 
     /// What sender reports tell.
@@ -235,10 +289,13 @@ impl Sender {
     /// # Errors
     ///
     /// None today.
-    pub fn counts(&mut self) -> Result<SenderCounts, Error> {
+    pub fn counts(&self) -> Result<SenderCounts, Error> {
         let mut counts = raw::SenderCountsInfo::default();
-        // SAFETY: as in `send`.
-        told(unsafe { cpay_sender_counts(self.0.raw(), &mut counts) })?;
+        // SAFETY: a struct that is borrowed for the call, and a handle that no other call uses.
+        told(
+            self.handle
+                .look(|handle| unsafe { cpay_sender_counts(handle, &mut counts) }),
+        )?;
         Ok(SenderCounts {
             packets: counts.packets,
             octets: counts.octets,
@@ -512,7 +569,10 @@ pub struct Report {
 
 /// Takes the datagrams of one stream in, and gives its units in order.
 #[derive(Debug)]
-pub struct Receiver(Handle<raw::Receiver>);
+pub struct Receiver {
+    handle: Handle<raw::Receiver>,
+    expected: Expected,
+}
 
 impl Receiver {
     /// A receiver by its settings.
@@ -531,7 +591,10 @@ impl Receiver {
                 settings.no_media.len(),
             )
         })?;
-        Ok(Receiver(handle))
+        Ok(Receiver {
+            handle,
+            expected: Expected::default(),
+        })
     }
 
     /// Takes a datagram in, at that time in ticks of the caller's clock, and says what became of it. Any bytes may be given.
@@ -545,7 +608,7 @@ impl Receiver {
         // SAFETY: the pointer and the length are those of one slice, and all is borrowed for the call.
         told(unsafe {
             cpay_receiver_receive(
-                self.0.raw(),
+                self.handle.raw(),
                 now,
                 datagram.as_ptr(),
                 datagram.len(),
@@ -559,32 +622,54 @@ impl Receiver {
     /// packets plus 2^32, and each later one the nearest to that of the unit before with its timestamp. After an `Err` the next call goes on, as that of
     /// [`Buffer::pop`](crate::Buffer::pop).
     pub fn pop(&mut self, now: u64) -> Option<Result<Unit, Error>> {
-        let mut told_unit = raw::Unit::default();
-        let mut bytes = Vec::new();
-        loop {
-            // SAFETY: as in `receive`.
-            let status = unsafe {
-                cpay_receiver_pop(
-                    self.0.raw(),
-                    now,
-                    &mut told_unit,
-                    bytes.as_mut_ptr(),
-                    bytes.len(),
-                )
-            };
-            match status {
-                NONE => return None,
-                TOO_SMALL => bytes.resize(told_unit.bytes, 0),
-                status => return Some(told(status).map(|()| Unit::of(&told_unit, bytes))),
+        let mut bytes = self.expected.take();
+        match self.pop_into(now, &mut bytes) {
+            Some(Ok(info)) => {
+                self.expected.give(&mut bytes);
+                Some(Ok(info.with(bytes)))
+            }
+            other => {
+                self.expected.keep(bytes);
+                Some(Err(other?.err()?))
             }
         }
     }
 
+    /// The same, with the unit's bytes in place of those in `bytes`. Where they have room for it nothing is allocated here.
+    /// Without a unit the vector is empty.
+    pub fn pop_into(&mut self, now: u64, bytes: &mut Vec<u8>) -> Option<Result<UnitInfo, Error>> {
+        let mut unit = raw::Unit::default();
+        bytes.clear();
+        let handle = self.handle.raw();
+        // SAFETY: the call writes what it says to the bytes it is given, and reads none of them.
+        let status = unsafe {
+            append(bytes, 0, |place, room| {
+                let status = cpay_receiver_pop(handle, now, &mut unit, place, room);
+                (status, unit.bytes)
+            })
+        };
+        if status == NONE {
+            return None;
+        }
+        Some(told(status).map(|()| UnitInfo::of(&unit)))
+    }
+
+    /// What is left at the end of a stream: [`finish`](Receiver::finish), and all units that are complete.
+    ///
+    /// An item that is [`Error::OutOfMemory`] comes again until memory is found, so leave off there.
+    pub fn drain(&mut self, now: u64) -> impl Iterator<Item = Result<Unit, Error>> + '_ {
+        self.finish();
+        std::iter::from_fn(move || self.pop(now))
+    }
+
     /// When [`pop`](Receiver::pop) may give a unit without a datagram coming. `None`: only a datagram can help.
-    pub fn next_deadline(&mut self) -> Option<u64> {
+    #[must_use]
+    pub fn next_deadline(&self) -> Option<u64> {
         let mut at = 0;
-        // SAFETY: as in `receive`.
-        let status = unsafe { cpay_receiver_next_deadline(self.0.raw(), &mut at) };
+        // SAFETY: a number that is borrowed for the call, and a handle that no other call uses.
+        let status = self
+            .handle
+            .look(|handle| unsafe { cpay_receiver_next_deadline(handle, &mut at) });
         (status == 0).then_some(at)
     }
 
@@ -592,26 +677,31 @@ impl Receiver {
     /// until [`restart`](Receiver::restart).
     pub fn finish(&mut self) {
         // SAFETY: a struct that is borrowed for the call. It holds a receiver, so the call succeeds.
-        unsafe { cpay_receiver_finish(self.0.raw()) };
+        unsafe { cpay_receiver_finish(self.handle.raw()) };
     }
 
     /// The sender begins anew, as signalling or a new SSRC tells: the next packet of the stream gets a number above all others, and
     /// pops wait again. Where the settings name no SSRC, the stream's is again that of the first packet that comes.
     pub fn restart(&mut self) {
         // SAFETY: as in `finish`.
-        unsafe { cpay_receiver_restart(self.0.raw()) };
+        unsafe { cpay_receiver_restart(self.handle.raw()) };
     }
 
     /// The numbers that are missing, in rising order, at most `most` of them. Their low 16 bits are what a negative acknowledgement
     /// asks for (RFC 4585, section 6.2.1). Takes one allocation.
     #[must_use]
-    pub fn missing(&mut self, most: usize) -> Vec<u64> {
-        let mut numbers = vec![0; most];
+    pub fn missing(&self, most: usize) -> Vec<u64> {
+        let mut numbers: Vec<u64> = Vec::with_capacity(most);
         let mut count = 0;
-        // SAFETY: the pointer and the length are those of one vector; else as in `receive`.
-        let status =
-            unsafe { cpay_receiver_missing(self.0.raw(), numbers.as_mut_ptr(), most, &mut count) };
-        numbers.truncate(if status == 0 { count } else { 0 });
+        let place = numbers.as_mut_ptr();
+        // SAFETY: the vector has room for so many numbers, of which the call reads none; no other call uses the handle.
+        let status = self
+            .handle
+            .look(|handle| unsafe { cpay_receiver_missing(handle, place, most, &mut count) });
+        if status == 0 {
+            // SAFETY: so many numbers were written.
+            unsafe { numbers.set_len(count) };
+        }
         numbers
     }
 
@@ -619,7 +709,7 @@ impl Receiver {
     pub fn report(&mut self) -> Option<Report> {
         let mut report = raw::ReportInfo::default();
         // SAFETY: as in `receive`.
-        let status = unsafe { cpay_receiver_report(self.0.raw(), &mut report) };
+        let status = unsafe { cpay_receiver_report(self.handle.raw(), &mut report) };
         (status == 0).then_some(Report {
             cumulative_lost: report.cumulative_lost,
             highest: report.highest,
@@ -633,10 +723,13 @@ impl Receiver {
     /// # Errors
     ///
     /// None today.
-    pub fn counts(&mut self) -> Result<ReceiverCounts, Error> {
+    pub fn counts(&self) -> Result<ReceiverCounts, Error> {
         let mut counts = raw::ReceiverCountsInfo::default();
-        // SAFETY: as in `receive`.
-        told(unsafe { cpay_receiver_counts(self.0.raw(), &mut counts) })?;
+        // SAFETY: a struct that is borrowed for the call, and a handle that no other call uses.
+        told(
+            self.handle
+                .look(|handle| unsafe { cpay_receiver_counts(handle, &mut counts) }),
+        )?;
         Ok(ReceiverCounts {
             received: counts.received,
             rtcp: counts.rtcp,

@@ -3,7 +3,8 @@
 //! A [`Packetizer`] cuts frames into payloads that keep an MTU. A [`Buffer`] takes received packets in any order and gives
 //! whole units back, in order; it is an [`Iterator`] over those that are ready. [`red`] has RFC 2198, [`vp8`] descriptors of
 //! VP8 payloads, [`telephone`] reports on telephone events, [`media`] what frames say of themselves. [`datagrams`] has what stands
-//! between a socket and these: RTP packets, a sender and a receiver.
+//! between a socket and these: RTP packets, a sender and a receiver. A [`Batch`] is memory for packets that is used again. [`str0m`]
+//! is for code that was written against that crate.
 //!
 //! ```
 //! use codec_payload::{Buffer, Codec, Error, Packetizer, Received, Settings};
@@ -28,39 +29,47 @@
 //! # }
 //! ```
 //!
-//! Each of them may go to another thread, and is used by one at a time.
+//! Each of them may go to another thread, and is used by one at a time; calls that only look may come from several at once.
 
+mod batch;
 pub mod datagrams;
 mod error;
 mod extra;
 mod handle;
 mod looks;
 pub mod media;
+mod memory;
 pub mod red;
+pub mod str0m;
 pub mod telephone;
+mod unit;
 pub mod vp8;
 
+pub use batch::{Batch, BatchPacket, BatchPackets};
 use codec_payload_sys as raw;
 pub use error::Error;
-use error::{NONE, TOO_SMALL, told};
+use error::{NONE, told};
 pub use extra::{Extra, TelephoneEvent, Vp8Extra, Vp9Extra, Vp9Layer};
 use handle::Handle;
 pub use looks::{
     extend_number, is_av1_keyframe, is_head, is_tail, is_vp9_frame_keyframe, is_vp9_keyframe,
 };
+use memory::{Expected, MOST_ADDED, append};
 use raw::*;
 use std::fmt;
 use std::str::FromStr;
+pub use unit::{Unit, UnitInfo};
 
 /// A payload format.
 ///
 /// It is read from, and printed as, the encoding name of SDP: `opus`, `PCMU`, `PCMA`, `G722`, `CN`, `AMR-WB`, `VP8`, `VP9`, `AV1`,
 /// `telephone-event`, and `null` for payloads without a format. Capitals do not matter where it is read.
-#[derive(Clone, Copy, Debug, PartialEq, Eq, Hash)]
+#[derive(Clone, Copy, Debug, Default, PartialEq, Eq, Hash)]
 #[repr(u32)]
 #[non_exhaustive]
 pub enum Codec {
     /// RFC 7587. Its RTP clock has 48,000 ticks a second.
+    #[default]
     Opus = 0,
     /// G.711 with the mu law (RFC 3551), at 8,000.
     Pcmu = 1,
@@ -100,6 +109,20 @@ impl Codec {
         Codec::Telephone,
     ];
 
+    /// The rate of its RTP clock in hertz: of telephone events that of RFC 4733 where no other is signalled, 8,000, and of
+    /// payloads without a format 90,000.
+    #[must_use]
+    pub const fn clock_rate(self) -> u32 {
+        match self {
+            Codec::Opus => 48_000,
+            Codec::AmrWb => 16_000,
+            Codec::Vp8 | Codec::Vp9 | Codec::Av1 | Codec::Null => 90_000,
+            Codec::Pcmu | Codec::Pcma | Codec::G722 | Codec::ComfortNoise | Codec::Telephone => {
+                8_000
+            }
+        }
+    }
+
     /// The encoding name of SDP.
     #[must_use]
     pub fn name(self) -> &'static str {
@@ -128,6 +151,10 @@ impl fmt::Display for Codec {
 impl FromStr for Codec {
     type Err = Error;
 
+    /// The codec of that name.
+    ///
+    /// # Errors
+    ///
     /// [`Error::Invalid`] for a name that is none of them.
     fn from_str(name: &str) -> Result<Codec, Error> {
         let same = |codec: &Codec| codec.name().eq_ignore_ascii_case(name);
@@ -138,7 +165,11 @@ impl FromStr for Codec {
 impl TryFrom<u32> for Codec {
     type Error = Error;
 
-    /// The codec of that number in C; [`Error::Invalid`] where there is none.
+    /// The codec of that number in C.
+    ///
+    /// # Errors
+    ///
+    /// [`Error::Invalid`] where there is none.
     fn try_from(number: u32) -> Result<Codec, Error> {
         let same = |codec: &Codec| *codec as u32 == number;
         Codec::ALL.into_iter().find(same).ok_or(Error::Invalid)
@@ -176,6 +207,13 @@ impl Settings {
             vp8_ids: false,
             vp9_flexible: false,
         }
+    }
+
+    /// The same with that rate of the RTP clock in hertz, above 0.
+    #[must_use]
+    pub fn with_rate(mut self, rate: u32) -> Settings {
+        self.rate = rate;
+        self
     }
 
     /// The same with that first picture id, at most 32,767.
@@ -218,8 +256,22 @@ impl Settings {
     }
 }
 
+impl From<Codec> for Settings {
+    /// The codec at its [clock rate](Codec::clock_rate), else as [`Settings::new`].
+    fn from(codec: Codec) -> Settings {
+        Settings::new(codec, codec.clock_rate())
+    }
+}
+
+impl Default for Settings {
+    /// Opus at 48,000.
+    fn default() -> Settings {
+        Settings::from(Codec::default())
+    }
+}
+
 /// A packet of a frame.
-#[derive(Clone, Debug, PartialEq, Eq)]
+#[derive(Clone, Debug, PartialEq, Eq, Hash)]
 pub struct Packet {
     /// What goes behind the RTP header.
     pub payload: Vec<u8>,
@@ -231,7 +283,10 @@ pub struct Packet {
 
 /// Cuts frames into packets.
 #[derive(Debug)]
-pub struct Packetizer(Handle<raw::Packetizer>);
+pub struct Packetizer {
+    handle: Handle<raw::Packetizer>,
+    codec: Codec,
+}
 
 impl Packetizer {
     /// A packetizer by its settings.
@@ -243,12 +298,18 @@ impl Packetizer {
         let mut handle = Handle::empty();
         // SAFETY: an empty handle, and a struct that is borrowed for the call.
         told(unsafe { cpay_packetizer_new(handle.raw(), &settings.raw()) })?;
-        Ok(Packetizer(handle))
+        Ok(Packetizer {
+            handle,
+            codec: settings.codec,
+        })
     }
 
     /// The packets of a frame, of at most `mtu` bytes each; none for an empty frame. [`Codec::Null`] alone looks at no MTU: a
     /// frame is one packet, also an empty one. Of Opus, G.711, G.722, AMR-WB and telephone events those of a frame that starts
     /// a talk spurt are marked; the other codecs do not look at `starts_talk_spurt`.
+    ///
+    /// Each payload is a vector of its own, with one call and one copy a packet; [`packetize_into`](Packetizer::packetize_into)
+    /// uses one memory again and again.
     ///
     /// # Errors
     ///
@@ -260,11 +321,58 @@ impl Packetizer {
         starts_talk_spurt: bool,
         frame: &[u8],
     ) -> Result<Vec<Packet>, Error> {
+        let count = self.cut(mtu, starts_talk_spurt, frame)?;
+        let mut packets = Vec::with_capacity(count);
+        let mut left = frame.len();
+        for _ in 0..count {
+            let mut payload = Vec::new();
+            let info = self.packet(self.room(mtu, left), &mut payload)?;
+            left = left.saturating_sub(info.bytes.saturating_sub(MOST_ADDED));
+            packets.push(Packet {
+                payload,
+                marker: info.marker,
+                nackable: info.nackable,
+            });
+        }
+        Ok(packets)
+    }
+
+    /// The same packets, in the memory of a batch, whose packets of the frame before they take the place of. It takes memory only
+    /// where a frame has more bytes or packets than those before.
+    ///
+    /// # Errors
+    ///
+    /// As of [`packetize`](Packetizer::packetize). The batch is then empty.
+    pub fn packetize_into(
+        &mut self,
+        mtu: usize,
+        starts_talk_spurt: bool,
+        frame: &[u8],
+        batch: &mut Batch,
+    ) -> Result<(), Error> {
+        batch.clear();
+        let count = self.cut(mtu, starts_talk_spurt, frame)?;
+        batch.reserve(count, frame.len() + count * MOST_ADDED);
+        for _ in 0..count {
+            let info = self.packet(0, batch.bytes_mut());
+            match info {
+                Ok(info) => batch.note(info.marker, info.nackable),
+                Err(fault) => {
+                    batch.clear();
+                    return Err(fault);
+                }
+            }
+        }
+        Ok(())
+    }
+
+    /// Cuts a frame, and tells how many packets wait to be taken.
+    fn cut(&mut self, mtu: usize, starts_talk_spurt: bool, frame: &[u8]) -> Result<usize, Error> {
         let mut count = 0;
         // SAFETY: the pointer and the length are those of one slice, and all is borrowed for the call.
         told(unsafe {
             cpay_packetize(
-                self.0.raw(),
+                self.handle.raw(),
                 mtu,
                 starts_talk_spurt,
                 frame.as_ptr(),
@@ -272,28 +380,30 @@ impl Packetizer {
                 &mut count,
             )
         })?;
-        (0..count).map(|_| self.packet()).collect()
+        Ok(count)
     }
 
-    /// The next packet, whose size is asked for first.
-    fn packet(&mut self) -> Result<Packet, Error> {
-        let mut info = PacketInfo::default();
-        let mut payload = Vec::new();
-        loop {
-            // SAFETY: as in `packetize`.
-            let status = unsafe {
-                cpay_packet(self.0.raw(), &mut info, payload.as_mut_ptr(), payload.len())
-            };
-            if status != TOO_SMALL {
-                told(status)?;
-                return Ok(Packet {
-                    payload,
-                    marker: info.marker,
-                    nackable: info.nackable,
-                });
-            }
-            payload.resize(info.bytes, 0);
+    /// How many bytes the next payload has at most, where so many of the frame are left.
+    fn room(&self, mtu: usize, left: usize) -> usize {
+        if self.codec == Codec::Null {
+            left
+        } else {
+            mtu.min(left.saturating_add(MOST_ADDED))
         }
+    }
+
+    /// Appends the next payload, by one call where there is room for so many bytes as it has.
+    fn packet(&mut self, room: usize, bytes: &mut Vec<u8>) -> Result<PacketInfo, Error> {
+        let mut info = PacketInfo::default();
+        let handle = self.handle.raw();
+        // SAFETY: the call writes what it says to the place it is given, and reads none of it.
+        told(unsafe {
+            append(bytes, room, |place, room| {
+                let status = cpay_packet(handle, &mut info, place, room);
+                (status, info.bytes)
+            })
+        })?;
+        Ok(info)
     }
 }
 
@@ -308,27 +418,6 @@ pub struct Received {
     pub rtp_time: u64,
     /// The marker.
     pub marker: bool,
-}
-
-/// A unit that was put together.
-#[derive(Clone, Debug, PartialEq, Eq)]
-pub struct Unit {
-    /// The number of its first packet.
-    pub first: u64,
-    /// The number of its last packet.
-    pub last: u64,
-    /// The timestamp of its packets, as it was pushed.
-    pub rtp_time: u64,
-    /// When the first of its packets to come was received.
-    pub received: u64,
-    /// It follows the unit before it.
-    pub contiguous: bool,
-    /// Its first packet has the marker, which audio sets where a talk spurt starts.
-    pub starts_talk_spurt: bool,
-    /// What its payloads told besides.
-    pub extra: Extra,
-    /// The frame.
-    pub bytes: Vec<u8>,
 }
 
 /// How much a buffer holds.
@@ -347,7 +436,10 @@ pub struct Counts {
 /// It is an iterator over the units whose turn has come, which goes on after a push: `None` is not the end, so it is not fused.
 /// At the end of a stream [`drain`](Buffer::drain) gives what is left.
 #[derive(Debug)]
-pub struct Buffer(Handle<raw::Buffer>);
+pub struct Buffer {
+    handle: Handle<raw::Buffer>,
+    expected: Expected,
+}
 
 impl Buffer {
     /// A buffer of at most `limit` packets, 1 to 65,536. A frame behind missing packets waits until more than `hold_back`
@@ -360,7 +452,10 @@ impl Buffer {
         let mut handle = Handle::empty();
         // SAFETY: an empty handle, and a struct that is borrowed for the call.
         told(unsafe { cpay_buffer_new(handle.raw(), &settings.raw(), hold_back, limit) })?;
-        Ok(Buffer(handle))
+        Ok(Buffer {
+            handle,
+            expected: Expected::default(),
+        })
     }
 
     /// Puts a packet in. One that is held already, or comes too late, is dropped.
@@ -376,37 +471,54 @@ impl Buffer {
             marker: packet.marker,
         };
         // SAFETY: the pointer and the length are those of one slice, and all is borrowed for the call.
-        told(unsafe { cpay_buffer_push(self.0.raw(), &packet, payload.as_ptr(), payload.len()) })
+        told(unsafe {
+            cpay_buffer_push(self.handle.raw(), &packet, payload.as_ptr(), payload.len())
+        })
     }
 
     /// The next unit, if its turn has come. After an `Err` the next call goes on: a frame that is refused by its format has left,
     /// and one for which memory was wanting is still there.
+    ///
+    /// Its bytes are a vector of its own, with room for a unit as large as those before, so that one call does. It costs one
+    /// copy and one allocation; [`pop_into`](Buffer::pop_into) takes a vector of the caller's.
     pub fn pop(&mut self) -> Option<Result<Unit, Error>> {
-        let mut told_unit = raw::Unit::default();
-        let mut bytes = Vec::new();
-        loop {
-            // SAFETY: as in `push`.
-            let status = unsafe {
-                cpay_buffer_pop(
-                    self.0.raw(),
-                    &mut told_unit,
-                    bytes.as_mut_ptr(),
-                    bytes.len(),
-                )
-            };
-            match status {
-                NONE => return None,
-                TOO_SMALL => bytes.resize(told_unit.bytes, 0),
-                status => return Some(told(status).map(|()| Unit::of(&told_unit, bytes))),
+        let mut bytes = self.expected.take();
+        match self.pop_into(&mut bytes) {
+            Some(Ok(info)) => {
+                self.expected.give(&mut bytes);
+                Some(Ok(info.with(bytes)))
+            }
+            other => {
+                self.expected.keep(bytes);
+                Some(Err(other?.err()?))
             }
         }
+    }
+
+    /// The same, with the unit's bytes in place of those in `bytes`. Where they have room for it nothing is allocated here.
+    /// Without a unit the vector is empty.
+    pub fn pop_into(&mut self, bytes: &mut Vec<u8>) -> Option<Result<UnitInfo, Error>> {
+        let mut unit = raw::Unit::default();
+        bytes.clear();
+        let handle = self.handle.raw();
+        // SAFETY: the call writes what it says to the place it is given, and reads none of it.
+        let status = unsafe {
+            append(bytes, 0, |place, room| {
+                let status = cpay_buffer_pop(handle, &mut unit, place, room);
+                (status, unit.bytes)
+            })
+        };
+        if status == NONE {
+            return None;
+        }
+        Some(told(status).map(|()| UnitInfo::of(&unit)))
     }
 
     /// From now on a frame behind missing packets waits until more than `hold_back` complete frames are there. Where a stream
     /// ends, set it to 0 and take units until there is none.
     pub fn set_hold_back(&mut self, hold_back: usize) {
         // SAFETY: a struct that is borrowed for the call. It holds a buffer, so the call succeeds.
-        unsafe { cpay_buffer_set_hold_back(self.0.raw(), hold_back) };
+        unsafe { cpay_buffer_set_hold_back(self.handle.raw(), hold_back) };
     }
 
     /// What is left at the end of a stream: nothing is held back any more, so units behind a gap come too. Packets of frames that
@@ -422,7 +534,7 @@ impl Buffer {
     /// waited for.
     pub fn pass_number(&mut self, number: u64) {
         // SAFETY: as in `set_hold_back`.
-        unsafe { cpay_buffer_pass_number(self.0.raw(), number) };
+        unsafe { cpay_buffer_pass_number(self.handle.raw(), number) };
     }
 
     /// How much is held.
@@ -430,30 +542,18 @@ impl Buffer {
     /// # Errors
     ///
     /// None today.
-    pub fn counts(&mut self) -> Result<Counts, Error> {
+    pub fn counts(&self) -> Result<Counts, Error> {
         let mut counts = BufferCountsInfo::default();
-        // SAFETY: as in `push`.
-        told(unsafe { cpay_buffer_counts(self.0.raw(), &mut counts) })?;
+        // SAFETY: a struct that is borrowed for the call, and a handle that no other call uses.
+        told(
+            self.handle
+                .look(|handle| unsafe { cpay_buffer_counts(handle, &mut counts) }),
+        )?;
         Ok(Counts {
             packets: counts.held,
             ready: counts.ready,
             limit: counts.limit,
         })
-    }
-}
-
-impl Unit {
-    fn of(told: &raw::Unit, bytes: Vec<u8>) -> Unit {
-        Unit {
-            first: told.first,
-            last: told.last,
-            rtp_time: told.rtp_time,
-            received: told.received,
-            contiguous: told.contiguous,
-            starts_talk_spurt: told.starts_talk_spurt,
-            extra: Extra::of(&told.extra),
-            bytes,
-        }
     }
 }
 
@@ -467,7 +567,11 @@ impl Iterator for Buffer {
 
 /// Puts payloads together that the caller has put in order.
 #[derive(Debug)]
-pub struct Depacketizer(Handle<raw::Depacketizer>);
+pub struct Depacketizer {
+    handle: Handle<raw::Depacketizer>,
+    /// How many bytes the payloads have that were given since the last take, and so nearly what they carry.
+    given: usize,
+}
 
 impl Depacketizer {
     /// A depacketizer by its settings.
@@ -479,7 +583,7 @@ impl Depacketizer {
         let mut handle = Handle::empty();
         // SAFETY: an empty handle, and a struct that is borrowed for the call.
         told(unsafe { cpay_depacketizer_new(handle.raw(), &settings.raw()) })?;
-        Ok(Depacketizer(handle))
+        Ok(Depacketizer { handle, given: 0 })
     }
 
     /// Reads a payload, and appends what it carries.
@@ -489,7 +593,9 @@ impl Depacketizer {
     /// The fault of the format, and [`Error::OutOfMemory`]. What payloads before it gave stays.
     pub fn depacketize(&mut self, payload: &[u8]) -> Result<(), Error> {
         // SAFETY: the pointer and the length are those of one slice, and all is borrowed for the call.
-        told(unsafe { cpay_depacketize(self.0.raw(), payload.as_ptr(), payload.len()) })
+        told(unsafe { cpay_depacketize(self.handle.raw(), payload.as_ptr(), payload.len()) })?;
+        self.given = self.given.saturating_add(payload.len());
+        Ok(())
     }
 
     /// What the payloads since the last such call gave, and told.
@@ -498,26 +604,29 @@ impl Depacketizer {
     ///
     /// [`Error::OutOfMemory`].
     pub fn take(&mut self) -> Result<(Vec<u8>, Extra), Error> {
+        let mut bytes = Vec::new();
+        let extra = self.take_into(&mut bytes)?;
+        Ok((bytes, extra))
+    }
+
+    /// The same, with the bytes behind those in `bytes`. Where these have room for them nothing is allocated here.
+    ///
+    /// # Errors
+    ///
+    /// [`Error::OutOfMemory`].
+    pub fn take_into(&mut self, bytes: &mut Vec<u8>) -> Result<Extra, Error> {
         let mut size = 0;
         let mut extra = raw::Extra::default();
-        let mut bytes = Vec::new();
-        loop {
-            // SAFETY: as in `depacketize`.
-            let status = unsafe {
-                cpay_depacketized(
-                    self.0.raw(),
-                    &mut size,
-                    &mut extra,
-                    bytes.as_mut_ptr(),
-                    bytes.len(),
-                )
-            };
-            if status != TOO_SMALL {
-                told(status)?;
-                return Ok((bytes, Extra::of(&extra)));
-            }
-            bytes.resize(size, 0);
-        }
+        let handle = self.handle.raw();
+        // SAFETY: the call writes what it says to the place it is given, and reads none of it.
+        told(unsafe {
+            append(bytes, self.given, |place, room| {
+                let status = cpay_depacketized(handle, &mut size, &mut extra, place, room);
+                (status, size)
+            })
+        })?;
+        self.given = 0;
+        Ok(Extra::of(&extra))
     }
 }
 

@@ -2,6 +2,7 @@
 
 use crate::Codec;
 use crate::error::{Error, NONE, told};
+use crate::memory::append;
 use crate::raw::*;
 
 /// What a frame says of itself; `None` for what it does not tell.
@@ -191,17 +192,14 @@ impl std::iter::FusedIterator for Vp9Frames<'_> {}
 ///
 /// `Error::Invalid` for another OBU, or for bytes behind it; else the fault of the OBU.
 pub fn av1c(obu: &[u8]) -> Result<Vec<u8>, Error> {
-    let mut bytes = vec![0; obu.len() + 4];
+    let mut bytes = Vec::new();
     let mut size = 0;
-    // SAFETY: as in `frame_info`.
+    // SAFETY: as in `frame_info`; the call writes what it says to the bytes it is given, and reads none of them.
     told(unsafe {
-        cpay_av1c(
-            obu.as_ptr(),
-            obu.len(),
-            bytes.as_mut_ptr(),
-            bytes.len(),
-            &mut size,
-        )
+        append(&mut bytes, obu.len() + 4, |place, room| {
+            let status = cpay_av1c(obu.as_ptr(), obu.len(), place, room, &mut size);
+            (status, size)
+        })
     })?;
     Ok(bytes)
 }

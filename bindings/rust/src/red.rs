@@ -1,7 +1,8 @@
 //! Redundant audio (RFC 2198).
 
-use crate::error::{Error, TOO_SMALL, each, told};
+use crate::error::{Error, each, told};
 use crate::handle::Handle;
+use crate::memory::append;
 use crate::raw::*;
 
 /// More bytes than eight redundant blocks can have with their headers, and the primary header.
@@ -60,22 +61,20 @@ impl Sender {
     pub fn wrap(&mut self, rtp_time: u32, budget: usize, payload: &[u8]) -> Result<Vec<u8>, Error> {
         // No answer is longer than this, so a greater budget changes nothing.
         let budget = budget.min(payload.len() + MOST_REDUNDANT);
-        let mut bytes = vec![0; budget.max(payload.len())];
+        let mut bytes = Vec::new();
         let mut size = 0;
-        // SAFETY: each pointer and length are those of one slice, and all is borrowed for the call.
+        let handle = self.0.raw();
+        // SAFETY: each pointer and length are those of one slice, and all is borrowed for the call, which writes what it says to
+        // the bytes it is given, and reads none of them.
         told(unsafe {
-            cpay_red_wrap(
-                self.0.raw(),
-                rtp_time,
-                budget,
-                payload.as_ptr(),
-                payload.len(),
-                bytes.as_mut_ptr(),
-                bytes.len(),
-                &mut size,
-            )
+            append(&mut bytes, budget.max(payload.len()), |place, room| {
+                let (from, count) = (payload.as_ptr(), payload.len());
+                let status = cpay_red_wrap(
+                    handle, rtp_time, budget, from, count, place, room, &mut size,
+                );
+                (status, size)
+            })
         })?;
-        bytes.truncate(size);
         Ok(bytes)
     }
 }
@@ -112,25 +111,24 @@ pub struct Recovered {
 ///
 /// [`Error::RedCorrupted`] where the bytes are no RED payload, and [`Error::OutOfMemory`].
 pub fn blocks(payload: &[u8]) -> Result<Vec<Block>, Error> {
-    let mut bytes = vec![0; payload.len()];
+    // A block is a part of the payload.
+    let mut bytes = Vec::with_capacity(payload.len());
     each(|index| {
         let mut info = RedBlockInfo::default();
-        // SAFETY: each pointer and length are those of one slice, and all is borrowed for the call.
+        bytes.clear();
+        // SAFETY: as in `Sender::wrap`.
         told(unsafe {
-            cpay_red_block(
-                payload.as_ptr(),
-                payload.len(),
-                index,
-                &mut info,
-                bytes.as_mut_ptr(),
-                bytes.len(),
-            )
+            append(&mut bytes, 0, |place, room| {
+                let (from, count) = (payload.as_ptr(), payload.len());
+                let status = cpay_red_block(from, count, index, &mut info, place, room);
+                (status, info.bytes)
+            })
         })?;
         Ok(Block {
             payload_type: info.payload_type,
             offset: info.offset,
             is_primary: info.is_primary,
-            payload: bytes[..info.bytes].to_vec(),
+            payload: bytes.clone(),
         })
     })
 }
@@ -152,29 +150,33 @@ pub fn recover(
     rtp_time: u32,
     payload: &[u8],
 ) -> Result<Vec<Recovered>, Error> {
-    let mut bytes = vec![0; payload.len()];
+    let mut bytes = Vec::with_capacity(payload.len());
     each(|index| {
         let mut info = RecoveredInfo::default();
-        // SAFETY: as in `blocks`.
+        bytes.clear();
+        // SAFETY: as in `Sender::wrap`.
         told(unsafe {
-            cpay_red_recover(
-                primary_pt,
-                step,
-                number,
-                rtp_time,
-                payload.as_ptr(),
-                payload.len(),
-                index,
-                &mut info,
-                bytes.as_mut_ptr(),
-                bytes.len(),
-            )
+            append(&mut bytes, 0, |place, room| {
+                let status = cpay_red_recover(
+                    primary_pt,
+                    step,
+                    number,
+                    rtp_time,
+                    payload.as_ptr(),
+                    payload.len(),
+                    index,
+                    &mut info,
+                    place,
+                    room,
+                );
+                (status, info.bytes)
+            })
         })?;
         Ok(Recovered {
             number: info.number,
             rtp_time: info.rtp_time,
             is_primary: info.is_primary,
-            payload: bytes[..info.bytes].to_vec(),
+            payload: bytes.clone(),
         })
     })
 }
@@ -200,12 +202,13 @@ pub fn encode(
         });
         media.extend_from_slice(payload);
     }
+    let most = media.len() + primary.len() + 4 * parts.len() + 1;
     let mut bytes = Vec::new();
     let mut size = 0;
-    loop {
-        // SAFETY: as in `blocks`.
-        let status = unsafe {
-            cpay_red_encode(
+    // SAFETY: as in `Sender::wrap`.
+    told(unsafe {
+        append(&mut bytes, most, |place, room| {
+            let status = cpay_red_encode(
                 primary_pt,
                 primary.as_ptr(),
                 primary.len(),
@@ -213,15 +216,12 @@ pub fn encode(
                 parts.len(),
                 media.as_ptr(),
                 media.len(),
-                bytes.as_mut_ptr(),
-                bytes.len(),
+                place,
+                room,
                 &mut size,
-            )
-        };
-        if status != TOO_SMALL {
-            told(status)?;
-            return Ok(bytes);
-        }
-        bytes.resize(size, 0);
-    }
+            );
+            (status, size)
+        })
+    })?;
+    Ok(bytes)
 }
