@@ -1,12 +1,8 @@
 //! The packets of a frame in one memory, which the next frame uses again.
 
-/// Where a packet ends in the bytes of a batch, and what is known of it.
-#[derive(Clone, Copy, Debug)]
-struct End {
-    at: usize,
-    marker: bool,
-    nackable: bool,
-}
+use crate::error::TOO_SMALL;
+use crate::raw::{FrameRoom, PlacedPacket};
+use std::mem::MaybeUninit;
 
 /// The packets of one frame, or the datagrams, in memory that the next frame uses again: in steady state a frame takes no
 /// allocation here.
@@ -31,7 +27,7 @@ struct End {
 #[derive(Clone, Debug, Default)]
 pub struct Batch {
     bytes: Vec<u8>,
-    ends: Vec<End>,
+    placed: Vec<PlacedPacket>,
 }
 
 /// A packet of a batch.
@@ -56,27 +52,23 @@ impl Batch {
     /// How many packets there are.
     #[must_use]
     pub fn len(&self) -> usize {
-        self.ends.len()
+        self.placed.len()
     }
 
     /// Whether there are none.
     #[must_use]
     pub fn is_empty(&self) -> bool {
-        self.ends.is_empty()
+        self.placed.is_empty()
     }
 
     /// The packet at a place, from 0.
     #[must_use]
     pub fn get(&self, place: usize) -> Option<BatchPacket<'_>> {
-        let end = self.ends.get(place)?;
-        let start = match place.checked_sub(1) {
-            Some(before) => self.ends[before].at,
-            None => 0,
-        };
+        let placed = self.placed.get(place)?;
         Some(BatchPacket {
-            payload: &self.bytes[start..end.at],
-            marker: end.marker,
-            nackable: end.nackable,
+            payload: &self.bytes[placed.offset..placed.offset + placed.bytes],
+            marker: placed.marker,
+            nackable: placed.nackable,
         })
     }
 
@@ -98,11 +90,11 @@ impl Batch {
     /// Leaves out all packets, and keeps the memory.
     pub fn clear(&mut self) {
         self.bytes.clear();
-        self.ends.clear();
+        self.placed.clear();
     }
 
     pub(crate) fn reserve(&mut self, packets: usize, bytes: usize) {
-        self.ends.reserve(packets);
+        self.placed.reserve(packets);
         self.bytes.reserve(bytes);
     }
 
@@ -111,12 +103,58 @@ impl Batch {
         &mut self.bytes
     }
 
+    /// The bytes behind those of the packet before are a packet.
     pub(crate) fn note(&mut self, marker: bool, nackable: bool) {
-        self.ends.push(End {
-            at: self.bytes.len(),
+        let offset = match self.placed.last() {
+            Some(before) => before.offset + before.bytes,
+            None => 0,
+        };
+        self.placed.push(PlacedPacket {
+            offset,
+            bytes: self.bytes.len() - offset,
             marker,
             nackable,
         });
+    }
+
+    /// Takes the place of all packets by what a call writes. The call is given places for bytes and for packets, and answers its
+    /// status; where that is "too small", it says in the last argument what it wants, and is then made once more.
+    ///
+    /// # Safety
+    ///
+    /// The call writes to no other places than those it is given, reads none of them, and where its status is 0 it wrote as many
+    /// bytes and packets as it says, which are no more than it was given, each packet within these bytes.
+    pub(crate) unsafe fn fill(
+        &mut self,
+        mut call: impl FnMut(
+            &mut [MaybeUninit<u8>],
+            &mut [MaybeUninit<PlacedPacket>],
+            &mut FrameRoom,
+        ) -> u32,
+    ) -> u32 {
+        self.clear();
+        loop {
+            let mut room = FrameRoom::default();
+            let status = call(
+                self.bytes.spare_capacity_mut(),
+                self.placed.spare_capacity_mut(),
+                &mut room,
+            );
+            if status == TOO_SMALL {
+                self.reserve(room.count, room.bytes);
+                continue;
+            }
+            if status == 0 {
+                debug_assert!(room.bytes <= self.bytes.capacity());
+                debug_assert!(room.count <= self.placed.capacity());
+                // SAFETY: so many bytes and packets were written, and there is room for them.
+                unsafe {
+                    self.bytes.set_len(room.bytes);
+                    self.placed.set_len(room.count);
+                }
+            }
+            return status;
+        }
     }
 }
 

@@ -337,8 +337,8 @@ impl Packetizer {
         Ok(packets)
     }
 
-    /// The same packets, in the memory of a batch, whose packets of the frame before they take the place of. It takes memory only
-    /// where a frame has more bytes or packets than those before.
+    /// The same packets, in the memory of a batch, whose packets of the frame before they take the place of, by one call. It takes
+    /// memory only where a frame has more bytes or packets than those before.
     ///
     /// # Errors
     ///
@@ -350,20 +350,30 @@ impl Packetizer {
         frame: &[u8],
         batch: &mut Batch,
     ) -> Result<(), Error> {
-        batch.clear();
-        let count = self.cut(mtu, starts_talk_spurt, frame)?;
-        batch.reserve(count, frame.len() + count * MOST_ADDED);
-        for _ in 0..count {
-            let info = self.packet(0, batch.bytes_mut());
-            match info {
-                Ok(info) => batch.note(info.marker, info.nackable),
-                Err(fault) => {
-                    batch.clear();
-                    return Err(fault);
-                }
-            }
-        }
-        Ok(())
+        let cut = FrameCut {
+            mtu,
+            headroom: 0,
+            tailroom: 0,
+            starts_talk_spurt,
+        };
+        let handle = self.handle.raw();
+        // SAFETY: pointers and lengths are those of one slice each, the call reads none of the places that it writes, and of those
+        // it writes as many as it says.
+        told(unsafe {
+            batch.fill(|bytes, packets, room| {
+                cpay_packetize_into(
+                    handle,
+                    &cut,
+                    frame.as_ptr(),
+                    frame.len(),
+                    bytes.as_mut_ptr().cast(),
+                    bytes.len(),
+                    packets.as_mut_ptr().cast(),
+                    packets.len(),
+                    room,
+                )
+            })
+        })
     }
 
     /// Cuts a frame, and tells how many packets wait to be taken.

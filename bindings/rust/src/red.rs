@@ -105,32 +105,34 @@ pub struct Recovered {
     pub payload: Vec<u8>,
 }
 
+/// The most blocks of a payload, the primary one among them.
+const MOST_BLOCKS: usize = 33;
+
 /// The blocks of a payload in order, the primary one last.
 ///
 /// # Errors
 ///
 /// [`Error::RedCorrupted`] where the bytes are no RED payload, and [`Error::OutOfMemory`].
 pub fn blocks(payload: &[u8]) -> Result<Vec<Block>, Error> {
-    // A block is a part of the payload.
-    let mut bytes = Vec::with_capacity(payload.len());
-    each(|index| {
-        let mut info = RedBlockInfo::default();
-        bytes.clear();
-        // SAFETY: as in `Sender::wrap`.
-        told(unsafe {
-            append(&mut bytes, 0, |place, room| {
-                let (from, count) = (payload.as_ptr(), payload.len());
-                let status = cpay_red_block(from, count, index, &mut info, place, room);
-                (status, info.bytes)
-            })
-        })?;
-        Ok(Block {
-            payload_type: info.payload_type,
-            offset: info.offset,
-            is_primary: info.is_primary,
-            payload: bytes.clone(),
-        })
-    })
+    let mut places = [RedBlockPlace::default(); MOST_BLOCKS];
+    let mut count = 0;
+    // SAFETY: pointers and lengths are those of one slice each, and all is borrowed for the call.
+    told(unsafe {
+        cpay_red_blocks(
+            payload.as_ptr(),
+            payload.len(),
+            places.as_mut_ptr(),
+            places.len(),
+            &mut count,
+        )
+    })?;
+    let block = |place: &RedBlockPlace| Block {
+        payload_type: place.payload_type,
+        offset: place.offset,
+        is_primary: place.is_primary,
+        payload: payload[place.start..place.start + place.bytes].to_vec(),
+    };
+    Ok(places[..count].iter().map(block).collect())
 }
 
 /// The packets that the payload of the packet with this number and time holds, in the order of its blocks. Packets of the
