@@ -54,7 +54,7 @@ use handle::Handle;
 pub use looks::{
     extend_number, is_av1_keyframe, is_head, is_tail, is_vp9_frame_keyframe, is_vp9_keyframe,
 };
-use memory::{Expected, MOST_ADDED, append};
+use memory::{Expected, append};
 use raw::*;
 use std::fmt;
 use std::str::FromStr;
@@ -285,7 +285,7 @@ pub struct Packet {
 #[derive(Debug)]
 pub struct Packetizer {
     handle: Handle<raw::Packetizer>,
-    codec: Codec,
+    batch: Batch,
 }
 
 impl Packetizer {
@@ -300,7 +300,7 @@ impl Packetizer {
         told(unsafe { cpay_packetizer_new(handle.raw(), &settings.raw()) })?;
         Ok(Packetizer {
             handle,
-            codec: settings.codec,
+            batch: Batch::new(),
         })
     }
 
@@ -308,8 +308,8 @@ impl Packetizer {
     /// frame is one packet, also an empty one. Of Opus, G.711, G.722, AMR-WB and telephone events those of a frame that starts
     /// a talk spurt are marked; the other codecs do not look at `starts_talk_spurt`.
     ///
-    /// Each payload is a vector of its own, with one call and one copy a packet; [`packetize_into`](Packetizer::packetize_into)
-    /// uses one memory again and again.
+    /// Each payload is a vector of its own, copied out of a batch that the packetizer keeps;
+    /// [`packetize_into`](Packetizer::packetize_into) spares these vectors.
     ///
     /// # Errors
     ///
@@ -321,20 +321,16 @@ impl Packetizer {
         starts_talk_spurt: bool,
         frame: &[u8],
     ) -> Result<Vec<Packet>, Error> {
-        let count = self.cut(mtu, starts_talk_spurt, frame)?;
-        let mut packets = Vec::with_capacity(count);
-        let mut left = frame.len();
-        for _ in 0..count {
-            let mut payload = Vec::new();
-            let info = self.packet(self.room(mtu, left), &mut payload)?;
-            left = left.saturating_sub(info.bytes.saturating_sub(MOST_ADDED));
-            packets.push(Packet {
-                payload,
-                marker: info.marker,
-                nackable: info.nackable,
-            });
-        }
-        Ok(packets)
+        let mut batch = std::mem::take(&mut self.batch);
+        let cut = self.packetize_into(mtu, starts_talk_spurt, frame, &mut batch);
+        let packet = |packet: BatchPacket<'_>| Packet {
+            payload: packet.payload.to_vec(),
+            marker: packet.marker,
+            nackable: packet.nackable,
+        };
+        let packets = batch.iter().map(packet).collect();
+        self.batch = batch;
+        cut.map(|()| packets)
     }
 
     /// The same packets, in the memory of a batch, whose packets of the frame before they take the place of, by one call. It takes
@@ -374,46 +370,6 @@ impl Packetizer {
                 )
             })
         })
-    }
-
-    /// Cuts a frame, and tells how many packets wait to be taken.
-    fn cut(&mut self, mtu: usize, starts_talk_spurt: bool, frame: &[u8]) -> Result<usize, Error> {
-        let mut count = 0;
-        // SAFETY: the pointer and the length are those of one slice, and all is borrowed for the call.
-        told(unsafe {
-            cpay_packetize(
-                self.handle.raw(),
-                mtu,
-                starts_talk_spurt,
-                frame.as_ptr(),
-                frame.len(),
-                &mut count,
-            )
-        })?;
-        Ok(count)
-    }
-
-    /// How many bytes the next payload has at most, where so many of the frame are left.
-    fn room(&self, mtu: usize, left: usize) -> usize {
-        if self.codec == Codec::Null {
-            left
-        } else {
-            mtu.min(left.saturating_add(MOST_ADDED))
-        }
-    }
-
-    /// Appends the next payload, by one call where there is room for so many bytes as it has.
-    fn packet(&mut self, room: usize, bytes: &mut Vec<u8>) -> Result<PacketInfo, Error> {
-        let mut info = PacketInfo::default();
-        let handle = self.handle.raw();
-        // SAFETY: the call writes what it says to the place it is given, and reads none of it.
-        told(unsafe {
-            append(bytes, room, |place, room| {
-                let status = cpay_packet(handle, &mut info, place, room);
-                (status, info.bytes)
-            })
-        })?;
-        Ok(info)
     }
 }
 

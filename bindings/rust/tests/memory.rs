@@ -110,12 +110,13 @@ fn a_batch_holds_the_same() -> Result<(), Error> {
     Ok(())
 }
 
-/// A vector a packet, none of which grows, and one for all of them; into a batch none.
+/// Once a frame of that size was cut: a vector a packet, none of which grows, and one for all of them; into a batch none.
 #[test]
 fn allocations_of_packetizers() -> Result<(), Error> {
     for codec in CODECS {
         let frame = frame(codec, 20_000);
         let mut packetizer = Packetizer::new(&codec.into())?;
+        packetizer.packetize(1_200, false, &frame)?;
         let (count, packets) = allocations(|| packetizer.packetize(1_200, false, &frame));
         assert_eq!(count, 1 + packets?.len(), "{codec}");
         let mut batch = Batch::new();

@@ -62,8 +62,14 @@ octets_same n octets m e = omega (arith, e)
 
 left_same : (s : Sending) (packetizer : PacketizerState) (datagrams : List (List ℕ)) (n n' tailroom packets packets' octets octets' time time' : ℕ)
     → n ≡ n' → tailroom ≡ s.tailroom → packets ≡ packets' → octets ≡ octets' → time ≡ time'
-    → record s { packetizer = packetizer; stream = record s.stream { number = n }; tailroom = tailroom; counts = record
-        { packets = packets; octets = octets; rtp_time = Some time }; datagrams = datagrams }
+    → record s {
+      packetizer = packetizer;
+      stream = record s.stream { number = n };
+      tailroom = tailroom;
+      counts = record
+          { packets = packets; octets = octets; rtp_time = Some time };
+      datagrams = datagrams;
+    }
     ≡ record s { packetizer = packetizer; stream = record s.stream { number = n' }; counts = record { packets = packets'; octets = octets'; rtp_time = Some time' }; datagrams = datagrams }
 left_same s packetizer datagrams n n' tailroom packets packets' octets octets' time time' e1 e2 e3 e4 e5 = rw (e1, e2, e3, e4, e5) refl
 

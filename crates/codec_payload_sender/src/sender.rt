@@ -337,7 +337,12 @@ impl<B: Packetizer> Sender<B> {
     {
         self.packetizer
             .packetize_into(self.alloc, self.mtu, sample.bytes, &mut self.packets.out)?;
-        let answer = put_headers(&mut self.packetizer, &self.stream, sample, &mut self.packets);
+        let answer = put_headers(
+            &mut self.packetizer,
+            &self.stream,
+            sample,
+            &mut self.packets,
+        );
         self.packets.out.settle(answer)?;
         let count = self.packets.out.len();
         self.counts = Counts {

@@ -202,7 +202,7 @@ abbrev pub red_by : ℕ → RedSettings → Result (Option RedStream) SettingsEr
 red_by payload_type red =
     if nat_le red.payload_type 127 && not (red.payload_type == payload_type)
     then (if nat_lt 0 red.step && nat_le red.step 16383 then Ok
-        (Some (record { payload_type = red.payload_type; receiver = record { primary_pt = payload_type % 128; step = red.step } })) else Err settings.RedStep)
+    (Some (record { payload_type = red.payload_type; receiver = record { primary_pt = payload_type % 128; step = red.step } })) else Err settings.RedStep)
     else Err settings.RedPayloadType
 
 abbrev pub red_within : ℕ → Option RedSettings → Result (Option RedStream) SettingsError

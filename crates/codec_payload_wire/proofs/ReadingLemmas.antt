@@ -33,12 +33,33 @@ header_types (f ∷ s ∷ s1 ∷ s0 ∷ t3 ∷ t2 ∷ t1 ∷ t0 ∷ c3 ∷ c2 �
     let ssrc : ℕ = from_be_bytes w32 (c3 ∷ c2 ∷ c1 ∷ c0 ∷ []) in
     let v = where_true (eqb (f / 64) 2) (behind_fixed padded extended (f % 16) (eqb (s / 128) 1) (s % 128) sequence time ssrc rest) errors.WrongVersion x e in
     let a = bind_ok (cut (4 * (f % 16)) errors.CsrcsTooShort rest)
-        (λ csrcs. extension_at extended csrcs.1 >>= λ extension. Ok
-        (record { marker = eqb (s / 128) 1; payload_type = s % 128; sequence_number = sequence; timestamp = time; ssrc = ssrc; csrcs = csrcs.0; extension =
-        extension.0 }, padded, extension.1)) x v in
-    let b = bind_ok (extension_at extended a.0.1) (λ extension. Ok
-        (record { marker = eqb (s / 128) 1; payload_type = s % 128; sequence_number = sequence; timestamp = time; ssrc = ssrc; csrcs = a.0.0; extension = extension.0
-        }, padded, extension.1)) x a.2 in
+    (λ csrcs. extension_at extended csrcs.1 >>= λ extension. Ok (
+      record {
+        marker = eqb (s / 128) 1;
+        payload_type = s % 128;
+        sequence_number = sequence;
+        timestamp = time;
+        ssrc = ssrc;
+        csrcs = csrcs.0;
+        extension =
+            extension.0;
+      },
+      padded,
+      extension.1,
+    )) x v in
+    let b = bind_ok (extension_at extended a.0.1) (λ extension. Ok (
+      record {
+        marker = eqb (s / 128) 1;
+        payload_type = s % 128;
+        sequence_number = sequence;
+        timestamp = time;
+        ssrc = ssrc;
+        csrcs = a.0.0;
+        extension = extension.0;
+      },
+      padded,
+      extension.1,
+    )) x a.2 in
     let h : Header = record { marker = eqb (s / 128) 1; payload_type = s % 128; sequence_number = sequence; timestamp = time; ssrc = ssrc; csrcs = a.0.0; extension = b.0.0 } in
     let both = and_parts (leb 192 s) (leb s 223) rtcp in
     subst (λ (y : Header × Bool × List ℕ). Types y.0.payload_type) {x = (h, padded, b.0.1)} (ok_is (h, padded, b.0.1) x b.2)
@@ -68,7 +89,7 @@ again_same (Some r) stream q = refl
 -- it is a packet with media of the stream
 pub datagram_is : (kinds : Kinds) (ssrc : Option ℕ) (stream : Stream) (q : Packet) (bytes : List ℕ)
     → ReadsAs stream q bytes → kinds.payload_type ≡ stream.payload_type → (stream.payload_type < 64) ⊎ (95 < stream.payload_type) → is_other ssrc stream.ssrc ≡ false
-        → is_sent_again_by kinds.retransmission stream ≡ false
+    → is_sent_again_by kinds.retransmission stream ≡ false
     → datagram_at kinds ssrc bytes ≡ WithMedia (packet_at stream q)
 datagram_is kinds ssrc stream q bytes reads payload_type types own not_again =
     let no_rtcp : is_rtcp bytes ≡ false = is_no_rtcp bytes (packet_at stream q) reads types in

@@ -212,13 +212,16 @@ module _ (samples : List Sample) (all_steps : List DatagramStep) (sender : Sendi
       come.events t.pops t.session.packets.buffer come.meets
 
   told : (k : ℕ) (q : Packet) (m : RtpMeta) → core.IsMet rate come.events k q m → IsDelivery rate received k q m
-  told k q m known = (contains_in (steps.Deliver k m.received) received
-      (delivery_of receiver.packets.ended received come.events k m come.brings (in_contains (Arrives k m) come.events known.0)), known.1)
+  told k q m known = (
+    contains_in (steps.Deliver k m.received) received
+        (delivery_of receiver.packets.ended received come.events k m come.brings (in_contains (Arrives k m) come.events known.0)),
+    known.1,
+  )
 
   all_come : AllComeFirst receiver.packets.buffer.limit (length t.datagrams) received → AllArriveFirst receiver.packets.buffer.limit sent.all come.events
   all_come come_first =
       let split = split_at_end receiver.packets.ended come_first.before come_first.after come.events come_first.no_pops
-          (subst (λ (es : List DatagramStep). Brings receiver.packets.ended es come.events) come_first.whole come.brings) in
+      (subst (λ (es : List DatagramStep). Brings receiver.packets.ended es come.events) come_first.whole come.brings) in
       let count : length sent.all ≡ length t.datagrams = same_count sender.stream sent.all t.datagrams sent.at.reads in
       record {
         few = omega (arith, come_first.few, count);

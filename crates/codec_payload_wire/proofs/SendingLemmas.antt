@@ -120,7 +120,7 @@ sent_reads sending stream packetizer sample count number place (payload ∷ payl
     let all : count ≡ place + 1 + length payloads = omega (arith, whole) in
     let q : Packet = packet_for packetizer sample (rtp_time_at stream.clock_rate sample.rtp_time) number (stripped sample.ext_vals place (place + 1 + length payloads)) (is_last payloads) payload in
     let marker : first.marker ≡ q.marker = first.marked built_in
-        ∙ ap (λ (b : Bool). marker_of packetizer b || (talk_spurt_of packetizer && sample.start_of_talk_spurt)) (ap (eqb (place + 1)) all ∙ last_is place payloads) in
+    ∙ ap (λ (b : Bool). marker_of packetizer b || (talk_spurt_of packetizer && sample.start_of_talk_spurt)) (ap (eqb (place + 1)) all ∙ last_is place payloads) in
     let header : header_at sending (sent_sample sample) place count first.marker ≡ headed stream q.marker (q.number % 2 ^ 16) q.rtp_time q.ext_vals =
     same_header sending stream first.marker q.marker ((sending.number + place) % 2 ^ 16) (q.number % 2 ^ 16) _ q.rtp_time _ q.ext_vals kept marker (sym low)
     (ap (λ (x : Stream). rtp_time_at x.clock_rate sample.rtp_time) kept) (ap (stripped sample.ext_vals place) all) in
@@ -173,7 +173,7 @@ sent_both buffer stream budget start place sample s t before after packets small
     let reads : AreDatagrams stream more t.datagrams =
     sent_reads s.stream stream t.packetizer sample (length payloads) number 0 payloads t.datagrams at.kept built_in datagrams (omega arith) fits low
     (λ i l. subst (λ (n : ℕ). IsSentAt s.stream t.packetizer (sent_sample sample) (length payloads) n (slice_index_or payloads i [])
-        (slice_index_or t.datagrams i [])) (omega arith) (sends.sent.1 i l)) in
+    (slice_index_or t.datagrams i [])) (omega arith) (sends.sent.1 i l)) in
     let numbered : AreNumbered number more = from_numbered t.packetizer sample (rtp_time_at stream.clock_rate sample.rtp_time) number 0 payloads fits in
     let all : length (packets ++ more) ≡ length packets + length more = length-append packets more in
     let few_packets : length (packets ++ more) < 2 ^ 63 = omega (arith, all, count, datagrams, known, whole, few) in
@@ -219,7 +219,7 @@ refused_both buffer stream budget start place sample fault s t before after pack
     let answered = refuses.packetized at.built_in in
     let is : answered.0 ≡ Err fault = refused_as answered.0 fault not_memory answered.2 in
     let step : PacketizerStep s.packetizer s.mtu sample.bytes (Err fault) t.packetizer = subst
-        (λ (a : Result (List (List ℕ)) PacketError). PacketizerStep s.packetizer s.mtu sample.bytes a t.packetizer) is answered.1 in
+    (λ (a : Result (List (List ℕ)) PacketError). PacketizerStep s.packetizer s.mtu sample.bytes a t.packetizer) is answered.1 in
     let nothing : t.datagrams ≡ [] = ap (λ (x : Sending). x.datagrams) refuses.left in
     let same : after ≡ before = gained ∙ (ap (λ (ds : List (List ℕ)). before ++ ds) nothing ∙ append-nil before) in
     let number : t.stream.number ≡ s.stream.number = ap (λ (x : Sending). x.stream.number) refuses.left in
@@ -289,7 +289,7 @@ module _ (buffer : State) (stream : Stream) (budget start : ℕ) (small : start 
     runs = subst (λ (ss : List Step). core.Runs samples place ss (running buffer start stream.clock_rate s.sending packets) goes.entries []
         (running buffer start stream.clock_rate t.sending goes.all)) (sym none)
         (subst (λ (x : Sending). core.Runs samples place (sending_steps budget later) (running buffer start stream.clock_rate x packets) goes.entries []
-            (running buffer start stream.clock_rate t.sending goes.all)) sending goes.runs);
+        (running buffer start stream.clock_rate t.sending goes.all)) sending goes.runs);
     at = goes.at;
   }
 
@@ -315,8 +315,11 @@ module _ (buffer : State) (stream : Stream) (budget start : ℕ) (small : start 
           d,
           refl,
           refl,
-          (refl, subst (λ (o : Option Sample). MatchOption o (◌≡◌ {A = List Sent} [] [] × (d ≡ c))
-              (λ sample. (entry : Sent) × ([] ≡ entry ∷ []) × core.SendsIt place budget sample c entry d)) (sym is) (refl, left)),
+          (
+            refl,
+            subst (λ (o : Option Sample). MatchOption o (◌≡◌ {A = List Sent} [] [] × (d ≡ c))
+                (λ sample. (entry : Sent) × ([] ≡ entry ∷ []) × core.SendsIt place budget sample c entry d)) (sym is) (refl, left),
+          ),
           goes.runs,
         );
         at = goes.at;
@@ -338,8 +341,11 @@ module _ (buffer : State) (stream : Stream) (budget start : ℕ) (small : start 
           d,
           refl,
           refl,
-          (refl, subst (λ (o : Option Sample). MatchOption o ((one ≡ []) × (d ≡ c))
-              (λ sample. (entry : Sent) × (one ≡ entry ∷ []) × core.SendsIt place budget sample c entry d)) (sym is) (both.entry, refl, both.sends)),
+          (
+            refl,
+            subst (λ (o : Option Sample). MatchOption o ((one ≡ []) × (d ≡ c))
+                (λ sample. (entry : Sent) × (one ≡ entry ∷ []) × core.SendsIt place budget sample c entry d)) (sym is) (both.entry, refl, both.sends),
+          ),
           goes.runs,
         );
         at = goes.at;
@@ -348,7 +354,7 @@ module _ (buffer : State) (stream : Stream) (budget start : ℕ) (small : start 
   -- a delivery leaves the sender and its datagrams
   delivery_leaves : (o : Option (List ℕ)) (now : Ticks) (s mid : Wire)
       → MatchOption o (mid ≡ s) (λ bytes. (receipt : Receipt) × (session : Session) × Delivers now bytes s.session receipt session
-          × (mid ≡ record s { session = session; receipts = s.receipts ++ receipt ∷ [] }))
+      × (mid ≡ record s { session = session; receipts = s.receipts ++ receipt ∷ [] }))
       → (mid.sending ≡ s.sending) × (mid.datagrams ≡ s.datagrams)
   delivery_leaves None now s mid same = (ap (λ (x : Wire). x.sending) same, ap (λ (x : Wire). x.datagrams) same)
   delivery_leaves (Some bytes) now s mid done = (ap (λ (x : Wire). x.sending) done.3, ap (λ (x : Wire). x.datagrams) done.3)

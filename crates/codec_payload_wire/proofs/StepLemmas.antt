@@ -86,7 +86,7 @@ module _ (samples : List Sample) where
 
   deliver_comes : (o : Option (List ℕ)) (k : ℕ) (now : Ticks) (later : List DatagramStep) (s mid t : Wire) → slice_get s.datagrams k ≡ o
       → MatchOption o (mid ≡ s) (λ bytes. (receipt : Receipt) × (session : Session) × Delivers now bytes s.session receipt session
-          × (mid ≡ record s { session = session; receipts = s.receipts ++ receipt ∷ [] }))
+      × (mid ≡ record s { session = session; receipts = s.receipts ++ receipt ∷ [] }))
       → ComesTo samples later mid t → ComesTo samples (steps.Deliver k now ∷ later) s t
   deliver_comes None k now later s mid t is same comes =
       let c : ComesTo samples later s t = after_same later s mid t same comes in

@@ -23,7 +23,7 @@ returns-clause-ok g c =
     let last_is : last ≡ record out { headers = mid.headers } = on_ok_at c.put_headers-answer.result _ _ answered c.settle.ensures.ok ∙ c.put_headers-answer.ensures.rest in
     let headed = on_ok_at c.put_headers-answer.result _ _ answered c.put_headers-answer.ensures.ok in
     subst (λ (x : Sending). Sends x (sample_of c.args.sample.now)
-        (sender_with s (packetizer_state_of c.put_headers-answer.new.packetizer) last c.len-count.result c.octets_in.result c.time_of.result)) c.self.view_is
+    (sender_with s (packetizer_state_of c.put_headers-answer.new.packetizer) last c.len-count.result c.octets_in.result c.time_of.result)) c.self.view_is
     (sends s (sample_of c.args.sample.now) (packetizer_state_of c.put_headers-answer.new.packetizer)
-        (packetizer_state_of c.packetize_into.new.self) out last mid.headers p.packets.out.headroom c.len-count.result c.octets_in.result c.time_of.result
+    (packetizer_state_of c.packetize_into.new.self) out last mid.headers p.packets.out.headroom c.len-count.result c.octets_in.result c.time_of.result
     c.put_headers-answer.ensures.same last_is c.packetize_into.ensures.rooms c.in_ok-packetize_into.ensures.built_in headed c.len-count.ensures.payloads c.octets_in.ensures c.time_of.ensures)
