@@ -44,8 +44,8 @@
  *
  * POINTERS. NULL goes with a length of 0; with another length it is CPAY_INVALID, or false of a call that answers a bool. No
  * other pointer is NULL, but for that of a *_free. Two arguments of a call that are written overlap with no other argument.
- * What a pointer points to has a value before the call, also where it is written: begin structs with {0}. A bool is true or
- * false, never another byte.
+ * What a pointer points to has a value before the call, also where it is written: begin structs with {0}. Bytes of media that a
+ * call only writes need none. A bool is true or false, never another byte.
  *
  * THREADS. One call at a time uses such a struct. It may go from thread to thread, where what one did comes before what the
  * next does, as by a mutex or by a thread's start or end. Different ones share nothing. No call is made from a signal handler,
