@@ -622,17 +622,10 @@ impl Receiver {
     /// packets plus 2^32, and each later one the nearest to that of the unit before with its timestamp. After an `Err` the next call goes on, as that of
     /// [`Buffer::pop`](crate::Buffer::pop).
     pub fn pop(&mut self, now: u64) -> Option<Result<Unit, Error>> {
-        let mut bytes = self.expected.take();
-        match self.pop_into(now, &mut bytes) {
-            Some(Ok(info)) => {
-                self.expected.give(&mut bytes);
-                Some(Ok(info.with(bytes)))
-            }
-            other => {
-                self.expected.keep(bytes);
-                Some(Err(other?.err()?))
-            }
-        }
+        let mut expected = std::mem::take(&mut self.expected);
+        let unit = expected.unit(|bytes| self.pop_into(now, bytes));
+        self.expected = expected;
+        unit
     }
 
     /// The same, with the unit's bytes in place of those in `bytes`. Where they have room for it nothing is allocated here.

@@ -448,17 +448,10 @@ impl Buffer {
     /// Its bytes are a vector of its own, with room for a unit as large as those before, so that one call does. It costs one
     /// copy and one allocation; [`pop_into`](Buffer::pop_into) takes a vector of the caller's.
     pub fn pop(&mut self) -> Option<Result<Unit, Error>> {
-        let mut bytes = self.expected.take();
-        match self.pop_into(&mut bytes) {
-            Some(Ok(info)) => {
-                self.expected.give(&mut bytes);
-                Some(Ok(info.with(bytes)))
-            }
-            other => {
-                self.expected.keep(bytes);
-                Some(Err(other?.err()?))
-            }
-        }
+        let mut expected = std::mem::take(&mut self.expected);
+        let unit = expected.unit(|bytes| self.pop_into(bytes));
+        self.expected = expected;
+        unit
     }
 
     /// The same, with the unit's bytes in place of those in `bytes`. Where they have room for it nothing is allocated here.

@@ -1,6 +1,7 @@
 //! The memory that calls write to: what stands behind the bytes of a vector, which has no value before.
 
 use crate::error::TOO_SMALL;
+use crate::{Error, Unit, UnitInfo};
 
 /// More bytes than a payload has beyond the media that it carries: descriptors of VP8 and VP9, and headers and lengths of AV1.
 pub(crate) const MOST_ADDED: usize = 32;
@@ -42,23 +43,25 @@ pub(crate) struct Expected {
 }
 
 impl Expected {
-    /// An empty vector with room for a unit as those before.
-    pub(crate) fn take(&mut self) -> Vec<u8> {
+    /// The unit that a call puts into a vector, in a vector of its own with room for a unit as those before. What it has too much
+    /// of goes back, and where there is no unit the vector is kept for the next call.
+    pub(crate) fn unit(
+        &mut self,
+        pop: impl FnOnce(&mut Vec<u8>) -> Option<Result<UnitInfo, Error>>,
+    ) -> Option<Result<Unit, Error>> {
         let mut bytes = std::mem::take(&mut self.spare);
         bytes.reserve_exact(self.size);
-        bytes
-    }
-
-    /// It was not wanted.
-    pub(crate) fn keep(&mut self, bytes: Vec<u8>) {
-        self.spare = bytes;
-    }
-
-    /// It is given away with a unit in it. What it has too much of goes back.
-    pub(crate) fn give(&mut self, bytes: &mut Vec<u8>) {
+        let info = match pop(&mut bytes) {
+            Some(Ok(info)) => info,
+            other => {
+                self.spare = bytes;
+                return Some(Err(other?.err()?));
+            }
+        };
         self.size = bytes.len().max(self.size - self.size / 8);
         if bytes.capacity() / 2 > bytes.len() {
             bytes.shrink_to_fit();
         }
+        Some(Ok(info.with(bytes)))
     }
 }

@@ -62,6 +62,17 @@ pub enum Vp9PacketizerMode {
     NonFlexible,
 }
 
+/// What was made before, or else is made now.
+fn made_once<T>(
+    kept: &mut Option<T>,
+    make: impl FnOnce() -> Result<T, crate::Error>,
+) -> Result<&mut T, PacketError> {
+    match kept {
+        Some(made) => Ok(made),
+        none => Ok(none.insert(make()?)),
+    }
+}
+
 /// The packetizer of a codec. It takes memory once the first frame comes.
 #[derive(Debug)]
 pub struct CodecPacketizer {
@@ -95,10 +106,7 @@ impl CodecPacketizer {
     }
 
     fn made(&mut self) -> Result<&mut crate::Packetizer, PacketError> {
-        match &mut self.made {
-            Some(made) => Ok(made),
-            none => Ok(none.insert(crate::Packetizer::new(&self.settings)?)),
-        }
+        made_once(&mut self.made, || crate::Packetizer::new(&self.settings))
     }
 }
 
@@ -156,10 +164,7 @@ impl CodecDepacketizer {
     }
 
     fn made(&mut self) -> Result<&mut crate::Depacketizer, PacketError> {
-        match &mut self.made {
-            Some(made) => Ok(made),
-            none => Ok(none.insert(crate::Depacketizer::new(&self.settings)?)),
-        }
+        made_once(&mut self.made, || crate::Depacketizer::new(&self.settings))
     }
 }
 
