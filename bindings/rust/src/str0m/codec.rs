@@ -68,7 +68,7 @@ fn made_once<T>(
     make: impl FnOnce() -> Result<T, crate::Error>,
 ) -> Result<&mut T, PacketError> {
     match kept {
-        Some(made) => Ok(made),
+        Some(it) => Ok(it),
         none => Ok(none.insert(make()?)),
     }
 }
