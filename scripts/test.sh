@@ -78,6 +78,7 @@ if [ "${1:-}" != --no-proofs ]; then
     passed=${1:-0}
     failed=${2:-1}
     [ "$passed" -gt 0 ] || failed=1
+    [ "$failed" -ne 0 ] || scripts/keep_proved.py
 fi
 runs scripts/wrong_bodies.py --stale
 runs scripts/process.py
