@@ -51,8 +51,9 @@ RUN_ELSEWHERE = {
     "rt run": ("scripts/process.py", '["rt", "run"]'),
     "rt check": ("scripts/wrong_bodies.py", '"rt", "check"'),
     "rt new": ("scripts/documents.py", "begun_crate"),
-    "rm crates/mine/BUILD.bazel": ("scripts/documents.py", "begun_crate"),
+    "rm -r crates/mine/": ("scripts/documents.py", "begun_crate"),
     'echo "mine: codec_payload_core"': ("scripts/documents.py", "begun_crate"),
+    "cp examples/first.rt": ("scripts/documents.py", "begun_crate"),
     "rt fmt": ("scripts/documents.py", "rt fmt"),
     "rt test": ("scripts/documents.py", "rt test"),
     "rt version": ("scripts/documents.py", "rt version"),
@@ -359,18 +360,18 @@ def blocks(pages):
 
 
 def begun_crate():
-    """The commands by which docs/RATTLE.md begins a crate make one, and its line in crates.txt."""
+    """The commands by which docs/RATTLE.md begins a crate make one over a copy of the crates, and run its test."""
     if not shutil.which("rt"):
         return
     block = next(it for it in blocks_and_rest("docs/RATTLE.md")[0] if it.text.startswith("rt new "))
     with tempfile.TemporaryDirectory() as work:
-        os.mkdir(f"{work}/crates")
-        with open(f"{work}/crates.txt", "w", encoding="utf-8") as it:
-            it.write("# the crates\n")
-        said = ran(["sh", "-e", "-c", block.text], cwd=work)
-        begun = os.path.exists(f"{work}/crates/mine/src/lib.rt") and not os.path.exists(f"{work}/crates/mine/BUILD.bazel")
-        if said or not begun or read(f"{work}/crates.txt") != "# the crates\nmine: codec_payload_core\n":
-            yield f"{block}: no crate is begun by this: {said}"
+        shutil.copytree(f"{ROOT}/crates", f"{work}/crates", ignore=shutil.ignore_patterns("out"))
+        shutil.copytree(f"{ROOT}/examples", f"{work}/examples")
+        for name in ("crates.txt", "HANDLES"):
+            shutil.copy(f"{ROOT}/{name}", work)
+        begun = subprocess.run(["sh", "-e", "-c", block.text], cwd=work, capture_output=True, text=True, check=False)
+        if begun.returncode or "test result: ok. 1 passed; 0 failed" not in begun.stdout + begun.stderr:
+            yield f"{block}: no crate is begun by this: {begun.stdout[-500:]}{begun.stderr[-500:]}"
 
 
 def commands(pages):
