@@ -2,6 +2,7 @@
 
 ghost use Rattle.codec_payload_handle.specs.Units.{TellsUnit};
 
+use crate::extension_values::{ExtensionValues, values_of};
 use crate::extra::{Extra, extra_of};
 use codec_payload_core::buffer::Depacketized;
 
@@ -25,6 +26,9 @@ pub struct Unit {
     pub starts_talk_spurt: bool,
     /// What its payloads told besides.
     pub extra: Extra,
+    /// The values of header extensions that go with it: those of its last packet, with the capture time and the layers
+    /// allocation of its first packet where that has them.
+    pub values: ExtensionValues,
 }
 
 /// What is known of a unit, as C has it.
@@ -41,5 +45,6 @@ pub fn unit_of(unit: &Depacketized) -> Unit
         contiguous: unit.contiguous,
         starts_talk_spurt: unit.start_of_talkspurt(),
         extra: extra_of(&unit.codec_extra),
+        values: values_of(&unit.ext_vals()),
     }
 }
