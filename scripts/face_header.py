@@ -15,7 +15,11 @@ import sys
 
 CRATES = ["codec_payload_c", "codec_payload_handle"]
 ROOT = os.path.dirname(os.path.dirname(os.path.realpath(__file__)))
-NUMBERS = {"u8": "uint8_t", "u16": "uint16_t", "u32": "uint32_t", "u64": "uint64_t", "i32": "int32_t", "usize": "size_t", "bool": "bool"}
+NUMBERS = {
+    **{f"{sign[0]}{bits}": f"{sign[1:]}{bits}_t" for sign in ("uuint", "iint") for bits in (8, 16, 32, 64)},
+    "usize": "size_t",
+    "bool": "bool",
+}
 # The one pointer that stands in a struct, which C sees as one to nothing that it knows.
 FLAT = {"*mut u8": "void *"}
 # What a handle of the library is in the header, by what lives in it. Each has a call of its own to free it.
