@@ -348,8 +348,8 @@ typedef struct {
     uint8_t flags; /**< why the times are there: 1 for a timer, 2 for a frame of unusual size */
 } cpay_video_timing;
 
-/** The values of header extensions (RFC 8285) that go with a frame, each where its flag is true: {0} has none. Fields that are not
- * there are 0 where the library tells them, and are not looked at where it is given them. docs/FORMATS.md has their bytes. */
+/** The values of header extensions (RFC 8285) that go with a frame, each where its flag is true: {0} has none. Fields that are
+ * not there are 0 where the library tells them, and not looked at where it is given them. docs/DATAGRAMS.md has their bytes. */
 typedef struct {
     uint64_t abs_capture_time;          /**< when it was captured: seconds since 1900, and in the low 32 bits their fraction */
     int64_t clock_offset;               /**< with has_clock_offset: what is to be added to get the sender's clock, likewise */
@@ -380,7 +380,7 @@ typedef struct {
     bool contiguous;        /**< it follows the unit before it, by its numbers or its picture ids */
     bool starts_talk_spurt; /**< its first packet has the marker, which audio sets where a talk spurt starts */
     cpay_extra extra;
-    cpay_extension_values values; /**< of its last packet, with capture time and layers allocation of its first where that has them */
+    cpay_extension_values values; /**< of its last packet; capture time and layers allocation of its first, where that has them */
 } cpay_unit;
 
 /** The next unit whose turn has come, or CPAY_NONE. With CPAY_TOO_SMALL *unit is told, and the unit waits for the next call. A
@@ -459,15 +459,15 @@ CPAY_CHECKED cpay_status cpay_extension_values_of(const uint8_t *datagram, size_
 
 typedef struct {
     cpay_spec spec;
-    size_t mtu;            /**< the most bytes of a payload; the header comes on top, of 12 bytes, and at most 304 of an extension */
+    size_t mtu;            /**< the most bytes of a payload; a header of 12 bytes, and 304 of values at most, come on top */
     uint32_t ssrc;         /**< any number, chosen at random (RFC 3550, section 8) */
     uint16_t first_number; /**< the sequence number of the first packet, at random too */
     uint8_t payload_type;  /**< 0 to 127 */
     cpay_extension_ids extension_ids; /**< values without an id are not sent; no two ids are the same */
 } cpay_sender_settings;
 
-/** A sender, in an empty struct. CPAY_INVALID where cpay_packetizer_new says so, for a payload type above 127, and where two header
- * extensions have one id. [m] */
+/** A sender, in an empty struct. CPAY_INVALID where cpay_packetizer_new says so, for a payload type above 127, and where two
+ * header extensions have the same id. [m] */
 CPAY_CHECKED cpay_status cpay_sender_new(cpay_sender *sender, const cpay_sender_settings *settings);
 
 /** Cuts a frame into packets, and tells how many datagrams it has: see cpay_packetize. They take the place of those of the
@@ -483,9 +483,9 @@ typedef struct {
     cpay_extension_values values; /**< {0} sends none */
 } cpay_sample;
 
-/** The same as cpay_sender_send, with values of header extensions: each value that has an id goes along, capture time and layers
- * allocation on the frame's first packet alone, orientation, content type and timing on the last alone, level and voice activity
- * on each. A level above 0 or below -127 dBov is not sent, nor is voice activity without a level. [m] */
+/** The same as cpay_sender_send, with values of header extensions: each value that has an id goes along, capture time and
+ * layers allocation on the frame's first packet alone, orientation, content type and timing on the last alone, level and voice
+ * activity on each. A level above 0 or below -127 dBov is not sent, nor is voice activity without a level. [m] */
 CPAY_CHECKED cpay_status cpay_sender_send_sample(cpay_sender *sender, const cpay_sample *sample, const uint8_t *frame,
                                                  size_t frame_len, size_t *count);
 
@@ -579,9 +579,9 @@ typedef struct {
     bool has_max_wait;
 } cpay_patience;
 
-/** From now on frames wait by these values, in place of those of the settings. What is held stays, and nothing comes out by this call:
- * the next pop, and the next deadline, go by the new values. So a shorter wait may let frames out at once, and a longer one holds
- * back frames that were due. Once a unit has come out `start` matters no more. */
+/** From now on frames wait by these values, in place of those of the settings. What is held stays, and nothing comes out by this
+ * call: the next pop, and the next deadline, go by the new values. So a shorter wait may let frames out at once, and a longer
+ * one holds back frames that were due. Once a unit has come out, `start` matters no more. */
 CPAY_CHECKED cpay_status cpay_receiver_set_patience(cpay_receiver *receiver, const cpay_patience *patience);
 
 /** The stream has ended: from now on pops wait for nothing, and give all complete frames. Packets within the windows still go
