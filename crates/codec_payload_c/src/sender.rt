@@ -97,6 +97,19 @@ fn timed<'a>(
     }
 }
 
+/// A frame with its time, without values of header extensions.
+fn timed_alone<'a>(
+    stream: &StreamSender,
+    rtp_time: u64,
+    starts_talk_spurt: bool,
+    frame: &'a [u8],
+) -> TimedFrame<'a>
+    ensures { sample_of result ≡ sample_with stream.now rtp_time starts_talk_spurt no_values frame.now }
+{
+    let values = Values::default();
+    timed(stream, rtp_time, starts_talk_spurt, values, frame)
+}
+
 /// A frame is cut into packets.
 fn send(stream: &mut StreamSender, sample: &TimedFrame<'_>, count: &mut usize) -> u32
     ensures { SendsFrame stream.old (sample_of sample.now) result count.old count.new stream.new }
@@ -194,8 +207,7 @@ pub extern "C" fn cpay_sender_send(
     };
     let answer = match &mut *object {
         Object::StreamSender(stream) => {
-            let values = Values::default();
-            let sample = timed(stream, rtp_time, starts_talk_spurt, values, frame);
+            let sample = timed_alone(stream, rtp_time, starts_talk_spurt, frame);
             send(stream, &sample, count)
         }
         _ => status::OTHER_KIND,
