@@ -1,8 +1,8 @@
 -- What the calls on a receiver of datagrams do.
-use Rattle.std.specs.Prelude.{◌≡◌, ◌≢◌, ℕ, ◌&&◌, ◌||◌, ◌==◌, not, nat_le, nat_lt, if◌then◌else◌, Bool, true, false, Option, Some, None, Result, Ok, Err, List, is_some, length, drop, ◌++◌}
+use Rattle.std.specs.Prelude.{◌≡◌, ℕ, ◌&&◌, ◌||◌, ◌==◌, not, nat_le, nat_lt, if◌then◌else◌, Bool, true, false, Option, Some, None, Result, Ok, Err, List, is_some, length, drop, ◌++◌}
 use Rattle.codec_payload_core.specs.Depacketizers.{DepacketizerState}
 use Rattle.codec_payload_jitter.specs.Missing.{missing_numbers}
-use Rattle.codec_payload_jitter.specs.Receiving.{PopsWith, begun_anew, deadline_of, settled, waiting_at}
+use Rattle.codec_payload_jitter.specs.Receiving.{PopsWith, begun_anew, settled, waiting_at}
 use Rattle.codec_payload_jitter.specs.declared.jitter.Patience.{Patience}
 use Rattle.codec_payload_jitter.specs.declared.outcome.Outcome.{Outcome}
 use Rattle.codec_payload_jitter.specs.declared.outcome.Outcome.TheVariants as outcomes

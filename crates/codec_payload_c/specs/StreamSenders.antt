@@ -1,11 +1,11 @@
 -- What the calls on a sender of datagrams do.
-use Rattle.std.specs.Prelude.{◌≡◌, ◌≢◌, ℕ, ◌==◌, nat_le, if◌then◌else◌, Bool, List, Option, Some, None, IfSome, length, slice_get}
+use Rattle.std.specs.Prelude.{◌≡◌, ◌≢◌, ℕ, nat_le, if◌then◌else◌, Bool, List, Option, Some, None, IfSome, length}
 use Rattle.codec_payload_base.specs.declared.error.PacketError.{PacketError}
 use Rattle.codec_payload_base.specs.declared.wire.extension.ExtensionValues.{ExtensionValues}
 use Rattle.codec_payload_core.specs.Faults.{fault_number}
 use Rattle.codec_payload_core.specs.Packetizers.{PacketizerState}
 use Rattle.codec_payload_sender.specs.Datagrams.{Sample}
-use Rattle.codec_payload_sender.specs.Senders.{Sending, Sends, Refuses as RefusesSample, sender_by}
+use Rattle.codec_payload_sender.specs.Senders.{Sends, Refuses as RefusesSample, sender_by}
 use Rattle.codec_payload_sender.specs.declared.sender.SenderSettings.{SenderSettings as Settings}
 use Rattle.codec_payload_handle.specs.Bytes.{filled}
 use Rattle.codec_payload_handle.specs.HeaderValues.{values_given}

@@ -1,4 +1,4 @@
-use Rattle.std.proofs.Common.{◌≡◌, ◌∙◌, ap, sym, ℕ, ◌-◌, List, ◌++◌, length}
+use Rattle.std.proofs.Common.{◌∙◌, ap, sym, ℕ, ◌-◌, List, ◌++◌, length}
 use Rattle.std.specs.Prelude.{replicate}
 use Rattle.codec_payload_handle.specs.HeaderValues.{layers_told}
 use Rattle.codec_payload_handle.proofs.HeaderLemmas.{padded}
