@@ -1,5 +1,5 @@
 #!/usr/bin/env python3
-"""Compares include/codec_payload.h, and bindings/rust, with the exports of crates/codec_payload_c.
+"""Compares the header, include/codec_payload.h with codec_payload_media.h, and bindings/rust, with the exports of codec_payload_c.
 
 The header is written by hand. This reads both and compares every function: its name, its answer, and of each parameter
 the name and the type; every struct that crosses: its fields in order with their types; and the numbers of the statuses and of
@@ -127,7 +127,7 @@ def c_declared(text):
 
 def header():
     """Functions, structs and numbers by the header."""
-    text = read("include/codec_payload.h")
+    text = read("include/codec_payload.h") + read("include/codec_payload_media.h")
     text = re.sub(r"#if 0\n.*?#endif\n", "", re.sub(r"/\*.*?\*/", "", text, flags=re.S), flags=re.S)
     structs, functions = {}, {}
     for found in re.finditer(r"typedef struct \{(.*?)\} (\w+);", text, re.S):

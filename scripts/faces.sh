@@ -130,17 +130,20 @@ all) ;;
 esac
 
 "$root/scripts/face_header.py" || fail "the header, the Rust crate and the library differ"
-header=$root/include/codec_payload.h
-for standard in c99 c11; do
-    "$compiler" -std=$standard $warnings -fsyntax-only -x c "$header" || fail "the header is no $standard"
+for header in "$root/include"/*.h; do
+    for standard in c99 c11; do
+        "$compiler" -std=$standard $warnings -fsyntax-only -x c "$header" || fail "$header is no $standard"
+    done
 done
 refuses 'cpay_buffer_pop(buffer, unit, NULL, 0)'
 refuses 'if (cpay_buffer_pop(packetizer, unit, NULL, 0)) return'
 ! (refuses 'if (cpay_buffer_pop(buffer, unit, NULL, 0)) return') 2>/dev/null || fail "the compiler refuses what is right"
 plus=${CXX:-c++}
 if command -v "$plus" >/dev/null; then
-    for standard in c++11 c++20; do
-        "$plus" -std=$standard $warnings -fsyntax-only -x c++ "$header" || fail "the header is no $standard"
+    for header in "$root/include"/*.h; do
+        for standard in c++11 c++20; do
+            "$plus" -std=$standard $warnings -fsyntax-only -x c++ "$header" || fail "$header is no $standard"
+        done
     done
 fi
 (cd "$root/crates/payload_vectors" && rt run <stdin) >"$work/run.log" 2>&1 || {
