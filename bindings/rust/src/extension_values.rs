@@ -36,6 +36,39 @@ impl ExtensionIds {
 }
 
 /// The values of header extensions that go with a frame; `None` for one that is not there.
+///
+/// ```
+/// use codec_payload::datagrams::{
+///     ExtensionIds, ExtensionValues, Receiver, ReceiverSettings, Sample, Sender, SenderSettings,
+/// };
+/// use codec_payload::{Codec, Error, Settings};
+///
+/// # fn main() -> Result<(), Error> {
+/// let opus = Settings::new(Codec::Opus, 48_000);
+/// let ids = ExtensionIds {
+///     audio_level: Some(1),
+///     ..ExtensionIds::default()
+/// };
+/// let mut sender = Sender::new(&SenderSettings::new(opus, 96, 7).with_extension_ids(ids))?;
+/// let mut receiver = Receiver::new(&ReceiverSettings::new(opus, 96).with_extension_ids(ids))?;
+/// let values = ExtensionValues {
+///     audio_level: Some(-30),
+///     voice_activity: Some(true),
+///     ..ExtensionValues::default()
+/// };
+/// let sample = Sample {
+///     rtp_time: 960,
+///     values,
+///     ..Sample::default()
+/// };
+/// for datagram in sender.send_sample(&sample, &[0xfc; 40])? {
+///     assert_eq!(ExtensionValues::of(&datagram, &ids)?, values);
+///     receiver.receive(0, &datagram)?;
+/// }
+/// assert_eq!(receiver.pop(0).unwrap()?.values, values);
+/// # Ok(())
+/// # }
+/// ```
 #[derive(Clone, Copy, Debug, Default, PartialEq, Eq)]
 pub struct ExtensionValues {
     /// When the frame was captured.
@@ -108,7 +141,7 @@ impl ExtensionValues {
             video_timing: told
                 .has_video_timing
                 .then(|| VideoTiming::told(&told.video_timing)),
-            layers_allocation: told.has_layers_allocation.then_some(LayersAllocation {
+            layers_allocation: told.has_layers_allocation.then(|| LayersAllocation {
                 len: told.layers_allocation_len,
                 padded: told.layers_allocation,
             }),

@@ -63,24 +63,7 @@ fn values_stand_on_their_packets_and_come_out_with_the_unit() -> Result<(), Erro
     first.extend([0x1f, 1, 2, 3, 4, 5, 6, 7, 8]);
     first.extend([0xff, 0xff, 0xff, 0xff, 0xff, 0xff, 0xff, 0xfe]);
     first.extend(b"\x52xyz\x60\x85\0\x10abc");
-    let mut second = vec![
-        0x90,
-        0xe0,
-        0,
-        1,
-        0,
-        0,
-        0,
-        5,
-        1,
-        2,
-        3,
-        4,
-        0xbe,
-        0xde,
-        0,
-        5,
-    ];
+    let mut second = vec![0x90, 0xe0, 0, 1, 0, 0, 0, 5, 1, 2, 3, 4, 0xbe, 0xde, 0, 5];
     second.extend([0x20, 0x0b, 0x30, 1, 0x4c, 2]);
     second.extend([1, 2, 3, 4, 5, 6, 7, 8, 9, 10, 11, 12]);
     second.extend(b"\x60\x85\0de");
