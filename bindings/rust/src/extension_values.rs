@@ -128,6 +128,7 @@ impl ExtensionValues {
         }
     }
 
+    #[inline]
     pub(crate) fn told(told: &raw::ExtensionValues) -> ExtensionValues {
         ExtensionValues {
             abs_capture_time: told.has_abs_capture_time.then_some(AbsCaptureTime {

@@ -51,6 +51,7 @@ pub struct UnitInfo {
 }
 
 impl UnitInfo {
+    #[inline]
     pub(crate) fn of(told: &raw::Unit) -> UnitInfo {
         UnitInfo {
             first: told.first,
@@ -66,6 +67,7 @@ impl UnitInfo {
 
     /// The unit with these bytes.
     #[must_use]
+    #[inline]
     pub fn with(self, bytes: Vec<u8>) -> Unit {
         Unit {
             first: self.first,

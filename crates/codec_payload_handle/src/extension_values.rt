@@ -1,6 +1,8 @@
 //! Values of header extensions, as C has them.
 
 ghost use Rattle.std.specs.Prelude.{◌≡◌};
+ghost use Rattle.std.specs.Option.{option_or};
+ghost use Rattle.codec_payload_core.specs.Release.{merged};
 ghost use Rattle.codec_payload_handle.specs.HeaderValues.{capture_told, given, layers_len, layers_told, offset_of, timing_given, timing_told, values_given, values_told};
 
 use codec_payload_core::wire::{
@@ -163,16 +165,18 @@ fn offset_of(time: Option<AbsCaptureTime>) -> Option<i64>
     }
 }
 
-/// The values as C has them.
-pub fn values_of(values: &Values) -> ExtensionValues
-    ensures told { result ≡ values_told values.now }
-    // Given back, they are the same values.
-    ensures comes_back { values_given result ≡ values.now }
+/// The values as C has them, with that capture time and that layers allocation in the place of theirs.
+fn values_with(
+    time: Option<AbsCaptureTime>,
+    layers: &Option<VideoLayersAllocation>,
+    values: &Values,
+) -> ExtensionValues
+    ensures { result ≡ values_told (record values.now { abs_capture_time = time; layers_allocation = layers.now }) }
 {
-    let offset = offset_of(values.abs_capture_time);
-    let (layers_allocation_len, layers_allocation) = layers_of(&values.layers_allocation);
+    let offset = offset_of(time);
+    let (layers_allocation_len, layers_allocation) = layers_of(layers);
     ExtensionValues {
-        abs_capture_time: capture_of(values.abs_capture_time),
+        abs_capture_time: capture_of(time),
         clock_offset: offset.unwrap_or(0),
         video_timing: timing_of(values.video_timing),
         video_orientation: values.video_orientation.unwrap_or(0),
@@ -180,14 +184,45 @@ pub fn values_of(values: &Values) -> ExtensionValues
         audio_level: values.audio_level.unwrap_or(0),
         layers_allocation_len,
         layers_allocation,
-        has_abs_capture_time: values.abs_capture_time.is_some(),
+        has_abs_capture_time: time.is_some(),
         has_clock_offset: offset.is_some(),
         has_video_timing: values.video_timing.is_some(),
         has_video_orientation: values.video_orientation.is_some(),
         has_video_content_type: values.video_content_type.is_some(),
         has_audio_level: values.audio_level.is_some(),
-        has_layers_allocation: values.layers_allocation.is_some(),
+        has_layers_allocation: layers.is_some(),
         has_voice_activity: values.voice_activity.is_some(),
         voice_activity: values.voice_activity.unwrap_or(false),
     }
+}
+
+/// The values as C has them.
+pub fn values_of(values: &Values) -> ExtensionValues
+    ensures told { result ≡ values_told values.now }
+    // Given back, they are the same values.
+    ensures comes_back { values_given result ≡ values.now }
+{
+    values_with(values.abs_capture_time, &values.layers_allocation, values)
+}
+
+/// The first of two that is there.
+fn either<'a>(
+    first: &'a Option<VideoLayersAllocation>,
+    last: &'a Option<VideoLayersAllocation>,
+) -> &'a Option<VideoLayersAllocation>
+    ensures { result.now ≡ option_or first.now last.now }
+{
+    match first {
+        Some(_) => first,
+        None => last,
+    }
+}
+
+/// The values of a unit whose first and last packet have these, as C has them. They are not copied before.
+pub fn values_between(first: &Values, last: &Values) -> ExtensionValues
+    ensures { result ≡ values_told (merged first.now last.now) }
+{
+    let time = first.abs_capture_time.or(last.abs_capture_time);
+    let layers = either(&first.layers_allocation, &last.layers_allocation);
+    values_with(time, layers, last)
 }

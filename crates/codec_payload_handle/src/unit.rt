@@ -1,10 +1,12 @@
 //! What is known of a unit, as C has it.
 
-ghost use Rattle.codec_payload_handle.specs.Units.{TellsUnit};
+ghost use Rattle.std.specs.Prelude.{◌<◌, length};
+ghost use Rattle.codec_payload_core.specs.Release.{IsFirst, IsLast};
+ghost use Rattle.codec_payload_handle.specs.Units.{TellsUnit, TellsValues};
 
-use crate::extension_values::{ExtensionValues, values_of};
+use crate::extension_values::{ExtensionValues, values_between};
 use crate::extra::{Extra, extra_of};
-use codec_payload_core::buffer::Depacketized;
+use codec_payload_core::buffer::{Depacketized, RtpMeta};
 
 /// What is known of a unit.
 #[repr(C)]
@@ -31,6 +33,32 @@ pub struct Unit {
     pub values: ExtensionValues,
 }
 
+/// The first of packets.
+fn first_of(metas: &[RtpMeta]) -> &RtpMeta
+    requires { 0 < length metas.now }
+    ensures { IsFirst metas.now result.now }
+{
+    &metas[0]
+}
+
+/// The last of packets.
+fn last_of(metas: &[RtpMeta]) -> &RtpMeta
+    requires { 0 < length metas.now }
+    ensures { IsLast metas.now result.now }
+{
+    &metas[metas.len() - 1]
+}
+
+/// The values of header extensions that go with a unit, as C has them.
+fn values_in(unit: &Depacketized) -> ExtensionValues
+    ensures { TellsValues unit.now.metas result }
+{
+    let metas = unit.meta();
+    let first = first_of(metas);
+    let last = last_of(metas);
+    values_between(&first.header.ext_vals, &last.header.ext_vals)
+}
+
 /// What is known of a unit, as C has it.
 pub fn unit_of(unit: &Depacketized) -> Unit
     ensures { TellsUnit unit.now result }
@@ -45,6 +73,6 @@ pub fn unit_of(unit: &Depacketized) -> Unit
         contiguous: unit.contiguous,
         starts_talk_spurt: unit.start_of_talkspurt(),
         extra: extra_of(&unit.codec_extra),
-        values: values_of(&unit.ext_vals()),
+        values: values_in(unit),
     }
 }
