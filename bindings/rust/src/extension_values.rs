@@ -142,7 +142,7 @@ impl ExtensionValues {
             video_timing: told
                 .has_video_timing
                 .then(|| VideoTiming::told(&told.video_timing)),
-            layers_allocation: told.has_layers_allocation.then(|| LayersAllocation {
+            layers_allocation: told.has_layers_allocation.then_some(LayersAllocation {
                 len: told.layers_allocation_len,
                 padded: told.layers_allocation,
             }),
