@@ -49,14 +49,14 @@ $(shared): $(archive) packaging/codec_payload.map
 
 man: $(manual)/codec_payload.h.3
 
-$(manual)/codec_payload.h.3: include/codec_payload.h packaging/Doxyfile
+$(manual)/codec_payload.h.3: include/codec_payload.h include/codec_payload_media.h packaging/Doxyfile
 	rm -rf $(out)/man $(out)/html
 	doxygen packaging/Doxyfile
-	find $(manual) ! -type d ! -name 'cpay_*' ! -name codec_payload.h.3 -delete
+	find $(manual) ! -type d ! -name 'cpay_*' ! -name codec_payload.h.3 ! -name codec_payload_media.h.3 -delete
 
 install: all
 	$(INSTALL) -d $(DESTDIR)$(INCLUDEDIR) $(DESTDIR)$(LIBDIR)/pkgconfig $(DESTDIR)$(cmake) $(DESTDIR)$(DOCDIR)
-	$(INSTALL) -m 644 include/codec_payload.h $(DESTDIR)$(INCLUDEDIR)
+	$(INSTALL) -m 644 include/codec_payload.h include/codec_payload_media.h $(DESTDIR)$(INCLUDEDIR)
 	$(INSTALL) -m 644 $(archive) $(shared) $(DESTDIR)$(LIBDIR)
 	ln -sf $(notdir $(shared)) $(DESTDIR)$(LIBDIR)/$(soname)
 	ln -sf $(soname) $(DESTDIR)$(LIBDIR)/libcodec_payload.so
@@ -74,10 +74,12 @@ install: all
 	fi
 
 uninstall:
-	rm -f $(DESTDIR)$(INCLUDEDIR)/codec_payload.h $(DESTDIR)$(LIBDIR)/libcodec_payload.a $(DESTDIR)$(LIBDIR)/libcodec_payload.so \
+	rm -f $(DESTDIR)$(INCLUDEDIR)/codec_payload.h $(DESTDIR)$(INCLUDEDIR)/codec_payload_media.h
+	rm -f $(DESTDIR)$(LIBDIR)/libcodec_payload.a $(DESTDIR)$(LIBDIR)/libcodec_payload.so \
 	    $(DESTDIR)$(LIBDIR)/$(soname) $(DESTDIR)$(LIBDIR)/$(notdir $(shared)) $(DESTDIR)$(LIBDIR)/pkgconfig/codec-payload.pc
 	rm -rf $(DESTDIR)$(cmake) $(DESTDIR)$(DOCDIR)
-	rm -f $(DESTDIR)$(MANDIR)/man3/cpay_* $(DESTDIR)$(MANDIR)/man3/codec_payload.h.3
+	rm -f $(DESTDIR)$(MANDIR)/man3/cpay_* $(DESTDIR)$(MANDIR)/man3/codec_payload.h.3 \
+	    $(DESTDIR)$(MANDIR)/man3/codec_payload_media.h.3
 
 dist: $(archive)
 	tar -czf $(out)/$(name).tar.gz --transform 's|^|$(name)/|' $(shipped)

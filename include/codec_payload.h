@@ -51,6 +51,8 @@
  * next does, as by a mutex or by a thread's start or end. Different ones share nothing. No call is made from a signal handler,
  * or in the forked child of a process with threads. No call blocks, prints, ends the process or reads a clock.
  *
+ * FILES. What payloads and frames say is in codec_payload_media.h, which this file includes.
+ *
  * AN EXAMPLE, which is bindings/c/example.c, in full: */
 #if 0
 #include "codec_payload.h"
@@ -325,7 +327,7 @@ typedef struct {
  * codec that is not there, a rate of 0 or another limit. [m] */
 CPAY_CHECKED cpay_status cpay_buffer_new(cpay_buffer *buffer, const cpay_spec *spec, size_t hold_back, size_t limit);
 
-/** A received packet. Values of header extensions and sender reports are not passed on. */
+/** A received packet. Values of header extensions and sender reports are not passed on: a unit of a buffer has no values. */
 typedef struct {
     uint64_t number;   /**< the sequence number without wrapping (cpay_extend_number); its low 16 bits are the header's */
     uint64_t received; /**< when it was received, by a clock of the caller's */
@@ -337,6 +339,39 @@ typedef struct {
 CPAY_CHECKED cpay_status cpay_buffer_push(cpay_buffer *buffer, const cpay_received *packet, const uint8_t *payload,
                                           size_t payload_len);
 
+/** When a frame passed the stages of its sender (video-timing), in milliseconds since it was captured. */
+typedef struct {
+    uint16_t encode_start;
+    uint16_t encode_finish;
+    uint16_t packetize_complete;
+    uint16_t last_left_pacer;
+    uint16_t network_1;
+    uint16_t network_2;
+    uint8_t flags; /**< why the times are there: 1 for a timer, 2 for a frame of unusual size */
+} cpay_video_timing;
+
+/** The values of header extensions (RFC 8285) that go with a frame, each where its flag is true: {0} has none. Fields that are
+ * not there are 0 where the library tells them, and not looked at where it is given them. docs/DATAGRAMS.md has their bytes. */
+typedef struct {
+    uint64_t abs_capture_time;          /**< when it was captured: seconds since 1900, and in the low 32 bits their fraction */
+    int64_t clock_offset;               /**< with has_clock_offset: what is to be added to get the sender's clock, likewise */
+    cpay_video_timing video_timing;     /**< when it passed the stages of its sender */
+    uint8_t video_orientation;          /**< camera, flip and rotation, as the byte of 3GPP TS 26.114, section 7.4.5 */
+    uint8_t video_content_type;         /**< 0 of a camera, 1 of a screen */
+    int8_t audio_level;                 /**< in dBov, 0 to -127 (RFC 6464). Another one is not sent */
+    uint8_t layers_allocation_len;      /**< how many bytes of `layers_allocation` are in use */
+    uint8_t layers_allocation[255];     /**< video-layers-allocation, as its bytes are: they are not looked into */
+    bool has_abs_capture_time;
+    bool has_clock_offset;              /**< beside has_abs_capture_time, without which it says nothing */
+    bool has_video_timing;
+    bool has_video_orientation;
+    bool has_video_content_type;
+    bool has_audio_level;
+    bool has_layers_allocation;
+    bool has_voice_activity;            /**< goes along with has_audio_level, without which it is not sent */
+    bool voice_activity;                /**< there is speech (RFC 6464) */
+} cpay_extension_values;
+
 /** What is known of a unit: of a frame, or of what the codec's payloads carry. */
 typedef struct {
     uint64_t first;         /**< the number of its first packet */
@@ -347,6 +382,7 @@ typedef struct {
     bool contiguous;        /**< it follows the unit before it, by its numbers or its picture ids */
     bool starts_talk_spurt; /**< its first packet has the marker, which audio sets where a talk spurt starts */
     cpay_extra extra;
+    cpay_extension_values values; /**< of its last packet; capture time and layers allocation of its first, where that has them */
 } cpay_unit;
 
 /** The next unit whose turn has come, or CPAY_NONE. With CPAY_TOO_SMALL *unit is told, and the unit waits for the next call. A
@@ -405,17 +441,35 @@ CPAY_CHECKED cpay_status cpay_rtp_read(const uint8_t *datagram, size_t datagram_
 CPAY_CHECKED cpay_status cpay_extension(const uint8_t *datagram, size_t datagram_len, uint8_t id, uint8_t *bytes,
                                         size_t bytes_len, size_t *size);
 
+/** The ids that signalling gave to header extensions (RFC 8285, section 5), 1 to 255; 0 for one that was not agreed on. */
+typedef struct {
+    uint8_t abs_capture_time;   /**< of 8 bytes, or of 16 with the offset of the clock */
+    uint8_t video_orientation;  /**< of 1 byte */
+    uint8_t video_content_type; /**< of 1 byte */
+    uint8_t video_timing;       /**< of 13 bytes */
+    uint8_t layers_allocation;  /**< of 0 to 255 bytes */
+    uint8_t audio_level;        /**< of 1 byte, with the voice activity (RFC 6464) */
+} cpay_extension_ids;
+
+/** The values that the header extension of a datagram has under these ids: of each the first element, if it has the length that
+ * its format has. A value that is not there is told as not there, with CPAY_OK too; where the datagram is no RTP packet, what
+ * cpay_rtp_read answers, and *values stays as it is. Elements are found as cpay_extension finds them. Takes no memory. */
+CPAY_CHECKED cpay_status cpay_extension_values_of(const uint8_t *datagram, size_t datagram_len, const cpay_extension_ids *ids,
+                                                  cpay_extension_values *values);
+
 /* ---- A sender: frames go in, the datagrams of one stream come out ---- */
 
 typedef struct {
     cpay_spec spec;
-    size_t mtu;            /**< the most bytes of a payload; the header of 12 bytes comes on top */
+    size_t mtu;            /**< the most bytes of a payload; a header of 12 bytes, and 304 of values at most, come on top */
     uint32_t ssrc;         /**< any number, chosen at random (RFC 3550, section 8) */
     uint16_t first_number; /**< the sequence number of the first packet, at random too */
     uint8_t payload_type;  /**< 0 to 127 */
+    cpay_extension_ids extension_ids; /**< values without an id are not sent; no two ids are the same */
 } cpay_sender_settings;
 
-/** A sender, in an empty struct. CPAY_INVALID where cpay_packetizer_new says so, and for a payload type above 127. [m] */
+/** A sender, in an empty struct. CPAY_INVALID where cpay_packetizer_new says so, for a payload type above 127, and where two
+ * header extensions have the same id. [m] */
 CPAY_CHECKED cpay_status cpay_sender_new(cpay_sender *sender, const cpay_sender_settings *settings);
 
 /** Cuts a frame into packets, and tells how many datagrams it has: see cpay_packetize. They take the place of those of the
@@ -423,6 +477,19 @@ CPAY_CHECKED cpay_status cpay_sender_new(cpay_sender *sender, const cpay_sender_
  * no datagrams, and the sequence number is as before. [m] */
 CPAY_CHECKED cpay_status cpay_sender_send(cpay_sender *sender, uint64_t rtp_time, bool starts_talk_spurt, const uint8_t *frame,
                                           size_t frame_len, size_t *count);
+
+/** What goes with a frame that is sent. */
+typedef struct {
+    uint64_t rtp_time;            /**< in ticks of the RTP clock; its low 32 bits are sent */
+    bool starts_talk_spurt;       /**< it is the first after a silence */
+    cpay_extension_values values; /**< {0} sends none */
+} cpay_sample;
+
+/** The same as cpay_sender_send, with values of header extensions: each value that has an id goes along, capture time and
+ * layers allocation on the frame's first packet alone, orientation, content type and timing on the last alone, level and voice
+ * activity on each. A level above 0 or below -127 dBov is not sent, nor is voice activity without a level. [m] */
+CPAY_CHECKED cpay_status cpay_sender_send_sample(cpay_sender *sender, const cpay_sample *sample, const uint8_t *frame,
+                                                 size_t frame_len, size_t *count);
 
 /** The datagram at a place, from 0, of the frame that was sent last. CPAY_NONE past the last. Each can be asked for again until
  * the next frame is sent. */
@@ -461,12 +528,14 @@ typedef struct {
     bool has_ssrc;
     bool has_red; /**< the stream is sent in RED (RFC 2198): what its packets repeat goes in where it is missing */
     bool has_rtx; /**< packets are sent again in a stream of their own (RFC 4588) */
+    cpay_extension_ids extension_ids; /**< under which ids the values of units come; two that are the same read one element */
 } cpay_receiver_settings;
 
-/** No codec yet; 30 frames held back, 4096 packets held, a clock of milliseconds, and the windows of RFC 3550, appendix A.1,
- * with 1000 behind. */
+/** No codec yet; 30 frames held back, 4096 packets held, a clock of milliseconds, the windows of RFC 3550, appendix A.1,
+ * with 1000 behind, and no ids of header extensions. */
 #define CPAY_RECEIVER_SETTINGS \
-    { { 0, 0, 0, false, false, false }, 30, 0, 4096, 0, 0, 1000, 0, 0, 3000, 1000, 0, 0, 0, false, false, false, false }
+    { { 0, 0, 0, false, false, false }, 30, 0, 4096, 0, 0, 1000, 0, 0, 3000, 1000, 0, 0, 0, false, false, false, false, \
+      { 0, 0, 0, 0, 0, 0 } }
 
 /** A receiver, in an empty struct. `no_media` are payload types that come under the stream's SSRC and numbers and carry no
  * media of it: telephone events beside audio, comfort noise, forward error correction. CPAY_INVALID for a codec that is not
@@ -503,6 +572,19 @@ CPAY_CHECKED cpay_status cpay_receiver_pop(cpay_receiver *receiver, uint64_t now
 
 /** When a pop may give a unit without a datagram coming. CPAY_NONE where only a datagram can help. */
 CPAY_CHECKED cpay_status cpay_receiver_next_deadline(cpay_receiver *receiver, uint64_t *at);
+
+/** How long to wait for packets that are missing. */
+typedef struct {
+    uint64_t max_wait; /**< with has_max_wait: how long a complete frame waits at most, in ticks of the caller's clock */
+    size_t hold_back;  /**< a complete frame behind a gap waits until more complete frames than that are held */
+    size_t start;      /**< the first frame waits until more complete frames than that are held */
+    bool has_max_wait;
+} cpay_patience;
+
+/** From now on frames wait by these values, in place of those of the settings. What is held stays, and nothing comes out by this
+ * call: the next pop, and the next deadline, go by the new values. So a shorter wait may let frames out at once, and a longer
+ * one holds back frames that were due. Once a unit has come out, `start` matters no more. */
+CPAY_CHECKED cpay_status cpay_receiver_set_patience(cpay_receiver *receiver, const cpay_patience *patience);
 
 /** The stream has ended: from now on pops wait for nothing, and give all complete frames. Packets within the windows still go
  * in; no restart is found until cpay_receiver_restart. */
@@ -643,116 +725,6 @@ CPAY_CHECKED cpay_status cpay_red_recover(uint8_t primary_pt, uint32_t step, uin
                                           const uint8_t *payload, size_t payload_len, size_t index, cpay_recovered_info *info,
                                           uint8_t *bytes, size_t bytes_len);
 
-/* ---- VP8 descriptors (RFC 7741, section 4.2) ---- */
-
-typedef struct {
-    uint16_t picture_id; /**< of 7 or 15 bits */
-    uint8_t tl0_pic_idx;
-    uint8_t key_idx; /**< 0 to 31 */
-    bool has_picture_id;
-    bool has_tl0_pic_idx;
-    bool has_key_idx;
-} cpay_vp8_fields_info;
-
-/** The fields of a payload's descriptor, and whether a keyframe starts in it. CPAY_SHORT_PACKET where a byte is missing, also
- * of what is behind the descriptor; CPAY_VP8_CORRUPTED where TL0PICIDX has no temporal layer beside it. */
-CPAY_CHECKED cpay_status cpay_vp8_fields(const uint8_t *payload, size_t payload_len, cpay_vp8_fields_info *fields,
-                                         bool *starts_keyframe);
-
-/** Gives those fields of a payload's descriptor that are set in `values` new values, in place. No byte moves, so CPAY_NONE
- * answers a field that is not there, and CPAY_INVALID a value that does not fit; nothing was written then. */
-CPAY_CHECKED cpay_status cpay_vp8_patch(uint8_t *payload, size_t payload_len, const cpay_vp8_fields_info *values);
-
-/* ---- Telephone events (RFC 4733) ---- */
-
-/** The report of an index from 0 in a payload of reports, whose durations count a clock of that rate. CPAY_NONE past the last,
- * CPAY_TELE_INVALID where the payload is not whole reports, CPAY_INVALID for a rate of 0. */
-CPAY_CHECKED cpay_status cpay_tele_read(const uint8_t *payload, size_t payload_len, uint32_t rate, size_t index,
-                                        cpay_tele_event *event);
-
-/** The four bytes of a report. CPAY_INVALID for a rate of 0, or a duration of more than 65535 ticks. */
-CPAY_CHECKED cpay_status cpay_tele_write(const cpay_tele_event *event, uint32_t rate, uint8_t *bytes, size_t bytes_len);
-
-/* ---- Looks at one payload. None takes memory ---- */
-
-bool cpay_vp8_is_keyframe(const uint8_t *payload, size_t payload_len);
-bool cpay_vp9_is_keyframe(const uint8_t *payload, size_t payload_len);
-bool cpay_vp9_frame_is_keyframe(const uint8_t *frame, size_t frame_len); /**< a whole frame, without a descriptor */
-bool cpay_av1_is_keyframe(const uint8_t *payload, size_t payload_len);   /**< a coded video sequence starts in it */
-
-/** Whether a payload begins a unit, and whether it ends one under this marker of its RTP header. CPAY_INVALID for a codec that
- * is not there. */
-CPAY_CHECKED cpay_status cpay_is_head(uint32_t codec, const uint8_t *payload, size_t payload_len, bool *is_head);
-CPAY_CHECKED cpay_status cpay_is_tail(uint32_t codec, bool marker, const uint8_t *payload, size_t payload_len, bool *is_tail);
-
-/** The number of a packet without wrapping: the one nearest to the greatest so far whose low 16 bits are those of the RTP
- * header; half the range goes forward. The first packet's is the 16 bits themselves. Begin with 65536 as the previous number
- * where earlier packets may come behind the first one. */
-uint64_t cpay_extend_number(uint64_t previous, bool has_previous, uint16_t number);
-
-/* ---- What frames say: whole frames, as cpay_buffer_pop gives them. None takes memory ---- */
-
-/** What a frame says of itself. What it does not tell is 0. */
-typedef struct {
-    uint64_t duration; /**< of audio, in ticks of the RTP clock */
-    uint32_t width;    /**< in pixels; of AV1 the largest of the sequence header */
-    uint32_t height;
-    bool has_keyframe; /**< whether `keyframe` is told: of VP8 and VP9 always, of AV1 where the unit has a frame header */
-    bool keyframe;
-    bool has_size; /**< of a keyframe of VP8, of a keyframe or an intra-only frame of VP9, of AV1 with a sequence header */
-    bool has_duration;
-} cpay_frame_facts;
-
-/** What a frame of a codec says. Of VP8, VP9, AV1, Opus, AMR-WB (in storage form), G.711 and G.722; of other codecs, and of a
- * codec that is not there, nothing is told. CPAY_FRAME_TOO_SHORT to CPAY_FRAME_SIZES where the frame is malformed: the first
- * fault from left to right. It reads what it needs and no more. */
-CPAY_CHECKED cpay_status cpay_frame_info(uint32_t codec, const uint8_t *frame, size_t frame_len, cpay_frame_facts *facts);
-
-/** An OBU of a temporal unit. */
-typedef struct {
-    size_t start; /**< where its payload begins in the unit; the next OBU begins at start + bytes */
-    size_t bytes;
-    uint8_t obu_type;    /**< 1 a sequence header, 2 a temporal delimiter, 3 a frame header, 6 a frame */
-    uint8_t temporal_id; /**< the layers, 0 where they are not told */
-    uint8_t spatial_id;
-    bool has_extension;
-} cpay_obu_info;
-
-/** The OBU at an offset of a temporal unit: 0 for the first, and from each start + bytes for the next. CPAY_NONE at the end,
- * CPAY_INVALID behind it, CPAY_FRAME_TOO_SHORT to CPAY_FRAME_SIZES where the OBU is malformed. */
-CPAY_CHECKED cpay_status cpay_av1_obu(const uint8_t *unit, size_t unit_len, size_t offset, cpay_obu_info *info);
-
-/** A frame of an AMR-WB unit. */
-typedef struct {
-    size_t start; /**< where its speech begins in the unit; the next frame begins at start + bytes */
-    size_t bytes;
-    uint8_t frame_type; /**< 0 to 8 speech, 9 comfort noise, 14 lost, 15 no data */
-    bool quality;       /**< whether it is undamaged */
-} cpay_amr_wb_frame_info;
-
-/** The frame at an offset of an AMR-WB unit in storage form, found as cpay_av1_obu finds OBUs. Each lasts 20 ms. */
-CPAY_CHECKED cpay_status cpay_amr_wb_frame(const uint8_t *unit, size_t unit_len, size_t offset, cpay_amr_wb_frame_info *info);
-
-/** A frame of a VP9 unit. */
-typedef struct {
-    size_t start; /**< where it begins in the unit; the next frame begins at start + bytes */
-    size_t bytes;
-} cpay_vp9_frame_info;
-
-/** The frame of that number, counted from 0, of a VP9 unit: of a superframe those of the index at its end, hidden ones too, else
- * the unit as its only frame. CPAY_NONE where there are not as many; CPAY_FRAME_TOO_SHORT of no bytes, and CPAY_FRAME_SIZES
- * where the frames have more bytes together than stand before the index. It reads the index alone. */
-CPAY_CHECKED cpay_status cpay_vp9_frame(const uint8_t *unit, size_t unit_len, size_t index, cpay_vp9_frame_info *info);
-
-/** The av1C record of a stream (AV1 codec ISO media file format binding, 2.3) of 4 bytes and the OBU, from its sequence header
- * OBU with header and size. *size is told on 0 and on CPAY_TOO_SMALL. CPAY_INVALID for another OBU, or bytes behind it. */
-CPAY_CHECKED cpay_status cpay_av1c(const uint8_t *obu, size_t obu_len, uint8_t *bytes, size_t bytes_len, size_t *size);
-
-/** The 19 bytes of an Opus stream's identification header (RFC 7845, 5.1), without gain, in mapping family 0. `pre_skip` counts
- * samples of 48 kHz; the rate is that of the input, or 0. CPAY_INVALID for other than one or two channels. */
-CPAY_CHECKED cpay_status cpay_opus_head(uint8_t channels, uint16_t pre_skip, uint32_t input_sample_rate, uint8_t *bytes,
-                                        size_t bytes_len);
-
 /** A text for each status, in English. */
 static inline const char *cpay_status_text(cpay_status status) {
     switch (status) {
@@ -793,5 +765,7 @@ static inline const char *cpay_status_text(cpay_status status) {
 #ifdef __cplusplus
 }
 #endif
+
+#include "codec_payload_media.h"
 
 #endif

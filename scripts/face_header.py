@@ -1,5 +1,5 @@
 #!/usr/bin/env python3
-"""Compares include/codec_payload.h, and bindings/rust, with the exports of crates/codec_payload_c.
+"""Compares the header, include/codec_payload.h with codec_payload_media.h, and bindings/rust, with the exports of codec_payload_c.
 
 The header is written by hand. This reads both and compares every function: its name, its answer, and of each parameter
 the name and the type; every struct that crosses: its fields in order with their types; and the numbers of the statuses and of
@@ -15,7 +15,11 @@ import sys
 
 CRATES = ["codec_payload_c", "codec_payload_handle"]
 ROOT = os.path.dirname(os.path.dirname(os.path.realpath(__file__)))
-NUMBERS = {"u8": "uint8_t", "u16": "uint16_t", "u32": "uint32_t", "u64": "uint64_t", "i32": "int32_t", "usize": "size_t", "bool": "bool"}
+NUMBERS = {
+    **{f"{sign[0]}{bits}": f"{sign[1:]}{bits}_t" for sign in ("uuint", "iint") for bits in (8, 16, 32, 64)},
+    "usize": "size_t",
+    "bool": "bool",
+}
 # The one pointer that stands in a struct, which C sees as one to nothing that it knows.
 FLAT = {"*mut u8": "void *"}
 # What a handle of the library is in the header, by what lives in it. Each has a call of its own to free it.
@@ -123,7 +127,7 @@ def c_declared(text):
 
 def header():
     """Functions, structs and numbers by the header."""
-    text = read("include/codec_payload.h")
+    text = read("include/codec_payload.h") + read("include/codec_payload_media.h")
     text = re.sub(r"#if 0\n.*?#endif\n", "", re.sub(r"/\*.*?\*/", "", text, flags=re.S), flags=re.S)
     structs, functions = {}, {}
     for found in re.finditer(r"typedef struct \{(.*?)\} (\w+);", text, re.S):

@@ -7,8 +7,8 @@
 #
 # The tests: the header and the Rust crate's declarations against the library; the header as C99 and C11 and, where there is a
 # C++ compiler, as C++11 and C++20; that the compiler tells one kind of struct from another, and a status that is not looked at;
-# what each call answers (bindings/c/checks.c, datagrams.c, packets.c); what frames say that other readers told of (frames.c, frames.txt), and
-# hostile ones; a stream over UDP on loopback (loopback.c, and the same in Rust);
+# what each call answers (bindings/c/checks.c, datagrams.c, values.c, packets.c); what frames say that other readers told of (frames.c, frames.txt),
+# and hostile ones; a stream over UDP on loopback (loopback.c, and the same in Rust);
 # scripts of payload_vectors through the library, compared byte for byte with the program (vectors.c, inputs.py); allocations
 # less frees after each kind of use, and each allocation of a session refused in turn (oom.c); all of these also with the
 # address and undefined-behaviour sanitizers; the Rust crates: their tests, packages, lints, and documents without the library;
@@ -95,6 +95,8 @@ run_c() {
     "$work/datagrams" || fail "bindings/c/datagrams.c failed"
     compile packets "$@"
     "$work/packets" || fail "bindings/c/packets.c failed"
+    compile values "$@"
+    "$work/values" || fail "bindings/c/values.c failed"
     compile loopback "$@"
     "$work/loopback" >"$work/loopback-out" || fail "bindings/c/loopback.c failed"
     tail -n 1 "$work/loopback-out" | grep -qx '1278000 bytes of frames, 64 gaps' || fail "bindings/c/loopback.c printed something else"
@@ -128,17 +130,20 @@ all) ;;
 esac
 
 "$root/scripts/face_header.py" || fail "the header, the Rust crate and the library differ"
-header=$root/include/codec_payload.h
-for standard in c99 c11; do
-    "$compiler" -std=$standard $warnings -fsyntax-only -x c "$header" || fail "the header is no $standard"
+for header in "$root/include"/*.h; do
+    for standard in c99 c11; do
+        "$compiler" -std=$standard $warnings -fsyntax-only -x c "$header" || fail "$header is no $standard"
+    done
 done
 refuses 'cpay_buffer_pop(buffer, unit, NULL, 0)'
 refuses 'if (cpay_buffer_pop(packetizer, unit, NULL, 0)) return'
 ! (refuses 'if (cpay_buffer_pop(buffer, unit, NULL, 0)) return') 2>/dev/null || fail "the compiler refuses what is right"
 plus=${CXX:-c++}
 if command -v "$plus" >/dev/null; then
-    for standard in c++11 c++20; do
-        "$plus" -std=$standard $warnings -fsyntax-only -x c++ "$header" || fail "the header is no $standard"
+    for header in "$root/include"/*.h; do
+        for standard in c++11 c++20; do
+            "$plus" -std=$standard $warnings -fsyntax-only -x c++ "$header" || fail "$header is no $standard"
+        done
     done
 fi
 (cd "$root/crates/payload_vectors" && rt run <stdin) >"$work/run.log" 2>&1 || {

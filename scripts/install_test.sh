@@ -29,8 +29,8 @@ done
 
 # exports NM-FLAGS FILE: the names that a library defines for others, which have to be those of the header
 exports() {
-    sed -n 's/^[A-Za-z0-9_ ]*[ *]\(cpay_[a-z0-9_]*\)(.*/\1/p' "$root/include/codec_payload.h" | grep -v -x cpay_status_text |
-        sort -u >"$work/wanted"
+    sed -n 's/^[A-Za-z0-9_ ]*[ *]\(cpay_[a-z0-9_]*\)(.*/\1/p' "$root/include/codec_payload.h" \
+        "$root/include/codec_payload_media.h" | grep -v -x cpay_status_text | sort -u >"$work/wanted"
     nm --defined-only --extern-only $1 "$2" | sed -n 's/.* [A-Z] \([^@]*\).*/\1/p' | grep -v -x CODEC_PAYLOAD_0 |
         sort -u >"$work/found"
     cmp -s "$work/wanted" "$work/found" || {

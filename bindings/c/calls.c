@@ -121,6 +121,14 @@ cpay_status cpay_extension(const uint8_t *datagram, size_t datagram_len, uint8_t
                                  bytes ? bytes : (uint8_t *)nothing, bytes_len, size);
 }
 
+cpay_status proved_cpay_extension_values_of(const uint8_t *datagram, size_t datagram_len, const cpay_extension_ids *ids,
+                                            cpay_extension_values *values);
+cpay_status cpay_extension_values_of(const uint8_t *datagram, size_t datagram_len, const cpay_extension_ids *ids,
+                                     cpay_extension_values *values) {
+    if (!datagram && datagram_len) return CPAY_INVALID;
+    return proved_cpay_extension_values_of(datagram ? datagram : (const uint8_t *)nothing, datagram_len, ids, values);
+}
+
 cpay_status proved_cpay_sender_new(cpay_handle *sender, const cpay_sender_settings *settings);
 cpay_status cpay_sender_new(cpay_sender *sender, const cpay_sender_settings *settings) {
     return proved_cpay_sender_new(&sender->handle, settings);
@@ -133,6 +141,14 @@ cpay_status cpay_sender_send(cpay_sender *sender, uint64_t rtp_time, bool starts
     if (!frame && frame_len) return CPAY_INVALID;
     return proved_cpay_sender_send(&sender->handle, rtp_time, starts_talk_spurt, frame ? frame : (const uint8_t *)nothing,
                                    frame_len, count);
+}
+
+cpay_status proved_cpay_sender_send_sample(cpay_handle *sender, const cpay_sample *sample, const uint8_t *frame,
+                                           size_t frame_len, size_t *count);
+cpay_status cpay_sender_send_sample(cpay_sender *sender, const cpay_sample *sample, const uint8_t *frame, size_t frame_len,
+                                    size_t *count) {
+    if (!frame && frame_len) return CPAY_INVALID;
+    return proved_cpay_sender_send_sample(&sender->handle, sample, frame ? frame : (const uint8_t *)nothing, frame_len, count);
 }
 
 cpay_status proved_cpay_sender_datagram(cpay_handle *sender, size_t place, uint8_t *bytes, size_t bytes_len, size_t *size);
@@ -172,6 +188,11 @@ cpay_status cpay_receiver_pop(cpay_receiver *receiver, uint64_t now, cpay_unit *
 cpay_status proved_cpay_receiver_next_deadline(cpay_handle *receiver, uint64_t *at);
 cpay_status cpay_receiver_next_deadline(cpay_receiver *receiver, uint64_t *at) {
     return proved_cpay_receiver_next_deadline(&receiver->handle, at);
+}
+
+cpay_status proved_cpay_receiver_set_patience(cpay_handle *receiver, const cpay_patience *patience);
+cpay_status cpay_receiver_set_patience(cpay_receiver *receiver, const cpay_patience *patience) {
+    return proved_cpay_receiver_set_patience(&receiver->handle, patience);
 }
 
 cpay_status proved_cpay_receiver_finish(cpay_handle *receiver);

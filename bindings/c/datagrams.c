@@ -112,6 +112,7 @@ static void settings(void) {
     cpay_receiver_counts_info counts = {.held = 7};
     cpay_sender_counts_info sent = {.packets = 7};
     cpay_report_info report = {.highest = 7};
+    cpay_patience patience = {.hold_back = 1};
     cpay_unit unit = {.first = 7};
     uint8_t bytes[4] = {7, 7, 7, 7};
     uint32_t outcome = 7;
@@ -146,6 +147,7 @@ static void settings(void) {
         CHECK(cpay_receiver_receive(&it.receiver, 0, bytes, 4, &outcome) == status);
         CHECK(cpay_receiver_pop(&it.receiver, 0, &unit, bytes, 4) == status);
         CHECK(cpay_receiver_next_deadline(&it.receiver, &at) == status);
+        CHECK(cpay_receiver_set_patience(&it.receiver, &patience) == status);
         CHECK(cpay_receiver_finish(&it.receiver) == status);
         CHECK(cpay_receiver_restart(&it.receiver) == status);
         CHECK(cpay_receiver_report(&it.receiver, &report) == status);
@@ -261,6 +263,32 @@ static void ends(void) {
     CHECK(cpay_receiver_finish(&receiver) == CPAY_OK);
     CHECK(next(&receiver, 80) == 12 && next(&receiver, 80) == -1);
     CHECK(came(&receiver, 81, TYPE, 11) == CPAY_LATE && came(&receiver, 82, TYPE, 12) == CPAY_LATE);
+    cpay_receiver_free(&receiver);
+}
+
+/* Another patience: what is held stays, and the next pop and the next deadline go by it. */
+static void patience(void) {
+    cpay_receiver_settings settings = settings_of(opus());
+    cpay_patience none = {0}, until = {.max_wait = 50, .hold_back = 30, .has_max_wait = true};
+    cpay_patience longer = {.max_wait = 100, .hold_back = 30, .has_max_wait = true}, one = {.hold_back = 1};
+    settings.start = 1;
+    cpay_receiver receiver = receiver_of(&settings);
+    uint64_t at = 0;
+    CHECK(came(&receiver, 10, TYPE, 7) == CPAY_HELD && next(&receiver, 10) == -1);
+    CHECK(cpay_receiver_set_patience(&receiver, &none) == CPAY_OK);
+    CHECK(next(&receiver, 10) == 7);
+    /* a gap at 8: with two complete frames behind it, one comes where more than one are wanted */
+    CHECK(cpay_receiver_set_patience(&receiver, &one) == CPAY_OK);
+    CHECK(came(&receiver, 20, TYPE, 9) == CPAY_HELD && next(&receiver, 20) == -1);
+    CHECK(came(&receiver, 20, TYPE, 11) == CPAY_HELD && next(&receiver, 20) == 9 && next(&receiver, 20) == -1);
+    /* and with a longest wait of 50 after 20, which becomes one of 100, and of 50 again */
+    CHECK(cpay_receiver_next_deadline(&receiver, &at) == CPAY_NONE);
+    CHECK(cpay_receiver_set_patience(&receiver, &until) == CPAY_OK);
+    CHECK(cpay_receiver_next_deadline(&receiver, &at) == CPAY_OK && at == 70 && next(&receiver, 69) == -1);
+    CHECK(cpay_receiver_set_patience(&receiver, &longer) == CPAY_OK);
+    CHECK(cpay_receiver_next_deadline(&receiver, &at) == CPAY_OK && at == 120 && next(&receiver, 70) == -1);
+    CHECK(cpay_receiver_set_patience(&receiver, &until) == CPAY_OK && next(&receiver, 70) == 11);
+    CHECK(counts_of(&receiver).released == 3 && counts_of(&receiver).held == 0);
     cpay_receiver_free(&receiver);
 }
 
@@ -465,6 +493,7 @@ int main(void) {
     restarts();
     without_media();
     ends();
+    patience();
     others();
     small_room();
     amr_wb();

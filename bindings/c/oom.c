@@ -181,11 +181,14 @@ static int red(int *met) {
     return kept == before ? 0 : 7;
 }
 
-/* A stream of datagrams: frames in four packets, and a sender that begins anew. */
+/* A stream of datagrams: frames in four packets, each second one with values of header extensions, and a sender that begins anew. */
 static int datagrams(int *met) {
     long before = kept;
     cpay_spec spec = {.codec = CPAY_VP8, .rate = 90000};
-    cpay_sender_settings sends = {.spec = spec, .mtu = MTU, .ssrc = 7, .payload_type = 96};
+    cpay_sender_settings sends = {.spec = spec, .mtu = MTU, .ssrc = 7, .payload_type = 96,
+                                  .extension_ids = {.layers_allocation = 1, .audio_level = 2}};
+    cpay_sample sample = {.values = {.audio_level = -1, .has_audio_level = true,
+                                     .layers_allocation_len = 40, .has_layers_allocation = true}};
     cpay_receiver_settings receives = CPAY_RECEIVER_SETTINGS;
     cpay_sender sender = CPAY_INIT;
     cpay_receiver receiver = CPAY_INIT;
@@ -199,6 +202,7 @@ static int datagrams(int *met) {
     receives.spec = spec;
     receives.payload_type = 96;
     receives.hold_back = 0;
+    receives.extension_ids = sends.extension_ids;
     AGAIN(status, cpay_receiver_new(&receiver, &receives, no_media, 1));
     if (status) return 1;
     for (uint32_t i = 0; i < 2 * FRAMES; i++) {
@@ -210,7 +214,11 @@ static int datagrams(int *met) {
             AGAIN(status, cpay_sender_new(&sender, &sends));
             if (status) return 2;
         }
-        AGAIN(status, cpay_sender_send(&sender, 3000 * i, false, frame, FRAME, &count));
+        sample.rtp_time = 3000 * i;
+        if (i % 2)
+            AGAIN(status, cpay_sender_send_sample(&sender, &sample, frame, FRAME, &count));
+        else
+            AGAIN(status, cpay_sender_send(&sender, 3000 * i, false, frame, FRAME, &count));
         if (status || count != 4) return 3;
         for (size_t k = 0; k < count; k++, received++) {
             if (cpay_sender_datagram(&sender, k, bytes, FRAME, &size)) return 4;
@@ -223,6 +231,7 @@ static int datagrams(int *met) {
         if (!whole && status == CPAY_NONE) continue;
         if (status != CPAY_TOO_SMALL || unit.bytes != FRAME) return 6;
         if (cpay_receiver_pop(&receiver, i, &unit, bytes, FRAME) || memcmp(bytes, frame, FRAME)) return 7;
+        if (whole && (unit.values.has_audio_level != (i % 2) || unit.values.layers_allocation_len != 40 * (i % 2))) return 10;
     }
     if (cpay_receiver_counts(&receiver, &counts) || counts.received != received || counts.restarts != 1) return 8;
     cpay_sender_free(&sender);

@@ -154,6 +154,64 @@ pub struct Received {
 
 #[repr(C)]
 #[derive(Clone, Copy, Debug, Default)]
+pub struct VideoTiming {
+    pub encode_start: u16,
+    pub encode_finish: u16,
+    pub packetize_complete: u16,
+    pub last_left_pacer: u16,
+    pub network_1: u16,
+    pub network_2: u16,
+    pub flags: u8,
+}
+
+#[repr(C)]
+#[derive(Clone, Copy, Debug)]
+pub struct ExtensionValues {
+    pub abs_capture_time: u64,
+    pub clock_offset: i64,
+    pub video_timing: VideoTiming,
+    pub video_orientation: u8,
+    pub video_content_type: u8,
+    pub audio_level: i8,
+    pub layers_allocation_len: u8,
+    pub layers_allocation: [u8; 255],
+    pub has_abs_capture_time: bool,
+    pub has_clock_offset: bool,
+    pub has_video_timing: bool,
+    pub has_video_orientation: bool,
+    pub has_video_content_type: bool,
+    pub has_audio_level: bool,
+    pub has_layers_allocation: bool,
+    pub has_voice_activity: bool,
+    pub voice_activity: bool,
+}
+
+impl Default for ExtensionValues {
+    fn default() -> ExtensionValues {
+        ExtensionValues {
+            abs_capture_time: 0,
+            clock_offset: 0,
+            video_timing: VideoTiming::default(),
+            video_orientation: 0,
+            video_content_type: 0,
+            audio_level: 0,
+            layers_allocation_len: 0,
+            layers_allocation: [0; 255],
+            has_abs_capture_time: false,
+            has_clock_offset: false,
+            has_video_timing: false,
+            has_video_orientation: false,
+            has_video_content_type: false,
+            has_audio_level: false,
+            has_layers_allocation: false,
+            has_voice_activity: false,
+            voice_activity: false,
+        }
+    }
+}
+
+#[repr(C)]
+#[derive(Clone, Copy, Debug, Default)]
 pub struct Unit {
     pub first: u64,
     pub last: u64,
@@ -163,6 +221,7 @@ pub struct Unit {
     pub contiguous: bool,
     pub starts_talk_spurt: bool,
     pub extra: Extra,
+    pub values: ExtensionValues,
 }
 
 #[repr(C)]
@@ -281,12 +340,32 @@ pub struct RtpInfo {
 
 #[repr(C)]
 #[derive(Clone, Copy, Debug, Default)]
+pub struct ExtensionIds {
+    pub abs_capture_time: u8,
+    pub video_orientation: u8,
+    pub video_content_type: u8,
+    pub video_timing: u8,
+    pub layers_allocation: u8,
+    pub audio_level: u8,
+}
+
+#[repr(C)]
+#[derive(Clone, Copy, Debug, Default)]
 pub struct SenderSettings {
     pub spec: Spec,
     pub mtu: usize,
     pub ssrc: u32,
     pub first_number: u16,
     pub payload_type: u8,
+    pub extension_ids: ExtensionIds,
+}
+
+#[repr(C)]
+#[derive(Clone, Copy, Debug, Default)]
+pub struct Sample {
+    pub rtp_time: u64,
+    pub starts_talk_spurt: bool,
+    pub values: ExtensionValues,
 }
 
 #[repr(C)]
@@ -320,6 +399,16 @@ pub struct ReceiverSettings {
     pub has_ssrc: bool,
     pub has_red: bool,
     pub has_rtx: bool,
+    pub extension_ids: ExtensionIds,
+}
+
+#[repr(C)]
+#[derive(Clone, Copy, Debug, Default)]
+pub struct Patience {
+    pub max_wait: u64,
+    pub hold_back: usize,
+    pub start: usize,
+    pub has_max_wait: bool,
 }
 
 #[repr(C)]
@@ -571,12 +660,25 @@ unsafe extern "C" {
         bytes_len: usize,
         size: *mut usize,
     ) -> u32;
+    pub fn cpay_extension_values_of(
+        datagram: *const u8,
+        datagram_len: usize,
+        ids: *const ExtensionIds,
+        values: *mut ExtensionValues,
+    ) -> u32;
     pub fn cpay_rtp_read(datagram: *const u8, datagram_len: usize, packet: *mut RtpInfo) -> u32;
     pub fn cpay_sender_new(sender: *mut Sender, settings: *const SenderSettings) -> u32;
     pub fn cpay_sender_send(
         sender: *mut Sender,
         rtp_time: u64,
         starts_talk_spurt: bool,
+        frame: *const u8,
+        frame_len: usize,
+        count: *mut usize,
+    ) -> u32;
+    pub fn cpay_sender_send_sample(
+        sender: *mut Sender,
+        sample: *const Sample,
         frame: *const u8,
         frame_len: usize,
         count: *mut usize,
@@ -610,6 +712,7 @@ unsafe extern "C" {
         bytes_len: usize,
     ) -> u32;
     pub fn cpay_receiver_next_deadline(receiver: *mut Receiver, at: *mut u64) -> u32;
+    pub fn cpay_receiver_set_patience(receiver: *mut Receiver, patience: *const Patience) -> u32;
     pub fn cpay_receiver_finish(receiver: *mut Receiver) -> u32;
     pub fn cpay_receiver_restart(receiver: *mut Receiver) -> u32;
     pub fn cpay_receiver_missing(

@@ -25,79 +25,18 @@ use crate::error::{Error, NONE, told};
 use crate::handle::Handle;
 use crate::memory::{Expected, MOST_ADDED, append};
 use crate::raw::{
-    self, RtpInfo, cpay_is_rtcp, cpay_receiver_counts, cpay_receiver_finish, cpay_receiver_missing,
-    cpay_receiver_new, cpay_receiver_next_deadline, cpay_receiver_pop, cpay_receiver_receive,
-    cpay_receiver_report, cpay_receiver_restart, cpay_rtp_read, cpay_sender_counts,
-    cpay_sender_datagram, cpay_sender_new, cpay_sender_send,
+    self, cpay_receiver_counts, cpay_receiver_finish, cpay_receiver_missing, cpay_receiver_new,
+    cpay_receiver_next_deadline, cpay_receiver_pop, cpay_receiver_receive, cpay_receiver_report,
+    cpay_receiver_restart, cpay_receiver_set_patience, cpay_sender_counts, cpay_sender_datagram,
+    cpay_sender_new, cpay_sender_send, cpay_sender_send_sample,
 };
 use crate::{Batch, Settings, Unit, UnitInfo};
 
-/// Whether a datagram on a port for both is RTCP, by its second byte: 192 to 223 (RFC 5761, section 4).
-#[must_use]
-pub fn is_rtcp(datagram: &[u8]) -> bool {
-    // SAFETY: the pointer and the length are those of one slice.
-    unsafe { cpay_is_rtcp(datagram.as_ptr(), datagram.len()) }
-}
-
-/// The header extension of a packet (RFC 3550, section 5.3.1).
-#[derive(Clone, Copy, Debug, PartialEq, Eq)]
-pub struct Extension<'a> {
-    /// The 16 bits that the profile defines: 0xBEDE and 0x1000 to 0x100F announce elements (RFC 8285).
-    pub profile: u16,
-    /// Whole words of four bytes.
-    pub bytes: &'a [u8],
-}
-
-/// An RTP packet. It borrows from the datagram.
-#[derive(Clone, Copy, Debug, PartialEq, Eq)]
-pub struct RtpPacket<'a> {
-    /// The marker bit.
-    pub marker: bool,
-    /// The payload type, 0 to 127.
-    pub payload_type: u8,
-    /// The sequence number.
-    pub sequence_number: u16,
-    /// The RTP time.
-    pub timestamp: u32,
-    /// The synchronization source.
-    pub ssrc: u32,
-    /// The contributing sources, of four bytes each.
-    pub csrcs: &'a [u8],
-    /// The header extension.
-    pub extension: Option<Extension<'a>>,
-    /// The payload, without padding.
-    pub payload: &'a [u8],
-    /// How many bytes of padding stand behind the payload.
-    pub padding: u8,
-}
-
-impl<'a> RtpPacket<'a> {
-    /// The packet that a datagram is. It takes no memory.
-    ///
-    /// # Errors
-    ///
-    /// [`Error::RtpHeaderTooShort`] to [`Error::RtpPaddingTooLong`]: the first fault from left to right.
-    pub fn parse(datagram: &'a [u8]) -> Result<RtpPacket<'a>, Error> {
-        let mut told_packet = RtpInfo::default();
-        // SAFETY: the pointer and the length are those of one slice, and all is borrowed for the call.
-        told(unsafe { cpay_rtp_read(datagram.as_ptr(), datagram.len(), &mut told_packet) })?;
-        let part = |at: usize, len: usize| &datagram[at..at + len];
-        Ok(RtpPacket {
-            marker: told_packet.marker,
-            payload_type: told_packet.payload_type,
-            sequence_number: told_packet.sequence_number,
-            timestamp: told_packet.timestamp,
-            ssrc: told_packet.ssrc,
-            csrcs: part(12, 4 * usize::from(told_packet.csrc_count)),
-            extension: told_packet.has_extension.then(|| Extension {
-                profile: told_packet.extension_profile,
-                bytes: part(told_packet.extension_at, told_packet.extension_len),
-            }),
-            payload: part(told_packet.payload_at, told_packet.payload_len),
-            padding: told_packet.padding,
-        })
-    }
-}
+pub use crate::counts::{ReceiverCounts, Report, SenderCounts};
+pub use crate::extension_values::{
+    AbsCaptureTime, ExtensionIds, ExtensionValues, LayersAllocation, VideoTiming,
+};
+pub use crate::rtp::{Extension, RtpPacket, is_rtcp};
 
 /// What a sender is made of.
 #[derive(Clone, Copy, Debug, PartialEq, Eq, Hash)]
@@ -111,12 +50,14 @@ pub struct SenderSettings {
     pub ssrc: u32,
     /// The sequence number of the first packet, at random too.
     pub first_number: u16,
-    /// The most bytes of a payload; the header of 12 bytes comes on top.
+    /// The most bytes of a payload; a header of 12 bytes, and 304 of header extensions at most, come on top.
     pub mtu: usize,
+    /// The ids of header extensions. Values without one are not sent; no two are the same.
+    pub extension_ids: ExtensionIds,
 }
 
 impl SenderSettings {
-    /// That stream, with payloads of at most 1,200 bytes, from number 0 on.
+    /// That stream, with payloads of at most 1,200 bytes, from number 0 on, without header extensions.
     #[must_use]
     pub fn new(codec: Settings, payload_type: u8, ssrc: u32) -> SenderSettings {
         SenderSettings {
@@ -125,6 +66,7 @@ impl SenderSettings {
             ssrc,
             first_number: 0,
             mtu: 1_200,
+            extension_ids: ExtensionIds::default(),
         }
     }
 
@@ -141,19 +83,24 @@ impl SenderSettings {
         self.mtu = mtu;
         self
     }
+
+    /// The same with these ids of header extensions.
+    #[must_use]
+    pub fn with_extension_ids(mut self, extension_ids: ExtensionIds) -> SenderSettings {
+        self.extension_ids = extension_ids;
+        self
+    }
 }
 
-/// What sender reports tell (RFC 3550, section 6.4.1).
-#[derive(Clone, Copy, Debug, PartialEq, Eq)]
-pub struct SenderCounts {
-    /// How many packets were sent, modulo 2^32.
-    pub packets: u32,
-    /// How many bytes of payload, modulo 2^32.
-    pub octets: u32,
-    /// The RTP time of the frame that was sent last.
-    pub rtp_time: Option<u32>,
-    /// The sequence number of the next packet.
-    pub next_number: u16,
+/// What goes with a frame that is sent.
+#[derive(Clone, Copy, Debug, Default, PartialEq, Eq)]
+pub struct Sample {
+    /// In ticks of the RTP clock; its low 32 bits are sent.
+    pub rtp_time: u64,
+    /// The frame is the first after a silence.
+    pub starts_talk_spurt: bool,
+    /// Values of header extensions. Those that have an id in [`SenderSettings::extension_ids`] are sent.
+    pub values: ExtensionValues,
 }
 
 /// The bytes of an RTP header without contributing sources and extension (RFC 3550, section 5.1).
@@ -171,8 +118,8 @@ impl Sender {
     ///
     /// # Errors
     ///
-    /// [`Error::Invalid`] where [`Packetizer::new`](crate::Packetizer::new) says so and for a payload type above 127, and
-    /// [`Error::OutOfMemory`].
+    /// [`Error::Invalid`] where [`Packetizer::new`](crate::Packetizer::new) says so, for a payload type above 127, and where two
+    /// header extensions have the same id; and [`Error::OutOfMemory`].
     pub fn new(settings: &SenderSettings) -> Result<Sender, Error> {
         let settings = raw::SenderSettings {
             spec: settings.codec.raw(),
@@ -180,6 +127,7 @@ impl Sender {
             ssrc: settings.ssrc,
             first_number: settings.first_number,
             payload_type: settings.payload_type,
+            extension_ids: settings.extension_ids.raw(),
         };
         let mut handle = Handle::empty();
         // SAFETY: an empty handle, and a struct that is borrowed for the call.
@@ -206,16 +154,19 @@ impl Sender {
         frame: &[u8],
     ) -> Result<Vec<Vec<u8>>, Error> {
         let count = self.cut(rtp_time, starts_talk_spurt, frame)?;
-        let mut left = frame.len();
-        let mut datagrams = Vec::with_capacity(count);
-        for place in 0..count {
-            let most = left.saturating_add(MOST_ADDED).min(self.mtu);
-            let mut datagram = Vec::new();
-            self.datagram(place, most.saturating_add(RTP_HEADER), &mut datagram)?;
-            left = left.saturating_sub(datagram.len().saturating_sub(MOST_ADDED + RTP_HEADER));
-            datagrams.push(datagram);
-        }
-        Ok(datagrams)
+        self.datagrams(count, frame.len(), RTP_HEADER)
+    }
+
+    /// The datagrams of a frame with values of header extensions: capture time and layers allocation go on its first datagram
+    /// alone, orientation, content type and timing on the last alone, level and voice activity on each. A level above 0 or below
+    /// -127 dBov is not sent, nor is voice activity without a level. See [`send`](Sender::send).
+    ///
+    /// # Errors
+    ///
+    /// As of [`send`](Sender::send).
+    pub fn send_sample(&mut self, sample: &Sample, frame: &[u8]) -> Result<Vec<Vec<u8>>, Error> {
+        let count = self.cut_sample(sample, frame)?;
+        self.datagrams(count, frame.len(), RTP_HEADER + sample.values.most_bytes())
     }
 
     /// The same datagrams, in the memory of a batch, in place of those of the frame before. It takes memory only where a frame
@@ -233,7 +184,52 @@ impl Sender {
     ) -> Result<(), Error> {
         batch.clear();
         let count = self.cut(rtp_time, starts_talk_spurt, frame)?;
-        batch.reserve(count, frame.len() + count * (MOST_ADDED + RTP_HEADER));
+        self.datagrams_into(count, frame.len() + count * RTP_HEADER, batch)
+    }
+
+    /// The datagrams of [`send_sample`](Sender::send_sample) in the memory of a batch, as [`send_into`](Sender::send_into) has it.
+    ///
+    /// # Errors
+    ///
+    /// As of [`send`](Sender::send). The batch is then empty.
+    pub fn send_sample_into(
+        &mut self,
+        sample: &Sample,
+        frame: &[u8],
+        batch: &mut Batch,
+    ) -> Result<(), Error> {
+        batch.clear();
+        let count = self.cut_sample(sample, frame)?;
+        let header = RTP_HEADER + sample.values.most_bytes();
+        self.datagrams_into(count, frame.len() + count * header, batch)
+    }
+
+    /// So many datagrams of a frame of so many bytes, behind headers of about so many, each in a vector of its own.
+    fn datagrams(
+        &mut self,
+        count: usize,
+        mut left: usize,
+        header: usize,
+    ) -> Result<Vec<Vec<u8>>, Error> {
+        let mut datagrams = Vec::with_capacity(count);
+        for place in 0..count {
+            let most = left.saturating_add(MOST_ADDED).min(self.mtu);
+            let mut datagram = Vec::new();
+            self.datagram(place, most.saturating_add(header), &mut datagram)?;
+            left = left.saturating_sub(datagram.len().saturating_sub(MOST_ADDED + header));
+            datagrams.push(datagram);
+        }
+        Ok(datagrams)
+    }
+
+    /// So many datagrams, of about so many bytes together besides what codecs add, in an empty batch.
+    fn datagrams_into(
+        &mut self,
+        count: usize,
+        bytes: usize,
+        batch: &mut Batch,
+    ) -> Result<(), Error> {
+        batch.reserve(count, bytes + count * MOST_ADDED);
         for place in 0..count {
             let before = batch.bytes().len();
             if let Err(fault) = self.datagram(place, 0, batch.bytes_mut()) {
@@ -263,6 +259,27 @@ impl Sender {
                 self.handle.raw(),
                 rtp_time,
                 starts_talk_spurt,
+                frame.as_ptr(),
+                frame.len(),
+                &mut count,
+            )
+        })?;
+        Ok(count)
+    }
+
+    /// The same of a frame with values of header extensions.
+    fn cut_sample(&mut self, sample: &Sample, frame: &[u8]) -> Result<usize, Error> {
+        let sample = raw::Sample {
+            rtp_time: sample.rtp_time,
+            starts_talk_spurt: sample.starts_talk_spurt,
+            values: sample.values.raw(),
+        };
+        let mut count = 0;
+        // SAFETY: as in `cut`.
+        told(unsafe {
+            cpay_sender_send_sample(
+                self.handle.raw(),
+                &sample,
                 frame.as_ptr(),
                 frame.len(),
                 &mut count,
@@ -354,6 +371,8 @@ pub struct ReceiverSettings {
     pub forward: u16,
     /// How far behind it: at most this, and less than `forward`.
     pub backward: u16,
+    /// The ids of header extensions, under which the values of units come. Two that are the same read one element.
+    pub extension_ids: ExtensionIds,
 }
 
 impl ReceiverSettings {
@@ -374,6 +393,7 @@ impl ReceiverSettings {
             limit: 4_096,
             forward: 3_000,
             backward: 1_000,
+            extension_ids: ExtensionIds::default(),
         }
     }
 
@@ -442,6 +462,13 @@ impl ReceiverSettings {
         self
     }
 
+    /// The same with these ids of header extensions.
+    #[must_use]
+    pub fn with_extension_ids(mut self, extension_ids: ExtensionIds) -> ReceiverSettings {
+        self.extension_ids = extension_ids;
+        self
+    }
+
     fn raw(&self) -> raw::ReceiverSettings {
         raw::ReceiverSettings {
             spec: self.codec.raw(),
@@ -462,8 +489,20 @@ impl ReceiverSettings {
             has_ssrc: self.ssrc.is_some(),
             has_red: self.red.is_some(),
             has_rtx: self.retransmission.is_some(),
+            extension_ids: self.extension_ids.raw(),
         }
     }
+}
+
+/// How long a receiver waits for packets that are missing.
+#[derive(Clone, Copy, Debug, Default, PartialEq, Eq, Hash)]
+pub struct Patience {
+    /// A complete frame behind a gap waits until more complete frames than that are held.
+    pub hold_back: usize,
+    /// The first frame waits until more complete frames than that are held.
+    pub start: usize,
+    /// How long a complete frame waits at most, in ticks of the caller's clock.
+    pub max_wait: Option<u64>,
 }
 
 /// What became of a datagram.
@@ -511,60 +550,6 @@ impl Outcome {
             number => Outcome::Unknown(number),
         }
     }
-}
-
-/// How many datagrams came to what, modulo 2^64: `received` and `recovered` together are the sum of `rtcp`, `malformed`,
-/// `other_streams`, `no_media`, `duplicates`, `late`, `suspect`, `evicted`, `held`, `released` and `left`.
-#[derive(Clone, Copy, Debug, PartialEq, Eq)]
-#[non_exhaustive]
-pub struct ReceiverCounts {
-    /// All datagrams but those for which memory was wanting.
-    pub received: u64,
-    /// RTCP on the same port.
-    pub rtcp: u64,
-    /// Neither RTCP nor RTP.
-    pub malformed: u64,
-    /// Packets of another SSRC or payload type.
-    pub other_streams: u64,
-    /// Packets without media.
-    pub no_media: u64,
-    /// Packets whose number was held.
-    pub duplicates: u64,
-    /// Packets that came when all up to their number was done.
-    pub late: u64,
-    /// Suspect packets that did not go in.
-    pub suspect: u64,
-    /// Packets that left for want of room.
-    pub evicted: u64,
-    /// Packets that went out in a unit.
-    pub released: u64,
-    /// Packets that left with a frame, and not in a unit: it was never complete, passed over, or refused.
-    pub left: u64,
-    /// How many times the sender has restarted.
-    pub restarts: u64,
-    /// Packets that were missing and came again.
-    pub retransmitted: u64,
-    /// Packets that were missing and that others in RED carried.
-    pub recovered: u64,
-    /// How many units went out.
-    pub units: u64,
-    /// How many packets are held.
-    pub held: usize,
-    /// The SSRC of the stream, once it is known.
-    pub ssrc: Option<u32>,
-}
-
-/// What a receiver report tells (RFC 3550, section 6.4.1 and appendix A).
-#[derive(Clone, Copy, Debug, PartialEq, Eq)]
-pub struct Report {
-    /// Packets that did not come, less those that came more than once: -8,388,608 to 8,388,607.
-    pub cumulative_lost: i32,
-    /// The greatest sequence number, and above its 16 bits how often numbers have wrapped.
-    pub highest: u32,
-    /// In ticks of the RTP clock.
-    pub jitter: u32,
-    /// Of the packets since the report before those that did not come, in 256ths.
-    pub fraction_lost: u8,
 }
 
 /// Takes the datagrams of one stream in, and gives its units in order.
@@ -664,6 +649,20 @@ impl Receiver {
             .handle
             .look(|handle| unsafe { cpay_receiver_next_deadline(handle, &mut at) });
         (status == 0).then_some(at)
+    }
+
+    /// From now on frames wait by these values, in place of those of the settings. What is held stays, and nothing comes out by this
+    /// call: the next [`pop`](Receiver::pop), and the next deadline, go by the new values. So a shorter wait may let frames out at
+    /// once, and a longer one holds back frames that were due. Once a unit has come out, `start` matters no more.
+    pub fn set_patience(&mut self, patience: Patience) {
+        let patience = raw::Patience {
+            max_wait: patience.max_wait.unwrap_or(0),
+            hold_back: patience.hold_back,
+            start: patience.start,
+            has_max_wait: patience.max_wait.is_some(),
+        };
+        // SAFETY: structs that are borrowed for the call. The handle holds a receiver, so the call succeeds.
+        unsafe { cpay_receiver_set_patience(self.handle.raw(), &patience) };
     }
 
     /// The stream has ended: from now on pops wait for nothing, and give all complete frames. No restart is found

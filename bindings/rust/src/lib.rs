@@ -32,14 +32,17 @@
 //! Each of them may go to another thread, and is used by one at a time; calls that only look may come from several at once.
 
 mod batch;
+mod counts;
 pub mod datagrams;
 mod error;
+mod extension_values;
 mod extra;
 mod handle;
 mod looks;
 pub mod media;
 mod memory;
 pub mod red;
+mod rtp;
 pub mod str0m;
 pub mod telephone;
 mod unit;

@@ -45,6 +45,7 @@ pub(crate) struct Expected {
 impl Expected {
     /// The unit that a call puts into a vector, in a vector of its own with room for a unit as those before. What it has too much
     /// of goes back, and where there is no unit the vector is kept for the next call.
+    #[inline]
     pub(crate) fn unit(
         &mut self,
         pop: impl FnOnce(&mut Vec<u8>) -> Option<Result<UnitInfo, Error>>,

@@ -1,5 +1,6 @@
 //! Units that were put together.
 
+use crate::datagrams::ExtensionValues;
 use crate::{Extra, raw};
 
 /// A unit that was put together.
@@ -19,6 +20,9 @@ pub struct Unit {
     pub starts_talk_spurt: bool,
     /// What its payloads told besides.
     pub extra: Extra,
+    /// The values of header extensions that go with it: those of its last packet, with the capture time and the layers allocation
+    /// of its first where that has them. A unit of a [`Buffer`](crate::Buffer) has none.
+    pub values: ExtensionValues,
     /// The frame.
     pub bytes: Vec<u8>,
 }
@@ -41,9 +45,13 @@ pub struct UnitInfo {
     pub starts_talk_spurt: bool,
     /// What its payloads told besides.
     pub extra: Extra,
+    /// The values of header extensions that go with it: those of its last packet, with the capture time and the layers allocation
+    /// of its first where that has them. A unit of a [`Buffer`](crate::Buffer) has none.
+    pub values: ExtensionValues,
 }
 
 impl UnitInfo {
+    #[inline]
     pub(crate) fn of(told: &raw::Unit) -> UnitInfo {
         UnitInfo {
             first: told.first,
@@ -53,11 +61,13 @@ impl UnitInfo {
             contiguous: told.contiguous,
             starts_talk_spurt: told.starts_talk_spurt,
             extra: Extra::of(&told.extra),
+            values: ExtensionValues::told(&told.values),
         }
     }
 
     /// The unit with these bytes.
     #[must_use]
+    #[inline]
     pub fn with(self, bytes: Vec<u8>) -> Unit {
         Unit {
             first: self.first,
@@ -67,6 +77,7 @@ impl UnitInfo {
             contiguous: self.contiguous,
             starts_talk_spurt: self.starts_talk_spurt,
             extra: self.extra,
+            values: self.values,
             bytes,
         }
     }

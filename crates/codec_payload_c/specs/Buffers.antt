@@ -4,7 +4,7 @@ use Rattle.codec_payload_core.specs.Extensions.{no_values}
 use Rattle.codec_payload_core.specs.Depacketizers.{DepacketizerState}
 use Rattle.codec_payload_core.specs.Frames.{frames}
 use Rattle.codec_payload_core.specs.Held.{Held}
-use Rattle.codec_payload_core.specs.Steps.{State, Pops, IsArrived, empty_buffer, pushed}
+use Rattle.codec_payload_core.specs.Steps.{Pops, IsArrived, empty_buffer, pushed}
 use Rattle.codec_payload_core.specs.declared.buffer.RtpMeta.{RtpMeta}
 use Rattle.codec_payload_handle.specs.Popping.{AnswersPop}
 use Rattle.codec_payload_handle.specs.Units.{TellsUnit}

@@ -2,6 +2,7 @@ pub mod Assemblers
 pub mod Buffers
 pub mod Extensions
 pub mod Frames
+pub mod Ids
 pub mod Looks
 pub mod Media
 pub mod RedCoding

@@ -1,13 +1,12 @@
 -- What the calls on a receiver of datagrams do.
-use Rattle.std.specs.Prelude.{◌≡◌, ◌≢◌, ℕ, ◌&&◌, ◌||◌, ◌==◌, not, nat_le, nat_lt, if◌then◌else◌, Bool, true, false, Option, Some, None, Result, Ok, Err, List, is_some, length, drop, ◌++◌}
+use Rattle.std.specs.Prelude.{◌≡◌, ℕ, ◌&&◌, ◌||◌, ◌==◌, not, nat_le, nat_lt, if◌then◌else◌, Bool, true, false, Option, Some, None, Result, Ok, Err, List, is_some, length, drop, ◌++◌}
 use Rattle.codec_payload_core.specs.Depacketizers.{DepacketizerState}
 use Rattle.codec_payload_jitter.specs.Missing.{missing_numbers}
-use Rattle.codec_payload_jitter.specs.Receiving.{PopsWith, begun_anew, deadline_of, settled, waiting_at}
+use Rattle.codec_payload_jitter.specs.Receiving.{PopsWith, begun_anew, settled, waiting_at}
 use Rattle.codec_payload_jitter.specs.declared.jitter.Patience.{Patience}
 use Rattle.codec_payload_jitter.specs.declared.outcome.Outcome.{Outcome}
 use Rattle.codec_payload_jitter.specs.declared.outcome.Outcome.TheVariants as outcomes
 use Rattle.codec_payload_jitter.specs.Receiving.{Receiving}
-use Rattle.codec_payload_rtp.specs.declared.values.ExtensionIds.{ExtensionIds}
 use Rattle.codec_payload_stream.specs.Kinds.{datagram_at}
 use Rattle.codec_payload_stream.specs.Sessions.{Session, Heard, session_by, time_with}
 use Rattle.codec_payload_stream.specs.declared.receiver.ReceiveError.{ReceiveError}
@@ -24,8 +23,10 @@ use Rattle.codec_payload_handle.specs.declared.object.Object.{Object}
 use Rattle.codec_payload_handle.specs.declared.object.Object.TheVariants as objects
 use Rattle.codec_payload_handle.specs.declared.object.StreamReceiver.{StreamReceiver}
 use Rattle.codec_payload_handle.specs.declared.unit.Unit.{Unit as CUnit}
+use Rattle.codec_payload_c.specs.Ids.{ids_given}
 use Rattle.codec_payload_c.specs.Looks.{given_if}
 use Rattle.codec_payload_c.specs.RtpFields.{rtp_status}
+use Rattle.codec_payload_c.specs.declared.receiver.Patience.{Patience as CPatience}
 use Rattle.codec_payload_c.specs.declared.receiver.ReceiverCountsInfo.{ReceiverCountsInfo}
 use Rattle.codec_payload_c.specs.declared.receiver.ReceiverSettings.{ReceiverSettings}
 use Rattle.codec_payload_c.specs.declared.receiver.ReportInfo.{ReportInfo}
@@ -45,11 +46,12 @@ is_in_range s =
     && nat_lt 0 s.forward && nat_le s.forward 32768 && nat_lt s.backward s.forward
     && nat_lt 0 s.tick_rate && red_in_range s && rtx_in_range s
 
-abbrev pub no_ids : ExtensionIds
-no_ids = record { abs_capture_time = None; video_orientation = None; video_content_type = None; video_timing = None; layers_allocation = None; audio_level = None }
-
 abbrev pub patience_set : ReceiverSettings → Patience
 patience_set s = record { hold_back = s.hold_back; start = s.start; max_wait = given_if s.has_max_wait s.max_wait }
+
+-- how long to wait, as C gave it by itself
+abbrev pub patience_given : CPatience → Patience
+patience_given p = record { hold_back = p.hold_back; start = p.start; max_wait = given_if p.has_max_wait p.max_wait }
 
 abbrev pub red_set : ReceiverSettings → Option RedSettings
 red_set s = if s.has_red then Some (record { payload_type = s.red_payload_type; step = s.red_step }) else None
@@ -64,7 +66,7 @@ pub record AreSettings (s : ReceiverSettings) (types : List ℕ) (t : Settings) 
   pub ssrc : t.ssrc ≡ given_if s.has_ssrc s.ssrc
   pub red : t.red ≡ red_set s
   pub retransmission : t.retransmission ≡ rtx_set s
-  pub ids : t.extension_ids ≡ no_ids
+  pub ids : t.extension_ids ≡ ids_given s.extension_ids
   pub clock_rate : t.clock_rate ≡ s.spec.rate
   pub tick_rate : t.tick_rate ≡ s.tick_rate
   pub patience : t.patience ≡ patience_set s
@@ -169,6 +171,10 @@ TellsReport (Some x) status before after =
 -- the sender begins anew
 abbrev pub anew : Session → Session
 anew s = record s { ssrc = s.named; packets = begun_anew s.packets; reception = s.no_reception }
+
+-- frames wait by other values
+abbrev pub waiting_by : Patience → Session → Session
+waiting_by patience s = record s { packets = record s.packets { patience = patience } }
 
 -- the numbers that are missing, as many as there is room for; the rest of the room is as before
 pub record TellsMissing (r : StreamReceiver) (before : List ℕ) (told : ℕ) (after : List ℕ) : Type 0 where

@@ -1,18 +1,20 @@
 -- What the calls on a sender of datagrams do.
-use Rattle.std.specs.Prelude.{◌≡◌, ◌≢◌, ℕ, ◌==◌, nat_le, if◌then◌else◌, Bool, List, Option, Some, None, IfSome, length, slice_get}
+use Rattle.std.specs.Prelude.{◌≡◌, ◌≢◌, ℕ, nat_le, if◌then◌else◌, Bool, List, Option, Some, None, IfSome, length}
 use Rattle.codec_payload_base.specs.declared.error.PacketError.{PacketError}
-use Rattle.codec_payload_core.specs.Extensions.{no_values}
+use Rattle.codec_payload_base.specs.declared.wire.extension.ExtensionValues.{ExtensionValues}
 use Rattle.codec_payload_core.specs.Faults.{fault_number}
 use Rattle.codec_payload_core.specs.Packetizers.{PacketizerState}
 use Rattle.codec_payload_sender.specs.Datagrams.{Sample}
-use Rattle.codec_payload_sender.specs.Senders.{Sending, Sends, Refuses as RefusesSample, sender_by}
+use Rattle.codec_payload_sender.specs.Senders.{Sends, Refuses as RefusesSample, sender_by}
 use Rattle.codec_payload_sender.specs.declared.sender.SenderSettings.{SenderSettings as Settings}
 use Rattle.codec_payload_handle.specs.Bytes.{filled}
+use Rattle.codec_payload_handle.specs.HeaderValues.{values_given}
 use Rattle.codec_payload_handle.specs.declared.object.Object.{Object}
 use Rattle.codec_payload_handle.specs.declared.object.Object.TheVariants as objects
 use Rattle.codec_payload_handle.specs.declared.object.StreamSender.{StreamSender}
 use Rattle.codec_payload_c.specs.Looks.{given_if}
-use Rattle.codec_payload_c.specs.StreamReceivers.{no_ids}
+use Rattle.codec_payload_c.specs.Ids.{ids_given}
+use Rattle.codec_payload_c.specs.declared.sender.Sample.{Sample as CSample}
 use Rattle.codec_payload_c.specs.declared.sender.SenderCountsInfo.{SenderCountsInfo}
 use Rattle.codec_payload_c.specs.declared.sender.SenderSettings.{SenderSettings}
 
@@ -25,7 +27,7 @@ settings_for s = record {
   clock_rate = s.spec.rate;
   mtu = s.mtu;
   tailroom = 0;
-  extension_ids = no_ids;
+  extension_ids = ids_given s.extension_ids;
 }
 
 -- a new sender by these settings
@@ -33,9 +35,13 @@ abbrev pub IsStreamSenderOf : SenderSettings → Option PacketizerState → Obje
 IsStreamSenderOf s packetizer (objects.StreamSender r) = IfSome packetizer (λ p. (r.sender ≡ sender_by (settings_for s) p) × (r.rate ≡ s.spec.rate))
 IsStreamSenderOf s packetizer _ = ⊥
 
--- a frame with its time, without values of header extensions
-abbrev pub sample_given : StreamSender → ℕ → Bool → List ℕ → Sample
-sample_given r rtp_time starts frame = record { rtp_time = record { numer = rtp_time; rate = r.rate }; bytes = frame; start_of_talk_spurt = starts; ext_vals = no_values }
+-- a frame with its time and values of header extensions
+abbrev pub sample_with : StreamSender → ℕ → Bool → ExtensionValues → List ℕ → Sample
+sample_with r rtp_time starts values frame = record { rtp_time = record { numer = rtp_time; rate = r.rate }; bytes = frame; start_of_talk_spurt = starts; ext_vals = values }
+
+-- the same, as C gave it
+abbrev pub sample_given : StreamSender → CSample → List ℕ → Sample
+sample_given r s frame = sample_with r s.rtp_time s.starts_talk_spurt (values_given s.values) frame
 
 -- A frame is sent: its datagrams take the place of those of the frame before. After a fault there are none.
 pub record SendsFrame (r : StreamSender) (sample : Sample) (status before count : ℕ) (s : StreamSender) : Type 0 where

@@ -4,10 +4,11 @@ ghost use Rattle.std.specs.Prelude.{◌≡◌, ◌≢◌, ◌&&◌, is_some, Boo
 ghost use Rattle.codec_payload_core.specs.Depacketizers.{depacketizer_state_of};
 ghost use Rattle.codec_payload_jitter.specs.Receiving.{deadline_of};
 ghost use Rattle.codec_payload_stream.specs.Reports.{report_of, reported};
-ghost use Rattle.codec_payload_c.specs.StreamReceivers.{AreSettings, IsNewStream, IsStreamReceiverOf, PopsUnit, Takes, TellsCounts, TellsMissing, TellsNumber, TellsReport, TellsTimed, anew, is_in_range, outcome_number, red_in_range, red_set, rtx_in_range, rtx_set};
+ghost use Rattle.codec_payload_c.specs.StreamReceivers.{AreSettings, IsNewStream, IsStreamReceiverOf, PopsUnit, Takes, TellsCounts, TellsMissing, TellsNumber, TellsReport, TellsTimed, anew, is_in_range, outcome_number, patience_given, red_in_range, red_set, rtx_in_range, rtx_set, waiting_by};
 ghost use Rattle.codec_payload_handle.specs.Kinds.{Makes, OnStreamReceiver, Refuses, is_stream_receiver};
 ghost use Rattle.codec_payload_handle.specs.Settings.{depacketizer_set};
 
+use crate::extension::{ExtensionIds, ids_of};
 use crate::rtp::status_of;
 use codec_payload_core::buffer::Depacketized;
 use codec_payload_core::codec::CodecDepacketizer;
@@ -18,9 +19,8 @@ use codec_payload_handle::object::{Object, StreamReceiver};
 use codec_payload_handle::settings::{Spec, depacketizer_of};
 use codec_payload_handle::status;
 use codec_payload_handle::unit::{Unit, unit_of};
-use codec_payload_jitter::jitter::Patience;
+use codec_payload_jitter::jitter::Patience as Waiting;
 use codec_payload_jitter::outcome::Outcome;
-use codec_payload_rtp::values::ExtensionIds;
 use codec_payload_stream::receiver::{
     ReceiveError, Receiver, RedSettings, Retransmission, Settings,
 };
@@ -64,6 +64,22 @@ pub struct ReceiverSettings {
     pub has_red: bool,
     /// Whether packets are sent again.
     pub has_rtx: bool,
+    /// Under which ids values of header extensions come.
+    pub extension_ids: ExtensionIds,
+}
+
+/// How long to wait for packets that are missing.
+#[repr(C)]
+#[derive(Clone, Copy)]
+pub struct Patience {
+    /// How long a complete frame waits behind a gap, in ticks of the caller's clock.
+    pub max_wait: u64,
+    /// A complete frame behind a gap waits until more complete frames than that are held.
+    pub hold_back: usize,
+    /// The first frame waits until more complete frames than that are held.
+    pub start: usize,
+    /// Whether `max_wait` is set; else frames wait for as long as `hold_back` and `start` say.
+    pub has_max_wait: bool,
 }
 
 /// How many datagrams came to what, each modulo 2^64.
@@ -169,6 +185,21 @@ fn retransmission_of(settings: &ReceiverSettings) -> Option<Retransmission>
     })
 }
 
+/// How long to wait, as the receiver has it.
+fn waiting_for(patience: Patience) -> Waiting
+    ensures { result ≡ patience_given patience }
+{
+    Waiting {
+        hold_back: patience.hold_back,
+        start: patience.start,
+        max_wait: if patience.has_max_wait {
+            Some(patience.max_wait)
+        } else {
+            None
+        },
+    }
+}
+
 /// The settings as the receiver has them.
 fn settings_of(
     settings: &ReceiverSettings,
@@ -190,18 +221,15 @@ fn settings_of(
         },
         red: red_of(settings),
         retransmission: retransmission_of(settings),
-        extension_ids: ExtensionIds::default(),
+        extension_ids: ids_of(settings.extension_ids),
         clock_rate,
         tick_rate,
-        patience: Patience {
+        patience: waiting_for(Patience {
+            max_wait: settings.max_wait,
             hold_back: settings.hold_back,
             start: settings.start,
-            max_wait: if settings.has_max_wait {
-                Some(settings.max_wait)
-            } else {
-                None
-            },
-        },
+            has_max_wait: settings.has_max_wait,
+        }),
         limit: settings.limit,
         forward: settings.forward,
         backward: settings.backward,
@@ -455,6 +483,30 @@ pub extern "C" fn cpay_receiver_next_deadline(
             }
             None => status::NONE,
         },
+        _ => status::OTHER_KIND,
+    };
+    handle.put(object);
+    answer
+}
+
+/// From now on frames wait by these values.
+#[unsafe(no_mangle)]
+pub extern "C" fn cpay_receiver_set_patience(
+    alloc: Global,
+    handle: &mut Handle,
+    patience: &Patience,
+) -> u32
+    ensures sets { OnStreamReceiver handle.old.place.value (λ r s. (result ≡ 0) × (s ≡ record r { receiver = waiting_by (patience_given patience.now) r.receiver })) handle.new.place.value }
+    ensures refused { Refuses is_stream_receiver handle.old.place.value result handle.new.place.value }
+{
+    let Some(mut object) = handle.take(alloc) else {
+        return status::EMPTY;
+    };
+    let answer = match &mut *object {
+        Object::StreamReceiver(stream) => {
+            stream.receiver.set_patience(waiting_for(*patience));
+            status::OK
+        }
         _ => status::OTHER_KIND,
     };
     handle.put(object);

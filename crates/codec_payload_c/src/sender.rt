@@ -1,18 +1,23 @@
 //! Frames go in, and the datagrams of one stream come out.
 
 ghost use Rattle.std.specs.Prelude.{◌≡◌, ◌≢◌, ◌&&◌, is_some, nat_le, slice_get};
-ghost use Rattle.codec_payload_c.specs.StreamSenders.{GivesDatagram, IsStreamSenderOf, SendsFrame, TellsCounts, sample_given, settings_for};
+ghost use Rattle.codec_payload_core.specs.Extensions.{no_values};
+ghost use Rattle.codec_payload_rtp.specs.ExtensionWriting.{ids_fit};
+ghost use Rattle.codec_payload_sender.specs.Datagrams.{sample_of};
+ghost use Rattle.codec_payload_c.specs.Ids.{ids_given};
+ghost use Rattle.codec_payload_c.specs.StreamSenders.{GivesDatagram, IsStreamSenderOf, SendsFrame, TellsCounts, sample_given, sample_with, settings_for};
 ghost use Rattle.codec_payload_handle.specs.Kinds.{Makes, OnStreamSender, Refuses, is_stream_sender};
 ghost use Rattle.codec_payload_handle.specs.Settings.{packetizer_set};
 
-use codec_payload_core::wire::{ExtensionValues, Frequency, MediaTime};
+use crate::extension::{ExtensionIds, ids_of};
+use codec_payload_core::wire::{ExtensionValues as Values, Frequency, MediaTime};
 use codec_payload_handle::bytes::fill;
+use codec_payload_handle::extension_values::{ExtensionValues, values_from};
 use codec_payload_handle::handle::Handle;
 use codec_payload_handle::object::{Object, StreamSender};
 use codec_payload_handle::settings::{Spec, packetizer_of};
 use codec_payload_handle::status;
-use codec_payload_rtp::values::ExtensionIds;
-use codec_payload_sender::sender::{Sample, Sender, SenderSettings as Settings};
+use codec_payload_sender::sender::{Sample as TimedFrame, Sender, SenderSettings as Settings};
 use std::alloc::Global;
 
 /// What a sender is made of.
@@ -20,13 +25,26 @@ use std::alloc::Global;
 #[derive(Drop)]
 pub struct SenderSettings {
     pub spec: Spec,
-    /// The most bytes of a payload. The header of 12 bytes comes on top.
+    /// The most bytes of a payload. The header comes on top: 12 bytes, and at most 304 of an extension.
     pub mtu: usize,
     pub ssrc: u32,
     /// The sequence number of the first packet.
     pub first_number: u16,
     /// 0 to 127.
     pub payload_type: u8,
+    /// Values without an id are not sent. No two ids are the same.
+    pub extension_ids: ExtensionIds,
+}
+
+/// What goes with a frame that is sent.
+#[repr(C)]
+#[derive(Drop)]
+pub struct Sample {
+    /// In ticks of the RTP clock.
+    pub rtp_time: u64,
+    /// Whether the frame is the first after a silence.
+    pub starts_talk_spurt: bool,
+    pub values: ExtensionValues,
 }
 
 /// What sender reports tell (RFC 3550, section 6.4.1).
@@ -57,27 +75,46 @@ fn settings_of(settings: &SenderSettings, clock_rate: Frequency) -> Settings
         clock_rate,
         mtu: settings.mtu,
         tailroom: 0,
-        extension_ids: ExtensionIds::default(),
+        extension_ids: ids_of(settings.extension_ids),
     }
 }
 
-/// A frame is cut into packets.
-fn send(
-    stream: &mut StreamSender,
+/// A frame with its time, and values of header extensions.
+fn timed<'a>(
+    stream: &StreamSender,
     rtp_time: u64,
     starts_talk_spurt: bool,
-    frame: &[u8],
-    count: &mut usize,
-) -> u32
-    ensures { SendsFrame stream.old (sample_given stream.old rtp_time starts_talk_spurt frame.now) result count.old count.new stream.new }
+    values: Values,
+    frame: &'a [u8],
+) -> TimedFrame<'a>
+    ensures { sample_of result ≡ sample_with stream.now rtp_time starts_talk_spurt values frame.now }
 {
-    let sample = Sample {
+    TimedFrame {
         rtp_time: MediaTime::new(rtp_time, stream.rate),
         bytes: frame,
         start_of_talk_spurt: starts_talk_spurt,
-        ext_vals: ExtensionValues::default(),
-    };
-    match stream.sender.send(&sample) {
+        ext_vals: values,
+    }
+}
+
+/// A frame with its time, without values of header extensions.
+fn timed_alone<'a>(
+    stream: &StreamSender,
+    rtp_time: u64,
+    starts_talk_spurt: bool,
+    frame: &'a [u8],
+) -> TimedFrame<'a>
+    ensures { sample_of result ≡ sample_with stream.now rtp_time starts_talk_spurt no_values frame.now }
+{
+    let values = Values::default();
+    timed(stream, rtp_time, starts_talk_spurt, values, frame)
+}
+
+/// A frame is cut into packets.
+fn send(stream: &mut StreamSender, sample: &TimedFrame<'_>, count: &mut usize) -> u32
+    ensures { SendsFrame stream.old (sample_of sample.now) result count.old count.new stream.new }
+{
+    match stream.sender.send(sample) {
         Ok(()) => {
             *count = stream.sender.len();
             status::OK
@@ -123,7 +160,7 @@ pub extern "C" fn cpay_sender_new(
     handle: &mut Handle,
     settings: &SenderSettings,
 ) -> u32
-    ensures { Makes (IsStreamSenderOf settings.now (packetizer_set settings.now.spec)) (is_some (packetizer_set settings.now.spec) && nat_le settings.now.payload_type 127)
+    ensures { Makes (IsStreamSenderOf settings.now (packetizer_set settings.now.spec)) (is_some (packetizer_set settings.now.spec) && nat_le settings.now.payload_type 127 && ids_fit (ids_given settings.now.extension_ids))
         handle.old.place.value result handle.new.place.value }
 {
     if let Some(object) = handle.take(alloc) {
@@ -136,7 +173,7 @@ pub extern "C" fn cpay_sender_new(
     ) else {
         return status::INVALID;
     };
-    if settings.payload_type > 127 {
+    if settings.payload_type > 127 || !ids_of(settings.extension_ids).fit() {
         return status::INVALID;
     }
     let Ok(sender) = Sender::new(alloc, packetizer, settings_of(settings, rate)) else {
@@ -161,7 +198,7 @@ pub extern "C" fn cpay_sender_send(
     frame: &[u8],
     count: &mut usize,
 ) -> u32
-    ensures sends { OnStreamSender handle.old.place.value (λ r s. SendsFrame r (sample_given r rtp_time starts_talk_spurt frame.now) result count.old count.new s) handle.new.place.value }
+    ensures sends { OnStreamSender handle.old.place.value (λ r s. SendsFrame r (sample_with r rtp_time starts_talk_spurt no_values frame.now) result count.old count.new s) handle.new.place.value }
     ensures refused { Refuses is_stream_sender handle.old.place.value result handle.new.place.value }
     ensures untold { result ≢ 0 → count.new ≡ count.old }
 {
@@ -169,7 +206,39 @@ pub extern "C" fn cpay_sender_send(
         return status::EMPTY;
     };
     let answer = match &mut *object {
-        Object::StreamSender(stream) => send(stream, rtp_time, starts_talk_spurt, frame, count),
+        Object::StreamSender(stream) => {
+            let sample = timed_alone(stream, rtp_time, starts_talk_spurt, frame);
+            send(stream, &sample, count)
+        }
+        _ => status::OTHER_KIND,
+    };
+    handle.put(object);
+    answer
+}
+
+/// Cuts a frame with values of header extensions into packets, and says how many datagrams it has.
+#[unsafe(no_mangle)]
+pub extern "C" fn cpay_sender_send_sample(
+    alloc: Global,
+    handle: &mut Handle,
+    sample: &Sample,
+    frame: &[u8],
+    count: &mut usize,
+) -> u32
+    ensures sends { OnStreamSender handle.old.place.value (λ r s. SendsFrame r (sample_given r sample.now frame.now) result count.old count.new s) handle.new.place.value }
+    ensures refused { Refuses is_stream_sender handle.old.place.value result handle.new.place.value }
+    ensures untold { result ≢ 0 → count.new ≡ count.old }
+{
+    let Some(mut object) = handle.take(alloc) else {
+        return status::EMPTY;
+    };
+    let answer = match &mut *object {
+        Object::StreamSender(stream) => {
+            let values = values_from(&sample.values);
+            let starts = sample.starts_talk_spurt;
+            let sample = timed(stream, sample.rtp_time, starts, values, frame);
+            send(stream, &sample, count)
+        }
         _ => status::OTHER_KIND,
     };
     handle.put(object);

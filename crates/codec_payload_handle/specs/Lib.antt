@@ -1,5 +1,6 @@
 pub mod Bytes
 pub mod Extras
+pub mod HeaderValues
 pub mod Kinds
 pub mod Owned
 pub mod Popping

@@ -1,9 +1,16 @@
 -- What is known of a unit, as C has it.
-use Rattle.std.specs.Prelude.{◌≡◌, length}
-use Rattle.codec_payload_core.specs.Release.{Release, IsFirst, IsLast, IsReceivedFirst}
+use Rattle.std.specs.Prelude.{◌≡◌, List, length}
+use Rattle.codec_payload_base.specs.declared.wire.extension.ExtensionValues.{ExtensionValues}
+use Rattle.codec_payload_core.specs.Release.{Release, AreValues, IsFirst, IsLast, IsReceivedFirst}
 use Rattle.codec_payload_core.specs.declared.buffer.RtpMeta.{RtpMeta}
 use Rattle.codec_payload_handle.specs.Extras.{extra_told}
+use Rattle.codec_payload_handle.specs.HeaderValues.{values_told}
+use Rattle.codec_payload_handle.specs.declared.extension_values.ExtensionValues.{ExtensionValues as CValues}
 use Rattle.codec_payload_handle.specs.declared.unit.Unit.{Unit as CUnit}
+
+-- the values of header extensions that go with these packets are told
+abbrev pub TellsValues : List RtpMeta → CValues → Type 0
+TellsValues metas values = (v : ExtensionValues) × AreValues metas v × (values ≡ values_told v)
 
 -- what is told of a unit
 pub record TellsUnit (u : Release) (unit : CUnit) : Type 0 where
@@ -15,3 +22,4 @@ pub record TellsUnit (u : Release) (unit : CUnit) : Type 0 where
   pub contiguous : unit.contiguous ≡ u.contiguous
   pub starts : (m : RtpMeta) × IsFirst u.metas m × (unit.starts_talk_spurt ≡ m.header.marker)
   pub extra : unit.extra ≡ extra_told u.codec_extra
+  pub values : TellsValues u.metas unit.values

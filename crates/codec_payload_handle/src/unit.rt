@@ -1,9 +1,12 @@
 //! What is known of a unit, as C has it.
 
-ghost use Rattle.codec_payload_handle.specs.Units.{TellsUnit};
+ghost use Rattle.std.specs.Prelude.{◌<◌, length};
+ghost use Rattle.codec_payload_core.specs.Release.{IsFirst, IsLast};
+ghost use Rattle.codec_payload_handle.specs.Units.{TellsUnit, TellsValues};
 
+use crate::extension_values::{ExtensionValues, values_between};
 use crate::extra::{Extra, extra_of};
-use codec_payload_core::buffer::Depacketized;
+use codec_payload_core::buffer::{Depacketized, RtpMeta};
 
 /// What is known of a unit.
 #[repr(C)]
@@ -25,6 +28,35 @@ pub struct Unit {
     pub starts_talk_spurt: bool,
     /// What its payloads told besides.
     pub extra: Extra,
+    /// The values of header extensions that go with it: those of its last packet, with the capture time and the layers
+    /// allocation of its first packet where that has them.
+    pub values: ExtensionValues,
+}
+
+/// The first of packets.
+fn first_of(metas: &[RtpMeta]) -> &RtpMeta
+    requires { 0 < length metas.now }
+    ensures { IsFirst metas.now result.now }
+{
+    &metas[0]
+}
+
+/// The last of packets.
+fn last_of(metas: &[RtpMeta]) -> &RtpMeta
+    requires { 0 < length metas.now }
+    ensures { IsLast metas.now result.now }
+{
+    &metas[metas.len() - 1]
+}
+
+/// The values of header extensions that go with a unit, as C has them.
+fn values_in(unit: &Depacketized) -> ExtensionValues
+    ensures { TellsValues unit.now.metas result }
+{
+    let metas = unit.meta();
+    let first = first_of(metas);
+    let last = last_of(metas);
+    values_between(&first.header.ext_vals, &last.header.ext_vals)
 }
 
 /// What is known of a unit, as C has it.
@@ -41,5 +73,6 @@ pub fn unit_of(unit: &Depacketized) -> Unit
         contiguous: unit.contiguous,
         starts_talk_spurt: unit.start_of_talkspurt(),
         extra: extra_of(&unit.codec_extra),
+        values: values_in(unit),
     }
 }

@@ -315,6 +315,22 @@ impl<B: Depacketizer> JitterBuffer<B> {
         deadline(self.patience.max_wait, self.buffer.ready_since())
     }
 
+    /// Waits by these values from now on. What is held stays, and what came out stays out: the next pop, and the next deadline, go
+    /// by the new values, so a shorter wait may let frames out at once, and a longer one holds frames back that were due. Where a
+    /// unit has come out already, `start` matters no more. Any values may be given. Takes no memory.
+    pub fn set_patience(&mut self, patience: Patience)
+        ensures { self.new ≡ record self.old { patience = patience } }
+    {
+        self.patience = patience;
+    }
+
+    /// How long it waits for packets that are missing.
+    pub fn patience(&self) -> Patience
+        ensures { result ≡ self.now.patience }
+    {
+        self.patience
+    }
+
     /// The stream has ended: from now on pops wait for nothing, and give all complete frames. Packets within the windows still
     /// go in; no restart is found until [`JitterBuffer::restart`].
     pub fn finish(&mut self)

@@ -33,6 +33,8 @@ pub enum Event {
     Pops(u64),
     /// When pops may give more.
     Deadline,
+    /// From now on the receiver waits so.
+    Waits(Patience),
     Finish,
 }
 
@@ -48,6 +50,13 @@ pub const STARTS_LATER: Patience = Patience {
     hold_back: 1_000,
     start: 1,
     max_wait: Some(50),
+};
+
+/// A longer wait.
+pub const WAITS_LONGER: Patience = Patience {
+    hold_back: 1_000,
+    start: 0,
+    max_wait: Some(100),
 };
 
 /// An RTP packet of 13 bytes: its payload type, number and SSRC, and a byte.
@@ -222,6 +231,17 @@ fn arrive_all(
     Ok(())
 }
 
+/// The receiver waits in another way, and says so.
+fn wait_by(
+    receiver: &mut Receiver<NoBox>,
+    patience: Patience,
+    told: &mut String,
+) -> Result<(), AllocError> {
+    receiver.set_patience(patience);
+    let says_so = receiver.patience() == patience;
+    told.push(if says_so { 'w' } else { '?' })
+}
+
 /// The stream ends.
 fn finish(receiver: &mut Receiver<NoBox>) {
     receiver.finish();
@@ -237,6 +257,7 @@ fn step(
         Event::Packets(from, count) => arrive_all(receiver, from, count, told)?,
         Event::Pops(now) => pop_all(alloc, receiver, now, told)?,
         Event::Deadline => deadline(alloc, receiver, told)?,
+        Event::Waits(patience) => wait_by(receiver, patience, told)?,
         Event::Finish => finish(receiver),
         _ => arrive(receiver, event, told)?,
     }

@@ -1,6 +1,6 @@
 //! Rows of a receiver: what kills streams.
 
-use crate::events::{Event, STARTS_LATER, WAITS, told_of};
+use crate::events::{Event, STARTS_LATER, WAITS, WAITS_LONGER, told_of};
 use codec_payload_stream::jitter::Patience;
 use std::process::Abort;
 use std::test::Fail;
@@ -13,7 +13,7 @@ struct Row {
     told: &'static str,
 }
 
-const ROWS: [Row; 11] = [
+const ROWS: [Row; 12] = [
     Row {
         name: "first-packet-0-second-65535",
         patience: WAITS,
@@ -144,6 +144,22 @@ const ROWS: [Row; 11] = [
             Event::Pops(80),
         ],
         told: "h 10.hh@70. 12.@80 14.",
+    },
+    Row {
+        name: "another-patience",
+        patience: WAITS,
+        events: &[
+            Event::Packet(0, 10),
+            Event::Pops(0),
+            Event::Packet(20, 12),
+            Event::Deadline,
+            Event::Waits(WAITS_LONGER),
+            Event::Deadline,
+            Event::Pops(70),
+            Event::Waits(WAITS),
+            Event::Pops(70),
+        ],
+        told: "h 10.h@70w@120.w 12.",
     },
     Row {
         name: "each-outcome",

@@ -1,6 +1,6 @@
-use Rattle.std.proofs.Common.{◌≡◌, ◌∙◌, ◌+◌, ◌<◌, ◌≤◌, ap, sym, subst, arith, length, take, drop, ◌++◌, ◌∷◌, [], List, ℕ, get_or}
+use Rattle.std.proofs.Common.{◌≡◌, ◌∙◌, ◌+◌, ◌<◌, ◌≤◌, ap, sym, subst, arith, length, take, drop, ◌++◌, ◌∷◌, [], List, ℕ}
 use Rattle.std.proofs.lemmas.List.{drop_more}
-use Rattle.codec_payload_c.proofs.FrameLemmas.{laid_more, size_left}
+use Rattle.codec_payload_c.proofs.FrameLemmas.{laid_more}
 use Rattle.codec_payload_c.specs.Frames.{laid, rooms_in, size_with}
 use Rattle.codec_payload_c.proofs.frames.lay.Goals as goal
 

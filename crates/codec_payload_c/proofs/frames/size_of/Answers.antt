@@ -1,4 +1,4 @@
-use Rattle.std.proofs.Common.{◌≡◌, ◌∙◌, ap, arith, ◌+◌, drop, ◌≤◌, length, List, ℕ, [], sym}
+use Rattle.std.proofs.Common.{◌≡◌, ◌∙◌, arith, drop, []}
 use Rattle.std.proofs.lemmas.List.{drop_all}
 use Rattle.codec_payload_c.proofs.FrameLemmas.{counted_all}
 use Rattle.codec_payload_c.proofs.frames.size_of.Goals as goal

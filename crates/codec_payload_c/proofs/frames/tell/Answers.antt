@@ -1,7 +1,7 @@
-use Rattle.std.proofs.Common.{◌≡◌, ◌∙◌, ◌+◌, ◌≤◌, ◌<◌, ap, sym, arith, length, get_or, [], ℕ}
+use Rattle.std.proofs.Common.{◌∙◌, ◌<◌, ap, arith, length}
 use Rattle.codec_payload_core.specs.Packetizers.{is_built_in, nackable_of, packetizer_state_of}
 use Rattle.codec_payload_c.proofs.FrameLemmas.{behind_more, placed_is, size_left, size_more, size_split, told_more}
-use Rattle.codec_payload_c.specs.Frames.{placed_at, rooms_in, size_with}
+use Rattle.codec_payload_c.specs.Frames.{placed_at, rooms_in}
 use Rattle.codec_payload_c.proofs.frames.tell.Goals as goal
 
 pub overflow_add-packets : goal.overflow_add-packets

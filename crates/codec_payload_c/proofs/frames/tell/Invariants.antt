@@ -1,4 +1,4 @@
-use Rattle.std.proofs.Common.{◌≡◌, ◌+◌, ◌<◌, ℕ, Some, take, drop, slice_get}
+use Rattle.std.proofs.Common.{◌≡◌, ◌<◌, ℕ, Some, take, drop, slice_get}
 use Rattle.codec_payload_core.specs.Packetizers.{packetizer_state_of}
 use Rattle.codec_payload_c.specs.Frames.{placed_at, rooms_in, size_with}
 use Rattle.codec_payload_c.proofs.frames.tell.Given as goal

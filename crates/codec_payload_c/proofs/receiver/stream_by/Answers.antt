@@ -1,6 +1,6 @@
-use Rattle.std.proofs.Common.{◌≡◌, ◌∙◌, sym, subst, refl, ℕ, List}
+use Rattle.std.proofs.Common.{sym, subst, refl, ℕ, List}
 use Rattle.codec_payload_core.specs.Depacketizers.{depacketizer_state_of}
-use Rattle.codec_payload_c.specs.StreamReceivers.{AreSettings, IsNewStream}
+use Rattle.codec_payload_c.specs.StreamReceivers.{AreSettings}
 use Rattle.codec_payload_c.proofs.receiver.stream_by.Goals as goal
 
 pub returns-in-Ok-new-clause-ok : goal.returns-in-Ok-new-clause-ok

@@ -1,7 +1,5 @@
-use Rattle.std.proofs.Common.{rules, ◌≡◌, ◌∙◌, ap, sym, refl, subst, ℕ, ◌+◌, ◌-◌, length, List, take, drop}
-use Rattle.codec_payload_rtp.specs.RtpPackets.{IsRtp}
+use Rattle.std.proofs.Common.{◌∙◌, ap, refl, ℕ, ◌+◌, ◌-◌, length, List, take, drop}
 use Rattle.codec_payload_rtp.specs.RtpValues.{packet_of}
-use Rattle.codec_payload_c.specs.RtpFields.{TellsRtp}
 use Rattle.codec_payload_c.proofs.RtpPlaces.{payload_found, whole}
 use Rattle.codec_payload_c.proofs.rtp.info_of.Goals as goal
 
