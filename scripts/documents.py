@@ -81,6 +81,8 @@ RUN_ELSEWHERE = {
     "cd bindings/rust": ("scripts/faces.sh", "cargo test --offline"),
     "cargo test": ("scripts/faces.sh", "cargo test --offline"),
     "cargo run": ("scripts/faces.sh", "cargo run --offline"),
+    "cargo add --path": ("scripts/documents.py", '"cargo", "add"'),
+    "CODEC_PAYLOAD_DIR=../codec-payload-core/bindings/out cargo run": ("scripts/documents.py", '"cargo", "run" if built'),
     "tools/rtp_record/install.sh": ("scripts/test.sh", "tools/rtp_record/install.sh"),
     "tools/rtp_record/rtp_record": ("scripts/test.sh", "runs tools/rtp_record/test.sh"),
     "./install.sh": ("scripts/test.sh", "tools/rtp_record/install.sh"),
@@ -265,8 +267,10 @@ def checked_rust(block, work):
     with open(f"{work}/page/src/main.rs", "w", encoding="utf-8") as it:
         it.write(whole)
     with open(f"{work}/page/Cargo.toml", "w", encoding="utf-8") as it:
-        it.write('[package]\nname = "page"\nversion = "0.0.0"\nedition = "2024"\n\n[dependencies]\n')
-        it.write(f'codec-payload = {{ path = "{ROOT}/bindings/rust" }}\n')
+        it.write('[package]\nname = "page"\nversion = "0.0.0"\nedition = "2024"\n')
+    said = ran(["cargo", "add", "--offline", "--quiet", "--path", f"{ROOT}/bindings/rust"], cwd=f"{work}/page")
+    if said:
+        return said
     built = os.path.exists(f"{LIBRARY}/libcodec_payload.a")
     named = {**os.environ, "CARGO_TARGET_DIR": f"{work}/target", **({"CODEC_PAYLOAD_DIR": LIBRARY} if built else {})}
     return ran(["cargo", "run" if built else "check", "--offline", "--quiet"], cwd=f"{work}/page", env=named)
