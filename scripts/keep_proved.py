@@ -1,9 +1,9 @@
 #!/usr/bin/env python3
-"""Has rt build over the libraries that `rt ci` has just proved, and not prove each of them once more.
+"""Has rt take the libraries and programs that `rt ci` has just proved and built, and not prove each of them once more.
 
-`rt ci` proves every crate from nothing and leaves the libraries in crates/*/out/rlib, without the mark by which `rt lib` and
-`rt run` tell that a library is built. This writes the marks, which are sums over the sources of a crate and of all below it, so
-that a library is made anew as soon as one of these changes. Run it right after an `rt ci` that passed, and never otherwise.
+`rt ci` proves every crate from nothing and leaves what it built in crates/*/out, without the marks by which `rt lib` and `rt run`
+tell that a library or a program is built. This writes the marks, which are sums over the sources of a crate and of all below it,
+so that a crate is made anew as soon as one of these changes. Run it right after an `rt ci` that passed, and never otherwise.
 
 Where the toolchain keeps its marks in another way, nothing is written, and rt proves what it needs. The status is 0 either way.
 """
@@ -12,39 +12,44 @@ import subprocess
 import sys
 
 ROOT = os.path.dirname(os.path.dirname(os.path.realpath(__file__)))
-LIBRARY = "rtlib.py"
+MODULE = "rtlib"
 
 
 def toolchain():
     """The module of the toolchain that rt itself builds by, or None."""
     first_page = subprocess.run(["rt", "doc"], capture_output=True, text=True, check=True).stdout.strip()
     folder = os.path.join(os.path.dirname(first_page), "bin")
-    if not os.path.isfile(os.path.join(folder, LIBRARY)):
+    if not os.path.isfile(os.path.join(folder, f"{MODULE}.py")):
         return None
     sys.path.insert(0, folder)
     sys.dont_write_bytecode = True
-    return __import__(LIBRARY.removesuffix(".py"))
+    return __import__(MODULE)
+
+
+def mark_of(crate, rtlib):
+    """Where the mark of a crate that is built stands, and what it says; nothing where the crate is not built."""
+    out = os.path.join(crate.folder, "out")
+    if crate.is_program:
+        program = os.path.join(out, crate.name)
+        return (f"{program}.stamp", crate.stamp() + rtlib.sum_of(program)) if os.path.isfile(program) else None
+    return (os.path.join(out, "rlib", "stamp"), crate.stamp()) if os.path.isdir(crate.rlib) else None
 
 
 def main():
     rtlib = toolchain()
     if rtlib is None:
-        print("no libraries kept: rt will prove them again")
-        return 0
+        print("nothing kept: rt will prove again what it needs")
+        return
     os.chdir(ROOT)
-    kept = 0
-    for crate in rtlib.crates_below(ROOT):
-        folder = os.path.join(crate.folder, "out", "rlib")
-        if os.path.isdir(crate.rlib) and not os.path.exists(os.path.join(folder, "stamp")):
-            with open(os.path.join(folder, "stamp"), "w", encoding="utf-8") as stamp:
-                stamp.write(crate.stamp())
-            kept += crate.is_built()
-    print(f"{kept} libraries kept")
-    return 0
+    marks = [mark for mark in (mark_of(crate, rtlib) for crate in rtlib.crates_below(ROOT)) if mark]
+    for path, text in marks:
+        with open(path, "w", encoding="utf-8") as file:
+            file.write(text)
+    print(f"{len(marks)} libraries and programs kept")
 
 
 if __name__ == "__main__":
     try:
-        sys.exit(main())
+        main()
     except (AttributeError, OSError, subprocess.CalledProcessError) as fault:
-        print(f"no libraries kept ({fault}): rt will prove them again")
+        print(f"nothing kept ({fault}): rt will prove again what it needs")
