@@ -4,6 +4,7 @@
   scripts/wrong_bodies.py                     all edits of must-fail/ and wrong-bodies/, of every crate
   scripts/wrong_bodies.py CRATE [NAME..]      those of one crate, or those of its edits that are named
   scripts/wrong_bodies.py CRATE FILE.edit..   edits from anywhere, applied to that crate
+  scripts/wrong_bodies.py --telling [CRATE]   those of wrong-bodies/telling.txt, which would hurt most
   scripts/wrong_bodies.py --stale             the edits of all crates that cannot be applied, without the prover
 
 An edit is a file with a line 'file: src/x.rt' and pairs of lines 'old: TEXT' and 'new: TEXT'; each old text stands once in
@@ -171,10 +172,21 @@ def try_crate(crate, edits):
     return counts
 
 
+def telling(crate):
+    """The names of the edits of a crate that would hurt most."""
+    with open(f"{ROOT}/wrong-bodies/telling.txt", encoding="utf-8") as lines:
+        named = [line.strip().split("/") for line in lines if not line.startswith("#")]
+    return [name for of, name in named if of == crate]
+
+
 def print_stale():
     """Prints the edits that cannot be applied, and counts them."""
     count = 0
     for crate in crates():
+        missing = set(telling(crate)) - {os.path.basename(it).removesuffix(".edit") for it in edits_of(crate)}
+        for name in sorted(missing):
+            count += 1
+            print(f"wrong-bodies/telling.txt: there is no {crate}/{name}")
         for edit in edits_of(crate):
             texts, why = apply(read_edit(edit), f"{ROOT}/crates/{crate}")
             if texts is None:
@@ -187,11 +199,15 @@ def print_stale():
 def main(words):
     if words == ["--stale"]:
         return print_stale()
+    is_telling = words[:1] == ["--telling"]
+    words = words[is_telling:]
     chosen = [words[0]] if words else list(crates())
     counts = {}
     for crate in chosen:
         edits = edits_of(crate)
-        if words[1:]:
+        if is_telling:
+            edits = [it for it in edits if os.path.basename(it).removesuffix(".edit") in telling(crate)]
+        elif words[1:]:
             by_name = {os.path.basename(it).removesuffix(".edit"): it for it in edits}
             edits = [it if os.path.isfile(it) else by_name.get(it.removesuffix(".edit")) or sys.exit(f"no edit {it}") for it in words[1:]]
         for word, count in (try_crate(crate, edits) if edits else {}).items():
