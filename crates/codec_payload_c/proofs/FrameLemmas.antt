@@ -2,7 +2,9 @@
 use Rattle.std.proofs.Common.{◌≡◌, ◌∙◌, sym, ap, refl, ℕ, zero, suc, ◌+◌, ◌<◌, ◌≤◌, ◌==◌, ◌&&◌, ◌||◌, Bool, true, Some, Result, List, [], ◌∷◌, ◌++◌, length, take, drop, get_or, slice_get, slice_set, arith, append_assoc, length-append}
 use Rattle.std.proofs.Math.Seq.{take-add}
 use Rattle.std.proofs.lemmas.List.{take_at, drop_at, take_more, drop_more, drop-drop, drop-set-lt, length-take, length-drop, take-append-drop}
-use Rattle.codec_payload_core.specs.Packetizers.{PacketizerState, PacketizerStep, G711Packetizing, G722Packetizing, OpusPacketizing, NullPacketizing, Vp8Packetizing, Vp9Packetizing, ComfortNoisePacketizing, TelePacketizing, Av1Packetizing, AmrWbPacketizing, BoxedPacketizing, is_built_in, marker_of, talk_spurt_of, nackable_of}
+use Rattle.codec_payload_core.specs.Packetizers.{PacketizerState, PacketizerStep, G711Packetizing, G722Packetizing, OpusPacketizing, NullPacketizing}
+use Rattle.codec_payload_core.specs.Packetizers.{Vp8Packetizing, Vp9Packetizing, ComfortNoisePacketizing, TelePacketizing, Av1Packetizing, AmrWbPacketizing}
+use Rattle.codec_payload_core.specs.Packetizers.{BoxedPacketizing, is_built_in, marker_of, talk_spurt_of, nackable_of}
 use Rattle.codec_payload_core.specs.declared.error.PacketError.{PacketError}
 use Rattle.codec_payload_c.specs.Frames.{capped, laid, placed_at, rooms_in, size_with}
 use Rattle.codec_payload_c.specs.declared.frames.FrameCut.{FrameCut}

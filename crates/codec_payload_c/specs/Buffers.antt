@@ -13,19 +13,19 @@ use Rattle.codec_payload_c.specs.declared.buffer.Received.{Received}
 use Rattle.codec_payload_handle.specs.declared.unit.Unit.{Unit as CUnit}
 use Rattle.codec_payload_handle.specs.declared.object.Object.{Object}
 use Rattle.codec_payload_handle.specs.declared.object.Object.TheVariants as objects
-use Rattle.codec_payload_handle.specs.declared.object.Receiver.{Receiver}
+use Rattle.codec_payload_handle.specs.declared.object.FrameReceiver.{FrameReceiver}
 use Rattle.codec_payload_handle.specs.declared.settings.Spec.{Spec}
 
 -- an empty buffer with these settings
-pub record IsNew (spec : Spec) (depacketizer : Option DepacketizerState) (hold_back limit : ℕ) (r : Receiver) : Type 0 where
+pub record IsNew (spec : Spec) (depacketizer : Option DepacketizerState) (hold_back limit : ℕ) (r : FrameReceiver) : Type 0 where
   pub depacketizer_is : Some r.buffer.depacketizer ≡ depacketizer
   pub empty : r.buffer ≡ empty_buffer hold_back limit r.buffer.depacketizer
   pub waiting : r.waiting ≡ None
   pub rate : r.rate ≡ spec.rate
 
-abbrev pub IsReceiverOf : Spec → Option DepacketizerState → ℕ → ℕ → Object → Type 0
-IsReceiverOf spec depacketizer hold_back limit (objects.Receiver r) = IsNew spec depacketizer hold_back limit r
-IsReceiverOf spec depacketizer hold_back limit _ = ⊥
+abbrev pub IsFrameReceiverOf : Spec → Option DepacketizerState → ℕ → ℕ → Object → Type 0
+IsFrameReceiverOf spec depacketizer hold_back limit (objects.FrameReceiver r) = IsNew spec depacketizer hold_back limit r
+IsFrameReceiverOf spec depacketizer hold_back limit _ = ⊥
 
 -- what the buffer is told of a packet
 pub record IsToldBy (packet : Received) (rate : ℕ) (meta : RtpMeta) : Type 0 where
@@ -41,7 +41,7 @@ pub record IsToldBy (packet : Received) (rate : ℕ) (meta : RtpMeta) : Type 0 w
   pub no_info : meta.last_sender_info ≡ None
 
 -- A push: with status 0 the packet was pushed; else there was no memory, and nothing changed.
-pub record AnswersPush (r : Receiver) (packet : Received) (payload : List ℕ) (status : ℕ) (s : Receiver) : Type 0 where
+pub record AnswersPush (r : FrameReceiver) (packet : Received) (payload : List ℕ) (status : ℕ) (s : FrameReceiver) : Type 0 where
   pub answers : (status ≡ 0) ⊎ (status ≡ 17)
   pub ok : status ≡ 0 → (meta : RtpMeta) × (p : Held) × IsToldBy packet r.rate meta × IsArrived r.buffer.depacketizer meta payload p × (s.buffer ≡ pushed r.buffer p)
   pub fault : status ≢ 0 → s.buffer ≡ r.buffer
@@ -49,14 +49,14 @@ pub record AnswersPush (r : Receiver) (packet : Received) (payload : List ℕ) (
   pub rate : s.rate ≡ r.rate
 
 -- the next unit of a buffer
-abbrev pub PopsUnit : Receiver → ℕ → (unit_before unit : CUnit) (before bytes : List ℕ) → Receiver → Type 0
+abbrev pub PopsUnit : FrameReceiver → ℕ → (unit_before unit : CUnit) (before bytes : List ℕ) → FrameReceiver → Type 0
 PopsUnit r status unit_before unit before bytes s =
     AnswersPop (s.buffer ≡ r.buffer) (λ answer. Pops r.buffer answer s.buffer) TellsUnit status
     (record { waited = r.waiting; waits = s.waiting; unit_before = unit_before; unit = unit; before = before; bytes = bytes })
     × (s.rate ≡ r.rate)
 
 -- how much is held
-pub record Counts (r : Receiver) (counts : BufferCountsInfo) : Type 0 where
+pub record Counts (r : FrameReceiver) (counts : BufferCountsInfo) : Type 0 where
   pub held : counts.held ≡ length r.buffer.held
   pub ready : counts.ready ≡ length (frames r.buffer.held)
   pub limit : counts.limit ≡ r.buffer.limit

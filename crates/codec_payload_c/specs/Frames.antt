@@ -3,7 +3,7 @@ use Rattle.std.specs.Prelude.{◌≡◌, ◌≢◌, ◌⊎◌, ℕ, ◌+◌, ◌
 use Rattle.codec_payload_core.specs.Faults.{fault_number}
 use Rattle.codec_payload_core.specs.Packetizers.{PacketizerState, PacketizerStep, packetizer_state_of, is_built_in, marker_of, talk_spurt_of, nackable_of}
 use Rattle.codec_payload_core.specs.declared.error.PacketError.{PacketError}
-use Rattle.codec_payload_handle.specs.declared.object.Sender.{Sender}
+use Rattle.codec_payload_handle.specs.declared.object.FrameSender.{FrameSender}
 use Rattle.codec_payload_c.specs.declared.frames.FrameCut.{FrameCut}
 use Rattle.codec_payload_c.specs.declared.frames.FrameRoom.{FrameRoom}
 use Rattle.codec_payload_c.specs.declared.frames.PlacedPacket.{PlacedPacket}
@@ -61,14 +61,14 @@ pub record LaysPackets (payloads : List (List ℕ)) (packetizer : PacketizerStat
   pub untouched : status ≢ 0 → (l.bytes ≡ l.before) × (l.told ≡ l.told_before)
 
 -- the packets of a frame that is cut go to the caller, or do not fit
-pub record LaysCut (r : Sender) (cut : FrameCut) (frame : List ℕ) (status : ℕ) (l : Laying) (packetizer : PacketizerState) : Type 0 where
+pub record LaysCut (r : FrameSender) (cut : FrameCut) (frame : List ℕ) (status : ℕ) (l : Laying) (packetizer : PacketizerState) : Type 0 where
   pub payloads : List (List ℕ)
   pub cuts : PacketizerStep (packetizer_state_of r.packetizer) cut.mtu frame (Ok payloads) packetizer
   pub lays : LaysPackets payloads packetizer cut status l
 
 -- A frame is cut into the caller's bytes. On every status but 0 the packetizer is as it was, so the frame can be given again; the
 -- packets that another call cut, and how many of them were taken, always stay. 37 is for a packetizer that is not the library's.
-pub record LaysFrame (r : Sender) (cut : FrameCut) (frame : List ℕ) (status : ℕ) (l : Laying) (s : Sender) : Type 0 where
+pub record LaysFrame (r : FrameSender) (cut : FrameCut) (frame : List ℕ) (status : ℕ) (l : Laying) (s : FrameSender) : Type 0 where
   pub ok : status ≡ 0 → LaysCut r cut frame status l (packetizer_state_of s.packetizer)
   pub too_small : status ≡ 33 → (packetizer : PacketizerState) × LaysCut r cut frame status l packetizer
   pub fault : status ≢ 0 → status ≢ 33 → status ≢ 37 → (e : PacketError) × (packetizer : PacketizerState) × (status ≡ fault_number e) × PacketizerStep (packetizer_state_of r.packetizer) cut.mtu frame (Err e) packetizer

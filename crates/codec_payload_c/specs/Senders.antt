@@ -6,21 +6,21 @@ use Rattle.codec_payload_core.specs.declared.error.PacketError.{PacketError}
 use Rattle.codec_payload_handle.specs.Bytes.{filled}
 use Rattle.codec_payload_handle.specs.declared.object.Object.{Object}
 use Rattle.codec_payload_handle.specs.declared.object.Object.TheVariants as objects
-use Rattle.codec_payload_handle.specs.declared.object.Sender.{Sender}
+use Rattle.codec_payload_handle.specs.declared.object.FrameSender.{FrameSender}
 use Rattle.codec_payload_c.specs.declared.packetizer.PacketInfo.{PacketInfo}
 
 -- the packets of the latest frame
-abbrev pub packets_in : Sender → List (List ℕ)
+abbrev pub packets_in : FrameSender → List (List ℕ)
 packets_in r = map (λ p. p.items) r.packets.items
 
 -- a sender with that packetizer and no packets
-abbrev pub IsSenderOf : Option PacketizerState → Object → Type 0
-IsSenderOf packetizer (objects.Sender s) = (Some (packetizer_state_of s.packetizer) ≡ packetizer) × (packets_in s ≡ []) × (s.taken ≡ 0)
-IsSenderOf packetizer _ = ⊥
+abbrev pub IsFrameSenderOf : Option PacketizerState → Object → Type 0
+IsFrameSenderOf packetizer (objects.FrameSender s) = (Some (packetizer_state_of s.packetizer) ≡ packetizer) × (packets_in s ≡ []) × (s.taken ≡ 0)
+IsFrameSenderOf packetizer _ = ⊥
 
 -- A frame is cut: its packets are there to take, from the first, and those of the frame before are given up. A fault leaves
 -- the packets as they were.
-pub record CutsFrame (r : Sender) (mtu : ℕ) (starts : Bool) (frame : List ℕ) (status count : ℕ) (s : Sender) : Type 0 where
+pub record CutsFrame (r : FrameSender) (mtu : ℕ) (starts : Bool) (frame : List ℕ) (status count : ℕ) (s : FrameSender) : Type 0 where
   pub ok : status ≡ 0 → PacketizerStep (packetizer_state_of r.packetizer) mtu frame (Ok (packets_in s)) (packetizer_state_of s.packetizer)
   pub counted : status ≡ 0 → count ≡ length (packets_in s)
   pub none_taken : status ≡ 0 → s.taken ≡ 0
@@ -29,7 +29,7 @@ pub record CutsFrame (r : Sender) (mtu : ℕ) (starts : Bool) (frame : List ℕ)
   pub stays : status ≢ 0 → (s.packets ≡ r.packets) × (s.taken ≡ r.taken) × (s.marked ≡ r.marked)
 
 -- the next packet to take
-abbrev pub next_in : Sender → Option (List ℕ)
+abbrev pub next_in : FrameSender → Option (List ℕ)
 next_in r = slice_get (packets_in r) r.taken
 
 -- 0 where there is one for which the caller has room, 33 where the room is too small, 32 where there is none
@@ -38,13 +38,13 @@ packet_status None room = 32
 packet_status (Some p) room = if nat_le (length p) room then 0 else 33
 
 -- what is told of the next packet
-pub record TellsPacket (r : Sender) (p : List ℕ) (info : PacketInfo) : Type 0 where
+pub record TellsPacket (r : FrameSender) (p : List ℕ) (info : PacketInfo) : Type 0 where
   pub bytes : info.bytes ≡ length p
   pub marker : is_built_in (packetizer_state_of r.packetizer) ≡ Bool.true → info.marker ≡ (r.marked || marker_of (packetizer_state_of r.packetizer) (r.taken + 1 == length (packets_in r)))
   pub nackable : is_built_in (packetizer_state_of r.packetizer) ≡ Bool.true → info.nackable ≡ nackable_of (packetizer_state_of r.packetizer)
 
 -- The next packet is taken, or stays where the caller's bytes are too few.
-pub record GivesPacket (r : Sender) (status : ℕ) (info : PacketInfo) (before bytes : List ℕ) (s : Sender) : Type 0 where
+pub record GivesPacket (r : FrameSender) (status : ℕ) (info : PacketInfo) (before bytes : List ℕ) (s : FrameSender) : Type 0 where
   pub answers : status ≡ packet_status (next_in r) (length before)
   pub tells : IfSome (next_in r) (λ p. TellsPacket r p info)
   pub writes : IfSome (next_in r) (λ p. bytes ≡ filled p before)

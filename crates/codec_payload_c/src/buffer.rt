@@ -2,8 +2,8 @@
 
 ghost use Rattle.std.specs.Prelude.{◌≡◌, ◌≢◌, ◌&&◌, is_some, nat_le};
 ghost use Rattle.codec_payload_core.specs.Blanks.{passed_number};
-ghost use Rattle.codec_payload_c.specs.Buffers.{AnswersPush, Counts, IsReceiverOf, IsToldBy, PopsUnit};
-ghost use Rattle.codec_payload_handle.specs.Kinds.{Makes, OnReceiver, Refuses, is_receiver};
+ghost use Rattle.codec_payload_c.specs.Buffers.{AnswersPush, Counts, IsFrameReceiverOf, IsToldBy, PopsUnit};
+ghost use Rattle.codec_payload_handle.specs.Kinds.{Makes, OnFrameReceiver, Refuses, is_frame_receiver};
 ghost use Rattle.codec_payload_handle.specs.Settings.{depacketizer_set};
 
 use codec_payload_core::buffer::{DepacketizingBuffer, RtpMeta};
@@ -12,7 +12,7 @@ use codec_payload_core::wire::{
 };
 use codec_payload_handle::bytes::fill;
 use codec_payload_handle::handle::Handle;
-use codec_payload_handle::object::{Object, Receiver};
+use codec_payload_handle::object::{FrameReceiver, Object};
 use codec_payload_handle::settings::{Spec, depacketizer_of};
 use codec_payload_handle::status;
 use codec_payload_handle::unit::{Unit, unit_of};
@@ -69,7 +69,7 @@ fn meta_of(packet: &Received, rate: Frequency) -> RtpMeta
 }
 
 /// A packet goes in.
-fn push(receiver: &mut Receiver, alloc: Global, packet: &Received, payload: &[u8]) -> u32
+fn push(receiver: &mut FrameReceiver, alloc: Global, packet: &Received, payload: &[u8]) -> u32
     ensures { AnswersPush receiver.old packet.now payload.now result receiver.new }
 {
     let meta = meta_of(packet, receiver.rate);
@@ -83,7 +83,7 @@ fn push(receiver: &mut Receiver, alloc: Global, packet: &Received, payload: &[u8
 }
 
 /// The next unit, from the buffer or from the call before, into the caller's bytes.
-fn pop(receiver: &mut Receiver, unit: &mut Unit, bytes: &mut [u8]) -> u32
+fn pop(receiver: &mut FrameReceiver, unit: &mut Unit, bytes: &mut [u8]) -> u32
     ensures { PopsUnit receiver.old result unit.old unit.new bytes.old bytes.new receiver.new }
 {
     if receiver.waiting.is_none() {
@@ -105,7 +105,7 @@ fn pop(receiver: &mut Receiver, unit: &mut Unit, bytes: &mut [u8]) -> u32
 }
 
 /// How much is held.
-fn counts_of(receiver: &Receiver) -> BufferCountsInfo
+fn counts_of(receiver: &FrameReceiver) -> BufferCountsInfo
     ensures { Counts receiver.now result }
 {
     BufferCountsInfo {
@@ -125,7 +125,7 @@ pub extern "C" fn cpay_buffer_new(
     hold_back: usize,
     limit: usize,
 ) -> u32
-    ensures { Makes (IsReceiverOf spec.now (depacketizer_set spec.now) hold_back limit)
+    ensures { Makes (IsFrameReceiverOf spec.now (depacketizer_set spec.now) hold_back limit)
         (is_some (depacketizer_set spec.now) && nat_le 1 limit && nat_le limit 65536) handle.old.place.value result handle.new.place.value }
 {
     if let Some(object) = handle.take(alloc) {
@@ -141,12 +141,12 @@ pub extern "C" fn cpay_buffer_new(
     if limit == 0 || limit > MAX_LIMIT {
         return status::INVALID;
     }
-    let receiver = Receiver {
+    let receiver = FrameReceiver {
         buffer: DepacketizingBuffer::with_limit(alloc, depacketizer, hold_back, limit),
         waiting: None,
         rate,
     };
-    match Box::new(alloc, Object::Receiver(receiver)) {
+    match Box::new(alloc, Object::FrameReceiver(receiver)) {
         Ok(object) => {
             handle.put(object);
             status::OK
@@ -163,14 +163,14 @@ pub extern "C" fn cpay_buffer_push(
     packet: &Received,
     payload: &[u8],
 ) -> u32
-    ensures pushes { OnReceiver handle.old.place.value (λ r s. AnswersPush r packet.now payload.now result s) handle.new.place.value }
-    ensures refused { Refuses is_receiver handle.old.place.value result handle.new.place.value }
+    ensures pushes { OnFrameReceiver handle.old.place.value (λ r s. AnswersPush r packet.now payload.now result s) handle.new.place.value }
+    ensures refused { Refuses is_frame_receiver handle.old.place.value result handle.new.place.value }
 {
     let Some(mut object) = handle.take(alloc) else {
         return status::EMPTY;
     };
     let answer = match &mut *object {
-        Object::Receiver(receiver) => push(receiver, alloc, packet, payload),
+        Object::FrameReceiver(receiver) => push(receiver, alloc, packet, payload),
         _ => status::OTHER_KIND,
     };
     handle.put(object);
@@ -185,8 +185,8 @@ pub extern "C" fn cpay_buffer_pop(
     unit: &mut Unit,
     bytes: &mut [u8],
 ) -> u32
-    ensures pops { OnReceiver handle.old.place.value (λ r s. PopsUnit r result unit.old unit.new bytes.old bytes.new s) handle.new.place.value }
-    ensures refused { Refuses is_receiver handle.old.place.value result handle.new.place.value }
+    ensures pops { OnFrameReceiver handle.old.place.value (λ r s. PopsUnit r result unit.old unit.new bytes.old bytes.new s) handle.new.place.value }
+    ensures refused { Refuses is_frame_receiver handle.old.place.value result handle.new.place.value }
     ensures untouched { result ≢ 0 → bytes.new ≡ bytes.old }
     ensures untold { result ≢ 0 → result ≢ 33 → unit.new ≡ unit.old }
 {
@@ -194,7 +194,7 @@ pub extern "C" fn cpay_buffer_pop(
         return status::EMPTY;
     };
     let answer = match &mut *object {
-        Object::Receiver(receiver) => pop(receiver, unit, bytes),
+        Object::FrameReceiver(receiver) => pop(receiver, unit, bytes),
         _ => status::OTHER_KIND,
     };
     handle.put(object);
@@ -208,14 +208,14 @@ pub extern "C" fn cpay_buffer_set_hold_back(
     handle: &mut Handle,
     hold_back: usize,
 ) -> u32
-    ensures sets { OnReceiver handle.old.place.value (λ r s. (result ≡ 0) × (s ≡ record r { buffer = record r.buffer { hold_back = hold_back } })) handle.new.place.value }
-    ensures refused { Refuses is_receiver handle.old.place.value result handle.new.place.value }
+    ensures sets { OnFrameReceiver handle.old.place.value (λ r s. (result ≡ 0) × (s ≡ record r { buffer = record r.buffer { hold_back = hold_back } })) handle.new.place.value }
+    ensures refused { Refuses is_frame_receiver handle.old.place.value result handle.new.place.value }
 {
     let Some(mut object) = handle.take(alloc) else {
         return status::EMPTY;
     };
     let answer = match &mut *object {
-        Object::Receiver(receiver) => {
+        Object::FrameReceiver(receiver) => {
             receiver.buffer.set_hold_back(hold_back);
             status::OK
         }
@@ -228,14 +228,14 @@ pub extern "C" fn cpay_buffer_set_hold_back(
 /// The packet of that number carries no media: where all below it have left, it is not waited for.
 #[unsafe(no_mangle)]
 pub extern "C" fn cpay_buffer_pass_number(alloc: Global, handle: &mut Handle, number: u64) -> u32
-    ensures passes { OnReceiver handle.old.place.value (λ r s. (result ≡ 0) × (s ≡ record r { buffer = passed_number r.buffer number })) handle.new.place.value }
-    ensures refused { Refuses is_receiver handle.old.place.value result handle.new.place.value }
+    ensures passes { OnFrameReceiver handle.old.place.value (λ r s. (result ≡ 0) × (s ≡ record r { buffer = passed_number r.buffer number })) handle.new.place.value }
+    ensures refused { Refuses is_frame_receiver handle.old.place.value result handle.new.place.value }
 {
     let Some(mut object) = handle.take(alloc) else {
         return status::EMPTY;
     };
     let answer = match &mut *object {
-        Object::Receiver(receiver) => {
+        Object::FrameReceiver(receiver) => {
             receiver.buffer.pass_number(SeqNo(number));
             status::OK
         }
@@ -252,15 +252,15 @@ pub extern "C" fn cpay_buffer_counts(
     handle: &mut Handle,
     counts: &mut BufferCountsInfo,
 ) -> u32
-    ensures counts { OnReceiver handle.old.place.value (λ r s. (result ≡ 0) × (s ≡ r) × Counts r counts.new) handle.new.place.value }
-    ensures refused { Refuses is_receiver handle.old.place.value result handle.new.place.value }
+    ensures counts { OnFrameReceiver handle.old.place.value (λ r s. (result ≡ 0) × (s ≡ r) × Counts r counts.new) handle.new.place.value }
+    ensures refused { Refuses is_frame_receiver handle.old.place.value result handle.new.place.value }
     ensures untold { result ≢ 0 → counts.new ≡ counts.old }
 {
     let Some(mut object) = handle.take(alloc) else {
         return status::EMPTY;
     };
     let answer = match &mut *object {
-        Object::Receiver(receiver) => {
+        Object::FrameReceiver(receiver) => {
             *counts = counts_of(receiver);
             status::OK
         }

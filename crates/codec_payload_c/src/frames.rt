@@ -2,13 +2,13 @@
 
 ghost use Rattle.std.specs.Prelude.{◌≡◌, ◌≢◌, ◌≤◌, ◌<◌, ◌+◌, ◌++◌, ◌==◌, ◌&&◌, ◌||◌, true, ℕ, Option, length, take, drop, slice_get};
 ghost use Rattle.codec_payload_core.specs.Packetizers.{is_built_in, packetizer_state_of, marker_of, talk_spurt_of};
-ghost use Rattle.codec_payload_handle.specs.Kinds.{OnSender, Refuses, is_sender};
+ghost use Rattle.codec_payload_handle.specs.Kinds.{OnFrameSender, Refuses, is_frame_sender};
 ghost use Rattle.codec_payload_c.specs.Frames.{Laying, LaysFrame, LaysPackets, capped, laid, placed_at, rooms_in, size_with};
 
 use codec_payload_core::codec::{CodecPacketizer, Packetizer};
 use codec_payload_core::payloads::Payloads;
 use codec_payload_handle::handle::Handle;
-use codec_payload_handle::object::{Object, Sender};
+use codec_payload_handle::object::{FrameSender, Object};
 use codec_payload_handle::settings::packetizer_as;
 use codec_payload_handle::status;
 use std::alloc::Global;
@@ -131,7 +131,7 @@ fn tell(
 
 /// The packets that the sender has cut go to the caller, where there is room for them.
 fn hand_over(
-    sender: &mut Sender,
+    sender: &mut FrameSender,
     cut: &FrameCut,
     bytes: &mut [u8],
     packets: &mut [PlacedPacket],
@@ -157,7 +157,7 @@ fn hand_over(
 /// Cuts a frame and hands its packets over. Where that cannot be, the packetizer is as it was.
 #[tactic(auto, using(crate::proofs::FrameLemmas::built_in_after))]
 fn packetize_into(
-    sender: &mut Sender,
+    sender: &mut FrameSender,
     alloc: Global,
     cut: &FrameCut,
     frame: &[u8],
@@ -197,8 +197,8 @@ pub extern "C" fn cpay_packetize_into(
     packets: &mut [PlacedPacket],
     room: &mut FrameRoom,
 ) -> u32
-    ensures lays { OnSender handle.old.place.value (λ r s. LaysFrame r cut.now frame.now result (record { before = bytes.old; bytes = bytes.new; told_before = packets.old; told = packets.new; room = room.new }) s) handle.new.place.value }
-    ensures refused { Refuses is_sender handle.old.place.value result handle.new.place.value }
+    ensures lays { OnFrameSender handle.old.place.value (λ r s. LaysFrame r cut.now frame.now result (record { before = bytes.old; bytes = bytes.new; told_before = packets.old; told = packets.new; room = room.new }) s) handle.new.place.value }
+    ensures refused { Refuses is_frame_sender handle.old.place.value result handle.new.place.value }
     ensures untouched { result ≢ 0 → (bytes.new ≡ bytes.old) × (packets.new ≡ packets.old) }
     ensures untold { result ≢ 0 → result ≢ 33 → room.new ≡ room.old }
 {
@@ -206,7 +206,7 @@ pub extern "C" fn cpay_packetize_into(
         return status::EMPTY;
     };
     let answer = match &mut *object {
-        Object::Sender(sender) => {
+        Object::FrameSender(sender) => {
             packetize_into(sender, alloc, cut, frame, bytes, packets, room)
         }
         _ => status::OTHER_KIND,

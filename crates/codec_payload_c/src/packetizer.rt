@@ -1,15 +1,15 @@
 //! Frames cut into packets.
 
 ghost use Rattle.std.specs.Prelude.{◌≡◌, ◌≢◌, ◌≤◌, is_some, length};
-ghost use Rattle.codec_payload_handle.specs.Kinds.{Makes, OnSender, Refuses, is_sender};
-ghost use Rattle.codec_payload_c.specs.Senders.{CutsFrame, GivesPacket, IsSenderOf};
+ghost use Rattle.codec_payload_handle.specs.Kinds.{Makes, OnFrameSender, Refuses, is_frame_sender};
+ghost use Rattle.codec_payload_c.specs.Senders.{CutsFrame, GivesPacket, IsFrameSenderOf};
 ghost use Rattle.codec_payload_handle.specs.Settings.{packetizer_set};
 
 use codec_payload_core::codec::Packetizer;
 use codec_payload_core::payloads::Payloads;
 use codec_payload_handle::bytes::fill;
 use codec_payload_handle::handle::Handle;
-use codec_payload_handle::object::{Object, Sender};
+use codec_payload_handle::object::{FrameSender, Object};
 use codec_payload_handle::settings::{Spec, packetizer_of};
 use codec_payload_handle::status;
 use std::alloc::Global;
@@ -28,7 +28,7 @@ pub struct PacketInfo {
 
 /// Cuts a frame. Packets of the frame before that were not taken are given up.
 fn packetize(
-    sender: &mut Sender,
+    sender: &mut FrameSender,
     alloc: Global,
     mtu: usize,
     starts_talk_spurt: bool,
@@ -51,7 +51,7 @@ fn packetize(
 }
 
 /// The next packet.
-fn packet(sender: &mut Sender, info: &mut PacketInfo, bytes: &mut [u8]) -> u32
+fn packet(sender: &mut FrameSender, info: &mut PacketInfo, bytes: &mut [u8]) -> u32
     ensures gives { GivesPacket sender.old result info.new bytes.old bytes.new sender.new }
     ensures untold { result ≢ 0 → result ≢ 33 → info.new ≡ info.old }
 {
@@ -76,7 +76,7 @@ fn packet(sender: &mut Sender, info: &mut PacketInfo, bytes: &mut [u8]) -> u32
 /// A packetizer with these settings, in an empty handle.
 #[unsafe(no_mangle)]
 pub extern "C" fn cpay_packetizer_new(alloc: Global, handle: &mut Handle, spec: &Spec) -> u32
-    ensures { Makes (IsSenderOf (packetizer_set spec.now)) (is_some (packetizer_set spec.now)) handle.old.place.value result handle.new.place.value }
+    ensures { Makes (IsFrameSenderOf (packetizer_set spec.now)) (is_some (packetizer_set spec.now)) handle.old.place.value result handle.new.place.value }
 {
     if let Some(object) = handle.take(alloc) {
         handle.put(object);
@@ -88,14 +88,14 @@ pub extern "C" fn cpay_packetizer_new(alloc: Global, handle: &mut Handle, spec: 
     let Ok(frame) = Payloads::new(alloc, 0, 0) else {
         return status::OUT_OF_MEMORY;
     };
-    let sender = Sender {
+    let sender = FrameSender {
         packetizer,
         packets: Vec::new(alloc),
         taken: 0,
         marked: false,
         frame,
     };
-    match Box::new(alloc, Object::Sender(sender)) {
+    match Box::new(alloc, Object::FrameSender(sender)) {
         Ok(object) => {
             handle.put(object);
             status::OK
@@ -114,15 +114,22 @@ pub extern "C" fn cpay_packetize(
     frame: &[u8],
     count: &mut usize,
 ) -> u32
-    ensures cuts { OnSender handle.old.place.value (λ r s. CutsFrame r mtu starts_talk_spurt frame.now result count.new s) handle.new.place.value }
-    ensures refused { Refuses is_sender handle.old.place.value result handle.new.place.value }
+    ensures cuts { OnFrameSender handle.old.place.value (λ r s. CutsFrame r mtu starts_talk_spurt frame.now result count.new s) handle.new.place.value }
+    ensures refused { Refuses is_frame_sender handle.old.place.value result handle.new.place.value }
     ensures untold { result ≢ 0 → count.new ≡ count.old }
 {
     let Some(mut object) = handle.take(alloc) else {
         return status::EMPTY;
     };
     let answer = match &mut *object {
-        Object::Sender(sender) => packetize(sender, alloc, mtu, starts_talk_spurt, frame, count),
+        Object::FrameSender(sender) => packetize(
+            sender,
+            alloc,
+            mtu,
+            starts_talk_spurt,
+            frame,
+            count,
+        ),
         _ => status::OTHER_KIND,
     };
     handle.put(object);
@@ -137,8 +144,8 @@ pub extern "C" fn cpay_packet(
     info: &mut PacketInfo,
     bytes: &mut [u8],
 ) -> u32
-    ensures gives { OnSender handle.old.place.value (λ r s. GivesPacket r result info.new bytes.old bytes.new s) handle.new.place.value }
-    ensures refused { Refuses is_sender handle.old.place.value result handle.new.place.value }
+    ensures gives { OnFrameSender handle.old.place.value (λ r s. GivesPacket r result info.new bytes.old bytes.new s) handle.new.place.value }
+    ensures refused { Refuses is_frame_sender handle.old.place.value result handle.new.place.value }
     ensures untouched { result ≢ 0 → bytes.new ≡ bytes.old }
     ensures untold { result ≢ 0 → result ≢ 33 → info.new ≡ info.old }
 {
@@ -146,7 +153,7 @@ pub extern "C" fn cpay_packet(
         return status::EMPTY;
     };
     let answer = match &mut *object {
-        Object::Sender(sender) => packet(sender, info, bytes),
+        Object::FrameSender(sender) => packet(sender, info, bytes),
         _ => status::OTHER_KIND,
     };
     handle.put(object);

@@ -4,19 +4,19 @@ use Rattle.codec_payload_core.specs.RedLevels.{Sender as RedSender}
 use Rattle.codec_payload_handle.specs.declared.object.Assembler.{Assembler}
 use Rattle.codec_payload_handle.specs.declared.object.Object.{Object}
 use Rattle.codec_payload_handle.specs.declared.object.Object.TheVariants as objects
-use Rattle.codec_payload_handle.specs.declared.object.Receiver.{Receiver}
-use Rattle.codec_payload_handle.specs.declared.object.Sender.{Sender}
+use Rattle.codec_payload_handle.specs.declared.object.FrameReceiver.{FrameReceiver}
+use Rattle.codec_payload_handle.specs.declared.object.FrameSender.{FrameSender}
 use Rattle.codec_payload_handle.specs.declared.object.StreamReceiver.{StreamReceiver}
 use Rattle.codec_payload_handle.specs.declared.object.StreamSender.{StreamSender}
 
 -- where the handle holds a sender, it holds one afterwards, to which this was done
-abbrev pub StaysSender : (Sender → Type 0) → Option Object → Type 0
-StaysSender Done (Some (objects.Sender s)) = Done s
-StaysSender Done _ = ⊥
+abbrev pub StaysFrameSender : (FrameSender → Type 0) → Option Object → Type 0
+StaysFrameSender Done (Some (objects.FrameSender s)) = Done s
+StaysFrameSender Done _ = ⊥
 
-abbrev pub OnSender : Option Object → (Sender → Sender → Type 0) → Option Object → Type 0
-OnSender (Some (objects.Sender r)) Does after = StaysSender (Does r) after
-OnSender _ Does after = Unit {0}
+abbrev pub OnFrameSender : Option Object → (FrameSender → FrameSender → Type 0) → Option Object → Type 0
+OnFrameSender (Some (objects.FrameSender r)) Does after = StaysFrameSender (Does r) after
+OnFrameSender _ Does after = Unit {0}
 
 -- the same of an assembler
 abbrev pub StaysAssembler : (Assembler → Type 0) → Option Object → Type 0
@@ -28,13 +28,13 @@ OnAssembler (Some (objects.Assembler r)) Does after = StaysAssembler (Does r) af
 OnAssembler _ Does after = Unit {0}
 
 -- the same of a receiver
-abbrev pub StaysReceiver : (Receiver → Type 0) → Option Object → Type 0
-StaysReceiver Done (Some (objects.Receiver s)) = Done s
-StaysReceiver Done _ = ⊥
+abbrev pub StaysFrameReceiver : (FrameReceiver → Type 0) → Option Object → Type 0
+StaysFrameReceiver Done (Some (objects.FrameReceiver s)) = Done s
+StaysFrameReceiver Done _ = ⊥
 
-abbrev pub OnReceiver : Option Object → (Receiver → Receiver → Type 0) → Option Object → Type 0
-OnReceiver (Some (objects.Receiver r)) Does after = StaysReceiver (Does r) after
-OnReceiver _ Does after = Unit {0}
+abbrev pub OnFrameReceiver : Option Object → (FrameReceiver → FrameReceiver → Type 0) → Option Object → Type 0
+OnFrameReceiver (Some (objects.FrameReceiver r)) Does after = StaysFrameReceiver (Does r) after
+OnFrameReceiver _ Does after = Unit {0}
 
 -- the same of a RED sender
 abbrev pub StaysRedSender : (RedSender → Type 0) → Option Object → Type 0
@@ -63,17 +63,17 @@ abbrev pub OnStreamReceiver : Option Object → (StreamReceiver → StreamReceiv
 OnStreamReceiver (Some (objects.StreamReceiver r)) Does after = StaysStreamReceiver (Does r) after
 OnStreamReceiver _ Does after = Unit {0}
 
-abbrev pub is_sender : Object → Bool
-is_sender (objects.Sender _) = true
-is_sender _ = false
+abbrev pub is_frame_sender : Object → Bool
+is_frame_sender (objects.FrameSender _) = true
+is_frame_sender _ = false
 
 abbrev pub is_assembler : Object → Bool
 is_assembler (objects.Assembler _) = true
 is_assembler _ = false
 
-abbrev pub is_receiver : Object → Bool
-is_receiver (objects.Receiver _) = true
-is_receiver _ = false
+abbrev pub is_frame_receiver : Object → Bool
+is_frame_receiver (objects.FrameReceiver _) = true
+is_frame_receiver _ = false
 
 abbrev pub is_red_sender : Object → Bool
 is_red_sender (objects.RedSender _) = true

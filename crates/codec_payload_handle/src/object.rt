@@ -10,7 +10,7 @@ use codec_payload_stream::receiver::Receiver as DatagramReceiver;
 
 /// A packetizer, and the packets of its latest frame.
 #[derive(Drop)]
-pub struct Sender {
+pub struct FrameSender {
     pub packetizer: CodecPacketizer,
     pub packets: Vec<Vec<u8>>,
     /// How many of the packets were taken.
@@ -31,7 +31,7 @@ pub struct Assembler {
 
 /// A buffer, and the unit that it gave and the caller had no room for.
 #[derive(Drop)]
-pub struct Receiver {
+pub struct FrameReceiver {
     pub buffer: DepacketizingBuffer,
     pub waiting: Option<Depacketized>,
     pub rate: Frequency,
@@ -54,9 +54,9 @@ pub struct StreamReceiver {
 /// A value behind a handle.
 #[derive(Drop)]
 pub enum Object {
-    Sender(Sender),
+    FrameSender(FrameSender),
     Assembler(Assembler),
-    Receiver(Receiver),
+    FrameReceiver(FrameReceiver),
     RedSender(RedSender),
     StreamSender(StreamSender),
     StreamReceiver(StreamReceiver),
