@@ -11,7 +11,8 @@ use Rattle.codec_payload_vpx.specs.declared.error.MediaError.TheVariants as erro
 use Rattle.codec_payload_media.specs.declared.opus.OpusPacket.{OpusPacket}
 use Rattle.codec_payload_vpx.specs.Reading.{◌>>=◌}
 use Rattle.codec_payload_vpx.specs.BitFields.{bit_if}
-use Rattle.codec_payload_media.specs.OpusPackets.{AreCoded, AreCounted, AreFrames, AreLengths, IsLength, IsOpusPacket, IsPadding, SaysPadding, alike, apart, counted_at, frames_at, frames_if, length_at, lengths_at, long_length, longest, most, opus_at, packet_of, ticks_of, unpadded, unpadded_if, with_last}
+use Rattle.codec_payload_media.specs.OpusPackets.{AreCoded, AreCounted, AreFrames, AreLengths, IsLength, IsOpusPacket, IsPadding, SaysPadding, alike, apart, counted_at, frames_at}
+use Rattle.codec_payload_media.specs.OpusPackets.{frames_if, length_at, lengths_at, long_length, longest, most, opus_at, packet_of, ticks_of, unpadded, unpadded_if, with_last}
 use Rattle.codec_payload_vpx.proofs.ReadingLemmas.{bind_ok, bit_is, neither, drop_bytes, take_bytes, guard_ok, then_true, ok_is}
 
 abbrev Frames : Type 0

@@ -12,7 +12,8 @@ use Rattle.codec_payload_base.specs.declared.wire.extension.ExtensionValues.{Ext
 use Rattle.codec_payload_rtp.specs.declared.values.ExtensionIds.{ExtensionIds}
 use Rattle.codec_payload_rtp.specs.Elements.{Element}
 use Rattle.codec_payload_rtp.specs.ExtensionFormats.{allocation_at, and_then, byte_at, bytes_for, bytes_with, capture_at, level_of, timing_at, timing_bytes, values_in}
-use Rattle.codec_payload_rtp.specs.ExtensionWriting.{FitsCapture, FitsTiming, FitsValues, Row, ValuesComeBack, are_ids, audio_byte, capture_bytes, element_for, elements_for, id_fits, ids_fit, is_apart, is_apart_from, is_id, is_speech, kept_by, level_byte, offset_bytes, one_byte, rows_elements, sent_level, values_told}
+use Rattle.codec_payload_rtp.specs.ExtensionWriting.{FitsCapture, FitsTiming, FitsValues, Row, ValuesComeBack, are_ids, audio_byte, capture_bytes, element_for, elements_for, id_fits, ids_fit}
+use Rattle.codec_payload_rtp.specs.ExtensionWriting.{is_apart, is_apart_from, is_id, is_speech, kept_by, level_byte, offset_bytes, one_byte, rows_elements, sent_level, values_told}
 use Rattle.codec_payload_rtp.specs.RtpPackets.{bit_if}
 use Rattle.codec_payload_rtp.proofs.ExtensionLemmas.{elements_again, ids_of, values_fit}
 
