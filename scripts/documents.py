@@ -53,7 +53,7 @@ RUN_ELSEWHERE = {
     "rt new": ("scripts/documents.py", "begun_crate"),
     "rm -r crates/mine/": ("scripts/documents.py", "begun_crate"),
     'echo "mine: codec_payload_core"': ("scripts/documents.py", "begun_crate"),
-    "cp examples/first.rt": ("scripts/documents.py", "begun_crate"),
+    "cp examples/first.rattle": ("scripts/documents.py", "begun_crate"),
     "rt fmt": ("scripts/documents.py", "rt fmt"),
     "rt test": ("scripts/documents.py", "rt test"),
     "rt version": ("scripts/documents.py", "rt version"),
