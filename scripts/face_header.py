@@ -16,7 +16,8 @@ import sys
 CRATES = ["codec_payload_c", "codec_payload_handle"]
 ROOT = os.path.dirname(os.path.dirname(os.path.realpath(__file__)))
 NUMBERS = {
-    **{f"{sign[0]}{bits}": f"{sign[1:]}{bits}_t" for sign in ("uuint", "iint") for bits in (8, 16, 32, 64)},
+    **{f"u{bits}": f"uint{bits}_t" for bits in (8, 16, 32, 64)},
+    **{f"i{bits}": f"int{bits}_t" for bits in (8, 16, 32, 64)},
     "usize": "size_t",
     "bool": "bool",
 }
