@@ -4,18 +4,20 @@
 //! for by a clock.
 
 #[doc(hidden)]
-pub mod blanks;
-#[doc(hidden)]
 pub mod jitter_buffer;
 #[doc(hidden)]
 pub mod missing;
 #[doc(hidden)]
+pub mod no_media_numbers;
+#[doc(hidden)]
 pub mod numbers;
 #[doc(hidden)]
 pub mod outcome;
+#[doc(hidden)]
+pub mod waiting;
 
 #[doc(inline)]
-pub use jitter_buffer::{JitterBuffer, KeptPacket, Outcome, PacketCounters, Patience};
+pub use jitter_buffer::{JitterBuffer, KeptPacket, Outcome, PacketCounters, WaitLimits};
 
 #[doc(inline)]
 pub use missing::MissingNumbers;

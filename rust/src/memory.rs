@@ -271,7 +271,11 @@ impl<T, const N: usize> Deref for SmallVec<T, N> {
 
     #[inline]
     fn deref(&self) -> &[T] {
-        if self.len > N { &self.all } else { &self.first[..self.len] }
+        if self.len > N {
+            &self.all
+        } else {
+            &self.first[..self.len]
+        }
     }
 }
 

@@ -37,6 +37,7 @@ pub struct SenderSettings {
 
 /// Why a sender is not made.
 #[derive(Clone, Copy, Debug, PartialEq, Eq)]
+#[non_exhaustive]
 pub enum SenderError {
     /// The payload type is above 127.
     PayloadType,

@@ -10,6 +10,7 @@ Needs Python 3.11 and rustfmt. docs/PLAIN_RUST.md says what it does. It refuses,
 """
 import argparse
 import os
+import re
 import sys
 
 import output
@@ -74,8 +75,14 @@ def test_files(others, passed_on):
         text = joined(f.ts)
         if rel == "lib.rt":
             rel = "main.rt"
-            text += "\n/// Why a test fails.\npub type Fail = Box<dyn std::error::Error>;\n"
+            text = with_allowed(text) + "\n/// Why a test fails.\npub type Fail = Box<dyn std::error::Error>;\n"
         yield f"{TESTS[crate]}/{rel[:-3]}.rs", f.path, text
+
+
+def with_allowed(text):
+    """A root file of tests that allows what the prover needs and clippy would write in another way."""
+    end = max((m.end() for m in re.finditer(r"^//![^\n]*\n", text, re.M)), default=0)
+    return f"{text[:end]}#![allow(unused_imports, clippy::all)]\n{text[end:]}"
 
 
 def run(repository, words):

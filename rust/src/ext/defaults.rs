@@ -1,9 +1,8 @@
-//! Traits of Rust that the sources have no need of, or cannot have.
+//! `Default` for types whose `new` takes nothing.
 
 use crate::av1::Av1Depacketizer;
 use crate::jitter::SequenceNumbers;
 use crate::vp9::Vp9Depacketizer;
-use crate::wire::SeqNo;
 
 impl Default for Vp9Depacketizer {
     fn default() -> Self {
@@ -20,11 +19,5 @@ impl Default for Av1Depacketizer {
 impl Default for SequenceNumbers {
     fn default() -> Self {
         SequenceNumbers::new()
-    }
-}
-
-impl From<u64> for SeqNo {
-    fn from(number: u64) -> Self {
-        SeqNo(number)
     }
 }

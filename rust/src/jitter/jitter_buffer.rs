@@ -5,8 +5,8 @@
 use crate::buffer::{Depacketized, DepacketizingBuffer, RtpMeta, UnitInfo};
 use crate::codec::{CodecDepacketizer, Depacketizer, NoBox};
 use crate::error::PacketError;
-use crate::jitter::blanks::{is_late, is_noted, note_blank, pass_blanks};
 use crate::jitter::missing::MissingNumbers;
+use crate::jitter::no_media_numbers::{is_late, is_noted, note_no_media, pass_no_media_numbers};
 use crate::jitter::numbers::{
     Extended, SequenceNumbers, lowest_with, number_within, without_restart,
 };
@@ -15,20 +15,10 @@ use crate::jitter::outcome::{
     goes_in, outcome_of, packets_in, packets_into, units_in, units_into, with_again, with_kept,
     with_outcome, with_pop, with_recovered,
 };
+pub use crate::jitter::waiting::WaitLimits;
+use crate::jitter::waiting::{deadline, overdue};
 use crate::wire::{Frequency, MediaTime, RtpHeader, SeqNo, Ticks};
 use alloc::vec::Vec;
-
-/// How long to wait for packets that are missing.
-#[derive(Clone, Copy, Debug, PartialEq, Eq)]
-pub struct Patience {
-    /// A frame behind a gap comes out once more complete frames than this are there.
-    pub hold_back: usize,
-    /// The first frame comes out once more complete frames than this are there.
-    pub start: usize,
-    /// Whatever is missing, a complete frame comes out once so many ticks have passed since its last packet was received.
-    /// `None`: it waits for as long as `hold_back` and `start` say.
-    pub max_wait: Option<u64>,
-}
 
 /// A suspect packet.
 #[derive(Debug)]
@@ -46,10 +36,10 @@ pub struct JitterBuffer<B = NoBox> {
     numbers: SequenceNumbers,
     buffer: DepacketizingBuffer<B>,
     /// Numbers without media above the cutoff, in rising order.
-    blanks: Vec<u64>,
+    no_media_numbers: Vec<u64>,
     kept: Option<KeptPacket>,
     clock_rate: Frequency,
-    patience: Patience,
+    wait_limits: WaitLimits,
     ended: bool,
     counters: PacketCounters,
     /// The least number that was given, since the latest restart.
@@ -63,10 +53,10 @@ impl<B: Depacketizer> JitterBuffer<B> {
     pub fn new(
         depacketizer: CodecDepacketizer<B>,
         clock_rate: Frequency,
-        patience: Patience,
+        wait_limits: WaitLimits,
     ) -> Self {
-        let buffer = DepacketizingBuffer::new(depacketizer, patience.hold_back);
-        JitterBuffer::over(SequenceNumbers::new(), buffer, clock_rate, patience)
+        let buffer = DepacketizingBuffer::new(depacketizer, wait_limits.most_held_back());
+        JitterBuffer::over(SequenceNumbers::new(), buffer, clock_rate, wait_limits)
     }
 
     /// A jitter buffer with windows and a buffer of one's own, which is empty.
@@ -78,16 +68,16 @@ impl<B: Depacketizer> JitterBuffer<B> {
         numbers: SequenceNumbers,
         buffer: DepacketizingBuffer<B>,
         clock_rate: Frequency,
-        patience: Patience,
+        wait_limits: WaitLimits,
     ) -> Self {
         assert!(buffer.held() == 0);
         JitterBuffer {
             numbers,
             buffer,
-            blanks: Vec::new(),
+            no_media_numbers: Vec::new(),
             kept: None,
             clock_rate,
-            patience,
+            wait_limits,
             ended: false,
             counters: PacketCounters::none(),
             lowest: None,
@@ -120,7 +110,7 @@ impl<B: Depacketizer> JitterBuffer<B> {
     /// Takes in a number that carries no media, as that of a packet of padding alone, or of another payload type beside this
     /// one: no frame waits for it. The only fault is want of memory; nothing has changed then. Numbers are remembered until
     /// frames after them have come out: the greatest 1,024.
-    pub fn push_blank(&mut self, low: u16) -> Result<(), PacketError> {
+    pub fn push_no_media(&mut self, low: u16) -> Result<(), PacketError> {
         let answer = self.answer_to(low);
         let mut numbers = self.numbers;
         numbers.take(answer, low);
@@ -133,7 +123,7 @@ impl<B: Depacketizer> JitterBuffer<B> {
     /// Takes in a packet that was sent again, under the number that it had first: where that is within the windows, it goes in
     /// like another; else it is late. It confirms no restart, and none is suspected for it. The only fault is want of memory;
     /// nothing has changed then.
-    pub fn push_again(
+    pub fn push_retransmitted(
         &mut self,
         now: Ticks,
         header: RtpHeader,
@@ -218,7 +208,7 @@ impl<B: Depacketizer> JitterBuffer<B> {
 
     /// Whether a number is neither held nor known to have no media.
     pub(crate) fn is_absent(&self, number: u64) -> bool {
-        !self.buffer.holds(SeqNo(number)) && !is_noted(&self.blanks, number)
+        !self.buffer.holds(SeqNo(number)) && !is_noted(&self.no_media_numbers, number)
     }
 
     /// The next unit, at that time, where its turn has come: it follows what came out before, or more complete frames than
@@ -265,19 +255,19 @@ impl<B: Depacketizer> JitterBuffer<B> {
     /// When a pop may give a unit without a packet coming: `max_wait` after the last packet of the lowest complete frame was
     /// received. `None` where no frame is complete, or none waits by the clock.
     pub fn next_deadline(&self) -> Option<Ticks> {
-        deadline(self.patience.max_wait, self.buffer.ready_since())
+        deadline(self.wait_limits.max_wait, self.buffer.ready_since())
     }
 
     /// Waits by these values from now on. What is held stays, and what came out stays out: the next pop, and the next deadline, go
     /// by the new values, so a shorter wait may let frames out at once, and a longer one holds frames back that were due. Where a
     /// unit has come out already, `start` matters no more. Any values may be given. Takes no memory.
-    pub fn set_patience(&mut self, patience: Patience) {
-        self.patience = patience;
+    pub fn set_wait_limits(&mut self, wait_limits: WaitLimits) {
+        self.wait_limits = wait_limits;
     }
 
     /// How long it waits for packets that are missing.
-    pub fn patience(&self) -> Patience {
-        self.patience
+    pub fn wait_limits(&self) -> WaitLimits {
+        self.wait_limits
     }
 
     /// The stream has ended: from now on pops wait for nothing, and give all complete frames. Packets within the windows still
@@ -421,7 +411,7 @@ impl<B: Depacketizer> JitterBuffer<B> {
 
     /// Remembers a number without media.
     fn note(&mut self, number: u64) -> Result<(), PacketError> {
-        note_blank(&mut self.blanks, number)?;
+        note_no_media(&mut self.no_media_numbers, number)?;
         self.counters = with_outcome(self.counters, Outcome::NoMedia);
         Ok(())
     }
@@ -455,40 +445,18 @@ impl<B: Depacketizer> JitterBuffer<B> {
 
     /// The cutoff goes on over the numbers without media that come right after it.
     fn settle(&mut self) {
-        pass_blanks(&mut self.buffer, &mut self.blanks);
+        pass_no_media_numbers(&mut self.buffer, &mut self.no_media_numbers);
     }
 
     /// How many complete frames wait for what is missing before them, at that time.
     fn waiting(&self, now: Ticks) -> Option<usize> {
-        if self.ended || overdue(self.patience.max_wait, now, self.buffer.ready_since()) {
+        if self.ended || overdue(self.wait_limits.max_wait, now, self.buffer.ready_since()) {
             Some(0)
-        } else if self.buffer.cutoff().is_none() && self.buffer.ready() <= self.patience.start {
+        } else if self.buffer.cutoff().is_none() && self.buffer.ready() <= self.wait_limits.start {
             None
         } else {
-            Some(self.patience.hold_back)
+            Some(self.wait_limits.most_held_back())
         }
-    }
-}
-
-/// Whether so many ticks have passed.
-fn overdue(max_wait: Option<u64>, now: Ticks, since: Option<Ticks>) -> bool {
-    match (max_wait, since) {
-        (Some(max_wait), Some(since)) => max_wait <= now.0.saturating_sub(since.0),
-        _ => false,
-    }
-}
-
-/// When so many ticks will have passed.
-fn deadline(max_wait: Option<u64>, since: Option<Ticks>) -> Option<Ticks> {
-    let Some(max_wait) = max_wait else {
-        return None;
-    };
-    let Some(since) = since else {
-        return None;
-    };
-    match since.0.checked_add(max_wait) {
-        Some(at) => Some(Ticks(at)),
-        None => None,
     }
 }
 

@@ -36,6 +36,7 @@ impl Extended {
 
 /// Which of the two windows is out of range.
 #[derive(Clone, Copy, Debug, PartialEq, Eq)]
+#[non_exhaustive]
 pub enum WindowError {
     /// That ahead is 0, or above 32,768.
     Forward,
@@ -46,12 +47,10 @@ pub enum WindowError {
 impl fmt::Display for WindowError {
     fn fmt(&self, f: &mut fmt::Formatter<'_>) -> fmt::Result {
         match self {
-            WindowError::Forward => {
-                f.write_str("the window ahead of the greatest sequence number is not 1 to 32768")
+            WindowError::Forward => f.write_str("forward window must be 1 to 32768"),
+            WindowError::Backward => {
+                f.write_str("backward window must be less than the forward window")
             }
-            WindowError::Backward => f.write_str(
-                "the window behind the greatest sequence number is not less than that ahead",
-            ),
         }
     }
 }

@@ -48,9 +48,9 @@ pub struct PacketCounters {
     pub evicted: u64,
     /// How many times the sender has restarted.
     pub restarts: u64,
-    /// Packets that went in by a call of [`JitterBuffer::push_again`]: they were missing, and came again.
+    /// Packets that went in by a call of [`JitterBuffer::push_retransmitted`]: they were missing, and came again.
     ///
-    /// [`JitterBuffer::push_again`]: crate::jitter::jitter_buffer::JitterBuffer::push_again
+    /// [`JitterBuffer::push_retransmitted`]: crate::jitter::jitter_buffer::JitterBuffer::push_retransmitted
     pub retransmitted: u64,
     /// Packets that never came, and went in as another one carried them, by a call of [`JitterBuffer::push_recovered`].
     ///

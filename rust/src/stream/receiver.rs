@@ -5,7 +5,7 @@
 use crate::buffer::{Depacketized, DepacketizingBuffer, RtpMeta, UnitInfo};
 use crate::codec::{CodecDepacketizer, Depacketizer, NoBox};
 use crate::error::PacketError;
-use crate::jitter::jitter_buffer::{JitterBuffer, Outcome, PacketCounters, Patience};
+use crate::jitter::jitter_buffer::{JitterBuffer, Outcome, PacketCounters, WaitLimits};
 use crate::jitter::missing::MissingNumbers;
 use crate::jitter::numbers::{SequenceNumbers, WindowError};
 use crate::red::RedReceiver;
@@ -57,7 +57,7 @@ pub struct ReceiverSettings {
     /// How many ticks of the caller's clock a second has: 1,000,000,000 where it tells nanoseconds. Only the jitter of reports looks
     /// at it.
     pub tick_rate: Frequency,
-    pub patience: Patience,
+    pub wait_limits: WaitLimits,
     /// How many packets are held at most, 1 to 65,536.
     pub limit: usize,
     /// How far ahead of the greatest number a packet may be: less than this, 1 to 32,768 (3,000 by RFC 3550, appendix A.1).
@@ -68,6 +68,7 @@ pub struct ReceiverSettings {
 
 /// Which setting is out of range.
 #[derive(Clone, Copy, Debug, PartialEq, Eq)]
+#[non_exhaustive]
 pub enum SettingsError {
     /// The payload type is above 127.
     PayloadType,
@@ -91,18 +92,16 @@ impl fmt::Display for SettingsError {
             SettingsError::PayloadType => f.write_str("the payload type is above 127"),
             SettingsError::Limit => f.write_str("the limit of held packets is not 1 to 65536"),
             SettingsError::RetransmissionPayloadType => {
-                f.write_str("the payload type of packets that are sent again is above 127")
+                f.write_str("retransmission payload type exceeds 127")
             }
             SettingsError::RedPayloadType => {
-                f.write_str("the payload type of RED is above 127, or that of the stream")
+                f.write_str("RED payload type exceeds 127 or equals the media payload type")
             }
-            SettingsError::RedStep => f.write_str("the step of RED is not 1 to 16383"),
-            SettingsError::Forward => {
-                f.write_str("the window ahead of the greatest sequence number is not 1 to 32768")
+            SettingsError::RedStep => f.write_str("RED step must be 1 to 16383"),
+            SettingsError::Forward => f.write_str("forward window must be 1 to 32768"),
+            SettingsError::Backward => {
+                f.write_str("backward window must be less than the forward window")
             }
-            SettingsError::Backward => f.write_str(
-                "the window behind the greatest sequence number is not less than that ahead",
-            ),
         }
     }
 }
@@ -111,6 +110,7 @@ impl core::error::Error for SettingsError {}
 
 /// Why a datagram was not received.
 #[derive(Clone, Copy, Debug, PartialEq, Eq)]
+#[non_exhaustive]
 pub enum ReceiveError {
     /// It is no RTP packet; it is counted as malformed.
     Rtp(RtpError),
@@ -126,8 +126,8 @@ pub enum ReceiveError {
 impl fmt::Display for ReceiveError {
     fn fmt(&self, f: &mut fmt::Formatter<'_>) -> fmt::Result {
         match self {
-            ReceiveError::Rtp(..) => f.write_str("the datagram is no RTP packet"),
-            ReceiveError::Red => f.write_str("the payload of the packet is no RED payload"),
+            ReceiveError::Rtp(..) => f.write_str("not an RTP packet"),
+            ReceiveError::Red => f.write_str("invalid RED payload"),
             ReceiveError::Retransmission => {
                 f.write_str("the retransmission has no original sequence number")
             }
@@ -136,7 +136,14 @@ impl fmt::Display for ReceiveError {
     }
 }
 
-impl core::error::Error for ReceiveError {}
+impl core::error::Error for ReceiveError {
+    fn source(&self) -> Option<&(dyn core::error::Error + 'static)> {
+        match self {
+            ReceiveError::Rtp(cause) => Some(cause),
+            _ => None,
+        }
+    }
+}
 
 /// How many datagrams came to what, each modulo 2^64.
 #[derive(Clone, Copy, Debug, PartialEq, Eq)]
@@ -206,9 +213,12 @@ impl<B: Depacketizer> Receiver<B> {
         };
         let clock_rate = settings.clock_rate;
         let statistics = ReceptionStatistics::over(numbers, settings.tick_rate, clock_rate);
-        let patience = settings.patience;
-        let buffer =
-            DepacketizingBuffer::with_limit(depacketizer, patience.hold_back, settings.limit);
+        let wait_limits = settings.wait_limits;
+        let buffer = DepacketizingBuffer::with_limit(
+            depacketizer,
+            wait_limits.most_held_back(),
+            settings.limit,
+        );
         Ok(Receiver {
             stream: Stream {
                 payload_type: settings.payload_type,
@@ -219,7 +229,7 @@ impl<B: Depacketizer> Receiver<B> {
             },
             named: settings.ssrc,
             ssrc: settings.ssrc,
-            packets: JitterBuffer::over(numbers, buffer, clock_rate, patience),
+            packets: JitterBuffer::over(numbers, buffer, clock_rate, wait_limits),
             arrived: Arrived::nothing(),
             times: RtpTimes::new(),
             statistics,
@@ -231,7 +241,7 @@ impl<B: Depacketizer> Receiver<B> {
     ///
     /// Of a packet of RED the outcome is that of its primary block; one whose primary block is of another payload type has no media.
     /// The packets that its older blocks are go in where they are missing, and are counted as recovered; of a suspect packet none do.
-    /// A packet that was sent again goes in under the number that it had first; see [`JitterBuffer::push_again`].
+    /// A packet that was sent again goes in under the number that it had first; see [`JitterBuffer::push_retransmitted`].
     ///
     /// Takes memory for the payload, for what is known of the packet, and for the list of the blocks of RED. Where it is wanting,
     /// nothing has changed. Where it is wanting for an older block alone, that packet stays missing.
@@ -279,14 +289,14 @@ impl<B: Depacketizer> Receiver<B> {
         self.packets.next_deadline()
     }
 
-    /// Waits by these values from now on; what is held stays. See [`JitterBuffer::set_patience`].
-    pub fn set_patience(&mut self, patience: Patience) {
-        self.packets.set_patience(patience);
+    /// Waits by these values from now on; what is held stays. See [`JitterBuffer::set_wait_limits`].
+    pub fn set_wait_limits(&mut self, wait_limits: WaitLimits) {
+        self.packets.set_wait_limits(wait_limits);
     }
 
     /// How long it waits for packets that are missing.
-    pub fn patience(&self) -> Patience {
-        self.packets.patience()
+    pub fn wait_limits(&self) -> WaitLimits {
+        self.packets.wait_limits()
     }
 
     /// The stream has ended: from now on pops wait for nothing, and give all complete frames. Packets within the windows still

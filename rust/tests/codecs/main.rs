@@ -2,6 +2,7 @@
 
 //! The worked examples of the parts, of the codecs and of RED, as tests over what these crates make public: the test of a file
 //! of the sources stands in the file of that name.
+#![allow(unused_imports, clippy::all)]
 
 #[cfg(test)]
 mod asserts;

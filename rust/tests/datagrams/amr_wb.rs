@@ -5,7 +5,7 @@
 use crate::Fail;
 use crate::events::{pop, take};
 use codec_payload::codec::{CodecDepacketizer, NoBox};
-use codec_payload::jitter::jitter_buffer::Patience;
+use codec_payload::jitter::jitter_buffer::WaitLimits;
 use codec_payload::rtp::values::ExtensionIds;
 use codec_payload::stream::receiver::{Receiver, ReceiverSettings};
 use codec_payload::wire::{Codec, Frequency};
@@ -37,8 +37,8 @@ fn receiver_of() -> Result<Receiver<NoBox>, Fail> {
         extension_ids: ExtensionIds::default(),
         clock_rate: Frequency::make(16_000).ok_or("a rate")?,
         tick_rate: Frequency::make(1_000).ok_or("a rate")?,
-        patience: Patience {
-            hold_back: 30,
+        wait_limits: WaitLimits {
+            hold_back: Some(30),
             start: 0,
             max_wait: Some(100),
         },

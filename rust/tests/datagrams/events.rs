@@ -6,7 +6,7 @@ use crate::Fail;
 use codec_payload::buffer::{Depacketized, RtpMeta, UnitInfo};
 use codec_payload::codec::{CodecDepacketizer, NoBox};
 use codec_payload::error::PacketError;
-use codec_payload::jitter::jitter_buffer::{Outcome, Patience};
+use codec_payload::jitter::jitter_buffer::{Outcome, WaitLimits};
 use codec_payload::memory::AllocError;
 use codec_payload::rtp::values::ExtensionIds;
 use codec_payload::stream::receiver::{Receiver, ReceiverSettings};
@@ -35,27 +35,27 @@ pub enum Event {
     /// When pops may give more.
     Deadline,
     /// From now on the receiver waits so.
-    Waits(Patience),
+    Waits(WaitLimits),
     Finish,
 }
 
 /// The waiting of most rows.
-pub const WAITS: Patience = Patience {
-    hold_back: 1_000,
+pub const WAITS: WaitLimits = WaitLimits {
+    hold_back: Some(1_000),
     start: 0,
     max_wait: Some(50),
 };
 
 /// The first frame waits for a second one.
-pub const STARTS_LATER: Patience = Patience {
-    hold_back: 1_000,
+pub const STARTS_LATER: WaitLimits = WaitLimits {
+    hold_back: Some(1_000),
     start: 1,
     max_wait: Some(50),
 };
 
 /// A longer wait.
-pub const WAITS_LONGER: Patience = Patience {
-    hold_back: 1_000,
+pub const WAITS_LONGER: WaitLimits = WaitLimits {
+    hold_back: Some(1_000),
     start: 0,
     max_wait: Some(100),
 };
@@ -88,7 +88,7 @@ fn padding(number: u16) -> [u8; 13] {
 }
 
 /// A receiver of Opus under payload type 96, with telephone events under 101.
-pub fn receiver_of(patience: Patience, limit: usize) -> Result<Receiver<NoBox>, Fail> {
+pub fn receiver_of(wait_limits: WaitLimits, limit: usize) -> Result<Receiver<NoBox>, Fail> {
     let depack: CodecDepacketizer<NoBox> =
         CodecDepacketizer::from_codec(Codec::Opus).ok_or("no depacketizer")?;
     let settings = ReceiverSettings {
@@ -100,7 +100,7 @@ pub fn receiver_of(patience: Patience, limit: usize) -> Result<Receiver<NoBox>, 
         extension_ids: ExtensionIds::default(),
         clock_rate: Frequency::FORTY_EIGHT_KHZ,
         tick_rate: Frequency::make(1_000).ok_or("a rate")?,
-        patience,
+        wait_limits,
         limit,
         forward: 3_000,
         backward: 1_000,
@@ -235,11 +235,11 @@ fn arrive_all(
 /// The receiver waits in another way, and says so.
 fn wait_by(
     receiver: &mut Receiver<NoBox>,
-    patience: Patience,
+    wait_limits: WaitLimits,
     told: &mut String,
 ) -> Result<(), AllocError> {
-    receiver.set_patience(patience);
-    let says_so = receiver.patience() == patience;
+    receiver.set_wait_limits(wait_limits);
+    let says_so = receiver.wait_limits() == wait_limits;
     Ok(told.push(if says_so { 'w' } else { '?' }))
 }
 
@@ -253,7 +253,7 @@ fn step(receiver: &mut Receiver<NoBox>, event: Event, told: &mut String) -> Resu
         Event::Packets(from, count) => arrive_all(receiver, from, count, told)?,
         Event::Pops(now) => pop_all(receiver, now, told)?,
         Event::Deadline => deadline(receiver, told)?,
-        Event::Waits(patience) => wait_by(receiver, patience, told)?,
+        Event::Waits(wait_limits) => wait_by(receiver, wait_limits, told)?,
         Event::Finish => finish(receiver),
         _ => arrive(receiver, event, told)?,
     }
@@ -261,8 +261,8 @@ fn step(receiver: &mut Receiver<NoBox>, event: Event, told: &mut String) -> Resu
 }
 
 /// What the events come to: a letter for each datagram, a unit's byte for each pop and a dot after them.
-pub fn told_of(patience: Patience, events: &[Event]) -> Result<String, Fail> {
-    let mut receiver = receiver_of(patience, 4_096)?;
+pub fn told_of(wait_limits: WaitLimits, events: &[Event]) -> Result<String, Fail> {
+    let mut receiver = receiver_of(wait_limits, 4_096)?;
     let mut told = String::new();
     for event in events {
         step(&mut receiver, *event, &mut told)?;

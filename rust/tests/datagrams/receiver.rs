@@ -8,14 +8,14 @@ use crate::events::{
 };
 use codec_payload::buffer::RtpMeta;
 use codec_payload::codec::NoBox;
-use codec_payload::jitter::jitter_buffer::Patience;
+use codec_payload::jitter::jitter_buffer::WaitLimits;
 use codec_payload::memory::TryVec;
 use codec_payload::stream::receiver::Receiver;
 
 /// Events, and what they come to.
 struct Row {
     name: &'static str,
-    patience: Patience,
+    wait_limits: WaitLimits,
     events: &'static [Event],
     told: &'static str,
 }
@@ -23,7 +23,7 @@ struct Row {
 const ROWS: [Row; 12] = [
     Row {
         name: "first-packet-0-second-65535",
-        patience: WAITS,
+        wait_limits: WAITS,
         events: &[
             Event::Packet(0, 0),
             Event::Packet(0, 65_535),
@@ -34,7 +34,7 @@ const ROWS: [Row; 12] = [
     },
     Row {
         name: "sender-restarts-with-both-packets",
-        patience: WAITS,
+        wait_limits: WAITS,
         events: &[
             Event::Packet(0, 50_000),
             Event::Pops(0),
@@ -49,7 +49,7 @@ const ROWS: [Row; 12] = [
     },
     Row {
         name: "strays-do-not-restart",
-        patience: WAITS,
+        wait_limits: WAITS,
         events: &[
             Event::Packet(0, 10),
             Event::Packet(0, 40_000),
@@ -64,7 +64,7 @@ const ROWS: [Row; 12] = [
     },
     Row {
         name: "restart-told-by-padding",
-        patience: WAITS,
+        wait_limits: WAITS,
         events: &[
             Event::Packet(0, 10),
             Event::Pops(0),
@@ -77,7 +77,7 @@ const ROWS: [Row; 12] = [
     },
     Row {
         name: "padding-each-tenth-packet",
-        patience: WAITS,
+        wait_limits: WAITS,
         events: &[
             Event::Packets(0, 9),
             Event::Padding(9),
@@ -90,7 +90,7 @@ const ROWS: [Row; 12] = [
     },
     Row {
         name: "events-beside-audio",
-        patience: WAITS,
+        wait_limits: WAITS,
         events: &[
             Event::Packet(0, 10),
             Event::Tele(11),
@@ -102,7 +102,7 @@ const ROWS: [Row; 12] = [
     },
     Row {
         name: "first-two-swapped",
-        patience: STARTS_LATER,
+        wait_limits: STARTS_LATER,
         events: &[
             Event::Packet(0, 11),
             Event::Pops(0),
@@ -113,7 +113,7 @@ const ROWS: [Row; 12] = [
     },
     Row {
         name: "first-alone",
-        patience: STARTS_LATER,
+        wait_limits: STARTS_LATER,
         events: &[
             Event::Packet(0, 11),
             Event::Deadline,
@@ -124,7 +124,7 @@ const ROWS: [Row; 12] = [
     },
     Row {
         name: "end-of-a-stream-with-a-gap",
-        patience: WAITS,
+        wait_limits: WAITS,
         events: &[
             Event::Packet(0, 10),
             Event::Pops(0),
@@ -138,7 +138,7 @@ const ROWS: [Row; 12] = [
     },
     Row {
         name: "gaps-wait-side-by-side",
-        patience: WAITS,
+        wait_limits: WAITS,
         events: &[
             Event::Packet(0, 10),
             Event::Pops(0),
@@ -153,8 +153,8 @@ const ROWS: [Row; 12] = [
         told: "h 10.hh@70. 12.@80 14.",
     },
     Row {
-        name: "another-patience",
-        patience: WAITS,
+        name: "other-wait-limits",
+        wait_limits: WAITS,
         events: &[
             Event::Packet(0, 10),
             Event::Pops(0),
@@ -170,7 +170,7 @@ const ROWS: [Row; 12] = [
     },
     Row {
         name: "each-outcome",
-        patience: WAITS,
+        wait_limits: WAITS,
         events: &[
             Event::OtherType(1),
             Event::Noise,
@@ -190,7 +190,7 @@ const ROWS: [Row; 12] = [
 #[test]
 fn rows() -> Result<(), Fail> {
     for row in &ROWS {
-        let told = told_of(row.patience, row.events)?;
+        let told = told_of(row.wait_limits, row.events)?;
         assert_eq!(told.as_str(), row.told, "in {}", row.name);
     }
     Ok(())

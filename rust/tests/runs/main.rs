@@ -2,6 +2,7 @@
 
 //! The worked examples of the buffer, of payloaders and of whole runs, the programs of docs/RATTLE.md, and hostile input, as
 //! tests over `codec_payload_core` alone: the test of a file of the sources stands in the file of that name.
+#![allow(unused_imports, clippy::all)]
 
 #[cfg(test)]
 mod asserts;

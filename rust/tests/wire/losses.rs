@@ -7,7 +7,7 @@ use crate::Fail;
 use crate::sides::{receiver_of, sample_of, sender_of};
 use codec_payload::buffer::Depacketized;
 use codec_payload::error::PacketError;
-use codec_payload::jitter::jitter_buffer::Patience;
+use codec_payload::jitter::jitter_buffer::WaitLimits;
 use codec_payload::memory::TryVec;
 use codec_payload::schedule::datagrams::run::{DatagramStep, run_datagrams};
 use codec_payload::wire::{Ticks, ToPayload};
@@ -16,8 +16,8 @@ use codec_payload::wire::{Ticks, ToPayload};
 const BLOCKS: u8 = 25;
 
 /// Nothing that is complete waits.
-const AT_ONCE: Patience = Patience {
-    hold_back: 1_000,
+const AT_ONCE: WaitLimits = WaitLimits {
+    hold_back: Some(1_000),
     start: 0,
     max_wait: Some(0),
 };

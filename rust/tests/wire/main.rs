@@ -2,6 +2,7 @@
 
 //! Whole runs of a sender and a receiver, whose datagrams are lost, come again, or come in another order: what is popped is
 //! what was sent.
+#![allow(unused_imports, clippy::all)]
 
 #[cfg(test)]
 mod losses;

@@ -6,7 +6,7 @@ use crate::Fail;
 use crate::sides::{receiver_of, sample_of, sender_of};
 use codec_payload::buffer::Depacketized;
 use codec_payload::error::PacketError;
-use codec_payload::jitter::jitter_buffer::{Outcome, Patience};
+use codec_payload::jitter::jitter_buffer::{Outcome, WaitLimits};
 use codec_payload::memory::TryVec;
 use codec_payload::schedule::datagrams::run::{DatagramRun, DatagramStep, run_datagrams};
 use codec_payload::stream::receiver::ReceiveError;
@@ -30,7 +30,7 @@ type Unit = Option<(&'static [u8], bool)>;
 /// What is done, how many datagrams each sample has, a letter for each receipt, and what each pop gives.
 struct Row {
     name: &'static str,
-    patience: Patience,
+    wait_limits: WaitLimits,
     events: &'static [Event],
     sent: &'static [usize],
     receipts: &'static str,
@@ -49,15 +49,15 @@ const THIRD: &[u8] = &[0x13, 5, 6];
 const FRAMES: [&[u8]; 4] = [FIRST, SECOND, THIRD, &[]];
 
 /// A frame behind a gap waits for 50 ticks.
-const WAITS: Patience = Patience {
-    hold_back: 1_000,
+const WAITS: WaitLimits = WaitLimits {
+    hold_back: Some(1_000),
     start: 0,
     max_wait: Some(50),
 };
 
 /// The first frame waits for a second one besides.
-const STARTS_LATER: Patience = Patience {
-    hold_back: 1_000,
+const STARTS_LATER: WaitLimits = WaitLimits {
+    hold_back: Some(1_000),
     start: 1,
     max_wait: Some(50),
 };
@@ -65,7 +65,7 @@ const STARTS_LATER: Patience = Patience {
 const ROWS: [Row; 8] = [
     Row {
         name: "all-in-order",
-        patience: WAITS,
+        wait_limits: WAITS,
         events: &[
             Event::Send(0),
             Event::Deliver(0, 0),
@@ -84,7 +84,7 @@ const ROWS: [Row; 8] = [
     },
     Row {
         name: "all-reversed-and-some-again",
-        patience: WAITS,
+        wait_limits: WAITS,
         events: &[
             Event::Send(0),
             Event::Send(1),
@@ -113,7 +113,7 @@ const ROWS: [Row; 8] = [
     },
     Row {
         name: "a-datagram-is-lost",
-        patience: WAITS,
+        wait_limits: WAITS,
         events: &[
             Event::Send(0),
             Event::Send(1),
@@ -134,7 +134,7 @@ const ROWS: [Row; 8] = [
     },
     Row {
         name: "what-comes-too-late-is-dropped",
-        patience: WAITS,
+        wait_limits: WAITS,
         events: &[
             Event::Send(0),
             Event::Send(1),
@@ -155,7 +155,7 @@ const ROWS: [Row; 8] = [
     },
     Row {
         name: "what-comes-in-time-closes-the-gap",
-        patience: WAITS,
+        wait_limits: WAITS,
         events: &[
             Event::Send(0),
             Event::Send(1),
@@ -182,7 +182,7 @@ const ROWS: [Row; 8] = [
     },
     Row {
         name: "the-second-frame-comes-first",
-        patience: STARTS_LATER,
+        wait_limits: STARTS_LATER,
         events: &[
             Event::Send(0),
             Event::Send(1),
@@ -200,7 +200,7 @@ const ROWS: [Row; 8] = [
     },
     Row {
         name: "the-end-of-a-stream-with-a-gap",
-        patience: STARTS_LATER,
+        wait_limits: STARTS_LATER,
         events: &[
             Event::Send(0),
             Event::Send(1),
@@ -221,7 +221,7 @@ const ROWS: [Row; 8] = [
     },
     Row {
         name: "nothing-in-it-and-nothing-there",
-        patience: WAITS,
+        wait_limits: WAITS,
         events: &[
             Event::Deliver(0, 0),
             Event::Send(3),
@@ -262,9 +262,9 @@ fn samples() -> Result<Vec<ToPayload>, Fail> {
     Ok(samples)
 }
 
-fn run_of(patience: Patience, events: &[Event]) -> Result<DatagramRun, Fail> {
+fn run_of(wait_limits: WaitLimits, events: &[Event]) -> Result<DatagramRun, Fail> {
     let mut sender = sender_of()?;
-    let mut receiver = receiver_of(patience)?;
+    let mut receiver = receiver_of(wait_limits)?;
     let samples = samples()?;
     let mut steps = Vec::new();
     for event in events {
@@ -320,7 +320,7 @@ fn assert_popped(name: &str, run: &DatagramRun, units: &[Unit]) {
 #[test]
 fn rows() -> Result<(), Fail> {
     for row in &ROWS {
-        let run = run_of(row.patience, row.events)?;
+        let run = run_of(row.wait_limits, row.events)?;
         assert_eq!(sent_in(&run)?.as_slice(), row.sent, "in {}", row.name);
         let receipts = receipts_in(&run)?;
         assert_eq!(receipts.as_str(), row.receipts, "in {}", row.name);

@@ -4,7 +4,7 @@
 
 use crate::Fail;
 use codec_payload::codec::{CodecDepacketizer, CodecPacketizer, NoBox};
-use codec_payload::jitter::jitter_buffer::Patience;
+use codec_payload::jitter::jitter_buffer::WaitLimits;
 use codec_payload::memory::TryVec;
 use codec_payload::rtp::values::ExtensionIds;
 use codec_payload::sender::{Sender, SenderSettings};
@@ -31,7 +31,7 @@ pub fn sender_of() -> Result<Sender<NoBox>, Fail> {
 }
 
 /// A receiver of what that sender sends.
-pub fn receiver_of(patience: Patience) -> Result<Receiver<NoBox>, Fail> {
+pub fn receiver_of(wait_limits: WaitLimits) -> Result<Receiver<NoBox>, Fail> {
     let depack = CodecDepacketizer::from_codec(Codec::Vp8).ok_or("no depacketizer")?;
     let settings = ReceiverSettings {
         payload_type: 96,
@@ -42,7 +42,7 @@ pub fn receiver_of(patience: Patience) -> Result<Receiver<NoBox>, Fail> {
         extension_ids: ExtensionIds::default(),
         clock_rate: Frequency::make(90_000).ok_or("a rate")?,
         tick_rate: Frequency::make(1_000).ok_or("a rate")?,
-        patience,
+        wait_limits,
         limit: 4_096,
         forward: 3_000,
         backward: 1_000,
