@@ -191,6 +191,8 @@ pub trait TryQueue<T> {
     fn try_insert(&mut self, place: usize, value: T) -> Result<(), AllocError>;
     /// Makes room for at least `count` more items.
     fn try_room(&mut self, count: usize) -> Result<(), AllocError>;
+    /// Gives memory back, down to room for `count` items, if that needs no memory that is refused.
+    fn shrink_if_possible(&mut self, count: usize);
 }
 
 impl<T> TryQueue<T> for VecDeque<T> {
@@ -213,6 +215,18 @@ impl<T> TryQueue<T> for VecDeque<T> {
         room!(self, 1);
         self.insert(place, value);
         Ok(())
+    }
+
+    fn shrink_if_possible(&mut self, count: usize) {
+        if cfg!(not(feature = "fallible")) {
+            self.shrink_to(count);
+            return;
+        }
+        let mut smaller = VecDeque::new();
+        if smaller.try_reserve_exact(count.max(self.len())).is_ok() {
+            smaller.append(self);
+            *self = smaller;
+        }
     }
 
     #[inline]

@@ -163,7 +163,7 @@ const KEPT_ENTRIES: usize = 64;
 /// that moves entries comes after at least as many that left. Where no smaller memory is found, the queue keeps its own.
 pub(super) fn give_back<T>(queue: &mut VecDeque<T>) {
     if queue.capacity() > KEPT_ENTRIES && queue.len() <= queue.capacity() / 4 {
-        queue.shrink_to((2 * queue.len()).max(KEPT_ENTRIES));
+        queue.shrink_if_possible((2 * queue.len()).max(KEPT_ENTRIES));
     }
 }
 
