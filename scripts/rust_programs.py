@@ -2,17 +2,20 @@
 """Compares the erased programs with the proved ones: payload_vectors and payload_datagrams as plain Rust over rust/.
 
   scripts/rust_programs.py [COUNT]
+  scripts/rust_programs.py --try COUNT
 
 The erased programs answer the stored input of each crate and every test vector of program_rows.py and datagram_rows.py with the
 expected output, status and message. If the proved programs are built (crates/*/out), COUNT random scripts, 10,000 by default, go
-to both, and each pair of answers is the same, byte for byte. Otherwise the script says so. The random numbers are the same in
-each run.
+to both, and each pair of answers is the same, byte for byte. Otherwise the script says so. With `--try`, `rt try` runs the sources
+of the programs without their proof instead, and outputs and statuses are compared. The random numbers are the same in each run.
 
-Needs cargo and Python 3. The last line says what passed; the status is 0 if all did.
+Needs cargo and Python 3; rt for `--try`. The last line says what passed; the status is 0 if all did.
 """
 import os
+import re
 import subprocess
 import sys
+import tempfile
 from concurrent.futures import ThreadPoolExecutor
 
 ROOT = os.path.dirname(os.path.dirname(os.path.realpath(__file__)))
@@ -116,22 +119,42 @@ def datagram_script(seed):
     return "\n".join([*lines, "finish", *[f"pop {now}"] * 12, "counters"]) + "\n"
 
 
+MAKERS = {"payload_vectors": inputs.generated, "payload_datagrams": datagram_script}
+
+
 def random_scripts(programs, count):
     """Name, wanted and found answer of each random script, with the proved programs as the model."""
-    made = [("payload_vectors", inputs.generated), ("payload_datagrams", datagram_script)]
-    proved = {name: f"{ROOT}/crates/{name}/out/{name}" for name, _ in made}
-    there = [(name, make) for name, make in made if os.path.exists(proved[name])]
+    proved = {name: f"{ROOT}/crates/{name}/out/{name}" for name in MAKERS}
 
     def both(item):
         name, script, seed = item
         return f"{name}: seed {seed}", answer(proved[name], script), answer(programs[name], script)
 
+    tasks = [(name, make(seed), seed) for name, make in MAKERS.items() if os.path.exists(proved[name]) for seed in range(count // 2)]
     with ThreadPoolExecutor(os.cpu_count()) as pool:
-        tasks = [(name, make(seed), seed) for name, make in there for seed in range(count // 2)]
         yield from pool.map(both, tasks)
 
 
+def tried_scripts(programs, count):
+    """The same, with `rt try` as the model, which shows output and messages as one."""
+    for name, make in MAKERS.items():
+        with tempfile.TemporaryDirectory() as folder:
+            for seed in range(count // 2):
+                with open(f"{folder}/{seed:06}", "w", encoding="utf-8") as it:
+                    it.write(make(seed))
+            ran = subprocess.run(["rt", "try", "--cases", folder], cwd=f"{ROOT}/crates/{name}", stdout=subprocess.PIPE,
+                                 stderr=subprocess.STDOUT, check=False)
+            cases = re.split(rb"^case=(\d+) run=ended status=(\d+)[^\n]*\n", ran.stdout, flags=re.M)
+            for output, seed, status in zip(cases[0::3], cases[1::3], cases[2::3]):
+                found = answer(programs[name], make(int(seed)))
+                # `rt try` writes the name of each case in front of its output.
+                wanted = re.sub(rb"\A.*?== \d+\n", b"", output, flags=re.S), int(status)
+                yield f"{name}: seed {int(seed)}", wanted, (found[0] + found[2], found[1])
+
+
 def main(words):
+    is_tried = words[:1] == ["--try"]
+    words = words[1:] if is_tried else words
     count = int(words[0]) if words else 10_000
     programs = build()
     asked = differ = random = 0
@@ -140,12 +163,13 @@ def main(words):
         if wanted != found:
             differ += 1
             print(f"{name}: {[part[:200] if isinstance(part, bytes) else part for part in found]}")
-    for name, wanted, found in random_scripts(programs, count):
+    for name, wanted, found in (tried_scripts if is_tried else random_scripts)(programs, count):
         random += 1
         if wanted != found:
             differ += 1
-            print(f"{name}: {found[0][-200:]} instead of {wanted[0][-200:]}")
-    compared = f"{random} random scripts as the proved programs" if random else "the proved programs are not built, so no random scripts"
+            if differ < 10:
+                print(f"{name}: {found[0][-200:]} instead of {wanted[0][-200:]}")
+    compared = f"{random} random scripts as the {'sources in rt try' if is_tried else 'proved programs'}" if random else "the proved programs are not built, so no random scripts"
     print(f"erased programs: {asked} test vectors, {compared}, {differ} differ")
     return 1 if differ else 0
 
