@@ -9,9 +9,8 @@
 #   without `std`.
 # - The eraser refuses each plant of tools/eraser/plants.py.
 # - The package builds by itself, and each example ends well.
-# - The erased programs answer what the proved programs answer (scripts/rust_programs.py).
-# - With Debian's librust-*-dev packages: rust-extras/test.sh. With clang's libFuzzer: scripts/fuzz.sh, for two seconds a target.
-# - With bindings/out/libcodec_payload.a: tools/twin, which calls the proved library and this crate side by side.
+# - The erased programs answer each test vector of the proved programs (scripts/rust_programs.py 0; scripts/test.sh compares random
+#   scripts once the programs are proved).
 #
 # The last line says what passed; the status is 0 if all did.
 set -eu
@@ -44,7 +43,7 @@ RUSTDOCFLAGS="-D warnings" step cargo doc --quiet --no-deps
 for example in examples/*.rs; do
     step cargo run --quiet --example "$(basename "$example" .rs)"
 done
-step "$root/scripts/rust_programs.py"
+step "$root/scripts/rust_programs.py" 0
 programs=$(tail -n 1 "$work/log")
 if [ "${1:-}" != quick ]; then
     step cargo package --quiet --allow-dirty

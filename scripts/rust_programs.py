@@ -169,7 +169,8 @@ def main(words):
             differ += 1
             if differ < 10:
                 print(f"{name}: {found[0][-200:]} instead of {wanted[0][-200:]}")
-    compared = f"{random} random scripts as the {'sources in rt try' if is_tried else 'proved programs'}" if random else "the proved programs are not built, so no random scripts"
+    model = "rt try" if is_tried else "the proved programs"
+    compared = f"{random} random scripts beside {model}" if random or not count else f"{model} not built, so no random scripts"
     print(f"erased programs: {asked} test vectors, {compared}, {differ} differ")
     return 1 if differ else 0
 
