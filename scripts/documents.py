@@ -12,14 +12,14 @@ README.md is one of docs/PERFORMANCE.md; each picture is shown by a page, is lig
 names each law of the ported crates. Each block of code has a language, by which it is tested:
 
   c        compiled, and linked and run where the library is built (scripts/faces.sh library)
-  rust     checked by cargo, and run where the library is built
+  rust     built by cargo over rust/, and run
   rattle   stands, word for word, in a crate that the gate proves
   antt     stands, word for word, in the definitions of a crate
   text     is an input or an output of a program, which its own tests run; or a picture of names that stand in the sources;
            or lines of fields, whose bits are whole bytes
   sh       each command is run here, or by the script of scripts/test.sh that is listed below beside it
 
-Needs a C compiler, $CC or cc; cargo of 1.85 or later for what is Rust; rt for how a crate is begun. The last line says what
+Needs a C compiler, $CC or cc; cargo of 1.88 or later for what is Rust; rt for how a crate is begun. The last line says what
 passed; the status is 0 where all did.
 """
 import glob
@@ -51,7 +51,7 @@ RUN_ELSEWHERE = {
     "rt run": ("scripts/process.py", '["rt", "run"]'),
     "rt check": ("scripts/wrong_bodies.py", '"rt", "check"'),
     "rt new": ("scripts/documents.py", "begun_crate"),
-    "rm -r crates/mine/": ("scripts/documents.py", "begun_crate"),
+    "rm -rf crates/mine/": ("scripts/documents.py", "begun_crate"),
     'echo "mine: codec_payload_core"': ("scripts/documents.py", "begun_crate"),
     "cp examples/first.rattle": ("scripts/documents.py", "begun_crate"),
     "rt fmt": ("scripts/documents.py", "rt fmt"),
@@ -67,8 +67,7 @@ RUN_ELSEWHERE = {
     "scripts/examples.py": ("scripts/test.sh", "runs scripts/examples.py"),
     "cc -Iinclude examples/": ("scripts/examples.py", "examples/{name}.c"),
     "bindings/out/gateway": ("scripts/examples.py", 'programs["gateway", language]'),
-    "CODEC_PAYLOAD_DIR=$PWD/out cargo run --offline --example": ("scripts/examples.py", '"--example", name'),
-    "cd bindings": ("scripts/examples.py", 'cwd=f"{ROOT}/bindings"'),
+    "cd rust": ("scripts/rust.sh", 'cd "$root/rust"'),
     "scripts/pictures.py": ("scripts/documents.py", "scripts/pictures.py"),
     "make install": ("scripts/install_test.sh", "install PREFIX="),
     "make man": ("scripts/install_test.sh", "doxygen"),
@@ -77,12 +76,14 @@ RUN_ELSEWHERE = {
     "make -C tools/rtp_record": ("tools/rtp_record/test.sh", "make -s all"),
     "make": ("tools/rtp_record/test.sh", "make -s all"),
     "cc program.c": ("scripts/install_test.sh", "pkg-config --cflags codec-payload"),
-    "export CODEC_PAYLOAD_DIR": ("scripts/faces.sh", "export CODEC_PAYLOAD_DIR"),
-    "cd bindings/rust": ("scripts/faces.sh", "cargo test --offline"),
-    "cargo test": ("scripts/faces.sh", "cargo test --offline"),
-    "cargo run": ("scripts/faces.sh", "cargo run --offline"),
+    "cargo test": ("scripts/rust.sh", "cargo test --quiet"),
+    "cargo run --example": ("scripts/rust.sh", "cargo run --quiet --example"),
+    "cargo run": ("scripts/documents.py", '"cargo", "run"'),
     "cargo add --path": ("scripts/documents.py", '"cargo", "add"'),
-    "CODEC_PAYLOAD_DIR=../codec-payload-core/bindings/out cargo run": ("scripts/documents.py", '"cargo", "run" if built'),
+    "scripts/rust.sh": ("scripts/test.sh", "runs scripts/rust.sh"),
+    "scripts/rust_programs.py": ("scripts/rust.sh", "scripts/rust_programs.py"),
+    "tools/eraser/erase.py": ("scripts/rust.sh", "tools/eraser/erase.py"),
+    "tools/eraser/plants.py": ("scripts/rust.sh", "tools/eraser/plants.py"),
     "tools/rtp_record/install.sh": ("scripts/test.sh", "tools/rtp_record/install.sh"),
     "tools/rtp_record/rtp_record": ("scripts/test.sh", "runs tools/rtp_record/test.sh"),
     "./install.sh": ("scripts/test.sh", "tools/rtp_record/install.sh"),
@@ -211,10 +212,9 @@ def toolchain():
 def versions():
     header = dict(re.findall(r"^#define CPAY_VERSION_(MAJOR|MINOR|PATCH) (\d+)$", read("include/codec_payload.h"), re.M))
     version = ".".join(header[it] for it in ("MAJOR", "MINOR", "PATCH"))
-    for path in ("bindings/Cargo.toml", "bindings/rust/Cargo.toml", "bindings/rust-sys/Cargo.toml"):
-        for found in re.findall(r'(?<![\w-])version = "([^"]*)"', read(path)):
-            if found != version:
-                yield f"{path}: version {found}, and the header has {version}"
+    for found in re.findall(r'^version = "([^"]*)"', read("rust/Cargo.toml"), re.M):
+        if found != version:
+            yield f"rust/Cargo.toml: version {found}, and the header has {version}"
     releases = re.findall(r"^## (\d+\.\d+\.\d+)", read("CHANGELOG.md"), re.M)
     if version not in releases:
         yield f"CHANGELOG.md has no {version}, which is the version of the header"
@@ -275,19 +275,17 @@ def checked_rust(block, work):
     lines_of_it = [re.sub(r"^# ?(?!\[)", "", it) for it in block.text.split("\n")]
     whole = "\n".join(lines_of_it)
     if "fn main()" not in whole:
-        whole = whole.replace("Ok::<(), codec_payload::Error>(())", "Ok(())")
-        whole = f"fn main() -> Result<(), codec_payload::Error> {{\n{whole}}}\n"
+        whole = f"fn main() -> Result<(), Box<dyn std::error::Error>> {{\n{whole}\nOk(())\n}}\n"
     os.makedirs(f"{work}/page/src", exist_ok=True)
     with open(f"{work}/page/src/main.rs", "w", encoding="utf-8") as it:
         it.write(whole)
     with open(f"{work}/page/Cargo.toml", "w", encoding="utf-8") as it:
         it.write('[package]\nname = "page"\nversion = "0.0.0"\nedition = "2024"\n')
-    said = ran(["cargo", "add", "--offline", "--quiet", "--path", f"{ROOT}/bindings/rust"], cwd=f"{work}/page")
+    said = ran(["cargo", "add", "--offline", "--quiet", "--path", f"{ROOT}/rust"], cwd=f"{work}/page")
     if said:
         return said
-    built = os.path.exists(f"{LIBRARY}/libcodec_payload.a")
-    named = {**os.environ, "CARGO_TARGET_DIR": f"{work}/target", **({"CODEC_PAYLOAD_DIR": LIBRARY} if built else {})}
-    return ran(["cargo", "run" if built else "check", "--offline", "--quiet"], cwd=f"{work}/page", env=named)
+    named = {**os.environ, "CARGO_TARGET_DIR": f"{work}/target"}
+    return ran(["cargo", "run", "--offline", "--quiet"], cwd=f"{work}/page", env=named)
 
 
 def stands_in(block, paths):

@@ -1,12 +1,12 @@
 #!/usr/bin/env python3
-"""Builds and runs the examples for C and Rust over the library, and compares what comes of them.
+"""Builds and runs the examples for C over the library and for Rust over rust/, and compares what comes of them.
 
 The gateways fail by themselves unless exactly the frames come that some datagram carried, and print the same in both languages.
 The recorders write the VP8 capture of tools/rtp_record under each condition of its tests, and what they write are the encoder's
-frames, by their MD5s: those of which every packet came. The streams over UDP are run by scripts/faces.sh, the examples for
-Rattle by rt ci.
+frames, by their MD5s: those of which every packet came. The stream over UDP in C is run by scripts/faces.sh, all examples for
+Rust by scripts/rust.sh, and the examples for Rattle by rt ci.
 
-Needs the library as scripts/faces.sh library builds it, a C compiler with sanitizers, $CC or cc, and cargo of 1.85 or later.
+Needs the library as scripts/faces.sh library builds it, a C compiler with sanitizers, $CC or cc, and cargo of 1.88 or later.
 The last line says what passed; the status is 0 where all did.
 """
 import hashlib
@@ -39,8 +39,8 @@ def built(folder):
         programs[name, "C"] = f"{folder}/{name}"
         subprocess.run([os.environ.get("CC", "cc"), *C_FLAGS, f"-I{ROOT}/include", f"{ROOT}/examples/{name}.c",
                         f"{OUT}/libcodec_payload.a", "-o", programs[name, "C"]], check=True)
-        subprocess.run(["cargo", "build", "--offline", "--quiet", "--example", name], cwd=f"{ROOT}/bindings",
-                       env={**os.environ, "CODEC_PAYLOAD_DIR": OUT, "CARGO_TARGET_DIR": f"{folder}/target"}, check=True)
+        subprocess.run(["cargo", "build", "--offline", "--quiet", "--example", name], cwd=f"{ROOT}/rust",
+                       env={**os.environ, "CARGO_TARGET_DIR": f"{folder}/target"}, check=True)
         programs[name, "Rust"] = f"{folder}/target/debug/examples/{name}"
     return programs
 

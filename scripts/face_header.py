@@ -1,11 +1,10 @@
 #!/usr/bin/env python3
-"""Compares the header, include/codec_payload.h with codec_payload_media.h, and bindings/rust, with the exports of codec_payload_c.
+"""Compares the header, include/codec_payload.h with codec_payload_media.h, with the exports of codec_payload_c.
 
 The header is written by hand. This reads both and compares every function: its name, its answer, and of each parameter
 the name and the type; every struct that crosses: its fields in order with their types; and the numbers of the statuses and of
-the codecs. A handle of the library is in C a struct of its kind, so that the compiler tells one kind from another. Of
-bindings/rust-sys/src/lib.rs it compares the same functions and structs. The example in the header, and in docs/C.md, is
-the text of bindings/c/example.c. The last line says how many functions and structs are the same; the status is 0 where all are.
+the codecs. A handle of the library is in C a struct of its kind, so that the compiler tells one kind from another. The
+example in the header, and in docs/C.md, is the text of bindings/c/example.c. The last line says how many functions and structs are the same; the status is 0 where all are.
 
 bindings/c/calls.c, which lets NULL go with a length of 0, is what `face_header.py --calls` prints, and that is compared too.
 """
@@ -152,32 +151,6 @@ def plain(functions, structs):
     return plain_functions, {name: fields for name, fields in structs.items() if name not in KINDS}
 
 
-def raw_rust():
-    """The same of the Rust crate's declarations, with its types as C has them."""
-    text = re.sub(r"//[^\n]*", "", read("bindings/rust-sys/src/lib.rs"))
-
-    def named(kind):
-        pointer = re.fullmatch(r"\*(const|mut) (.*)", kind.strip())
-        if kind.strip() == "*mut c_void":
-            return "void *"
-        if pointer:
-            return ("const " if pointer[1] == "const" else "") + named(pointer[2]) + " *"
-        return NUMBERS.get(kind.strip()) or c_name(kind.strip())
-
-    functions, structs = {}, {}
-    for found in re.finditer(r"fn (cpay_\w+)\((.*?)\)\s*(?:-> (\w+))?;", text, re.S):
-        params = [it.split(":", 1) for it in split(found[2])]
-        functions[found[1]] = (named(found[3]) if found[3] else "void", [(named(kind), name.strip()) for name, kind in params])
-    for found in re.finditer(r"#\[repr\(C\)\]\s*(?:#\[[^\n]*\]\s*)*pub(?:\(crate\))? struct (\w+) \{(.*?)\n\}", text, re.S):
-        fields = []
-        for field in split(found[2]):
-            name, kind = re.sub(r"^pub(\(crate\))? ", "", field).split(":", 1)
-            array = re.fullmatch(r"\[(\w+); (\d+)\]", kind.strip())
-            fields.append((named(array[1]), f"{name.strip()}[{array[2]}]") if array else (named(kind), name.strip()))
-        structs[c_name(found[1])] = fields
-    return functions, structs
-
-
 def differences(what, wanted, found):
     for name in sorted({*wanted, *found}):
         if wanted.get(name) != found.get(name):
@@ -235,14 +208,11 @@ def main():
     functions, structs, statuses, codecs = rattle()
     as_written, written_structs, numbers = header()
     of_header, its_structs = plain(as_written, written_structs)
-    of_rust, rust_structs = plain(*raw_rust())
     in_c = {f"CPAY_{name.replace('amrwb', 'amr_wb')}".upper(): value for name, value in codecs.items()}
     in_c |= {f"CPAY_{name}": value for name, value in statuses.items()}
     wrong = [
         *differences("header: function", functions, of_header),
         *differences("header: struct", structs, its_structs),
-        *differences("bindings/rust: function", functions, of_rust),
-        *differences("bindings/rust: struct", structs, rust_structs),
         *(f"header: {name} is not {value}" for name, value in in_c.items() if numbers.get(name) != value),
     ]
     if f"#if 0\n{read('bindings/c/example.c')}#endif\n" not in read("include/codec_payload.h"):

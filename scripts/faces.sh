@@ -1,21 +1,21 @@
 #!/bin/sh
-# Builds the library for C and Rust, and tests both.
+# Builds the library for C, and tests it.
 #
 #   scripts/faces.sh            all that stands below
 #   scripts/faces.sh library    proves and builds the library, and prints the folder of libcodec_payload.a
 #   scripts/faces.sh example    builds the library, and builds and runs the example of the header
 #
-# The tests: the header and the Rust crate's declarations against the library; the header as C99 and C11 and, where there is a
+# The tests: the header against the library; the header as C99 and C11 and, where there is a
 # C++ compiler, as C++11 and C++20; that the compiler tells one kind of struct from another, and a status that is not looked at;
 # what each call answers (bindings/c/checks.c, datagrams.c, values.c, packets.c); what frames say that other readers told of (frames.c, frames.txt),
-# and hostile ones; a stream over UDP on loopback (loopback.c, and the same in Rust);
+# and hostile ones; a stream over UDP on loopback (loopback.c);
 # scripts of payload_vectors through the library, compared byte for byte with the program (vectors.c, inputs.py); allocations
 # less frees after each kind of use, and each allocation of a session refused in turn (oom.c); all of these also with the
-# address and undefined-behaviour sanitizers; the Rust crates: their tests, packages, lints, and documents without the library;
+# address and undefined-behaviour sanitizers; the calls beside those of the generated Rust crate (tools/twin), if there is cargo;
 # and the installed library (install_test.sh).
 #
-# Needs rt, a C compiler ($CC or cc) with its sanitizers, binutils and Python 3; for the Rust crate cargo of 1.85 or later; for
-# what is installed make, pkg-config and a C++ compiler. No network.
+# Needs rt, a C compiler ($CC or cc) with its sanitizers, binutils and Python 3; for tools/twin cargo; for what is installed make,
+# pkg-config and a C++ compiler. No network.
 # On a fresh clone rt first proves the library and the program.
 # The last line says what passed; the status is 0 where all did.
 set -eu
@@ -129,7 +129,7 @@ all) ;;
 *) fail "usage: scripts/faces.sh [library|example]" ;;
 esac
 
-"$root/scripts/face_header.py" || fail "the header, the Rust crate and the library differ"
+"$root/scripts/face_header.py" || fail "the header and the library differ"
 for header in "$root/include"/*.h; do
     for standard in c99 c11; do
         "$compiler" -std=$standard $warnings -fsyntax-only -x c "$header" || fail "$header is no $standard"
@@ -153,25 +153,16 @@ fi
 "$root/bindings/c/inputs.py" "$work/scripts" >/dev/null
 run_c
 run_c -fsanitize=address,undefined -fno-sanitize-recover=all
-command -v cargo >/dev/null || fail "there is no cargo; all but the Rust crates passed"
-(
-    cd "$root/bindings"
-    CODEC_PAYLOAD_DIR=$out
-    export CODEC_PAYLOAD_DIR
-    cargo test --offline --quiet --workspace || exit 1
-    [ "$(cargo run --offline --quiet --example loopback | tail -n 1)" = "$(tail -n 1 "$work/loopback-out")" ] || exit 1
-    cargo package --offline --quiet --allow-dirty --workspace || exit 1
-    if cargo clippy --version >/dev/null 2>&1; then
-        cargo clippy --offline --quiet --workspace --all-targets -- -D warnings || exit 1
-    fi
-    unset CODEC_PAYLOAD_DIR
-    RUSTDOCFLAGS="-D warnings" cargo doc --offline --quiet --no-deps --workspace || exit 1
-) >"$work/cargo.log" 2>&1 || {
-    cat "$work/cargo.log" >&2
-    fail "the Rust crates failed"
-}
+twin="without cargo, so without tools/twin"
+if command -v cargo >/dev/null; then
+    (cd "$root/tools/twin" && cargo run --offline --quiet --release -- 20000) >"$work/twin" 2>&1 || {
+        cat "$work/twin" >&2
+        fail "the library and the generated Rust crate differ"
+    }
+    twin=$(tail -n 1 "$work/twin")
+fi
 
 "$root/scripts/install_test.sh" || fail "the installed library does not do"
 
 echo "faces: the header, the example, the checks, $count scripts and the refused allocations, with and without" \
-    "sanitizers, the Rust crates and the installed library: all passed"
+    "sanitizers, and the installed library: all passed; $twin"

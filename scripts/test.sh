@@ -71,17 +71,21 @@ runs() {
     echo "$answer $* ($(($(date +%s) - began)) s): $(tail -n 1 "$work/output")"
 }
 
+runs scripts/rust.sh
+early_passed=$passed
+early_failed=$failed
 if [ "${1:-}" != --no-proofs ]; then
     rt ci 2>&1 | tee "$work/proofs"
     counts=$(tail -n 1 "$work/proofs")
     set -- $(printf '%s\n' "$counts" | sed -n 's/^\([0-9]*\) passed, \([0-9]*\) failed.*/\1 \2/p') '' ''
-    passed=${1:-0}
-    failed=${2:-1}
-    [ "$passed" -gt 0 ] || failed=1
-    [ "$failed" -ne 0 ] || scripts/keep_proved.py
+    [ "${1:-0}" -gt 0 ] || set -- 0 1
+    [ "$2" -ne 0 ] || scripts/keep_proved.py
+    passed=$((early_passed + $1))
+    failed=$((early_failed + $2))
 fi
 runs scripts/wrong_bodies.py --stale
 runs scripts/process.py
+runs scripts/rust_programs.py
 runs scripts/refuse.sh
 runs scripts/allocations.sh
 runs scripts/faces.sh

@@ -1,0 +1,120 @@
+//! Numbers that carry no media: packets of padding alone, and telephone events beside audio.
+
+ghost use Rattle.std.specs.Prelude.{◌≡◌, OnOk, OnErr};
+ghost use Rattle.std.specs.Option.{option_map};
+ghost use Rattle.codec_payload_buffer.specs.Blanks.{is_right_after};
+ghost use Rattle.codec_payload_buffer.specs.Steps.{is_at_most};
+ghost use Rattle.codec_payload_jitter.specs.NoMediaNumbers.{below, no_media_in, kept_few, noted_no_media, is_done, passed_no_media, no_media_left, is_in};
+
+pub use crate::laws::passes_no_media_alone;
+use codec_payload_base::wire::SeqNo;
+use codec_payload_buffer::buffer::DepacketizingBuffer;
+use codec_payload_codec::codec::Depacketizer;
+use std::alloc::AllocError;
+
+/// How many are remembered at most.
+const MOST: usize = 1_024;
+
+/// Remembers a number, in its place, and forgets the lowest where there are too many.
+pub(crate) fn note_no_media(no_media_numbers: &mut Vec<u64>, number: u64) -> Result<(), AllocError>
+    ensures ok { OnOk result (no_media_numbers.new.items ≡ noted_no_media number no_media_numbers.old.items) }
+    ensures err { OnErr result (no_media_numbers.new.items ≡ no_media_numbers.old.items) }
+{
+    put_in(no_media_numbers, number)?;
+    keep_few(no_media_numbers);
+    Ok(())
+}
+
+/// The lowest goes where there are too many.
+fn keep_few(no_media_numbers: &mut Vec<u64>)
+    ensures { no_media_numbers.new.items ≡ kept_few no_media_numbers.old.items }
+{
+    if no_media_numbers.len() > MOST {
+        no_media_numbers.remove(0);
+    }
+}
+
+/// Puts a number in its place, if it is not there.
+fn put_in(no_media_numbers: &mut Vec<u64>, number: u64) -> Result<(), AllocError>
+    ensures ok { OnOk result (no_media_numbers.new.items ≡ no_media_in number no_media_numbers.old.items) }
+    ensures err { OnErr result (no_media_numbers.new.items ≡ no_media_numbers.old.items) }
+{
+    let place = place_in(no_media_numbers, number);
+    if place < no_media_numbers.len() && no_media_numbers[place] == number {
+        return Ok(());
+    }
+    match no_media_numbers.insert(place, number) {
+        Ok(()) => Ok(()),
+        Err(_) => Err(AllocError),
+    }
+}
+
+/// How many of them are below the number.
+fn place_in(no_media_numbers: &[u64], number: u64) -> usize
+    ensures { result ≡ below number no_media_numbers.now }
+{
+    for (i, no_media_number) in no_media_numbers.iter().enumerate() {
+        if *no_media_number >= number {
+            return i;
+        }
+    }
+    no_media_numbers.len()
+}
+
+/// Whether the number is remembered.
+pub(crate) fn is_noted(no_media_numbers: &[u64], number: u64) -> bool
+    ensures { result ≡ is_in number no_media_numbers.now }
+{
+    for no_media_number in no_media_numbers {
+        if *no_media_number == number {
+            return true;
+        }
+    }
+    false
+}
+
+/// The buffer's cutoff goes on over the numbers that come right after it, and these are forgotten.
+pub(crate) fn pass_no_media_numbers<B: Depacketizer>(
+    buffer: &mut DepacketizingBuffer<B>,
+    no_media_numbers: &mut Vec<u64>,
+)
+    ensures buffer { buffer.new ≡ passed_no_media buffer.old no_media_numbers.old.items }
+    ensures no_media_numbers { no_media_numbers.new.items ≡ no_media_left buffer.old no_media_numbers.old.items }
+{
+    while !no_media_numbers.is_empty() {
+        let number = SeqNo(no_media_numbers[0]);
+        if !is_done(buffer, number) {
+            return;
+        }
+        buffer.pass_number(number);
+        no_media_numbers.remove(0);
+    }
+}
+
+/// Whether the number is at or below the cutoff, or right after it and not held.
+fn is_done<B: Depacketizer>(buffer: &DepacketizingBuffer<B>, number: SeqNo) -> bool
+    ensures { result ≡ is_done buffer.now number.0 }
+{
+    let cutoff = buffer.cutoff();
+    is_late(cutoff, number) || is_next(cutoff, number) && !buffer.holds(number)
+}
+
+/// Whether the number is at or below the cutoff.
+pub(crate) fn is_late(cutoff: Option<SeqNo>, number: SeqNo) -> bool
+    ensures { result ≡ is_at_most (option_map (λ c. c.0) cutoff) number.0 }
+{
+    match cutoff {
+        Some(cutoff) => number.0 <= cutoff.0,
+        None => false,
+    }
+}
+
+/// Whether it is the one right after the cutoff.
+fn is_next(cutoff: Option<SeqNo>, number: SeqNo) -> bool
+    ensures { result ≡ is_right_after (option_map (λ c. c.0) cutoff) number.0 }
+{
+    match cutoff {
+        Some(cutoff) => cutoff.0 < number.0 && number.0 - cutoff.0 == 1,
+        None => false,
+    }
+}

@@ -1,0 +1,23 @@
+//! `Default` for types whose `new` takes nothing.
+
+use crate::av1::Av1Depacketizer;
+use crate::jitter::SequenceNumbers;
+use crate::vp9::Vp9Depacketizer;
+
+impl Default for Vp9Depacketizer {
+    fn default() -> Self {
+        Vp9Depacketizer::new()
+    }
+}
+
+impl Default for Av1Depacketizer {
+    fn default() -> Self {
+        Av1Depacketizer::new()
+    }
+}
+
+impl Default for SequenceNumbers {
+    fn default() -> Self {
+        SequenceNumbers::new()
+    }
+}

@@ -1,0 +1,360 @@
+//! With the feature `fallible`, each allocation of each call is refused in turn: the call reports out of memory, and a second call
+//! with memory succeeds or fails as its input says. Nothing aborts.
+#![cfg(feature = "fallible")]
+
+use codec_payload::jitter::WaitLimits;
+use codec_payload::media::av1::{Av1SequenceHeader, front_obu, write_av1c};
+use codec_payload::rtp::{ExtensionIds, RtpPacket};
+use codec_payload::sender::{Sample, Sender, SenderSettings};
+use codec_payload::stream::{ReceiveError, Receiver, ReceiverSettings, RedSettings};
+use codec_payload::*;
+use std::alloc::{GlobalAlloc, Layout, System};
+use std::cell::Cell;
+
+thread_local! {
+    /// How many allocations this thread may still make, and how many it made.
+    static LEFT: Cell<usize> = const { Cell::new(usize::MAX) };
+    static MADE: Cell<usize> = const { Cell::new(0) };
+}
+
+/// The system's allocator, which refuses the allocation whose turn it is.
+struct Refusing;
+
+fn is_refused() -> bool {
+    MADE.set(MADE.get() + 1);
+    let left = LEFT.get();
+    LEFT.set(left.saturating_sub(1));
+    left == 0
+}
+
+// SAFETY: it passes each call on to `System`, or returns null, which an allocator may.
+unsafe impl GlobalAlloc for Refusing {
+    unsafe fn alloc(&self, layout: Layout) -> *mut u8 {
+        if is_refused() {
+            std::ptr::null_mut()
+        } else {
+            unsafe { System.alloc(layout) }
+        }
+    }
+
+    unsafe fn dealloc(&self, place: *mut u8, layout: Layout) {
+        unsafe { System.dealloc(place, layout) }
+    }
+
+    unsafe fn realloc(&self, place: *mut u8, layout: Layout, size: usize) -> *mut u8 {
+        if is_refused() {
+            std::ptr::null_mut()
+        } else {
+            unsafe { System.realloc(place, layout, size) }
+        }
+    }
+}
+
+#[global_allocator]
+static ALLOCATOR: Refusing = Refusing;
+
+/// How a call ended.
+#[derive(Clone, Copy, Debug, PartialEq)]
+enum End {
+    Done,
+    OutOfMemory,
+    OtherFault,
+}
+
+fn end_of(answer: Result<(), PacketError>) -> End {
+    match answer {
+        Ok(()) => End::Done,
+        Err(PacketError::OutOfMemory) => End::OutOfMemory,
+        Err(_) => End::OtherFault,
+    }
+}
+
+/// Refuses each allocation of a call in turn. `make` makes what the call works on, with all memory that it asks for. Returns how many
+/// allocations were refused.
+fn refuse_each<T>(name: &str, make: impl Fn() -> T, call: impl Fn(&mut T) -> End) -> usize {
+    let mut on = make();
+    MADE.set(0);
+    let wanted = call(&mut on);
+    let count = MADE.get();
+    assert_ne!(wanted, End::OutOfMemory, "{name}: with all memory");
+    for place in 0..count {
+        let mut on = make();
+        LEFT.set(place);
+        let end = call(&mut on);
+        LEFT.set(usize::MAX);
+        assert_eq!(
+            end,
+            End::OutOfMemory,
+            "{name}: allocation {place} of {count}"
+        );
+        assert_ne!(
+            call(&mut on),
+            End::OutOfMemory,
+            "{name}: after allocation {place}"
+        );
+    }
+    count
+}
+
+const CODECS: [Codec; 11] = [
+    Codec::Opus,
+    Codec::PCMU,
+    Codec::PCMA,
+    Codec::G722,
+    Codec::CN,
+    Codec::AmrWb,
+    Codec::Tele,
+    Codec::Vp8,
+    Codec::Vp9,
+    Codec::Av1,
+    Codec::Null,
+];
+
+fn packetizer(codec: Codec) -> CodecPacketizer {
+    CodecPacketizer::from_codec(codec).expect("it has one")
+}
+
+fn depacketizer(codec: Codec) -> CodecDepacketizer {
+    CodecDepacketizer::from_codec(codec).expect("it has one")
+}
+
+/// A frame of a codec that takes several packets at an MTU of 100, if the format has such.
+fn frame(codec: Codec) -> Vec<u8> {
+    match codec {
+        Codec::CN => vec![40, 1, 2],
+        Codec::Tele => vec![5, 0x8a, 3, 0x20],
+        Codec::AmrWb => [vec![0x04], vec![7; 17]].concat(),
+        Codec::Av1 => [
+            vec![0x12, 0, 0x0a, 3, 1, 2, 3, 0x32, 0x96, 1],
+            vec![0x10; 150],
+            [0x32, 1, 9].repeat(20),
+        ]
+        .concat(),
+        _ => vec![0x82; 350],
+    }
+}
+
+fn meta(number: u64, marker: bool) -> RtpMeta {
+    let time = MediaTime::from_90khz(3_000);
+    let mut meta = RtpMeta::of(number.into(), time, 96.into(), Ticks(number));
+    meta.header.marker = marker;
+    meta
+}
+
+/// A buffer with the packets of one frame, all but `missing` of them.
+fn filled(codec: Codec, packets: &[Vec<u8>]) -> DepacketizingBuffer {
+    let mut buffer = DepacketizingBuffer::new(depacketizer(codec), 0);
+    for (place, payload) in packets.iter().enumerate() {
+        buffer
+            .push(
+                meta(place as u64, place + 1 == packets.len()),
+                payload.clone(),
+            )
+            .expect("there is memory");
+    }
+    buffer
+}
+
+#[test]
+fn formats() {
+    let mut refused = 0;
+    for codec in CODECS {
+        let frame = frame(codec);
+        let packets = packetizer(codec)
+            .packetize(100, &frame)
+            .expect("it is a frame");
+        refused += refuse_each(
+            &format!("packetize {codec}"),
+            || packetizer(codec),
+            |it| end_of(it.packetize(100, &frame).map(drop)),
+        );
+        refused += refuse_each(
+            &format!("packetize_into {codec}"),
+            || (packetizer(codec), Payloads::new(12, 0).unwrap()),
+            |(it, out)| end_of(it.packetize_into(100, &frame, out)),
+        );
+        refused += refuse_each(
+            &format!("depacketize {codec}"),
+            || depacketizer(codec),
+            |it| end_of(it.depacketize(&packets[0], &mut Vec::new(), &mut CodecExtra::None)),
+        );
+        refused += refuse_each(
+            &format!("push {codec}"),
+            || {
+                (
+                    DepacketizingBuffer::new(depacketizer(codec), 0),
+                    Some(packets[0].clone()),
+                )
+            },
+            |(buffer, payload)| match payload.take() {
+                Some(payload) => end_of(buffer.push(meta(0, true), payload)),
+                None => End::Done,
+            },
+        );
+        refused += refuse_each(
+            &format!("pop {codec}"),
+            || filled(codec, &packets),
+            |it| match it.pop() {
+                Some(answer) => end_of(answer.map(drop)),
+                None => End::OtherFault,
+            },
+        );
+    }
+    println!("formats: {refused} refused");
+    assert!(refused > 100, "{refused}");
+}
+
+#[test]
+fn queues_that_grow_and_shrink() {
+    let many: Vec<_> = (0..600).map(|_| vec![1]).collect();
+    let refused = refuse_each(
+        "pop of one of 600",
+        || filled(Codec::Opus, &many),
+        |it| match it.pop() {
+            Some(answer) => end_of(answer.map(drop)),
+            None => End::OtherFault,
+        },
+    );
+    assert!(refused >= 2, "{refused}");
+    // Queues give memory back while units leave; refusing that changes nothing.
+    let mut buffer = filled(Codec::Opus, &many);
+    let mut unit = (Vec::with_capacity(64), Vec::with_capacity(64));
+    LEFT.set(0);
+    let mut popped = 0;
+    while let Some(answer) = buffer.pop_into(&mut unit.0, &mut unit.1) {
+        popped += usize::from(answer.is_ok());
+    }
+    LEFT.set(usize::MAX);
+    assert_eq!(popped, 600);
+}
+
+#[test]
+fn redundancy() {
+    let sender = || {
+        let mut red = RedSender::new(63.into(), 96.into(), &[1, 2]);
+        for time in 0..4 {
+            red.wrap(vec![time as u8; 30], time * 960, 1_200).unwrap();
+        }
+        (red, Some(vec![4; 30]))
+    };
+    let wrapped = sender().0.wrap(vec![4; 30], 4 * 960, 1_200).unwrap();
+    let mut refused = refuse_each("wrap", sender, |(red, payload)| match payload.take() {
+        Some(payload) => end_of(red.wrap(payload, 4 * 960, 1_200).map(drop)),
+        None => End::Done,
+    });
+    refused += refuse_each(
+        "decode",
+        || (),
+        |()| end_of(RedDecoder::decode(&wrapped).map(drop)),
+    );
+    let receiver = RedReceiver::new(96, 960).unwrap();
+    refused += refuse_each(
+        "recover",
+        || (),
+        |()| end_of(receiver.recover(4.into(), 4 * 960, &wrapped).map(drop)),
+    );
+    println!("redundancy: {refused} refused");
+    assert!(refused > 3, "{refused}");
+}
+
+fn sender() -> Result<Sender, sender::SenderError> {
+    let settings = SenderSettings {
+        mtu: 100,
+        ..SenderSettings::for_stream(96, 7, Frequency::NINETY_KHZ)
+    };
+    Sender::new(packetizer(Codec::Vp8), settings)
+}
+
+fn sample(bytes: &[u8]) -> Sample<'_> {
+    Sample {
+        rtp_time: MediaTime::from_90khz(0),
+        bytes,
+        start_of_talk_spurt: false,
+        ext_vals: ExtensionValues::default(),
+    }
+}
+
+#[test]
+fn datagrams() {
+    let mut sent = sender().unwrap();
+    sent.send(&sample(&[0x10; 250])).unwrap();
+    let first = sent.datagram(0).to_vec();
+    let mut refused = refuse_each(
+        "a sender",
+        || (),
+        |()| match sender() {
+            Ok(_) => End::Done,
+            Err(sender::SenderError::OutOfMemory) => End::OutOfMemory,
+            Err(_) => End::OtherFault,
+        },
+    );
+    refused += refuse_each(
+        "send",
+        || sender().unwrap(),
+        |it| end_of(it.send(&sample(&[0x10; 250]))),
+    );
+    let receiver = || {
+        let mut settings = ReceiverSettings::for_stream(96, Frequency::NINETY_KHZ);
+        settings.wait_limits = WaitLimits::file();
+        settings.ssrc = Some(7);
+        settings.red = Some(RedSettings {
+            payload_type: 63,
+            step: 960,
+        });
+        Receiver::new(depacketizer(Codec::Vp8), settings).unwrap()
+    };
+    refused += refuse_each("receive", receiver, |it: &mut Receiver| {
+        match it.receive(Ticks(0), &first) {
+            Ok(_) => End::Done,
+            Err(ReceiveError::OutOfMemory) => End::OutOfMemory,
+            Err(_) => End::OtherFault,
+        }
+    });
+    let full = || {
+        let mut it: Receiver = receiver();
+        for datagram in sent.datagrams() {
+            it.receive(Ticks(0), datagram).unwrap();
+        }
+        it
+    };
+    refused += refuse_each("pop of a receiver", full, |it| match it.pop(Ticks(0)) {
+        Some(answer) => end_of(answer.map(drop)),
+        None => End::OtherFault,
+    });
+    let packet = RtpPacket::parse(&first).unwrap();
+    refused += refuse_each("an RTP packet", Vec::new, |out| {
+        out.clear();
+        end_of(packet.write(out).map_err(|_| PacketError::OutOfMemory))
+    });
+    println!("datagrams: {refused} refused");
+    assert!(refused > 8, "{refused}");
+}
+
+#[test]
+fn values_and_media() {
+    let ids = ExtensionIds {
+        video_orientation: Some(1),
+        ..ExtensionIds::default()
+    };
+    let values = ExtensionValues {
+        video_orientation: Some(3),
+        ..ExtensionValues::default()
+    };
+    let mut refused = refuse_each("values", Vec::new, |out| {
+        out.clear();
+        end_of(
+            ids.write(&values, out)
+                .map(drop)
+                .map_err(|_| PacketError::OutOfMemory),
+        )
+    });
+    let unit = [0x0a, 0x0a, 0, 0, 0, 2, 0xaf, 0xf7, 0x9b, 0x5f, 0x20, 8];
+    let (obu, _) = front_obu(&unit).unwrap();
+    let header = Av1SequenceHeader::parse(obu.payload).unwrap();
+    refused += refuse_each("av1C", Vec::new, |out| {
+        out.clear();
+        end_of(write_av1c(&header, &unit, out).map_err(|_| PacketError::OutOfMemory))
+    });
+    println!("values and media: {refused} refused");
+    assert!(refused >= 2, "{refused}");
+}

@@ -1,0 +1,52 @@
+#!/bin/sh
+# Tests rust/, the library as plain Rust. Needs cargo with rustfmt and clippy, and Python 3; no network and no rt.
+#
+#   scripts/rust.sh          all that is below
+#   scripts/rust.sh quick    the same without the plants and the package
+#
+# - The generated files are what a fresh run of tools/eraser/erase.py writes.
+# - rustfmt, clippy and rustdoc have nothing to say, and all tests pass, with and without the feature `fallible`; the crate builds
+#   without `std`.
+# - The eraser refuses each plant of tools/eraser/plants.py.
+# - The package builds by itself, and each example ends well.
+# - The erased programs answer each test vector of the proved programs (scripts/rust_programs.py 0; scripts/test.sh compares random
+#   scripts once the programs are proved).
+#
+# The last line says what passed; the status is 0 if all did.
+set -eu
+
+root=$(cd "$(dirname "$0")/.." && pwd)
+cd "$root/rust"
+export CARGO_NET_OFFLINE=true
+work=$(mktemp -d)
+trap 'rm -rf "$work"' EXIT
+
+# step WORDS..: one command, whose output is shown if it fails
+step() {
+    "$@" >"$work/log" 2>&1 || {
+        cat "$work/log"
+        echo "rust: $* failed"
+        exit 1
+    }
+}
+
+step "$root/tools/eraser/erase.py" --check
+step cargo fmt --check
+step cargo clippy --quiet --all-targets -- -D warnings
+step cargo clippy --quiet --all-targets --features fallible -- -D warnings
+step cargo check --quiet --lib --no-default-features
+step cargo test --quiet
+passed=$(sed -n 's/^test result: ok. \([0-9]*\) passed.*/\1/p' "$work/log" | awk '{ sum += $1 } END { print sum }')
+step cargo test --quiet --features fallible
+fallible=$(sed -n 's/^test result: ok. \([0-9]*\) passed.*/\1/p' "$work/log" | awk '{ sum += $1 } END { print sum }')
+RUSTDOCFLAGS="-D warnings" step cargo doc --quiet --no-deps
+for example in examples/*.rs; do
+    step cargo run --quiet --example "$(basename "$example" .rs)"
+done
+step "$root/scripts/rust_programs.py" 0
+programs=$(tail -n 1 "$work/log")
+if [ "${1:-}" != quick ]; then
+    step cargo package --quiet --allow-dirty
+    step "$root/tools/eraser/plants.py"
+fi
+echo "rust: $passed tests, $fallible with \`fallible\`, $(ls examples/*.rs | wc -l) examples; $programs"

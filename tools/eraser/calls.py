@@ -1,0 +1,209 @@
+"""Gives each call that may fail to allocate the name of a method of `crate::memory`."""
+import re
+
+from known import COLLECTIONS
+from source import base, enclosing, item_end
+from tokens import Token, angles, close, opens, plain
+
+# Receivers whose types the eraser does not find by itself.
+HINTS = {
+    ("payload_codec_tests/src/av1/plain_packer.rt", "element"): "Vec",
+    ("payload_codec_tests/src/base/wire/media.rt", "names"): "HashMap",
+}
+
+
+FALLIBLE = {"push": "try_push", "push_front": "try_push_front", "push_back": "try_push_back", "extend_from_slice": "try_extend",
+            "resize": "try_resize", "insert": "try_insert", "reserve": "try_room", "reserve_exact": "try_exact",
+            "shrink_to": "shrink_if_possible"}
+TRAIT = {"Vec": "TryVec", "VecDeque": "TryQueue"}
+STD = COLLECTIONS
+
+
+def declared(f, name, lo, hi):
+    """The types that a name is declared with between two tokens."""
+    found = set()
+    for j in range(lo, hi):
+        if f.ts[j].kind != "word" or f.ts[j].text != name:
+            continue
+        if f.ts[j + 1].text == ":" and f.ts[j + 1].kind == "p" and f.ts[j - 1].text in ("(", ",", "{", "let", "mut", "pub", "]", ")", "|"):
+            k, depth = j + 2, 0
+            while k < hi:
+                x = f.ts[k].text
+                if x in ("<", "(", "["):
+                    depth += 1
+                elif x in (">", ")", "]"):
+                    depth -= 1
+                    if depth < 0:
+                        break
+                elif depth == 0 and x in (",", "=", ";", "}", "|"):
+                    break
+                k += 1
+            if f.ts[k].text in (",", ")", "=", ";", "}", "|"):
+                text = plain(f.ts[j + 2:k])
+                if re.match(r"(& |mut |'\w+ |dyn |impl )*(\w+ :: )*[A-Z]\w*", text):
+                    found.add(base(text))
+        elif f.ts[j - 1].text in ("let", "mut") and f.ts[j + 1].text == "=":
+            k = j + 2
+            while f.ts[k].text in ("&", "mut", "*"):
+                k += 1
+            path = []
+            while f.ts[k].kind == "word" or f.ts[k].text in ("::", "."):
+                if f.ts[k].text == "::" and f.ts[k + 1].text == "<":
+                    k = angles(f.ts, k + 1)
+                    continue
+                path.append(f.ts[k].text)
+                k += 1
+            if f.ts[k].text == "!" and path == ["vec"]:
+                found.add("Vec")
+            elif f.ts[k].text == "(" and path:
+                if len(path) >= 3 and path[-2] == "::":
+                    if path[-3][:1].isupper():
+                        found.add(path[-3])     # Type::new(..) and the like answer the type
+                    else:
+                        found |= f.known.answers.get(path[-1], {"?"})
+                else:
+                    found |= f.known.answers.get(path[-1], {"?"})
+            elif f.ts[k].text == "{" and path and path[-1][:1].isupper():
+                found.add(path[-1])
+            elif len(path) == 1 and path[0] != name:
+                found |= declared(f, path[0], lo, hi)
+            elif path and path[-1] != name and "." in path:
+                found |= f.known.fields.get(path[-1], {"?"})
+    return found
+
+
+def receiver(f, i):
+    """Of the method at `i`, the first token of what it is called on, and the types that may have."""
+    j = i - 2
+    last = None
+    k = j
+    if f.ts[k].text == ")":
+        k = opens(f.ts, k)
+        last = ("call", f.ts[k - 1].text)
+        k -= 1
+    elif f.ts[k].text == "]":
+        last = ("index", None)
+        k = opens(f.ts, k) - 1
+        if f.ts[k].kind == "word":
+            last = ("index", f.ts[k].text)
+    elif f.ts[k].kind == "word":
+        last = ("name", f.ts[k].text)
+    elif f.ts[k].text == "?":
+        last = ("?", None)
+    first = k
+    while f.ts[first - 1].text == ".":
+        first -= 2
+        while f.ts[first].kind == "p" and f.ts[first].text in (")", "]", "?"):
+            first = first - 1 if f.ts[first].text == "?" else opens(f.ts, first) - 1
+    while f.ts[first - 1].text == "::":
+        first -= 2
+    return first, last
+
+
+def types_of(f, i):
+    first, last = receiver(f, i)
+    fn, self_type = enclosing(f, i)
+    if last is None:
+        return first, {"?"}
+    kind, name = last
+    if kind == "name":
+        if name == "self":
+            return first, {self_type}
+        if f.ts[i - 3].text == ".":
+            found = {t for t in f.known.fields.get(name, set())}
+            own = {t for t in f.known.fields_of.get(self_type, {}).get(name, set())} if f.ts[i - 4].text == "self" else set()
+            return first, own or found or {"?"}
+        end = item_end(f, fn) if fn else len(f.ts)
+        found = declared(f, name, fn, end)
+        return first, found or {"?"}
+    if kind == "call":
+        return first, f.known.answers.get(name, {"?"})
+    return first, {"?"}
+
+
+def rename_calls(f):
+    """Calls that can want memory get names of their own, unless the type has a method of that name itself."""
+    i = 1
+    while i < len(f.ts):
+        t = f.ts[i]
+        if t.kind == "word" and f.ts[i - 1].text == "." and f.ts[i + 1].text == "(":
+            if t.text in FALLIBLE or t.text == "push_str":
+                first, types = types_of(f, i)
+                own = f.known.methods.get(t.text, set())
+                end = close(f.ts, i + 1)
+                said = HINTS.get((f.path.split("crates/")[-1], plain(f.ts[first:i - 1]).replace(" ", "")))
+                if said:
+                    types = {said}
+                # Other types have no such method. A choice that is wrong rustc refuses: no `try_push` there, or no answer here.
+                types = {x for x in types if x in STD or x in own or x in ("String", "HashMap")}
+                if types in ({"String"}, {"HashMap"}):
+                    if f.ts[end + 1].text == "?":
+                        del f.ts[end + 1]
+                    else:
+                        pre, f.ts[first].pre = f.ts[first].pre, ""
+                        f.ts.insert(end + 1, Token("", ")", "p", t.line))
+                        f.ts[first:first] = [Token(pre, "Ok", "word", t.line), Token("", "(", "p", t.line)]
+                        i += 2
+                elif types and types <= STD:
+                    if plain(f.ts[end + 1:end + 5]) == ". unwrap ( )":
+                        del f.ts[end + 1:end + 5]  # room was made before, which is proved
+                    else:
+                        t.text = FALLIBLE[t.text]
+                        f.needs |= {TRAIT[x] for x in types if x in TRAIT}
+                elif types and types <= own:
+                    pass
+                else:
+                    f.refuse(t, f"{t.text} on {plain(f.ts[first:i - 1])!r} of types {sorted(map(str, types))}; of its own it is a method of {sorted(own)}")
+            elif t.text == "slice_mut":
+                first, _ = receiver(f, i)
+                end = close(f.ts, i + 1)
+                f.ts[end].text, f.ts[i + 1].text = "]", "["
+                del f.ts[i - 1:i + 1]
+                if f.ts[end - 1].text != ".":
+                    pre = f.ts[first].pre
+                    f.ts[first].pre = ""
+                    f.ts[first:first] = [Token(pre, "&", "p", t.line), Token("", "mut", "word", t.line), ]
+                    f.ts[first + 2].pre = " "
+            elif t.text == "extend" and f.ts[close(f.ts, i + 1) + 1].text == "?" and types_of(f, i)[1] & STD and not f.shows:
+                del f.ts[close(f.ts, i + 1) + 1]
+            elif t.text == "clone" and plain(f.ts[i + 1:i + 4]) == "( ) ?":
+                del f.ts[i + 3]
+            elif t.text in ("to_vec", "collect", "to_string", "to_owned") and plain(f.ts[i + 1:i + 4]) == "( ) ?":
+                del f.ts[i + 3]
+            elif t.text == "allocator":
+                f.refuse(t, "allocator()")
+        i += 1
+
+
+def rename_makers(f):
+    i = 0
+    while i < len(f.ts):
+        p = plain(f.ts[i:i + 4])
+        t = f.ts[i]
+        if p == "Vec :: with_capacity (":
+            f.ts[i + 2].text = "try_of_capacity"
+            f.needs.add("TryVec")
+        elif p == "Vec :: from_slice (":
+            f.ts[i + 2].text = "try_from_slice"
+            f.needs.add("TryVec")
+        elif p == "Box :: new (" and not f.shows:
+            end = close(f.ts, i + 3)
+            if f.ts[end + 1].text != "?":
+                f.refuse(t, "Box::new whose answer is not asked with ?")
+            del f.ts[end + 1]
+        elif p == "Box :: new (":
+            f.ts[i].text, f.ts[i + 2].text = "One", "try_new"
+            f.needs.add("One")
+        elif f.shows and p.startswith("Box < ") and f.ts[i + 2].text != "dyn":
+            f.ts[i].text = "One"
+            f.needs.add("One")
+        elif p == "String :: from_str (":
+            f.ts[i + 2].text = "from"
+            end = close(f.ts, i + 3)
+            if f.ts[end + 1].text == "?":
+                del f.ts[end + 1]
+            else:
+                f.refuse(t, "String::from_str whose answer is not asked with ?")
+        i += 1
+
+

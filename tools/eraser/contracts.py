@@ -1,0 +1,197 @@
+"""Removes what only the prover reads: clauses, ghost items, attributes of proofs, models and theorems."""
+import re
+
+from premises import REACHABLE, WITHIN, WITHIN_PREMISES
+from source import drop_item, function_of, has_own_debug, item_start, merged, type_behind, without_doc
+from layout import CONSTANT_FUNCTIONS
+from tokens import Refused, angles, close, elements, plain, tokens
+
+
+# What types derive in Rust besides: where `clone` cannot be refused no proof stands against it, and `str0m` has these.
+MORE = {"PacketError": ["Clone", "Copy"], "Depacketized": ["Clone"], "RedundantBlock": ["Clone", "PartialEq", "Eq"], "Vp9Depacketizer": ["Clone"],
+        "OutgoingPacket": ["Clone"], "G7xxPacketizer": ["Copy"], "OpusPacketizer": ["Copy"], "Vp8Packetizer": ["Copy"],
+        "Vp8DescriptorError": ["Copy"], "Vp8PatchError": ["Copy"]}
+
+
+def drop_clauses(f):
+    """`requires` and `ensures`; the premises of public functions are kept for their documentation."""
+    premises = {}
+    i = 0
+    while i < len(f.ts):
+        t = f.ts[i]
+        if t.kind != "clause":
+            i += 1
+            continue
+        if t.text.startswith("requires"):
+            k = function_of(f, i)
+            if k is not None:
+                premises.setdefault(id(f.ts[k]), (f.ts[k], []))[1].append(t.text)
+        nxt = f.ts[i + 1]
+        comments = ""   # a comment in front of a clause speaks of the clause
+        if nxt.kind != "clause":
+            nxt.pre = "\n" + comments + nxt.pre.lstrip("\n") if comments or "//" in nxt.pre else ("" if nxt.text == ";" else " ")
+        else:
+            nxt.pre = comments + nxt.pre
+        del f.ts[i]
+    for fn, texts in premises.values():
+        k = next(n for n, t in enumerate(f.ts) if t is fn)
+        start = item_start(f, k)
+        if not f.shows or not any(t.text == "pub" for t in f.ts[start:k]) or f.ts[k - 1].text == ")":
+            continue
+        name = f.ts[k + 1].text
+        said = "; ".join(re.sub(r"\s+", " ", re.match(r"requires(?:\s+\w+)?\s*\{(.*)\}$", t, re.S).group(1)).strip() for t in texts)
+        if (name, said) in REACHABLE:
+            rust, asserted = REACHABLE[name, said]
+            f.asks.append((name, rust))
+            document_premise(f.ts[start], rust)
+            body = k
+            while f.ts[body].text != "{":
+                body = close(f.ts, body) + 1 if f.ts[body].text == "(" else body + 1
+            if asserted:
+                f.ts[body + 1:body + 1] = tokens(f"\nassert!({rust});\n")[:-1]
+        elif name not in WITHIN and (name, said) not in WITHIN_PREMISES:
+            f.refuse(fn, f"premises of {name} that premises.py has not: {said}")
+
+
+def document_premise(first, rust):
+    """A section of documentation with a premise."""
+    indent = re.search(r"[ \t]*$", first.pre).group(0)
+    lines = (["///"] if "///" in first.pre else []) + ["/// # Panics", "///", f"/// Unless `{rust}`."]
+    first.pre = first.pre[:len(first.pre) - len(indent)] + "".join(indent + l + "\n" for l in lines) + indent
+
+
+def drop_ghosts(f):
+    i = 0
+    while i < len(f.ts):
+        t = f.ts[i]
+        if t.kind == "ghost":
+            # `pub ghost ..`
+            start = item_start(f, i)
+            f.ts[start].pre = without_doc(f.ts[start].pre)
+            pre = f.ts[start].pre
+            del f.ts[start:i + 1]
+            f.ts[start].pre = pre.rstrip(" \t") + f.ts[start].pre if "//" in pre else merged(pre, f.ts[start].pre)
+            i = start
+        else:
+            i += 1
+
+
+
+def drop_attributes(f):
+    """`tactic`; `Drop` among what is derived."""
+    i = 0
+    while i < len(f.ts):
+        t = f.ts[i]
+        if t.text == "#" and t.kind == "p":
+            k = i + 1 + (f.ts[i + 1].text == "!")
+            if f.ts[k].text != "[":
+                f.refuse(t, "a # that begins no attribute")
+            end = close(f.ts, k)
+            name = f.ts[k + 1].text
+            if name == "tactic":
+                pre = t.pre
+                del f.ts[i:end + 1]
+                f.ts[i].pre = pre + f.ts[i].pre.lstrip("\n").lstrip() if pre.strip() else merged(pre, f.ts[i].pre)
+                if pre.strip() and k > i + 1:
+                    f.ts[i].pre = pre.rstrip() + "\n\n"
+                continue
+            if name == "derive":
+                names = [plain(f.ts[a:b]) for a, b in elements(f.ts, k + 2)[0]]
+                bad = set(names) - {"Clone", "Copy", "Debug", "Default", "PartialEq", "Eq", "PartialOrd", "Ord", "Hash", "Drop", "Error"}
+                if bad:
+                    f.refuse(t, f"derives {bad}")
+                # What Rattle leaves without `Debug`, since a proof has no need of it, has it in Rust.
+                names = [n for n in names if n != "Drop"] + ["Debug"] * ("Debug" not in names and f.shows and not has_own_debug(f, end))
+                names += [n for n in MORE.get(type_behind(f, end), []) if n not in names and f.shows]
+                if names:
+                    f.ts[k + 2:end + 1] = tokens("(%s)]" % ", ".join(names))[:-1]
+                    i = close(f.ts, k)
+                    continue
+                pre = t.pre
+                del f.ts[i:end + 1]
+                f.ts[i].pre = pre + f.ts[i].pre.lstrip()
+                continue
+            if name not in ("inline", "cold", "must_use", "cfg", "test", "error", "allow", "non_exhaustive", "repr", "default"):
+                f.refuse(t, f"attribute {name}")
+            i = end
+        i += 1
+
+
+def drop_models(f):
+    i = 0
+    while i < len(f.ts):
+        t = f.ts[i]
+        if t.kind == "word" and t.text == "impl" and (i == 0 or f.ts[i - 1].text in "};" or f.ts[i - 1].text == "]"):
+            k = angles(f.ts, i + 1) if f.ts[i + 1].text == "<" else i + 1
+            if f.ts[k].text == "Model" and f.ts[k + 1].text == "for":
+                i = drop_item(f, i)
+                continue
+            if f.ts[k].text == "From" and f.ts[k + 2].text == "AllocFailed":
+                i = drop_item(f, i)
+                continue
+            if f.ts[k].text in ("Drop", "Owns") and f.ts[k + 1].text == "for":
+                f.refuse(t, f"an impl of {f.ts[k].text}")
+        i += 1
+
+
+def drop_theorems(f):
+    """The names of functions that do nothing: what they are for is their contract. To be called before clauses go."""
+    names, i = [], 0
+    while i < len(f.ts):
+        t = f.ts[i]
+        if t.kind == "word" and t.text == "fn" and plain(f.ts[i + 2:i + 4]) == "( )" and f.ts[i + 4].kind == "clause":
+            j = i + 4
+            while f.ts[j].kind == "clause":
+                j += 1
+            if plain(f.ts[j:j + 2]) == "{ }":
+                names.append(f.ts[i + 1].text)
+                while f.ts[i + 4].kind == "clause":
+                    del f.ts[i + 4]
+                i = drop_item(f, i)
+                continue
+        i += 1
+    return names
+
+
+def refuse_leftovers(f):
+    """What must not be left."""
+    for i, t in enumerate(f.ts):
+        if t.kind in ("clause", "ghost"):
+            f.refuse(t, "left: " + t.text[:40])
+        if t.text == ".." and t.kind == "p" and f.ts[i + 1].text in ("{", ")") and f.ts[i - 1].kind in ("word", "number") and (
+                f.ts[i + 1].text == "{" or f.ts[i + 2].text == "."):
+            f.refuse(t, "a range without an end, which Rust takes to the type's top and beyond")
+        if t.kind == "word":
+            if t.text in ("ghost", "requires", "ensures", "tactic", "Global", "allocator", "AllocFailed", "Model", "HostRuntime", "slice_mut", "prove", "Abort"):
+                f.refuse(t, "left: " + t.text)
+            if t.text in ("alloc", "rt", "_alloc") and f.ts[i + 1].text != "::" and not (f.ts[i - 1].text == "crate" and f.ts[i - 2].text == "extern"):
+                f.refuse(t, "left: " + t.text + " in " + plain(f.ts[max(0, i - 4):i + 4]))
+
+
+def drop_modules(f, gone):
+    """Drops `mod` lines of modules that went."""
+    i = 0
+    while i < len(f.ts):
+        if f.ts[i].text == "mod" and f.ts[i + 2].text == ";" and f.ts[i + 1].text in gone:
+            i = drop_item(f, i)
+            continue
+        i += 1
+
+
+
+def drop_constant_functions(f):
+    """Drops functions whose contracts state constants; returns their names."""
+    gone, i = [], 0
+    while i < len(f.ts):
+        if f.ts[i].text == "fn" and f.ts[i + 1].text in CONSTANT_FUNCTIONS:
+            gone.append(f.ts[i + 1].text)
+            while f.ts[i].kind != "clause":
+                i += 1
+            while f.ts[i].kind == "clause":
+                del f.ts[i]
+            while f.ts[i].text != "fn":
+                i -= 1
+            i = drop_item(f, i)
+            continue
+        i += 1
+    return gone

@@ -1,0 +1,138 @@
+/* The calls of the library that the twin makes, without structs: Rust sees pointers and numbers alone, so a field that is new in
+ * codec_payload.h changes nothing here. */
+#include "codec_payload.h"
+#include <stdlib.h>
+
+enum { FLEXIBLE = 1, VP8_IDS = 2, OCTET_ALIGN = 4 };
+
+static cpay_spec spec_of(uint32_t codec, uint32_t rate, uint32_t flags, uint16_t first_id) {
+    cpay_spec spec = { 0 };
+    spec.codec = codec;
+    spec.rate = rate;
+    spec.first_id = first_id;
+    spec.octet_align = flags & OCTET_ALIGN;
+    spec.vp8_ids = flags & VP8_IDS;
+    spec.vp9_flexible = flags & FLEXIBLE;
+    return spec;
+}
+
+/* A packetizer, or NULL if the library refuses it. */
+void *twin_packetizer(uint32_t codec, uint32_t rate, uint32_t flags, uint16_t first_id) {
+    cpay_spec spec = spec_of(codec, rate, flags, first_id);
+    cpay_packetizer *made = calloc(1, sizeof *made);
+    if (made && !cpay_packetizer_new(made, &spec)) return made;
+    free(made);
+    return NULL;
+}
+
+uint32_t twin_packetize(void *packetizer, size_t mtu, const uint8_t *frame, size_t frame_len, size_t *count) {
+    return cpay_packetize(packetizer, mtu, false, frame, frame_len, count);
+}
+
+/* The next packet: its size and whether it may be asked for again. */
+uint32_t twin_packet(void *packetizer, uint8_t *bytes, size_t bytes_len, size_t *size, bool *nackable) {
+    cpay_packet_info info = { 0 };
+    cpay_status status = cpay_packet(packetizer, &info, bytes, bytes_len);
+    *size = info.bytes;
+    *nackable = info.nackable;
+    return status;
+}
+
+void twin_packetizer_free(void *packetizer) {
+    cpay_packetizer_free(packetizer);
+    free(packetizer);
+}
+
+void *twin_depacketizer(uint32_t codec, uint32_t rate, uint32_t flags) {
+    cpay_spec spec = spec_of(codec, rate, flags, 0);
+    cpay_depacketizer *made = calloc(1, sizeof *made);
+    if (made && !cpay_depacketizer_new(made, &spec)) return made;
+    free(made);
+    return NULL;
+}
+
+uint32_t twin_depacketize(void *depacketizer, const uint8_t *payload, size_t payload_len) {
+    return cpay_depacketize(depacketizer, payload, payload_len);
+}
+
+/* What the payloads gave: bytes, and of the extra its kind, its keyframe bit and its picture id (or 0). */
+uint32_t twin_depacketized(void *depacketizer, uint8_t *bytes, size_t bytes_len, size_t *size, uint64_t extra[3]) {
+    cpay_extra told = { 0 };
+    cpay_status status = cpay_depacketized(depacketizer, size, &told, bytes, bytes_len);
+    extra[0] = told.kind;
+    extra[1] = told.is_keyframe;
+    extra[2] = told.has_picture_id ? told.picture_id : 0;
+    return status;
+}
+
+void twin_depacketizer_free(void *depacketizer) {
+    cpay_depacketizer_free(depacketizer);
+    free(depacketizer);
+}
+
+/* A receiver by settings in the order of the fields of cpay_receiver_settings. A limit of no frames is SIZE_MAX; UINT64_MAX stands
+ * for no longest wait, and 0 for no RED and no retransmissions. */
+void *twin_receiver(uint32_t codec, uint32_t rate, uint32_t flags, const uint64_t values[9]) {
+    cpay_receiver_settings settings = CPAY_FILE;
+    settings.spec = spec_of(codec, rate, flags, 0);
+    settings.payload_type = 96;
+    settings.has_ssrc = true;
+    settings.ssrc = 1;
+    settings.hold_back = (size_t)values[0];
+    settings.start = (size_t)values[1];
+    settings.max_wait = values[2];
+    settings.has_max_wait = values[2] != UINT64_MAX;
+    settings.limit = (size_t)values[3];
+    settings.forward = (uint16_t)values[4];
+    settings.backward = (uint16_t)values[5];
+    settings.tick_rate = (uint32_t)values[6];
+    settings.has_red = values[7];
+    settings.red_payload_type = 63;
+    settings.red_step = (uint32_t)values[7];
+    settings.has_rtx = values[8];
+    settings.rtx_ssrc = (uint32_t)values[8];
+    settings.rtx_payload_type = 98;
+    static const uint8_t no_media[] = { 97, 13 };
+    cpay_receiver *made = calloc(1, sizeof *made);
+    if (made && !cpay_receiver_new(made, &settings, no_media, sizeof no_media)) return made;
+    free(made);
+    return NULL;
+}
+
+uint32_t twin_receive(void *receiver, uint64_t now, const uint8_t *datagram, size_t datagram_len, uint32_t *outcome) {
+    return cpay_receiver_receive(receiver, now, datagram, datagram_len, outcome);
+}
+
+/* The next unit: first and last number, RTP time, whether it is contiguous, and its size. */
+uint32_t twin_pop(void *receiver, uint64_t now, uint8_t *bytes, size_t bytes_len, uint64_t unit[5]) {
+    cpay_unit it = { 0 };
+    cpay_status status = cpay_receiver_pop(receiver, now, &it, bytes, bytes_len);
+    unit[0] = it.first;
+    unit[1] = it.last;
+    unit[2] = it.rtp_time;
+    unit[3] = it.contiguous;
+    unit[4] = it.bytes;
+    return status;
+}
+
+uint32_t twin_next_deadline(void *receiver, uint64_t *at) { return cpay_receiver_next_deadline(receiver, at); }
+
+uint32_t twin_finish(void *receiver) { return cpay_receiver_finish(receiver); }
+
+uint32_t twin_missing(void *receiver, uint64_t *numbers, size_t numbers_len, size_t *count) {
+    return cpay_receiver_missing(receiver, numbers, numbers_len, count);
+}
+
+/* Received, malformed, released, evicted, recovered, late, suspect, duplicates, units. */
+uint32_t twin_counts(void *receiver, uint64_t counts[9]) {
+    cpay_receiver_counts_info it = { 0 };
+    cpay_status status = cpay_receiver_counts(receiver, &it);
+    uint64_t told[9] = { it.received, it.malformed, it.released, it.evicted, it.recovered, it.late, it.suspect, it.duplicates, it.units };
+    for (int place = 0; place < 9; place++) counts[place] = told[place];
+    return status;
+}
+
+void twin_receiver_free(void *receiver) {
+    cpay_receiver_free(receiver);
+    free(receiver);
+}
