@@ -1,5 +1,5 @@
 -- Pressure: while little room is left, pops wait for nothing, so no complete frame is evicted.
-use Rattle.std.specs.Prelude.{◌≡◌, ◌≢◌, ℕ, ◌+◌, ◌<◌, ◌≤◌, Bool, Option, None, List, [], ◌∷◌}
+use Rattle.std.specs.Prelude.{◌≡◌, ◌≢◌, ℕ, ◌<◌, Bool, Option, None, List, [], ◌∷◌, length}
 use Rattle.codec_payload_buffer.specs.Frames.{frames}
 use Rattle.codec_payload_jitter.specs.Receiving.{Receiving, Arrival, Receives, ReceivesAgain, Recovers, Notes, PopsWith, settled, waiting_at}
 use Rattle.codec_payload_jitter.specs.Runs.{Answer}
@@ -18,17 +18,6 @@ Comes (Packet a) r t = (outcome : Outcome) × Receives a r outcome t
 Comes (Retransmitted a) r t = (outcome : Outcome) × ReceivesAgain a r outcome t
 Comes (Recovered a) r t = (went_in : Bool) × Recovers a r went_in t
 Comes (WithoutMedia low) r t = Notes low r t
-
--- how many packets it stores at most: one that confirms a restart brings the suspect packet before it
-abbrev pub most_stored : Event → ℕ
-most_stored (Packet a) = 2
-most_stored (Retransmitted a) = 1
-most_stored (Recovered a) = 1
-most_stored (WithoutMedia low) = 1
-
-abbrev pub most_stored_by : List Event → ℕ
-most_stored_by [] = 0
-most_stored_by (event ∷ events) = most_stored event + most_stored_by events
 
 -- they come one after another
 abbrev pub ComeAll : List Event → Receiving → Receiving → Type 0
@@ -53,10 +42,10 @@ DoesBursts [] r t = t ≡ r
 DoesBursts (burst ∷ bursts) r t =
     (mid : Receiving) × (drained : Receiving) × ComeAll burst.events r mid × Drains burst.pops_at burst.last mid drained × DoesBursts bursts drained t
 
--- where a run begins empty and pops until None after each burst: events that store no more packets than places are kept free
--- evict a packet only if no frame was complete before them
+-- where a run begins empty and pops until None after each burst: fewer events than places are kept free evict a packet only if
+-- no frame was complete before them. One place more is for a suspect packet, which comes in with the one that confirms a restart
 abbrev pub SparesCompleteFrames : Type 0
 SparesCompleteFrames =
     (start r t : Receiving) (bursts : List Burst) (events : List Event) → start.buffer.held ≡ [] → DoesBursts bursts start r
-    → 0 < start.room → most_stored_by events ≤ start.room → ComeAll events r t
+    → length events < start.room → ComeAll events r t
     → t.counters.evicted ≢ r.counters.evicted → frames r.buffer.held ≡ []

@@ -31,7 +31,7 @@ pub fn receives_are_pushes()
 {}
 
 /// In a run that pops until `None` after each push, an eviction finds no frame that was complete before that push. The same
-/// applies to several pushes between two pops, if together they store no more packets than places are kept free.
+/// applies to several pushes between two pops, if they are fewer than the places that are kept free.
 pub fn spares_complete_frames()
     ensures { SparesCompleteFrames }
 {}

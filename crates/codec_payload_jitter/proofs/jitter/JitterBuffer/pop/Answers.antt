@@ -5,7 +5,7 @@ use Rattle.codec_payload_buffer.specs.Release.{Release}
 use Rattle.codec_payload_buffer.specs.Steps.{State, Pops}
 use Rattle.codec_payload_jitter.specs.Receiving.{Receiving, is_pressed}
 use Rattle.codec_payload_jitter.proofs.ReceivingLemmas.{pressed_waits_for_none}
-use Rattle.codec_payload_jitter.proofs.PressureLemmas.{crowded_presses, none_left}
+use Rattle.codec_payload_jitter.proofs.PressureLemmas.{crowded_presses, none_left, settled_holds, taken_from}
 use Rattle.codec_payload_jitter.proofs.jitter.JitterBuffer.pop.Goals as goal
 
 pub returns-clause-drained : goal.returns-clause-drained
@@ -29,3 +29,11 @@ returns-clause-crowded g c = λ crowded none.
     let set : s.hold_back ≡ c.in-Some.hold_back = ap (λ (x : State). x.hold_back) c.set_hold_back.ensures in
     let few : length (frames t.held) ≤ s.hold_back = c.pops_leave_few.ensures.few s t pops in
     none_left (frames t.held) (omega (arith, few, set, zero_is))
+
+pub returns-clause-fewer : goal.returns-clause-fewer
+returns-clause-fewer g c =
+    let s : State = c.set_hold_back.new.self in
+    let t : State = c.pop-answer.new.self in
+    let set : length s.held ≡ length c.self.inside.buffer.held = ap (λ (x : State). length x.held) c.set_hold_back.ensures in
+    let seen : length c.self.inside.buffer.held ≡ length c.settle.new.self.buffer.held = ap (λ (r : Receiving). length r.buffer.held) c.self.view_is in
+    taken_from _ s _ t (set ∙ (seen ∙ (ap (λ (r : Receiving). length r.buffer.held) c.settle.ensures ∙ settled_holds _))) c.pop-answer.ensures.fewer
