@@ -312,6 +312,10 @@ crowded_presses r now crowded =
     let in_place = passes_in_place r.buffer r.no_media_numbers in
     or_last r.ended _ (has_little_room (settled r)) (ap (λ (x : State). nat_lt (x.limit - length x.held) r.room) in_place.0 ∙ crowded)
 
+-- nor does a pop then wait
+pub crowded_waits : (r : Receiving) (now : ℕ) → has_little_room r ≡ true → waiting_at (settled r) now ≡ None → ⊥
+crowded_waits r now crowded nothing_is = let waits = rw (crowded_presses r now crowded) at nothing_is in cc
+
 pub none_left : (fs : List CompleteFrame) → length fs ≤ 0 → fs ≡ []
 none_left [] few = refl
 none_left (f ∷ fs) few = absurd (omega (arith, few))
