@@ -4,7 +4,7 @@ use Rattle.codec_payload_base.specs.declared.wire.Ticks.{Ticks}
 use Rattle.codec_payload_red.specs.RedBlocks.{Block}
 use Rattle.codec_payload_red.specs.RedRecovery.{RecoveredPacket}
 use Rattle.codec_payload_jitter.specs.Receiving.{Receiving, Arrival, Confirms, ReceivesAs, ReceivesAgainAs, RecoversAs, RecoversIf, NotesAs}
-use Rattle.codec_payload_jitter.specs.Receiving.{Accepts, counted, counted_again, counted_in_again, goes_in, next, number_again, outcome_at}
+use Rattle.codec_payload_jitter.specs.Receiving.{Accepts, counted, counted_again, counted_in_again, goes_in, may_recover, next, number_again}
 use Rattle.codec_payload_jitter.specs.declared.numbers.Extended.{Extended}
 use Rattle.codec_payload_jitter.specs.declared.numbers.Extended.TheVariants as extended
 use Rattle.codec_payload_jitter.specs.declared.outcome.Outcome.{Outcome}
@@ -104,7 +104,7 @@ recovers_if_balance true n a r t went_in got =
 
 recovers_as_balance : (number : Option ℕ) (a : Arrival) (r t : Receiving) (went_in : Bool) → RecoversAs number a r went_in t → Recovered r t
 recovers_as_balance None a r t went_in got = inl (ap balance_of got.1)
-recovers_as_balance (Some n) a r t went_in got = recovers_if_balance (goes_in (outcome_at r.buffer n)) n a r t went_in got
+recovers_as_balance (Some n) a r t went_in got = recovers_if_balance (may_recover r n) n a r t went_in got
 
 recovers_or_balance : (b : Bool) (a : Arrival) (r t : Receiving) → RecoversOr b a r t → Recovered r t
 recovers_or_balance true a r t got = recovers_as_balance (number_again r a.header.sequence_number) a r t got.0 got.1
