@@ -11,7 +11,7 @@
 # and hostile ones; a stream over UDP on loopback (loopback.c);
 # scripts of payload_vectors through the library, compared byte for byte with the program (vectors.c, inputs.py); allocations
 # less frees after each kind of use, and each allocation of a session refused in turn (oom.c); all of these also with the
-# address and undefined-behaviour sanitizers; the calls beside those of the generated Rust crate (tools/twin), if there is cargo;
+# address and undefined-behaviour sanitizers, and the first four over jemalloc and mimalloc, if these are installed; the calls beside those of the generated Rust crate (tools/twin), if there is cargo;
 # and the installed library (install_test.sh).
 #
 # Needs rt, a C compiler ($CC or cc) with its sanitizers, binutils and Python 3; for tools/twin cargo; for what is installed make,
@@ -110,6 +110,18 @@ run_c() {
     "$work/oom" || fail "bindings/c/oom.c failed"
 }
 
+# Runs the tests over allocators that align small blocks to less than 16 bytes, if they are installed.
+run_other_allocators() {
+    for library in libjemalloc.so.2 libmimalloc.so.2.0; do
+        path=$(find /usr/lib -name "$library" 2>/dev/null | head -n 1)
+        [ -n "$path" ] || continue
+        for name in checks datagrams packets values; do
+            LD_PRELOAD=$path "$work/$name" >/dev/null || fail "bindings/c/$name.c failed over $library"
+        done
+        allocators="$allocators, $library"
+    done
+}
+
 command -v rt >/dev/null || fail "rt is not there"
 kit=$(dirname "$(rt doc)")
 command -v "$compiler" >/dev/null || fail "there is no C compiler; set CC"
@@ -152,6 +164,8 @@ fi
 }
 "$root/bindings/c/inputs.py" "$work/scripts" >/dev/null
 run_c
+allocators="the C library's allocator"
+run_other_allocators
 run_c -fsanitize=address,undefined -fno-sanitize-recover=all
 twin="without cargo, so without tools/twin"
 if command -v cargo >/dev/null; then
@@ -165,4 +179,4 @@ fi
 "$root/scripts/install_test.sh" || fail "the installed library does not do"
 
 echo "faces: the header, the example, the checks, $count scripts and the refused allocations, with and without" \
-    "sanitizers, and the installed library: all passed; $twin"
+    "sanitizers, over $allocators, and the installed library: all passed; $twin"

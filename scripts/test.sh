@@ -45,6 +45,8 @@ wants dpkg-dev dpkg-buildpackage
 wants fakeroot fakeroot
 wants lintian lintian
 wants doxygen doxygen
+find /usr/lib -name libjemalloc.so.2 2>/dev/null | grep -q . || absent="$absent libjemalloc2"
+find /usr/lib -name libmimalloc.so.2.0 2>/dev/null | grep -q . || absent="$absent libmimalloc2.0"
 if [ -n "$absent" ] && [ "$(id -u)" -eq 0 ] && command -v apt-get >/dev/null; then
     # shellcheck disable=SC2086
     { apt-get update && DEBIAN_FRONTEND=noninteractive apt-get install -y --no-install-recommends $absent; } >"$work/apt" 2>&1 ||
