@@ -511,14 +511,15 @@ CPAY_CHECKED cpay_status cpay_sender_counts(cpay_sender *sender, cpay_sender_cou
 /** For a receiver: no frame is released by count alone. */
 #define CPAY_NO_HOLD_BACK SIZE_MAX
 
-/** Begin with one of CPAY_LIVE, CPAY_LIVE_AUDIO_WITH_NACK, CPAY_LIVE_VIDEO_WITH_NACK and CPAY_FILE, and set at least `spec` and
+/** Begin with CPAY_LIVE_AUDIO, CPAY_LIVE_VIDEO, one of the two with _WITH_NACK, or CPAY_FILE, and set at least `spec` and
  * `payload_type`. */
 typedef struct {
     cpay_spec spec;
     size_t hold_back;         /**< a complete frame behind a gap is released once more complete frames than this are held;
                                    CPAY_NO_HOLD_BACK: no frame is released by count alone */
     size_t start;             /**< the first frame is released once more complete frames than this are held */
-    size_t limit;             /**< how many packets are held at most, 1 to 65536 */
+    size_t limit;             /**< how many packets are held at most, 1 to 65536; while less than an eighth of these places is
+                                   free, no frame waits */
     uint64_t max_wait;        /**< with has_max_wait: a complete frame is released once this number of ticks of your clock has
                                    passed since its last packet was received */
     uint32_t ssrc;            /**< with has_ssrc: the SSRC of the stream; else it is that of the first packet */
@@ -537,28 +538,28 @@ typedef struct {
     cpay_extension_ids extension_ids; /**< under which ids the values of units come; two that are the same read one element */
 } cpay_receiver_settings;
 
-/** Settings by purpose. All have no codec yet, at most 4096 packets held, a clock of milliseconds, windows of 3000 numbers ahead
- * (MAX_DROPOUT of RFC 3550, appendix A.1) and 1000 behind, no ids of header extensions, and no bound by count. */
-#define CPAY_SETTINGS_THAT_WAIT(start, max_wait, has_max_wait) \
-    { { 0, 0, 0, false, false, false }, CPAY_NO_HOLD_BACK, start, 4096, max_wait, 0, 1000, 0, 0, 3000, 1000, 0, 0, 0, \
+/** Settings by purpose. All have no codec yet, at most 4096 packets held, a clock of milliseconds, no ids of header extensions, and
+ * no bound by count. The windows of audio are 3000 numbers ahead (MAX_DROPOUT of RFC 3550, appendix A.1) and 1000 behind; those of
+ * video, 12000 and 5000, are five seconds of 1000 packets a second. */
+#define CPAY_SETTINGS_THAT_WAIT(start, max_wait, has_max_wait, forward, backward) \
+    { { 0, 0, 0, false, false, false }, CPAY_NO_HOLD_BACK, start, 4096, max_wait, 0, 1000, 0, 0, forward, backward, 0, 0, 0, \
       has_max_wait, false, false, false, { 0, 0, 0, 0, 0, 0 } }
 
 /** Live audio or video without retransmission: a lost packet delays frames by at most 100 ms. */
-#define CPAY_LIVE CPAY_SETTINGS_THAT_WAIT(1, 100, true)
-#define CPAY_LIVE_AUDIO CPAY_LIVE
-#define CPAY_LIVE_VIDEO CPAY_LIVE
+#define CPAY_LIVE_AUDIO CPAY_SETTINGS_THAT_WAIT(1, 100, true, 3000, 1000)
+#define CPAY_LIVE_VIDEO CPAY_SETTINGS_THAT_WAIT(1, 100, true, 12000, 5000)
 
-/** Live media with retransmission (RFC 4585): at most 200 ms. For a known round trip time, set `max_wait` to twice that time and
- * 100 ms more. */
-#define CPAY_LIVE_AUDIO_WITH_NACK CPAY_SETTINGS_THAT_WAIT(1, 200, true)
-#define CPAY_LIVE_VIDEO_WITH_NACK CPAY_SETTINGS_THAT_WAIT(2, 200, true)
+/** Live audio or video with retransmission (RFC 4585): at most 200 ms. For a known round trip time, set `max_wait` to twice that
+ * time and 100 ms more. */
+#define CPAY_LIVE_AUDIO_WITH_NACK CPAY_SETTINGS_THAT_WAIT(1, 200, true, 3000, 1000)
+#define CPAY_LIVE_VIDEO_WITH_NACK CPAY_SETTINGS_THAT_WAIT(2, 200, true, 12000, 5000)
 
-/** Packets from a file: a frame behind a gap waits for the missing packets, until cpay_receiver_finish, or until the receiver has
- * little room left. */
-#define CPAY_FILE CPAY_SETTINGS_THAT_WAIT(0, 0, false)
+/** Packets from a file, audio or video: a frame behind a gap waits for the missing packets, until cpay_receiver_finish, or until the
+ * receiver has little room left. */
+#define CPAY_FILE CPAY_SETTINGS_THAT_WAIT(0, 0, false, 12000, 5000)
 
-/** The settings of most streams: those of CPAY_LIVE. */
-#define CPAY_RECEIVER_SETTINGS CPAY_LIVE
+/** Settings for live media if you do not know which: those of CPAY_LIVE_AUDIO. */
+#define CPAY_RECEIVER_SETTINGS CPAY_LIVE_AUDIO
 
 /** A receiver, in an empty struct. `no_media` are payload types that come under the stream's SSRC and numbers and carry no
  * media of it: telephone events beside audio, comfort noise, forward error correction. CPAY_INVALID for a codec that is not

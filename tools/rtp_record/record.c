@@ -64,6 +64,8 @@ static bool receives(record *it) {
     settings.has_ssrc = true;
     settings.ssrc = it->stream.ssrc;
     settings.start = 1;
+    settings.forward = 3000;
+    settings.backward = 1000;
     /* A capture has all that ever came: a gap is waited for by the clock, for as long as a jitter buffer might. */
     settings.has_max_wait = true;
     settings.max_wait = 2ull * CLOCK;

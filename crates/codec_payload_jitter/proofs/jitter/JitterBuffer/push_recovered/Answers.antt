@@ -1,0 +1,24 @@
+use Rattle.std.proofs.Common.{◌≡◌, ◌∙◌, ℕ, ap, sym, false, Option, Some, true}
+use Rattle.codec_payload_jitter.specs.Numbers.{Numbering, lowest_with, numbering_with}
+use Rattle.codec_payload_jitter.specs.Receiving.{Receiving, counted_recovered, may_recover, number_again}
+use Rattle.codec_payload_jitter.specs.declared.numbers.Extended.{Extended}
+use Rattle.codec_payload_jitter.specs.declared.numbers.Extended.TheVariants as extended
+use Rattle.codec_payload_jitter.proofs.ReceivingLemmas.{recovers_is}
+use Rattle.codec_payload_jitter.proofs.jitter.JitterBuffer.push_recovered.Goals as goal
+
+pub returns-clause-ok : goal.returns-clause-ok
+returns-clause-ok g c =
+    let r : Receiving = c.args.self.now in
+    let low : ℕ = c.args.header.sequence_number in
+    let n : ℕ = c.in-Some.number in
+    let answer : Extended = extended.Number n in
+    let mid : Receiving = c.go_on.new.self in
+    let stored : Receiving = record mid { counters = counted_recovered mid.counters } in
+    let is : number_again r low ≡ Some n = sym c.number_again.ensures.value ∙ c.in-Some.is in
+    let missing : may_recover r n ≡ true = sym c.may_recover.ensures ∙ c.if-not-may_recover.false in
+    let numbers : c.take.new.self ≡ numbering_with r.numbering answer low = c.take.ensures ∙ ap (λ (x : Receiving). numbering_with x.numbering answer low) c.self.view_is in
+    let lowest : c.lowest_with-lowest.result ≡ lowest_with r.lowest answer = c.lowest_with-lowest.ensures ∙ ap (λ (x : Receiving). lowest_with x.lowest answer) c.self.view_is in
+    recovers_is (record { now = c.args.now; header = c.args.header; bytes = c.args.payload.items }) n r mid c.go_behind.new.self c.in_ok-go_on.field-0 is missing c.in_ok-go_on.ensures.ok
+    (c.go_behind.ensures ∙ (ap (λ (x : Receiving). record x { numbering = c.take.new.self; lowest = c.lowest_with-lowest.result; anew = false }) c.count_recovered.ensures
+    ∙ (ap (λ (k : Numbering). record stored { numbering = k; lowest = c.lowest_with-lowest.result; anew = false }) numbers
+    ∙ ap (λ (l : Option ℕ). record stored { numbering = numbering_with r.numbering answer low; lowest = l; anew = false }) lowest)))
