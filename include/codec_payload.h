@@ -34,7 +34,8 @@
  * freed. It may be moved in memory, as long as one of the two places is forgotten.
  *
  * MEMORY. The library takes memory by the program's malloc and realloc and gives it back by free, and only in calls marked [m].
- * These have to come from one allocator and to align blocks to 16 bytes, as all do. Where memory is refused a call answers
+ * These must come from one allocator. Each block must be aligned for the type stored in it, at most 8 bytes, as glibc, musl,
+ * jemalloc and mimalloc do. Where memory is refused a call answers
  * CPAY_OUT_OF_MEMORY and leaves things as they were, but for what its comment says, so it can be made again. No call keeps a
  * pointer that it was given: frames and payloads are copied.
  *

@@ -19,6 +19,7 @@ typedef struct {
     bool has_picture_id;
     bool has_tl0_pic_idx;
     bool has_key_idx;
+    uint8_t picture_id_bits; /**< the width of the picture id: 7 or 15, or 0 without one; a patch ignores it and keeps it */
 } cpay_vp8_fields_info;
 
 /** The fields of a payload's descriptor, and whether a keyframe starts in it. CPAY_SHORT_PACKET where a byte is missing, also

@@ -7,9 +7,9 @@
 
 Each relative link, each anchor and each named page is there; README.md has at most 170 lines; no line outside of code and
 tables is longer than 128 characters; the crates that docs/ARCHITECTURE.md lists are those of crates.txt; the version is the
-same wherever it stands; each row of figures in README.md is one of docs/PERFORMANCE.md; each picture is shown by a page, is
-light, and is of today's data; docs/DIFFERENCES.md names each law of the ported crates. Each block of code has a language, by
-which it is tested:
+same wherever it stands; toolchain.txt has the line of `rt version`, and no page names another kit; each row of figures in
+README.md is one of docs/PERFORMANCE.md; each picture is shown by a page, is light, and is of today's data; docs/DIFFERENCES.md
+names each law of the ported crates. Each block of code has a language, by which it is tested:
 
   c        compiled, and linked and run where the library is built (scripts/faces.sh library)
   rust     built by cargo over rust/, and run
@@ -51,7 +51,7 @@ RUN_ELSEWHERE = {
     "rt run": ("scripts/process.py", '["rt", "run"]'),
     "rt check": ("scripts/wrong_bodies.py", '"rt", "check"'),
     "rt new": ("scripts/documents.py", "begun_crate"),
-    "rm -rf crates/mine/": ("scripts/documents.py", "begun_crate"),
+    "rm -r crates/mine/": ("scripts/documents.py", "begun_crate"),
     'echo "mine: codec_payload_core"': ("scripts/documents.py", "begun_crate"),
     "cp examples/first.rattle": ("scripts/documents.py", "begun_crate"),
     "rt fmt": ("scripts/documents.py", "rt fmt"),
@@ -193,6 +193,20 @@ def crate_table():
         if listed.count(crate) != 1 or named.count(crate) != 1:
             times = f"{listed.count(crate)} times in crates.txt, {named.count(crate)} times"
             yield f"docs/ARCHITECTURE.md: {crate} stands {times} in the table"
+
+
+def toolchain():
+    """toolchain.txt has the line that `rt version` prints, and no page names another kit."""
+    line = read("toolchain.txt").strip()
+    if shutil.which("rt"):
+        found = subprocess.run(["rt", "version"], capture_output=True, text=True, check=False).stdout.strip()
+        if found != line:
+            yield f"toolchain.txt has {line!r}, and rt version prints {found!r}"
+    kit = line.split()[0]
+    for page in ["README.md", "CONTRIBUTING.md", *glob.glob("docs/*.md", root_dir=ROOT)]:
+        for named in re.findall(r"rattle-kit-\w+", read(page)):
+            if named != kit:
+                yield f"{page} names {named}, and toolchain.txt has {kit}"
 
 
 def versions():
@@ -424,7 +438,7 @@ def main(words):
         return 0
     pages = files(".md")
     wrong = [
-        *links(pages), *named_pages(), *lines(pages), *crate_table(), *versions(), *additions(), *figures(), *pictures(pages),
+        *links(pages), *named_pages(), *lines(pages), *crate_table(), *versions(), *toolchain(), *additions(), *figures(), *pictures(pages),
         *blocks(pages), *begun_crate(), *commands(pages),
     ]
     count = sum(len(blocks_and_rest(it)[0]) for it in pages)

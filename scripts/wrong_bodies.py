@@ -201,6 +201,8 @@ def main(words):
         return print_stale()
     is_telling = words[:1] == ["--telling"]
     words = words[is_telling:]
+    if words and words[0] not in crates():
+        sys.exit(f"crates.txt has no crate {words[0]}")
     chosen = [words[0]] if words else list(crates())
     counts = {}
     for crate in chosen:

@@ -189,8 +189,9 @@ static void descriptors(void) {
     cpay_vp8_fields_info fields = {0}, values = {0};
     bool keyframe = false;
     CHECK(cpay_vp8_fields(one, 4, &fields, &keyframe) == CPAY_OK);
-    CHECK(fields.has_picture_id && fields.picture_id == 32 && !fields.has_tl0_pic_idx && !fields.has_key_idx && keyframe);
-    CHECK(cpay_vp8_fields(two, 5, &fields, &keyframe) == CPAY_OK && fields.picture_id == 32767 && !keyframe);
+    CHECK(fields.has_picture_id && fields.picture_id == 32 && fields.picture_id_bits == 7 && keyframe);
+    CHECK(!fields.has_tl0_pic_idx && !fields.has_key_idx);
+    CHECK(cpay_vp8_fields(two, 5, &fields, &keyframe) == CPAY_OK && fields.picture_id == 32767 && fields.picture_id_bits == 15 && !keyframe);
     CHECK(cpay_vp8_fields(one, 3, &fields, &keyframe) == CPAY_SHORT_PACKET);
     CHECK(cpay_vp8_fields((const uint8_t *)"\x90\x40\x00\x90", 4, &fields, &keyframe) == CPAY_VP8_CORRUPTED);
     CHECK(cpay_vp8_patch(one, 4, &values) == CPAY_OK && same(one, "\x90\x80\x20\x90", 4));

@@ -1,7 +1,7 @@
 -- Descriptors of VP8 payloads.
 use Rattle.std.specs.Prelude.{◌≡◌, ℕ, Bool, List, Result, Ok, Err, is_some, option_map}
 use Rattle.codec_payload_core.specs.PictureIds.{id_value}
-use Rattle.codec_payload_core.specs.Vp8Descriptor.{Descriptor, key_index, parsed}
+use Rattle.codec_payload_core.specs.Vp8Descriptor.{Descriptor, id_bits, key_index, parsed}
 use Rattle.codec_payload_core.specs.Vp8Keyframe.{is_keyframe}
 use Rattle.codec_payload_core.specs.Vp8Patch.{Builder, HasValues, Patch, patch_for, patched}
 use Rattle.codec_payload_core.specs.declared.vp8.Vp8DescriptorError.{Vp8DescriptorError}
@@ -34,6 +34,7 @@ fields_told d = record {
   has_picture_id = is_some d.picture_id;
   has_tl0_pic_idx = is_some d.tl0_pic_idx;
   has_key_idx = is_some (key_index d);
+  picture_id_bits = or_zero (option_map id_bits d.picture_id);
 }
 
 abbrev pub ReadsTo : Result Descriptor Vp8DescriptorError → List ℕ → ℕ → Vp8FieldsInfo → Bool → Type 0

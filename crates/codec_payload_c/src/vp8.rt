@@ -29,6 +29,8 @@ pub struct Vp8FieldsInfo {
     pub has_picture_id: bool,
     pub has_tl0_pic_idx: bool,
     pub has_key_idx: bool,
+    /// How many bits the picture id has: 7 or 15, or 0 without one. A patch ignores it.
+    pub picture_id_bits: u8,
 }
 
 /// The status of a payload that has no descriptor.
@@ -114,6 +116,7 @@ pub extern "C" fn cpay_vp8_fields(
         has_picture_id: descriptor.picture_id().is_some(),
         has_tl0_pic_idx: descriptor.tl0_pic_idx().is_some(),
         has_key_idx: descriptor.key_idx().is_some(),
+        picture_id_bits: descriptor.picture_id_bits().unwrap_or(0),
     };
     *starts_keyframe = descriptor.starts_keyframe(payload);
     status::OK

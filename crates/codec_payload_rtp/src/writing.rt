@@ -1,6 +1,6 @@
 //! Values of header extensions written as elements.
 
-ghost use Rattle.std.specs.Prelude.{◌≡◌, ◌≤◌, ◌<◌, ◌+◌, ◌++◌, ◌&&◌, Some, IfOk, IfSome, IsTrue, OnOk, ◌%◌, length, map, take};
+ghost use Rattle.std.specs.Prelude.{◌≡◌, ◌≤◌, ◌<◌, ◌+◌, ◌++◌, ◌&&◌, [], None, Some, IfOk, IfSome, IsTrue, OnOk, ◌%◌, length, map, take};
 ghost use Rattle.std.specs.Option.{option_map};
 ghost use Rattle.codec_payload_rtp.specs.Elements.{element_of, all_fit};
 ghost use Rattle.codec_payload_rtp.specs.ExtensionFormats.{elements_of, timing_bytes};
@@ -145,10 +145,11 @@ fn gather<'a>(rows: &[Row<'a>; KINDS]) -> ([Element<'a>; KINDS], usize)
     (elements, count)
 }
 
-/// Writes the elements in the place of what `out` has, and answers the profile of their extension, if there are any.
+/// Replaces the contents of `out` with the elements, and returns the profile of their extension, if there are any.
 fn write_extension(elements: &[Element<'_>], out: &mut Vec<u8>) -> Result<Option<u16>, AllocError>
     requires { IsTrue (all_fit TwoByte (map element_of elements.now)) }
-    ensures { IfOk result (λ profile. option_map (λ p. record { profile = p; bytes = out.new.items }) profile ≡ extension_for (map element_of elements.now)) }
+    ensures none { IfOk result (λ profile. profile ≡ None → out.new.items ≡ []) }
+    ensures written { IfOk result (λ profile. option_map (λ p. record { profile = p; bytes = out.new.items }) profile ≡ extension_for (map element_of elements.now)) }
 {
     out.clear();
     if elements.is_empty() {
@@ -219,9 +220,10 @@ impl ExtensionIds {
         ])
     }
 
-    /// Writes the values that have an id as the bytes of a header extension, in the place of what `out` has, and answers its
-    /// profile: that of the one-byte form where it has room for each, else of the two-byte form; `None`, and no bytes, where
-    /// none of them is there. A level of the audio above 0 or below -127 dBov is not written, nor is speech without a level.
+    /// Replaces the contents of `out` with the bytes of a header extension for the values that have an id, and returns its
+    /// profile: the one-byte form if it has room for each value, else the two-byte form (RFC 8285). If no value has an id, it
+    /// returns `None` and empties `out`. An audio level above 0 or below -127 dBov is not written, nor is speech without a
+    /// level. If an allocation fails, `out` has a beginning of the bytes.
     pub fn write(
         &self,
         values: &ExtensionValues,
@@ -229,6 +231,8 @@ impl ExtensionIds {
     ) -> Result<Option<u16>, AllocError>
         requires { IsTrue (ids_fit self.now) }
         ensures written { IfOk result (λ profile. option_map (λ p. record { profile = p; bytes = out.new.items }) profile ≡ extension_for (elements_for self.now values.now)) }
+        // Without an extension nothing is left in `out`.
+        ensures none { IfOk result (λ profile. profile ≡ None → out.new.items ≡ []) }
         // They are whole words, which an extension asks for.
         ensures words { OnOk result (IfSome (extension_for (elements_for self.now values.now)) (λ e. (length e.bytes % 4 ≡ 0) × (length e.bytes ≤ 300))) }
         // What was written is read back.

@@ -1,6 +1,6 @@
 //! AV1: the `av1C` record (AV1 codec ISO media file format binding, section 2.3; docs/FORMATS.md, "What a frame says").
 
-ghost use Rattle.std.specs.Prelude.{◌≡◌, ◌≤◌, ◌++◌, OnOk};
+ghost use Rattle.std.specs.Prelude.{◌≡◌, ◌≤◌, ◌++◌, OnErr, OnOk};
 ghost use Rattle.codec_payload_media.specs.Av1Records.{av1c_bytes, av1c_front};
 ghost use Rattle.codec_payload_vpx.specs.BitFields.{bit_if};
 
@@ -39,14 +39,16 @@ pub fn av1c_front(header: &Av1SequenceHeader) -> [u8; AV1C_FRONT_LEN]
 }
 
 /// Appends the record of a stream: the four bytes of [`av1c_front`], and the sequence header OBU with its header and size, as it
-/// stands in the stream. Where there is no memory, what is appended is a beginning of it.
+/// is in the stream. If the allocation fails, `out` is unchanged.
 pub fn write_av1c(
     header: &Av1SequenceHeader,
     sequence_header_obu: &[u8],
     out: &mut Vec<u8>,
 ) -> Result<(), AllocError>
-    ensures { OnOk result (out.new.items ≡ out.old.items ++ av1c_bytes header.now sequence_header_obu.now) }
+    ensures written { OnOk result (out.new.items ≡ out.old.items ++ av1c_bytes header.now sequence_header_obu.now) }
+    ensures err { OnErr result (out.new.items ≡ out.old.items) }
 {
+    out.reserve(AV1C_FRONT_LEN + sequence_header_obu.len())?;
     out.extend_from_slice(&av1c_front(header))?;
     out.extend_from_slice(sequence_header_obu)
 }
