@@ -16,9 +16,12 @@ use crate::jitter::outcome::{
     with_outcome, with_pop, with_recovered,
 };
 pub use crate::jitter::waiting::WaitLimits;
-use crate::jitter::waiting::{deadline, overdue};
+use crate::jitter::waiting::{deadline, overdue, room_for};
 use crate::wire::{Frequency, MediaTime, RtpHeader, SeqNo, Ticks};
 use alloc::vec::Vec;
+
+/// How many packets a push stores at most: its own, and a suspect one.
+const AT_ONCE: usize = 2;
 
 /// A suspect packet.
 #[derive(Debug)]
@@ -46,6 +49,8 @@ pub struct JitterBuffer<B = NoBox> {
     lowest: Option<u64>,
     /// The next packet is the first since a restart that the caller told.
     anew: bool,
+    /// While fewer places than these are free, pops wait for nothing.
+    room: usize,
 }
 
 impl<B: Depacketizer> JitterBuffer<B> {
@@ -71,6 +76,7 @@ impl<B: Depacketizer> JitterBuffer<B> {
         wait_limits: WaitLimits,
     ) -> Self {
         assert!(buffer.held() == 0);
+        let room = room_for(buffer.limit(), AT_ONCE);
         JitterBuffer {
             numbers,
             buffer,
@@ -82,7 +88,18 @@ impl<B: Depacketizer> JitterBuffer<B> {
             counters: PacketCounters::none(),
             lowest: None,
             anew: false,
+            room,
         }
+    }
+
+    /// Keeps at least that many places free for packets that arrive between two pops, or 2, whatever is more: while fewer are
+    /// free, pops wait for nothing. An eighth of the limit is kept free in any case. Allocates nothing.
+    ///
+    /// A call of [`JitterBuffer::push`] stores at most two packets, and a packet of RED as many as it has blocks. Callers that
+    /// receive several packets between two pops can keep more places free.
+    pub fn with_room_for(self, packets: usize) -> Self {
+        let room = room_for(self.buffer.limit(), packets.max(AT_ONCE));
+        JitterBuffer { room, ..self }
     }
 
     /// Takes a packet in, at that time, and says what became of it. The only fault is want of memory; nothing has changed then.
@@ -149,10 +166,10 @@ impl<B: Depacketizer> JitterBuffer<B> {
         Ok(outcome)
     }
 
-    /// Takes in a packet that never came and that another one carried, as a block of RED (RFC 2198): where its number lies within
-    /// the windows and it is missing, it goes in like another, and is counted as recovered; else nothing changes. It confirms no
-    /// restart, and none is suspected for it. Tells whether it went in. The only fault is want of memory; nothing has changed
-    /// then.
+    /// Stores a packet that never arrived and that another one carried, as a block of RED (RFC 2198): if its number lies within the
+    /// windows and it is missing, it is stored like another, and is counted as recovered; else nothing changes. A number that is
+    /// known to carry no media is not missing. It confirms no restart, and none is suspected for it. Returns whether it was
+    /// stored. The only fault is `OutOfMemory`; nothing has changed then.
     pub fn push_recovered(
         &mut self,
         now: Ticks,
@@ -163,7 +180,7 @@ impl<B: Depacketizer> JitterBuffer<B> {
         let Some(number) = self.number_again(low) else {
             return Ok(false);
         };
-        if !self.would_go_in(number) {
+        if !self.may_recover(number) {
             return Ok(false);
         }
         let answer = Extended::Number(number);
@@ -213,7 +230,9 @@ impl<B: Depacketizer> JitterBuffer<B> {
 
     /// The next unit, at that time, where its turn has come: it follows what came out before, or more complete frames than
     /// `hold_back` are there, or `max_wait` has passed since its last packet was received. The first unit comes out once more
-    /// complete frames than `start` are there, or `max_wait` has passed. After `finish` nothing is waited for.
+    /// complete frames than `start` are there, or `max_wait` has passed. Nothing is waited for after `finish`, and while little
+    /// room is left ([`JitterBuffer::with_room_for`]): so a caller that pops until `None` after each push loses no complete
+    /// frame for want of room.
     pub fn pop(&mut self, now: Ticks) -> Option<Result<Depacketized, PacketError>> {
         self.settle();
         let Some(hold_back) = self.waiting(now) else {
@@ -316,9 +335,10 @@ impl<B: Depacketizer> JitterBuffer<B> {
         number_within(self.numbers.answer_for(low))
     }
 
-    /// Whether a packet of that number would go in.
-    fn would_go_in(&self, number: u64) -> bool {
+    /// Whether a packet of that number is missing: it would go in, and the number is not one without media.
+    fn may_recover(&self, number: u64) -> bool {
         goes_in(outcome_in(&self.buffer, SeqNo(number)))
+            && !is_noted(&self.no_media_numbers, number)
     }
 
     /// Goes on with these numbers.
@@ -448,9 +468,21 @@ impl<B: Depacketizer> JitterBuffer<B> {
         pass_no_media_numbers(&mut self.buffer, &mut self.no_media_numbers);
     }
 
+    /// Whether nothing is waited for at that time.
+    fn is_pressed(&self, now: Ticks) -> bool {
+        self.ended
+            || overdue(self.wait_limits.max_wait, now, self.buffer.ready_since())
+            || self.has_little_room()
+    }
+
+    /// Whether fewer places are free than are to be.
+    fn has_little_room(&self) -> bool {
+        self.buffer.limit().saturating_sub(self.buffer.held()) < self.room
+    }
+
     /// How many complete frames wait for what is missing before them, at that time.
     fn waiting(&self, now: Ticks) -> Option<usize> {
-        if self.ended || overdue(self.wait_limits.max_wait, now, self.buffer.ready_since()) {
+        if self.is_pressed(now) {
             Some(0)
         } else if self.buffer.cutoff().is_none() && self.buffer.ready() <= self.wait_limits.start {
             None

@@ -92,3 +92,8 @@ pub(crate) fn deadline(max_wait: Option<u64>, since: Option<Ticks>) -> Option<Ti
         None => None,
     }
 }
+
+/// How many places are kept free, of that many: an eighth, and at least `least`.
+pub(crate) fn room_for(limit: usize, least: usize) -> usize {
+    (limit / 8).max(least)
+}

@@ -117,6 +117,18 @@ fn write_extension(
     }
 }
 
+/// Passes the answer on, and if an allocation failed, cuts `out` back to its first `len` bytes.
+fn cut_back(
+    answer: Result<(), AllocError>,
+    len: usize,
+    out: &mut Vec<u8>,
+) -> Result<(), AllocError> {
+    if answer.is_err() {
+        out.truncate(len);
+    }
+    answer
+}
+
 /// A bit, if it is set.
 fn bit_if(set: bool, bit: u8) -> u8 {
     if set { bit } else { 0 }
@@ -187,8 +199,8 @@ impl<'a> PacketHeader<'a> {
         write_extension(&self.extension, out)
     }
 
-    /// Appends the header of a packet without padding. The payload goes behind it; what is then read is this header and that
-    /// payload.
+    /// Appends the header of a packet without padding. Append the payload after it; the two read as this header and that
+    /// payload. If an allocation fails, `out` is unchanged.
     ///
     /// # Panics
     ///
@@ -196,7 +208,9 @@ impl<'a> PacketHeader<'a> {
     pub fn write(&self, out: &mut Vec<u8>) -> Result<(), AllocError> {
         assert!(self.fits());
         self.known();
-        self.write_padded(out, false)
+        let len = out.len();
+        let answer = self.write_padded(out, false);
+        cut_back(answer, len, out)
     }
 }
 
@@ -297,7 +311,7 @@ fn read_header(packet: &[u8]) -> Result<(PacketHeader<'_>, bool, &[u8]), RtpErro
     Ok((header, first / 32 % 2 == 1, rest))
 }
 
-/// Writes so many bytes of padding: zeros, and their number.
+/// Appends the given number of bytes of padding: zeros, and their number in the last byte.
 fn write_padding(padding: u8, out: &mut Vec<u8>) -> Result<(), AllocError> {
     if padding == 0 {
         return Ok(());
@@ -319,7 +333,8 @@ impl<'a> RtpPacket<'a> {
         })
     }
 
-    /// Appends the packet, where its header fits (see [`PacketHeader::fits`]). The padding is zeros and their number.
+    /// Appends the packet. Its header must fit: see [`PacketHeader::fits`]. The padding is zeros, and their number in the last byte.
+    /// If an allocation fails, `out` is unchanged.
     ///
     /// # Panics
     ///
@@ -327,6 +342,14 @@ impl<'a> RtpPacket<'a> {
     pub fn write(&self, out: &mut Vec<u8>) -> Result<(), AllocError> {
         assert!(self.header.fits());
         self.header.known();
+        let _padding = self.padding;
+        let len = out.len();
+        let answer = self.append(out);
+        cut_back(answer, len, out)
+    }
+
+    /// Appends header, payload and padding. If an allocation fails, a beginning of them is appended.
+    fn append(&self, out: &mut Vec<u8>) -> Result<(), AllocError> {
         self.header.write_padded(out, 1 <= self.padding)?;
         out.try_extend(self.payload)?;
         write_padding(self.padding, out)

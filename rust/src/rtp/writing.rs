@@ -112,7 +112,7 @@ fn gather<'a>(rows: &[Row<'a>; KINDS]) -> ([Element<'a>; KINDS], usize) {
     (elements, count)
 }
 
-/// Writes the elements in the place of what `out` has, and answers the profile of their extension, if there are any.
+/// Replaces the contents of `out` with the elements, and returns the profile of their extension, if there are any.
 fn write_extension(elements: &[Element<'_>], out: &mut Vec<u8>) -> Result<Option<u16>, AllocError> {
     out.clear();
     if elements.is_empty() {
@@ -173,9 +173,10 @@ impl ExtensionIds {
         ])
     }
 
-    /// Writes the values that have an id as the bytes of a header extension, in the place of what `out` has, and answers its
-    /// profile: that of the one-byte form where it has room for each, else of the two-byte form; `None`, and no bytes, where
-    /// none of them is there. A level of the audio above 0 or below -127 dBov is not written, nor is speech without a level.
+    /// Replaces the contents of `out` with the bytes of a header extension for the values that have an id, and returns its
+    /// profile: the one-byte form if it has room for each value, else the two-byte form (RFC 8285). If no value has an id, it
+    /// returns `None` and empties `out`. An audio level above 0 or below -127 dBov is not written, nor is speech without a
+    /// level. If an allocation fails, `out` has a beginning of the bytes.
     ///
     /// # Panics
     ///

@@ -18,6 +18,12 @@ use crate::wire::{Frequency, Ticks};
 use alloc::vec::Vec;
 use core::fmt;
 
+/// For how many packets of a datagram of RED places are kept free: its primary block, a suspect packet, and eight older blocks.
+const RED_AT_ONCE: usize = 10;
+
+/// For how many packets of another datagram: its own, and a suspect one.
+const AT_ONCE: usize = 2;
+
 /// How a stream is sent in RED (RFC 2198): each packet carries some of the media before it once more.
 #[derive(Clone, Copy, Debug, PartialEq, Eq)]
 pub struct RedSettings {
@@ -219,6 +225,8 @@ impl<B: Depacketizer> Receiver<B> {
             wait_limits.most_held_back(),
             settings.limit,
         );
+        let packets = JitterBuffer::over(numbers, buffer, clock_rate, wait_limits);
+        let at_once = packets_at_once(&red);
         Ok(Receiver {
             stream: Stream {
                 payload_type: settings.payload_type,
@@ -229,7 +237,7 @@ impl<B: Depacketizer> Receiver<B> {
             },
             named: settings.ssrc,
             ssrc: settings.ssrc,
-            packets: JitterBuffer::over(numbers, buffer, clock_rate, wait_limits),
+            packets: packets.with_room_for(at_once),
             arrived: Arrived::nothing(),
             times: RtpTimes::new(),
             statistics,
@@ -366,6 +374,14 @@ fn retransmission_fits(retransmission: Option<Retransmission>) -> bool {
     match retransmission {
         Some(it) => it.payload_type <= 127,
         None => true,
+    }
+}
+
+/// For how many packets of one datagram places are kept free.
+fn packets_at_once(red: &Option<RedStream>) -> usize {
+    match red {
+        Some(_) => RED_AT_ONCE,
+        None => AT_ONCE,
     }
 }
 

@@ -174,6 +174,16 @@ impl Vp8Descriptor {
         }
     }
 
+    /// How many bits the picture id has: 7, or 15 if its M bit is set (RFC 7741, section 4.2). `None` if there is no picture
+    /// id. A patch keeps this width.
+    pub fn picture_id_bits(&self) -> Option<u8> {
+        match self.picture_id {
+            Some(PictureId::Short(_)) => Some(7),
+            Some(PictureId::Long(_)) => Some(15),
+            None => None,
+        }
+    }
+
     /// TL0PICIDX, if it is there.
     pub fn tl0_pic_idx(&self) -> Option<u8> {
         self.tl0_pic_idx

@@ -32,12 +32,13 @@ pub fn av1c_front(header: &Av1SequenceHeader) -> [u8; AV1C_FRONT_LEN] {
 }
 
 /// Appends the record of a stream: the four bytes of [`av1c_front`], and the sequence header OBU with its header and size, as it
-/// stands in the stream. Where there is no memory, what is appended is a beginning of it.
+/// is in the stream. If the allocation fails, `out` is unchanged.
 pub fn write_av1c(
     header: &Av1SequenceHeader,
     sequence_header_obu: &[u8],
     out: &mut Vec<u8>,
 ) -> Result<(), AllocError> {
+    out.try_room(AV1C_FRONT_LEN + sequence_header_obu.len())?;
     out.try_extend(&av1c_front(header))?;
     out.try_extend(sequence_header_obu)
 }
