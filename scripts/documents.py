@@ -51,7 +51,7 @@ RUN_ELSEWHERE = {
     "rt run": ("scripts/process.py", '["rt", "run"]'),
     "rt check": ("scripts/wrong_bodies.py", '"rt", "check"'),
     "rt new": ("scripts/documents.py", "begun_crate"),
-    "rm -rf crates/mine/": ("scripts/documents.py", "begun_crate"),
+    "rm -r crates/mine/": ("scripts/documents.py", "begun_crate"),
     'echo "mine: codec_payload_core"': ("scripts/documents.py", "begun_crate"),
     "cp examples/first.rattle": ("scripts/documents.py", "begun_crate"),
     "rt fmt": ("scripts/documents.py", "rt fmt"),

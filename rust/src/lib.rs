@@ -41,8 +41,7 @@
 //! | the root | the names of `str0m`'s `src/packet`: [`CodecPacketizer`], [`CodecDepacketizer`], [`DepacketizingBuffer`], codecs, errors, and numbers and times |
 //! | [`sender`], [`stream`] | one stream between frames and a socket: `Sender` and `Receiver` |
 //! | [`jitter`] | the jitter buffer of a receiver, for callers who read RTP headers themselves |
-//! | [`rtp`] | RTP packets, header extensions and their values |
-//! | [`rtcp`] | RTCP packets: reports, SDES, BYE, NACK, PLI and FIR, read and written |
+//! | [`rtp`], [`rtcp`] | RTP packets, header extensions and their values; RTCP packets |
 //! | [`media`] | what frames say: keyframe, size, duration; OBUs, superframes, `av1C`, the Opus header |
 //! | [`red`], [`vp8`], [`vp9`], [`av1`], [`amr_wb`], [`tele`], [`plain`] | one format each |
 //! | [`payload`], [`payloads`] | samples become packets, in fresh memory or in memory that is used again |

@@ -43,7 +43,7 @@ def remove_element(f, start, end, closing):
 
 
 def is_memory(text):
-    return text in ALLOC_VALUES or re.fullmatch(r"\* [\w. ]+ \. allocator \( \)|(\w+ \. )+alloc", text) is not None
+    return text in ALLOC_VALUES or re.fullmatch(r"\* [\w. ]+ \. allocator \( \)|(?:\w+ \. )+alloc", text) is not None
 
 
 def drop_memory(f):

@@ -226,7 +226,7 @@ impl<B: Depacketizer> Receiver<B> {
             settings.limit,
         );
         let packets = JitterBuffer::over(numbers, buffer, clock_rate, wait_limits);
-        let at_once = packets_at_once(red);
+        let at_once = packets_at_once(&red);
         Ok(Receiver {
             stream: Stream {
                 payload_type: settings.payload_type,
@@ -378,7 +378,7 @@ fn retransmission_fits(retransmission: Option<Retransmission>) -> bool {
 }
 
 /// For how many packets of one datagram places are kept free.
-fn packets_at_once(red: Option<RedStream>) -> usize {
+fn packets_at_once(red: &Option<RedStream>) -> usize {
     match red {
         Some(_) => RED_AT_ONCE,
         None => AT_ONCE,

@@ -1,0 +1,77 @@
+#!/usr/bin/env python3
+"""Writes first inputs of the fuzz targets, made of the test vectors of the repository.
+
+  tools/fuzz/seeds.py FOLDER
+
+FOLDER gets a folder for each target. A seed is laid out as the target reads its bytes.
+"""
+import os
+import re
+import sys
+
+ROOT = os.path.dirname(os.path.dirname(os.path.dirname(os.path.realpath(__file__))))
+sys.path.insert(0, f"{ROOT}/scripts")
+
+import datagram_rows  # noqa: E402  (the folder is known only now)
+import program_rows  # noqa: E402
+
+# The places of codecs in `CODECS` of src/formats.rs.
+CODECS = {"opus": 0, "pcmu": 1, "pcma": 2, "g722": 3, "cn": 4, "amrwb": 5, "amrwb-octet": 0x85, "tele": 6, "vp8": 7,
+          "vp8-id": 7, "vp9": 8, "vp9-flex": 8, "av1": 9, "null": 10}
+# A receiver with a limit of 4,096 and no other setting.
+PLAIN = bytes([0, 0, 0])
+
+
+def some(data):
+    """Bytes with their length in front, as `Input::some` reads them."""
+    return bytes([len(data)]) + data if len(data) < 64 else bytes([0xf0]) + (len(data) % 2048).to_bytes(2, "big") + data[:2047]
+
+
+def texts(rows):
+    return [row.given for row in rows if isinstance(row.given, str)]
+
+
+def words(text, name):
+    return [bytes.fromhex(it) for it in re.findall(rf"^{name}(?: \S+)*? ((?:[0-9a-f]{{2}})+)$", text, re.M)]
+
+
+def captured():
+    with open(f"{ROOT}/scripts/captured_packets.txt", encoding="utf-8") as it:
+        return [bytes.fromhex(field) for field in re.findall(r"\b(?:[0-9a-f]{2}){12,}\b", it.read())]
+
+
+def seeds():
+    """Target and bytes of each seed."""
+    for text in texts(program_rows.ROWS):
+        codec = bytes([CODECS.get(text.split(" ")[1] if " " in text else "", 0)])
+        for frame in words(text, "sample"):
+            yield "units", codec + bytes([3, 0, 7, 4, 0xb0]) + frame
+            yield "media", bytes([0]) + frame
+        for line in words(text, "sample"):
+            yield "depacketize", codec + bytes([0]) + some(line)
+    packets = [it for text in texts(datagram_rows.ROWS) for it in words(text, "datagram")] + captured()
+    for packet in packets:
+        yield "packets", bytes(3) + packet
+        payload = packet[12:]
+        yield "red", bytes(16) + payload
+        yield "vp8", bytes([7, 0, 5, 1, 1]) + payload
+        for place in range(11):
+            yield "depacketize", bytes([place, 0]) + some(payload)
+    for text in texts(datagram_rows.ROWS):
+        calls = b"".join(bytes([5]) + some(packet) + bytes([0]) for packet in words(text, "datagram"))
+        yield "receiver", PLAIN + bytes(2) + calls
+    yield "buffer", bytes([1, 4, 0x80, 1, 0x80, 3, 0x80, 2, 0, 0, 0, 0])
+
+
+def main(folder):
+    for place, (target, data) in enumerate(seeds()):
+        os.makedirs(f"{folder}/{target}", exist_ok=True)
+        with open(f"{folder}/{target}/seed-{place:05}", "wb") as it:
+            it.write(data)
+    print(place + 1)
+
+
+if __name__ == "__main__":
+    if len(sys.argv) != 2:
+        sys.exit(__doc__)
+    main(sys.argv[1])

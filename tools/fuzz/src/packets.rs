@@ -1,0 +1,41 @@
+//! RTP packets and header extensions.
+
+use crate::input::Input;
+use codec_payload::rtp::{ExtensionIds, RtpPacket, is_rtcp};
+
+/// Any bytes; what is read is written and read again.
+pub fn packets(input: &mut Input) {
+    let ids = ExtensionIds {
+        abs_capture_time: Some(1 + input.byte() % 14),
+        video_orientation: Some(1 + input.byte() % 14),
+        audio_level: Some(1 + input.byte() % 14),
+        ..ExtensionIds::default()
+    };
+    let bytes = input.0;
+    let _ = is_rtcp(bytes);
+    let Ok(packet) = RtpPacket::parse(bytes) else {
+        return;
+    };
+    let mut written = Vec::new();
+    packet.write(&mut written).unwrap();
+    assert_eq!(written.len(), bytes.len());
+    assert_eq!(RtpPacket::parse(&written), Ok(packet));
+    let values = ids.values(&packet.header.extension);
+    if ids.fit() {
+        let mut extension = Vec::new();
+        if let Some(profile) = ids.write(&values, &mut extension).unwrap() {
+            let again = codec_payload::rtp::HeaderExtension {
+                profile,
+                bytes: &extension,
+            };
+            let read = ids.values(&Some(again));
+            assert_eq!(
+                (read.abs_capture_time, read.video_orientation),
+                (values.abs_capture_time, values.video_orientation)
+            );
+        }
+    }
+    if let Some(elements) = packet.header.extension.and_then(|it| it.elements()) {
+        assert!(elements.count() <= bytes.len());
+    }
+}
