@@ -2,6 +2,7 @@
 """Tests the documents of the repository.
 
   scripts/documents.py                 all checks
+  scripts/documents.py --quick         those that run no program: all but the blocks of code and the commands
   scripts/documents.py --wrap FILE..   wraps anew each paragraph of these pages, or of all, that has a line of more than 128
                                        characters
 
@@ -436,12 +437,15 @@ def main(words):
             with open(path, "w", encoding="utf-8") as it:
                 it.write(wrapped)
         return 0
+    quick = words[:1] == ["--quick"]
     pages = files(".md")
     wrong = [
-        *links(pages), *named_pages(), *lines(pages), *crate_table(), *versions(), *toolchain(), *additions(), *figures(), *pictures(pages),
-        *blocks(pages), *begun_crate(), *commands(pages),
+        *links(pages), *named_pages(), *lines(pages), *crate_table(), *versions(), *toolchain(), *additions(), *figures(),
+        *pictures(pages),
     ]
-    count = sum(len(blocks_and_rest(it)[0]) for it in pages)
+    if not quick:
+        wrong += [*blocks(pages), *begun_crate(), *commands(pages)]
+    count = 0 if quick else sum(len(blocks_and_rest(it)[0]) for it in pages)
     verdict = f"{len(wrong)} faults" if wrong else "all passed"
     print("\n".join([*wrong, f"documents: {len(pages)} pages with {count} blocks of code: {verdict}"]))
     return 1 if wrong else 0

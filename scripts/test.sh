@@ -73,6 +73,11 @@ runs() {
     echo "$answer $* ($(($(date +%s) - began)) s): $(tail -n 1 "$work/output")"
 }
 
+# The quick checks come first: a fault that they find costs no proof.
+runs scripts/format.sh
+runs scripts/wrong_bodies.py --stale
+runs scripts/documents.py --quick
+runs scripts/face_header.py
 runs scripts/rust.sh
 early_passed=$passed
 early_failed=$failed
@@ -85,7 +90,6 @@ if [ "${1:-}" != --no-proofs ]; then
     passed=$((early_passed + $1))
     failed=$((early_failed + $2))
 fi
-runs scripts/wrong_bodies.py --stale
 runs scripts/process.py
 runs scripts/rust_programs.py
 runs scripts/refuse.sh
