@@ -63,7 +63,7 @@ def drop_memory(f):
             f.ts[i].pre = pre if "//" not in f.ts[i].pre else pre.rstrip(" \t\n") + f.ts[i].pre
             continue
         i += 1
-    # macros: what stands before the `;`
+    # macros: the allocator or the handle in front of `;`
     i = 0
     while i < len(f.ts):
         t = f.ts[i]

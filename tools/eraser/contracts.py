@@ -7,7 +7,7 @@ from layout import CONSTANT_FUNCTIONS
 from tokens import Refused, angles, close, elements, plain, tokens
 
 
-# What types derive in Rust besides: where `clone` cannot be refused no proof stands against it, and `str0m` has these.
+# What types derive in Rust in addition: their `clone` cannot fail, and `str0m` derives these.
 MORE = {"PacketError": ["Clone", "Copy"], "Depacketized": ["Clone"], "RedundantBlock": ["Clone", "PartialEq", "Eq"], "Vp9Depacketizer": ["Clone"],
         "OutgoingPacket": ["Clone"], "G7xxPacketizer": ["Copy"], "OpusPacketizer": ["Copy"], "Vp8Packetizer": ["Copy"],
         "Vp8DescriptorError": ["Copy"], "Vp8PatchError": ["Copy"]}

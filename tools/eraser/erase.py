@@ -107,13 +107,13 @@ def run(repository, words):
         return 0
     generated.format()
     asked = sum(len(f.asks) for f in library.values())
-    told = f"{len(generated.files)} files, {asked} public functions whose premises are asserted"
+    summary = f"{len(generated.files)} files, {asked} public functions whose premises are asserted"
     if words.check:
         differences = generated.differences()
-        print("".join([*differences, f"{told}: {len(differences)} differ from rust/"]))
+        print("".join([*differences, f"{summary}: {len(differences)} differ from rust/"]))
         return 1 if differences else 0
     generated.write()
-    print(told)
+    print(summary)
     return 0
 
 

@@ -111,7 +111,7 @@ pub fn receiver(input: &mut Input) {
     }
 }
 
-/// The theorem of the counters: what was received and recovered is the sum of what became of it.
+/// The theorem of the counters: what was received and recovered is the sum of all outcomes.
 fn counted(receiver: &Receiver) {
     let all = receiver.counters();
     let packets = all.packets;
