@@ -86,6 +86,7 @@ def with_allowed(text):
 
 
 def run(repository, words):
+    """Does what the command line asks for; returns the status."""
     known = Known()
     library, others = read_all(repository, known)
     passed_on = passed_on_modules(library)
