@@ -81,6 +81,7 @@ pub fn receiver(input: &mut Input) {
     let Some(mut receiver) = receiver_of(input) else {
         return;
     };
+    let is_named = receiver.ssrc().is_some();
     let (mut now, mut number, mut last) = (0_u64, input.word(), None);
     while !input.is_empty() {
         let how = input.byte();
