@@ -2,7 +2,7 @@
 # Tests rust/, the library as plain Rust. Needs cargo with rustfmt and clippy, and Python 3; no network and no rt.
 #
 #   scripts/rust.sh          all that is below
-#   scripts/rust.sh quick    the same without the plants and the package
+#   scripts/rust.sh quick    the same without the package, the plants and the fuzzing
 #
 # - The generated files are what a fresh run of tools/eraser/erase.py writes.
 # - rustfmt, clippy and rustdoc have nothing to say, and all tests pass, with and without the feature `fallible`; the crate builds
@@ -11,6 +11,8 @@
 # - The package builds by itself, and each example ends well; docs/LIMITS.md has the table that examples/waiting.rs prints.
 # - The erased programs answer each test vector of the proved programs (scripts/rust_programs.py 0; scripts/test.sh compares random
 #   scripts once the programs are proved).
+#
+# - With clang's libFuzzer: two seconds of each fuzz target (scripts/fuzz.sh). With Debian's packages of crates: rust-extras/test.sh.
 #
 # The last line says what passed; the status is 0 if all did.
 set -eu
@@ -56,5 +58,10 @@ programs=$(tail -n 1 "$work/log")
 if [ "${1:-}" != quick ]; then
     step cargo package --quiet --allow-dirty
     step "$root/tools/eraser/plants.py"
+    step "$root/rust-extras/test.sh"
+    if ls /usr/lib/llvm-*/lib/clang/*/lib/linux/libclang_rt.fuzzer-x86_64.a >/dev/null 2>&1; then
+        step "$root/scripts/fuzz.sh" 2
+        programs="$programs; $(tail -n 1 "$work/log")"
+    fi
 fi
 echo "rust: $passed tests, $fallible with \`fallible\`, $(ls examples/*.rs | wc -l) examples; $programs"

@@ -17,7 +17,7 @@ thread_local! {
     static MADE: Cell<usize> = const { Cell::new(0) };
 }
 
-/// The system's allocator, which refuses the allocation whose turn it is.
+/// The system's allocator, which refuses one allocation.
 struct Refusing;
 
 fn is_refused() -> bool {
@@ -141,7 +141,7 @@ fn meta(number: u64, marker: bool) -> RtpMeta {
     meta
 }
 
-/// A buffer with the packets of one frame, all but `missing` of them.
+/// A buffer with the packets of one frame.
 fn filled(codec: Codec, packets: &[Vec<u8>]) -> DepacketizingBuffer {
     let mut buffer = DepacketizingBuffer::new(depacketizer(codec), 0);
     for (place, payload) in packets.iter().enumerate() {

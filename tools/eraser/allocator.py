@@ -9,6 +9,7 @@ ALLOC_VALUES = ("alloc", "_alloc", "self . alloc", "rt . alloc ( )", "rt", "& rt
 
 
 def drop_bounds(f):
+    """Drops the bound `Drop` of types."""
     for bound in ("Drop",):
         i = 0
         while i < len(f.ts):
@@ -43,12 +44,19 @@ def remove_element(f, start, end, closing):
 
 
 def is_memory(text):
+    """Whether a value is the allocator or a handle."""
     return text in ALLOC_VALUES or re.fullmatch(r"\* [\w. ]+ \. allocator \( \)|(?:\w+ \. )+alloc", text) is not None
 
 
 def drop_memory(f):
     """The allocator and the handle: parameters, fields, arguments and `let`s."""
-    # let alloc = ..;
+    drop_lets(f)
+    drop_from_macros(f)
+    drop_from_lists(f)
+
+
+def drop_lets(f):
+    """Drops `let alloc = ..;` and `let rt = ..;`."""
     i = 0
     while i < len(f.ts):
         if plain(f.ts[i:i + 3]) in ("let alloc =", "let rt ="):
@@ -63,7 +71,10 @@ def drop_memory(f):
             f.ts[i].pre = pre if "//" not in f.ts[i].pre else pre.rstrip(" \t\n") + f.ts[i].pre
             continue
         i += 1
-    # macros: what stands before the `;`
+
+
+def drop_from_macros(f):
+    """Drops the allocator or the handle in front of `;` in a macro."""
     i = 0
     while i < len(f.ts):
         t = f.ts[i]
@@ -87,37 +98,50 @@ def drop_memory(f):
                 else:
                     f.refuse(t, f"a macro with {head!r} before ;")
         i += 1
-    # lists
+
+
+def drop_from_lists(f):
+    """Drops parameters, arguments and fields, one after another."""
     i = 0
     while i < len(f.ts):
-        t = f.ts[i]
-        if t.kind == "p" and t.text in ("(", "{"):
-            again = True
-            while again:
-                again = False
-                try:
-                    found, end = elements(f.ts, i)
-                except Refused:
-                    break
-                for a, b in found:
-                    text = plain(f.ts[a:b])
-                    if t.text == "(" and not is_memory(text):
-                        m = re.fullmatch(r"(mut )?(_?alloc|rt) : (.*)", text)
-                        if not m or (m.group(3) not in ("Global",) + RUNTIMES):
-                            continue
-                    elif t.text == "{":
-                        g = re.sub(r"^(# \[ [^\]]* \] )*", "", text)
-                        if not (re.fullmatch(r"(pub (\( \w+ \) )?)?_?alloc : Global", g) or g in ("alloc", "_alloc")):
-                            continue
-                        if not (b < end or f.ts[a - 1].text in ("{", ",")) or (g in ("alloc",) and b == end and f.ts[a - 1].text == "{"):
-                            continue
-                        if not struct_like(f, i):
-                            f.refuse(f.ts[a], "alloc in braces")
-                        f.ts[a].pre = without_doc(f.ts[a].pre)
-                    remove_element(f, a, b, end)
-                    again = True
-                    break
+        if f.ts[i].kind == "p" and f.ts[i].text in ("(", "{"):
+            while drop_one(f, i):
+                pass
         i += 1
+
+
+def drop_one(f, i):
+    """Drops the first element with an allocator of the list at `i`; whether there was one."""
+    try:
+        found, end = elements(f.ts, i)
+    except Refused:
+        return False
+    for a, b in found:
+        text = plain(f.ts[a:b])
+        is_gone = is_parameter(text) if f.ts[i].text == "(" else is_field(f, text, a, b, end)
+        if is_gone:
+            if f.ts[i].text == "{":
+                if not struct_like(f, i):
+                    f.refuse(f.ts[a], "alloc in braces")
+                f.ts[a].pre = without_doc(f.ts[a].pre)
+            remove_element(f, a, b, end)
+            return True
+    return False
+
+
+def is_parameter(text):
+    """Whether the element of a list is an allocator or a handle, as a value or with its type."""
+    m = re.fullmatch(r"(mut )?(_?alloc|rt) : (.*)", text)
+    return is_memory(text) or bool(m) and m.group(3) in ("Global",) + RUNTIMES
+
+
+def is_field(f, text, a, b, end):
+    """Whether the element between braces, from `a` to `b`, is a field of a struct that holds an allocator."""
+    bare = re.sub(r"^(# \[ [^\]]* \] )*", "", text)
+    if not (re.fullmatch(r"(pub (\( \w+ \) )?)?_?alloc : Global", bare) or bare in ("alloc", "_alloc")):
+        return False
+    is_alone = bare == "alloc" and b == end and f.ts[a - 1].text == "{"
+    return (b < end or f.ts[a - 1].text in ("{", ",")) and not is_alone
 
 
 def struct_like(f, i):

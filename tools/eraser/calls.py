@@ -101,6 +101,7 @@ def receiver(f, i):
 
 
 def types_of(f, i):
+    """The first token of the receiver of the method at `i`, and the types that the receiver may have."""
     first, last = receiver(f, i)
     fn, self_type = enclosing(f, i)
     if last is None:
@@ -122,60 +123,76 @@ def types_of(f, i):
 
 
 def rename_calls(f):
-    """Calls that can want memory get names of their own, unless the type has a method of that name itself."""
+    """Calls that may fail to allocate get names of their own, unless the type has a method of that name itself."""
     i = 1
     while i < len(f.ts):
         t = f.ts[i]
         if t.kind == "word" and f.ts[i - 1].text == "." and f.ts[i + 1].text == "(":
             if t.text in FALLIBLE or t.text == "push_str":
-                first, types = types_of(f, i)
-                own = f.known.methods.get(t.text, set())
-                end = close(f.ts, i + 1)
-                said = HINTS.get((f.path.split("crates/")[-1], plain(f.ts[first:i - 1]).replace(" ", "")))
-                if said:
-                    types = {said}
-                # Other types have no such method. A choice that is wrong rustc refuses: no `try_push` there, or no answer here.
-                types = {x for x in types if x in STD or x in own or x in ("String", "HashMap")}
-                if types in ({"String"}, {"HashMap"}):
-                    if f.ts[end + 1].text == "?":
-                        del f.ts[end + 1]
-                    else:
-                        pre, f.ts[first].pre = f.ts[first].pre, ""
-                        f.ts.insert(end + 1, Token("", ")", "p", t.line))
-                        f.ts[first:first] = [Token(pre, "Ok", "word", t.line), Token("", "(", "p", t.line)]
-                        i += 2
-                elif types and types <= STD:
-                    if plain(f.ts[end + 1:end + 5]) == ". unwrap ( )":
-                        del f.ts[end + 1:end + 5]  # room was made before, which is proved
-                    else:
-                        t.text = FALLIBLE[t.text]
-                        f.needs |= {TRAIT[x] for x in types if x in TRAIT}
-                elif types and types <= own:
-                    pass
-                else:
-                    f.refuse(t, f"{t.text} on {plain(f.ts[first:i - 1])!r} of types {sorted(map(str, types))}; of its own it is a method of {sorted(own)}")
+                i += rename_fallible(f, i)
             elif t.text == "slice_mut":
-                first, _ = receiver(f, i)
-                end = close(f.ts, i + 1)
-                f.ts[end].text, f.ts[i + 1].text = "]", "["
-                del f.ts[i - 1:i + 1]
-                if f.ts[end - 1].text != ".":
-                    pre = f.ts[first].pre
-                    f.ts[first].pre = ""
-                    f.ts[first:first] = [Token(pre, "&", "p", t.line), Token("", "mut", "word", t.line), ]
-                    f.ts[first + 2].pre = " "
+                index_by_range(f, i)
             elif t.text == "extend" and f.ts[close(f.ts, i + 1) + 1].text == "?" and types_of(f, i)[1] & STD and not f.shows:
                 del f.ts[close(f.ts, i + 1) + 1]
-            elif t.text == "clone" and plain(f.ts[i + 1:i + 4]) == "( ) ?":
-                del f.ts[i + 3]
-            elif t.text in ("to_vec", "collect", "to_string", "to_owned") and plain(f.ts[i + 1:i + 4]) == "( ) ?":
+            elif t.text in ("clone", "to_vec", "collect", "to_string", "to_owned") and plain(f.ts[i + 1:i + 4]) == "( ) ?":
                 del f.ts[i + 3]
             elif t.text == "allocator":
                 f.refuse(t, "allocator()")
         i += 1
 
 
+def rename_fallible(f, i):
+    """Renames the call at `i` by the type of its receiver; returns how many tokens were put in front of it."""
+    t = f.ts[i]
+    first, types = types_of(f, i)
+    own = f.known.methods.get(t.text, set())
+    end = close(f.ts, i + 1)
+    hint = HINTS.get((f.path.split("crates/")[-1], plain(f.ts[first:i - 1]).replace(" ", "")))
+    # Other types have no such method. rustc refuses a wrong choice: there is no `try_push`, or no result, then.
+    types = {hint} if hint else types
+    types = {x for x in types if x in STD or x in own or x in ("String", "HashMap")}
+    if types in ({"String"}, {"HashMap"}):
+        return without_result(f, first, end)
+    if types and types <= STD:
+        if plain(f.ts[end + 1:end + 5]) == ". unwrap ( )":
+            del f.ts[end + 1:end + 5]  # room was made before, which is proved
+        else:
+            t.text = FALLIBLE[t.text]
+            f.needs |= {TRAIT[x] for x in types if x in TRAIT}
+    elif not types or not types <= own:
+        f.refuse(t, f"{t.text} on {plain(f.ts[first:i - 1])!r} of types {sorted(map(str, types))}; "
+                    f"of its own it is a method of {sorted(own)}")
+    return 0
+
+
+def without_result(f, first, end):
+    """A call that cannot fail in Rust: drops the `?` behind it, or makes its answer `Ok`."""
+    if f.ts[end + 1].text == "?":
+        del f.ts[end + 1]
+        return 0
+    t = f.ts[first]
+    pre, t.pre = t.pre, ""
+    f.ts.insert(end + 1, Token("", ")", "p", t.line))
+    f.ts[first:first] = [Token(pre, "Ok", "word", t.line), Token("", "(", "p", t.line)]
+    return 2
+
+
+def index_by_range(f, i):
+    """`x.slice_mut(range)` becomes `&mut x[range]`."""
+    first, _ = receiver(f, i)
+    t = f.ts[i]
+    end = close(f.ts, i + 1)
+    f.ts[end].text, f.ts[i + 1].text = "]", "["
+    del f.ts[i - 1:i + 1]
+    if f.ts[end - 1].text != ".":
+        pre = f.ts[first].pre
+        f.ts[first].pre = ""
+        f.ts[first:first] = [Token(pre, "&", "p", t.line), Token("", "mut", "word", t.line)]
+        f.ts[first + 2].pre = " "
+
+
 def rename_makers(f):
+    """Calls that make a collection or a box get names of their own."""
     i = 0
     while i < len(f.ts):
         p = plain(f.ts[i:i + 4])

@@ -7,10 +7,13 @@ from layout import CONSTANT_FUNCTIONS
 from tokens import Refused, angles, close, elements, plain, tokens
 
 
-# What types derive in Rust besides: where `clone` cannot be refused no proof stands against it, and `str0m` has these.
+# What types derive in Rust in addition: their `clone` cannot fail, and `str0m` derives these.
 MORE = {"PacketError": ["Clone", "Copy"], "Depacketized": ["Clone"], "RedundantBlock": ["Clone", "PartialEq", "Eq"], "Vp9Depacketizer": ["Clone"],
         "OutgoingPacket": ["Clone"], "G7xxPacketizer": ["Copy"], "OpusPacketizer": ["Copy"], "Vp8Packetizer": ["Copy"],
         "Vp8DescriptorError": ["Copy"], "Vp8PatchError": ["Copy"]}
+
+# What Rattle derives as Rust does, and `Drop`, which Rust does by itself.
+DERIVES = {"Clone", "Copy", "Debug", "Default", "PartialEq", "Eq", "PartialOrd", "Ord", "Hash", "Drop", "Error"}
 
 
 def drop_clauses(f):
@@ -61,6 +64,7 @@ def document_premise(first, rust):
 
 
 def drop_ghosts(f):
+    """Drops ghost items with their documentation."""
     i = 0
     while i < len(f.ts):
         t = f.ts[i]
@@ -96,20 +100,7 @@ def drop_attributes(f):
                     f.ts[i].pre = pre.rstrip() + "\n\n"
                 continue
             if name == "derive":
-                names = [plain(f.ts[a:b]) for a, b in elements(f.ts, k + 2)[0]]
-                bad = set(names) - {"Clone", "Copy", "Debug", "Default", "PartialEq", "Eq", "PartialOrd", "Ord", "Hash", "Drop", "Error"}
-                if bad:
-                    f.refuse(t, f"derives {bad}")
-                # What Rattle leaves without `Debug`, since a proof has no need of it, has it in Rust.
-                names = [n for n in names if n != "Drop"] + ["Debug"] * ("Debug" not in names and f.shows and not has_own_debug(f, end))
-                names += [n for n in MORE.get(type_behind(f, end), []) if n not in names and f.shows]
-                if names:
-                    f.ts[k + 2:end + 1] = tokens("(%s)]" % ", ".join(names))[:-1]
-                    i = close(f.ts, k)
-                    continue
-                pre = t.pre
-                del f.ts[i:end + 1]
-                f.ts[i].pre = pre + f.ts[i].pre.lstrip()
+                i = trim_derive(f, i, k)
                 continue
             if name not in ("inline", "cold", "must_use", "cfg", "test", "error", "allow", "non_exhaustive", "repr", "default"):
                 f.refuse(t, f"attribute {name}")
@@ -117,7 +108,27 @@ def drop_attributes(f):
         i += 1
 
 
+def trim_derive(f, i, k):
+    """What the derive at `i`, whose bracket is at `k`, derives in Rust; returns the place to go on at."""
+    t, end = f.ts[i], close(f.ts, k)
+    names = [plain(f.ts[a:b]) for a, b in elements(f.ts, k + 2)[0]]
+    bad = set(names) - DERIVES
+    if bad:
+        f.refuse(t, f"derives {bad}")
+    # Types that Rattle leaves without `Debug`, since no proof needs it, have it in Rust.
+    names = [n for n in names if n != "Drop"] + ["Debug"] * ("Debug" not in names and f.shows and not has_own_debug(f, end))
+    names += [n for n in MORE.get(type_behind(f, end), []) if n not in names and f.shows]
+    if names:
+        f.ts[k + 2:end + 1] = tokens("(%s)]" % ", ".join(names))[:-1]
+        return close(f.ts, k)
+    pre = t.pre
+    del f.ts[i:end + 1]
+    f.ts[i].pre = pre + f.ts[i].pre.lstrip()
+    return i
+
+
 def drop_models(f):
+    """Drops impls of `Model`, and conversions of `AllocFailed`."""
     i = 0
     while i < len(f.ts):
         t = f.ts[i]

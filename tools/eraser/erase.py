@@ -86,6 +86,7 @@ def with_allowed(text):
 
 
 def run(repository, words):
+    """Does what the command line asks for; returns the status."""
     known = Known()
     library, others = read_all(repository, known)
     passed_on = passed_on_modules(library)
@@ -107,13 +108,13 @@ def run(repository, words):
         return 0
     generated.format()
     asked = sum(len(f.asks) for f in library.values())
-    told = f"{len(generated.files)} files, {asked} public functions whose premises are asserted"
+    summary = f"{len(generated.files)} files, {asked} public functions whose premises are asserted"
     if words.check:
         differences = generated.differences()
-        print("".join([*differences, f"{told}: {len(differences)} differ from rust/"]))
+        print("".join([*differences, f"{summary}: {len(differences)} differ from rust/"]))
         return 1 if differences else 0
     generated.write()
-    print(told)
+    print(summary)
     return 0
 
 

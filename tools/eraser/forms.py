@@ -6,6 +6,7 @@ from tokens import Token, angles, close, elements, plain, tokens
 
 
 def put_forms(f):
+    """Rewrites `prove!`, `fmt` with a writer, boxes of traits, and structs without fields."""
     i = 0
     while i < len(f.ts):
         t = f.ts[i]
@@ -42,6 +43,7 @@ def put_forms(f):
 
 
 def unit_literals(f):
+    """Literals of structs without fields lose their braces."""
     i = 0
     while i < len(f.ts):
         t = f.ts[i]

@@ -95,7 +95,7 @@ def drop_passed_on(f):
 
 
 def of_media(sources, passed_on):
-    """What `media` says besides of the crate whose modules it passes on."""
+    """The lines of `media` for the crate whose modules it names again."""
     modules = [module for (crate, module), of in passed_on.items() if (crate, of) == ("media", "vpx")]
     names = []
     for module in modules:

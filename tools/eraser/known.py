@@ -15,6 +15,7 @@ class Known:
         self.methods, self.fields, self.fields_of, self.answers, self.units = {}, {}, {}, {}, set()
 
     def read(self, f):
+        """Takes in what a file declares."""
         ts = f.ts
         for i, t in enumerate(ts):
             if t.kind != "word":

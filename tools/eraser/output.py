@@ -73,6 +73,7 @@ class Output:
 
 
 def formatted(item):
+    """The text of a file as rustfmt lays it out."""
     path, text = item
     ran = subprocess.run(["rustfmt", "--edition", "2024"], input=text, capture_output=True, text=True, check=False)
     if ran.returncode:

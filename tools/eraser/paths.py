@@ -140,6 +140,7 @@ def import_line(f, line):
 
 
 def bare_imports(f):
+    """Imports what `no_std` lacks: `Vec`, `Box`, `String`, `vec!` and `format!`."""
     words = {t.text for t in f.ts if t.kind == "word"}
     imported = joined(f.ts)
     for name, path in (("Vec", "alloc::vec::Vec"), ("Box", "alloc::boxed::Box"), ("String", "alloc::string::String")):

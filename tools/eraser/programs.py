@@ -54,6 +54,7 @@ def write(folder, crate, others, passed_on):
 
 
 def put(path, text):
+    """Writes a file."""
     os.makedirs(os.path.dirname(path), exist_ok=True)
     with open(path, "w", encoding="utf-8") as it:
         it.write(text)

@@ -5,7 +5,7 @@ from tokens import CLOSE, OPEN, Refused, angles, close, joined, opens, plain, to
 
 
 class File:
-    """A file on its way: its tokens, and what is told of it in the end."""
+    """A file on its way: its tokens, and what the rules find in it."""
 
     def __init__(self, path, text, known):
         try:
@@ -36,7 +36,7 @@ def without_doc(pre):
 
 
 def item_start(f, i):
-    """The first token of the item whose keyword stands at `i`, with its attributes."""
+    """The first token of the item whose keyword is at `i`, with its attributes."""
     while True:
         p = f.ts[i - 1] if i else None
         if p is None:
@@ -89,7 +89,7 @@ def has_own_debug(f, i):
 
 
 def item_end(f, i):
-    """The index behind the item whose keyword stands at `i`: behind its braces, or its `;`."""
+    """The index behind the item whose keyword is at `i`: behind its braces, or its `;`."""
     j = i
     if f.ts[i].text == "use":
         while f.ts[j].text != ";":
@@ -107,7 +107,7 @@ def item_end(f, i):
 
 
 def drop_item(f, i):
-    """Drops the item whose keyword stands at `i`, with what documents it."""
+    """Drops the item whose keyword is at `i`, with what documents it."""
     start, end = item_start(f, i), item_end(f, i)
     pre = without_doc(f.ts[start].pre)
     del f.ts[start:end]

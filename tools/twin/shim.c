@@ -70,8 +70,8 @@ void twin_depacketizer_free(void *depacketizer) {
     free(depacketizer);
 }
 
-/* A receiver by settings in the order of the fields of cpay_receiver_settings. A limit of no frames is SIZE_MAX; UINT64_MAX stands
- * for no longest wait, and 0 for no RED and no retransmissions. */
+/* A receiver by settings in the order of the fields of cpay_receiver_settings. A `hold_back` of SIZE_MAX
+ * sets no bound by count, a `max_wait` of UINT64_MAX none by time; 0 means no RED, or no retransmissions. */
 void *twin_receiver(uint32_t codec, uint32_t rate, uint32_t flags, const uint64_t values[9]) {
     cpay_receiver_settings settings = CPAY_FILE;
     settings.spec = spec_of(codec, rate, flags, 0);

@@ -291,7 +291,7 @@ fn receive(input: &mut Input, compared: &mut Compared) {
                     .map(|outcome| format!("{outcome:?}"));
                 compared.calls += 1;
                 match (ours, theirs.receive(now, &datagram)) {
-                    // Outcomes have numbers of their own, which are kept as faults are.
+                    // Each outcome has a number, which is remembered as the status of a fault is.
                     (Ok(outcome), Ok(number)) => compared.fault(&outcome, number),
                     (Err(fault), Err(status)) => compared.fault(&fault, status),
                     (ours, theirs) => panic!("{ours:?} and {theirs:?}"),
