@@ -128,7 +128,7 @@ static void settings(void) {
     REFUSED(limit, 65537);
     REFUSED(forward, 0);
     REFUSED(forward, 32769);
-    REFUSED(backward, 3000);
+    REFUSED(backward, 12000);
     REFUSED(tick_rate, 0);
     REFUSED(spec.rate, 0);
     REFUSED(spec.codec, 6);
