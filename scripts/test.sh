@@ -6,9 +6,9 @@
 #
 # Needs rt, a C and a C++ compiler, make, binutils, pkg-config, Python 3, cargo and valgrind; what is missing of Debian's packages is
 # installed where that may be done, and else named before anything starts. debhelper, lintian and doxygen are looked for
-# likewise; without them no Debian packages and manual pages are made, without libpcap, libavformat and ffmpeg the recorder is
-# not tested, and without ffmpeg what frames say is not compared with other readers. The last line is `N passed, N failed`; the
-# status is 0 where nothing failed.
+# in the same way; without them no Debian packages and manual pages are made. Without libpcap, libavformat and ffmpeg the recorder
+# is not tested; without ffmpeg what frames say is not compared with other readers; without Debian's packages of crates and the
+# runtime of libFuzzer rust-extras and tools/fuzz are not. The last line is `N passed, N failed`; the status is 0 if nothing failed.
 set -u
 
 root=$(cd "$(dirname "$0")/.." && pwd)
@@ -46,6 +46,11 @@ wants fakeroot fakeroot
 wants lintian lintian
 wants doxygen doxygen
 find /usr/lib -name libjemalloc.so.2 2>/dev/null | grep -q . || absent="$absent libjemalloc2"
+for name in bytes criterion proptest; do
+    ls /usr/share/cargo/registry 2>/dev/null | grep -q "^$name-[0-9]" ||
+        absent="$absent librust-bytes-dev librust-criterion-dev librust-proptest+default-dev"
+done
+find /usr/lib -name 'libclang_rt.fuzzer-x86_64.a' 2>/dev/null | grep -q . || absent="$absent libclang-rt-14-dev"
 find /usr/lib -name libmimalloc.so.2.0 2>/dev/null | grep -q . || absent="$absent libmimalloc2.0"
 if [ -n "$absent" ] && [ "$(id -u)" -eq 0 ] && command -v apt-get >/dev/null; then
     # shellcheck disable=SC2086
