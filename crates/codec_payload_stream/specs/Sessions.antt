@@ -1,5 +1,7 @@
 -- A receiver: each datagram, and each of them accounted for.
-use Rattle.std.specs.Prelude.{◌≡◌, ℕ, ◌+◌, ◌%◌, ◌^◌, ◌==◌, ◌&&◌, not, nat_le, nat_lt, if◌then◌else◌, Bool, true, false, List, [], ◌∷◌, Option, Some, None, Result, Ok, Err}
+use Rattle.std.specs.Prelude.{◌≡◌, ◌⊎◌, ℕ, ◌+◌, ◌%◌, ◌^◌, ◌==◌, ◌&&◌, not, nat_le, nat_lt, if◌then◌else◌, Bool, true, false, List, [], ◌∷◌, Option, Some, None, Result, Ok, Err}
+use Rattle.std.specs.List.{filter_map}
+use Rattle.std.specs.Option.{option_map}
 use Rattle.codec_payload_base.specs.declared.error.PacketError.{PacketError}
 use Rattle.codec_payload_base.specs.declared.wire.Ticks.{Ticks}
 use Rattle.codec_payload_red.specs.RedBlocks.{Block}
@@ -17,6 +19,7 @@ use Rattle.codec_payload_jitter.specs.declared.outcome.Outcome.TheVariants as ou
 use Rattle.codec_payload_jitter.specs.declared.outcome.PacketCounters.{PacketCounters}
 use Rattle.codec_payload_stream.specs.Kinds.{Kinds, Carrier, Datagram, RtcpPacket, Malformed, OfOthers, WithoutMedia, WithMedia, InRed, Again, AgainEmpty, block_header, header_for, original_header}
 use Rattle.codec_payload_stream.specs.Reports.{Reception, no_reception, observed}
+use Rattle.codec_payload_stream.specs.declared.blocks.BlockCopy.{BlockCopy}
 use Rattle.codec_payload_stream.specs.declared.datagram.Malformation.{Malformation}
 use Rattle.codec_payload_stream.specs.declared.datagram.Malformation.TheVariants as malformations
 use Rattle.codec_payload_stream.specs.declared.datagram.RedStream.{RedStream}
@@ -83,24 +86,35 @@ ssrc_after ssrc OfOthers = ssrc
 ssrc_after ssrc (Again o) = ssrc
 ssrc_after ssrc AgainEmpty = ssrc
 
--- a packet that another one carried goes in where it is missing; where memory is wanting for it, nothing changes
-abbrev pub RecoversOr : Bool → Arrival → Receiving → Receiving → Type 0
-RecoversOr true a r t = (went_in : Bool) × Recovers a r went_in t
-RecoversOr false a r t = t ≡ r
-
--- the packet that a block is, if it is one
-abbrev pub RecoversBlock : Kinds → Ticks → ℕ → Option RecoveredPacket → Receiving → Receiving → Type 0
-RecoversBlock s now ssrc None r t = t ≡ r
-RecoversBlock s now ssrc (Some x) r t = (with_memory : Bool) × RecoversOr with_memory (record { now = now; header = block_header s ssrc x; bytes = x.bytes }) r t
-
 -- the numbers of blocks are told from that of the packet; 65,536 on top keeps those before it above 0
 abbrev pub packet_in : Carrier → Block → Option RecoveredPacket
 packet_in c b = recovered_from c.receiver (65536 + c.header.sequence_number) c.header.timestamp b
 
--- each of the blocks, in order
-abbrev pub RecoversAll : Kinds → Ticks → Carrier → List Block → Receiving → Receiving → Type 0
-RecoversAll s now c [] r t = t ≡ r
-RecoversAll s now c (b ∷ bs) r t = (mid : Receiving) × RecoversBlock s now c.header.ssrc (packet_in c b) r mid × RecoversAll s now c bs mid t
+-- the packet that a block is, as it comes
+abbrev pub block_arrival : Kinds → Ticks → ℕ → RecoveredPacket → Arrival
+block_arrival s now ssrc x = record { now = now; header = block_header s ssrc x; bytes = x.bytes }
+
+abbrev pub carried : Kinds → Ticks → Carrier → Block → Option Arrival
+carried s now c b = option_map (block_arrival s now c.header.ssrc) (packet_in c b)
+
+-- the packets that the older blocks are, in the order of their headers
+abbrev pub all_carried : Kinds → Ticks → Carrier → List Arrival
+all_carried s now c = filter_map (carried s now c) c.older
+
+-- the same of a copy
+abbrev pub copied : Ticks → BlockCopy → Arrival
+copied now c = record { now = now; header = c.header; bytes = c.payload.items }
+
+-- a packet that another one carried goes in where it is missing
+abbrev pub RecoversOne : Arrival → Receiving → Receiving → Type 0
+RecoversOne a r t = (went_in : Bool) × Recovers a r went_in t
+
+-- each of these goes in where it is missing, in order; with no memory for one, it and those after it do not
+abbrev pub RecoversAll : Bool → List Arrival → Receiving → Receiving → Type 0
+RecoversAll true [] r t = t ≡ r
+RecoversAll true (a ∷ more) r t = (mid : Receiving) × RecoversOne a r mid × RecoversAll true more mid t
+RecoversAll false [] r t = ⊥
+RecoversAll false (a ∷ more) r t = (t ≡ r) ⊎ ((mid : Receiving) × RecoversOne a r mid × RecoversAll false more mid t)
 
 -- what the packet itself is: its primary block, where that is media of the stream
 abbrev pub TakesPrimaryIf : Bool → Kinds → Ticks → Carrier → Receiving → Outcome → Receiving → Type 0
@@ -122,24 +136,24 @@ is_suspect outcomes.OtherStream = false
 is_suspect outcomes.Rtcp = false
 
 -- of a suspect packet nothing is recovered
-abbrev pub RecoversUnless : Bool → Kinds → Ticks → Carrier → Receiving → Receiving → Type 0
-RecoversUnless true s now c r t = t ≡ r
-RecoversUnless false s now c r t = RecoversAll s now c c.older r t
+abbrev pub RecoversUnless : Bool → Bool → List Arrival → Receiving → Receiving → Type 0
+RecoversUnless true whole all r t = (whole ≡ true) × (t ≡ r)
+RecoversUnless false whole all r t = RecoversAll whole all r t
 
 -- a packet of RED: first what it is itself, and then what it carries
-abbrev pub TakesRed : Kinds → Ticks → Carrier → Receiving → Outcome → Receiving → Type 0
-TakesRed s now c r outcome t = (mid : Receiving) × TakesPrimary s now c r outcome mid × RecoversUnless (is_suspect outcome) s now c mid t
+abbrev pub TakesRed : Kinds → Ticks → Carrier → Receiving → Outcome → Bool → Receiving → Type 0
+TakesRed s now c r outcome whole t = (mid : Receiving) × TakesPrimary s now c r outcome mid × RecoversUnless (is_suspect outcome) whole (all_carried s now c) mid t
 
--- the jitter buffer takes in what is its stream's
-abbrev pub TakesDatagram : Kinds → Ticks → Datagram → Receiving → Outcome → Receiving → Type 0
-TakesDatagram s now RtcpPacket r outcome t = (outcome ≡ outcomes.Rtcp) × (t ≡ r)
-TakesDatagram s now (Malformed e) r outcome t = t ≡ r
-TakesDatagram s now OfOthers r outcome t = (outcome ≡ outcomes.OtherStream) × (t ≡ r)
-TakesDatagram s now (WithoutMedia h) r outcome t = (outcome ≡ outcomes.NoMedia) × Notes h.sequence_number r t
-TakesDatagram s now (WithMedia p) r outcome t = Receives (record { now = now; header = header_for s p.header; bytes = p.payload }) r outcome t
-TakesDatagram s now (InRed c) r outcome t = TakesRed s now c r outcome t
-TakesDatagram s now (Again o) r outcome t = ReceivesAgain (record { now = now; header = original_header s o; bytes = o.bytes }) r outcome t
-TakesDatagram s now AgainEmpty r outcome t = (outcome ≡ outcomes.NoMedia) × (t ≡ record r { counters = counted r.counters outcomes.NoMedia })
+-- the jitter buffer takes in what is its stream's; whole: all that it carries
+abbrev pub TakesDatagram : Kinds → Ticks → Datagram → Receiving → Outcome → Bool → Receiving → Type 0
+TakesDatagram s now RtcpPacket r outcome whole t = (outcome ≡ outcomes.Rtcp) × (t ≡ r)
+TakesDatagram s now (Malformed e) r outcome whole t = t ≡ r
+TakesDatagram s now OfOthers r outcome whole t = (outcome ≡ outcomes.OtherStream) × (t ≡ r)
+TakesDatagram s now (WithoutMedia h) r outcome whole t = (outcome ≡ outcomes.NoMedia) × Notes h.sequence_number r t
+TakesDatagram s now (WithMedia p) r outcome whole t = Receives (record { now = now; header = header_for s p.header; bytes = p.payload }) r outcome t
+TakesDatagram s now (InRed c) r outcome whole t = TakesRed s now c r outcome whole t
+TakesDatagram s now (Again o) r outcome whole t = ReceivesAgain (record { now = now; header = original_header s o; bytes = o.bytes }) r outcome t
+TakesDatagram s now AgainEmpty r outcome whole t = (outcome ≡ outcomes.NoMedia) × (t ≡ record r { counters = counted r.counters outcomes.NoMedia })
 
 -- the fault that is told of a malformed datagram
 abbrev pub error_of : Malformation → ReceiveError
@@ -147,15 +161,20 @@ error_of (malformations.Rtp e) = errors.Rtp e
 error_of malformations.Red = errors.Red
 error_of malformations.Retransmission = errors.Retransmission
 
-abbrev pub AnswersFor : Datagram → Outcome → Result Outcome ReceiveError → Type 0
-AnswersFor (Malformed e) outcome answer = answer ≡ Err (error_of e)
-AnswersFor RtcpPacket outcome answer = answer ≡ Ok outcome
-AnswersFor OfOthers outcome answer = answer ≡ Ok outcome
-AnswersFor (WithoutMedia h) outcome answer = answer ≡ Ok outcome
-AnswersFor (WithMedia p) outcome answer = answer ≡ Ok outcome
-AnswersFor (InRed c) outcome answer = answer ≡ Ok outcome
-AnswersFor (Again o) outcome answer = answer ≡ Ok outcome
-AnswersFor AgainEmpty outcome answer = answer ≡ Ok outcome
+-- what is told of a packet of RED, where all that it carries was looked at, or memory was wanting for some of it
+abbrev pub told_of_red : Bool → Outcome → Result Outcome ReceiveError
+told_of_red true outcome = Ok outcome
+told_of_red false outcome = Err errors.BlocksOutOfMemory
+
+abbrev pub AnswersFor : Datagram → Outcome → Bool → Result Outcome ReceiveError → Type 0
+AnswersFor (Malformed e) outcome whole answer = answer ≡ Err (error_of e)
+AnswersFor RtcpPacket outcome whole answer = answer ≡ Ok outcome
+AnswersFor OfOthers outcome whole answer = answer ≡ Ok outcome
+AnswersFor (WithoutMedia h) outcome whole answer = answer ≡ Ok outcome
+AnswersFor (WithMedia p) outcome whole answer = answer ≡ Ok outcome
+AnswersFor (InRed c) outcome whole answer = answer ≡ told_of_red whole outcome
+AnswersFor (Again o) outcome whole answer = answer ≡ Ok outcome
+AnswersFor AgainEmpty outcome whole answer = answer ≡ Ok outcome
 
 -- the packets of the stream's sender are counted for reports, as they came: not those that were sent again apart
 abbrev pub observed_in : Reception → ℕ → Datagram → Reception
@@ -171,9 +190,10 @@ observed_in r now AgainEmpty = r
 -- a datagram is received, and its outcome told
 pub record Hears (now : Ticks) (d : Datagram) (s : Session) (answer : Result Outcome ReceiveError) (t : Session) : Type 0 where
   pub outcome : Outcome
+  pub whole : Bool
   pub packets : Receiving
-  pub takes : TakesDatagram s.stream now d s.packets outcome packets
-  pub answers : AnswersFor d outcome answer
+  pub takes : TakesDatagram s.stream now d s.packets outcome whole packets
+  pub answers : AnswersFor d outcome whole answer
   pub left : t ≡ record s { ssrc = ssrc_after s.ssrc d; packets = packets; arrived = arrived_with s.arrived d; reception = observed_in s.reception now.0 d }
 
 -- where memory was wanting, nothing has changed
@@ -182,6 +202,7 @@ Heard now d s (Err errors.OutOfMemory) t = t ≡ s
 Heard now d s (Err (errors.Rtp e)) t = Hears now d s (Err (errors.Rtp e)) t
 Heard now d s (Err errors.Red) t = Hears now d s (Err errors.Red) t
 Heard now d s (Err errors.Retransmission) t = Hears now d s (Err errors.Retransmission) t
+Heard now d s (Err errors.BlocksOutOfMemory) t = Hears now d s (Err errors.BlocksOutOfMemory) t
 Heard now d s (Ok outcome) t = Hears now d s (Ok outcome) t
 
 -- Pops

@@ -10,7 +10,7 @@ pub invariant_of-self-2 : goal.invariant_of-self-2
 invariant_of-self-2 g c =
     let d : Datagram = datagram_of c.in-Ok.datagram in
     let kept : IsSorted (arrived_with c.self.inside.arrived d) c.take.new.packets.counters =
-    takes_balanced c.self.inside.stream c.args.now c.self.inside.arrived d c.self.inside.packets c.take.new.packets c.in-Ok-take.outcome c.in-Ok-take.ensures.ok c.self.invariant in
+    takes_balanced c.self.inside.stream c.args.now c.self.inside.arrived d c.self.inside.packets c.take.new.packets c.in-Ok-take.taken.outcome c.in-Ok-take.taken.whole c.in-Ok-take.ensures.ok c.self.invariant in
     subst (λ (a : Arrived). IsSorted a c.take.new.packets.counters) (sym c.with_datagram-self-inside.ensures) kept
 
 pub returns : goal.returns
@@ -32,7 +32,7 @@ returns g c =
     ap (λ (o : Option ℕ). record s { ssrc = o; packets = after; arrived = c.with_datagram-self-inside.result; reception = c.observe.new.statistics }) c.ssrc_after-self-inside.ensures
     ∙ ap (λ (a : Arrived). record s { ssrc = ssrc_after s.ssrc d; packets = after; arrived = a; reception = c.observe.new.statistics }) c.with_datagram-self-inside.ensures
     ∙ ap (λ (x : Reception). record s { ssrc = ssrc_after s.ssrc d; packets = after; arrived = arrived_with s.arrived d; reception = x }) c.observe.ensures in
-    let made : Heard c.args.now d s c.answer_for.result t = heard c.args.now d s t c.in-Ok-take.outcome after c.answer_for.result c.in-Ok-take.ensures.ok c.answer_for.ensures left in
+    let made : Heard c.args.now d s c.answer_for.result t = heard c.args.now d s t c.in-Ok-take.taken.outcome c.in-Ok-take.taken.whole after c.answer_for.result c.in-Ok-take.ensures.ok c.answer_for.ensures left in
     let is : d ≡ datagram_at s.stream s.ssrc c.args.bytes.now = c.in-Ok.ensures.ok in
     subst (λ (x : Session). Heard c.args.now (datagram_at x.stream x.ssrc c.args.bytes.now) x c.answer_for.result t) c.self.view_is
     (subst (λ (k : Datagram). Heard c.args.now k s c.answer_for.result t) is made)
