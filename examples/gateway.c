@@ -63,7 +63,7 @@ static void play(cpay_receiver *receiver, uint64_t now, bool *came) {
 int main(void) {
     static bool arrived[FRAMES + 3], came[FRAMES];
     uint8_t datagram[HEADER + BUDGET];
-    cpay_receiver_settings settings = CPAY_RECEIVER_SETTINGS;
+    cpay_receiver_settings settings = CPAY_LIVE_AUDIO;
     cpay_receiver_counts_info counts = {0};
     cpay_red_sender red = CPAY_INIT;
     cpay_receiver receiver = CPAY_INIT;
@@ -73,7 +73,6 @@ int main(void) {
     settings.has_red = true;
     settings.red_payload_type = RED_TYPE;
     settings.red_step = STEP;
-    settings.hold_back = settings.start = 8;
     check(cpay_red_sender_new(&red, RED_TYPE, OPUS_TYPE, distances, 2), "sender");
     check(cpay_receiver_new(&receiver, &settings, NULL, 0), "receiver");
     for (uint32_t frame = 0; frame < FRAMES; frame++) {

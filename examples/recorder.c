@@ -110,7 +110,7 @@ static void record(recording *it, FILE *capture, unsigned port) {
 }
 
 int main(int count, char **words) {
-    cpay_receiver_settings settings = CPAY_RECEIVER_SETTINGS;
+    cpay_receiver_settings settings = CPAY_FILE;
     recording it = {.receiver = CPAY_INIT};
     require(count == 5, "usage: recorder CAPTURE PORT PAYLOAD-TYPE FILE");
     FILE *capture = fopen(words[1], "rb");
@@ -118,8 +118,6 @@ int main(int count, char **words) {
     require(capture && it.file, "a file cannot be opened");
     settings.spec = (cpay_spec){.codec = CPAY_VP8, .rate = 90000};
     settings.payload_type = (uint8_t)atoi(words[3]);
-    settings.has_max_wait = true;
-    settings.max_wait = 500;
     check(cpay_receiver_new(&it.receiver, &settings, NULL, 0), "receiver");
     record(&it, capture, (unsigned)atoi(words[2]));
     fclose(capture);

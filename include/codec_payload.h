@@ -71,7 +71,7 @@ int main(void) {
     static uint8_t frame[3000], datagram[1500], bytes[3000];
     cpay_spec vp8 = {.codec = CPAY_VP8, .rate = 90000};
     cpay_sender_settings sends = {.spec = vp8, .mtu = 1200, .ssrc = 0x12345678, .payload_type = 96};
-    cpay_receiver_settings receives = CPAY_RECEIVER_SETTINGS;
+    cpay_receiver_settings receives = CPAY_LIVE_VIDEO;
     cpay_sender sender = CPAY_INIT;
     cpay_receiver receiver = CPAY_INIT;
     cpay_unit unit = {0};
@@ -86,7 +86,7 @@ int main(void) {
         status = cpay_sender_datagram(&sender, place, datagram, sizeof datagram, &size);
         if (!status) status = take(&receiver, 20, datagram, size);
     }
-    while (!status && !(status = cpay_receiver_pop(&receiver, 20, &unit, bytes, sizeof bytes)))
+    while (!status && !(status = cpay_receiver_pop(&receiver, 120, &unit, bytes, sizeof bytes)))
         printf("packets %u to %u: a frame of %zu bytes\n", (unsigned)unit.first, (unsigned)unit.last, unit.bytes);
     printf("%s\n", cpay_status_text(status));
     cpay_sender_free(&sender);
@@ -508,13 +508,19 @@ CPAY_CHECKED cpay_status cpay_sender_counts(cpay_sender *sender, cpay_sender_cou
 
 /* ---- A receiver: datagrams of a socket go in, whole units of one stream come out in order ---- */
 
-/** Begin with CPAY_RECEIVER_SETTINGS, and set at least `spec` and `payload_type`. */
+/** For a receiver: no frame is released by count alone. */
+#define CPAY_NO_HOLD_BACK SIZE_MAX
+
+/** Begin with one of CPAY_LIVE, CPAY_LIVE_AUDIO_WITH_NACK, CPAY_LIVE_VIDEO_WITH_NACK and CPAY_FILE, and set at least `spec` and
+ * `payload_type`. */
 typedef struct {
     cpay_spec spec;
-    size_t hold_back;         /**< a complete frame behind a gap waits until more complete frames than that are held */
-    size_t start;             /**< the first frame waits until more complete frames than that are held */
+    size_t hold_back;         /**< a complete frame behind a gap is released once more complete frames than this are held;
+                                   CPAY_NO_HOLD_BACK: no frame is released by count alone */
+    size_t start;             /**< the first frame is released once more complete frames than this are held */
     size_t limit;             /**< how many packets are held at most, 1 to 65536 */
-    uint64_t max_wait;        /**< with has_max_wait: how long a complete frame waits at most, in ticks of the caller's clock */
+    uint64_t max_wait;        /**< with has_max_wait: a complete frame is released once this number of ticks of your clock has
+                                   passed since its last packet was received */
     uint32_t ssrc;            /**< with has_ssrc: the SSRC of the stream; else it is that of the first packet */
     uint32_t tick_rate;       /**< how many ticks of the caller's clock a second has, above 0: for the jitter of reports alone */
     uint32_t red_step;        /**< with has_red: how many ticks of the RTP clock packets are apart, 1 to 16383 */
@@ -531,11 +537,28 @@ typedef struct {
     cpay_extension_ids extension_ids; /**< under which ids the values of units come; two that are the same read one element */
 } cpay_receiver_settings;
 
-/** No codec yet; 30 frames held back, 4096 packets held, a clock of milliseconds, the windows of RFC 3550, appendix A.1,
- * with 1000 behind, and no ids of header extensions. */
-#define CPAY_RECEIVER_SETTINGS \
-    { { 0, 0, 0, false, false, false }, 30, 0, 4096, 0, 0, 1000, 0, 0, 3000, 1000, 0, 0, 0, false, false, false, false, \
-      { 0, 0, 0, 0, 0, 0 } }
+/** Settings by purpose. All have no codec yet, at most 4096 packets held, a clock of milliseconds, windows of 3000 numbers ahead
+ * (MAX_DROPOUT of RFC 3550, appendix A.1) and 1000 behind, no ids of header extensions, and no bound by count. */
+#define CPAY_SETTINGS_THAT_WAIT(start, max_wait, has_max_wait) \
+    { { 0, 0, 0, false, false, false }, CPAY_NO_HOLD_BACK, start, 4096, max_wait, 0, 1000, 0, 0, 3000, 1000, 0, 0, 0, \
+      has_max_wait, false, false, false, { 0, 0, 0, 0, 0, 0 } }
+
+/** Live audio or video without retransmission: a lost packet delays frames by at most 100 ms. */
+#define CPAY_LIVE CPAY_SETTINGS_THAT_WAIT(1, 100, true)
+#define CPAY_LIVE_AUDIO CPAY_LIVE
+#define CPAY_LIVE_VIDEO CPAY_LIVE
+
+/** Live media with retransmission (RFC 4585): at most 200 ms. For a known round trip time, set `max_wait` to twice that time and
+ * 100 ms more. */
+#define CPAY_LIVE_AUDIO_WITH_NACK CPAY_SETTINGS_THAT_WAIT(1, 200, true)
+#define CPAY_LIVE_VIDEO_WITH_NACK CPAY_SETTINGS_THAT_WAIT(2, 200, true)
+
+/** Packets from a file: a frame behind a gap waits for the missing packets, until cpay_receiver_finish, or until the receiver has
+ * little room left. */
+#define CPAY_FILE CPAY_SETTINGS_THAT_WAIT(0, 0, false)
+
+/** The settings of most streams: those of CPAY_LIVE. */
+#define CPAY_RECEIVER_SETTINGS CPAY_LIVE
 
 /** A receiver, in an empty struct. `no_media` are payload types that come under the stream's SSRC and numbers and carry no
  * media of it: telephone events beside audio, comfort noise, forward error correction. CPAY_INVALID for a codec that is not
@@ -575,16 +598,18 @@ CPAY_CHECKED cpay_status cpay_receiver_next_deadline(cpay_receiver *receiver, ui
 
 /** How long to wait for packets that are missing. */
 typedef struct {
-    uint64_t max_wait; /**< with has_max_wait: how long a complete frame waits at most, in ticks of the caller's clock */
-    size_t hold_back;  /**< a complete frame behind a gap waits until more complete frames than that are held */
-    size_t start;      /**< the first frame waits until more complete frames than that are held */
+    uint64_t max_wait; /**< with has_max_wait: a complete frame is released once this number of ticks of your clock has passed
+                            since its last packet was received */
+    size_t hold_back;  /**< a complete frame behind a gap is released once more complete frames than this are held;
+                            CPAY_NO_HOLD_BACK: no frame is released by count alone */
+    size_t start;      /**< the first frame is released once more complete frames than this are held */
     bool has_max_wait;
-} cpay_patience;
+} cpay_wait_limits;
 
 /** From now on frames wait by these values, in place of those of the settings. What is held stays, and nothing comes out by this
  * call: the next pop, and the next deadline, go by the new values. So a shorter wait may let frames out at once, and a longer
  * one holds back frames that were due. Once a unit has come out, `start` matters no more. */
-CPAY_CHECKED cpay_status cpay_receiver_set_patience(cpay_receiver *receiver, const cpay_patience *patience);
+CPAY_CHECKED cpay_status cpay_receiver_set_wait_limits(cpay_receiver *receiver, const cpay_wait_limits *wait_limits);
 
 /** The stream has ended: from now on pops wait for nothing, and give all complete frames. Packets within the windows still go
  * in; no restart is found until cpay_receiver_restart. */

@@ -218,7 +218,7 @@ REDS = [
         "payloads that are no RED: empty, cut in a header, cut in a block",
         RED + in_red(0, 10, red("00"), 0) + in_red(0, 11, "", 960) + in_red(0, 11, "e00f00", 960) + in_red(0, 11, "e00f000260ff", 960)
         + "missing 9\ncounters\n",
-        "held\n" + "malformed: the payload of the packet is no RED payload\n" * 3 + "missing\ncounters received 4 malformed 3 held 1\n",
+        "held\n" + "malformed: invalid RED payload\n" * 3 + "missing\ncounters received 4 malformed 3 held 1\n",
     ),
     Row(
         "padding alone under the type of RED, and the media's own type beside it",
@@ -407,14 +407,14 @@ REFUSED = [
         ("stream opus 48000 128\n", "the payload type is above 127"),
         (f"{OPUS}limit 0\n", "the limit of held packets is not 1 to 65536"),
         (f"{OPUS}limit 65537\n", "the limit of held packets is not 1 to 65536"),
-        (f"{OPUS}windows 0 0\n", "the window ahead of the greatest sequence number is not 1 to 32768"),
-        (f"{OPUS}windows 32769 0\n", "the window ahead of the greatest sequence number is not 1 to 32768"),
-        (f"{OPUS}windows 100 100\n", "the window behind the greatest sequence number is not less than that ahead"),
-        (f"{OPUS}red 128 960\n", "the payload type of RED is above 127, or that of the stream"),
-        (f"{OPUS}red 96 960\n", "the payload type of RED is above 127, or that of the stream"),
-        (f"{OPUS}red 63 0\n", "the step of RED is not 1 to 16383"),
-        (f"{OPUS}red 63 16384\n", "the step of RED is not 1 to 16383"),
-        (f"{OPUS}again 9 128\n", "the payload type of packets that are sent again is above 127"),
+        (f"{OPUS}windows 0 0\n", "forward window must be 1 to 32768"),
+        (f"{OPUS}windows 32769 0\n", "forward window must be 1 to 32768"),
+        (f"{OPUS}windows 100 100\n", "backward window must be less than the forward window"),
+        (f"{OPUS}red 128 960\n", "RED payload type exceeds 127 or equals the media payload type"),
+        (f"{OPUS}red 96 960\n", "RED payload type exceeds 127 or equals the media payload type"),
+        (f"{OPUS}red 63 0\n", "RED step must be 1 to 16383"),
+        (f"{OPUS}red 63 16384\n", "RED step must be 1 to 16383"),
+        (f"{OPUS}again 9 128\n", "retransmission payload type exceeds 127"),
     ]
 ]
 

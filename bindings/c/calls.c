@@ -190,9 +190,9 @@ cpay_status cpay_receiver_next_deadline(cpay_receiver *receiver, uint64_t *at) {
     return proved_cpay_receiver_next_deadline(&receiver->handle, at);
 }
 
-cpay_status proved_cpay_receiver_set_patience(cpay_handle *receiver, const cpay_patience *patience);
-cpay_status cpay_receiver_set_patience(cpay_receiver *receiver, const cpay_patience *patience) {
-    return proved_cpay_receiver_set_patience(&receiver->handle, patience);
+cpay_status proved_cpay_receiver_set_wait_limits(cpay_handle *receiver, const cpay_wait_limits *wait_limits);
+cpay_status cpay_receiver_set_wait_limits(cpay_receiver *receiver, const cpay_wait_limits *wait_limits) {
+    return proved_cpay_receiver_set_wait_limits(&receiver->handle, wait_limits);
 }
 
 cpay_status proved_cpay_receiver_finish(cpay_handle *receiver);

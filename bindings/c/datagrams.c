@@ -12,7 +12,8 @@ static cpay_spec opus(void) {
 }
 
 static cpay_receiver_settings settings_of(cpay_spec spec) {
-    cpay_receiver_settings settings = CPAY_RECEIVER_SETTINGS;
+    cpay_receiver_settings settings = CPAY_FILE;
+    settings.hold_back = 30;
     settings.spec = spec;
     settings.payload_type = TYPE;
     return settings;
@@ -112,7 +113,7 @@ static void settings(void) {
     cpay_receiver_counts_info counts = {.held = 7};
     cpay_sender_counts_info sent = {.packets = 7};
     cpay_report_info report = {.highest = 7};
-    cpay_patience patience = {.hold_back = 1};
+    cpay_wait_limits wait_limits = {.hold_back = 1};
     cpay_unit unit = {.first = 7};
     uint8_t bytes[4] = {7, 7, 7, 7};
     uint32_t outcome = 7;
@@ -147,7 +148,7 @@ static void settings(void) {
         CHECK(cpay_receiver_receive(&it.receiver, 0, bytes, 4, &outcome) == status);
         CHECK(cpay_receiver_pop(&it.receiver, 0, &unit, bytes, 4) == status);
         CHECK(cpay_receiver_next_deadline(&it.receiver, &at) == status);
-        CHECK(cpay_receiver_set_patience(&it.receiver, &patience) == status);
+        CHECK(cpay_receiver_set_wait_limits(&it.receiver, &wait_limits) == status);
         CHECK(cpay_receiver_finish(&it.receiver) == status);
         CHECK(cpay_receiver_restart(&it.receiver) == status);
         CHECK(cpay_receiver_report(&it.receiver, &report) == status);
@@ -266,28 +267,28 @@ static void ends(void) {
     cpay_receiver_free(&receiver);
 }
 
-/* Another patience: what is held stays, and the next pop and the next deadline go by it. */
-static void patience(void) {
+/* Other wait limits: what is held stays, and the next pop and the next deadline go by it. */
+static void other_wait_limits(void) {
     cpay_receiver_settings settings = settings_of(opus());
-    cpay_patience none = {0}, until = {.max_wait = 50, .hold_back = 30, .has_max_wait = true};
-    cpay_patience longer = {.max_wait = 100, .hold_back = 30, .has_max_wait = true}, one = {.hold_back = 1};
+    cpay_wait_limits none = {0}, until = {.max_wait = 50, .hold_back = 30, .has_max_wait = true};
+    cpay_wait_limits longer = {.max_wait = 100, .hold_back = 30, .has_max_wait = true}, one = {.hold_back = 1};
     settings.start = 1;
     cpay_receiver receiver = receiver_of(&settings);
     uint64_t at = 0;
     CHECK(came(&receiver, 10, TYPE, 7) == CPAY_HELD && next(&receiver, 10) == -1);
-    CHECK(cpay_receiver_set_patience(&receiver, &none) == CPAY_OK);
+    CHECK(cpay_receiver_set_wait_limits(&receiver, &none) == CPAY_OK);
     CHECK(next(&receiver, 10) == 7);
     /* a gap at 8: with two complete frames behind it, one comes where more than one are wanted */
-    CHECK(cpay_receiver_set_patience(&receiver, &one) == CPAY_OK);
+    CHECK(cpay_receiver_set_wait_limits(&receiver, &one) == CPAY_OK);
     CHECK(came(&receiver, 20, TYPE, 9) == CPAY_HELD && next(&receiver, 20) == -1);
     CHECK(came(&receiver, 20, TYPE, 11) == CPAY_HELD && next(&receiver, 20) == 9 && next(&receiver, 20) == -1);
     /* and with a longest wait of 50 after 20, which becomes one of 100, and of 50 again */
     CHECK(cpay_receiver_next_deadline(&receiver, &at) == CPAY_NONE);
-    CHECK(cpay_receiver_set_patience(&receiver, &until) == CPAY_OK);
+    CHECK(cpay_receiver_set_wait_limits(&receiver, &until) == CPAY_OK);
     CHECK(cpay_receiver_next_deadline(&receiver, &at) == CPAY_OK && at == 70 && next(&receiver, 69) == -1);
-    CHECK(cpay_receiver_set_patience(&receiver, &longer) == CPAY_OK);
+    CHECK(cpay_receiver_set_wait_limits(&receiver, &longer) == CPAY_OK);
     CHECK(cpay_receiver_next_deadline(&receiver, &at) == CPAY_OK && at == 120 && next(&receiver, 70) == -1);
-    CHECK(cpay_receiver_set_patience(&receiver, &until) == CPAY_OK && next(&receiver, 70) == 11);
+    CHECK(cpay_receiver_set_wait_limits(&receiver, &until) == CPAY_OK && next(&receiver, 70) == 11);
     CHECK(counts_of(&receiver).released == 3 && counts_of(&receiver).held == 0);
     cpay_receiver_free(&receiver);
 }
@@ -493,7 +494,7 @@ int main(void) {
     restarts();
     without_media();
     ends();
-    patience();
+    other_wait_limits();
     others();
     small_room();
     amr_wb();

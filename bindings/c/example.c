@@ -14,7 +14,7 @@ int main(void) {
     static uint8_t frame[3000], datagram[1500], bytes[3000];
     cpay_spec vp8 = {.codec = CPAY_VP8, .rate = 90000};
     cpay_sender_settings sends = {.spec = vp8, .mtu = 1200, .ssrc = 0x12345678, .payload_type = 96};
-    cpay_receiver_settings receives = CPAY_RECEIVER_SETTINGS;
+    cpay_receiver_settings receives = CPAY_LIVE_VIDEO;
     cpay_sender sender = CPAY_INIT;
     cpay_receiver receiver = CPAY_INIT;
     cpay_unit unit = {0};
@@ -29,7 +29,7 @@ int main(void) {
         status = cpay_sender_datagram(&sender, place, datagram, sizeof datagram, &size);
         if (!status) status = take(&receiver, 20, datagram, size);
     }
-    while (!status && !(status = cpay_receiver_pop(&receiver, 20, &unit, bytes, sizeof bytes)))
+    while (!status && !(status = cpay_receiver_pop(&receiver, 120, &unit, bytes, sizeof bytes)))
         printf("packets %u to %u: a frame of %zu bytes\n", (unsigned)unit.first, (unsigned)unit.last, unit.bytes);
     printf("%s\n", cpay_status_text(status));
     cpay_sender_free(&sender);

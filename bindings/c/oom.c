@@ -189,7 +189,7 @@ static int datagrams(int *met) {
                                   .extension_ids = {.layers_allocation = 1, .audio_level = 2}};
     cpay_sample sample = {.values = {.audio_level = -1, .has_audio_level = true,
                                      .layers_allocation_len = 40, .has_layers_allocation = true}};
-    cpay_receiver_settings receives = CPAY_RECEIVER_SETTINGS;
+    cpay_receiver_settings receives = CPAY_FILE;
     cpay_sender sender = CPAY_INIT;
     cpay_receiver receiver = CPAY_INIT;
     cpay_receiver_counts_info counts = {0};
@@ -250,7 +250,7 @@ static size_t packet(uint8_t *out, uint8_t type, uint8_t ssrc, uint8_t number, c
 /* Of four packets the second comes in RED with the third (RFC 2198), and the last is sent again (RFC 4588). Padding comes alone. */
 static int recovery(int *met) {
     long before = kept;
-    cpay_receiver_settings receives = CPAY_RECEIVER_SETTINGS;
+    cpay_receiver_settings receives = CPAY_FILE;
     cpay_receiver receiver = CPAY_INIT;
     cpay_receiver_counts_info counts = {0};
     cpay_unit unit = {0};

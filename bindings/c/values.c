@@ -55,7 +55,7 @@ static cpay_sender sender_of(uint32_t codec, uint32_t rate, cpay_extension_ids u
 
 static cpay_receiver receiver_of(uint32_t codec, uint32_t rate, cpay_extension_ids under) {
     cpay_receiver receiver = CPAY_INIT;
-    cpay_receiver_settings settings = CPAY_RECEIVER_SETTINGS;
+    cpay_receiver_settings settings = CPAY_FILE;
     settings.spec.codec = codec;
     settings.spec.rate = rate;
     settings.payload_type = TYPE;
@@ -240,21 +240,21 @@ static void refusals(void) {
                                      .extension_ids = {.video_orientation = 255, .audio_level = 255}};
     cpay_receiver_settings receives = CPAY_RECEIVER_SETTINGS;
     cpay_sample sample = {.values = all_values()};
-    cpay_patience patience = {.hold_back = 1};
+    cpay_wait_limits wait_limits = {.hold_back = 1};
     size_t count = 7;
     receives.spec = settings.spec;
     receives.extension_ids = settings.extension_ids;
     CHECK(cpay_sender_new(&it.sender, &settings) == CPAY_INVALID);
     CHECK(cpay_sender_send_sample(&it.sender, &sample, (const uint8_t *)"o", 1, &count) == CPAY_EMPTY);
-    CHECK(cpay_receiver_set_patience(&it.receiver, &patience) == CPAY_EMPTY);
+    CHECK(cpay_receiver_set_wait_limits(&it.receiver, &wait_limits) == CPAY_EMPTY);
     /* a receiver takes them, and reads one element for both */
     CHECK(cpay_receiver_new(&it.receiver, &receives, NULL, 0) == CPAY_OK);
-    CHECK(cpay_receiver_set_patience(&it.receiver, &patience) == CPAY_OK);
+    CHECK(cpay_receiver_set_wait_limits(&it.receiver, &wait_limits) == CPAY_OK);
     CHECK(cpay_sender_send_sample(&it.sender, &sample, (const uint8_t *)"o", 1, &count) == CPAY_OTHER_KIND);
     cpay_receiver_free(&it.receiver);
     settings.extension_ids.audio_level = 0;
     CHECK(cpay_sender_new(&it.sender, &settings) == CPAY_OK);
-    CHECK(cpay_receiver_set_patience(&it.receiver, &patience) == CPAY_OTHER_KIND);
+    CHECK(cpay_receiver_set_wait_limits(&it.receiver, &wait_limits) == CPAY_OTHER_KIND);
     CHECK(cpay_sender_send_sample(&it.sender, &sample, NULL, 1, &count) == CPAY_INVALID);
     CHECK(count == 7);
     CHECK(cpay_sender_send_sample(&it.sender, &sample, NULL, 0, &count) == CPAY_OK && count == 0);

@@ -6,7 +6,7 @@ enum { LEAST = 16, MOST = 16384 /* pixels of a side */ };
 static bool gives_pictures(const stream *it, uint32_t number) {
     static uint8_t frame[1 << 20];
     cpay_receiver receiver = CPAY_INIT;
-    cpay_receiver_settings settings = CPAY_RECEIVER_SETTINGS;
+    cpay_receiver_settings settings = CPAY_FILE;
     cpay_unit unit = {0};
     uint32_t outcome = 0;
     cpay_status status;

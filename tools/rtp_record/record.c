@@ -55,7 +55,7 @@ static bool fail(record *it, const char *what) {
 }
 
 static bool receives(record *it) {
-    cpay_receiver_settings settings = CPAY_RECEIVER_SETTINGS;
+    cpay_receiver_settings settings = CPAY_FILE;
     const codec_use *use = &it->stream.use;
     settings.spec.codec = use->codec->library;
     settings.spec.rate = use->rate;
@@ -65,7 +65,6 @@ static bool receives(record *it) {
     settings.ssrc = it->stream.ssrc;
     settings.start = 1;
     /* A capture has all that ever came: a gap is waited for by the clock, for as long as a jitter buffer might. */
-    settings.hold_back = SIZE_MAX;
     settings.has_max_wait = true;
     settings.max_wait = 2ull * CLOCK;
     settings.tick_rate = CLOCK;

@@ -404,7 +404,7 @@ pub struct ReceiverSettings {
 
 #[repr(C)]
 #[derive(Clone, Copy, Debug, Default)]
-pub struct Patience {
+pub struct WaitLimits {
     pub max_wait: u64,
     pub hold_back: usize,
     pub start: usize,
@@ -712,7 +712,7 @@ unsafe extern "C" {
         bytes_len: usize,
     ) -> u32;
     pub fn cpay_receiver_next_deadline(receiver: *mut Receiver, at: *mut u64) -> u32;
-    pub fn cpay_receiver_set_patience(receiver: *mut Receiver, patience: *const Patience) -> u32;
+    pub fn cpay_receiver_set_wait_limits(receiver: *mut Receiver, wait_limits: *const WaitLimits) -> u32;
     pub fn cpay_receiver_finish(receiver: *mut Receiver) -> u32;
     pub fn cpay_receiver_restart(receiver: *mut Receiver) -> u32;
     pub fn cpay_receiver_missing(

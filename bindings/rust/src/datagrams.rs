@@ -27,7 +27,7 @@ use crate::memory::{Expected, MOST_ADDED, append};
 use crate::raw::{
     self, cpay_receiver_counts, cpay_receiver_finish, cpay_receiver_missing, cpay_receiver_new,
     cpay_receiver_next_deadline, cpay_receiver_pop, cpay_receiver_receive, cpay_receiver_report,
-    cpay_receiver_restart, cpay_receiver_set_patience, cpay_sender_counts, cpay_sender_datagram,
+    cpay_receiver_restart, cpay_receiver_set_wait_limits, cpay_sender_counts, cpay_sender_datagram,
     cpay_sender_new, cpay_sender_send, cpay_sender_send_sample,
 };
 use crate::{Batch, Settings, Unit, UnitInfo};
@@ -496,7 +496,7 @@ impl ReceiverSettings {
 
 /// How long a receiver waits for packets that are missing.
 #[derive(Clone, Copy, Debug, Default, PartialEq, Eq, Hash)]
-pub struct Patience {
+pub struct WaitLimits {
     /// A complete frame behind a gap waits until more complete frames than that are held.
     pub hold_back: usize,
     /// The first frame waits until more complete frames than that are held.
@@ -654,15 +654,15 @@ impl Receiver {
     /// From now on frames wait by these values, in place of those of the settings. What is held stays, and nothing comes out by this
     /// call: the next [`pop`](Receiver::pop), and the next deadline, go by the new values. So a shorter wait may let frames out at
     /// once, and a longer one holds back frames that were due. Once a unit has come out, `start` matters no more.
-    pub fn set_patience(&mut self, patience: Patience) {
-        let patience = raw::Patience {
-            max_wait: patience.max_wait.unwrap_or(0),
-            hold_back: patience.hold_back,
-            start: patience.start,
-            has_max_wait: patience.max_wait.is_some(),
+    pub fn set_wait_limits(&mut self, wait_limits: WaitLimits) {
+        let wait_limits = raw::WaitLimits {
+            max_wait: wait_limits.max_wait.unwrap_or(0),
+            hold_back: wait_limits.hold_back,
+            start: wait_limits.start,
+            has_max_wait: wait_limits.max_wait.is_some(),
         };
         // SAFETY: structs that are borrowed for the call. The handle holds a receiver, so the call succeeds.
-        unsafe { cpay_receiver_set_patience(self.handle.raw(), &patience) };
+        unsafe { cpay_receiver_set_wait_limits(self.handle.raw(), &wait_limits) };
     }
 
     /// The stream has ended: from now on pops wait for nothing, and give all complete frames. No restart is found

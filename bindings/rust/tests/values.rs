@@ -1,7 +1,7 @@
 //! Values of header extensions from a sender to a receiver, and a receiver that is told to wait in another way.
 
 use codec_payload::datagrams::{
-    AbsCaptureTime, ExtensionIds, ExtensionValues, LayersAllocation, Patience, Receiver,
+    AbsCaptureTime, ExtensionIds, ExtensionValues, LayersAllocation, WaitLimits, Receiver,
     ReceiverSettings, Sample, Sender, SenderSettings, VideoTiming,
 };
 use codec_payload::{Batch, Codec, Error, Settings};
@@ -148,7 +148,7 @@ fn what_cannot_be_sent() {
 
 /// A frame behind a gap waits by what the receiver was told last.
 #[test]
-fn patience_changes() -> Result<(), Error> {
+fn wait_limits_changes() -> Result<(), Error> {
     let (mut sender, mut receiver) = pair(ExtensionIds::default())?;
     let mut datagrams = Vec::new();
     for frame in 0..4 {
@@ -158,18 +158,18 @@ fn patience_changes() -> Result<(), Error> {
     assert!(receiver.pop(0).is_some());
     receiver.receive(10, &datagrams[2])?;
     assert!(receiver.pop(10).is_none() && receiver.next_deadline().is_none());
-    let mut patience = Patience {
+    let mut wait_limits = WaitLimits {
         hold_back: 30,
         start: 0,
         max_wait: Some(50),
     };
-    receiver.set_patience(patience);
+    receiver.set_wait_limits(wait_limits);
     assert_eq!(receiver.next_deadline(), Some(60));
     assert!(receiver.pop(59).is_none());
-    patience.max_wait = Some(100);
-    receiver.set_patience(patience);
+    wait_limits.max_wait = Some(100);
+    receiver.set_wait_limits(wait_limits);
     assert!(receiver.pop(60).is_none());
-    receiver.set_patience(Patience::default());
+    receiver.set_wait_limits(WaitLimits::default());
     assert_eq!(receiver.pop(60).unwrap()?.first % 65_536, 2);
     Ok(())
 }

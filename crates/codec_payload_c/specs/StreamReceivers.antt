@@ -1,9 +1,9 @@
 -- What the calls on a receiver of datagrams do.
-use Rattle.std.specs.Prelude.{◌≡◌, ℕ, ◌&&◌, ◌||◌, ◌==◌, not, nat_le, nat_lt, if◌then◌else◌, Bool, true, false, Option, Some, None, Result, Ok, Err, List, is_some, length, drop, ◌++◌}
+use Rattle.std.specs.Prelude.{◌≡◌, ℕ, ◌-◌, ◌^◌, ◌&&◌, ◌||◌, ◌==◌, not, nat_le, nat_lt, if◌then◌else◌, Bool, true, false, Option, Some, None, Result, Ok, Err, List, is_some, length, drop, ◌++◌}
 use Rattle.codec_payload_core.specs.Depacketizers.{DepacketizerState}
 use Rattle.codec_payload_jitter.specs.Missing.{missing_numbers}
 use Rattle.codec_payload_jitter.specs.Receiving.{PopsWith, begun_anew, settled, waiting_at}
-use Rattle.codec_payload_jitter.specs.declared.jitter.Patience.{Patience}
+use Rattle.codec_payload_jitter.specs.declared.waiting.WaitLimits.{WaitLimits}
 use Rattle.codec_payload_jitter.specs.declared.outcome.Outcome.{Outcome}
 use Rattle.codec_payload_jitter.specs.declared.outcome.Outcome.TheVariants as outcomes
 use Rattle.codec_payload_jitter.specs.Receiving.{Receiving}
@@ -26,7 +26,7 @@ use Rattle.codec_payload_handle.specs.declared.unit.Unit.{Unit as CUnit}
 use Rattle.codec_payload_c.specs.Ids.{ids_given}
 use Rattle.codec_payload_c.specs.Looks.{given_if}
 use Rattle.codec_payload_c.specs.RtpFields.{rtp_status}
-use Rattle.codec_payload_c.specs.declared.receiver.Patience.{Patience as CPatience}
+use Rattle.codec_payload_c.specs.declared.receiver.WaitLimits.{WaitLimits as CWaitLimits}
 use Rattle.codec_payload_c.specs.declared.receiver.ReceiverCountsInfo.{ReceiverCountsInfo}
 use Rattle.codec_payload_c.specs.declared.receiver.ReceiverSettings.{ReceiverSettings}
 use Rattle.codec_payload_c.specs.declared.receiver.ReportInfo.{ReportInfo}
@@ -46,12 +46,16 @@ is_in_range s =
     && nat_lt 0 s.forward && nat_le s.forward 32768 && nat_lt s.backward s.forward
     && nat_lt 0 s.tick_rate && red_in_range s && rtx_in_range s
 
-abbrev pub patience_set : ReceiverSettings → Patience
-patience_set s = record { hold_back = s.hold_back; start = s.start; max_wait = given_if s.has_max_wait s.max_wait }
+-- the largest number stands for no bound
+abbrev pub bound_given : ℕ → Option ℕ
+bound_given frames = if frames == 2 ^ 64 - 1 then None else Some frames
+
+abbrev pub wait_limits_set : ReceiverSettings → WaitLimits
+wait_limits_set s = record { hold_back = bound_given s.hold_back; start = s.start; max_wait = given_if s.has_max_wait s.max_wait }
 
 -- how long to wait, as C gave it by itself
-abbrev pub patience_given : CPatience → Patience
-patience_given p = record { hold_back = p.hold_back; start = p.start; max_wait = given_if p.has_max_wait p.max_wait }
+abbrev pub wait_limits_given : CWaitLimits → WaitLimits
+wait_limits_given p = record { hold_back = bound_given p.hold_back; start = p.start; max_wait = given_if p.has_max_wait p.max_wait }
 
 abbrev pub red_set : ReceiverSettings → Option RedSettings
 red_set s = if s.has_red then Some (record { payload_type = s.red_payload_type; step = s.red_step }) else None
@@ -69,7 +73,7 @@ pub record AreSettings (s : ReceiverSettings) (types : List ℕ) (t : Settings) 
   pub ids : t.extension_ids ≡ ids_given s.extension_ids
   pub clock_rate : t.clock_rate ≡ s.spec.rate
   pub tick_rate : t.tick_rate ≡ s.tick_rate
-  pub patience : t.patience ≡ patience_set s
+  pub wait_limits : t.wait_limits ≡ wait_limits_set s
   pub limit : t.limit ≡ s.limit
   pub forward : t.forward ≡ s.forward
   pub backward : t.backward ≡ s.backward
@@ -173,8 +177,8 @@ abbrev pub anew : Session → Session
 anew s = record s { ssrc = s.named; packets = begun_anew s.packets; reception = s.no_reception }
 
 -- frames wait by other values
-abbrev pub waiting_by : Patience → Session → Session
-waiting_by patience s = record s { packets = record s.packets { patience = patience } }
+abbrev pub waiting_by : WaitLimits → Session → Session
+waiting_by wait_limits s = record s { packets = record s.packets { wait_limits = wait_limits } }
 
 -- the numbers that are missing, as many as there is room for; the rest of the room is as before
 pub record TellsMissing (r : StreamReceiver) (before : List ℕ) (told : ℕ) (after : List ℕ) : Type 0 where

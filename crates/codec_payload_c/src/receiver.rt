@@ -4,7 +4,7 @@ ghost use Rattle.std.specs.Prelude.{◌≡◌, ◌≢◌, ◌&&◌, is_some, Boo
 ghost use Rattle.codec_payload_core.specs.Depacketizers.{depacketizer_state_of};
 ghost use Rattle.codec_payload_jitter.specs.Receiving.{deadline_of};
 ghost use Rattle.codec_payload_stream.specs.Reports.{report_of, reported};
-ghost use Rattle.codec_payload_c.specs.StreamReceivers.{AreSettings, IsNewStream, IsStreamReceiverOf, PopsUnit, Takes, TellsCounts, TellsMissing, TellsNumber, TellsReport, TellsTimed, anew, is_in_range, outcome_number, patience_given, red_in_range, red_set, rtx_in_range, rtx_set, waiting_by};
+ghost use Rattle.codec_payload_c.specs.StreamReceivers.{AreSettings, IsNewStream, IsStreamReceiverOf, PopsUnit, Takes, TellsCounts, TellsMissing, TellsNumber, TellsReport, TellsTimed, anew, bound_given, is_in_range, outcome_number, red_in_range, red_set, rtx_in_range, rtx_set, wait_limits_given, waiting_by};
 ghost use Rattle.codec_payload_handle.specs.Kinds.{Makes, OnStreamReceiver, Refuses, is_stream_receiver};
 ghost use Rattle.codec_payload_handle.specs.Settings.{depacketizer_set};
 
@@ -19,7 +19,7 @@ use codec_payload_handle::object::{Object, StreamReceiver};
 use codec_payload_handle::settings::{Spec, depacketizer_of};
 use codec_payload_handle::status;
 use codec_payload_handle::unit::{Unit, unit_of};
-use codec_payload_jitter::jitter::Patience as Waiting;
+use codec_payload_jitter::jitter::WaitLimits as Waiting;
 use codec_payload_jitter::outcome::Outcome;
 use codec_payload_stream::receiver::{
     ReceiveError, Receiver, RedSettings, Retransmission, Settings,
@@ -31,7 +31,7 @@ use std::alloc::Global;
 #[derive(Drop)]
 pub struct ReceiverSettings {
     pub spec: Spec,
-    /// A complete frame behind a gap waits until more complete frames than that are held.
+    /// A complete frame behind a gap waits until more complete frames than that are held. `usize::MAX`: however many are held.
     pub hold_back: usize,
     /// The first frame waits until more complete frames than that are held.
     pub start: usize,
@@ -71,10 +71,10 @@ pub struct ReceiverSettings {
 /// How long to wait for packets that are missing.
 #[repr(C)]
 #[derive(Clone, Copy)]
-pub struct Patience {
+pub struct WaitLimits {
     /// How long a complete frame waits behind a gap, in ticks of the caller's clock.
     pub max_wait: u64,
-    /// A complete frame behind a gap waits until more complete frames than that are held.
+    /// A complete frame behind a gap waits until more complete frames than that are held. `usize::MAX`: however many are held.
     pub hold_back: usize,
     /// The first frame waits until more complete frames than that are held.
     pub start: usize,
@@ -185,15 +185,26 @@ fn retransmission_of(settings: &ReceiverSettings) -> Option<Retransmission>
     })
 }
 
+/// The bound by count, if there is one.
+fn bound_of(hold_back: usize) -> Option<usize>
+    ensures { result ≡ bound_given hold_back }
+{
+    if hold_back == usize::MAX {
+        None
+    } else {
+        Some(hold_back)
+    }
+}
+
 /// How long to wait, as the receiver has it.
-fn waiting_for(patience: Patience) -> Waiting
-    ensures { result ≡ patience_given patience }
+fn waiting_for(wait_limits: WaitLimits) -> Waiting
+    ensures { result ≡ wait_limits_given wait_limits }
 {
     Waiting {
-        hold_back: patience.hold_back,
-        start: patience.start,
-        max_wait: if patience.has_max_wait {
-            Some(patience.max_wait)
+        hold_back: bound_of(wait_limits.hold_back),
+        start: wait_limits.start,
+        max_wait: if wait_limits.has_max_wait {
+            Some(wait_limits.max_wait)
         } else {
             None
         },
@@ -224,7 +235,7 @@ fn settings_of(
         extension_ids: ids_of(settings.extension_ids),
         clock_rate,
         tick_rate,
-        patience: waiting_for(Patience {
+        wait_limits: waiting_for(WaitLimits {
             max_wait: settings.max_wait,
             hold_back: settings.hold_back,
             start: settings.start,
@@ -491,12 +502,12 @@ pub extern "C" fn cpay_receiver_next_deadline(
 
 /// From now on frames wait by these values.
 #[unsafe(no_mangle)]
-pub extern "C" fn cpay_receiver_set_patience(
+pub extern "C" fn cpay_receiver_set_wait_limits(
     alloc: Global,
     handle: &mut Handle,
-    patience: &Patience,
+    wait_limits: &WaitLimits,
 ) -> u32
-    ensures sets { OnStreamReceiver handle.old.place.value (λ r s. (result ≡ 0) × (s ≡ record r { receiver = waiting_by (patience_given patience.now) r.receiver })) handle.new.place.value }
+    ensures sets { OnStreamReceiver handle.old.place.value (λ r s. (result ≡ 0) × (s ≡ record r { receiver = waiting_by (wait_limits_given wait_limits.now) r.receiver })) handle.new.place.value }
     ensures refused { Refuses is_stream_receiver handle.old.place.value result handle.new.place.value }
 {
     let Some(mut object) = handle.take(alloc) else {
@@ -504,7 +515,7 @@ pub extern "C" fn cpay_receiver_set_patience(
     };
     let answer = match &mut *object {
         Object::StreamReceiver(stream) => {
-            stream.receiver.set_patience(waiting_for(*patience));
+            stream.receiver.set_wait_limits(waiting_for(*wait_limits));
             status::OK
         }
         _ => status::OTHER_KIND,

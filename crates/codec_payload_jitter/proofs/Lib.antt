@@ -1,5 +1,5 @@
 pub mod NumbersLemmas
 pub mod ReceivingLemmas
-pub mod BlankLemmas
+pub mod NoMediaLemmas
 pub mod MissingLemmas
 pub mod RunLemmas

@@ -9,7 +9,7 @@ use Rattle.codec_payload_buffer.specs.Stretches.{after_pushes}
 use Rattle.codec_payload_jitter.specs.Numbers.{Numbering, low_bits, no_numbers, number_for, numbering_after, numbers_for, answer_for}
 use Rattle.codec_payload_jitter.specs.Numbers.{numbering_with, without_restart, number_in, is_restart, GoOn, moved}
 use Rattle.codec_payload_jitter.specs.Receiving.{Receiving, Arrival, answer_in, Receives, ReceivesAs, TakesIn, settled, waiting_at, PopsWith}
-use Rattle.codec_payload_jitter.specs.Blanks.{passed_blanks, blanks_left}
+use Rattle.codec_payload_jitter.specs.NoMediaNumbers.{passed_no_media, no_media_left}
 use Rattle.codec_payload_jitter.specs.Runs.{ReceivesAll, low_numbers, ArriveAs, AreStretches, AreTrueStretches, Answer, numbering_past, numbers_by_round, TurnWith, IsChain, GoOnByRound, AreChains}
 use Rattle.codec_payload_jitter.specs.declared.outcome.Outcome.{Outcome}
 use Rattle.codec_payload_jitter.proofs.NumbersLemmas.{are_true_numbers, none_restarts}
@@ -39,7 +39,7 @@ takes_depacketizer rate a (Some n) s t takes = ap (λ (x : State). x.depacketize
 pub record IsOne (number : Option ℕ) (a : Arrival) (r t : Receiving) : Type 0 where
   pub takes : TakesAt r.rate a number r.buffer t.buffer
   pub rate : t.rate ≡ r.rate
-  pub blanks : t.blanks ≡ r.blanks
+  pub no_media_numbers : t.no_media_numbers ≡ r.no_media_numbers
 
 one_as : (answer : Extended) (a : Arrival) (r t : Receiving) (outcome : Outcome) → is_restart answer ≡ false → ReceivesAs answer a r outcome t → IsOne (number_in answer) a r t
 one_as (extended.Number n) a r t outcome on got =
@@ -47,18 +47,18 @@ one_as (extended.Number n) a r t outcome on got =
     record {
       takes = subst (λ (s : State). TakesIn r.rate a n r.buffer s) (sym (ap (λ (x : Receiving). x.buffer) all ∙ ap (λ (x : Receiving). x.buffer) got.1.3)) got.1.1;
       rate = ap (λ (x : Receiving). x.rate) all ∙ ap (λ (x : Receiving). x.rate) got.1.3;
-      blanks = ap (λ (x : Receiving). x.blanks) all ∙ ap (λ (x : Receiving). x.blanks) got.1.3;
+      no_media_numbers = ap (λ (x : Receiving). x.no_media_numbers) all ∙ ap (λ (x : Receiving). x.no_media_numbers) got.1.3;
     }
 one_as (extended.Restarted n) a r t outcome on got = cc
 one_as extended.Suspect a r t outcome on got = record {
   takes = ap (λ (x : Receiving). x.buffer) got.1;
   rate = ap (λ (x : Receiving). x.rate) got.1;
-  blanks = ap (λ (x : Receiving). x.blanks) got.1;
+  no_media_numbers = ap (λ (x : Receiving). x.no_media_numbers) got.1;
 }
 one_as extended.Spent a r t outcome on got = record {
   takes = ap (λ (x : Receiving). x.buffer) got.1;
   rate = ap (λ (x : Receiving). x.rate) got.1;
-  blanks = ap (λ (x : Receiving). x.blanks) got.1;
+  no_media_numbers = ap (λ (x : Receiving). x.no_media_numbers) got.1;
 }
 
 unless_restart : (answer : Extended) → is_restart answer ≡ false → without_restart answer ≡ answer
@@ -94,7 +94,7 @@ one_of a r t outcome running on receives =
       one = record {
         takes = subst (λ (s : State). TakesAt r.rate a number r.buffer s) (sym (ap (λ (x : Receiving). x.buffer) receives.2)) one.takes;
         rate = ap (λ (x : Receiving). x.rate) receives.2 ∙ one.rate;
-        blanks = ap (λ (x : Receiving). x.blanks) receives.2 ∙ one.blanks;
+        no_media_numbers = ap (λ (x : Receiving). x.no_media_numbers) receives.2 ∙ one.no_media_numbers;
       };
       numbering = ap (λ (x : Receiving). x.numbering) receives.2 ∙ ap (λ (e : Extended). numbering_with r.numbering e low) is;
       running = ap (λ (x : Receiving). x.anew) receives.2;
@@ -135,7 +135,7 @@ are_true_stretches forward backward first ts arrivals r t outcomes running kept 
 
 -- pushes of a sender that does not restart leave all but numbering, buffer, the packet that is kept and counters
 pub record Stay (lows : List ℕ) (r t : Receiving) : Type 0 where
-  pub blanks : t.blanks ≡ r.blanks
+  pub no_media_numbers : t.no_media_numbers ≡ r.no_media_numbers
   pub rate : t.rate ≡ r.rate
   pub numbering : t.numbering ≡ numbering_past r.numbering lows
   pub running : t.anew ≡ false
@@ -144,7 +144,7 @@ stay : (arrivals : List Arrival) (r t : Receiving) (outcomes : List Outcome) →
     → ReceivesAll arrivals r outcomes t → Stay (low_numbers arrivals) r t
 stay [] r t outcomes running on all = record {
   running = ap (λ (x : Receiving). x.anew) all.1 ∙ running;
-  blanks = ap (λ (x : Receiving). x.blanks) all.1;
+  no_media_numbers = ap (λ (x : Receiving). x.no_media_numbers) all.1;
   rate = ap (λ (x : Receiving). x.rate) all.1;
   numbering = ap (λ (x : Receiving). x.numbering) all.1;
 }
@@ -152,21 +152,21 @@ stay (a ∷ arrivals) r t outcomes running on all =
     let one = one_of a r all.2 all.0 running on.0 all.4 in
     let rest = stay arrivals all.2 t all.1 one.running (subst (λ (n : Numbering). GoOn n (low_numbers arrivals)) (sym one.numbering) on.1) all.5 in
     record {
-      blanks = rest.blanks ∙ one.one.blanks;
+      no_media_numbers = rest.no_media_numbers ∙ one.one.no_media_numbers;
       rate = rest.rate ∙ one.one.rate;
       numbering = rest.numbering ∙ ap (λ (n : Numbering). numbering_past n (low_numbers arrivals)) one.numbering;
       running = rest.running;
     }
 
 -- with nothing remembered, nothing is settled
-settled_none : (r : Receiving) → r.blanks ≡ [] → settled r ≡ r
+settled_none : (r : Receiving) → r.no_media_numbers ≡ [] → settled r ≡ r
 settled_none r none =
-    ap (λ (ns : List ℕ). record r { buffer = passed_blanks r.buffer ns; blanks = blanks_left r.buffer ns }) none ∙ ap (λ (ns : List ℕ). record r { blanks = ns }) (sym none)
+    ap (λ (ns : List ℕ). record r { buffer = passed_no_media r.buffer ns; no_media_numbers = no_media_left r.buffer ns }) none ∙ ap (λ (ns : List ℕ). record r { no_media_numbers = ns }) (sym none)
 
 -- what a pop leaves as it was, and what it does to the buffer
 pub record IsTurn (wait : Option ℕ) (r : Receiving) (answer : Answer) (t : Receiving) : Type 0 where
   pub turn : TurnWith wait r.buffer answer t.buffer
-  pub blanks : t.blanks ≡ r.blanks
+  pub no_media_numbers : t.no_media_numbers ≡ r.no_media_numbers
   pub rate : t.rate ≡ r.rate
   pub numbering : t.numbering ≡ r.numbering
   pub anew : t.anew ≡ r.anew
@@ -174,14 +174,14 @@ pub record IsTurn (wait : Option ℕ) (r : Receiving) (answer : Answer) (t : Rec
 turn_of : (wait : Option ℕ) (r : Receiving) (answer : Answer) (t : Receiving) → PopsWith wait r answer t → IsTurn wait r answer t
 turn_of None r answer t pops = record {
   turn = (pops.0, ap (λ (x : Receiving). x.buffer) pops.1);
-  blanks = ap (λ (x : Receiving). x.blanks) pops.1;
+  no_media_numbers = ap (λ (x : Receiving). x.no_media_numbers) pops.1;
   rate = ap (λ (x : Receiving). x.rate) pops.1;
   numbering = ap (λ (x : Receiving). x.numbering) pops.1;
   anew = ap (λ (x : Receiving). x.anew) pops.1;
 }
 turn_of (Some h) r answer t pops = record {
   turn = subst (λ (s : State). Pops (record r.buffer { hold_back = h }) answer s) (sym (ap (λ (x : Receiving). x.buffer) pops.2)) pops.1;
-  blanks = ap (λ (x : Receiving). x.blanks) pops.2;
+  no_media_numbers = ap (λ (x : Receiving). x.no_media_numbers) pops.2;
   rate = ap (λ (x : Receiving). x.rate) pops.2;
   numbering = ap (λ (x : Receiving). x.numbering) pops.2;
   anew = ap (λ (x : Receiving). x.anew) pops.2;
@@ -196,11 +196,11 @@ are_chains (round ∷ rounds) r t answers running none on does =
     let wait : Option ℕ = waiting_at (settled mid) round.pop_at in
     let stretch = are_stretches round.arrivals r mid does.0 running on.0 does.6 in
     let stays = stay round.arrivals r mid does.0 running on.0 does.6 in
-    let no_blanks : mid.blanks ≡ [] = stays.blanks ∙ none in
-    let turn : IsTurn wait mid does.2 after = turn_of wait mid does.2 after (subst (λ (x : Receiving). PopsWith wait x does.2 after) (settled_none mid no_blanks) does.7) in
+    let none_noted : mid.no_media_numbers ≡ [] = stays.no_media_numbers ∙ none in
+    let turn : IsTurn wait mid does.2 after = turn_of wait mid does.2 after (subst (λ (x : Receiving). PopsWith wait x does.2 after) (settled_none mid none_noted) does.7) in
     let rate : after.rate ≡ r.rate = turn.rate ∙ stays.rate in
     let numbering : after.numbering ≡ numbering_past r.numbering lows = turn.numbering ∙ stays.numbering in
-    let rest = are_chains rounds after t does.4 (turn.anew ∙ stays.running) (turn.blanks ∙ no_blanks) (subst (λ (n : Numbering). GoOnByRound n rounds) (sym numbering) on.1) does.8 in (
+    let rest = are_chains rounds after t does.4 (turn.anew ∙ stays.running) (turn.no_media_numbers ∙ none_noted) (subst (λ (n : Numbering). GoOnByRound n rounds) (sym numbering) on.1) does.8 in (
       stretch.0,
       wait,
       does.2,

@@ -1,5 +1,6 @@
-pub mod Blanks
+pub mod NoMediaNumbers
 pub mod Missing
 pub mod Numbers
 pub mod Receiving
 pub mod Runs
+pub mod Waiting

@@ -2,12 +2,12 @@
 use Rattle.std.specs.Prelude.{ℕ, ◌+◌, ◌-◌, zero, suc, max, ◌&&◌, not, Bool, Option, Some, None, List, [], ◌∷◌, take}
 use Rattle.std.specs.List.{filter}
 use Rattle.codec_payload_buffer.specs.Held.{has_number}
-use Rattle.codec_payload_jitter.specs.Blanks.{is_in}
+use Rattle.codec_payload_jitter.specs.NoMediaNumbers.{is_in}
 use Rattle.codec_payload_jitter.specs.Receiving.{Receiving}
 
 -- n is neither held nor known to have no media
 abbrev pub is_absent : Receiving → ℕ → Bool
-is_absent r n = not (has_number n r.buffer.held) && not (is_in n r.blanks)
+is_absent r n = not (has_number n r.buffer.held) && not (is_in n r.no_media_numbers)
 
 -- so many numbers from n on
 abbrev pub numbers_from : ℕ → ℕ → List ℕ

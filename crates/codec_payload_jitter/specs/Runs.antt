@@ -92,5 +92,5 @@ IsChain rate (round ∷ rounds) (numbers ∷ more) s answers t =
 -- the rounds of a jitter buffer, of a sender that does not restart and without numbers that carry no media, are turns of its buffer, each pop with a `hold_back` of its own
 abbrev pub AreChains : Type 0
 AreChains =
-    (rounds : List Round) (r t : Receiving) (answers : List Answer) → r.anew ≡ false → r.blanks ≡ [] → GoOnByRound r.numbering rounds → DoesRounds rounds r answers t
+    (rounds : List Round) (r t : Receiving) (answers : List Answer) → r.anew ≡ false → r.no_media_numbers ≡ [] → GoOnByRound r.numbering rounds → DoesRounds rounds r answers t
     → IsChain r.rate rounds (numbers_by_round r.numbering rounds) r.buffer answers t.buffer

@@ -1,7 +1,7 @@
-//! What holds of numbers, of blanks and of a jitter buffer. These functions exist for what they prove, and do nothing.
+//! What holds of numbers, of numbers without media and of a jitter buffer. These functions exist for what they prove, and do nothing.
 
 ghost use Rattle.codec_payload_jitter.specs.Numbers.{AreTrueNumbers, NoneRestarts, NeverMix, AreTrueAnew};
-ghost use Rattle.codec_payload_jitter.specs.Blanks.{PassesBlanksAlone, PassesInPlace};
+ghost use Rattle.codec_payload_jitter.specs.NoMediaNumbers.{PassesNoMediaAlone, PassesInPlace};
 ghost use Rattle.codec_payload_jitter.specs.Runs.{AreChains, AreStretches, AreTrueStretches};
 
 /// Where the true numbers of a sender's packets each lie within the windows of the greatest true number so far, the numbers
@@ -15,8 +15,8 @@ pub fn numbers_are_true()
 {}
 
 /// The cutoff goes over numbers without media alone, and nothing else changes.
-pub fn passes_blanks_alone()
-    ensures alone { PassesBlanksAlone }
+pub fn passes_no_media_alone()
+    ensures alone { PassesNoMediaAlone }
     ensures in_place { PassesInPlace }
 {}
 

@@ -2,9 +2,10 @@
 //! for by a clock. A user names `codec_payload_stream`, which re-exports it.
 #![tactic(auto)]
 
-pub mod blanks;
 pub mod jitter;
 mod laws;
 pub mod missing;
+pub mod no_media_numbers;
 pub mod numbers;
 pub mod outcome;
+pub mod waiting;

@@ -44,10 +44,10 @@ impl Extended {
 #[derive(Clone, Copy, Debug, PartialEq, Eq, Error)]
 pub enum WindowError {
     /// That ahead is 0, or above 32,768.
-    #[error("the window ahead of the greatest sequence number is not 1 to 32768")]
+    #[error("forward window must be 1 to 32768")]
     Forward,
     /// That behind is not less than that ahead.
-    #[error("the window behind the greatest sequence number is not less than that ahead")]
+    #[error("backward window must be less than the forward window")]
     Backward,
 }
 

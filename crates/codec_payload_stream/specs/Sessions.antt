@@ -12,6 +12,7 @@ use Rattle.codec_payload_buffer.specs.Release.{Release}
 use Rattle.codec_payload_buffer.specs.Steps.{empty_buffer}
 use Rattle.codec_payload_jitter.specs.Numbers.{Numbering, numbering_within}
 use Rattle.codec_payload_jitter.specs.Receiving.{Receiving, Arrival, Notes, Receives, ReceivesAgain, Recovers, counted, next, no_packets}
+use Rattle.codec_payload_jitter.specs.Waiting.{most_held_back}
 use Rattle.codec_payload_jitter.specs.declared.numbers.WindowError.{WindowError}
 use Rattle.codec_payload_jitter.specs.declared.numbers.WindowError.TheVariants as windows
 use Rattle.codec_payload_jitter.specs.declared.outcome.Outcome.{Outcome}
@@ -239,7 +240,7 @@ session_with s depacketizer red numbering = record {
   stream = record { payload_type = s.payload_type; no_media = s.no_media.items; red = red; retransmission = s.retransmission; ids = s.extension_ids };
   named = s.ssrc;
   ssrc = s.ssrc;
-  packets = no_packets numbering (empty_buffer s.patience.hold_back s.limit depacketizer) s.clock_rate s.patience;
+  packets = no_packets numbering (empty_buffer (most_held_back s.wait_limits.hold_back) s.limit depacketizer) s.clock_rate s.wait_limits;
   arrived = nothing_arrived;
   time = None;
   reception = no_reception numbering s.tick_rate s.clock_rate;

@@ -313,7 +313,7 @@ impl Stream {
     }
 
     /// The jitter buffer takes in a packet that was sent again, under the number that it had first.
-    fn push_again<B: Depacketizer>(
+    fn push_retransmitted<B: Depacketizer>(
         &self,
         packets: &mut JitterBuffer<B>,
         now: Ticks,
@@ -327,7 +327,7 @@ impl Stream {
         let mut header = self.header_for(&sent.header);
         header.sequence_number = sent.number;
         header.ssrc = sent.ssrc;
-        packets.push_again(now, header, payload)
+        packets.push_retransmitted(now, header, payload)
     }
 
     /// The jitter buffer takes in the packet that carries blocks: its primary block, where that is media of the stream.
@@ -345,7 +345,7 @@ impl Stream {
         if red.primary.pt == self.payload_type {
             self.push_packet(packets, now, header, red.primary.payload)
         } else {
-            packets.push_blank(header.sequence_number)?;
+            packets.push_no_media(header.sequence_number)?;
             Ok(Outcome::NoMedia)
         }
     }
@@ -401,13 +401,13 @@ impl Stream {
             Datagram::Rtcp | Datagram::Malformed(_) => Outcome::Rtcp,
             Datagram::OtherStream => Outcome::OtherStream,
             Datagram::NoMedia(packet) => {
-                packets.push_blank(packet.header.sequence_number)?;
+                packets.push_no_media(packet.header.sequence_number)?;
                 Outcome::NoMedia
             }
             Datagram::Media(packet) => {
                 self.push_packet(packets, now, &packet.header, packet.payload)?
             }
-            Datagram::SentAgain(sent) => self.push_again(packets, now, sent)?,
+            Datagram::SentAgain(sent) => self.push_retransmitted(packets, now, sent)?,
             Datagram::Nothing => {
                 packets.push_nothing();
                 Outcome::NoMedia

@@ -87,7 +87,7 @@ module _ (stream : Stream) (types : (stream.payload_type < 64) ⊎ (95 < stream.
         not_again = listening.not_again;
         rate = listening.rate;
         running = refl;
-        no_blanks = listening.no_blanks;
+        none_noted = listening.none_noted;
         of_codec = listening.of_codec;
       }) numbers takes in
       record { events = rest.events; meets = rest.meets; brings = rest.brings }

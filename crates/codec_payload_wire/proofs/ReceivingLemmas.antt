@@ -11,9 +11,10 @@ use Rattle.codec_payload_runs.proofs.BuiltInRuns.{pop_exactly, push_keeps}
 use Rattle.codec_payload_runs.specs.Arrivals.{PopsWaiting, Tells}
 use Rattle.codec_payload_send.specs.Packets.{Packet}
 use Rattle.codec_payload_runs.specs.Schedule.{Answer, RunState, run_state}
-use Rattle.codec_payload_jitter.specs.Blanks.{passed_blanks, blanks_left}
+use Rattle.codec_payload_jitter.specs.NoMediaNumbers.{passed_no_media, no_media_left}
 use Rattle.codec_payload_jitter.specs.Numbers.{Numbering, answer_for, numbering_after, numbering_with, without_restart}
 use Rattle.codec_payload_jitter.specs.Receiving.{Arrival, PopsWith, Receives, ReceivesAs, Receiving, answer_in, is_starting, meta_for, settled, waiting_at}
+use Rattle.codec_payload_jitter.specs.Waiting.{most_held_back}
 use Rattle.codec_payload_jitter.specs.declared.numbers.Extended.{Extended}
 use Rattle.codec_payload_jitter.specs.declared.numbers.Extended.TheVariants as extended
 use Rattle.codec_payload_jitter.specs.declared.outcome.Outcome.{Outcome}
@@ -37,7 +38,7 @@ pub record IsListening (stream : Stream) (s : Session) : Type 0 where
   pub not_again : is_sent_again_by s.stream.retransmission stream ≡ false
   pub rate : s.packets.rate ≡ stream.clock_rate
   pub running : s.packets.anew ≡ false
-  pub no_blanks : s.packets.blanks ≡ []
+  pub none_noted : s.packets.no_media_numbers ≡ []
   pub of_codec : is_built_in_depacketizer s.packets.buffer.depacketizer ≡ true
 
 -- Receiving
@@ -64,7 +65,7 @@ pub record TakesIn (n : ℕ) (a : Arrival) (r t : Receiving) : Type 0 where
   pub numbering : t.numbering ≡ numbering_after r.numbering a.header.sequence_number
   pub rate : t.rate ≡ r.rate
   pub running : t.anew ≡ false
-  pub blanks : t.blanks ≡ r.blanks
+  pub no_media_numbers : t.no_media_numbers ≡ r.no_media_numbers
   pub ended : t.ended ≡ r.ended
 
 takes_in : (n : ℕ) (a : Arrival) (r t : Receiving) (outcome : Outcome) → r.anew ≡ false → is_built_in_depacketizer r.buffer.depacketizer ≡ true
@@ -83,7 +84,7 @@ takes_in n a r t outcome running of_codec numbered receives =
       numbering = ap (λ (x : Receiving). x.numbering) receives.2 ∙ ap (λ (e : Extended). numbering_with r.numbering e low) (is ∙ sym numbered);
       rate = ap (λ (x : Receiving). x.rate) receives.2 ∙ (ap (λ (x : Receiving). x.rate) trusted ∙ ap (λ (x : Receiving). x.rate) accepted);
       running = ap (λ (x : Receiving). x.anew) receives.2;
-      blanks = ap (λ (x : Receiving). x.blanks) receives.2 ∙ (ap (λ (x : Receiving). x.blanks) trusted ∙ ap (λ (x : Receiving). x.blanks) accepted);
+      no_media_numbers = ap (λ (x : Receiving). x.no_media_numbers) receives.2 ∙ (ap (λ (x : Receiving). x.no_media_numbers) trusted ∙ ap (λ (x : Receiving). x.no_media_numbers) accepted);
       ended = ap (λ (x : Receiving). x.ended) receives.2 ∙ (ap (λ (x : Receiving). x.ended) trusted ∙ ap (λ (x : Receiving). x.ended) accepted);
     }
 
@@ -126,7 +127,7 @@ pushes stream now q bytes s t receipt types listening reads numbered delivers =
         not_again = ap (λ (x : Session). is_sent_again_by x.stream.retransmission stream) hears.left ∙ listening.not_again;
         rate = ap (λ (x : Receiving). x.rate) packets ∙ (one.rate ∙ listening.rate);
         running = ap (λ (x : Receiving). x.anew) packets ∙ one.running;
-        no_blanks = ap (λ (x : Receiving). x.blanks) packets ∙ (one.blanks ∙ listening.no_blanks);
+        none_noted = ap (λ (x : Receiving). x.no_media_numbers) packets ∙ (one.no_media_numbers ∙ listening.none_noted);
         of_codec = ap (λ (x : State). is_built_in_depacketizer x.depacketizer) buffer
             ∙ (ap is_built_in_depacketizer (push_keeps s.packets.buffer (arrived s.packets.buffer.depacketizer meta q.payload)) ∙ listening.of_codec);
       };
@@ -136,9 +137,9 @@ pushes stream now q bytes s t receipt types listening reads numbered delivers =
 -- Pops
 
 -- with nothing remembered, nothing is settled
-settled_none : (r : Receiving) → r.blanks ≡ [] → settled r ≡ r
+settled_none : (r : Receiving) → r.no_media_numbers ≡ [] → settled r ≡ r
 settled_none r none =
-    ap (λ (ns : List ℕ). record r { buffer = passed_blanks r.buffer ns; blanks = blanks_left r.buffer ns }) none ∙ ap (λ (ns : List ℕ). record r { blanks = ns }) (sym none)
+    ap (λ (ns : List ℕ). record r { buffer = passed_no_media r.buffer ns; no_media_numbers = no_media_left r.buffer ns }) none ∙ ap (λ (ns : List ℕ). record r { no_media_numbers = ns }) (sym none)
 
 -- a depacketizer that is built in stays so
 pop_stays : (s t : State) (answer : Answer) → is_built_in_depacketizer s.depacketizer ≡ true → answer ≢ Some (Err faults.OutOfMemory) → Pops s answer t → is_built_in_depacketizer t.depacketizer ≡ true
@@ -159,7 +160,7 @@ pub record IsPopped (stream : Stream) (now : Ticks) (answer : Answer) (s t : Ses
 pub record IsTurn (wait : Option ℕ) (r : Receiving) (answer : Answer) (t : Receiving) : Type 0 where
   pub pops : PopsWaiting wait r.buffer answer t.buffer
   pub of_codec : is_built_in_depacketizer t.buffer.depacketizer ≡ true
-  pub blanks : t.blanks ≡ r.blanks
+  pub no_media_numbers : t.no_media_numbers ≡ r.no_media_numbers
   pub rate : t.rate ≡ r.rate
   pub numbering : t.numbering ≡ r.numbering
   pub anew : t.anew ≡ r.anew
@@ -170,7 +171,7 @@ turn_of : (wait : Option ℕ) (r : Receiving) (answer : Answer) (t : Receiving) 
 turn_of None r answer t of_codec not_memory pops = record {
   pops = (pops.0, ap (λ (x : Receiving). x.buffer) pops.1);
   of_codec = ap (λ (x : Receiving). is_built_in_depacketizer x.buffer.depacketizer) pops.1 ∙ of_codec;
-  blanks = ap (λ (x : Receiving). x.blanks) pops.1;
+  no_media_numbers = ap (λ (x : Receiving). x.no_media_numbers) pops.1;
   rate = ap (λ (x : Receiving). x.rate) pops.1;
   numbering = ap (λ (x : Receiving). x.numbering) pops.1;
   anew = ap (λ (x : Receiving). x.anew) pops.1;
@@ -179,7 +180,7 @@ turn_of None r answer t of_codec not_memory pops = record {
 turn_of (Some h) r answer t of_codec not_memory pops = record {
   pops = (not_memory, subst (λ (s : State). Pops (record r.buffer { hold_back = h }) answer s) (sym (ap (λ (x : Receiving). x.buffer) pops.2)) pops.1);
   of_codec = ap (λ (x : Receiving). is_built_in_depacketizer x.buffer.depacketizer) pops.2 ∙ pop_stays (record r.buffer { hold_back = h }) pops.0 answer of_codec not_memory pops.1;
-  blanks = ap (λ (x : Receiving). x.blanks) pops.2;
+  no_media_numbers = ap (λ (x : Receiving). x.no_media_numbers) pops.2;
   rate = ap (λ (x : Receiving). x.rate) pops.2;
   numbering = ap (λ (x : Receiving). x.numbering) pops.2;
   anew = ap (λ (x : Receiving). x.anew) pops.2;
@@ -189,13 +190,13 @@ turn_of (Some h) r answer t of_codec not_memory pops = record {
 -- where the stream has ended, nothing is waited for
 waits_for_nothing : (r : Receiving) (now : ℕ) → r.ended ≡ true → waiting_at r now ≡ Some 0
 waits_for_nothing r now at_end =
-    ap (λ (b : Bool). cond b (Some 0) (cond (is_starting r) None (Some r.patience.hold_back))) (or_left r.ended _ at_end)
+    ap (λ (b : Bool). cond b (Some 0) (cond (is_starting r) None (Some (most_held_back r.wait_limits.hold_back)))) (or_left r.ended _ at_end)
 
 pub pops_as : (stream : Stream) (now : Ticks) (answer : Answer) (s t : Session) → IsListening stream s → answer ≢ Some (Err faults.OutOfMemory)
     → PopsUnit now s answer t → IsPopped stream now answer s t
 pops_as stream now answer s t listening not_memory popped =
     let r : Receiving = s.packets in
-    let settled_is : settled r ≡ r = settled_none r listening.no_blanks in
+    let settled_is : settled r ≡ r = settled_none r listening.none_noted in
     let wait : Option ℕ = waiting_at r now.0 in
     let pops : PopsWith wait r answer popped.0 = subst (λ (x : Receiving). PopsWith (waiting_at x now.0) x answer popped.0) settled_is popped.1 in
     let turn = turn_of wait r answer popped.0 listening.of_codec not_memory pops in
@@ -211,7 +212,7 @@ pops_as stream now answer s t listening not_memory popped =
         not_again = ap (λ (x : Session). is_sent_again_by x.stream.retransmission stream) popped.2 ∙ listening.not_again;
         rate = ap (λ (x : Receiving). x.rate) packets ∙ (turn.rate ∙ listening.rate);
         running = ap (λ (x : Receiving). x.anew) packets ∙ (turn.anew ∙ listening.running);
-        no_blanks = ap (λ (x : Receiving). x.blanks) packets ∙ (turn.blanks ∙ listening.no_blanks);
+        none_noted = ap (λ (x : Receiving). x.no_media_numbers) packets ∙ (turn.no_media_numbers ∙ listening.none_noted);
         of_codec = ap (λ (x : Receiving). is_built_in_depacketizer x.buffer.depacketizer) packets ∙ turn.of_codec;
       };
       ended = ap (λ (x : Receiving). x.ended) packets ∙ turn.ended;

@@ -168,7 +168,7 @@ module _ (samples : List Sample) (all_steps : List DatagramStep) (sender : Sendi
     not_again = ap (λ (x : Session). is_sent_again_by x.stream.retransmission sender.stream) begun.is ∙ within.one_stream.not_again;
     rate = ap (λ (x : Session). x.packets.rate) begun.is ∙ within.one_stream.clock_rate;
     running = ap (λ (x : Session). x.packets.anew) begun.is;
-    no_blanks = ap (λ (x : Session). x.packets.blanks) begun.is;
+    none_noted = ap (λ (x : Session). x.packets.no_media_numbers) begun.is;
     of_codec = ap (λ (x : Session). is_built_in_depacketizer x.packets.buffer.depacketizer) begun.is ∙ (ap is_codec within.one_stream.alike ∙ of_codec sender.packetizer within.one_stream.built_in);
   }
 

@@ -10,7 +10,7 @@ use codec_payload_core::wire::{Codec, ExtensionValues, Frequency, MediaTime, Tic
 use codec_payload_rtp::rtp::{RtpHeader, RtpPacket};
 use codec_payload_rtp::values::ExtensionIds;
 use codec_payload_sender::sender::{Sample, Sender, SenderSettings};
-use codec_payload_stream::jitter::Patience;
+use codec_payload_stream::jitter::WaitLimits;
 use codec_payload_stream::receiver::{Receiver, Settings};
 use std::alloc::Global;
 use std::time::Clock;
@@ -180,8 +180,8 @@ fn receiver_of(alloc: Global) -> Result<Receiver> {
         extension_ids: ExtensionIds::default(),
         clock_rate: Frequency::FORTY_EIGHT_KHZ,
         tick_rate: Frequency::FORTY_EIGHT_KHZ,
-        patience: Patience {
-            hold_back: 0,
+        wait_limits: WaitLimits {
+            hold_back: Some(0),
             start: 0,
             max_wait: Some(1 << 20),
         },

@@ -4,7 +4,7 @@ use crate::events::{pop, take};
 use codec_payload_base::wire::{Codec, Frequency};
 use codec_payload_codec::codec::{CodecDepacketizer, NoBox};
 use codec_payload_rtp::values::ExtensionIds;
-use codec_payload_stream::jitter::Patience;
+use codec_payload_stream::jitter::WaitLimits;
 use codec_payload_stream::receiver::{Receiver, Settings};
 use std::alloc::Global;
 use std::process::Abort;
@@ -39,8 +39,8 @@ fn receiver_of(alloc: Global) -> Result<Receiver<NoBox>, Fail> {
         extension_ids: ExtensionIds::default(),
         clock_rate: Frequency::make(16_000).ok_or("a rate")?,
         tick_rate: Frequency::make(1_000).ok_or("a rate")?,
-        patience: Patience {
-            hold_back: 30,
+        wait_limits: WaitLimits {
+            hold_back: Some(30),
             start: 0,
             max_wait: Some(100),
         },

@@ -2,7 +2,7 @@
 
 use crate::setup::{SenderSetup, Setting, Stream, codec_named};
 use codec_payload_base::wire::{CodecSpec, Frequency};
-use codec_payload_stream::jitter::Patience;
+use codec_payload_stream::jitter::WaitLimits;
 use codec_payload_stream::receiver::{RedSettings, Retransmission};
 use payload_lines::digits::hex_field;
 use payload_lines::numbers::{count, decimal, truth};
@@ -115,8 +115,8 @@ fn event_of(fields: &[&str]) -> Option<Event> {
 /// What is set of a receiver.
 fn setting_of(fields: &[&str]) -> Option<Setting> {
     match fields {
-        ["wait", hold_back, start, max_wait] => Some(Setting::Wait(Patience {
-            hold_back: count(hold_back)?,
+        ["wait", hold_back, start, max_wait] => Some(Setting::Wait(WaitLimits {
+            hold_back: optional_count(hold_back)?,
             start: count(start)?,
             max_wait: optional(max_wait)?,
         })),
@@ -174,6 +174,14 @@ fn optional(field: &str) -> Option<Option<u64>> {
         return Some(None);
     }
     Some(Some(decimal(field)?))
+}
+
+/// A count, or none.
+fn optional_count(field: &str) -> Option<Option<usize>> {
+    if field == "-" {
+        return Some(None);
+    }
+    Some(Some(count(field)?))
 }
 
 /// A number of 8 bits.

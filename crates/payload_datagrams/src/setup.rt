@@ -4,7 +4,7 @@ use codec_payload_base::wire::{Codec, CodecSpec, Frequency};
 use codec_payload_codec::codec::{CodecDepacketizer, CodecPacketizer, NoBox};
 use codec_payload_rtp::values::ExtensionIds;
 use codec_payload_sender::sender::{Sender, SenderError, SenderSettings};
-use codec_payload_stream::jitter::Patience;
+use codec_payload_stream::jitter::WaitLimits;
 use codec_payload_stream::receiver::{
     Receiver, RedSettings, Retransmission, Settings, SettingsError,
 };
@@ -20,7 +20,7 @@ pub struct Stream {
 /// What a line sets of a receiver.
 #[derive(Clone, Copy, Debug)]
 pub enum Setting {
-    Wait(Patience),
+    Wait(WaitLimits),
     Limit(usize),
     Windows { forward: u16, backward: u16 },
     Ssrc(u32),
@@ -51,11 +51,7 @@ impl Draft {
                 extension_ids: ExtensionIds::default(),
                 clock_rate: stream.spec.clock_rate,
                 tick_rate,
-                patience: Patience {
-                    hold_back: 30,
-                    start: 0,
-                    max_wait: None,
-                },
+                wait_limits: WaitLimits::file(),
                 limit: 4_096,
                 forward: 3_000,
                 backward: 1_000,
@@ -67,7 +63,7 @@ impl Draft {
     pub fn set(&mut self, setting: Setting) -> Result<(), AllocError> {
         let settings = &mut self.settings;
         match setting {
-            Setting::Wait(patience) => settings.patience = patience,
+            Setting::Wait(wait_limits) => settings.wait_limits = wait_limits,
             Setting::Limit(limit) => settings.limit = limit,
             Setting::Windows { forward, backward } => {
                 settings.forward = forward;

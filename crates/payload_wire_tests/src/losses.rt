@@ -5,7 +5,7 @@ use crate::sides::{receiver_of, sample_of, sender_of};
 use codec_payload_base::error::PacketError;
 use codec_payload_base::wire::{Ticks, ToPayload};
 use codec_payload_buffer::buffer::Depacketized;
-use codec_payload_stream::jitter::Patience;
+use codec_payload_stream::jitter::WaitLimits;
 use codec_payload_wire::run::{DatagramStep, run_datagrams};
 use std::alloc::Global;
 use std::process::Abort;
@@ -15,8 +15,8 @@ use std::test::Fail;
 const BLOCKS: u8 = 25;
 
 /// Nothing that is complete waits.
-const AT_ONCE: Patience = Patience {
-    hold_back: 1_000,
+const AT_ONCE: WaitLimits = WaitLimits {
+    hold_back: Some(1_000),
     start: 0,
     max_wait: Some(0),
 };

@@ -4,7 +4,7 @@ use crate::sides::{receiver_of, sample_of, sender_of};
 use codec_payload_base::error::PacketError;
 use codec_payload_base::wire::{Ticks, ToPayload};
 use codec_payload_buffer::buffer::Depacketized;
-use codec_payload_stream::jitter::{Outcome, Patience};
+use codec_payload_stream::jitter::{Outcome, WaitLimits};
 use codec_payload_stream::receiver::ReceiveError;
 use codec_payload_wire::run::{DatagramRun, DatagramStep, run_datagrams};
 use std::alloc::Global;
@@ -29,7 +29,7 @@ type Unit = Option<(&'static [u8], bool)>;
 /// What is done, how many datagrams each sample has, a letter for each receipt, and what each pop gives.
 struct Row {
     name: &'static str,
-    patience: Patience,
+    wait_limits: WaitLimits,
     events: &'static [Event],
     sent: &'static [usize],
     receipts: &'static str,
@@ -48,15 +48,15 @@ const THIRD: &[u8] = &[0x13, 5, 6];
 const FRAMES: [&[u8]; 4] = [FIRST, SECOND, THIRD, &[]];
 
 /// A frame behind a gap waits for 50 ticks.
-const WAITS: Patience = Patience {
-    hold_back: 1_000,
+const WAITS: WaitLimits = WaitLimits {
+    hold_back: Some(1_000),
     start: 0,
     max_wait: Some(50),
 };
 
 /// The first frame waits for a second one besides.
-const STARTS_LATER: Patience = Patience {
-    hold_back: 1_000,
+const STARTS_LATER: WaitLimits = WaitLimits {
+    hold_back: Some(1_000),
     start: 1,
     max_wait: Some(50),
 };
@@ -64,7 +64,7 @@ const STARTS_LATER: Patience = Patience {
 const ROWS: [Row; 8] = [
     Row {
         name: "all-in-order",
-        patience: WAITS,
+        wait_limits: WAITS,
         events: &[
             Event::Send(0),
             Event::Deliver(0, 0),
@@ -83,7 +83,7 @@ const ROWS: [Row; 8] = [
     },
     Row {
         name: "all-reversed-and-some-again",
-        patience: WAITS,
+        wait_limits: WAITS,
         events: &[
             Event::Send(0),
             Event::Send(1),
@@ -112,7 +112,7 @@ const ROWS: [Row; 8] = [
     },
     Row {
         name: "a-datagram-is-lost",
-        patience: WAITS,
+        wait_limits: WAITS,
         events: &[
             Event::Send(0),
             Event::Send(1),
@@ -133,7 +133,7 @@ const ROWS: [Row; 8] = [
     },
     Row {
         name: "what-comes-too-late-is-dropped",
-        patience: WAITS,
+        wait_limits: WAITS,
         events: &[
             Event::Send(0),
             Event::Send(1),
@@ -154,7 +154,7 @@ const ROWS: [Row; 8] = [
     },
     Row {
         name: "what-comes-in-time-closes-the-gap",
-        patience: WAITS,
+        wait_limits: WAITS,
         events: &[
             Event::Send(0),
             Event::Send(1),
@@ -181,7 +181,7 @@ const ROWS: [Row; 8] = [
     },
     Row {
         name: "the-second-frame-comes-first",
-        patience: STARTS_LATER,
+        wait_limits: STARTS_LATER,
         events: &[
             Event::Send(0),
             Event::Send(1),
@@ -199,7 +199,7 @@ const ROWS: [Row; 8] = [
     },
     Row {
         name: "the-end-of-a-stream-with-a-gap",
-        patience: STARTS_LATER,
+        wait_limits: STARTS_LATER,
         events: &[
             Event::Send(0),
             Event::Send(1),
@@ -220,7 +220,7 @@ const ROWS: [Row; 8] = [
     },
     Row {
         name: "nothing-in-it-and-nothing-there",
-        patience: WAITS,
+        wait_limits: WAITS,
         events: &[
             Event::Deliver(0, 0),
             Event::Send(3),
@@ -261,9 +261,9 @@ fn samples(alloc: Global) -> Result<Vec<ToPayload>, Fail> {
     Ok(samples)
 }
 
-fn run_of(alloc: Global, patience: Patience, events: &[Event]) -> Result<DatagramRun, Fail> {
+fn run_of(alloc: Global, wait_limits: WaitLimits, events: &[Event]) -> Result<DatagramRun, Fail> {
     let mut sender = sender_of(alloc)?;
-    let mut receiver = receiver_of(alloc, patience)?;
+    let mut receiver = receiver_of(alloc, wait_limits)?;
     let samples = samples(alloc)?;
     let mut steps = Vec::new(alloc);
     for event in events {
@@ -319,7 +319,7 @@ fn assert_popped(rt: &impl Abort, name: &str, run: &DatagramRun, units: &[Unit])
 #[test]
 fn rows(rt: HostRuntime) -> Result<(), Fail> {
     for row in &ROWS {
-        let run = run_of(rt.alloc(), row.patience, row.events)?;
+        let run = run_of(rt.alloc(), row.wait_limits, row.events)?;
         assert_eq!(rt;
             sent_in(rt.alloc(), &run)?.as_slice(),
             row.sent,

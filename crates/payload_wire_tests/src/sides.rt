@@ -6,7 +6,7 @@ use codec_payload_base::wire::{
 use codec_payload_codec::codec::{CodecDepacketizer, CodecPacketizer, NoBox};
 use codec_payload_rtp::values::ExtensionIds;
 use codec_payload_sender::sender::{Sender, SenderSettings};
-use codec_payload_stream::jitter::Patience;
+use codec_payload_stream::jitter::WaitLimits;
 use codec_payload_stream::receiver::{Receiver, Settings};
 use std::alloc::Global;
 use std::test::Fail;
@@ -31,7 +31,7 @@ pub fn sender_of(alloc: Global) -> Result<Sender<NoBox>, Fail> {
 }
 
 /// A receiver of what that sender sends.
-pub fn receiver_of(alloc: Global, patience: Patience) -> Result<Receiver<NoBox>, Fail> {
+pub fn receiver_of(alloc: Global, wait_limits: WaitLimits) -> Result<Receiver<NoBox>, Fail> {
     let depack = CodecDepacketizer::from_codec(alloc, Codec::Vp8).ok_or("no depacketizer")?;
     let settings = Settings {
         payload_type: 96,
@@ -42,7 +42,7 @@ pub fn receiver_of(alloc: Global, patience: Patience) -> Result<Receiver<NoBox>,
         extension_ids: ExtensionIds::default(),
         clock_rate: Frequency::make(90_000).ok_or("a rate")?,
         tick_rate: Frequency::make(1_000).ok_or("a rate")?,
-        patience,
+        wait_limits,
         limit: 4_096,
         forward: 3_000,
         backward: 1_000,

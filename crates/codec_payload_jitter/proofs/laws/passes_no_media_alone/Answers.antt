@@ -1,5 +1,5 @@
-use Rattle.codec_payload_jitter.proofs.BlankLemmas.{passes_alone, passes_in_place}
-use Rattle.codec_payload_jitter.proofs.laws.passes_blanks_alone.Goals as goal
+use Rattle.codec_payload_jitter.proofs.NoMediaLemmas.{passes_alone, passes_in_place}
+use Rattle.codec_payload_jitter.proofs.laws.passes_no_media_alone.Goals as goal
 
 pub returns-clause-alone : goal.returns-clause-alone
 returns-clause-alone c = passes_alone

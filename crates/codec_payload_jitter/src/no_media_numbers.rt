@@ -4,9 +4,9 @@ ghost use Rattle.std.specs.Prelude.{◌≡◌, OnOk, OnErr};
 ghost use Rattle.std.specs.Option.{option_map};
 ghost use Rattle.codec_payload_buffer.specs.Blanks.{is_right_after};
 ghost use Rattle.codec_payload_buffer.specs.Steps.{is_at_most};
-ghost use Rattle.codec_payload_jitter.specs.Blanks.{below, blank_in, kept_few, noted_blank, is_done, passed_blanks, blanks_left, is_in};
+ghost use Rattle.codec_payload_jitter.specs.NoMediaNumbers.{below, no_media_in, kept_few, noted_no_media, is_done, passed_no_media, no_media_left, is_in};
 
-pub use crate::laws::passes_blanks_alone;
+pub use crate::laws::passes_no_media_alone;
 use codec_payload_base::wire::SeqNo;
 use codec_payload_buffer::buffer::DepacketizingBuffer;
 use codec_payload_codec::codec::Depacketizer;
@@ -16,57 +16,57 @@ use std::alloc::AllocError;
 const MOST: usize = 1_024;
 
 /// Remembers a number, in its place, and forgets the lowest where there are too many.
-pub(crate) fn note_blank(blanks: &mut Vec<u64>, number: u64) -> Result<(), AllocError>
-    ensures ok { OnOk result (blanks.new.items ≡ noted_blank number blanks.old.items) }
-    ensures err { OnErr result (blanks.new.items ≡ blanks.old.items) }
+pub(crate) fn note_no_media(no_media_numbers: &mut Vec<u64>, number: u64) -> Result<(), AllocError>
+    ensures ok { OnOk result (no_media_numbers.new.items ≡ noted_no_media number no_media_numbers.old.items) }
+    ensures err { OnErr result (no_media_numbers.new.items ≡ no_media_numbers.old.items) }
 {
-    put_in(blanks, number)?;
-    keep_few(blanks);
+    put_in(no_media_numbers, number)?;
+    keep_few(no_media_numbers);
     Ok(())
 }
 
 /// The lowest goes where there are too many.
-fn keep_few(blanks: &mut Vec<u64>)
-    ensures { blanks.new.items ≡ kept_few blanks.old.items }
+fn keep_few(no_media_numbers: &mut Vec<u64>)
+    ensures { no_media_numbers.new.items ≡ kept_few no_media_numbers.old.items }
 {
-    if blanks.len() > MOST {
-        blanks.remove(0);
+    if no_media_numbers.len() > MOST {
+        no_media_numbers.remove(0);
     }
 }
 
 /// Puts a number in its place, if it is not there.
-fn put_in(blanks: &mut Vec<u64>, number: u64) -> Result<(), AllocError>
-    ensures ok { OnOk result (blanks.new.items ≡ blank_in number blanks.old.items) }
-    ensures err { OnErr result (blanks.new.items ≡ blanks.old.items) }
+fn put_in(no_media_numbers: &mut Vec<u64>, number: u64) -> Result<(), AllocError>
+    ensures ok { OnOk result (no_media_numbers.new.items ≡ no_media_in number no_media_numbers.old.items) }
+    ensures err { OnErr result (no_media_numbers.new.items ≡ no_media_numbers.old.items) }
 {
-    let place = place_in(blanks, number);
-    if place < blanks.len() && blanks[place] == number {
+    let place = place_in(no_media_numbers, number);
+    if place < no_media_numbers.len() && no_media_numbers[place] == number {
         return Ok(());
     }
-    match blanks.insert(place, number) {
+    match no_media_numbers.insert(place, number) {
         Ok(()) => Ok(()),
         Err(_) => Err(AllocError),
     }
 }
 
 /// How many of them are below the number.
-fn place_in(blanks: &[u64], number: u64) -> usize
-    ensures { result ≡ below number blanks.now }
+fn place_in(no_media_numbers: &[u64], number: u64) -> usize
+    ensures { result ≡ below number no_media_numbers.now }
 {
-    for (i, blank) in blanks.iter().enumerate() {
-        if *blank >= number {
+    for (i, no_media_number) in no_media_numbers.iter().enumerate() {
+        if *no_media_number >= number {
             return i;
         }
     }
-    blanks.len()
+    no_media_numbers.len()
 }
 
 /// Whether the number is remembered.
-pub(crate) fn is_noted(blanks: &[u64], number: u64) -> bool
-    ensures { result ≡ is_in number blanks.now }
+pub(crate) fn is_noted(no_media_numbers: &[u64], number: u64) -> bool
+    ensures { result ≡ is_in number no_media_numbers.now }
 {
-    for blank in blanks {
-        if *blank == number {
+    for no_media_number in no_media_numbers {
+        if *no_media_number == number {
             return true;
         }
     }
@@ -74,20 +74,20 @@ pub(crate) fn is_noted(blanks: &[u64], number: u64) -> bool
 }
 
 /// The buffer's cutoff goes on over the numbers that come right after it, and these are forgotten.
-pub(crate) fn pass_blanks<B: Depacketizer>(
+pub(crate) fn pass_no_media_numbers<B: Depacketizer>(
     buffer: &mut DepacketizingBuffer<B>,
-    blanks: &mut Vec<u64>,
+    no_media_numbers: &mut Vec<u64>,
 )
-    ensures buffer { buffer.new ≡ passed_blanks buffer.old blanks.old.items }
-    ensures blanks { blanks.new.items ≡ blanks_left buffer.old blanks.old.items }
+    ensures buffer { buffer.new ≡ passed_no_media buffer.old no_media_numbers.old.items }
+    ensures no_media_numbers { no_media_numbers.new.items ≡ no_media_left buffer.old no_media_numbers.old.items }
 {
-    while !blanks.is_empty() {
-        let number = SeqNo(blanks[0]);
+    while !no_media_numbers.is_empty() {
+        let number = SeqNo(no_media_numbers[0]);
         if !is_done(buffer, number) {
             return;
         }
         buffer.pass_number(number);
-        blanks.remove(0);
+        no_media_numbers.remove(0);
     }
 }
 
