@@ -103,6 +103,7 @@ outcome_number (outcomes.Restarted false) = 6
 outcome_number outcomes.NoMedia = 7
 outcome_number outcomes.OtherStream = 8
 outcome_number outcomes.Rtcp = 9
+outcome_number outcomes.Undecided = 10
 
 -- what is told of an answer
 abbrev pub Tells : Result Outcome ReceiveError → ℕ → (before after : ℕ) → Type 0

@@ -262,6 +262,7 @@ fn number_of(outcome: Outcome) -> u32
         Outcome::NoMedia => 7,
         Outcome::OtherStream => 8,
         Outcome::Rtcp => 9,
+        Outcome::Undecided => 10,
     }
 }
 

@@ -8,6 +8,7 @@ use Rattle.codec_payload_jitter.specs.declared.numbers.Extended.TheVariants as e
 use Rattle.codec_payload_jitter.specs.declared.outcome.Outcome.{Outcome}
 use Rattle.codec_payload_jitter.specs.declared.outcome.Outcome.TheVariants as outcomes
 use Rattle.codec_payload_jitter.specs.declared.outcome.PacketCounters.{PacketCounters}
+use Rattle.codec_payload_stream.specs.Choice.{latest_after, origin_of}
 use Rattle.codec_payload_stream.specs.Kinds.{Kinds, Carrier, Datagram, RtcpPacket, Malformed, OfOthers, WithoutMedia, WithMedia, InRed, Again, AgainEmpty}
 use Rattle.codec_payload_stream.specs.Sessions.{Session, TakesDatagram, TakesPrimaryIf, RecoversOne, RecoversAll, RecoversUnless, AnswersFor}
 use Rattle.codec_payload_stream.specs.Sessions.{Heard, IsSorted, all_carried, arrived_with, ssrc_after, is_suspect, error_of, observed_in, told_of_red}
@@ -45,6 +46,7 @@ again_balance c outcomes.Suspect = refl
 again_balance c (outcomes.Restarted with_kept) = refl
 again_balance c outcomes.NoMedia = refl
 again_balance c outcomes.OtherStream = refl
+again_balance c outcomes.Undecided = refl
 again_balance c outcomes.Rtcp = refl
 
 confirms_balance : (n : ℕ) (k : Option Arrival) (r t : Receiving) (with_kept : Bool) → Confirms n k r with_kept t → balance_of t ≡ balance_of r
@@ -61,6 +63,7 @@ counted_balance c outcomes.Suspect = refl
 counted_balance c (outcomes.Restarted with_kept) = refl
 counted_balance c outcomes.NoMedia = refl
 counted_balance c outcomes.OtherStream = refl
+counted_balance c outcomes.Undecided = refl
 counted_balance c outcomes.Rtcp = refl
 
 accepts_balance : (a : Arrival) (n : ℕ) (r t : Receiving) (o : Outcome) → Accepts a n r o t → balance_of t ≡ one_pushed (balance_of r)
@@ -180,7 +183,14 @@ not_memory AgainEmpty o whole is = cc
 
 pub heard : (now : Ticks) (d : Datagram) (s t : Session) (o : Outcome) (whole : Bool) (packets : Receiving) (answer : Result Outcome ReceiveError)
     → TakesDatagram s.stream now d s.packets o whole packets → AnswersFor d o whole answer
-    → t ≡ record s { ssrc = ssrc_after s.ssrc d; packets = packets; arrived = arrived_with s.arrived d; reception = observed_in s.reception now.0 d } → Heard now d s answer t
+    → t ≡ record s {
+      ssrc = ssrc_after s.ssrc d;
+      packets = packets;
+      arrived = arrived_with s.arrived d;
+      reception = observed_in s.reception now.0 d;
+      choice = record s.choice { latest = latest_after s.choice.latest now.0 (origin_of d) };
+    }
+    → Heard now d s answer t
 heard now d s t o whole packets (Ok told) takes answers left = record { outcome = o; whole = whole; packets = packets; takes = takes; answers = answers; left = left }
 heard now d s t o whole packets (Err (errors.Rtp e)) takes answers left = record { outcome = o; whole = whole; packets = packets; takes = takes; answers = answers; left = left }
 heard now d s t o whole packets (Err errors.Red) takes answers left = record { outcome = o; whole = whole; packets = packets; takes = takes; answers = answers; left = left }

@@ -5,7 +5,7 @@ ghost use Rattle.codec_payload_base.specs.declared.error.PacketError.TheVariants
 ghost use Rattle.codec_payload_red.specs.RedRecovery.{packet_of as recovered_of};
 ghost use Rattle.codec_payload_rtp.specs.RtpValues.{header_of, packet_of};
 ghost use Rattle.codec_payload_jitter.specs.Receiving.{Receives, ReceivesAgain};
-ghost use Rattle.codec_payload_stream.specs.Kinds.{again_kind, block_header, carrier_of, datagram_at, datagram_of, header_for, is_among, is_other, is_padding_only, is_sent_again, kind_for, media_kind, original_header, original_of, red_kind, red_of, ssrc_or};
+ghost use Rattle.codec_payload_stream.specs.Kinds.{again_kind, block_header, carrier_of, datagram_at, datagram_of, header_for, is_among, is_other, is_padding_only, is_sent_again, kind_for, media_kind, original_header, original_of, red_kind, red_of, retransmitted_under, ssrc_or, under};
 ghost use Rattle.codec_payload_stream.specs.Sessions.{TakesDatagram, TakesPrimary, TakesRed, is_suspect, observed_in, ssrc_after};
 
 use crate::blocks::{copy_blocks, recover_all};
@@ -152,6 +152,16 @@ fn is_sent_again(retransmission: Option<Retransmission>, header: &RtpHeader<'_>)
     }
 }
 
+/// Under what packets are retransmitted, where that SSRC takes the place of the one before.
+fn under(retransmission: Option<Retransmission>, ssrc: Option<u32>) -> Option<Retransmission>
+    ensures { result ≡ under retransmission ssrc }
+{
+    match (retransmission, ssrc) {
+        (Some(it), Some(ssrc)) => Some(Retransmission { ssrc, ..it }),
+        _ => retransmission,
+    }
+}
+
 /// Whether there is padding and nothing else.
 fn is_padding_only(packet: &RtpPacket<'_>) -> bool
     ensures { result ≡ is_padding_only (packet_of packet.now) }
@@ -270,6 +280,13 @@ impl Stream {
         } else {
             Ok(Datagram::OtherStream)
         }
+    }
+
+    /// Packets are retransmitted under that SSRC from now on, if they are retransmitted and it is told.
+    pub(crate) fn retransmit_under(&mut self, ssrc: Option<u32>)
+        ensures { self.new ≡ retransmitted_under ssrc self.old }
+    {
+        self.retransmission = under(self.retransmission, ssrc);
     }
 
     /// What reads payloads of that type, if it is that of RED.
