@@ -1,5 +1,5 @@
 -- Which units of a stream of video can be decoded, as far as a receiver can tell, and when a keyframe is wanted.
-use Rattle.std.specs.Prelude.{◌≡◌, ◌⊎◌, ℕ, ◌+◌, ◌^◌, ◌%◌, ◌&&◌, ◌||◌, not, nat_lt, if◌then◌else◌, Bool, true, false, List, [], ◌∷◌, Option, Some, None, Result, Ok, Err}
+use Rattle.std.specs.Prelude.{◌≡◌, ◌⊎◌, ℕ, ◌+◌, ◌-◌, ◌^◌, ◌%◌, ◌&&◌, ◌||◌, not, nat_lt, if◌then◌else◌, Bool, true, false, List, [], ◌∷◌, Option, Some, None, Result, Ok, Err}
 use Rattle.codec_payload_base.specs.declared.error.PacketError.{PacketError}
 use Rattle.codec_payload_base.specs.declared.error.PacketError.TheVariants as faults
 use Rattle.codec_payload_base.specs.declared.interface.CodecExtra.{CodecExtra}
@@ -106,7 +106,7 @@ frames_taken (Some (Err _)) = 1
 
 -- of so many complete frames so many are left, and more went than the answer took: they were skipped for their picture ids
 abbrev pub has_skipped : ℕ → ℕ → Option (Result Release PacketError) → Bool
-has_skipped before after answer = nat_lt (after + frames_taken answer) before
+has_skipped before after answer = nat_lt (frames_taken answer) (before - after)
 
 abbrev pub sees_answer : Gate → Option (Result Release PacketError) → Gate
 sees_answer g None = g
@@ -140,4 +140,3 @@ Follow before (u ∷ us) [] = ⊥
 -- so it is of all units that a receiver pops, before which there was none
 abbrev pub FollowKeyframes : Type 0
 FollowKeyframes = (us : List Seen) → Follow false us (decodable_from false us)
-

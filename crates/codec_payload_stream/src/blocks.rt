@@ -48,7 +48,10 @@ pub(crate) fn recover_all<B: Depacketizer>(
     ensures { RecoversAll result (map (copied now) copies.items) packets.old packets.new }
 {
     while let Some(copy) = copies.pop_front() {
-        if packets.push_recovered(now, copy.header, copy.payload).is_err() {
+        if packets
+            .push_recovered(now, copy.header, copy.payload)
+            .is_err()
+        {
             return false;
         }
     }

@@ -192,9 +192,7 @@ fn are_near(m: u16, n: u16) -> bool
 fn near_place(candidates: &[Candidate], origin: Origin) -> Option<usize>
     ensures { result ≡ near_place origin candidates.now }
 {
-    candidates
-        .iter()
-        .position(|c| c.ssrc == origin.ssrc && are_near(c.number, origin.number))
+    candidates.iter().position(|c| c.ssrc == origin.ssrc && are_near(c.number, origin.number))
 }
 
 /// Which of these leaves for a packet of that SSRC: the one of the same SSRC, or of four the first.

@@ -4,6 +4,7 @@ ghost use Rattle.std.specs.Prelude.{◌≡◌};
 ghost use Rattle.codec_payload_jitter.specs.Waiting.{waits_by_number, waits_for};
 ghost use Rattle.codec_payload_stream.specs.Defaults.{HasDefaults, audio_windows, video_windows};
 
+use crate::keyframe_gate::FromKeyframe;
 use crate::receiver::Settings;
 use codec_payload_base::wire::Frequency;
 use codec_payload_jitter::jitter::WaitLimits;
@@ -37,7 +38,7 @@ impl Settings {
     ///
     /// As all of these constructors have it: no SSRC is named, so that two packets choose the stream; nothing is sent in RED and
     /// nothing is retransmitted; no payload type comes without media and no header extension has an id; 4,096 packets are held at
-    /// most; and the caller's clock has ticks of milliseconds. All fields are public: change what differs. Takes no memory.
+    /// most; and the caller's clock has ticks of milliseconds; units of video that cannot be decoded are marked. All fields are public: change what differs. Takes no memory.
     ///
     /// A lost packet delays frames by at most 100 ms. The windows are 3,000 packets ahead and 1,000 behind.
     pub fn live_audio(alloc: Global, payload_type: u8, clock_rate: Frequency) -> Settings
@@ -48,11 +49,7 @@ impl Settings {
 
     /// Returns settings for live audio whose missing packets are asked for by NACK (RFC 4585): a lost packet delays frames by at most
     /// 200 ms. All else as [`Settings::live_audio`].
-    pub fn live_audio_with_nack(
-        alloc: Global,
-        payload_type: u8,
-        clock_rate: Frequency,
-    ) -> Settings
+    pub fn live_audio_with_nack(alloc: Global, payload_type: u8, clock_rate: Frequency) -> Settings
         ensures { HasDefaults payload_type clock_rate (waits_for 1 200) audio_windows result }
     {
         Settings::with_defaults(
@@ -74,11 +71,7 @@ impl Settings {
 
     /// Returns settings for live video whose missing packets are asked for by NACK: a lost packet delays frames by at most 200 ms, and
     /// the first frame waits for two more frames, or 200 ms. All else as [`Settings::live_video`].
-    pub fn live_video_with_nack(
-        alloc: Global,
-        payload_type: u8,
-        clock_rate: Frequency,
-    ) -> Settings
+    pub fn live_video_with_nack(alloc: Global, payload_type: u8, clock_rate: Frequency) -> Settings
         ensures { HasDefaults payload_type clock_rate (waits_for 2 200) video_windows result }
     {
         Settings::with_defaults(
@@ -120,6 +113,7 @@ impl Settings {
             clock_rate,
             tick_rate: milliseconds(),
             wait_limits,
+            from_keyframe: FromKeyframe::Mark,
             limit: LIMIT,
             forward: windows.forward,
             backward: windows.backward,

@@ -1,6 +1,6 @@
 //! Which units of a stream of video can be decoded, and when a keyframe is wanted.
 
-ghost use Rattle.std.specs.Prelude.{◌≡◌, ◌≤◌, ◌<◌, ◌^◌, ℕ, List};
+ghost use Rattle.std.specs.Prelude.{◌≡◌, ℕ, List};
 ghost use Rattle.codec_payload_buffer.specs.Steps.{popped_into};
 ghost use Rattle.codec_payload_buffer.specs.declared.buffer.unit.RtpMeta.{RtpMeta};
 ghost use Rattle.codec_payload_media.specs.FrameInfo.{info_of};
@@ -132,11 +132,10 @@ impl KeyframeGate {
         after: usize,
         answer: &Option<Result<Depacketized, PacketError>>,
     ) -> bool
-        requires { after < 2 ^ 63 }
         ensures gate { self.new ≡ gate_after before after self.old answer.now }
         ensures value { result ≡ holds_back self.new answer.now }
     {
-        self.skip(after + taken_by(answer) < before);
+        self.skip(taken_by(answer) < before.saturating_sub(after));
         match answer {
             Some(Ok(unit)) => {
                 self.see(seen(&unit.codec_extra, unit.contiguous, &unit.bytes));
@@ -154,11 +153,10 @@ impl KeyframeGate {
         answer: &Option<Result<UnitInfo, PacketError>>,
         bytes: &[u8],
     ) -> bool
-        requires { after < 2 ^ 63 }
         ensures gate { (metas : List RtpMeta) → self.new ≡ gate_after before after self.old (popped_into answer.now bytes.now metas) }
         ensures value { (metas : List RtpMeta) → result ≡ holds_back self.new (popped_into answer.now bytes.now metas) }
     {
-        self.skip(after + taken_into(answer) < before);
+        self.skip(taken_into(answer) < before.saturating_sub(after));
         match answer {
             Some(Ok(unit)) => {
                 self.see(seen(&unit.codec_extra, unit.contiguous, bytes));
@@ -179,7 +177,6 @@ fn can_decode(before: bool, unit: SeenUnit) -> bool
 /// How many complete frames an answer took.
 fn taken_by(answer: &Option<Result<Depacketized, PacketError>>) -> usize
     ensures value { result ≡ frames_taken answer.now }
-    ensures few { result ≤ 1 }
 {
     match answer {
         None | Some(Err(PacketError::OutOfMemory)) => 0,
@@ -190,7 +187,6 @@ fn taken_by(answer: &Option<Result<Depacketized, PacketError>>) -> usize
 /// The same of a unit in memory of the caller's.
 fn taken_into(answer: &Option<Result<UnitInfo, PacketError>>) -> usize
     ensures value { (bytes : List ℕ) (metas : List RtpMeta) → result ≡ frames_taken (popped_into answer.now bytes metas) }
-    ensures few { result ≤ 1 }
 {
     match answer {
         None | Some(Err(PacketError::OutOfMemory)) => 0,
@@ -241,5 +237,4 @@ fn is_keyframe(codec: Codec, bytes: &[u8]) -> bool
 /// A unit that can be decoded is audio or a keyframe, or follows a unit that can be decoded.
 pub fn decodable_units_follow_keyframes()
     ensures { FollowKeyframes }
-{
-}
+{}
