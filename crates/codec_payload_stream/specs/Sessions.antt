@@ -275,10 +275,14 @@ SettlesOn None whole s t = (whole ≡ true) × (t ≡ s)
 SettlesOn (Some c) true s t = Settles c s t
 SettlesOn (Some c) false s t = t ≡ s
 
+-- the next packet is the first of another sender, with that SSRC if it is known
+abbrev pub gone_over_to : Option ℕ → Session → Session
+gone_over_to ssrc s = record s { ssrc = ssrc; packets = begun_anew s.packets; reception = s.no_reception }
+
 -- a stream that was silent is left, as if the caller had told a restart
 abbrev pub opened_if : Bool → Session → Session
 opened_if true s = s
-opened_if false s = record s { ssrc = None; packets = begun_anew s.packets; reception = s.no_reception }
+opened_if false s = gone_over_to None s
 
 abbrev pub opened : Session → Session
 opened s = opened_if (is_none_of s.ssrc) s
@@ -315,13 +319,7 @@ Finishes s t = (whole : Bool) × (mid : Session) × SettlesOn (first_waiting s) 
 
 -- the sender begins anew: packets that wait are of other streams
 abbrev pub restarted : Option ℕ → Session → Session
-restarted ssrc s = record s {
-  ssrc = ssrc;
-  packets = begun_anew s.packets;
-  arrived = turned_away (length s.choice.candidates) s.arrived;
-  reception = s.no_reception;
-  choice = record s.choice { candidates = []; latest = None };
-}
+restarted ssrc s = gone_over_to ssrc (record s { arrived = turned_away (length s.choice.candidates) s.arrived; choice = record s.choice { candidates = []; latest = None } })
 
 -- Pops
 
