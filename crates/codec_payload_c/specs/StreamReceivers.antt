@@ -1,14 +1,12 @@
 -- What the calls on a receiver of datagrams do.
-use Rattle.std.specs.Prelude.{◌≡◌, ℕ, ◌-◌, ◌^◌, ◌&&◌, ◌||◌, ◌==◌, not, nat_le, nat_lt, if◌then◌else◌, Bool, true, false, Option, Some, None, Result, Ok, Err, List, is_some, length, drop, ◌++◌}
+use Rattle.std.specs.Prelude.{◌≡◌, ℕ, ◌+◌, ◌-◌, ◌%◌, ◌^◌, ◌&&◌, ◌||◌, ◌==◌, not, nat_le, nat_lt, if◌then◌else◌, Bool, true, false, Option, Some, None, Result, Ok, Err, List, is_some, length, drop, ◌++◌}
 use Rattle.codec_payload_core.specs.Depacketizers.{DepacketizerState}
 use Rattle.codec_payload_jitter.specs.Missing.{missing_numbers}
-use Rattle.codec_payload_jitter.specs.Receiving.{PopsWith, begun_anew, settled, waiting_at}
 use Rattle.codec_payload_jitter.specs.declared.waiting.WaitLimits.{WaitLimits}
 use Rattle.codec_payload_jitter.specs.declared.outcome.Outcome.{Outcome}
 use Rattle.codec_payload_jitter.specs.declared.outcome.Outcome.TheVariants as outcomes
-use Rattle.codec_payload_jitter.specs.Receiving.{Receiving}
-use Rattle.codec_payload_stream.specs.Kinds.{datagram_at}
-use Rattle.codec_payload_stream.specs.Sessions.{Session, Heard, session_by, time_with}
+use Rattle.codec_payload_stream.specs.declared.keyframe_gate.FromKeyframe.TheVariants as modes
+use Rattle.codec_payload_stream.specs.Sessions.{ReceivesBytes, Session, restarted, session_by, PopsUnit as PopsNext}
 use Rattle.codec_payload_stream.specs.declared.receiver.ReceiveError.{ReceiveError}
 use Rattle.codec_payload_stream.specs.declared.receiver.ReceiveError.TheVariants as errors
 use Rattle.codec_payload_stream.specs.declared.receiver.RedSettings.{RedSettings}
@@ -74,6 +72,7 @@ pub record AreSettings (s : ReceiverSettings) (types : List ℕ) (t : Settings) 
   pub clock_rate : t.clock_rate ≡ s.spec.rate
   pub tick_rate : t.tick_rate ≡ s.tick_rate
   pub wait_limits : t.wait_limits ≡ wait_limits_set s
+  pub from_keyframe : t.from_keyframe ≡ modes.Mark
   pub limit : t.limit ≡ s.limit
   pub forward : t.forward ≡ s.forward
   pub backward : t.backward ≡ s.backward
@@ -112,19 +111,20 @@ Tells (Err errors.OutOfMemory) status before after = (status ≡ 17) × (after �
 Tells (Err (errors.Rtp e)) status before after = (status ≡ rtp_status e) × (after ≡ before)
 Tells (Err errors.Red) status before after = (status ≡ 14) × (after ≡ before)
 Tells (Err errors.Retransmission) status before after = (status ≡ 49) × (after ≡ before)
+Tells (Err errors.BlocksOutOfMemory) status before after = (status ≡ 17) × (after ≡ before)
 
 -- a datagram is received
 pub record Takes (r : StreamReceiver) (now : ℕ) (bytes : List ℕ) (status before after : ℕ) (s : StreamReceiver) : Type 0 where
   pub at : Ticks
   pub at_is : at.0 ≡ now
   pub answer : Result Outcome ReceiveError
-  pub heard : Heard at (datagram_at r.receiver.stream r.receiver.ssrc bytes) r.receiver answer s.receiver
+  pub receives : ReceivesBytes at bytes r.receiver answer s.receiver
   pub tells : Tells answer status before after
   pub waiting : s.waiting ≡ r.waiting
 
 -- a pop at that time
 abbrev pub PopsAt : ℕ → Session → Answer → Session → Type 0
-PopsAt now s answer t = (packets : Receiving) × PopsWith (waiting_at (settled s.packets) now) (settled s.packets) answer packets × (t ≡ record s { packets = packets; time = time_with s.time answer })
+PopsAt now s answer t = PopsNext now s answer t
 
 -- the time of a unit without wrapping, as the receiver has it
 abbrev pub time_or : ℕ → Option ℕ → ℕ
@@ -148,7 +148,7 @@ TellsNumber None status before after = (status ≡ 32) × (after ≡ before)
 
 -- how many datagrams came to what
 pub record TellsCounts (r : StreamReceiver) (c : ReceiverCountsInfo) : Type 0 where
-  pub received : c.received ≡ r.receiver.arrived.received
+  pub received : c.received ≡ (r.receiver.arrived.received + length r.receiver.choice.candidates) % 2 ^ 64
   pub rtcp : c.rtcp ≡ r.receiver.arrived.rtcp
   pub malformed : c.malformed ≡ r.receiver.arrived.malformed
   pub other_streams : c.other_streams ≡ r.receiver.arrived.other_streams
@@ -175,7 +175,7 @@ TellsReport (Some x) status before after =
 
 -- the sender begins anew
 abbrev pub anew : Session → Session
-anew s = record s { ssrc = s.named; packets = begun_anew s.packets; reception = s.no_reception }
+anew s = restarted s.named s
 
 -- frames wait by other values
 abbrev pub waiting_by : WaitLimits → Session → Session
