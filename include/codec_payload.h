@@ -518,7 +518,8 @@ typedef struct {
     size_t hold_back;         /**< a complete frame behind a gap is released once more complete frames than this are held;
                                    CPAY_NO_HOLD_BACK: no frame is released by count alone */
     size_t start;             /**< the first frame is released once more complete frames than this are held */
-    size_t limit;             /**< how many packets are held at most, 1 to 65536 */
+    size_t limit;             /**< how many packets are held at most, 1 to 65536; while less than an eighth of these places is
+                                   free, no frame waits */
     uint64_t max_wait;        /**< with has_max_wait: a complete frame is released once this number of ticks of your clock has
                                    passed since its last packet was received */
     uint32_t ssrc;            /**< with has_ssrc: the SSRC of the stream; else it is that of the first packet */

@@ -77,6 +77,14 @@ DEATHS = [
         WAITS + "receive\n" + came(0, 10, "00") + "pop 0\n" + came(0, 12, "02") + came(0, 14, "04") + "pop 0\nfinish\n" + "pop 0\n" * 3,
         "held\n" + unit(FIRST + 10, "00") + "held\nheld\nnone\n" + unit(FIRST + 12, "02", 0) + unit(FIRST + 14, "04", 0) + "none\n",
     ),
+    # Of 16 places 2 are kept free: with 15 packets held the frame behind the gap is due, though it waits by number alone.
+    Row(
+        "a gap never outlives the buffer",
+        f"{OPUS}wait - 0 -\nlimit 16\nreceive\n" + came(0, 10, "00") + "pop 0\n"
+        + "".join(came(n, n, f"{n:02x}") + f"pop {n}\n" for n in range(12, 27)) + "pop 26\n" * 15 + "counters\n",
+        "held\n" + unit(FIRST + 10, "00") + "held\nnone\n" * 14 + "held\n" + unit(FIRST + 12, "0c", 0)
+        + "".join(unit(FIRST + n, f"{n:02x}") for n in range(13, 27)) + "none\ncounters received 16 released 16 units 16\n",
+    ),
     # 23 frames of type 15, which have no speech, are 0.46 s in a packet: 30 of such packets are 14 s, and max_wait is 100 ms.
     Row(
         "AMR-WB with 23 frames a packet behind a gap",
@@ -224,6 +232,13 @@ REDS = [
         "padding alone under the type of RED, and the media's own type beside it",
         RED + in_red(0, 10, red("00"), 0) + in_red(0, 11, "", 960, padding=7) + came(0, 12, "02", time=1_920) + "pop 0\npop 0\n",
         "held\nno media\nheld\n" + unit(FIRST + 10, "00") + unit(FIRST + 12, "02", time=1_920),
+    ),
+    Row(
+        "a number without media takes no block: the frame before the padding is not released again",
+        RED + in_red(0, 10, red("00"), 0) + in_red(0, 11, "", 0, padding=7) + in_red(0, 12, red("01", (96, 960, "00")), 960) + "pop 0\n" * 3
+        + "counters\n",
+        "held\nno media\nheld\n" + unit(FIRST + 10, "00") + unit(FIRST + 12, "01", time=960)
+        + "none\ncounters received 3 no_media 1 released 2 units 2\n",
     ),
     Row(
         "a suspect packet carries nothing; the one that confirms a restart does",

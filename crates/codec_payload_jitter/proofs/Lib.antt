@@ -3,3 +3,4 @@ pub mod ReceivingLemmas
 pub mod NoMediaLemmas
 pub mod MissingLemmas
 pub mod RunLemmas
+pub mod PressureLemmas

@@ -1,5 +1,5 @@
 -- A receiver: each datagram, and each of them accounted for.
-use Rattle.std.specs.Prelude.{◌≡◌, ◌≢◌, ◌⊎◌, ℕ, ◌+◌, ◌-◌, ◌*◌, ◌%◌, ◌^◌, ◌==◌, ◌&&◌, ◌||◌, not, length, slice_get, nat_le, nat_lt, if◌then◌else◌, Bool, true, false, List, [], ◌∷◌, Option, Some, None, Result, Ok, Err}
+use Rattle.std.specs.Prelude.{◌≡◌, ◌≢◌, ◌⊎◌, ℕ, max, ◌+◌, ◌-◌, ◌*◌, ◌%◌, ◌^◌, ◌==◌, ◌&&◌, ◌||◌, not, length, slice_get, nat_le, nat_lt, if◌then◌else◌, Bool, true, false, List, [], ◌∷◌, Option, Some, None, Result, Ok, Err}
 use Rattle.std.specs.List.{filter_map}
 use Rattle.std.specs.Option.{is_some, option_map}
 use Rattle.codec_payload_base.specs.declared.error.PacketError.{PacketError}
@@ -13,7 +13,7 @@ use Rattle.codec_payload_buffer.specs.Steps.{empty_buffer}
 use Rattle.codec_payload_jitter.specs.Numbers.{Numbering, numbering_within}
 use Rattle.codec_payload_buffer.specs.Frames.{frames}
 use Rattle.codec_payload_jitter.specs.Receiving.{PopsWith, settled, waiting_at, Receiving, Arrival, Notes, Receives, ReceivesAgain, Recovers, begun_anew, counted, next, no_packets}
-use Rattle.codec_payload_jitter.specs.Waiting.{most_held_back}
+use Rattle.codec_payload_jitter.specs.Waiting.{most_held_back, room_for}
 use Rattle.codec_payload_jitter.specs.declared.numbers.WindowError.{WindowError}
 use Rattle.codec_payload_jitter.specs.declared.numbers.WindowError.TheVariants as windows
 use Rattle.codec_payload_jitter.specs.declared.outcome.Outcome.{Outcome}
@@ -369,12 +369,19 @@ abbrev pub retransmission_fits : Option Retransmission → Bool
 retransmission_fits None = true
 retransmission_fits (Some r) = nat_le r.payload_type 127
 
+-- for how many packets of one datagram places are kept free: a packet of RED has its blocks
+abbrev pub packets_at_once : Option RedStream → ℕ
+packets_at_once None = 2
+packets_at_once (Some red) = 10
+
 abbrev pub session_with : Settings → DepacketizerState → Option RedStream → Numbering → Session
 session_with s depacketizer red numbering = record {
   stream = record { payload_type = s.payload_type; no_media = s.no_media.items; red = red; retransmission = s.retransmission; ids = s.extension_ids };
   named = s.ssrc;
   ssrc = s.ssrc;
-  packets = no_packets numbering (empty_buffer (most_held_back s.wait_limits.hold_back) s.limit depacketizer) s.clock_rate s.wait_limits;
+  packets = record (no_packets numbering (empty_buffer (most_held_back s.wait_limits.hold_back) s.limit depacketizer) s.clock_rate s.wait_limits) {
+    room = room_for s.limit (max (packets_at_once red) 2);
+  };
   arrived = nothing_arrived;
   time = None;
   reception = no_reception numbering s.tick_rate s.clock_rate;
