@@ -69,8 +69,8 @@ heard_at_once stream now bytes s t receipt listening delivers = by_case delivers
     verdict : verdict_in s now.0 bytes ≡ verdicts.Hear
     verdict =
         ap (λ (named : Option ℕ). cond (is_none_of named && (not s.packets.ended && (is_none_of s.ssrc || is_silent s.choice now.0)))
-            (verdict_of s.choice.candidates s.ssrc (origin_of (datagram_at s.stream None bytes))) verdicts.Hear)
-            listening.named
+        (verdict_of s.choice.candidates s.ssrc (origin_of (datagram_at s.stream None bytes))) verdicts.Hear)
+        listening.named
 
     by_case : ReceivesBytes now bytes s receipt t → Heard now (datagram_at s.stream s.ssrc bytes) s receipt t
     by_case (inl by) = subst (λ (v : Verdict). ReceivesBy v now bytes s receipt t) verdict by
