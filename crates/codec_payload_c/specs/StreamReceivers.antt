@@ -2,11 +2,12 @@
 use Rattle.std.specs.Prelude.{◌≡◌, ℕ, ◌+◌, ◌-◌, ◌%◌, ◌^◌, ◌&&◌, ◌||◌, ◌==◌, not, nat_le, nat_lt, if◌then◌else◌, Bool, true, false, Option, Some, None, Result, Ok, Err, List, is_some, length, drop, ◌++◌}
 use Rattle.codec_payload_core.specs.Depacketizers.{DepacketizerState}
 use Rattle.codec_payload_jitter.specs.Missing.{missing_numbers}
+use Rattle.codec_payload_jitter.specs.Receiving.{PopsWith, settled, waiting_at}
 use Rattle.codec_payload_jitter.specs.declared.waiting.WaitLimits.{WaitLimits}
 use Rattle.codec_payload_jitter.specs.declared.outcome.Outcome.{Outcome}
 use Rattle.codec_payload_jitter.specs.declared.outcome.Outcome.TheVariants as outcomes
-use Rattle.codec_payload_stream.specs.declared.keyframe_gate.FromKeyframe.TheVariants as modes
-use Rattle.codec_payload_stream.specs.Sessions.{ReceivesBytes, Session, restarted, session_by, PopsUnit as PopsNext}
+use Rattle.codec_payload_jitter.specs.Receiving.{Receiving}
+use Rattle.codec_payload_stream.specs.Sessions.{ReceivesBytes, Session, restarted, session_by, time_with}
 use Rattle.codec_payload_stream.specs.declared.receiver.ReceiveError.{ReceiveError}
 use Rattle.codec_payload_stream.specs.declared.receiver.ReceiveError.TheVariants as errors
 use Rattle.codec_payload_stream.specs.declared.receiver.RedSettings.{RedSettings}
@@ -72,7 +73,6 @@ pub record AreSettings (s : ReceiverSettings) (types : List ℕ) (t : Settings) 
   pub clock_rate : t.clock_rate ≡ s.spec.rate
   pub tick_rate : t.tick_rate ≡ s.tick_rate
   pub wait_limits : t.wait_limits ≡ wait_limits_set s
-  pub from_keyframe : t.from_keyframe ≡ modes.Mark
   pub limit : t.limit ≡ s.limit
   pub forward : t.forward ≡ s.forward
   pub backward : t.backward ≡ s.backward
@@ -124,7 +124,7 @@ pub record Takes (r : StreamReceiver) (now : ℕ) (bytes : List ℕ) (status bef
 
 -- a pop at that time
 abbrev pub PopsAt : ℕ → Session → Answer → Session → Type 0
-PopsAt now s answer t = PopsNext now s answer t
+PopsAt now s answer t = (packets : Receiving) × PopsWith (waiting_at (settled s.packets) now) (settled s.packets) answer packets × (t ≡ record s { packets = packets; time = time_with s.time answer })
 
 -- the time of a unit without wrapping, as the receiver has it
 abbrev pub time_or : ℕ → Option ℕ → ℕ

@@ -22,7 +22,6 @@ use codec_payload_handle::status;
 use codec_payload_handle::unit::{Unit, unit_of};
 use codec_payload_jitter::jitter::WaitLimits as Waiting;
 use codec_payload_jitter::outcome::Outcome;
-use codec_payload_stream::keyframe_gate::FromKeyframe;
 use codec_payload_stream::receiver::{
     ReceiveError, Receiver, RedSettings, Retransmission, Settings,
 };
@@ -243,7 +242,6 @@ fn settings_of(
             start: settings.start,
             has_max_wait: settings.has_max_wait,
         }),
-        from_keyframe: FromKeyframe::Mark,
         limit: settings.limit,
         forward: settings.forward,
         backward: settings.backward,

@@ -3,4 +3,3 @@ pub mod ReceivingLemmas
 pub mod NoMediaLemmas
 pub mod MissingLemmas
 pub mod RunLemmas
-pub mod PressureLemmas

@@ -1,7 +1,6 @@
 pub mod NoMediaNumbers
 pub mod Missing
 pub mod Numbers
-pub mod Pressure
 pub mod Receiving
 pub mod Runs
 pub mod Waiting

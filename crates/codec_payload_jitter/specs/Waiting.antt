@@ -1,5 +1,5 @@
 -- How long to wait for packets that are missing.
-use Rattle.std.specs.Prelude.{ℕ, ◌-◌, ◌/◌, ◌^◌, max, Option, Some, None}
+use Rattle.std.specs.Prelude.{ℕ, ◌-◌, ◌^◌, Option, Some, None}
 use Rattle.codec_payload_jitter.specs.declared.waiting.WaitLimits.{WaitLimits}
 
 -- frames wait by time alone: the first for `start` more frames, each for that number of ticks
@@ -14,7 +14,3 @@ waits_by_number = record { hold_back = None; start = 0; max_wait = None }
 abbrev pub most_held_back : Option ℕ → ℕ
 most_held_back None = 2 ^ 64 - 1
 most_held_back (Some frames) = frames
-
--- while fewer places than these are free, nothing is waited for: an eighth of all, and at least these
-abbrev pub room_for : ℕ → ℕ → ℕ
-room_for limit least = max (limit / 8) least

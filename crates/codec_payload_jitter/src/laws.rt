@@ -2,7 +2,6 @@
 
 ghost use Rattle.codec_payload_jitter.specs.Numbers.{AreTrueNumbers, NoneRestarts, NeverMix, AreTrueAnew};
 ghost use Rattle.codec_payload_jitter.specs.NoMediaNumbers.{PassesNoMediaAlone, PassesInPlace};
-ghost use Rattle.codec_payload_jitter.specs.Pressure.{SparesCompleteFrames};
 ghost use Rattle.codec_payload_jitter.specs.Runs.{AreChains, AreStretches, AreTrueStretches};
 
 /// Where the true numbers of a sender's packets each lie within the windows of the greatest true number so far, the numbers
@@ -28,10 +27,4 @@ pub fn receives_are_pushes()
     ensures stretches { AreStretches }
     ensures true_numbers { AreTrueStretches }
     ensures rounds { AreChains }
-{}
-
-/// In a run that pops until `None` after each push, an eviction finds no frame that was complete before that push. The same
-/// applies to several pushes between two pops, if they are fewer than the places that are kept free.
-pub fn spares_complete_frames()
-    ensures { SparesCompleteFrames }
 {}

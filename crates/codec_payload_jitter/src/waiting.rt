@@ -1,9 +1,9 @@
 //! How long a jitter buffer waits for packets that are missing.
 
-ghost use Rattle.std.specs.Prelude.{◌≡◌, ◌≤◌, ◌+◌, ◌*◌, ◌^◌, ◌-◌, ◌/◌, ℕ, max, min, IfSome, true};
+ghost use Rattle.std.specs.Prelude.{◌≡◌, ◌≤◌, ◌+◌, ◌*◌, ◌^◌, ◌-◌, ℕ, min, IfSome, true};
 ghost use Rattle.std.specs.Option.{option_map};
 ghost use Rattle.codec_payload_jitter.specs.Receiving.{deadline_by, is_overdue};
-ghost use Rattle.codec_payload_jitter.specs.Waiting.{most_held_back, room_for, waits_by_number, waits_for};
+ghost use Rattle.codec_payload_jitter.specs.Waiting.{most_held_back, waits_by_number, waits_for};
 
 use codec_payload_base::wire::Ticks;
 
@@ -113,11 +113,4 @@ pub(crate) fn deadline(max_wait: Option<u64>, since: Option<Ticks>) -> Option<Ti
         Some(at) => Some(Ticks(at)),
         None => None,
     }
-}
-
-/// How many places are kept free, of that many: an eighth, and at least `least`.
-pub(crate) fn room_for(limit: usize, least: usize) -> usize
-    ensures { result ≡ room_for limit least }
-{
-    (limit / 8).max(least)
 }

@@ -3,7 +3,6 @@ use Rattle.std.specs.Prelude.{◌≡◌, ℕ, [], Option, Some, None}
 use Rattle.codec_payload_jitter.specs.declared.waiting.WaitLimits.{WaitLimits}
 use Rattle.codec_payload_rtp.specs.declared.values.ExtensionIds.{ExtensionIds}
 use Rattle.codec_payload_stream.specs.declared.defaults.Windows.{Windows}
-use Rattle.codec_payload_stream.specs.declared.keyframe_gate.FromKeyframe.TheVariants as modes
 use Rattle.codec_payload_stream.specs.declared.receiver.Settings.{Settings}
 
 -- no header extension has an id
@@ -29,7 +28,6 @@ pub record HasDefaults (payload_type rate : ℕ) (limits : WaitLimits) (windows 
   pub clock_rate : s.clock_rate ≡ rate
   pub tick_rate : s.tick_rate ≡ 1000
   pub wait_limits : s.wait_limits ≡ limits
-  pub from_keyframe : s.from_keyframe ≡ modes.Mark
   pub limit : s.limit ≡ 4096
   pub forward : s.forward ≡ windows.forward
   pub backward : s.backward ≡ windows.backward

@@ -1,5 +1,5 @@
 -- A receiver: each datagram, and each of them accounted for.
-use Rattle.std.specs.Prelude.{◌≡◌, ◌≢◌, ◌⊎◌, ℕ, max, ◌+◌, ◌-◌, ◌*◌, ◌%◌, ◌^◌, ◌==◌, ◌&&◌, ◌||◌, not, length, slice_get, nat_le, nat_lt, if◌then◌else◌, Bool, true, false, List, [], ◌∷◌, Option, Some, None, Result, Ok, Err}
+use Rattle.std.specs.Prelude.{◌≡◌, ◌≢◌, ◌⊎◌, ℕ, ◌+◌, ◌-◌, ◌*◌, ◌%◌, ◌^◌, ◌==◌, ◌&&◌, ◌||◌, not, length, slice_get, nat_le, nat_lt, if◌then◌else◌, Bool, true, false, List, [], ◌∷◌, Option, Some, None, Result, Ok, Err}
 use Rattle.std.specs.List.{filter_map}
 use Rattle.std.specs.Option.{is_some, option_map}
 use Rattle.codec_payload_base.specs.declared.error.PacketError.{PacketError}
@@ -11,16 +11,14 @@ use Rattle.codec_payload_codec.specs.Depacketizers.{DepacketizerState}
 use Rattle.codec_payload_buffer.specs.Release.{Release}
 use Rattle.codec_payload_buffer.specs.Steps.{empty_buffer}
 use Rattle.codec_payload_jitter.specs.Numbers.{Numbering, numbering_within}
-use Rattle.codec_payload_buffer.specs.Frames.{frames}
-use Rattle.codec_payload_jitter.specs.Receiving.{PopsWith, settled, waiting_at, Receiving, Arrival, Notes, Receives, ReceivesAgain, Recovers, begun_anew, counted, next, no_packets}
-use Rattle.codec_payload_jitter.specs.Waiting.{most_held_back, room_for}
+use Rattle.codec_payload_jitter.specs.Receiving.{Receiving, Arrival, Notes, Receives, ReceivesAgain, Recovers, begun_anew, counted, next, no_packets}
+use Rattle.codec_payload_jitter.specs.Waiting.{most_held_back}
 use Rattle.codec_payload_jitter.specs.declared.numbers.WindowError.{WindowError}
 use Rattle.codec_payload_jitter.specs.declared.numbers.WindowError.TheVariants as windows
 use Rattle.codec_payload_jitter.specs.declared.outcome.Outcome.{Outcome}
 use Rattle.codec_payload_jitter.specs.declared.outcome.Outcome.TheVariants as outcomes
 use Rattle.codec_payload_jitter.specs.declared.outcome.PacketCounters.{PacketCounters}
 use Rattle.codec_payload_stream.specs.Choice.{Choosing, IsCandidate, is_silent, latest_after, leaving, no_choice, origin_of, verdict_of, waiting_with}
-use Rattle.codec_payload_stream.specs.KeyframeGates.{Gate, gate_after, holds_back, new_gate}
 use Rattle.codec_payload_stream.specs.Kinds.{Kinds, Carrier, Datagram, RtcpPacket, Malformed, OfOthers, WithoutMedia, WithMedia, InRed, Again, AgainEmpty, block_header, datagram_at, header_for, original_header}
 use Rattle.codec_payload_stream.specs.Reports.{Reception, no_reception, observed}
 use Rattle.codec_payload_stream.specs.declared.blocks.BlockCopy.{BlockCopy}
@@ -43,7 +41,7 @@ use Rattle.codec_payload_stream.specs.declared.receiver.SettingsError.TheVariant
 
 -- a receiver, as contracts see it: what tells the datagrams of the stream, the SSRC that the settings name, if they do, and that of
 -- the stream, if it is known, the jitter buffer, how many datagrams came to what before it, the RTP time of the latest unit, what
--- came of the sender, what that begins with, what is known for the choice of the stream, and what is known of units of video
+-- came of the sender, what that begins with, and what is known for the choice of the stream
 pub record Session : Type 0 where
   pub stream : Kinds
   pub named : Option ℕ
@@ -54,7 +52,6 @@ pub record Session : Type 0 where
   pub reception : Reception
   pub no_reception : Reception
   pub choice : Choosing
-  pub gate : Gate
 
 -- Each is accounted for
 
@@ -329,25 +326,6 @@ time_with time None = time
 time_with time (Some (Err fault)) = time
 time_with time (Some (Ok unit)) = Some (extended_time time (unit.time.numer % 2 ^ 32))
 
--- a pop of the jitter buffer at that time, whose answer the gate sees
-abbrev pub PopsOnce : ℕ → Session → Option (Result Release PacketError) → Session → Type 0
-PopsOnce now s answer t =
-    (packets : Receiving) × PopsWith (waiting_at (settled s.packets) now) (settled s.packets) answer packets
-    × (t ≡ record s {
-      packets = packets;
-      time = time_with s.time answer;
-      gate = gate_after (length (frames s.packets.buffer.held)) (length (frames packets.buffer.held)) s.gate answer;
-    })
-
--- these units are popped and held back by the gate, one after another, and then there is an answer that it lets through
-abbrev pub PopsPast : ℕ → List Release → Session → Option (Result Release PacketError) → Session → Type 0
-PopsPast now [] s answer t = PopsOnce now s answer t × (holds_back t.gate answer ≡ false)
-PopsPast now (u ∷ us) s answer t =
-    (mid : Session) × PopsOnce now s (Some (Ok u)) mid × (holds_back mid.gate (Some (Ok u)) ≡ true) × PopsPast now us mid answer t
-
-abbrev pub PopsUnit : ℕ → Session → Option (Result Release PacketError) → Session → Type 0
-PopsUnit now s answer t = (dropped : List Release) × PopsPast now dropped s answer t
-
 -- New receivers
 
 abbrev pub nothing_arrived : Arrived
@@ -369,25 +347,17 @@ abbrev pub retransmission_fits : Option Retransmission → Bool
 retransmission_fits None = true
 retransmission_fits (Some r) = nat_le r.payload_type 127
 
--- for how many packets of one datagram places are kept free: a packet of RED has its blocks
-abbrev pub packets_at_once : Option RedStream → ℕ
-packets_at_once None = 2
-packets_at_once (Some red) = 10
-
 abbrev pub session_with : Settings → DepacketizerState → Option RedStream → Numbering → Session
 session_with s depacketizer red numbering = record {
   stream = record { payload_type = s.payload_type; no_media = s.no_media.items; red = red; retransmission = s.retransmission; ids = s.extension_ids };
   named = s.ssrc;
   ssrc = s.ssrc;
-  packets = record (no_packets numbering (empty_buffer (most_held_back s.wait_limits.hold_back) s.limit depacketizer) s.clock_rate s.wait_limits) {
-    room = room_for s.limit (max (packets_at_once red) 2);
-  };
+  packets = no_packets numbering (empty_buffer (most_held_back s.wait_limits.hold_back) s.limit depacketizer) s.clock_rate s.wait_limits;
   arrived = nothing_arrived;
   time = None;
   reception = no_reception numbering s.tick_rate s.clock_rate;
   no_reception = no_reception numbering s.tick_rate s.clock_rate;
   choice = no_choice (2 * s.tick_rate);
-  gate = new_gate s.from_keyframe;
 }
 
 abbrev pub session_within : Settings → DepacketizerState → Option RedStream → Result Numbering WindowError → Result Session SettingsError

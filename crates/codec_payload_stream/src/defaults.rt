@@ -4,7 +4,6 @@ ghost use Rattle.std.specs.Prelude.{◌≡◌};
 ghost use Rattle.codec_payload_jitter.specs.Waiting.{waits_by_number, waits_for};
 ghost use Rattle.codec_payload_stream.specs.Defaults.{HasDefaults, audio_windows, video_windows};
 
-use crate::keyframe_gate::FromKeyframe;
 use crate::receiver::Settings;
 use codec_payload_base::wire::Frequency;
 use codec_payload_jitter::jitter::WaitLimits;
@@ -38,7 +37,7 @@ impl Settings {
     ///
     /// As all of these constructors have it: no SSRC is named, so that two packets choose the stream; nothing is sent in RED and
     /// nothing is retransmitted; no payload type comes without media and no header extension has an id; 4,096 packets are held at
-    /// most; and the caller's clock has ticks of milliseconds; units of video that cannot be decoded are marked. All fields are public: change what differs. Takes no memory.
+    /// most; and the caller's clock has ticks of milliseconds. All fields are public: change what differs. Takes no memory.
     ///
     /// A lost packet delays frames by at most 100 ms. The windows are 3,000 packets ahead and 1,000 behind.
     pub fn live_audio(alloc: Global, payload_type: u8, clock_rate: Frequency) -> Settings
@@ -113,7 +112,6 @@ impl Settings {
             clock_rate,
             tick_rate: milliseconds(),
             wait_limits,
-            from_keyframe: FromKeyframe::Mark,
             limit: LIMIT,
             forward: windows.forward,
             backward: windows.backward,

@@ -85,7 +85,6 @@ module _ (stream : Stream) (types : (stream.payload_type < 64) ⊎ (95 < stream.
         payload_type = listening.payload_type;
         named = listening.named;
         ssrc = listening.ssrc;
-        shows_all = listening.shows_all;
         not_again = listening.not_again;
         rate = listening.rate;
         running = refl;

@@ -21,10 +21,8 @@ use Rattle.codec_payload_jitter.specs.declared.numbers.Extended.TheVariants as e
 use Rattle.codec_payload_jitter.specs.declared.outcome.Outcome.{Outcome}
 use Rattle.codec_payload_sender.specs.declared.sender.Stream.{Stream}
 use Rattle.codec_payload_stream.specs.Kinds.{Datagram, WithMedia, datagram_at, header_for, is_other}
-use Rattle.codec_payload_stream.proofs.GateLemmas.{mode_stays, pops_once}
 use Rattle.codec_payload_stream.specs.Choice.{is_silent, origin_of, verdict_of}
-use Rattle.codec_payload_stream.specs.KeyframeGates.{is_drop}
-use Rattle.codec_payload_stream.specs.Sessions.{Finishes, Heard, Hears, PopsOnce, ReceivesBy, ReceivesBytes, Session, SettlesOn, ended, first_waiting, is_none_of, verdict_in}
+use Rattle.codec_payload_stream.specs.Sessions.{Finishes, Heard, Hears, ReceivesBy, ReceivesBytes, Session, SettlesOn, ended, first_waiting, is_none_of, verdict_in}
 use Rattle.codec_payload_stream.specs.declared.choice.Candidate.{Candidate}
 use Rattle.codec_payload_stream.specs.declared.choice.Verdict.{Verdict}
 use Rattle.codec_payload_stream.specs.declared.choice.Verdict.TheVariants as verdicts
@@ -43,7 +41,6 @@ pub record IsListening (stream : Stream) (s : Session) : Type 0 where
   pub payload_type : s.stream.payload_type ≡ stream.payload_type
   pub named : s.named ≡ Some stream.ssrc
   pub ssrc : s.ssrc ≡ Some stream.ssrc
-  pub shows_all : is_drop s.gate.mode ≡ false
   pub not_again : is_sent_again_by s.stream.retransmission stream ≡ false
   pub rate : s.packets.rate ≡ stream.clock_rate
   pub running : s.packets.anew ≡ false
@@ -161,7 +158,6 @@ pushes stream now q bytes s t receipt types listening reads numbered delivers =
         payload_type = ap (λ (x : Session). x.stream.payload_type) hears.left ∙ listening.payload_type;
         named = ap (λ (x : Session). x.named) hears.left ∙ listening.named;
         ssrc = ap (λ (x : Session). x.ssrc) hears.left;
-        shows_all = ap (λ (x : Session). is_drop x.gate.mode) hears.left ∙ listening.shows_all;
         not_again = ap (λ (x : Session). is_sent_again_by x.stream.retransmission stream) hears.left ∙ listening.not_again;
         rate = ap (λ (x : Receiving). x.rate) packets ∙ (one.rate ∙ listening.rate);
         running = ap (λ (x : Receiving). x.anew) packets ∙ one.running;
@@ -232,8 +228,7 @@ waits_for_nothing r now at_end =
 
 pub pops_as : (stream : Stream) (now : Ticks) (answer : Answer) (s t : Session) → IsListening stream s → answer ≢ Some (Err faults.OutOfMemory)
     → PopsUnit now s answer t → IsPopped stream now answer s t
-pops_as stream now answer s t listening not_memory pops_past =
-    let popped : PopsOnce now.0 s answer t = pops_once now.0 pops_past.0 s t answer listening.shows_all pops_past.1 in
+pops_as stream now answer s t listening not_memory popped =
     let r : Receiving = s.packets in
     let settled_is : settled r ≡ r = settled_none r listening.none_noted in
     let wait : Option ℕ = waiting_at r now.0 in
@@ -249,7 +244,6 @@ pops_as stream now answer s t listening not_memory pops_past =
         payload_type = ap (λ (x : Session). x.stream.payload_type) popped.2 ∙ listening.payload_type;
         named = ap (λ (x : Session). x.named) popped.2 ∙ listening.named;
         ssrc = ap (λ (x : Session). x.ssrc) popped.2 ∙ listening.ssrc;
-        shows_all = ap (λ (x : Session). is_drop x.gate.mode) popped.2 ∙ (ap is_drop (mode_stays _ _ s.gate answer) ∙ listening.shows_all);
         not_again = ap (λ (x : Session). is_sent_again_by x.stream.retransmission stream) popped.2 ∙ listening.not_again;
         rate = ap (λ (x : Receiving). x.rate) packets ∙ (turn.rate ∙ listening.rate);
         running = ap (λ (x : Receiving). x.anew) packets ∙ (turn.anew ∙ listening.running);

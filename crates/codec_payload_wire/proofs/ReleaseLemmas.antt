@@ -166,7 +166,6 @@ module _ (samples : List Sample) (all_steps : List DatagramStep) (sender : Sendi
     payload_type = ap (λ (x : Session). x.stream.payload_type) begun.is ∙ within.one_stream.payload_type;
     named = ap (λ (x : Session). x.named) begun.is ∙ within.one_stream.ssrc;
     ssrc = ap (λ (x : Session). x.ssrc) begun.is ∙ within.one_stream.ssrc;
-    shows_all = ap (λ (x : Session). is_drop x.gate.mode) begun.is ∙ within.one_stream.shows_all;
     not_again = ap (λ (x : Session). is_sent_again_by x.stream.retransmission sender.stream) begun.is ∙ within.one_stream.not_again;
     rate = ap (λ (x : Session). x.packets.rate) begun.is ∙ within.one_stream.clock_rate;
     running = ap (λ (x : Session). x.packets.anew) begun.is;

@@ -6,10 +6,11 @@ use Rattle.codec_payload_base.specs.declared.error.PacketError.TheVariants as fa
 use Rattle.codec_payload_base.specs.declared.wire.Ticks.{Ticks}
 use Rattle.codec_payload_runs.specs.Schedule.{Answer}
 use Rattle.codec_payload_send.specs.Sending.{Sample}
+use Rattle.codec_payload_jitter.specs.Receiving.{PopsWith, Receiving, settled, waiting_at}
 use Rattle.codec_payload_jitter.specs.declared.outcome.Outcome.{Outcome}
 use Rattle.codec_payload_sender.specs.Datagrams.{Sample as SentNow}
 use Rattle.codec_payload_sender.specs.Senders.{Sending, Sends, Refuses}
-use Rattle.codec_payload_stream.specs.Sessions.{Finishes, ReceivesBytes, Session, PopsUnit as PopsNext}
+use Rattle.codec_payload_stream.specs.Sessions.{Finishes, ReceivesBytes, Session, time_with}
 use Rattle.codec_payload_stream.specs.declared.receiver.ReceiveError.{ReceiveError}
 use Rattle.codec_payload_stream.specs.declared.receiver.ReceiveError.TheVariants as refusals
 use Rattle.codec_payload_wire.specs.declared.run.DatagramRun.{DatagramRun}
@@ -71,7 +72,8 @@ Delivers now bytes s receipt t = (receipt ≢ Err refusals.OutOfMemory) × Recei
 
 -- a pop of the receiver
 abbrev pub PopsUnit : Ticks → Session → Answer → Session → Type 0
-PopsUnit now s answer t = PopsNext now.0 s answer t
+PopsUnit now s answer t =
+    (packets : Receiving) × PopsWith (waiting_at (settled s.packets) now.0) (settled s.packets) answer packets × (t ≡ record s { packets = packets; time = time_with s.time answer })
 
 -- one step: a `Send` that names a sample gets an entry, a `Deliver` that names a datagram a receipt, and each `Pop` an answer
 abbrev pub DoesStep : List Sample → DatagramStep → Wire → Wire → Type 0

@@ -11,7 +11,6 @@ use codec_payload_rtp::rtp::{RtpHeader, RtpPacket};
 use codec_payload_rtp::values::ExtensionIds;
 use codec_payload_sender::sender::{Sample, Sender, SenderSettings};
 use codec_payload_stream::jitter::WaitLimits;
-use codec_payload_stream::keyframe_gate::FromKeyframe;
 use codec_payload_stream::receiver::{Receiver, Settings};
 use std::alloc::Global;
 use std::time::Clock;
@@ -186,7 +185,6 @@ fn receiver_of(alloc: Global) -> Result<Receiver> {
             start: 0,
             max_wait: Some(1 << 20),
         },
-        from_keyframe: FromKeyframe::Mark,
         limit: 65_536,
         forward: 3_000,
         backward: 1_000,

@@ -5,7 +5,6 @@ use codec_payload_base::wire::{Codec, Frequency};
 use codec_payload_codec::codec::{CodecDepacketizer, NoBox};
 use codec_payload_rtp::values::ExtensionIds;
 use codec_payload_stream::jitter::WaitLimits;
-use codec_payload_stream::keyframe_gate::FromKeyframe;
 use codec_payload_stream::receiver::{Receiver, Settings};
 use std::alloc::Global;
 use std::process::Abort;
@@ -45,7 +44,6 @@ fn receiver_of(alloc: Global) -> Result<Receiver<NoBox>, Fail> {
             start: 0,
             max_wait: Some(100),
         },
-        from_keyframe: FromKeyframe::Mark,
         limit: 4_096,
         forward: 3_000,
         backward: 1_000,

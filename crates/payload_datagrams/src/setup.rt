@@ -5,7 +5,6 @@ use codec_payload_codec::codec::{CodecDepacketizer, CodecPacketizer, NoBox};
 use codec_payload_rtp::values::ExtensionIds;
 use codec_payload_sender::sender::{Sender, SenderError, SenderSettings};
 use codec_payload_stream::jitter::WaitLimits;
-use codec_payload_stream::keyframe_gate::FromKeyframe;
 use codec_payload_stream::receiver::{
     Receiver, RedSettings, Retransmission, Settings, SettingsError,
 };
@@ -53,7 +52,6 @@ impl Draft {
                 clock_rate: stream.spec.clock_rate,
                 tick_rate,
                 wait_limits: WaitLimits::file(),
-                from_keyframe: FromKeyframe::Mark,
                 limit: 4_096,
                 forward: 3_000,
                 backward: 1_000,

@@ -7,7 +7,6 @@ use codec_payload_codec::codec::{CodecDepacketizer, CodecPacketizer, NoBox};
 use codec_payload_rtp::values::ExtensionIds;
 use codec_payload_sender::sender::{Sender, SenderSettings};
 use codec_payload_stream::jitter::WaitLimits;
-use codec_payload_stream::keyframe_gate::FromKeyframe;
 use codec_payload_stream::receiver::{Receiver, Settings};
 use std::alloc::Global;
 use std::test::Fail;
@@ -44,7 +43,6 @@ pub fn receiver_of(alloc: Global, wait_limits: WaitLimits) -> Result<Receiver<No
         clock_rate: Frequency::make(90_000).ok_or("a rate")?,
         tick_rate: Frequency::make(1_000).ok_or("a rate")?,
         wait_limits,
-        from_keyframe: FromKeyframe::Mark,
         limit: 4_096,
         forward: 3_000,
         backward: 1_000,

@@ -26,7 +26,6 @@ returns-in-Ok g c =
       counters = c.self.inside.counters;
       lowest = c.self.inside.lowest;
       anew = c.self.inside.anew;
-      room = c.self.inside.room;
     } in
     let after = c.take_in.new.buffer in
     let t : Receiving = record r { buffer = after; counters = c.with_kept-self-inside.result } in

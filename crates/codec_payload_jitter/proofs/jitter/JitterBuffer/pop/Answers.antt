@@ -5,7 +5,6 @@ use Rattle.codec_payload_buffer.specs.Release.{Release}
 use Rattle.codec_payload_buffer.specs.Steps.{State, Pops}
 use Rattle.codec_payload_jitter.specs.Receiving.{Receiving, is_pressed}
 use Rattle.codec_payload_jitter.proofs.ReceivingLemmas.{pressed_waits_for_none}
-use Rattle.codec_payload_jitter.proofs.PressureLemmas.{crowded_presses, none_left, settled_holds, taken_from}
 use Rattle.codec_payload_jitter.proofs.jitter.JitterBuffer.pop.Goals as goal
 
 pub returns-clause-drained : goal.returns-clause-drained
@@ -18,22 +17,3 @@ returns-clause-drained g c = λ pressed none.
     let set : s.hold_back ≡ c.in-Some.hold_back = ap (λ (x : State). x.hold_back) c.set_hold_back.ensures in
     let few : length (frames t.held) ≤ s.hold_back = c.pops_leave_few.ensures.few s t pops in
     omega (arith, few, set, zero_is)
-
-pub returns-clause-crowded : goal.returns-clause-crowded
-returns-clause-crowded g c = λ crowded none.
-    let s : State = c.set_hold_back.new.self in
-    let t : State = c.pop-answer.new.self in
-    let pops : Pops s None t = subst (λ (answer : Option (Result Release PacketError)). Pops s answer t) none c.pop-answer.ensures.pops in
-    let zero_is : c.in-Some.hold_back ≡ 0 = pressed_waits_for_none c.settle.new.self c.args.now.0 c.in-Some.hold_back
-    (ap (λ (r : Receiving). is_pressed r c.args.now.0) c.settle.ensures ∙ crowded_presses _ c.args.now.0 crowded) (sym c.waiting.ensures ∙ c.in-Some.is) in
-    let set : s.hold_back ≡ c.in-Some.hold_back = ap (λ (x : State). x.hold_back) c.set_hold_back.ensures in
-    let few : length (frames t.held) ≤ s.hold_back = c.pops_leave_few.ensures.few s t pops in
-    none_left (frames t.held) (omega (arith, few, set, zero_is))
-
-pub returns-clause-fewer : goal.returns-clause-fewer
-returns-clause-fewer g c =
-    let s : State = c.set_hold_back.new.self in
-    let t : State = c.pop-answer.new.self in
-    let set : length s.held ≡ length c.self.inside.buffer.held = ap (λ (x : State). length x.held) c.set_hold_back.ensures in
-    let seen : length c.self.inside.buffer.held ≡ length c.settle.new.self.buffer.held = ap (λ (r : Receiving). length r.buffer.held) c.self.view_is in
-    taken_from _ s _ t (set ∙ (seen ∙ (ap (λ (r : Receiving). length r.buffer.held) c.settle.ensures ∙ settled_holds _))) c.pop-answer.ensures.fewer
