@@ -9,7 +9,8 @@ import struct
 from program_rows import Row, bad
 
 OPUS = "stream opus 48000 96\n"
-WAITS = f"{OPUS}wait 1000 0 50\n"
+OPEN = f"{OPUS}wait 1000 0 50\n"
+WAITS = f"{OPEN}ssrc 7\n"
 FIRST = 65_536
 
 
@@ -69,7 +70,7 @@ DEATHS = [
     ),
     Row(
         "the first two packets are swapped",
-        f"{OPUS}wait 1000 1 50\nreceive\n" + came(0, 11, "01") + "pop 0\ndeadline\n" + came(1, 10, "00") + "pop 1\npop 1\n",
+        f"{OPUS}wait 1000 1 50\nssrc 7\nreceive\n" + came(0, 11, "01") + "pop 0\ndeadline\n" + came(1, 10, "00") + "pop 1\npop 1\n",
         "held\nnone\ndeadline 50\nheld\n" + unit(FIRST + 10, "00") + unit(FIRST + 11, "01"),
     ),
     Row(
@@ -80,7 +81,7 @@ DEATHS = [
     # Of 16 places 2 are kept free: with 15 packets held the frame behind the gap is due, though it waits by number alone.
     Row(
         "a gap never outlives the buffer",
-        f"{OPUS}wait - 0 -\nlimit 16\nreceive\n" + came(0, 10, "00") + "pop 0\n"
+        f"{OPUS}wait - 0 -\nlimit 16\nssrc 7\nreceive\n" + came(0, 10, "00") + "pop 0\n"
         + "".join(came(n, n, f"{n:02x}") + f"pop {n}\n" for n in range(12, 27)) + "pop 26\n" * 15 + "counters\n",
         "held\n" + unit(FIRST + 10, "00") + "held\nnone\n" * 14 + "held\n" + unit(FIRST + 12, "0c", 0)
         + "".join(unit(FIRST + n, f"{n:02x}") for n in range(13, 27)) + "none\ncounters received 16 released 16 units 16\n",
@@ -112,10 +113,10 @@ OUTCOMES = [
     ),
     Row(
         "a restart that the caller tells, with another SSRC",
-        WAITS + "receive\n" + came(0, 10, "00") + "finish\npop 0\n" + came(0, 11, "01", ssrc=8) + "restart\n" + came(0, 5, "02", ssrc=8)
-        + came(0, 11, "03") + "pop 0\npop 50\n",
-        "held\n" + unit(FIRST + 10, "00") + "other stream\nheld\nother stream\nnone\n".replace("held", "restarted alone")
-        + unit(2 * FIRST + 5, "02", 0),
+        OPEN + "receive\n" + came(0, 10, "00") + "finish\npop 0\n" + came(0, 11, "01", ssrc=8) + "restart\n" + came(0, 5, "02", ssrc=8)
+        + came(0, 11, "03") + came(0, 6, "04", ssrc=8) + "pop 0\npop 50\npop 50\ncounters\n",
+        "undecided\n" + unit(FIRST + 10, "00") + "other stream\nundecided\nundecided\nheld\nnone\n" + unit(2 * FIRST + 5, "02", 0)
+        + unit(2 * FIRST + 6, "04") + "counters received 5 other 2 restarts 1 released 3 units 3\n",
     ),
     Row(
         "the SSRC that is set stays over a restart",

@@ -4,6 +4,7 @@ ghost use Rattle.std.specs.Prelude.{◌≡◌, ◌≢◌, ◌&&◌, is_some, Boo
 ghost use Rattle.codec_payload_core.specs.Depacketizers.{depacketizer_state_of};
 ghost use Rattle.codec_payload_jitter.specs.Receiving.{deadline_of};
 ghost use Rattle.codec_payload_stream.specs.Reports.{report_of, reported};
+ghost use Rattle.codec_payload_stream.specs.Sessions.{Finishes};
 ghost use Rattle.codec_payload_c.specs.StreamReceivers.{AreSettings, IsNewStream, IsStreamReceiverOf, PopsUnit, Takes, TellsCounts, TellsMissing, TellsNumber, TellsReport, TellsTimed, anew, bound_given, is_in_range, outcome_number, red_in_range, red_set, rtx_in_range, rtx_set, wait_limits_given, waiting_by};
 ghost use Rattle.codec_payload_handle.specs.Kinds.{Makes, OnStreamReceiver, Refuses, is_stream_receiver};
 ghost use Rattle.codec_payload_handle.specs.Settings.{depacketizer_set};
@@ -262,6 +263,7 @@ fn number_of(outcome: Outcome) -> u32
         Outcome::NoMedia => 7,
         Outcome::OtherStream => 8,
         Outcome::Rtcp => 9,
+        Outcome::Undecided => 10,
     }
 }
 
@@ -277,7 +279,7 @@ fn receive(stream: &mut StreamReceiver, now: u64, datagram: &[u8], outcome: &mut
         Err(ReceiveError::Rtp(fault)) => status_of(fault),
         Err(ReceiveError::Red) => status::RED_CORRUPTED,
         Err(ReceiveError::Retransmission) => status::RTX_TOO_SHORT,
-        Err(ReceiveError::OutOfMemory) => status::OUT_OF_MEMORY,
+        Err(ReceiveError::OutOfMemory | ReceiveError::BlocksOutOfMemory) => status::OUT_OF_MEMORY,
     }
 }
 
@@ -527,7 +529,7 @@ pub extern "C" fn cpay_receiver_set_wait_limits(
 /// The stream has ended: from now on pops wait for nothing.
 #[unsafe(no_mangle)]
 pub extern "C" fn cpay_receiver_finish(alloc: Global, handle: &mut Handle) -> u32
-    ensures ends { OnStreamReceiver handle.old.place.value (λ r s. (result ≡ 0) × (s ≡ record r { receiver = record r.receiver { packets = record r.receiver.packets { ended = Bool.true; anew = Bool.false } } })) handle.new.place.value }
+    ensures ends { OnStreamReceiver handle.old.place.value (λ r s. (result ≡ 0) × Finishes r.receiver s.receiver × (s ≡ record r { receiver = s.receiver })) handle.new.place.value }
     ensures refused { Refuses is_stream_receiver handle.old.place.value result handle.new.place.value }
 {
     let Some(mut object) = handle.take(alloc) else {

@@ -27,6 +27,7 @@ fn word_of(outcome: Outcome) -> &'static str {
         Outcome::NoMedia => "no media",
         Outcome::OtherStream => "other stream",
         Outcome::Rtcp => "rtcp",
+        Outcome::Undecided => "undecided",
     }
 }
 
