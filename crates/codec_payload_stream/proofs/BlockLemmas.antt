@@ -1,6 +1,6 @@
 -- The loop over the blocks of a packet of RED: what was found stands before what the blocks that are left give.
-use Rattle.std.proofs.Common.{◌≡◌, ℕ, ◌+◌, ◌<◌, List, [], ◌∷◌, ◌++◌, length, drop, get_or, Option, Some, None, refl, sym, ap, ◌∙◌, arith, append_assoc}
-use Rattle.std.proofs.lemmas.List.{drop_more, get_or-map, length-map}
+use Rattle.std.proofs.Common.{◌≡◌, ℕ, ◌+◌, ◌<◌, List, [], ◌∷◌, ◌++◌, length, drop, get_or, Option, Some, None, refl, sym, ap, ◌∙◌, arith, append_assoc, append-nil, ◌≤◌}
+use Rattle.std.proofs.lemmas.List.{drop_all, drop_more, get_or-map, length-map}
 use Rattle.std.specs.List.{filter_map}
 use Rattle.codec_payload_red.specs.declared.red.blocks.RedBlock.{RedBlock}
 use Rattle.codec_payload_red.specs.RedBlocks.{Block, block_of, blocks_of}
@@ -20,3 +20,8 @@ module _ {X : Type 0} (f : Block → Option X) (out whole : List X) (bs : List R
   none_more lt is h =
       let here : filter_map f (drop i (blocks_of bs)) ≡ filter_map f (drop (i + 1) (blocks_of bs)) = rw (ahead bs i d lt, is) refl in
       ap (λ t. out ++ t) (sym here) ∙ h
+
+  pub none_left : length bs ≤ i → out ++ filter_map f (drop i (blocks_of bs)) ≡ whole → out ≡ whole
+  none_left le h =
+      let le' : length (blocks_of bs) ≤ i = omega (arith, le, length-map bs block_of) in
+      sym (append-nil out) ∙ ap (λ t. out ++ filter_map f t) (sym (drop_all i (blocks_of bs) le')) ∙ h

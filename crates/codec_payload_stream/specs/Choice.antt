@@ -44,8 +44,11 @@ abbrev pub first_of_four : Option ℕ → ℕ → Option ℕ
 first_of_four (Some place) count = Some place
 first_of_four None count = if nat_le 4 count then Some 0 else None
 
+abbrev pub same_place : ℕ → List Candidate → Option ℕ
+same_place ssrc candidates = position (λ (c : Candidate). c.ssrc == ssrc) candidates
+
 abbrev pub leaving : ℕ → List Candidate → Option ℕ
-leaving ssrc candidates = first_of_four (position (λ (c : Candidate). c.ssrc == ssrc) candidates) (length candidates)
+leaving ssrc candidates = first_of_four (same_place ssrc candidates) (length candidates)
 
 abbrev pub without : Option ℕ → List Candidate → List Candidate
 without None candidates = candidates

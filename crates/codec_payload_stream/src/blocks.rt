@@ -1,13 +1,16 @@
 //! What packets of RED carry besides their own media.
 
 ghost use Rattle.std.specs.Prelude.{◌≡◌, IfOk, map};
+ghost use Rattle.std.specs.Option.{option_map};
+ghost use Rattle.codec_payload_red.specs.RedBlocks.{block_of};
 ghost use Rattle.codec_payload_stream.specs.Kinds.{carrier_of};
-ghost use Rattle.codec_payload_stream.specs.Sessions.{RecoversAll, all_carried, copied};
+ghost use Rattle.codec_payload_stream.specs.Sessions.{RecoversAll, all_carried, carried, copied};
 
 use crate::datagram::{RedPacket, Stream};
 use codec_payload_base::wire::{RtpHeader as Header, SeqNo, Ticks};
 use codec_payload_codec::codec::Depacketizer;
 use codec_payload_jitter::jitter::JitterBuffer;
+use codec_payload_red::red::RedBlock;
 use std::alloc::AllocError;
 use std::collections::VecDeque;
 
@@ -25,17 +28,34 @@ pub(crate) fn copy_blocks(
 ) -> Result<VecDeque<BlockCopy>, AllocError>
     ensures { IfOk result (λ copies. (now : Ticks) → map (copied now) copies.items ≡ all_carried stream.now now (carrier_of red.now)) }
 {
-    let header = &red.packet.header;
-    let number = SeqNo(65_536 + u64::from(header.sequence_number));
     let mut copies = VecDeque::new(stream.alloc);
     for block in &red.older {
-        if let Some(recovered) = red.receiver.recover_block(number, header.timestamp, block) {
-            let payload = Vec::from_slice(stream.alloc, recovered.payload)?;
-            let header = stream.block_header(header.ssrc, &recovered);
-            copies.push_back(BlockCopy { header, payload })?;
+        match copy_block(stream, red, block)? {
+            Some(copy) => copies.push_back(copy)?,
+            None => {}
         }
     }
     Ok(copies)
+}
+
+/// The packet that an older block of a packet is, if it is one.
+fn copy_block(
+    stream: &Stream,
+    red: &RedPacket<'_>,
+    block: &RedBlock<'_>,
+) -> Result<Option<BlockCopy>, AllocError>
+    ensures { IfOk result (λ copy. (now : Ticks) → option_map (copied now) copy ≡ carried stream.now now (carrier_of red.now) (block_of block.now)) }
+{
+    let header = &red.packet.header;
+    let number = SeqNo(65_536 + u64::from(header.sequence_number));
+    match red.receiver.recover_block(number, header.timestamp, block) {
+        Some(recovered) => {
+            let payload = Vec::from_slice(stream.alloc, recovered.payload)?;
+            let header = stream.block_header(header.ssrc, &recovered);
+            Ok(Some(BlockCopy { header, payload }))
+        }
+        None => Ok(None),
+    }
 }
 
 /// The jitter buffer takes in those of these packets that are missing, in order. Whether there was memory for all of them: where

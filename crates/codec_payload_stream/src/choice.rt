@@ -2,7 +2,7 @@
 
 ghost use Rattle.std.specs.Prelude.{◌≡◌, ◌*◌, [], IfOk, OnErr, Option};
 ghost use Rattle.std.specs.Option.{is_some};
-ghost use Rattle.codec_payload_stream.specs.Choice.{Choosing, IsCandidate, are_near, is_silent, is_the, latest_after, leaving, near_place, no_choice, origin_of, verdict_of, waiting_with};
+ghost use Rattle.codec_payload_stream.specs.Choice.{Choosing, IsCandidate, are_near, first_of_four, is_silent, is_the, latest_after, leaving, near_place, no_choice, origin_of, same_place, verdict_of, waiting_with};
 ghost use Rattle.codec_payload_stream.specs.Kinds.{datagram_of};
 ghost use Rattle.codec_payload_stream.specs.declared.choice.Candidate.{Candidate as Waiting};
 
@@ -199,9 +199,23 @@ fn near_place(candidates: &[Candidate], origin: Origin) -> Option<usize>
 fn leaving(candidates: &[Candidate], ssrc: u32) -> Option<usize>
     ensures { result ≡ leaving ssrc candidates.now }
 {
-    match candidates.iter().position(|c| c.ssrc == ssrc) {
+    first_of_four(same_place(candidates, ssrc), candidates.len())
+}
+
+/// Where a packet of that SSRC waits, if one does.
+fn same_place(candidates: &[Candidate], ssrc: u32) -> Option<usize>
+    ensures { result ≡ same_place ssrc candidates.now }
+{
+    candidates.iter().position(|c| c.ssrc == ssrc)
+}
+
+/// That place, or where there is none, the first of four that wait.
+fn first_of_four(place: Option<usize>, count: usize) -> Option<usize>
+    ensures { result ≡ first_of_four place count }
+{
+    match place {
         Some(place) => Some(place),
-        None if candidates.len() >= MOST => Some(0),
+        None if count >= MOST => Some(0),
         None => None,
     }
 }
