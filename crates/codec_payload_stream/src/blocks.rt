@@ -2,7 +2,8 @@
 
 ghost use Rattle.std.specs.Prelude.{◌≡◌, IfOk, map};
 ghost use Rattle.std.specs.Option.{option_map};
-ghost use Rattle.codec_payload_red.specs.RedBlocks.{block_of};
+ghost use Rattle.codec_payload_red.specs.RedBlocks.{block_of, blocks_of};
+ghost use Rattle.std.specs.List.{filter_map};
 ghost use Rattle.codec_payload_stream.specs.Kinds.{carrier_of};
 ghost use Rattle.codec_payload_stream.specs.Sessions.{RecoversAll, all_carried, carried, copied};
 
@@ -28,10 +29,23 @@ pub(crate) fn copy_blocks(
 ) -> Result<VecDeque<BlockCopy>, AllocError>
     ensures { IfOk result (λ copies. (now : Ticks) → map (copied now) copies.items ≡ all_carried stream.now now (carrier_of red.now)) }
 {
+    copy_each(stream, red, &red.older)
+}
+
+/// The packets that these blocks of a packet are, in order.
+fn copy_each(
+    stream: &Stream,
+    red: &RedPacket<'_>,
+    blocks: &[RedBlock<'_>],
+) -> Result<VecDeque<BlockCopy>, AllocError>
+    ensures { IfOk result (λ copies. (now : Ticks) → map (copied now) copies.items ≡ filter_map (carried stream.now now (carrier_of red.now)) (blocks_of blocks.now)) }
+{
     let mut copies = VecDeque::new(stream.alloc);
-    for block in &red.older {
+    for block in blocks {
         match copy_block(stream, red, block)? {
-            Some(copy) => copies.push_back(copy)?,
+            Some(copy) => {
+                copies.push_back(copy)?;
+            }
             None => {}
         }
     }

@@ -29,6 +29,7 @@ pub(crate) struct Candidate {
 /// What is known for the choice of the stream.
 #[derive(Debug, Drop)]
 pub(crate) struct Choice {
+    alloc: Global,
     /// Packets that wait, in the order in which they came.
     pub(crate) candidates: Vec<Candidate>,
     /// When the latest packet of the stream came.
@@ -73,6 +74,7 @@ impl Choice {
         ensures { result ≡ no_choice (2 * tick_rate) }
     {
         Choice {
+            alloc,
             candidates: Vec::new(alloc),
             latest: None,
             silence: 2 * u64::from(tick_rate.get()),
@@ -125,7 +127,6 @@ impl Choice {
     /// A datagram waits. Whether another one left for it. Where memory is wanting, nothing has changed.
     pub(crate) fn keep(
         &mut self,
-        alloc: Global,
         now: Ticks,
         origin: Origin,
         bytes: &[u8],
@@ -135,16 +136,14 @@ impl Choice {
         ensures err { OnErr result (self.new ≡ self.old) }
     {
         let leaves = leaving(&self.candidates, origin.ssrc);
-        let bytes = Vec::from_slice(alloc, bytes)?;
+        let bytes = Vec::from_slice(self.alloc, bytes)?;
         let candidate = Candidate {
             received: now,
             ssrc: origin.ssrc,
             number: origin.number,
             bytes,
         };
-        if self.candidates.push(candidate).is_err() {
-            return Err(AllocError);
-        }
+        self.candidates.push(candidate)?;
         match leaves {
             Some(place) => {
                 self.candidates.remove(place);
