@@ -16,10 +16,12 @@ returns-in-Some-clause-ok c =
     c.remove.ensures.items ∙ ap (λ (xs : List Candidate). remove xs c.in-Some.place) (c.in_ok-push.ensures.items ∙ ap (λ (y : Choosing). y.candidates ++ x ∷ []) c.self.view_is)
     ∙ ap (λ (o : Option ℕ). without o (before ++ x ∷ [])) (sym at) in (
       sym (ap is_some at),
-      x,
-      record { received = refl; ssrc = refl; number = refl; whole = c.in_ok-bytes.ensures.items },
-      ap (λ (xs : List Candidate). record { candidates = xs; latest = c.self.inside.latest; silence = c.self.inside.silence }) items
-          ∙ ap (λ (y : Choosing). record { candidates = waiting_with x before; latest = y.latest; silence = y.silence }) c.self.view_is,
+      (
+        x,
+        record { received = refl; ssrc = refl; number = refl; whole = c.in_ok-bytes.ensures.items },
+        ap (λ (xs : List Candidate). record { candidates = xs; latest = c.self.inside.latest; silence = c.self.inside.silence }) items
+            ∙ ap (λ (y : Choosing). record { candidates = waiting_with x before; latest = y.latest; silence = y.silence }) c.self.view_is,
+      ),
     )
 
 pub returns-in-None-clause-ok : goal.returns-in-None-clause-ok
@@ -32,8 +34,10 @@ returns-in-None-clause-ok c =
     let items : c.push.new.self.items ≡ waiting_with x before =
     c.in_ok-push.ensures.items ∙ ap (λ (y : Choosing). y.candidates ++ x ∷ []) c.self.view_is ∙ ap (λ (o : Option ℕ). without o (before ++ x ∷ [])) (sym at) in (
       sym (ap is_some at),
-      x,
-      record { received = refl; ssrc = refl; number = refl; whole = c.in_ok-bytes.ensures.items },
-      ap (λ (xs : List Candidate). record { candidates = xs; latest = c.self.inside.latest; silence = c.self.inside.silence }) items
-          ∙ ap (λ (y : Choosing). record { candidates = waiting_with x before; latest = y.latest; silence = y.silence }) c.self.view_is,
+      (
+        x,
+        record { received = refl; ssrc = refl; number = refl; whole = c.in_ok-bytes.ensures.items },
+        ap (λ (xs : List Candidate). record { candidates = xs; latest = c.self.inside.latest; silence = c.self.inside.silence }) items
+            ∙ ap (λ (y : Choosing). record { candidates = waiting_with x before; latest = y.latest; silence = y.silence }) c.self.view_is,
+      ),
     )
