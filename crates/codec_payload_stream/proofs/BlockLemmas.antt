@@ -21,6 +21,7 @@ module _ {X : Type 0} (f : Block → Option X) (out whole : List X) (bs : List R
       let here : filter_map f (drop i (blocks_of bs)) ≡ filter_map f (drop (i + 1) (blocks_of bs)) = rw (ahead bs i d lt, is) refl in
       ap (λ t. out ++ t) (sym here) ∙ h
 
+module _ {X : Type 0} (f : Block → Option X) (out whole : List X) (bs : List RedBlock) (i : ℕ) where
   pub none_left : length bs ≤ i → out ++ filter_map f (drop i (blocks_of bs)) ≡ whole → out ≡ whole
   none_left le h =
       let le' : length (blocks_of bs) ≤ i = omega (arith, le, length-map bs block_of) in

@@ -17,15 +17,15 @@ loop-block-preserved c = λ now.
     let whole : List Arrival = filter_map f (blocks_of c.args.blocks.now) in
     elim c.match-branch-2.branch [
       | in-Some+in_ok-push_back-in-Some w ↦
-          rw (w.copies-is, w.in_ok-push_back.ensures.items, map_push (copied now) c.loop-block.copies.items w.in-Some.copy)
+          rw (w.copies-is, w.in_ok-push_back-in-Some.ensures.items, map_push (copied now) c.loop-block.copies.items w.in-Some.copy)
           (one_more f out whole c.args.blocks.now c.loop-block.block-index _ (copied now w.in-Some.copy) c.loop-block-test.true
-          (sym (c.in_ok-copy_block.ensures now) ∙ ap (option_map (copied now)) w.in-Some.is) (c.loop-block.invariant now))
+          (sym (c.in_ok-copy.ensures now) ∙ ap (option_map (copied now)) w.in-Some.is) (c.loop-block.invariant now))
       | in-None w ↦
           rw w.copies-is (none_more f out whole c.args.blocks.now c.loop-block.block-index _ c.loop-block-test.true
-          (sym (c.in_ok-copy_block.ensures now) ∙ ap (option_map (copied now)) w.in-None.is) (c.loop-block.invariant now))
+          (sym (c.in_ok-copy.ensures now) ∙ ap (option_map (copied now)) w.in-None.is) (c.loop-block.invariant now))
     ]
 
 pub returns : goal.returns
 returns c = λ now.
     let f : Block → Option Arrival = carried c.args.stream.now now (carrier_of c.args.red.now) in
-    none_left f (map (copied now) c.loop-block.copies.items) (filter_map f (blocks_of c.args.blocks.now)) c.args.blocks.now c.loop-block.block-index _ c.loop-block-test.false (c.loop-block.invariant now)
+    none_left f (map (copied now) c.loop-block.copies.items) (filter_map f (blocks_of c.args.blocks.now)) c.args.blocks.now c.loop-block.block-index c.loop-block-test.false (c.loop-block.invariant now)
