@@ -481,7 +481,8 @@ def captured():
 
 def played(sender, stream, packets):
     """A row that plays a sender's audio: each packet of the stream is a unit with the payload that tshark tells, and so is the
-    primary block of each packet in RED (RFC 2198, section 3), here behind at most one older block."""
+    primary block of each packet in RED (RFC 2198, section 3), here behind at most one older block. No SSRC is named, so the first
+    packet waits for the second."""
     codec, rate, kind, *red_kind = stream.split()
     setup = f"stream {codec} {rate} {kind}\nwait 1000 0 50\n" + (f"red {red_kind[0]} 960\n" if red_kind else "")
     given = outcomes = units = ""
@@ -497,7 +498,7 @@ def played(sender, stream, packets):
         if its_kind in red_kind:
             older = int.from_bytes(payload[2:4], "big") % 1_024 if payload[0] & 0x80 else None
             payload = payload[1:] if older is None else payload[5 + older :]
-        outcomes += "held\n"
+        outcomes += "held\n" if units else "undecided\n"
         place = FIRST + first[0] + (int(number) - first[0]) % 65_536
         units += unit(place, payload.hex(), time=first[1] + (int(time) - first[1]) % 2**32)
     return Row(f"played: {sender}", setup + "receive\n" + given + "pop 0\n" * (len(packets) + 1), outcomes + units + "none\n" * (
