@@ -59,7 +59,7 @@ pub struct ReceiverSettings {
     pub rtx_payload_type: u8,
     /// Whether `max_wait` is set; else frames wait for as long as `hold_back` and `start` say.
     pub has_max_wait: bool,
-    /// Whether `ssrc` is set; else it is that of the first packet of the stream.
+    /// Whether `ssrc` is set; else two packets of one SSRC choose the stream.
     pub has_ssrc: bool,
     /// Whether the stream is sent in RED.
     pub has_red: bool,

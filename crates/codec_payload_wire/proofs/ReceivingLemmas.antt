@@ -22,10 +22,8 @@ use Rattle.codec_payload_jitter.specs.declared.outcome.Outcome.{Outcome}
 use Rattle.codec_payload_sender.specs.declared.sender.Stream.{Stream}
 use Rattle.codec_payload_stream.specs.Kinds.{Datagram, WithMedia, datagram_at, header_for, is_other}
 use Rattle.codec_payload_stream.specs.Choice.{is_silent, origin_of, verdict_of}
-use Rattle.codec_payload_stream.specs.Sessions.{Finishes, Heard, Hears, ReceivesBy, ReceivesBytes, Session, SettlesOn, ended, first_waiting, is_none_of, verdict_in}
+use Rattle.codec_payload_stream.specs.Sessions.{Finishes, Heard, Hears, ReceivesBy, ReceivesBytes, Session, SettlesOn, ended, first_waiting, is_none_of, is_open}
 use Rattle.codec_payload_stream.specs.declared.choice.Candidate.{Candidate}
-use Rattle.codec_payload_stream.specs.declared.choice.Verdict.{Verdict}
-use Rattle.codec_payload_stream.specs.declared.choice.Verdict.TheVariants as verdicts
 use Rattle.codec_payload_stream.specs.declared.receiver.ReceiveError.TheVariants as refusals
 use Rattle.codec_payload_wire.proofs.ReadingLemmas.{datagram_is, packet_at}
 use Rattle.codec_payload_wire.specs.Releases.{ReadsAs, is_sent_again_by}
@@ -58,19 +56,23 @@ heard now d s t (Err refusals.Red) not_memory told = told
 heard now d s t (Err refusals.Retransmission) not_memory told = told
 heard now d s t (Err refusals.BlocksOutOfMemory) not_memory told = told
 
+-- of two branches of which the second is taken, what is known of both is known of the second
+second : {X : Type 0} (P : X → Type 0) (b : Bool) (x y : X) → b ≡ false → P (cond b x y) → P y
+second P b x y taken known = subst (λ (c : Bool). P (cond c x y)) taken known
+
 -- a receiver that names its SSRC receives each datagram as its stream has it
 heard_at_once : (stream : Stream) (now : Ticks) (bytes : List ℕ) (s t : Session) (receipt : Receipt) → IsListening stream s
     → Delivers now bytes s receipt t → Heard now (datagram_at s.stream s.ssrc bytes) s receipt t
 heard_at_once stream now bytes s t receipt listening delivers = by_case delivers.1
   where
-    verdict : verdict_in s now.0 bytes ≡ verdicts.Hear
-    verdict =
-        ap (λ (named : Option ℕ). cond (is_none_of named && (not s.packets.ended && (is_none_of s.ssrc || is_silent s.choice now.0)))
-        (verdict_of s.choice.candidates s.ssrc (origin_of (datagram_at s.stream None bytes))) verdicts.Hear)
-        listening.named
+    settled_already : is_open s now.0 ≡ false
+    settled_already = ap (λ (named : Option ℕ). is_none_of named && not s.packets.ended && (is_none_of s.ssrc || is_silent s.choice now.0)) listening.named
 
     by_case : ReceivesBytes now bytes s receipt t → Heard now (datagram_at s.stream s.ssrc bytes) s receipt t
-    by_case (inl by) = subst (λ (v : Verdict). ReceivesBy v now bytes s receipt t) verdict by
+    by_case (inl by) =
+        let told = second (λ v. ReceivesBy v now bytes s receipt t) (is_open s now.0)
+        (verdict_of s.choice.candidates s.ssrc (origin_of (datagram_at s.stream None bytes))) _ settled_already by in
+        told
     by_case (inr got) = absurd (delivers.0 got.0)
 
 -- its SSRC is no other one

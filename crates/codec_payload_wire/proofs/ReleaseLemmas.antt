@@ -21,7 +21,6 @@ use Rattle.codec_payload_jitter.specs.Numbers.{StayNear, GoOn, IsNumbering, Numb
 use Rattle.codec_payload_jitter.specs.declared.numbers.Extended.{Extended}
 use Rattle.codec_payload_jitter.specs.declared.numbers.Extended.TheVariants as extended
 use Rattle.codec_payload_sender.specs.Senders.{Sending}
-use Rattle.codec_payload_stream.specs.Kinds.{is_other}
 use Rattle.codec_payload_stream.specs.Sessions.{Session}
 use Rattle.codec_payload_wire.proofs.EventLemmas.{Brings, IsMet, all_told, delivery_of, met, order_told, split_at_end}
 use Rattle.codec_payload_wire.proofs.NewReceivers.{IsBegun, new_is_begun}
@@ -30,7 +29,7 @@ use Rattle.codec_payload_wire.proofs.SendingLemmas.{SendsRun, running, same_coun
 use Rattle.codec_payload_wire.proofs.StepLemmas.{ComesTo, Takes, comes_to}
 use Rattle.codec_payload_wire.specs.Releases.{is_sent_again_by, AllComeFirst, AreDatagrams, ComeWithin, StayWithin, IsDelivery}
 use Rattle.codec_payload_wire.specs.Releases.{IsWithinWindows, ReleaseOverDatagrams, ReleasesUnits, delivered, received_steps, sending_steps}
-use Rattle.codec_payload_wire.specs.WireRuns.{ended, Runs, Wire, begins}
+use Rattle.codec_payload_wire.specs.WireRuns.{Runs, Wire, begins}
 use Rattle.codec_payload_wire.specs.declared.run.DatagramStep.{DatagramStep}
 use Rattle.codec_payload_wire.specs.declared.run.DatagramStep.TheVariants as steps
 use Rattle.codec_payload_wire.specs.declared.run.SentSample.{SentSample}
