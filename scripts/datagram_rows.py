@@ -89,7 +89,7 @@ DEATHS = [
     # 23 frames of type 15, which have no speech, are 0.46 s in a packet: 30 of such packets are 14 s, and max_wait is 100 ms.
     Row(
         "AMR-WB with 23 frames a packet behind a gap",
-        "stream amrwb-octet 16000 96\nwait 30 0 100\nreceive\n" + came(0, 0, "f0" + "fc" * 22 + "7c") + "pop 0\n"
+        "stream amrwb-octet 16000 96\nwait 30 0 100\nssrc 7\nreceive\n" + came(0, 0, "f0" + "fc" * 22 + "7c") + "pop 0\n"
         + came(460, 2, "f0" + "fc" * 22 + "7c", time=14_720) + "pop 559\ndeadline\npop 560\n",
         "held\n" + f"unit {FIRST} {FIRST} 1 {2**32} " + "7c" * 23 + "\nheld\nnone\ndeadline 560\n"
         + f"unit {FIRST + 2} {FIRST + 2} 0 {2**32 + 14_720} " + "7c" * 23 + "\n",
@@ -116,7 +116,7 @@ OUTCOMES = [
         OPEN + "receive\n" + came(0, 10, "00") + "finish\npop 0\n" + came(0, 11, "01", ssrc=8) + "restart\n" + came(0, 5, "02", ssrc=8)
         + came(0, 11, "03") + came(0, 6, "04", ssrc=8) + "pop 0\npop 50\npop 50\ncounters\n",
         "undecided\n" + unit(FIRST + 10, "00") + "other stream\nundecided\nundecided\nheld\nnone\n" + unit(2 * FIRST + 5, "02", 0)
-        + unit(2 * FIRST + 6, "04") + "counters received 5 other 2 restarts 1 released 3 units 3\n",
+        + unit(2 * FIRST + 6, "04") + "counters received 5 other 2 released 3 restarts 1 units 3\n",
     ),
     Row(
         "the SSRC that is set stays over a restart",
