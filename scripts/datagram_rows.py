@@ -119,6 +119,12 @@ OUTCOMES = [
         + unit(2 * FIRST + 6, "04") + "counters received 5 other 2 released 3 restarts 1 units 3\n",
     ),
     Row(
+        "packets that wait are counted, and the first of them comes out at the end",
+        OPEN + "receive\n" + came(0, 10, "00") + came(0, 5, "01", ssrc=8) + "counters\nfinish\ncounters\npop 0\ncounters\n",
+        "undecided\nundecided\ncounters received 2 undecided 2\ncounters received 2 other 1 held 1\n" + unit(FIRST + 10, "00")
+        + "counters received 2 other 1 released 1 units 1\n",
+    ),
+    Row(
         "the SSRC that is set stays over a restart",
         f"{WAITS}ssrc 7\nreceive\n" + came(0, 5, "00", ssrc=8) + came(0, 10, "00") + "restart\n" + came(0, 11, "00", ssrc=8)
         + came(0, 11, "01"),

@@ -92,6 +92,7 @@ pub fn print_counters(
         ("rtcp", counters.rtcp),
         ("malformed", counters.malformed),
         ("other", counters.other_streams),
+        ("undecided", counters.undecided),
         ("no_media", packets.no_media),
         ("duplicates", packets.duplicates),
         ("late", packets.late),
