@@ -41,7 +41,7 @@ profiles = $(shell pkg-config --exists libpcap libavformat libavcodec libavutil 
 all: $(archive) $(shared)
 
 $(archive):
-	scripts/faces.sh library
+	scripts/bindings.sh library
 
 $(shared): $(archive) packaging/codec_payload.map
 	$(CC) -shared -Wl,-soname,$(soname) -Wl,--version-script=packaging/codec_payload.map -Wl,-z,defs \

@@ -407,7 +407,7 @@ CPAY_CHECKED cpay_status cpay_buffer_set_hold_back(cpay_buffer *buffer, size_t h
 
 /** The packet of that number came and carries no media, as one of padding alone: where all before it have left, it is not
  * waited for, and else nothing happens. */
-CPAY_CHECKED cpay_status cpay_buffer_pass_number(cpay_buffer *buffer, uint64_t number);
+CPAY_CHECKED cpay_status cpay_buffer_skip_number(cpay_buffer *buffer, uint64_t number);
 
 /* ---- Datagrams: RTP packets (RFC 3550, section 5.1) ---- */
 

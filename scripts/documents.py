@@ -8,11 +8,11 @@
 
 Each relative link, each anchor and each named page is there; README.md has at most 170 lines; no line outside of code and
 tables is longer than 128 characters; the crates that docs/ARCHITECTURE.md lists are those of crates.txt; the version is the
-same wherever it stands; toolchain.txt has the line of `rt version`, and no page names another kit; each row of figures in
+same wherever it stands; toolchain.txt has the line of `rt version`, and no page names a kit; each row of figures in
 README.md is one of docs/PERFORMANCE.md; each picture is shown by a page, is light, and is of today's data; docs/DIFFERENCES.md
 names each law of the ported crates. Each block of code has a language, by which it is tested:
 
-  c        compiled, and linked and run where the library is built (scripts/faces.sh library)
+  c        compiled, and linked and run where the library is built (scripts/bindings.sh library)
   rust     built by cargo over rust/, and run
   rattle   stands, word for word, in a crate that the gate proves
   antt     stands, word for word, in the definitions of a crate
@@ -32,9 +32,9 @@ import sys
 import tempfile
 import textwrap
 
-import datagram_rows
+import datagram_vectors
 import pictures as drawn
-import program_rows
+import program_vectors
 
 ROOT = os.path.dirname(os.path.dirname(os.path.realpath(__file__)))
 LIBRARY = f"{ROOT}/bindings/out"
@@ -43,14 +43,14 @@ README_LINES = 170
 PICTURE_BYTES = 80_000
 FENCE = re.compile(r"^( *)```(.*)$")
 # Commands of the documents that are run here, in the root of the repository: none needs what is built, and each is quick.
-RUN_HERE = ["scripts/wrong_bodies.py --stale", "scripts/face_header.py", "scripts/documents.py"]
+RUN_HERE = ["scripts/mutants.py --stale", "scripts/check_header.py", "scripts/documents.py"]
 # All others: how a command begins, and the file that runs it, with the words by which it does.
 RUN_ELSEWHERE = {
     "scripts/test.sh": ("scripts/test.sh", "scripts/test.sh --no-proofs"),
     "rt ci": ("scripts/test.sh", "rt ci"),
     "rt try": ("scripts/process.py", '["rt", "run"]'),
     "rt run": ("scripts/process.py", '["rt", "run"]'),
-    "rt check": ("scripts/wrong_bodies.py", '"rt", "check"'),
+    "rt check": ("scripts/mutants.py", '"rt", "check"'),
     "rt new": ("scripts/documents.py", "begun_crate"),
     "rm -r crates/mine/": ("scripts/documents.py", "begun_crate"),
     'echo "mine: codec_payload_core"': ("scripts/documents.py", "begun_crate"),
@@ -58,12 +58,12 @@ RUN_ELSEWHERE = {
     "rt fmt": ("scripts/documents.py", "rt fmt"),
     "rt test": ("scripts/documents.py", "rt test"),
     "rt version": ("scripts/documents.py", "rt version"),
-    "scripts/faces.sh": ("scripts/test.sh", "runs scripts/faces.sh"),
+    "scripts/bindings.sh": ("scripts/test.sh", "runs scripts/bindings.sh"),
     "scripts/process.py": ("scripts/test.sh", "runs scripts/process.py"),
     "scripts/refuse.sh": ("scripts/test.sh", "runs scripts/refuse.sh"),
     "scripts/allocations.sh": ("scripts/test.sh", "runs scripts/allocations.sh"),
     "scripts/instructions.sh": ("scripts/test.sh", "runs scripts/instructions.sh"),
-    "scripts/wrong_bodies.py": ("scripts/test.sh", "runs scripts/wrong_bodies.py --stale"),
+    "scripts/mutants.py": ("scripts/test.sh", "runs scripts/mutants.py --stale"),
     "scripts/bench.sh": ("scripts/allocations.sh", "payload_bench"),
     "scripts/examples.py": ("scripts/test.sh", "runs scripts/examples.py"),
     "cc -Iinclude examples/": ("scripts/examples.py", "examples/{name}.c"),
@@ -89,7 +89,7 @@ RUN_ELSEWHERE = {
     "tools/rtp_record/rtp_record": ("scripts/test.sh", "runs tools/rtp_record/test.sh"),
     "./install.sh": ("scripts/test.sh", "tools/rtp_record/install.sh"),
     "./rtp_record": ("scripts/test.sh", "runs tools/rtp_record/test.sh"),
-    "../../scripts/faces.sh": ("scripts/test.sh", "runs scripts/faces.sh"),
+    "../../scripts/bindings.sh": ("scripts/test.sh", "runs scripts/bindings.sh"),
     "cd crates/": ("scripts/process.py", '["rt", "run"]'),
 }
 
@@ -197,17 +197,15 @@ def crate_table():
 
 
 def toolchain():
-    """toolchain.txt has the line that `rt version` prints, and no page names another kit."""
-    line = read("toolchain.txt").strip()
+    """toolchain.txt has the line that `rt version` prints, and no page names a kit: toolchain.txt alone does."""
+    lines = read("toolchain.txt").split("\n")
     if shutil.which("rt"):
         found = subprocess.run(["rt", "version"], capture_output=True, text=True, check=False).stdout.strip()
-        if found != line:
-            yield f"toolchain.txt has {line!r}, and rt version prints {found!r}"
-    kit = line.split()[0]
+        if found not in lines:
+            yield f"toolchain.txt lacks {found!r}, which rt version prints"
     for page in ["README.md", "CONTRIBUTING.md", *glob.glob("docs/*.md", root_dir=ROOT)]:
         for named in re.findall(r"rattle-kit-\w+", read(page)):
-            if named != kit:
-                yield f"{page} names {named}, and toolchain.txt has {kit}"
+            yield f"{page} names {named}: toolchain.txt alone names kits"
 
 
 def versions():
@@ -320,7 +318,7 @@ def whole_bytes(block):
 
 
 def tested_text(block):
-    rows = [*program_rows.ROWS, *datagram_rows.ROWS]
+    rows = [*program_vectors.ROWS, *datagram_vectors.ROWS]
     known = [it for row in rows for it in (row.given, row.output)]
     known += [read(it) for it in glob.glob(f"{ROOT}/crates/*/std*")]
     if block.text in known:

@@ -3,10 +3,10 @@
 
 The gateways fail by themselves unless exactly the frames come that some datagram carried, and print the same in both languages.
 The recorders write the VP8 capture of tools/rtp_record under each condition of its tests, and what they write are the encoder's
-frames, by their MD5s: those of which every packet came. The stream over UDP in C is run by scripts/faces.sh, all examples for
+frames, by their MD5s: those of which every packet came. The stream over UDP in C is run by scripts/bindings.sh, all examples for
 Rust by scripts/rust.sh, and the examples for Rattle by rt ci.
 
-Needs the library as scripts/faces.sh library builds it, a C compiler with sanitizers, $CC or cc, and cargo of 1.88 or later.
+Needs the library as scripts/bindings.sh library builds it, a C compiler with sanitizers, $CC or cc, and cargo of 1.88 or later.
 The last line says what passed; the status is 0 where all did.
 """
 import hashlib
@@ -101,7 +101,7 @@ def recorders(programs, folder):
 
 def main():
     if not os.path.exists(f"{OUT}/libcodec_payload.a"):
-        subprocess.run([f"{ROOT}/scripts/faces.sh", "library"], check=True, stdout=subprocess.DEVNULL)
+        subprocess.run([f"{ROOT}/scripts/bindings.sh", "library"], check=True, stdout=subprocess.DEVNULL)
     with tempfile.TemporaryDirectory() as folder:
         programs = built(folder)
         wrong = [*gateways(programs), *recorders(programs, folder)]

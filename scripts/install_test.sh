@@ -8,7 +8,7 @@
 # error in them, the example is built against what they unpack, and the recorder, where libpcap and libavformat are there, lists
 # and writes a capture of the repository.
 #
-# Needs make, a C and a C++ compiler, nm and pkg-config; the library as `scripts/faces.sh library` builds it. The last line says
+# Needs make, a C and a C++ compiler, nm and pkg-config; the library as `scripts/bindings.sh library` builds it. The last line says
 # what passed; the status is 0 where all did.
 set -eu
 

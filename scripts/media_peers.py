@@ -2,7 +2,7 @@
 """Compares what the library for C tells of frames with what other readers tell of them.
 
     scripts/media_peers.py             all of it; the last line counts what was compared
-    scripts/media_peers.py rows        writes some of what those tell to bindings/c/frames.txt too, which scripts/faces.sh reads
+    scripts/media_peers.py rows        writes some of what those tell to bindings/c/frames.txt too, which scripts/bindings.sh reads
     scripts/media_peers.py times       the nanoseconds of one cpay_frame_info for each kind of frame
 
 The frames are those of encoders (scripts/media_frames.sh), headers of VP9 and AV1 made field by field at random, and hostile
@@ -10,7 +10,7 @@ ones: beginnings, all bytes of one and two, and frames with a byte changed. The 
 `trace_headers` (VP9, AV1), ffprobe, ffmpeg's muxer of MP4 (av1C), libvpx (VP8) and libopus. Where one of them refuses what the
 standard lets pass, it is not asked. bindings/c/frames.c asks the library, with and without the sanitizers.
 
-Needs the library (scripts/faces.sh library), a C compiler, and ffmpeg with libvpx, libaom and libopus.
+Needs the library (scripts/bindings.sh library), a C compiler, and ffmpeg with libvpx, libaom and libopus.
 """
 
 import collections

@@ -4,7 +4,7 @@
   scripts/pictures.py            all of them
   scripts/pictures.py NAME..     those named
 
-  units_under_loss   packets 10 to 15 of three units, by the row UNDER_LOSS of scripts/program_rows.py, which scripts/process.py
+  units_under_loss   packets 10 to 15 of three units, by the row UNDER_LOSS of scripts/program_vectors.py, which scripts/process.py
                      runs through the program payload_vectors
   crates             the crates, and which names which, by crates.txt
   over_a_copy        time over that of a copy, a dot a case, by the tables of docs/PERFORMANCE.md
@@ -22,7 +22,7 @@ import re
 import subprocess
 import sys
 
-import program_rows
+import program_vectors
 
 ROOT = os.path.dirname(os.path.dirname(os.path.realpath(__file__)))
 FOLDER = f"{ROOT}/docs/pictures"
@@ -44,7 +44,7 @@ def rows_of_figures():
 def made_of(name):
     """The line at the end of a picture that tells of what it was made."""
     data = {
-        "units_under_loss": lambda: repr(program_rows.UNDER_LOSS),
+        "units_under_loss": lambda: repr(program_vectors.UNDER_LOSS),
         "crates": lambda: read("crates.txt"),
         "over_a_copy": lambda: repr(rows_of_figures()),
     }.get(name, lambda: "")()
@@ -98,7 +98,7 @@ def box(axes, left, top, width, height, text="", color=INK, fill=None, **words):
 
 def played():
     """The run of the row: what is printed for each packet, and of each step what it is, what is held and what it answers."""
-    row = program_rows.UNDER_LOSS
+    row = program_vectors.UNDER_LOSS
     sent = [line.split() for line in row.output.split("\n") if line.startswith("packet ")]
     answers = [line.split() for line in row.output.split("\n") if re.match(r"none|unit|fault", line)]
     numbers = [int(it[1]) for it in sent]

@@ -1,5 +1,5 @@
 #!/usr/bin/env python3
-"""Runs payload_vectors and payload_datagrams as processes: every row of program_rows.py and datagram_rows.py on a stack of 64
+"""Runs payload_vectors and payload_datagrams as processes: every row of program_vectors.py and datagram_vectors.py on a stack of 64
 kilobytes, and of the first streams that fail.
 
 Needs rt, which proves and builds the programs first. The last line says how many runs went as promised; the status is 0 where all
@@ -13,12 +13,12 @@ import subprocess
 import sys
 import tempfile
 
-import datagram_rows
-import program_rows
-from program_rows import FIRST_OUTPUT, FIRST_RUN, OPUS
+import datagram_vectors
+import program_vectors
+from program_vectors import FIRST_OUTPUT, FIRST_RUN, OPUS
 
 CRATES = os.path.join(os.path.dirname(os.path.dirname(os.path.realpath(__file__))), "crates")
-ROWS = {"payload_vectors": program_rows.ROWS, "payload_datagrams": datagram_rows.ROWS}
+ROWS = {"payload_vectors": program_vectors.ROWS, "payload_datagrams": datagram_vectors.ROWS}
 
 
 def built(name):

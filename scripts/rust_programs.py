@@ -4,7 +4,7 @@
   scripts/rust_programs.py [COUNT]
   scripts/rust_programs.py --try COUNT
 
-The erased programs answer the stored input of each crate and every test vector of program_rows.py and datagram_rows.py with the
+The erased programs answer the stored input of each crate and every test vector of program_vectors.py and datagram_vectors.py with the
 expected output, status and message. If the proved programs are built (crates/*/out), COUNT random scripts, 10,000 by default, go
 to both, and each pair of answers is the same, byte for byte. Otherwise the script says so. With `--try`, `rt try` runs the sources
 of the programs without their proof instead, and outputs and statuses are compared. The random numbers are the same in each run.
@@ -21,12 +21,12 @@ from concurrent.futures import ThreadPoolExecutor
 ROOT = os.path.dirname(os.path.dirname(os.path.realpath(__file__)))
 sys.path.insert(0, f"{ROOT}/bindings/c")
 
-import datagram_rows  # noqa: E402  (inputs.py is found only now)
+import datagram_vectors  # noqa: E402  (inputs.py is found only now)
 import inputs  # noqa: E402
-import program_rows  # noqa: E402
+import program_vectors  # noqa: E402
 
 ERASED = f"{ROOT}/rust/target/programs"
-VECTORS = {"payload_vectors": program_rows.ROWS, "payload_datagrams": datagram_rows.ROWS}
+VECTORS = {"payload_vectors": program_vectors.ROWS, "payload_datagrams": datagram_vectors.ROWS}
 # Name in the stream line, and RTP clock rate.
 STREAMS = [("opus", 48_000), ("pcmu", 8_000), ("cn", 8_000), ("amrwb", 16_000), ("amrwb-octet", 16_000), ("tele", 8_000),
            ("vp8", 90_000), ("vp9", 90_000), ("av1", 90_000), ("null", 90_000)]
@@ -93,10 +93,10 @@ def datagram(codec, state, numbers):
     if kind == 98:
         ssrc, media = 9, (number - numbers.below(6)).to_bytes(4, "big", signed=True)[2:] + media
     if kind == 63:
-        return datagram_rows.rtp(number, datagram_rows.red(media.hex(), (96, 960, "0102")), kind=63, time=number * 960, ssrc=ssrc)
+        return datagram_vectors.rtp(number, datagram_vectors.red(media.hex(), (96, 960, "0102")), kind=63, time=number * 960, ssrc=ssrc)
     padding = 4 if numbers.below(20) == 0 else 0
     marker = numbers.below(2)
-    return datagram_rows.rtp(number, media.hex(), kind=kind, time=number // 2 * 960, ssrc=ssrc, marker=marker, padding=padding)
+    return datagram_vectors.rtp(number, media.hex(), kind=kind, time=number // 2 * 960, ssrc=ssrc, marker=marker, padding=padding)
 
 
 def datagram_script(seed):

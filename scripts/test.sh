@@ -80,9 +80,9 @@ runs() {
 
 # The quick checks come first: a fault that they find costs no proof.
 runs scripts/format.sh
-runs scripts/wrong_bodies.py --stale
+runs scripts/mutants.py --stale
 runs scripts/documents.py --quick
-runs scripts/face_header.py
+runs scripts/check_header.py
 runs scripts/rust.sh
 early_passed=$passed
 early_failed=$failed
@@ -99,7 +99,7 @@ runs scripts/process.py
 runs scripts/rust_programs.py
 runs scripts/refuse.sh
 runs scripts/allocations.sh
-runs scripts/faces.sh
+runs scripts/bindings.sh
 runs scripts/documents.py
 runs scripts/examples.py
 runs scripts/instructions.sh

@@ -1,5 +1,5 @@
 /* The calls of codec_payload.h over those that are proved, which take a handle of any kind and no NULL: here NULL with a length
- * of 0 becomes a pointer to something, and with another length it is refused. Written by scripts/face_header.py --calls. */
+ * of 0 becomes a pointer to something, and with another length it is refused. Written by scripts/check_header.py --calls. */
 #include "codec_payload.h"
 
 typedef char status_is_four_bytes[sizeof(cpay_status) == 4 ? 1 : -1];
@@ -95,9 +95,9 @@ cpay_status cpay_buffer_set_hold_back(cpay_buffer *buffer, size_t hold_back) {
     return proved_cpay_buffer_set_hold_back(&buffer->handle, hold_back);
 }
 
-cpay_status proved_cpay_buffer_pass_number(cpay_handle *buffer, uint64_t number);
-cpay_status cpay_buffer_pass_number(cpay_buffer *buffer, uint64_t number) {
-    return proved_cpay_buffer_pass_number(&buffer->handle, number);
+cpay_status proved_cpay_buffer_skip_number(cpay_handle *buffer, uint64_t number);
+cpay_status cpay_buffer_skip_number(cpay_buffer *buffer, uint64_t number) {
+    return proved_cpay_buffer_skip_number(&buffer->handle, number);
 }
 
 bool proved_cpay_is_rtcp(const uint8_t *datagram, size_t datagram_len);

@@ -3,7 +3,7 @@
 
   bindings/c/inputs.py FOLDER
 
-They are its stored input, those of scripts/program_rows.py, and two hundred that a fixed generator makes: of each codec, with
+They are its stored input, those of scripts/program_vectors.py, and two hundred that a fixed generator makes: of each codec, with
 lost, repeated and late packets. The generator's numbers are its own, so they are the same wherever it runs.
 """
 import os
@@ -13,7 +13,7 @@ ROOT = os.path.dirname(os.path.dirname(os.path.dirname(os.path.realpath(__file__
 VECTORS = f"{ROOT}/crates/payload_vectors"
 sys.path.insert(0, f"{ROOT}/scripts")
 
-from program_rows import ROWS  # noqa: E402  (the folder is known only now)
+from program_vectors import ROWS  # noqa: E402  (the folder is known only now)
 
 GENERATED = 200
 CODECS = ["opus", "pcmu", "pcma", "g722", "cn", "amrwb", "amrwb-octet", "tele", "vp8", "vp8-id", "vp9", "vp9-flex", "av1", "null"]

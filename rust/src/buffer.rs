@@ -98,12 +98,12 @@ impl<B: Depacketizer> DepacketizingBuffer<B> {
     /// between others. An eviction looks for the next packet that begins a unit, where the one that leaves did: each packet is
     /// looked at so twice at most.
     pub fn push(&mut self, meta: RtpMeta, data: Vec<u8>) -> Result<(), PacketError> {
-        self.take_in(meta, data)?;
+        self.store(meta, data)?;
         Ok(())
     }
 
     /// The same, and says what became of the packet.
-    pub fn take_in(&mut self, meta: RtpMeta, data: Vec<u8>) -> Result<Placed, PacketError> {
+    pub fn store(&mut self, meta: RtpMeta, data: Vec<u8>) -> Result<Placed, PacketError> {
         let number = meta.seq_no.0;
         if is_too_late(self.cutoff, number) {
             return Ok(Placed::Late);
@@ -219,7 +219,7 @@ impl<B: Depacketizer> DepacketizingBuffer<B> {
 
     /// Passes over a number that carries no media, as that of a packet of padding alone: where it comes right after the cutoff
     /// and is not held, the cutoff goes on to it, so that the frame after it need not wait. Else nothing changes.
-    pub fn pass_number(&mut self, number: SeqNo) {
+    pub fn skip_number(&mut self, number: SeqNo) {
         if is_right_after(self.cutoff, number.0) && !self.holds(number) {
             self.cutoff = Some(number.0);
         }

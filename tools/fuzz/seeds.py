@@ -12,8 +12,8 @@ import sys
 ROOT = os.path.dirname(os.path.dirname(os.path.dirname(os.path.realpath(__file__))))
 sys.path.insert(0, f"{ROOT}/scripts")
 
-import datagram_rows  # noqa: E402  (the folder is known only now)
-import program_rows  # noqa: E402
+import datagram_vectors  # noqa: E402  (the folder is known only now)
+import program_vectors  # noqa: E402
 
 # The places of codecs in `CODECS` of src/formats.rs.
 CODECS = {"opus": 0, "pcmu": 1, "pcma": 2, "g722": 3, "cn": 4, "amrwb": 5, "amrwb-octet": 0x85, "tele": 6, "vp8": 7,
@@ -42,14 +42,14 @@ def captured():
 
 def seeds():
     """Target and bytes of each seed."""
-    for text in texts(program_rows.ROWS):
+    for text in texts(program_vectors.ROWS):
         codec = bytes([CODECS.get(text.split(" ")[1] if " " in text else "", 0)])
         for frame in words(text, "sample"):
             yield "units", codec + bytes([3, 0, 7, 4, 0xb0]) + frame
             yield "media", bytes([0]) + frame
         for line in words(text, "sample"):
             yield "depacketize", codec + bytes([0]) + some(line)
-    packets = [it for text in texts(datagram_rows.ROWS) for it in words(text, "datagram")] + captured()
+    packets = [it for text in texts(datagram_vectors.ROWS) for it in words(text, "datagram")] + captured()
     for packet in packets:
         yield "packets", bytes(3) + packet
         payload = packet[12:]
@@ -57,7 +57,7 @@ def seeds():
         yield "vp8", bytes([7, 0, 5, 1, 1]) + payload
         for place in range(11):
             yield "depacketize", bytes([place, 0]) + some(payload)
-    for text in texts(datagram_rows.ROWS):
+    for text in texts(datagram_vectors.ROWS):
         calls = b"".join(bytes([5]) + some(packet) + bytes([0]) for packet in words(text, "datagram"))
         yield "receiver", PLAIN + bytes(2) + calls
     yield "buffer", bytes([1, 4, 0x80, 1, 0x80, 3, 0x80, 2, 0, 0, 0, 0])

@@ -11,7 +11,7 @@ mod send;
 mod shift;
 mod toc;
 
-pub use crate::laws::payloads_follow_the_grammar;
+pub use crate::theorems::payloads_follow_the_grammar;
 pub use receive::AmrWbDepacketizer;
 pub use send::AmrWbPacketizer;
 

@@ -3,7 +3,7 @@
 #![tactic(auto)]
 
 pub mod amr_wb;
-mod laws;
 pub mod plain;
 pub mod tele;
+mod theorems;
 mod whole;

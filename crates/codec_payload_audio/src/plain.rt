@@ -8,7 +8,7 @@ mod g7xx;
 mod null;
 mod opus;
 
-pub use crate::laws::pieces_are_one;
+pub use crate::theorems::pieces_are_one;
 use codec_payload_base::error::PacketError;
 pub use comfort_noise::{ComfortNoiseDepacketizer, ComfortNoisePacketizer};
 pub use g7xx::{G7xxPacketizer, G711Depacketizer, G711Packetizer, G722Packetizer};

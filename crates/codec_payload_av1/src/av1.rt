@@ -6,7 +6,6 @@ ghost use Rattle.codec_payload_av1.specs.Av1Steps.{is_keyframe};
 
 mod aggregation_header;
 mod depacketizer;
-mod laws;
 mod leb;
 mod obu;
 mod packer;
@@ -15,14 +14,15 @@ mod payload;
 mod payload_writer;
 mod pending;
 mod piece;
+mod theorems;
 
 use aggregation_header::AggregationHeader;
 pub use codec_payload_base::interface::Av1CodecExtra;
 pub use depacketizer::Av1Depacketizer;
-pub use laws::{
+pub use packetizer::Av1Packetizer;
+pub use theorems::{
     canonical_unit_is_its_own, last_packets_give_last_obus, reading_follows_the_grammars,
 };
-pub use packetizer::Av1Packetizer;
 
 /// How many bytes a number takes as the shortest LEB128 (AV1 bitstream specification, section 4.10.5): 1 to 10.
 pub fn leb_128_size(value: usize) -> usize

@@ -4,7 +4,7 @@ ghost use Rattle.std.specs.Prelude.{◌≡◌, ◌+◌, ◌*◌, ◌/◌, ◌%�
 ghost use Rattle.std.specs.Option.{option_map};
 ghost use Rattle.codec_payload_base.specs.Bits.{Reader, ReadsBits, ReadsLeb128, LendsBytes, Skips, left, here, moved, at_end};
 
-pub use crate::laws::leb128_says_numbers;
+pub use crate::theorems::leb128_says_numbers;
 use std::marker::Model;
 
 /// Reads the bits of a payload in order, the highest of each byte first. What a call lends lives as long as the payload,

@@ -41,10 +41,10 @@ module _ (s t : State) (same : s ≡ t) (f : CompleteFrame) (due : due_of s ≡ 
       }))
 
   -- it may not go out
-  pub passed_over : (contiguous seq : Bool) (c : Contiguity) (u : Unpacked) (new : State)
+  pub skipped_over : (contiguous seq : Bool) (c : Contiguity) (u : Unpacked) (new : State)
       → Gives s f (Ok u) e → seq ≡ follows s f → checked s.contiguity u.extra seq ≡ (false, contiguous, c)
       → new ≡ record s { held = above f.last s.held; cutoff = Some f.last; depacketizer = e; contiguity = c } → PassesOver t new
-  passed_over contiguous seq c u new gives follow answer left =
+  skipped_over contiguous seq c u new gives follow answer left =
       subst (λ (x : State). PassesOver x new) same
       (let given : checked s.contiguity u.extra (follows s f) ≡ (false, contiguous, c) = subst (λ (b : Bool). checked s.contiguity u.extra b ≡ (false, contiguous, c)) follow answer in
       record {

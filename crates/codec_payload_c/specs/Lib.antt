@@ -3,7 +3,7 @@ pub mod Buffers
 pub mod Extensions
 pub mod Frames
 pub mod Ids
-pub mod Looks
+pub mod Inspect
 pub mod Media
 pub mod RedCoding
 pub mod RedPlaces

@@ -24,7 +24,7 @@ use Rattle.codec_payload_handle.specs.declared.object.Object.TheVariants as obje
 use Rattle.codec_payload_handle.specs.declared.object.StreamReceiver.{StreamReceiver}
 use Rattle.codec_payload_handle.specs.declared.unit.Unit.{Unit as CUnit}
 use Rattle.codec_payload_c.specs.Ids.{ids_given}
-use Rattle.codec_payload_c.specs.Looks.{given_if}
+use Rattle.codec_payload_c.specs.Inspect.{given_if}
 use Rattle.codec_payload_c.specs.RtpFields.{rtp_status}
 use Rattle.codec_payload_c.specs.declared.receiver.WaitLimits.{WaitLimits as CWaitLimits}
 use Rattle.codec_payload_c.specs.declared.receiver.ReceiverCountsInfo.{ReceiverCountsInfo}
@@ -173,8 +173,8 @@ TellsReport (Some x) status before after =
     (status ≡ 0) × (after ≡ record { cumulative_lost = x.cumulative_lost; highest = x.highest; jitter = x.jitter; fraction_lost = x.fraction_lost })
 
 -- the sender begins anew
-abbrev pub anew : Session → Session
-anew s = record s { ssrc = s.named; packets = begun_anew s.packets; reception = s.no_reception }
+abbrev pub is_restarting : Session → Session
+is_restarting s = record s { ssrc = s.named; packets = begun_anew s.packets; reception = s.no_reception }
 
 -- frames wait by other values
 abbrev pub waiting_by : WaitLimits → Session → Session

@@ -12,7 +12,7 @@ use Rattle.codec_payload_handle.specs.HeaderValues.{values_given}
 use Rattle.codec_payload_handle.specs.declared.object.Object.{Object}
 use Rattle.codec_payload_handle.specs.declared.object.Object.TheVariants as objects
 use Rattle.codec_payload_handle.specs.declared.object.StreamSender.{StreamSender}
-use Rattle.codec_payload_c.specs.Looks.{given_if}
+use Rattle.codec_payload_c.specs.Inspect.{given_if}
 use Rattle.codec_payload_c.specs.Ids.{ids_given}
 use Rattle.codec_payload_c.specs.declared.sender.Sample.{Sample as CSample}
 use Rattle.codec_payload_c.specs.declared.sender.SenderCountsInfo.{SenderCountsInfo}
@@ -48,7 +48,7 @@ pub record SendsFrame (r : StreamSender) (sample : Sample) (status before count 
   pub ok : status ≡ 0 → Sends r.sender sample s.sender
   pub counted : status ≡ 0 → count ≡ length s.sender.datagrams
   pub fault : status ≢ 0 → (e : PacketError) × (status ≡ fault_number e) × RefusesSample r.sender sample e s.sender
-  pub untold : status ≢ 0 → count ≡ before
+  pub unchanged : status ≢ 0 → count ≡ before
   pub rate : s.rate ≡ r.rate
 
 -- a datagram into the caller's bytes: 0 where there is one for which they are enough, 33 where they are too few, 32 where there is none

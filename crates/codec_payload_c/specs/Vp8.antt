@@ -9,7 +9,7 @@ use Rattle.codec_payload_core.specs.declared.vp8.Vp8DescriptorError.TheVariants 
 use Rattle.codec_payload_core.specs.declared.vp8.Vp8PatchError.{Vp8PatchError}
 use Rattle.codec_payload_core.specs.declared.vp8.Vp8PatchError.TheVariants as unpatched
 use Rattle.codec_payload_handle.specs.Extras.{or_zero}
-use Rattle.codec_payload_c.specs.Looks.{given_if}
+use Rattle.codec_payload_c.specs.Inspect.{given_if}
 use Rattle.codec_payload_c.specs.declared.vp8.Vp8FieldsInfo.{Vp8FieldsInfo}
 
 -- 1 where a byte is missing, 11 where TL0PICIDX has no temporal layer beside it

@@ -188,7 +188,7 @@ pub extern "C" fn cpay_buffer_pop(
     ensures pops { OnFrameReceiver handle.old.place.value (λ r s. PopsUnit r result unit.old unit.new bytes.old bytes.new s) handle.new.place.value }
     ensures refused { Refuses is_frame_receiver handle.old.place.value result handle.new.place.value }
     ensures untouched { result ≢ 0 → bytes.new ≡ bytes.old }
-    ensures untold { result ≢ 0 → result ≢ 33 → unit.new ≡ unit.old }
+    ensures unchanged { result ≢ 0 → result ≢ 33 → unit.new ≡ unit.old }
 {
     let Some(mut object) = handle.take(alloc) else {
         return status::EMPTY;
@@ -227,7 +227,7 @@ pub extern "C" fn cpay_buffer_set_hold_back(
 
 /// The packet of that number carries no media: where all below it have left, it is not waited for.
 #[unsafe(no_mangle)]
-pub extern "C" fn cpay_buffer_pass_number(alloc: Global, handle: &mut Handle, number: u64) -> u32
+pub extern "C" fn cpay_buffer_skip_number(alloc: Global, handle: &mut Handle, number: u64) -> u32
     ensures passes { OnFrameReceiver handle.old.place.value (λ r s. (result ≡ 0) × (s ≡ record r { buffer = passed_number r.buffer number })) handle.new.place.value }
     ensures refused { Refuses is_frame_receiver handle.old.place.value result handle.new.place.value }
 {
@@ -236,7 +236,7 @@ pub extern "C" fn cpay_buffer_pass_number(alloc: Global, handle: &mut Handle, nu
     };
     let answer = match &mut *object {
         Object::FrameReceiver(receiver) => {
-            receiver.buffer.pass_number(SeqNo(number));
+            receiver.buffer.skip_number(SeqNo(number));
             status::OK
         }
         _ => status::OTHER_KIND,
@@ -254,7 +254,7 @@ pub extern "C" fn cpay_buffer_counts(
 ) -> u32
     ensures counts { OnFrameReceiver handle.old.place.value (λ r s. (result ≡ 0) × (s ≡ r) × Counts r counts.new) handle.new.place.value }
     ensures refused { Refuses is_frame_receiver handle.old.place.value result handle.new.place.value }
-    ensures untold { result ≢ 0 → counts.new ≡ counts.old }
+    ensures unchanged { result ≢ 0 → counts.new ≡ counts.old }
 {
     let Some(mut object) = handle.take(alloc) else {
         return status::EMPTY;

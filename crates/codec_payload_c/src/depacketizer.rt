@@ -97,7 +97,7 @@ pub extern "C" fn cpay_depacketized(
     ensures refused { Refuses is_assembler handle.old.place.value result handle.new.place.value }
     ensures untouched { result ≢ 0 → bytes.new ≡ bytes.old }
     ensures same_size { result ≢ 0 → result ≢ 33 → size.new ≡ size.old }
-    ensures untold { result ≢ 0 → result ≢ 33 → extra.new ≡ extra.old }
+    ensures unchanged { result ≢ 0 → result ≢ 33 → extra.new ≡ extra.old }
 {
     let Some(mut object) = handle.take(alloc) else {
         return status::EMPTY;

@@ -167,7 +167,7 @@ fn packetize_into(
 ) -> u32
     ensures lays { LaysFrame sender.old cut.now frame.now result (record { before = bytes.old; bytes = bytes.new; told_before = packets.old; told = packets.new; room = room.new }) sender.new }
     ensures untouched { result ≢ 0 → (bytes.new ≡ bytes.old) × (packets.new ≡ packets.old) }
-    ensures untold { result ≢ 0 → result ≢ 33 → room.new ≡ room.old }
+    ensures unchanged { result ≢ 0 → result ≢ 33 → room.new ≡ room.old }
 {
     let Some(before) = packetizer_as(&sender.packetizer) else {
         return status::INVALID;
@@ -200,7 +200,7 @@ pub extern "C" fn cpay_packetize_into(
     ensures lays { OnFrameSender handle.old.place.value (λ r s. LaysFrame r cut.now frame.now result (record { before = bytes.old; bytes = bytes.new; told_before = packets.old; told = packets.new; room = room.new }) s) handle.new.place.value }
     ensures refused { Refuses is_frame_sender handle.old.place.value result handle.new.place.value }
     ensures untouched { result ≢ 0 → (bytes.new ≡ bytes.old) × (packets.new ≡ packets.old) }
-    ensures untold { result ≢ 0 → result ≢ 33 → room.new ≡ room.old }
+    ensures unchanged { result ≢ 0 → result ≢ 33 → room.new ≡ room.old }
 {
     let Some(mut object) = handle.take(alloc) else {
         return status::EMPTY;

@@ -6,7 +6,7 @@ mod depacketizer;
 mod extension;
 mod frames;
 mod free;
-mod looks;
+mod inspect;
 mod media;
 mod packetizer;
 mod receiver;

@@ -36,7 +36,7 @@ fn packetize(
     count: &mut usize,
 ) -> u32
     ensures cuts { CutsFrame sender.old mtu starts_talk_spurt frame.now result count.new sender.new }
-    ensures untold { result ≢ 0 → count.new ≡ count.old }
+    ensures unchanged { result ≢ 0 → count.new ≡ count.old }
 {
     match sender.packetizer.packetize(alloc, mtu, frame) {
         Ok(packets) => {
@@ -53,7 +53,7 @@ fn packetize(
 /// The next packet.
 fn packet(sender: &mut FrameSender, info: &mut PacketInfo, bytes: &mut [u8]) -> u32
     ensures gives { GivesPacket sender.old result info.new bytes.old bytes.new sender.new }
-    ensures untold { result ≢ 0 → result ≢ 33 → info.new ≡ info.old }
+    ensures unchanged { result ≢ 0 → result ≢ 33 → info.new ≡ info.old }
 {
     let Some(payload) = sender.packets.get(sender.taken) else {
         return status::NONE;
@@ -116,7 +116,7 @@ pub extern "C" fn cpay_packetize(
 ) -> u32
     ensures cuts { OnFrameSender handle.old.place.value (λ r s. CutsFrame r mtu starts_talk_spurt frame.now result count.new s) handle.new.place.value }
     ensures refused { Refuses is_frame_sender handle.old.place.value result handle.new.place.value }
-    ensures untold { result ≢ 0 → count.new ≡ count.old }
+    ensures unchanged { result ≢ 0 → count.new ≡ count.old }
 {
     let Some(mut object) = handle.take(alloc) else {
         return status::EMPTY;
@@ -147,7 +147,7 @@ pub extern "C" fn cpay_packet(
     ensures gives { OnFrameSender handle.old.place.value (λ r s. GivesPacket r result info.new bytes.old bytes.new s) handle.new.place.value }
     ensures refused { Refuses is_frame_sender handle.old.place.value result handle.new.place.value }
     ensures untouched { result ≢ 0 → bytes.new ≡ bytes.old }
-    ensures untold { result ≢ 0 → result ≢ 33 → info.new ≡ info.old }
+    ensures unchanged { result ≢ 0 → result ≢ 33 → info.new ≡ info.old }
 {
     let Some(mut object) = handle.take(alloc) else {
         return status::EMPTY;

@@ -4,7 +4,7 @@ ghost use Rattle.std.specs.Prelude.{◌≡◌, ◌≢◌, ◌&&◌, is_some, Boo
 ghost use Rattle.codec_payload_core.specs.Depacketizers.{depacketizer_state_of};
 ghost use Rattle.codec_payload_jitter.specs.Receiving.{deadline_of};
 ghost use Rattle.codec_payload_stream.specs.Reports.{report_of, reported};
-ghost use Rattle.codec_payload_c.specs.StreamReceivers.{AreSettings, IsNewStream, IsStreamReceiverOf, PopsUnit, Takes, TellsCounts, TellsMissing, TellsNumber, TellsReport, TellsTimed, anew, bound_given, is_in_range, outcome_number, red_in_range, red_set, rtx_in_range, rtx_set, wait_limits_given, waiting_by};
+ghost use Rattle.codec_payload_c.specs.StreamReceivers.{AreSettings, IsNewStream, IsStreamReceiverOf, PopsUnit, Takes, TellsCounts, TellsMissing, TellsNumber, TellsReport, TellsTimed, is_restarting, bound_given, is_in_range, outcome_number, red_in_range, red_set, rtx_in_range, rtx_set, wait_limits_given, waiting_by};
 ghost use Rattle.codec_payload_handle.specs.Kinds.{Makes, OnStreamReceiver, Refuses, is_stream_receiver};
 ghost use Rattle.codec_payload_handle.specs.Settings.{depacketizer_set};
 
@@ -434,7 +434,7 @@ pub extern "C" fn cpay_receiver_receive(
 ) -> u32
     ensures receives { OnStreamReceiver handle.old.place.value (λ r s. Takes r now datagram.now result outcome.old outcome.new s) handle.new.place.value }
     ensures refused { Refuses is_stream_receiver handle.old.place.value result handle.new.place.value }
-    ensures untold { result ≢ 0 → outcome.new ≡ outcome.old }
+    ensures unchanged { result ≢ 0 → outcome.new ≡ outcome.old }
 {
     let Some(mut object) = handle.take(alloc) else {
         return status::EMPTY;
@@ -459,7 +459,7 @@ pub extern "C" fn cpay_receiver_pop(
     ensures pops { OnStreamReceiver handle.old.place.value (λ r s. PopsUnit r now result unit.old unit.new bytes.old bytes.new s) handle.new.place.value }
     ensures refused { Refuses is_stream_receiver handle.old.place.value result handle.new.place.value }
     ensures untouched { result ≢ 0 → bytes.new ≡ bytes.old }
-    ensures untold { result ≢ 0 → result ≢ 33 → unit.new ≡ unit.old }
+    ensures unchanged { result ≢ 0 → result ≢ 33 → unit.new ≡ unit.old }
 {
     let Some(mut object) = handle.take(alloc) else {
         return status::EMPTY;
@@ -481,7 +481,7 @@ pub extern "C" fn cpay_receiver_next_deadline(
 ) -> u32
     ensures tells { OnStreamReceiver handle.old.place.value (λ r s. (s ≡ r) × TellsNumber (deadline_of r.receiver.packets) result at.old at.new) handle.new.place.value }
     ensures refused { Refuses is_stream_receiver handle.old.place.value result handle.new.place.value }
-    ensures untold { result ≢ 0 → at.new ≡ at.old }
+    ensures unchanged { result ≢ 0 → at.new ≡ at.old }
 {
     let Some(mut object) = handle.take(alloc) else {
         return status::EMPTY;
@@ -527,7 +527,7 @@ pub extern "C" fn cpay_receiver_set_wait_limits(
 /// The stream has ended: from now on pops wait for nothing.
 #[unsafe(no_mangle)]
 pub extern "C" fn cpay_receiver_finish(alloc: Global, handle: &mut Handle) -> u32
-    ensures ends { OnStreamReceiver handle.old.place.value (λ r s. (result ≡ 0) × (s ≡ record r { receiver = record r.receiver { packets = record r.receiver.packets { ended = Bool.true; anew = Bool.false } } })) handle.new.place.value }
+    ensures ends { OnStreamReceiver handle.old.place.value (λ r s. (result ≡ 0) × (s ≡ record r { receiver = record r.receiver { packets = record r.receiver.packets { ended = Bool.true; is_restarting = Bool.false } } })) handle.new.place.value }
     ensures refused { Refuses is_stream_receiver handle.old.place.value result handle.new.place.value }
 {
     let Some(mut object) = handle.take(alloc) else {
@@ -547,7 +547,7 @@ pub extern "C" fn cpay_receiver_finish(alloc: Global, handle: &mut Handle) -> u3
 /// The sender begins anew: the next packet of the stream gets a number above all others.
 #[unsafe(no_mangle)]
 pub extern "C" fn cpay_receiver_restart(alloc: Global, handle: &mut Handle) -> u32
-    ensures begins { OnStreamReceiver handle.old.place.value (λ r s. (result ≡ 0) × (s ≡ record r { receiver = anew r.receiver })) handle.new.place.value }
+    ensures begins { OnStreamReceiver handle.old.place.value (λ r s. (result ≡ 0) × (s ≡ record r { receiver = is_restarting r.receiver })) handle.new.place.value }
     ensures refused { Refuses is_stream_receiver handle.old.place.value result handle.new.place.value }
 {
     let Some(mut object) = handle.take(alloc) else {
@@ -573,7 +573,7 @@ pub extern "C" fn cpay_receiver_report(
 ) -> u32
     ensures tells { OnStreamReceiver handle.old.place.value (λ r s. (s ≡ record r { receiver = record r.receiver { reception = reported r.receiver.reception } }) × TellsReport (report_of r.receiver.reception) result report.old report.new) handle.new.place.value }
     ensures refused { Refuses is_stream_receiver handle.old.place.value result handle.new.place.value }
-    ensures untold { result ≢ 0 → report.new ≡ report.old }
+    ensures unchanged { result ≢ 0 → report.new ≡ report.old }
 {
     let Some(mut object) = handle.take(alloc) else {
         return status::EMPTY;
@@ -606,7 +606,7 @@ pub extern "C" fn cpay_receiver_counts(
 ) -> u32
     ensures tells { OnStreamReceiver handle.old.place.value (λ r s. (result ≡ 0) × (s ≡ r) × TellsCounts r counts.new) handle.new.place.value }
     ensures refused { Refuses is_stream_receiver handle.old.place.value result handle.new.place.value }
-    ensures untold { result ≢ 0 → counts.new ≡ counts.old }
+    ensures unchanged { result ≢ 0 → counts.new ≡ counts.old }
 {
     let Some(mut object) = handle.take(alloc) else {
         return status::EMPTY;
@@ -632,7 +632,7 @@ pub extern "C" fn cpay_receiver_missing(
 ) -> u32
     ensures tells { OnStreamReceiver handle.old.place.value (λ r s. (result ≡ 0) × (s ≡ r) × TellsMissing r numbers.old count.new numbers.new) handle.new.place.value }
     ensures refused { Refuses is_stream_receiver handle.old.place.value result handle.new.place.value }
-    ensures untold { result ≢ 0 → (count.new ≡ count.old) × (numbers.new ≡ numbers.old) }
+    ensures unchanged { result ≢ 0 → (count.new ≡ count.old) × (numbers.new ≡ numbers.old) }
 {
     let Some(mut object) = handle.take(alloc) else {
         return status::EMPTY;

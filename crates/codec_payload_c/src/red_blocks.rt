@@ -117,7 +117,7 @@ pub extern "C" fn cpay_red_encode(
 /// The block of that index, if there is one.
 fn give_block(blocks: &[RedBlock], index: usize, info: &mut RedBlockInfo, bytes: &mut [u8]) -> u32
     ensures gives { GivesBlock (slice_get (blocks_of blocks.now) index) result info.new bytes.old bytes.new }
-    ensures untold { result ≢ 0 → result ≢ 33 → info.new ≡ info.old }
+    ensures unchanged { result ≢ 0 → result ≢ 33 → info.new ≡ info.old }
 {
     let Some(block) = blocks.get(index) else {
         return status::NONE;
@@ -146,7 +146,7 @@ pub extern "C" fn cpay_red_block(
 ) -> u32
     ensures reads { ReadsBlock payload.now index result info.new bytes.old bytes.new }
     ensures untouched { result ≢ 0 → bytes.new ≡ bytes.old }
-    ensures untold { result ≢ 0 → result ≢ 33 → info.new ≡ info.old }
+    ensures unchanged { result ≢ 0 → result ≢ 33 → info.new ≡ info.old }
 {
     match RedDecoder::decode(alloc, payload) {
         Ok(blocks) => give_block(&blocks, index, info, bytes),
@@ -169,7 +169,7 @@ pub extern "C" fn cpay_red_recover(
 ) -> u32
     ensures recovers { Recovers primary_pt step number rtp_time payload.now index result info.new bytes.old bytes.new }
     ensures untouched { result ≢ 0 → bytes.new ≡ bytes.old }
-    ensures untold { result ≢ 0 → result ≢ 33 → info.new ≡ info.old }
+    ensures unchanged { result ≢ 0 → result ≢ 33 → info.new ≡ info.old }
 {
     let Some(receiver) = RedReceiver::new(primary_pt, step) else {
         return status::INVALID;

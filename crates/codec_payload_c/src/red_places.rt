@@ -54,7 +54,7 @@ pub extern "C" fn cpay_red_blocks(
 ) -> u32
     ensures places { PlacesBlocks payload.now result blocks.old blocks.new count.new }
     ensures untouched { result ≢ 0 → blocks.new ≡ blocks.old }
-    ensures untold { result ≢ 0 → result ≢ 33 → count.new ≡ count.old }
+    ensures unchanged { result ≢ 0 → result ≢ 33 → count.new ≡ count.old }
 {
     let found = match RedDecoder::decode(alloc, payload) {
         Ok(found) => found,

@@ -200,7 +200,7 @@ pub extern "C" fn cpay_sender_send(
 ) -> u32
     ensures sends { OnStreamSender handle.old.place.value (λ r s. SendsFrame r (sample_with r rtp_time starts_talk_spurt no_values frame.now) result count.old count.new s) handle.new.place.value }
     ensures refused { Refuses is_stream_sender handle.old.place.value result handle.new.place.value }
-    ensures untold { result ≢ 0 → count.new ≡ count.old }
+    ensures unchanged { result ≢ 0 → count.new ≡ count.old }
 {
     let Some(mut object) = handle.take(alloc) else {
         return status::EMPTY;
@@ -227,7 +227,7 @@ pub extern "C" fn cpay_sender_send_sample(
 ) -> u32
     ensures sends { OnStreamSender handle.old.place.value (λ r s. SendsFrame r (sample_given r sample.now frame.now) result count.old count.new s) handle.new.place.value }
     ensures refused { Refuses is_stream_sender handle.old.place.value result handle.new.place.value }
-    ensures untold { result ≢ 0 → count.new ≡ count.old }
+    ensures unchanged { result ≢ 0 → count.new ≡ count.old }
 {
     let Some(mut object) = handle.take(alloc) else {
         return status::EMPTY;
@@ -257,7 +257,7 @@ pub extern "C" fn cpay_sender_datagram(
     ensures gives { OnStreamSender handle.old.place.value (λ r s. (s ≡ r) × GivesDatagram (slice_get r.sender.datagrams place) result bytes.old bytes.new size.old size.new) handle.new.place.value }
     ensures refused { Refuses is_stream_sender handle.old.place.value result handle.new.place.value }
     ensures untouched { result ≢ 0 → bytes.new ≡ bytes.old }
-    ensures untold { result ≢ 0 → result ≢ 33 → size.new ≡ size.old }
+    ensures unchanged { result ≢ 0 → result ≢ 33 → size.new ≡ size.old }
 {
     let Some(mut object) = handle.take(alloc) else {
         return status::EMPTY;
@@ -279,7 +279,7 @@ pub extern "C" fn cpay_sender_counts(
 ) -> u32
     ensures tells { OnStreamSender handle.old.place.value (λ r s. (result ≡ 0) × (s ≡ r) × TellsCounts r counts.new) handle.new.place.value }
     ensures refused { Refuses is_stream_sender handle.old.place.value result handle.new.place.value }
-    ensures untold { result ≢ 0 → counts.new ≡ counts.old }
+    ensures unchanged { result ≢ 0 → counts.new ≡ counts.old }
 {
     let Some(mut object) = handle.take(alloc) else {
         return status::EMPTY;

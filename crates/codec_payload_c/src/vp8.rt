@@ -102,7 +102,7 @@ pub extern "C" fn cpay_vp8_fields(
     starts_keyframe: &mut bool,
 ) -> u32
     ensures reads { ReadsTo (parsed payload.now) payload.now result fields.new starts_keyframe.new }
-    ensures untold { result ≢ 0 → fields.new ≡ fields.old }
+    ensures unchanged { result ≢ 0 → fields.new ≡ fields.old }
     ensures unlooked { result ≢ 0 → starts_keyframe.new ≡ starts_keyframe.old }
 {
     let descriptor = match Vp8Descriptor::parse(payload) {

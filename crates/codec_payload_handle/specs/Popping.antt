@@ -62,4 +62,4 @@ pub record AnswersPop (Stays : Type 0) (Popped : Answer → Type 0) (Told : Rele
   pub too_small : status ≡ 33 → Keeps Stays Popped Told h
   pub none : status ≡ 32 → GivesNone Popped h
   pub fault : status ≢ 0 → status ≢ 32 → status ≢ 33 → GivesFault Popped status h
-  pub untold : status ≢ 0 → status ≢ 33 → (h.unit ≡ h.unit_before) × (h.bytes ≡ h.before)
+  pub unchanged : status ≢ 0 → status ≢ 33 → (h.unit ≡ h.unit_before) × (h.bytes ≡ h.before)

@@ -25,13 +25,13 @@ in_already d n (m ∷ ms) l is = already (in_already d n ms) (ltb m n) refl l is
 
 pub in_anew : (d n : ℕ) (xs : List ℕ) → (below n xs < length xs → get_or xs (below n xs) d ≢ n) → insert xs (below n xs) n ≡ no_media_in n xs
 in_anew d n [] other = refl
-in_anew d n (m ∷ ms) other = anew (in_anew d n ms) (ltb m n) refl other
+in_anew d n (m ∷ ms) other = is_restarting (in_anew d n ms) (ltb m n) refl other
   where
-    anew : ((below n ms < length ms → get_or ms (below n ms) d ≢ n) → insert ms (below n ms) n ≡ no_media_in n ms) → (b : Bool) → ltb m n ≡ b
+    is_restarting : ((below n ms < length ms → get_or ms (below n ms) d ≢ n) → insert ms (below n ms) n ≡ no_media_in n ms) → (b : Bool) → ltb m n ≡ b
         → (cond b (below n ms + 1) 0 < length (m ∷ ms) → get_or (m ∷ ms) (cond b (below n ms + 1) 0) d ≢ n)
         → insert (m ∷ ms) (cond b (below n ms + 1) 0) n ≡ cond b (m ∷ no_media_in n ms) (cond (eqb m n) (m ∷ ms) (n ∷ m ∷ ms))
-    anew rest true e other = rw add-one (ap (λ (zs : List ℕ). m ∷ zs) (rest (λ l. rw add-one at (other (omega arith)))))
-    anew rest false e other = let differ : eqb m n ≡ false = let unlike : m ≢ n = other (omega arith) in grind (arith, nat_tests) in rw differ refl
+    is_restarting rest true e other = rw add-one (ap (λ (zs : List ℕ). m ∷ zs) (rest (λ l. rw add-one at (other (omega arith)))))
+    is_restarting rest false e other = let differ : eqb m n ≡ false = let unlike : m ≢ n = other (omega arith) in grind (arith, nat_tests) in rw differ refl
 
 is_next_to : (cutoff : Option ℕ) (c n : ℕ) → cutoff ≡ Some c → is_right_after cutoff n ≡ true → c + 1 ≡ n
 is_next_to cutoff c n at next = let after : eqb (c + 1) n ≡ true = ap (λ (o : Option ℕ). is_right_after o n) (sym at) ∙ next in eqb-true (c + 1) n after

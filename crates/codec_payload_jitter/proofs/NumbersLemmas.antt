@@ -5,7 +5,7 @@ use Rattle.codec_payload_jitter.specs.declared.numbers.Extended.TheVariants as e
 use Rattle.std.specs.Prelude.{nat_lt, nat_le}
 use Rattle.std.proofs.lemmas.Bool.{lt-ltb, le-ltb, le-leb, lt-leb, leb-true, cases_lt}
 use Rattle.codec_payload_jitter.specs.Numbers.{Numbering, ahead, behind, fitting, answer_near, answer_for, number_in, number_for, numbers_for, StayNear, low_bits, AreTrueNumbers, answer_by}
-use Rattle.codec_payload_jitter.specs.Numbers.{numbering_with, greater, anew, follows_suspect, StartsAnew, AllGivenAbove, NeverMix, FitAnew, moved_by, AreTrueAnew, GoOn, NoneRestarts}
+use Rattle.codec_payload_jitter.specs.Numbers.{numbering_with, greater, is_restarting, follows_suspect, StartsAnew, AllGivenAbove, NeverMix, FitAnew, moved_by, AreTrueAnew, GoOn, NoneRestarts}
 
 -- a true number at or above the greatest
 ahead_is : (x g t q : ℕ) → x + 65536 * q ≡ g + 65536 → g ≤ t → t < g + 65536 → ahead x (t % 65536) ≡ t - g
@@ -91,12 +91,12 @@ anew_as x v is = by_test (nat_lt x (2 ^ 64)) is
     by_test true same = cc
     by_test false same = cc
 
-anew_is : (s : Numbering) (g n : ℕ) → StartsAnew s g n → answer_for s n ≡ extended.Restarted (anew g n)
+anew_is : (s : Numbering) (g n : ℕ) → StartsAnew s g n → answer_for s n ≡ extended.Restarted (is_restarting g n)
 anew_is s g n starts =
-    rw (starts.greatest, le-ltb (ahead g n) s.forward starts.ahead, lt-leb (behind g n) s.backward starts.behind, starts.follows, lt-ltb (anew g n) (2 ^ 64) starts.fits) refl
+    rw (starts.greatest, le-ltb (ahead g n) s.forward starts.ahead, lt-leb (behind g n) s.backward starts.behind, starts.follows, lt-ltb (is_restarting g n) (2 ^ 64) starts.fits) refl
 
 -- far above all before it
-anew_above : (g n k : ℕ) → k ≤ ahead g n → n < 65536 → g + k ≤ anew g n
+anew_above : (g n k : ℕ) → k ≤ ahead g n → n < 65536 → g + k ≤ is_restarting g n
 anew_above g n k far low = omega arith
 
 -- what is given is above what lies the window below the greatest
@@ -109,8 +109,8 @@ given_by s h n v g false true f is_near is_back is_next below some order is =
     let back : behind h n ≤ s.backward = leb-true (behind h n) s.backward is_back in
     omega (arith, same, back, below, some, order)
 given_by s h n v g false false true is_near is_back is_next below some order is =
-    let v_is : anew h n ≡ v = anew_as (anew h n) v (rw (is_near, is_back, is_next) at is) in
-    let up : h ≤ anew h n = omega arith in
+    let v_is : is_restarting h n ≡ v = anew_as (is_restarting h n) v (rw (is_near, is_back, is_next) at is) in
+    let up : h ≤ is_restarting h n = omega arith in
     omega (arith, v_is, up, below, some)
 given_by s h n v g false false false is_near is_back is_next below some order is = let no_number = rw (is_near, is_back, is_next) at is in cc
 
@@ -138,11 +138,11 @@ all_above (n ∷ ns) s h g greatest below some order = by_answer (λ t k. all_ab
 
 pub never_mix : NeverMix
 never_mix s g n ns kept starts =
-    let far : g + s.forward ≤ anew g n = anew_above g n s.forward starts.ahead starts.low in
+    let far : g + s.forward ≤ is_restarting g n = anew_above g n s.forward starts.ahead starts.low in
     rw (anew_is s g n starts) (
       omega (arith, far, kept.some),
-      all_above ns (record s { greatest = Some (greater s.greatest (anew g n)); suspect = None }) (max g (anew g n)) g
-          (ap (λ (o : Option ℕ). Some (greater o (anew g n))) starts.greatest) (omega (arith, far)) kept.some kept.order,
+      all_above ns (record s { greatest = Some (greater s.greatest (is_restarting g n)); suspect = None }) (max g (is_restarting g n)) g
+          (ap (λ (o : Option ℕ). Some (greater o (is_restarting g n))) starts.greatest) (omega (arith, far)) kept.some kept.order,
     )
 
 -- The same with any constant
@@ -185,7 +185,7 @@ numbers_by (t ∷ ts) s x g up first greatest apart order same is from high fits
 pub are_true_anew : AreTrueAnew
 are_true_anew s g first ts kept starts fits near =
     let n = first % 65536 in
-    let up : ℕ = anew g n in
+    let up : ℕ = is_restarting g n in
     let far : g ≤ up = let f = anew_above g n s.forward starts.ahead starts.low in omega (arith, f) in
     let top : max g up ≡ up = omega (arith, far) in
     let same : up % 65536 ≡ first % 65536 = omega arith in

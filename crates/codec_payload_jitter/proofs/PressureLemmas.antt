@@ -13,7 +13,7 @@ use Rattle.codec_payload_buffer.specs.declared.buffer.frames.CompleteFrame.{Comp
 use Rattle.codec_payload_buffer.proofs.BlankLemmas.{leaves_few, takes_away}
 use Rattle.codec_payload_jitter.specs.Pressure.{Event, Packet, Retransmitted, Recovered, WithoutMedia, Comes, ComeAll, Drains, Burst, DoesBursts, SparesCompleteFrames}
 use Rattle.codec_payload_jitter.specs.Receiving.{Receiving, Arrival, Accepts, Confirms, GoesInAgain, GoesOn, NotesAs, Notes, PopsWith, Receives, ReceivesAgain, ReceivesAgainAs, ReceivesAs, Recovers, RecoversAs, RecoversIf, Restarts, TakesIn}
-use Rattle.codec_payload_jitter.specs.Receiving.{answer_in, counted, counted_again, counted_in_again, counted_pop, counted_recovered, goes_in, has_little_room, is_pressed, may_recover, next, number_again, numbered, outcome_at, restarted, settled, units_in, waiting_at}
+use Rattle.codec_payload_jitter.specs.Receiving.{answer_in, counted, counted_again, counted_in_again, counted_pop, counted_recovered, is_stored, has_little_room, is_pressed, may_recover, next, number_again, numbered, outcome_at, restarted, settled, units_in, waiting_at}
 use Rattle.codec_payload_jitter.specs.NoMediaNumbers.{noted_no_media}
 use Rattle.codec_payload_jitter.specs.Runs.{Answer}
 use Rattle.codec_payload_jitter.specs.declared.numbers.Extended.{Extended}
@@ -190,7 +190,7 @@ receives_as extended.Spent a r o t got =
     (moved 0 r (record r { counters = counted r.counters outcomes.Suspect }) t got.1 (as_it_is r _ refl refl (omega arith) refl))
 
 in_again : (c : PacketCounters) (o : Outcome) → (counted_in_again c o).evicted ≡ c.evicted
-in_again c o = by_test (goes_in o)
+in_again c o = by_test (is_stored o)
   where
     by_test : (b : Bool) → (cond b (record c { retransmitted = next c.retransmitted }) c).evicted ≡ c.evicted
     by_test true = refl

@@ -68,7 +68,7 @@ unless_restart extended.Suspect on = refl
 unless_restart extended.Spent on = refl
 
 -- where no restart is told, by the numbering or by the caller, the answer is that of the numbering
-answer_is : (r : Receiving) (low : ℕ) → r.anew ≡ false → is_restart (answer_for r.numbering low) ≡ false → answer_in r low ≡ answer_for r.numbering low
+answer_is : (r : Receiving) (low : ℕ) → r.is_restarting ≡ false → is_restart (answer_for r.numbering low) ≡ false → answer_in r low ≡ answer_for r.numbering low
 answer_is r low running on = rw running (by_ended r.ended)
   where
     by_ended : (b : Bool) → cond b (without_restart (answer_for r.numbering low)) (answer_for r.numbering low) ≡ answer_for r.numbering low
@@ -79,9 +79,9 @@ answer_is r low running on = rw running (by_ended r.ended)
 pub record OneOf (a : Arrival) (r t : Receiving) : Type 0 where
   pub one : IsOne (number_for r.numbering a.header.sequence_number) a r t
   pub numbering : t.numbering ≡ numbering_after r.numbering a.header.sequence_number
-  pub running : t.anew ≡ false
+  pub running : t.is_restarting ≡ false
 
-one_of : (a : Arrival) (r t : Receiving) (outcome : Outcome) → r.anew ≡ false → is_restart (answer_for r.numbering a.header.sequence_number) ≡ false
+one_of : (a : Arrival) (r t : Receiving) (outcome : Outcome) → r.is_restarting ≡ false → is_restart (answer_for r.numbering a.header.sequence_number) ≡ false
     → Receives a r outcome t → OneOf a r t
 one_of a r t outcome running on receives =
     let low = a.header.sequence_number in
@@ -97,7 +97,7 @@ one_of a r t outcome running on receives =
         no_media_numbers = ap (λ (x : Receiving). x.no_media_numbers) receives.2 ∙ one.no_media_numbers;
       };
       numbering = ap (λ (x : Receiving). x.numbering) receives.2 ∙ ap (λ (e : Extended). numbering_with r.numbering e low) is;
-      running = ap (λ (x : Receiving). x.anew) receives.2;
+      running = ap (λ (x : Receiving). x.is_restarting) receives.2;
     }
 
 one_more : (a : Arrival) (arrivals : List Arrival) (rate : ℕ) (s m t : State) (number : Option ℕ) (numbers : List (Option ℕ)) (ps : List Held)
@@ -138,12 +138,12 @@ pub record Stay (lows : List ℕ) (r t : Receiving) : Type 0 where
   pub no_media_numbers : t.no_media_numbers ≡ r.no_media_numbers
   pub rate : t.rate ≡ r.rate
   pub numbering : t.numbering ≡ numbering_past r.numbering lows
-  pub running : t.anew ≡ false
+  pub running : t.is_restarting ≡ false
 
-stay : (arrivals : List Arrival) (r t : Receiving) (outcomes : List Outcome) → r.anew ≡ false → GoOn r.numbering (low_numbers arrivals)
+stay : (arrivals : List Arrival) (r t : Receiving) (outcomes : List Outcome) → r.is_restarting ≡ false → GoOn r.numbering (low_numbers arrivals)
     → ReceivesAll arrivals r outcomes t → Stay (low_numbers arrivals) r t
 stay [] r t outcomes running on all = record {
-  running = ap (λ (x : Receiving). x.anew) all.1 ∙ running;
+  running = ap (λ (x : Receiving). x.is_restarting) all.1 ∙ running;
   no_media_numbers = ap (λ (x : Receiving). x.no_media_numbers) all.1;
   rate = ap (λ (x : Receiving). x.rate) all.1;
   numbering = ap (λ (x : Receiving). x.numbering) all.1;
@@ -169,7 +169,7 @@ pub record IsTurn (wait : Option ℕ) (r : Receiving) (answer : Answer) (t : Rec
   pub no_media_numbers : t.no_media_numbers ≡ r.no_media_numbers
   pub rate : t.rate ≡ r.rate
   pub numbering : t.numbering ≡ r.numbering
-  pub anew : t.anew ≡ r.anew
+  pub is_restarting : t.is_restarting ≡ r.is_restarting
 
 turn_of : (wait : Option ℕ) (r : Receiving) (answer : Answer) (t : Receiving) → PopsWith wait r answer t → IsTurn wait r answer t
 turn_of None r answer t pops = record {
@@ -177,14 +177,14 @@ turn_of None r answer t pops = record {
   no_media_numbers = ap (λ (x : Receiving). x.no_media_numbers) pops.1;
   rate = ap (λ (x : Receiving). x.rate) pops.1;
   numbering = ap (λ (x : Receiving). x.numbering) pops.1;
-  anew = ap (λ (x : Receiving). x.anew) pops.1;
+  is_restarting = ap (λ (x : Receiving). x.is_restarting) pops.1;
 }
 turn_of (Some h) r answer t pops = record {
   turn = subst (λ (s : State). Pops (record r.buffer { hold_back = h }) answer s) (sym (ap (λ (x : Receiving). x.buffer) pops.2)) pops.1;
   no_media_numbers = ap (λ (x : Receiving). x.no_media_numbers) pops.2;
   rate = ap (λ (x : Receiving). x.rate) pops.2;
   numbering = ap (λ (x : Receiving). x.numbering) pops.2;
-  anew = ap (λ (x : Receiving). x.anew) pops.2;
+  is_restarting = ap (λ (x : Receiving). x.is_restarting) pops.2;
 }
 
 pub are_chains : AreChains
@@ -200,7 +200,7 @@ are_chains (round ∷ rounds) r t answers running none on does =
     let turn : IsTurn wait mid does.2 after = turn_of wait mid does.2 after (subst (λ (x : Receiving). PopsWith wait x does.2 after) (settled_none mid none_noted) does.7) in
     let rate : after.rate ≡ r.rate = turn.rate ∙ stays.rate in
     let numbering : after.numbering ≡ numbering_past r.numbering lows = turn.numbering ∙ stays.numbering in
-    let rest = are_chains rounds after t does.4 (turn.anew ∙ stays.running) (turn.no_media_numbers ∙ none_noted) (subst (λ (n : Numbering). GoOnByRound n rounds) (sym numbering) on.1) does.8 in (
+    let rest = are_chains rounds after t does.4 (turn.is_restarting ∙ stays.running) (turn.no_media_numbers ∙ none_noted) (subst (λ (n : Numbering). GoOnByRound n rounds) (sym numbering) on.1) does.8 in (
       stretch.0,
       wait,
       does.2,

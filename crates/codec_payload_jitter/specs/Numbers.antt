@@ -52,8 +52,8 @@ abbrev pub fitting : (ℕ → Extended) → ℕ → Extended
 fitting kind x = if nat_lt x (2 ^ 64) then kind x else extended.Spent
 
 -- where the sender has restarted: above all numbers so far, at the next multiple of 65536
-abbrev pub anew : ℕ → ℕ → ℕ
-anew g n = (g / 65536 + 1) * 65536 + n
+abbrev pub is_restarting : ℕ → ℕ → ℕ
+is_restarting g n = (g / 65536 + 1) * 65536 + n
 
 -- what a packet gets, where g is the greatest number so far: the nearest with these low bits, where that is within the
 -- windows; else it is suspect, unless it comes right after one that is
@@ -61,7 +61,7 @@ abbrev pub answer_near : Numbering → ℕ → ℕ → Extended
 answer_near s g n =
     if nat_lt (ahead g n) s.forward then fitting extended.Number (g + ahead g n)
     else (if nat_le (behind g n) s.backward then extended.Number (g - behind g n)
-    else (if follows_suspect s.suspect n then fitting extended.Restarted (anew g n) else extended.Suspect))
+    else (if follows_suspect s.suspect n then fitting extended.Restarted (is_restarting g n) else extended.Suspect))
 
 abbrev pub answer_by : Numbering → Option ℕ → ℕ → Extended
 answer_by s None n = extended.Number (65536 + n)
@@ -74,7 +74,7 @@ answer_for s n = answer_by s s.greatest n
 -- what the first packet of a sender that is known to have restarted gets: above all numbers so far
 abbrev pub answer_above : Option ℕ → ℕ → Extended
 answer_above None n = extended.Number (65536 + n)
-answer_above (Some g) n = fitting extended.Restarted (anew g n)
+answer_above (Some g) n = fitting extended.Restarted (is_restarting g n)
 
 abbrev pub answer_anew : Numbering → ℕ → Extended
 answer_anew s n = answer_above s.greatest n
@@ -178,8 +178,8 @@ pub before-first : numbers_for (no_numbers 3000 1000) (0 ∷ 65535 ∷ 1 ∷ [])
 before-first = refl
 
 -- the sender restarts
-pub starts-anew : numbers_for (no_numbers 3000 1000) (50000 ∷ 30000 ∷ 30001 ∷ 30002 ∷ []) ≡ Some 115536 ∷ None ∷ Some 161073 ∷ Some 161074 ∷ []
-starts-anew = refl
+pub starts-is_restarting : numbers_for (no_numbers 3000 1000) (50000 ∷ 30000 ∷ 30001 ∷ 30002 ∷ []) ≡ Some 115536 ∷ None ∷ Some 161073 ∷ Some 161074 ∷ []
+starts-is_restarting = refl
 
 -- a packet from elsewhere
 pub from-elsewhere : numbers_for (no_numbers 3000 1000) (50000 ∷ 30000 ∷ 50001 ∷ 30001 ∷ []) ≡ Some 115536 ∷ None ∷ Some 115537 ∷ None ∷ []
@@ -208,7 +208,7 @@ pub record StartsAnew (s : Numbering) (g n : ℕ) : Type 0 where
   pub behind : s.backward < behind g n
   pub follows : follows_suspect s.suspect n ≡ true
   pub low : n < 65536
-  pub fits : anew g n < 2 ^ 64
+  pub fits : is_restarting g n < 2 ^ 64
 
 -- where the sender has restarted, each number that is given from then on is above each that was given before
 abbrev pub NeverMix : Type 0
@@ -225,5 +225,5 @@ moved_by up first t = Some (t + up - first)
 
 abbrev pub AreTrueAnew : Type 0
 AreTrueAnew =
-    (s : Numbering) (g first : ℕ) (ts : List ℕ) → IsNumbering s → StartsAnew s g (first % 65536) → FitAnew (anew g (first % 65536)) first (first ∷ ts) → StayNear s.forward s.backward first ts
-    → numbers_for s (map low_bits (first ∷ ts)) ≡ map (moved_by (anew g (first % 65536)) first) (first ∷ ts)
+    (s : Numbering) (g first : ℕ) (ts : List ℕ) → IsNumbering s → StartsAnew s g (first % 65536) → FitAnew (is_restarting g (first % 65536)) first (first ∷ ts) → StayNear s.forward s.backward first ts
+    → numbers_for s (map low_bits (first ∷ ts)) ≡ map (moved_by (is_restarting g (first % 65536)) first) (first ∷ ts)

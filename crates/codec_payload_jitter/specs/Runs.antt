@@ -31,7 +31,7 @@ ArriveAs depacketizer rate (a ∷ arrivals) (Some n ∷ numbers) ps =
 -- pushes into a jitter buffer that was told of no restart, of a sender that does not restart, are pushes into its buffer, under the numbers of the numbering
 abbrev pub AreStretches : Type 0
 AreStretches =
-    (arrivals : List Arrival) (r t : Receiving) (outcomes : List Outcome) → r.anew ≡ false → GoOn r.numbering (low_numbers arrivals)
+    (arrivals : List Arrival) (r t : Receiving) (outcomes : List Outcome) → r.is_restarting ≡ false → GoOn r.numbering (low_numbers arrivals)
     → ReceivesAll arrivals r outcomes t
     → (ps : List Held) × ArriveAs r.buffer.depacketizer r.rate arrivals (numbers_for r.numbering (low_numbers arrivals)) ps × (t.buffer ≡ after_pushes r.buffer ps)
 
@@ -39,7 +39,7 @@ AreStretches =
 abbrev pub AreTrueStretches : Type 0
 AreTrueStretches =
     (forward backward first : ℕ) (ts : List ℕ) (arrivals : List Arrival) (r t : Receiving) (outcomes : List Outcome)
-    → r.anew ≡ false → IsNumbering (no_numbers forward backward) → r.numbering ≡ no_numbers forward backward → first + 65536 < 2 ^ 64 → StayNear forward backward first ts
+    → r.is_restarting ≡ false → IsNumbering (no_numbers forward backward) → r.numbering ≡ no_numbers forward backward → first + 65536 < 2 ^ 64 → StayNear forward backward first ts
     → low_numbers arrivals ≡ map low_bits (first ∷ ts) → ReceivesAll arrivals r outcomes t
     → (ps : List Held) × ArriveAs r.buffer.depacketizer r.rate arrivals (map (moved first) (first ∷ ts)) ps × (t.buffer ≡ after_pushes r.buffer ps)
 
@@ -92,5 +92,5 @@ IsChain rate (round ∷ rounds) (numbers ∷ more) s answers t =
 -- the rounds of a jitter buffer, of a sender that does not restart and without numbers that carry no media, are turns of its buffer, each pop with a `hold_back` of its own
 abbrev pub AreChains : Type 0
 AreChains =
-    (rounds : List Round) (r t : Receiving) (answers : List Answer) → r.anew ≡ false → r.no_media_numbers ≡ [] → GoOnByRound r.numbering rounds → DoesRounds rounds r answers t
+    (rounds : List Round) (r t : Receiving) (answers : List Answer) → r.is_restarting ≡ false → r.no_media_numbers ≡ [] → GoOnByRound r.numbering rounds → DoesRounds rounds r answers t
     → IsChain r.rate rounds (numbers_by_round r.numbering rounds) r.buffer answers t.buffer

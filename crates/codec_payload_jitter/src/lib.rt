@@ -3,9 +3,9 @@
 #![tactic(auto)]
 
 pub mod jitter;
-mod laws;
 pub mod missing;
 pub mod no_media_numbers;
 pub mod numbers;
 pub mod outcome;
+mod theorems;
 pub mod waiting;

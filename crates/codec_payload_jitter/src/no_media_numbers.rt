@@ -6,7 +6,7 @@ ghost use Rattle.codec_payload_buffer.specs.Blanks.{is_right_after};
 ghost use Rattle.codec_payload_buffer.specs.Steps.{is_at_most};
 ghost use Rattle.codec_payload_jitter.specs.NoMediaNumbers.{below, no_media_in, kept_few, noted_no_media, is_done, passed_no_media, no_media_left, is_in};
 
-pub use crate::laws::passes_no_media_alone;
+pub use crate::theorems::passes_no_media_alone;
 use codec_payload_base::wire::SeqNo;
 use codec_payload_buffer::buffer::DepacketizingBuffer;
 use codec_payload_codec::codec::Depacketizer;
@@ -86,7 +86,7 @@ pub(crate) fn pass_no_media_numbers<B: Depacketizer>(
         if !is_done(buffer, number) {
             return;
         }
-        buffer.pass_number(number);
+        buffer.skip_number(number);
         no_media_numbers.remove(0);
     }
 }

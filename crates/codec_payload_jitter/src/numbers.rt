@@ -4,7 +4,7 @@ ghost use Rattle.std.specs.Prelude.{◌≡◌, ◌≤◌, ◌<◌, ◌+◌, ◌%
 ghost use Rattle.codec_payload_jitter.specs.Numbers.{no_numbers, numbering_within, number_in, answer_for, answer_anew, without_restart, number_within, lowest_with, numbering_with, numbering_after, ahead, behind, follows_suspect};
 ghost use Rattle.codec_payload_jitter.specs.declared.numbers.Extended.TheVariants as extended;
 
-pub use crate::laws::numbers_are_true;
+pub use crate::theorems::numbers_are_true;
 use std::marker::Model;
 use thiserror::Error;
 
@@ -129,7 +129,7 @@ impl SequenceNumbers {
 
     /// The number of a packet that is known to be the first since the sender has restarted, whatever low bits it carries: it is
     /// above all others.
-    pub fn number_anew(&mut self, low: u16) -> Extended
+    pub fn restart_number(&mut self, low: u16) -> Extended
         ensures value { result ≡ answer_anew self.old low }
         ensures after { self.new ≡ numbering_with self.old result low }
         ensures low { IfSome (number_in result) (λ x. x % 65536 ≡ low) }

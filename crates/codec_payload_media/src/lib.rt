@@ -6,5 +6,5 @@ pub use codec_payload_vpx::{error, vp8, vp9};
 pub mod amr_wb;
 pub mod av1;
 pub mod frame_info;
-pub mod laws;
 pub mod opus;
+pub mod theorems;

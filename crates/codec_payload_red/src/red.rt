@@ -7,13 +7,13 @@
 //! also those that were lost and stand in the payload of a later one.
 
 mod blocks;
-mod laws;
 mod receiver;
 mod sender;
+mod theorems;
 
 pub use blocks::{
     RedBlock, RedDecoder, RedEncoder, RedundantBlock, SamePtBlocks, red_same_pt_blocks,
 };
-pub use laws::recovered_were_sent;
 pub use receiver::{Recovered, RedReceiver};
 pub use sender::{MAX_RED_RECOVERY_DEPTH, RedSender, constants_of_red};
+pub use theorems::recovered_were_sent;

@@ -9,7 +9,7 @@ ghost use Rattle.codec_payload_rtp.specs.ExtensionRows.{in_use, row_of};
 ghost use Rattle.codec_payload_rtp.specs.declared.elements.ElementForm.TheVariants.{TwoByte};
 
 use crate::elements::{Element, write_elements};
-pub use crate::laws::values_come_back;
+pub use crate::theorems::values_come_back;
 use crate::values::{ExtensionIds, audio_level_byte, video_timing_bytes};
 use codec_payload_base::wire::{AbsCaptureTime, ExtensionValues, VideoTiming};
 use std::alloc::AllocError;

@@ -19,7 +19,7 @@ use Rattle.codec_payload_av1.specs.Av1Payload.{Payload, aggregation_header, body
 use Rattle.codec_payload_av1.specs.Av1Receiving.{all_received, received}
 use Rattle.codec_payload_av1.specs.Av1Steps.{AnswersAv1, Av1Step, IsRefusedPayload, IsSentFrame, keeps_nothing, refusal_of_kept}
 use Rattle.codec_payload_codec.proofs.CaseLemmas.{by_test}
-use Rattle.codec_payload_runs.proofs.TellLemmas.{quiet_tells}
+use Rattle.codec_payload_runs.proofs.ReportLemmas.{quiet_tells}
 use Rattle.codec_payload_runs.proofs.SendsUnits.{SendsUnits, no_units}
 use Rattle.codec_payload_codec.specs.Depacketizers.{DepacketizerState, Av1Depacketizing, Av1Payloads, kind_of_depacketizer}
 use Rattle.codec_payload_buffer.specs.Held.{Held}

@@ -13,12 +13,12 @@ use Rattle.codec_payload_codec.specs.Depacketizers.{DepacketizerKind, head_in, t
 use Rattle.codec_payload_codec.specs.Packetizers.{PacketizerState}
 use Rattle.codec_payload_runs.proofs.PieceUnits.{IsPiece, CarryPieces, TellAll, lawful_pieces, whole}
 use Rattle.codec_payload_runs.proofs.SendsUnits.{SendsUnits, no_units}
-use Rattle.codec_payload_runs.proofs.TellLemmas.{IsSilent, AllSilent, IsTold, AllTold, NoHeads}
+use Rattle.codec_payload_runs.proofs.ReportLemmas.{IsSilent, AllSilent, IsTold, AllTold, NoHeads}
 use Rattle.codec_payload_send.specs.Packets.{Packet}
 use Rattle.codec_payload_send.specs.Sending.{Sample, packet_for, packets_for, packets_from}
 use Rattle.codec_payload_runs.specs.LawfulUnits.{payloads_sent}
 use Rattle.codec_payload_runs.specs.SentStream.{EndsWithTail}
-use Rattle.codec_payload_runs.specs.ToldIds.{id_later, next_id}
+use Rattle.codec_payload_runs.specs.ReportedIds.{id_later, next_id}
 use Rattle.codec_payload_runs.specs.Units.{is_skipped, refusal_of, units_sent, each_whole, packetizer_after, payloads_by, may_split}
 
 -- no piece is empty

@@ -26,7 +26,7 @@ use Rattle.codec_payload_codec.specs.Packetizers.{PacketizerState, Vp9Packetizin
 use Rattle.codec_payload_send.specs.Packets.{Packet, AreNumbered}
 use Rattle.codec_payload_base.specs.declared.interface.Vp9PacketizerMode.{Vp9PacketizerMode}
 use Rattle.codec_payload_base.specs.declared.interface.Vp9PacketizerMode.TheVariants.{Flexible, NonFlexible}
-use Rattle.codec_payload_runs.specs.ToldIds.{ReadId, Tells, id_in, id_later, next_id, read_by}
+use Rattle.codec_payload_runs.specs.ReportedIds.{ReadId, Tells, id_in, id_later, next_id, read_by}
 use Rattle.codec_payload_buffer.specs.Release.{Release}
 use Rattle.codec_payload_runs.specs.Schedule.{Answer}
 use Rattle.codec_payload_runs.specs.LawfulUnits.{payloads_held, payloads_sent, AllLawful}

@@ -5,7 +5,7 @@ use Rattle.codec_payload_base.specs.declared.interface.CodecExtra.{CodecExtra}
 use Rattle.codec_payload_base.specs.declared.interface.CodecExtra.TheVariants as extras
 use Rattle.codec_payload_base.specs.declared.interface.Vp9CodecExtra.{Vp9CodecExtra}
 use Rattle.codec_payload_buffer.specs.ContiguityTable.{both_ids, checked, kept_by, no_ids, verdict, verdict_with, verdict_after}
-use Rattle.codec_payload_runs.specs.ToldIds.{ReadId, ahead, IsNextId, is_absent, lacks_base, TellsPicture, Tells, id_later}
+use Rattle.codec_payload_runs.specs.ReportedIds.{ReadId, ahead, IsNextId, is_absent, lacks_base, TellsPicture, Tells, id_later}
 use Rattle.codec_payload_buffer.specs.declared.contiguity.FrameContiguityState.{FrameContiguityState}
 use Rattle.codec_payload_buffer.specs.declared.contiguity.Contiguity.{Contiguity}
 use Rattle.codec_payload_buffer.specs.declared.contiguity.Contiguity.TheVariants as kept

@@ -34,7 +34,7 @@ pub mod SendsUnits
 pub mod StreamLemmas
 pub mod StreamStart
 pub mod TakenLemmas
-pub mod TellLemmas
+pub mod ReportLemmas
 pub mod TurnLemmas
 pub mod UnitIds
 pub mod UnitRows

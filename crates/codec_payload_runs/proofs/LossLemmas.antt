@@ -18,7 +18,7 @@ use Rattle.codec_payload_buffer.specs.Held.{Held, has_number, Rises, above}
 use Rattle.codec_payload_runs.specs.Log.{Stretch, Turn}
 use Rattle.codec_payload_buffer.specs.Release.{Release}
 use Rattle.codec_payload_runs.specs.RunOrder.{numbers_in, evicted_in}
-use Rattle.codec_payload_runs.specs.RunUnits.{IsNumberIn, IsHeldWhole, IsWholeAt, ReleasesWhole, IsAmong, Fate, released, passed_over, held, evicted, NoneIsLost}
+use Rattle.codec_payload_runs.specs.RunUnits.{IsNumberIn, IsHeldWhole, IsWholeAt, ReleasesWhole, IsAmong, Fate, released, skipped_over, held, evicted, NoneIsLost}
 use Rattle.codec_payload_buffer.specs.Scan.{first_of}
 use Rattle.codec_payload_runs.specs.Schedule.{Answer}
 use Rattle.codec_payload_runs.specs.SentStream.{SentUnit}
@@ -174,13 +174,13 @@ module _ (c : Setting) where
 
   more : (place : ℕ) (turn : Turn) (turns : List Turn) (end : Stretch) → FateIn place turns turns end → FateIn place (turn ∷ turns) turns end
   more place turn turns end (released is) = released (inr is)
-  more place turn turns end (passed_over is) = passed_over (inr is)
+  more place turn turns end (skipped_over is) = skipped_over (inr is)
   more place turn turns end (held is) = held is
   more place turn turns end (evicted is) = evicted is
 
   later_too : (place : ℕ) (turn : Turn) (turns : List Turn) (end : Stretch) → FateIn place (turn ∷ turns) turns end → FateIn place (turn ∷ turns) (turn ∷ turns) end
   later_too place turn turns end (released is) = released is
-  later_too place turn turns end (passed_over is) = passed_over is
+  later_too place turn turns end (skipped_over is) = skipped_over is
   later_too place turn turns end (held is) = held is
   later_too place turn turns end (evicted is) = evicted (is.0, is.1, inr is.2)
 
@@ -200,7 +200,7 @@ module _ (c : Setting) where
         | inl still ↦ later_too place turn turns end (elim (at_pop from turn.stretch.now turn.after turn.passed turn.answer place u now.beyond chain.2 at still) [
           | inl done ↦ released (inl done)
           | inr left_over ↦ elim left_over [
-            | inl over ↦ passed_over (inl over)
+            | inl over ↦ skipped_over (inl over)
             | inr after ↦ more place turn turns end (fate next.0 turn.after turns end place u next.1 chain.3 at after)
           ]
         ])
@@ -215,7 +215,7 @@ module _ (c : Setting) where
         λ place u at whole. elim (at_pop from turn.stretch.now turn.after turn.passed turn.answer place u now.beyond chain.2 at whole) [
           | inl done ↦ released (inl done)
           | inr left_over ↦ elim left_over [
-            | inl over ↦ passed_over (inl over)
+            | inl over ↦ skipped_over (inl over)
             | inr after ↦ more place turn turns end (fate next.0 turn.after turns end place u next.1 chain.3 at after)
           ]
         ],

@@ -12,7 +12,7 @@ use Rattle.codec_payload_base.specs.TelephoneReport.{TakesFirst, are_reports}
 use Rattle.codec_payload_base.specs.declared.error.PacketError.{PacketError}
 use Rattle.codec_payload_base.specs.declared.error.PacketError.TheVariants as faults
 use Rattle.codec_payload_base.specs.declared.interface.CodecExtra.{CodecExtra}
-use Rattle.codec_payload_runs.proofs.TellLemmas.{is_quiet, quiet_tells}
+use Rattle.codec_payload_runs.proofs.ReportLemmas.{is_quiet, quiet_tells}
 use Rattle.codec_payload_codec.specs.Depacketizers.{DepacketizerState, DepacketizerKind, ComfortNoiseDepacketizing, TeleDepacketizing, AmrWbDepacketizing, ComfortNoisePayloads}
 use Rattle.codec_payload_codec.specs.Depacketizers.{TelePayloads, AmrWbPayloads, kind_of_depacketizer, DepacketizerStep, head_in, tail_in}
 use Rattle.codec_payload_buffer.specs.Held.{Held}

@@ -7,14 +7,14 @@ use Rattle.codec_payload_base.specs.declared.error.PacketError.{PacketError}
 use Rattle.codec_payload_base.specs.declared.error.PacketError.TheVariants as faults
 use Rattle.codec_payload_base.specs.declared.interface.CodecExtra.{CodecExtra}
 use Rattle.codec_payload_base.specs.declared.interface.CodecExtra.TheVariants as extras
-use Rattle.codec_payload_runs.proofs.TellLemmas.{AllSilent, AllTold, NoHeads, none_later, silent_unpacks, told_unit}
+use Rattle.codec_payload_runs.proofs.ReportLemmas.{AllSilent, AllTold, NoHeads, none_later, silent_unpacks, told_unit}
 use Rattle.codec_payload_codec.specs.Depacketizers.{DepacketizerState, DepacketizerKind, kind_of_depacketizer, DepacketizerStep, head_in}
 use Rattle.codec_payload_buffer.specs.Held.{Held}
 use Rattle.codec_payload_send.specs.Packets.{Packet}
 use Rattle.codec_payload_runs.specs.LawfulUnits.{StartsWithHead, payloads_held, payloads_sent, IsLawful}
 use Rattle.codec_payload_runs.specs.SentStream.{SentUnit, EndsWithTail, IsReleaseOf}
 use Rattle.codec_payload_buffer.specs.Steps.{Unpacked, Unpacks, nothing_unpacked}
-use Rattle.codec_payload_runs.specs.ToldIds.{Tells, read_by}
+use Rattle.codec_payload_runs.specs.ReportedIds.{Tells, read_by}
 
 -- `Keeps` says what holds of the bytes and the extra between the packets of a unit
 module _ (kind : DepacketizerKind) (Keeps : List ℕ → CodecExtra → Type 0) where

@@ -43,7 +43,7 @@ use Rattle.codec_payload_runs.specs.RunUnits.{NoneIsLost, NonePassedOver, FirstI
 use Rattle.codec_payload_runs.specs.RunValues.{is_video}
 use Rattle.codec_payload_runs.specs.Schedule.{RunState}
 use Rattle.codec_payload_runs.specs.SentStream.{SentUnit, packets_of}
-use Rattle.codec_payload_runs.specs.ToldIds.{next_id}
+use Rattle.codec_payload_runs.specs.ReportedIds.{next_id}
 use Rattle.codec_payload_runs.specs.Units.{payloads_by, may_split}
 use Rattle.codec_payload_runs.specs.declared.run.Step.TheVariants as steps
 use Rattle.codec_payload_red.proofs.RedRunLemmas.{recovers_sent, output_reads, same_distances}
@@ -376,6 +376,6 @@ red_promises r run = record {
   order = λ is log. order_free r run is log;
   contiguous = λ is log. contiguous_as_said r run is log;
   no_silent_loss = λ is log. loses_none_silently r run is log;
-  none_passed_over = λ is log. passes_none_over r run is log;
+  none_skipped = λ is log. passes_none_over r run is log;
   beginning = λ is log. begins_as_sent r run is log;
 }

@@ -270,8 +270,8 @@ promises r run =
       order = λ is log. order_free r.samples r.steps r.before r.after r.sends r.pops (exactly is) is.0 is.1 log;
       contiguous = λ is log. contiguous_as_said r.samples r.steps r.before r.after r.sends r.pops (exactly is) is.0 is.1 log;
       no_silent_loss = λ is log. loses_none_silently r.samples r.steps r.before r.after r.sends r.pops (exactly is) is.0 is.1 log;
-      none_passed_over = λ is log. passes_none_over r.samples r.steps r.before r.after r.sends r.pops (exactly is) is.0 is.1 log;
-      passed_over = λ is log. passes_only_past_gap r.samples r.steps r.before r.after r.sends r.pops (exactly is) is.0 is.1 log;
+      none_skipped = λ is log. passes_none_over r.samples r.steps r.before r.after r.sends r.pops (exactly is) is.0 is.1 log;
+      skipped_past_gap = λ is log. passes_only_past_gap r.samples r.steps r.before r.after r.sends r.pops (exactly is) is.0 is.1 log;
       beginning = λ is log. begins_as_sent r.samples r.steps r.before r.after r.sends r.pops (exactly is) is.0 is.1 log;
       extension_values = λ is released. has_values r.samples r.steps r.before r.after r.sends r.pops (exactly is) is.0 is.1 released;
     }

@@ -22,7 +22,7 @@ use Rattle.codec_payload_send.specs.Packets.{Packet, AreNumbered}
 use Rattle.codec_payload_runs.specs.Schedule.{RunState}
 use Rattle.codec_payload_send.specs.Sending.{Sample}
 use Rattle.codec_payload_runs.specs.SentStream.{AreReadable, SentUnit, packets_of}
-use Rattle.codec_payload_runs.specs.ToldIds.{id_later, next_id, read_by}
+use Rattle.codec_payload_runs.specs.ReportedIds.{id_later, next_id, read_by}
 use Rattle.codec_payload_runs.specs.Units.{payloads_by, may_split}
 use Rattle.codec_payload_runs.specs.declared.run.Step.{Step}
 

@@ -2,7 +2,7 @@
 use Rattle.std.proofs.Common.{◌≡◌, ◌∙◌, sym, ap, refl, subst, ℕ, zero, suc, ◌+◌, List, [], ◌∷◌, ◌++◌, length, map, arith, true, Option, Some}
 use Rattle.std.specs.Prelude.{slice_get}
 use Rattle.codec_payload_codec.specs.Packetizers.{PacketizerState}
-use Rattle.codec_payload_runs.specs.ToldIds.{id_later, next_id}
+use Rattle.codec_payload_runs.specs.ReportedIds.{id_later, next_id}
 use Rattle.codec_payload_send.specs.Sending.{Sample, packets_for}
 use Rattle.codec_payload_runs.specs.LawfulUnits.{AllLawful}
 use Rattle.codec_payload_runs.specs.SentStream.{SentUnit, packets_of}

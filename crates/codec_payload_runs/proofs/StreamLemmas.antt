@@ -9,7 +9,7 @@ use Rattle.codec_payload_base.specs.Pieces.{AnswersPieces, ArePieces, pieces_are
 use Rattle.std.specs.Int.{div_ceil}
 use Rattle.codec_payload_runs.proofs.Av1Units.{av1_sends}
 use Rattle.codec_payload_runs.proofs.OnePacketUnits.{IsCarried, OneOrNone, all_sent, amr_wb_units, by_answer, lawful_one, noise_units, none_skipped, one_packet, tele_units}
-use Rattle.codec_payload_runs.proofs.TellLemmas.{is_quiet}
+use Rattle.codec_payload_runs.proofs.ReportLemmas.{is_quiet}
 use Rattle.codec_payload_runs.proofs.SendsUnits.{CarryIds, SendsUnits, carry_on, no_units}
 use Rattle.codec_payload_runs.proofs.Vp8Units.{vp8_sends}
 use Rattle.codec_payload_runs.proofs.Vp9Units.{vp9_sends}
@@ -26,7 +26,7 @@ use Rattle.codec_payload_codec.specs.Depacketizers.{OpusPayloads, NullPayloads, 
 use Rattle.codec_payload_codec.specs.Packetizers.{PacketizerState, G711Packetizing, G722Packetizing, OpusPacketizing, ComfortNoisePacketizing, TelePacketizing, NullPacketizing}
 use Rattle.codec_payload_codec.specs.Packetizers.{Vp8Packetizing, Vp9Packetizing, Av1Packetizing, AmrWbPacketizing, PacketizerStep, BoxedPacketizing, is_built_in}
 use Rattle.codec_payload_send.specs.Packets.{Packet, SentPackets, AreNumbered}
-use Rattle.codec_payload_runs.specs.ToldIds.{next_id}
+use Rattle.codec_payload_runs.specs.ReportedIds.{next_id}
 use Rattle.codec_payload_send.specs.Sending.{Sample, packets_for, packets_from, rtp_time_at}
 use Rattle.codec_payload_runs.proofs.BuiltInRuns.{Pushing, Runs, SendsIt}
 use Rattle.codec_payload_runs.specs.Schedule.{payloads_of, RunState, Answer, packets_sent}

@@ -13,7 +13,7 @@ use Rattle.codec_payload_runs.specs.RunStream.{fresh, RunsStream}
 use Rattle.codec_payload_runs.specs.Schedule.{RunState, run_state}
 use Rattle.codec_payload_send.specs.Sending.{Payloading}
 use Rattle.codec_payload_buffer.specs.Steps.{State, empty_buffer}
-use Rattle.codec_payload_runs.specs.ToldIds.{read_by}
+use Rattle.codec_payload_runs.specs.ReportedIds.{read_by}
 use Rattle.codec_payload_runs.specs.Units.{payloads_by}
 use Rattle.codec_payload_runs.specs.declared.run.Run.{Run}
 use Rattle.codec_payload_runs.specs.declared.run.Step.{Step}
@@ -93,8 +93,8 @@ kept_if r so kept = record {
   order = λ q. kept.order (so q);
   contiguous = λ q. kept.contiguous (so q);
   no_silent_loss = λ q. kept.no_silent_loss (so q);
-  none_passed_over = λ q. kept.none_passed_over (so q);
-  passed_over = λ q. kept.passed_over (so q);
+  none_skipped = λ q. kept.none_skipped (so q);
+  skipped_past_gap = λ q. kept.skipped_past_gap (so q);
   beginning = λ q. kept.beginning (so q);
   extension_values = λ q. kept.extension_values (so q);
 }

@@ -14,7 +14,7 @@ use Rattle.codec_payload_runs.specs.Log.{Stretch, Turn}
 use Rattle.codec_payload_runs.specs.RunUnits.{NonePassedOver}
 use Rattle.codec_payload_runs.specs.Schedule.{Answer}
 use Rattle.codec_payload_buffer.specs.Steps.{State, due_of, follows, Unpacked, Unpacks, nothing_unpacked, Gives, Passes, none, one_more, PassesOver}
-use Rattle.codec_payload_runs.specs.ToldIds.{Tells, id_later, read_by}
+use Rattle.codec_payload_runs.specs.ReportedIds.{Tells, id_later, read_by}
 use Rattle.codec_payload_buffer.specs.declared.buffer.frames.CompleteFrame.{CompleteFrame}
 use Rattle.codec_payload_buffer.specs.declared.contiguity.Contiguity.{Contiguity}
 

@@ -8,7 +8,7 @@ use Rattle.codec_payload_send.specs.Packets.{Packet}
 use Rattle.codec_payload_runs.specs.LawfulUnits.{payloads_held, payloads_sent, StartsWithHead, AllLawful}
 use Rattle.codec_payload_runs.specs.SentStream.{SentUnit}
 use Rattle.codec_payload_buffer.specs.Steps.{Unpacked, Unpacks, nothing_unpacked}
-use Rattle.codec_payload_runs.specs.ToldIds.{Tells, id_later, read_by}
+use Rattle.codec_payload_runs.specs.ReportedIds.{Tells, id_later, read_by}
 
 -- these packets, or the last of them from a head on, tell that id
 abbrev pub TellId : DepacketizerKind → Option ℕ → List Packet → Type 0

@@ -8,9 +8,9 @@ use Rattle.codec_payload_codec.specs.Packetizers.{Vp8Packetizing}
 use Rattle.codec_payload_runs.proofs.DescribedUnits.{all_silent, described_sends}
 use Rattle.codec_payload_runs.proofs.PieceUnits.{IsPiece}
 use Rattle.codec_payload_runs.proofs.SendsUnits.{SendsUnits}
-use Rattle.codec_payload_runs.proofs.TellLemmas.{IsSilent}
+use Rattle.codec_payload_runs.proofs.ReportLemmas.{IsSilent}
 use Rattle.codec_payload_send.specs.Sending.{Sample}
-use Rattle.codec_payload_runs.specs.ToldIds.{lacks_base}
+use Rattle.codec_payload_runs.specs.ReportedIds.{lacks_base}
 use Rattle.codec_payload_vp8.proofs.SentIsTakenLemmas.{first_starts, sent_is_taken, sent_tells}
 use Rattle.codec_payload_vp8.specs.Vp8Sent.{advanced, gives_packets, header, header_size}
 

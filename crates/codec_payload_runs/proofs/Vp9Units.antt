@@ -13,9 +13,9 @@ use Rattle.codec_payload_codec.specs.Packetizers.{Vp9Packetizing}
 use Rattle.codec_payload_runs.proofs.DescribedUnits.{all_silent, all_told, cut, described_sends}
 use Rattle.codec_payload_runs.proofs.PieceUnits.{IsPiece, TellAll}
 use Rattle.codec_payload_runs.proofs.SendsUnits.{SendsUnits}
-use Rattle.codec_payload_runs.proofs.TellLemmas.{IsSilent, IsTold, extension_is_next}
+use Rattle.codec_payload_runs.proofs.ReportLemmas.{IsSilent, IsTold, extension_is_next}
 use Rattle.codec_payload_send.specs.Sending.{Sample}
-use Rattle.codec_payload_runs.specs.ToldIds.{id_in, id_later, is_absent, lacks_base}
+use Rattle.codec_payload_runs.specs.ReportedIds.{id_in, id_later, is_absent, lacks_base}
 use Rattle.codec_payload_vp9.proofs.PictureLemmas.{sent_keeps_base, sent_tells}
 use Rattle.codec_payload_vp9.proofs.SentIsTakenLemmas.{first_starts, sent_is_taken}
 use Rattle.codec_payload_vp9.specs.Vp9Keyframe.{is_key_frame}

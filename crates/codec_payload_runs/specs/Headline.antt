@@ -5,7 +5,7 @@ use Rattle.codec_payload_codec.specs.Depacketizers.{kind_of_depacketizer}
 use Rattle.codec_payload_codec.specs.Packetizers.{is_built_in}
 use Rattle.codec_payload_send.specs.Packets.{Packet}
 use Rattle.codec_payload_runs.specs.RunCounts.{sent_before}
-use Rattle.codec_payload_runs.specs.ToldIds.{read_by}
+use Rattle.codec_payload_runs.specs.ReportedIds.{read_by}
 use Rattle.codec_payload_buffer.specs.Release.{Release}
 use Rattle.codec_payload_runs.specs.Schedule.{Answer, RunState, meta_of_push}
 use Rattle.codec_payload_send.specs.Sending.{Sample}

@@ -7,7 +7,7 @@ use Rattle.codec_payload_buffer.specs.Held.{Held}
 use Rattle.codec_payload_buffer.specs.Steps.{Unpacked, Unpacks, nothing_unpacked}
 use Rattle.codec_payload_send.specs.Packets.{Packet}
 use Rattle.codec_payload_runs.specs.SentStream.{SentUnit, EndsWithTail, IsReleaseOf}
-use Rattle.codec_payload_runs.specs.ToldIds.{Tells, read_by}
+use Rattle.codec_payload_runs.specs.ReportedIds.{Tells, read_by}
 
 -- the first packet begins a unit
 abbrev pub StartsWithHead : DepacketizerKind → List Packet → Type 0

@@ -14,5 +14,5 @@ pub mod RunUnits
 pub mod RunValues
 pub mod Schedule
 pub mod SentStream
-pub mod ToldIds
+pub mod ReportedIds
 pub mod Units

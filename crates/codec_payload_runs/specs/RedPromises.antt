@@ -199,5 +199,5 @@ pub record KeepsRedPromises (r : RedRan) : Type 0 where
   pub order : IsFreeOfOrderInRed r
   pub contiguous : TellsContiguousInRed r
   pub no_silent_loss : LosesNothingSilentlyInRed r
-  pub none_passed_over : PassesNothingOverInRed r
+  pub none_skipped : PassesNothingOverInRed r
   pub beginning : BeginsWithFirstInRed r

@@ -9,7 +9,7 @@ use Rattle.codec_payload_runs.specs.Schedule.{Answer, RunState, Runs}
 use Rattle.codec_payload_send.specs.Sending.{Sample}
 use Rattle.codec_payload_runs.specs.SentStream.{AreReadable}
 use Rattle.codec_payload_buffer.specs.Stretches.{after_pushes, stretch_numbers, left_out, is_some_of, IsLeft}
-use Rattle.codec_payload_runs.specs.ToldIds.{next_id}
+use Rattle.codec_payload_runs.specs.ReportedIds.{next_id}
 use Rattle.codec_payload_buffer.specs.declared.buffer.unit.RtpMeta.{RtpMeta}
 use Rattle.codec_payload_runs.specs.declared.run.Sent.{Sent}
 use Rattle.codec_payload_runs.specs.declared.run.Step.{Step}

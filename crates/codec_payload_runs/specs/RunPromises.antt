@@ -104,8 +104,8 @@ pub record KeepsPromisesIf (premise : Type 0) (r : Ran) : Type 0 where
   pub order : IsFreeOfOrder premise r
   pub contiguous : TellsContiguous premise r
   pub no_silent_loss : LosesNothingSilently premise r
-  pub none_passed_over : PassesNothingOver premise r
-  pub passed_over : PassesOverPastGaps premise r
+  pub none_skipped : PassesNothingOver premise r
+  pub skipped_past_gap : PassesOverPastGaps premise r
   pub beginning : BeginsWithFirst premise r
   pub extension_values : TellsExtensionValues premise r
 

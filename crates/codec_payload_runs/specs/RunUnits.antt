@@ -11,7 +11,7 @@ use Rattle.codec_payload_runs.specs.Schedule.{Answer, RunState}
 use Rattle.codec_payload_send.specs.Sending.{Sample}
 use Rattle.codec_payload_runs.specs.SentStream.{SentUnit, packets_of}
 use Rattle.codec_payload_buffer.specs.Steps.{State}
-use Rattle.codec_payload_runs.specs.ToldIds.{next_id}
+use Rattle.codec_payload_runs.specs.ReportedIds.{next_id}
 use Rattle.codec_payload_runs.specs.Units.{may_split}
 use Rattle.codec_payload_buffer.specs.declared.buffer.frames.CompleteFrame.{CompleteFrame}
 use Rattle.codec_payload_buffer.specs.declared.buffer.unit.RtpMeta.{RtpMeta}
@@ -65,7 +65,7 @@ LosesPacketIn first units place turns end = (n : ℕ) × IsNumberIn first units 
 -- what may become of a unit that is held whole before the first of these pops; `later` has those after the first
 pub data Fate (known : ℕ → Packet → RtpMeta → Type 0) (first : ℕ) (splits : Bool) (units : List SentUnit) (place : ℕ) (turns later : List Turn) (end : Stretch) : Type 0 where
   released : IsReleasedIn known splits units place turns → Fate known first splits units place turns later end
-  passed_over : IsPassedOverIn first units place turns → Fate known first splits units place turns later end
+  skipped_over : IsPassedOverIn first units place turns → Fate known first splits units place turns later end
   held : IsHeldWhole first units place end.now → Fate known first splits units place turns later end
   evicted : LosesPacketIn first units place later end → Fate known first splits units place turns later end
 

@@ -4,7 +4,7 @@ use Rattle.codec_payload_base.specs.declared.wire.Ticks.{Ticks}
 use Rattle.codec_payload_red.specs.RedBlocks.{Block}
 use Rattle.codec_payload_red.specs.RedRecovery.{RecoveredPacket}
 use Rattle.codec_payload_jitter.specs.Receiving.{Receiving, Arrival, Confirms, ReceivesAs, ReceivesAgainAs, RecoversAs, RecoversIf, NotesAs}
-use Rattle.codec_payload_jitter.specs.Receiving.{Accepts, counted, counted_again, counted_in_again, goes_in, may_recover, next, number_again}
+use Rattle.codec_payload_jitter.specs.Receiving.{Accepts, counted, counted_again, counted_in_again, is_stored, may_recover, next, number_again}
 use Rattle.codec_payload_jitter.specs.declared.numbers.Extended.{Extended}
 use Rattle.codec_payload_jitter.specs.declared.numbers.Extended.TheVariants as extended
 use Rattle.codec_payload_jitter.specs.declared.outcome.Outcome.{Outcome}
@@ -81,7 +81,7 @@ notes_as_balance extended.Suspect r t got = ap balance_of got
 notes_as_balance extended.Spent r t got = ap balance_of got
 
 in_again_balance : (c : PacketCounters) (o : Outcome) → balance (counted_in_again c o) ≡ balance c
-in_again_balance c o = by_test (goes_in o)
+in_again_balance c o = by_test (is_stored o)
   where
     by_test : (b : Bool) → balance (cond b (record c { retransmitted = next c.retransmitted }) c) ≡ balance c
     by_test true = refl

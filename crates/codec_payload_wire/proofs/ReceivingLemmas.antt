@@ -37,7 +37,7 @@ pub record IsListening (stream : Stream) (s : Session) : Type 0 where
   pub ssrc : is_other s.ssrc stream.ssrc ≡ false
   pub not_again : is_sent_again_by s.stream.retransmission stream ≡ false
   pub rate : s.packets.rate ≡ stream.clock_rate
-  pub running : s.packets.anew ≡ false
+  pub running : s.packets.is_restarting ≡ false
   pub none_noted : s.packets.no_media_numbers ≡ []
   pub of_codec : is_built_in_depacketizer s.packets.buffer.depacketizer ≡ true
 
@@ -52,7 +52,7 @@ heard now d s t (Err refusals.Red) not_memory told = told
 heard now d s t (Err refusals.Retransmission) not_memory told = told
 
 -- a number within the windows is that of the packet, whether the stream has ended or not
-answer_is : (r : Receiving) (low n : ℕ) → r.anew ≡ false → answer_for r.numbering low ≡ extended.Number n → answer_in r low ≡ extended.Number n
+answer_is : (r : Receiving) (low n : ℕ) → r.is_restarting ≡ false → answer_for r.numbering low ≡ extended.Number n → answer_in r low ≡ extended.Number n
 answer_is r low n running is = rw running (by_ended r.ended)
   where
     by_ended : (b : Bool) → cond b (without_restart (answer_for r.numbering low)) (answer_for r.numbering low) ≡ extended.Number n
@@ -64,11 +64,11 @@ pub record TakesIn (n : ℕ) (a : Arrival) (r t : Receiving) : Type 0 where
   pub buffer : t.buffer ≡ pushed r.buffer (arrived r.buffer.depacketizer (meta_for a.now r.rate a.header n) a.bytes)
   pub numbering : t.numbering ≡ numbering_after r.numbering a.header.sequence_number
   pub rate : t.rate ≡ r.rate
-  pub running : t.anew ≡ false
+  pub running : t.is_restarting ≡ false
   pub no_media_numbers : t.no_media_numbers ≡ r.no_media_numbers
   pub ended : t.ended ≡ r.ended
 
-takes_in : (n : ℕ) (a : Arrival) (r t : Receiving) (outcome : Outcome) → r.anew ≡ false → is_built_in_depacketizer r.buffer.depacketizer ≡ true
+takes_in : (n : ℕ) (a : Arrival) (r t : Receiving) (outcome : Outcome) → r.is_restarting ≡ false → is_built_in_depacketizer r.buffer.depacketizer ≡ true
     → answer_for r.numbering a.header.sequence_number ≡ extended.Number n
     → Receives a r outcome t → TakesIn n a r t
 takes_in n a r t outcome running of_codec numbered receives =
@@ -83,7 +83,7 @@ takes_in n a r t outcome running of_codec numbered receives =
       buffer = ap (λ (x : Receiving). x.buffer) receives.2 ∙ (ap (λ (x : Receiving). x.buffer) trusted ∙ (ap (λ (x : Receiving). x.buffer) accepted ∙ (went.1.1.2 ∙ ap (pushed r.buffer) packet)));
       numbering = ap (λ (x : Receiving). x.numbering) receives.2 ∙ ap (λ (e : Extended). numbering_with r.numbering e low) (is ∙ sym numbered);
       rate = ap (λ (x : Receiving). x.rate) receives.2 ∙ (ap (λ (x : Receiving). x.rate) trusted ∙ ap (λ (x : Receiving). x.rate) accepted);
-      running = ap (λ (x : Receiving). x.anew) receives.2;
+      running = ap (λ (x : Receiving). x.is_restarting) receives.2;
       no_media_numbers = ap (λ (x : Receiving). x.no_media_numbers) receives.2 ∙ (ap (λ (x : Receiving). x.no_media_numbers) trusted ∙ ap (λ (x : Receiving). x.no_media_numbers) accepted);
       ended = ap (λ (x : Receiving). x.ended) receives.2 ∙ (ap (λ (x : Receiving). x.ended) trusted ∙ ap (λ (x : Receiving). x.ended) accepted);
     }
@@ -126,7 +126,7 @@ pushes stream now q bytes s t receipt types listening reads numbered delivers =
         ssrc = ap (λ (x : Session). is_other x.ssrc stream.ssrc) hears.left ∙ ap not (eq-eqb stream.ssrc stream.ssrc refl);
         not_again = ap (λ (x : Session). is_sent_again_by x.stream.retransmission stream) hears.left ∙ listening.not_again;
         rate = ap (λ (x : Receiving). x.rate) packets ∙ (one.rate ∙ listening.rate);
-        running = ap (λ (x : Receiving). x.anew) packets ∙ one.running;
+        running = ap (λ (x : Receiving). x.is_restarting) packets ∙ one.running;
         none_noted = ap (λ (x : Receiving). x.no_media_numbers) packets ∙ (one.no_media_numbers ∙ listening.none_noted);
         of_codec = ap (λ (x : State). is_built_in_depacketizer x.depacketizer) buffer
             ∙ (ap is_built_in_depacketizer (push_keeps s.packets.buffer (arrived s.packets.buffer.depacketizer meta q.payload)) ∙ listening.of_codec);
@@ -163,7 +163,7 @@ pub record IsTurn (wait : Option ℕ) (r : Receiving) (answer : Answer) (t : Rec
   pub no_media_numbers : t.no_media_numbers ≡ r.no_media_numbers
   pub rate : t.rate ≡ r.rate
   pub numbering : t.numbering ≡ r.numbering
-  pub anew : t.anew ≡ r.anew
+  pub is_restarting : t.is_restarting ≡ r.is_restarting
   pub ended : t.ended ≡ r.ended
 
 turn_of : (wait : Option ℕ) (r : Receiving) (answer : Answer) (t : Receiving) → is_built_in_depacketizer r.buffer.depacketizer ≡ true → answer ≢ Some (Err faults.OutOfMemory)
@@ -174,7 +174,7 @@ turn_of None r answer t of_codec not_memory pops = record {
   no_media_numbers = ap (λ (x : Receiving). x.no_media_numbers) pops.1;
   rate = ap (λ (x : Receiving). x.rate) pops.1;
   numbering = ap (λ (x : Receiving). x.numbering) pops.1;
-  anew = ap (λ (x : Receiving). x.anew) pops.1;
+  is_restarting = ap (λ (x : Receiving). x.is_restarting) pops.1;
   ended = ap (λ (x : Receiving). x.ended) pops.1;
 }
 turn_of (Some h) r answer t of_codec not_memory pops = record {
@@ -183,7 +183,7 @@ turn_of (Some h) r answer t of_codec not_memory pops = record {
   no_media_numbers = ap (λ (x : Receiving). x.no_media_numbers) pops.2;
   rate = ap (λ (x : Receiving). x.rate) pops.2;
   numbering = ap (λ (x : Receiving). x.numbering) pops.2;
-  anew = ap (λ (x : Receiving). x.anew) pops.2;
+  is_restarting = ap (λ (x : Receiving). x.is_restarting) pops.2;
   ended = ap (λ (x : Receiving). x.ended) pops.2;
 }
 
@@ -211,7 +211,7 @@ pops_as stream now answer s t listening not_memory popped =
         ssrc = ap (λ (x : Session). is_other x.ssrc stream.ssrc) popped.2 ∙ listening.ssrc;
         not_again = ap (λ (x : Session). is_sent_again_by x.stream.retransmission stream) popped.2 ∙ listening.not_again;
         rate = ap (λ (x : Receiving). x.rate) packets ∙ (turn.rate ∙ listening.rate);
-        running = ap (λ (x : Receiving). x.anew) packets ∙ (turn.anew ∙ listening.running);
+        running = ap (λ (x : Receiving). x.is_restarting) packets ∙ (turn.is_restarting ∙ listening.running);
         none_noted = ap (λ (x : Receiving). x.no_media_numbers) packets ∙ (turn.no_media_numbers ∙ listening.none_noted);
         of_codec = ap (λ (x : Receiving). is_built_in_depacketizer x.buffer.depacketizer) packets ∙ turn.of_codec;
       };

@@ -14,7 +14,7 @@ use Rattle.codec_payload_runs.specs.Headline.{IsUnused}
 use Rattle.codec_payload_send.specs.Packets.{Packet}
 use Rattle.codec_payload_runs.specs.Schedule.{Answer, RunState}
 use Rattle.codec_payload_send.specs.Sending.{Sample}
-use Rattle.codec_payload_runs.specs.ToldIds.{read_by}
+use Rattle.codec_payload_runs.specs.ReportedIds.{read_by}
 use Rattle.codec_payload_runs.specs.Units.{payloads_by, may_split}
 use Rattle.codec_payload_jitter.proofs.NumbersLemmas.{are_true_numbers, none_restarts}
 use Rattle.codec_payload_jitter.specs.Numbers.{StayNear, GoOn, IsNumbering, Numbering, answer_for, numbering_after, is_restart, low_bits, moved, no_numbers, number_for, number_in, numbers_for}
@@ -167,7 +167,7 @@ module _ (samples : List Sample) (all_steps : List DatagramStep) (sender : Sendi
     ssrc = ap (λ (x : Session). is_other x.ssrc sender.stream.ssrc) begun.is ∙ within.one_stream.ssrc;
     not_again = ap (λ (x : Session). is_sent_again_by x.stream.retransmission sender.stream) begun.is ∙ within.one_stream.not_again;
     rate = ap (λ (x : Session). x.packets.rate) begun.is ∙ within.one_stream.clock_rate;
-    running = ap (λ (x : Session). x.packets.anew) begun.is;
+    running = ap (λ (x : Session). x.packets.is_restarting) begun.is;
     none_noted = ap (λ (x : Session). x.packets.no_media_numbers) begun.is;
     of_codec = ap (λ (x : Session). is_built_in_depacketizer x.packets.buffer.depacketizer) begun.is ∙ (ap is_codec within.one_stream.alike ∙ of_codec sender.packetizer within.one_stream.built_in);
   }

@@ -12,7 +12,7 @@ use Rattle.codec_payload_runs.specs.Headline.{InOrder}
 use Rattle.codec_payload_send.specs.Packets.{Packet}
 use Rattle.codec_payload_send.specs.Sending.{Sample}
 use Rattle.codec_payload_runs.specs.SentStream.{AllEndWithTail, AreReadable, SentUnit, packets_of, units_of_run}
-use Rattle.codec_payload_runs.specs.ToldIds.{read_by}
+use Rattle.codec_payload_runs.specs.ReportedIds.{read_by}
 use Rattle.codec_payload_runs.specs.Units.{payloads_by, may_split}
 use Rattle.codec_payload_runs.specs.declared.run.Step.{Step}
 use Rattle.codec_payload_runs.specs.declared.run.Step.TheVariants as run_steps

@@ -77,7 +77,7 @@ PopsUnit now s answer t =
     (packets : Receiving) × PopsWith (waiting_at (settled s.packets) now.0) (settled s.packets) answer packets × (t ≡ record s { packets = packets; time = time_with s.time answer })
 
 abbrev pub ended : Session → Session
-ended s = record s { packets = record s.packets { ended = true; anew = false } }
+ended s = record s { packets = record s.packets { ended = true; is_restarting = false } }
 
 -- one step: a `Send` that names a sample gets an entry, a `Deliver` that names a datagram a receipt, and each `Pop` an answer
 abbrev pub DoesStep : List Sample → DatagramStep → Wire → Wire → Type 0

@@ -12,7 +12,7 @@ use crate::jitter::numbers::{
 };
 pub use crate::jitter::outcome::{Outcome, PacketCounters};
 use crate::jitter::outcome::{
-    goes_in, outcome_of, packets_in, packets_into, units_in, units_into, with_again, with_kept,
+    is_stored, outcome_of, packets_in, packets_into, units_in, units_into, with_again, with_kept,
     with_outcome, with_pop, with_recovered,
 };
 pub use crate::jitter::waiting::WaitLimits;
@@ -48,7 +48,7 @@ pub struct JitterBuffer<B = NoBox> {
     /// The least number that was given, since the latest restart.
     lowest: Option<u64>,
     /// The next packet is the first since a restart that the caller told.
-    anew: bool,
+    is_restarting: bool,
     /// While fewer places than these are free, pops wait for nothing.
     room: usize,
 }
@@ -87,7 +87,7 @@ impl<B: Depacketizer> JitterBuffer<B> {
             ended: false,
             counters: PacketCounters::none(),
             lowest: None,
-            anew: false,
+            is_restarting: false,
             room,
         }
     }
@@ -120,7 +120,7 @@ impl<B: Depacketizer> JitterBuffer<B> {
             payload,
         };
         let outcome = self.receive_as(answer, packet)?;
-        self.go_behind(numbers, lowest);
+        self.set_numbers(numbers, lowest);
         Ok(outcome)
     }
 
@@ -133,7 +133,7 @@ impl<B: Depacketizer> JitterBuffer<B> {
         numbers.take(answer, low);
         let lowest = lowest_with(self.lowest, answer);
         self.note_as(answer)?;
-        self.go_behind(numbers, lowest);
+        self.set_numbers(numbers, lowest);
         Ok(())
     }
 
@@ -160,9 +160,9 @@ impl<B: Depacketizer> JitterBuffer<B> {
             header,
             payload,
         };
-        let outcome = self.go_on(number, packet)?;
+        let outcome = self.store_within_windows(number, packet)?;
         self.count_again(outcome);
-        self.go_behind(numbers, lowest);
+        self.set_numbers(numbers, lowest);
         Ok(outcome)
     }
 
@@ -192,9 +192,9 @@ impl<B: Depacketizer> JitterBuffer<B> {
             header,
             payload,
         };
-        self.go_on(number, packet)?;
+        self.store_within_windows(number, packet)?;
         self.count_recovered();
-        self.go_behind(numbers, lowest);
+        self.set_numbers(numbers, lowest);
         Ok(true)
     }
 
@@ -293,14 +293,14 @@ impl<B: Depacketizer> JitterBuffer<B> {
     /// go in; no restart is found until [`JitterBuffer::restart`].
     pub fn finish(&mut self) {
         self.ended = true;
-        self.anew = false;
+        self.is_restarting = false;
     }
 
     /// The sender begins anew: the next packet gets a number above all others, whatever it carries, and pops wait again. What is
     /// held stays, and comes out before what is new. A packet that is suspect is dropped, and stays counted as such.
     pub fn restart(&mut self) {
         self.ended = false;
-        self.anew = true;
+        self.is_restarting = true;
         self.kept = None;
     }
 
@@ -316,7 +316,7 @@ impl<B: Depacketizer> JitterBuffer<B> {
 
     /// What the number of the next packet comes to.
     fn answer_to(&self, low: u16) -> Extended {
-        if self.anew {
+        if self.is_restarting {
             return self.numbers.answer_anew(low);
         }
         let answer = self.numbers.answer_for(low);
@@ -329,7 +329,7 @@ impl<B: Depacketizer> JitterBuffer<B> {
 
     /// The number of a packet that was sent again, if it is within the windows.
     fn number_again(&self, low: u16) -> Option<u64> {
-        if self.anew {
+        if self.is_restarting {
             return None;
         }
         number_within(self.numbers.answer_for(low))
@@ -337,22 +337,22 @@ impl<B: Depacketizer> JitterBuffer<B> {
 
     /// Whether a packet of that number is missing: it would go in, and the number is not one without media.
     fn may_recover(&self, number: u64) -> bool {
-        goes_in(outcome_in(&self.buffer, SeqNo(number)))
+        is_stored(outcome_in(&self.buffer, SeqNo(number)))
             && !is_noted(&self.no_media_numbers, number)
     }
 
     /// Goes on with these numbers.
-    fn go_behind(&mut self, numbers: SequenceNumbers, lowest: Option<u64>) {
+    fn set_numbers(&mut self, numbers: SequenceNumbers, lowest: Option<u64>) {
         self.numbers = numbers;
         self.lowest = lowest;
-        self.anew = false;
+        self.is_restarting = false;
     }
 
     /// What becomes of a packet, by what its number came to.
     fn receive_as(&mut self, answer: Extended, packet: KeptPacket) -> Result<Outcome, PacketError> {
         match answer {
-            Extended::Number(number) => self.go_on(number, packet),
-            Extended::Restarted(number) => self.go_in_anew(number, packet),
+            Extended::Number(number) => self.store_within_windows(number, packet),
+            Extended::Restarted(number) => self.restart_with(number, packet),
             Extended::Suspect => {
                 self.keep(packet);
                 Ok(Outcome::Suspect)
@@ -365,14 +365,18 @@ impl<B: Depacketizer> JitterBuffer<B> {
     }
 
     /// Takes in a packet within the windows. Nothing is suspect any more.
-    fn go_on(&mut self, number: u64, packet: KeptPacket) -> Result<Outcome, PacketError> {
+    fn store_within_windows(
+        &mut self,
+        number: u64,
+        packet: KeptPacket,
+    ) -> Result<Outcome, PacketError> {
         let outcome = self.accept(number, packet)?;
         self.kept = None;
         Ok(outcome)
     }
 
     /// Takes in the packet that confirms a restart, and the one before it, if that was kept.
-    fn go_in_anew(&mut self, number: u64, packet: KeptPacket) -> Result<Outcome, PacketError> {
+    fn restart_with(&mut self, number: u64, packet: KeptPacket) -> Result<Outcome, PacketError> {
         self.accept(number, packet)?;
         let with_kept = self.confirm(number);
         Ok(Outcome::Restarted(with_kept))
@@ -438,7 +442,7 @@ impl<B: Depacketizer> JitterBuffer<B> {
 
     /// Takes in a packet that has that number.
     fn accept(&mut self, number: u64, packet: KeptPacket) -> Result<Outcome, PacketError> {
-        let outcome = take_in(&mut self.buffer, self.clock_rate, packet, number)?;
+        let outcome = store(&mut self.buffer, self.clock_rate, packet, number)?;
         self.counters = with_outcome(self.counters, outcome);
         Ok(outcome)
     }
@@ -447,14 +451,14 @@ impl<B: Depacketizer> JitterBuffer<B> {
     fn confirm(&mut self, number: u64) -> bool {
         self.counters.restarts = self.counters.restarts.wrapping_add(1);
         match self.kept.take() {
-            Some(packet) => self.go_in_again(number.saturating_sub(1), packet),
+            Some(packet) => self.store_suspect(number.saturating_sub(1), packet),
             None => false,
         }
     }
 
     /// The suspect packet that was kept goes in, unless memory is wanting for it.
-    fn go_in_again(&mut self, number: u64, packet: KeptPacket) -> bool {
-        match take_in(&mut self.buffer, self.clock_rate, packet, number) {
+    fn store_suspect(&mut self, number: u64, packet: KeptPacket) -> bool {
+        match store(&mut self.buffer, self.clock_rate, packet, number) {
             Ok(outcome) => {
                 self.counters = with_kept(self.counters, outcome);
                 true
@@ -493,7 +497,7 @@ impl<B: Depacketizer> JitterBuffer<B> {
 }
 
 /// The buffer takes a packet in, under its number, and tells what became of it.
-fn take_in<B: Depacketizer>(
+fn store<B: Depacketizer>(
     buffer: &mut DepacketizingBuffer<B>,
     clock_rate: Frequency,
     packet: KeptPacket,
@@ -506,7 +510,7 @@ fn take_in<B: Depacketizer>(
         header: packet.header,
         last_sender_info: None,
     };
-    let placed = buffer.take_in(meta, packet.payload)?;
+    let placed = buffer.store(meta, packet.payload)?;
     Ok(outcome_of(placed))
 }
 

@@ -70,7 +70,7 @@ pub(crate) fn pass_no_media_numbers<B: Depacketizer>(
         if !is_done(buffer, number) {
             return;
         }
-        buffer.pass_number(number);
+        buffer.skip_number(number);
         no_media_numbers.remove(0);
     }
 }

@@ -110,7 +110,7 @@ impl SequenceNumbers {
 
     /// The number of a packet that is known to be the first since the sender has restarted, whatever low bits it carries: it is
     /// above all others.
-    pub fn number_anew(&mut self, low: u16) -> Extended {
+    pub fn restart_number(&mut self, low: u16) -> Extended {
         let answer = self.answer_anew(low);
         self.take(answer, low);
         answer

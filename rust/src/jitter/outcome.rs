@@ -91,7 +91,7 @@ pub(crate) fn outcome_of(placed: Placed) -> Outcome {
 }
 
 /// One more packet came to that.
-fn come_to(mut counters: PacketCounters, outcome: Outcome) -> PacketCounters {
+fn count_outcome(mut counters: PacketCounters, outcome: Outcome) -> PacketCounters {
     match outcome {
         Outcome::Held | Outcome::Restarted(_) | Outcome::OtherStream | Outcome::Rtcp => {}
         Outcome::Duplicate => counters.duplicates = counters.duplicates.wrapping_add(1),
@@ -105,7 +105,7 @@ fn come_to(mut counters: PacketCounters, outcome: Outcome) -> PacketCounters {
 
 /// One more packet came in, and came to that.
 pub(crate) fn with_outcome(counters: PacketCounters, outcome: Outcome) -> PacketCounters {
-    let mut counters = come_to(counters, outcome);
+    let mut counters = count_outcome(counters, outcome);
     counters.pushed = counters.pushed.wrapping_add(1);
     counters
 }
@@ -113,14 +113,14 @@ pub(crate) fn with_outcome(counters: PacketCounters, outcome: Outcome) -> Packet
 /// The suspect packet that was kept came to that in the end.
 pub(crate) fn with_kept(counters: PacketCounters, outcome: Outcome) -> PacketCounters {
     let suspect = counters.suspect.wrapping_sub(1);
-    let mut counters = come_to(counters, outcome);
+    let mut counters = count_outcome(counters, outcome);
     counters.suspect = suspect;
     counters
 }
 
 /// One more packet that came again went in, if it did.
 pub(crate) fn with_again(mut counters: PacketCounters, outcome: Outcome) -> PacketCounters {
-    if goes_in(outcome) {
+    if is_stored(outcome) {
         counters.retransmitted = counters.retransmitted.wrapping_add(1);
     }
     counters
@@ -133,7 +133,7 @@ pub(crate) fn with_recovered(mut counters: PacketCounters) -> PacketCounters {
 }
 
 /// Whether a packet of that outcome is one that was missing.
-pub(crate) fn goes_in(outcome: Outcome) -> bool {
+pub(crate) fn is_stored(outcome: Outcome) -> bool {
     matches!(outcome, Outcome::Held | Outcome::HeldAndEvicted)
 }
 

@@ -7,10 +7,10 @@ use Rattle.codec_payload_jitter.proofs.jitter.JitterBuffer.accept.Goals as goal
 
 pub invariant_of-self-2 : goal.invariant_of-self-2
 invariant_of-self-2 g c =
-    let kept : IsConserved (counted c.self.inside.counters c.in_ok-outcome.outcome) (length c.take_in.new.buffer.held) =
-    conserved_in c.self.inside.clock_rate (arrival_of c.args.packet) c.args.number c.self.inside.buffer c.take_in.new.buffer c.in_ok-outcome.outcome c.self.inside.counters
+    let kept : IsConserved (counted c.self.inside.counters c.in_ok-outcome.outcome) (length c.store.new.buffer.held) =
+    conserved_in c.self.inside.clock_rate (arrival_of c.args.packet) c.args.number c.self.inside.buffer c.store.new.buffer c.in_ok-outcome.outcome c.self.inside.counters
     c.in_ok-outcome.ensures.takes c.in_ok-outcome.ensures.outcome c.self.invariant in
-    subst (λ (k : PacketCounters). IsConserved k (length c.take_in.new.buffer.held)) (sym c.with_outcome-self-inside.ensures) kept
+    subst (λ (k : PacketCounters). IsConserved k (length c.store.new.buffer.held)) (sym c.with_outcome-self-inside.ensures) kept
 
 pub returns-clause-ok : goal.returns-clause-ok
 returns-clause-ok g c =
@@ -24,10 +24,10 @@ returns-clause-ok g c =
       ended = c.self.inside.ended;
       counters = c.self.inside.counters;
       lowest = c.self.inside.lowest;
-      anew = c.self.inside.anew;
+      is_restarting = c.self.inside.is_restarting;
       room = c.self.inside.room;
     } in
-    let after = c.take_in.new.buffer in
+    let after = c.store.new.buffer in
     let t : Receiving = record r { buffer = after; counters = c.with_outcome-self-inside.result } in
     let made : Accepts (arrival_of c.args.packet) c.args.number r c.in_ok-outcome.outcome t = (
       after,

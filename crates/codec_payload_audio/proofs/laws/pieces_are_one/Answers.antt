@@ -1,5 +1,0 @@
-use Rattle.codec_payload_base.proofs.PieceLemmas.{one_list}
-use Rattle.codec_payload_audio.proofs.laws.pieces_are_one.Goals as goal
-
-pub returns : goal.returns
-returns c = one_list

@@ -1,0 +1,13 @@
+-- Looks at one payload.
+use Rattle.std.specs.Prelude.{◌≡◌, ℕ, Bool, true, false, Option, Some, None}
+use Rattle.codec_payload_core.specs.Depacketizers.{DepacketizerState}
+
+-- where the codec has a depacketizer, what that one says; else status 37
+abbrev pub Inspect : Option DepacketizerState → (DepacketizerState → Bool) → ℕ → Bool → Bool → Type 0
+Inspect None says status before answer = (status ≡ 37) × (answer ≡ before)
+Inspect (Some d) says status before answer = (status ≡ 0) × (answer ≡ says d)
+
+-- a value, if it is given
+abbrev pub given_if : Bool → ℕ → Option ℕ
+given_if true n = Some n
+given_if false n = None

@@ -1,0 +1,7 @@
+use Rattle.std.proofs.Common.{◌∙◌, ap}
+use Rattle.codec_payload_jitter.specs.Receiving.{outcome_of}
+use Rattle.codec_payload_jitter.proofs.ReceivingLemmas.{placed_outcome}
+use Rattle.codec_payload_jitter.proofs.jitter.store.Goals as goal
+
+pub returns-clause-outcome : goal.returns-clause-outcome
+returns-clause-outcome g c = c.outcome_of.ensures ∙ ap outcome_of c.in_ok-placed.ensures.placed ∙ placed_outcome c.args.buffer.now c.args.number

@@ -1,0 +1,233 @@
+#!/usr/bin/env python3
+"""Compares the header, include/codec_payload.h with codec_payload_media.h, with the exports of codec_payload_c.
+
+The header is written by hand. This reads both and compares every function: its name, its answer, and of each parameter
+the name and the type; every struct that crosses: its fields in order with their types; and the numbers of the statuses and of
+the codecs. A handle of the library is in C a struct of its kind, so that the compiler tells one kind from another. The
+example in the header, and in docs/C.md, is the text of bindings/c/example.c. The last line says how many functions and structs are the same; the status is 0 where all are.
+
+bindings/c/calls.c, which lets NULL go with a length of 0, is what `check_header.py --calls` prints, and that is compared too.
+"""
+import os
+import re
+import sys
+
+CRATES = ["codec_payload_c", "codec_payload_handle"]
+ROOT = os.path.dirname(os.path.dirname(os.path.realpath(__file__)))
+NUMBERS = {
+    **{f"u{bits}": f"uint{bits}_t" for bits in (8, 16, 32, 64)},
+    **{f"i{bits}": f"int{bits}_t" for bits in (8, 16, 32, 64)},
+    "usize": "size_t",
+    "bool": "bool",
+}
+# The one pointer that stands in a struct, which C sees as one to nothing that it knows.
+FLAT = {"*mut u8": "void *"}
+# What a handle of the library is in the header, by what lives in it. Each has a call of its own to free it.
+KINDS = ["cpay_packetizer", "cpay_buffer", "cpay_depacketizer", "cpay_red_sender", "cpay_sender", "cpay_receiver"]
+HANDLE = [("cpay_handle", "handle")]
+VERSION = "cpay_version"
+EXPORT = re.compile(
+    r'#\[unsafe\(no_mangle\)\]\s*pub extern "C" fn (\w+)\((.*?)\)(?: -> (\w+))?\s*(?:requires|ensures|\{)', re.S
+)
+
+
+CALLS_BEGIN = """\
+/* The calls of codec_payload.h over those that are proved, which take a handle of any kind and no NULL: here NULL with a length
+ * of 0 becomes a pointer to something, and with another length it is refused. Written by scripts/check_header.py --calls. */
+#include "codec_payload.h"
+
+typedef char status_is_four_bytes[sizeof(cpay_status) == 4 ? 1 : -1];
+
+/* Bytes of length 0 begin here. Nothing reads or writes it. */
+static uint64_t nothing[2];
+
+uint32_t cpay_version(void) { return CPAY_VERSION; }
+
+void proved_cpay_free(cpay_handle *handle);
+"""
+
+
+def read(path):
+    with open(f"{ROOT}/{path}", encoding="utf-8") as it:
+        return it.read()
+
+
+def split(text):
+    """The parts between commas that stand in no brackets."""
+    parts, depth, last = [], 0, 0
+    for at, one in enumerate(text):
+        depth += (one in "<([{") - (one in ">)]}")
+        if one == "," and depth == 0:
+            parts.append(text[last:at])
+            last = at + 1
+    return [it.strip() for it in [*parts, text[last:]] if it.strip()]
+
+
+def c_name(rust):
+    return "cpay_" + re.sub(r"(?<=[a-z0-9])([A-Z])", r"_\1", rust).lower()
+
+
+def c_type(rust):
+    """The type of C for one of Rattle that crosses by value or in a struct."""
+    rust = rust.strip()
+    return NUMBERS.get(rust) or FLAT.get(rust) or c_name(rust)
+
+
+def c_params(name, rust):
+    """The parameters of C for one of Rattle, each as its type and name."""
+    if rust == "Global":
+        return []
+    borrowed = re.fullmatch(r"&(mut )?(.*)", rust, re.S)
+    if not borrowed:
+        return [(c_type(rust), name)]
+    const = "" if borrowed[1] else "const "
+    slice_of = re.fullmatch(r"\[(.*)\]", borrowed[2].strip())
+    if slice_of:
+        return [(f"{const}{c_type(slice_of[1])} *", name), ("size_t", f"{name}_len")]
+    return [(f"{const}{c_type(borrowed[2])} *", name)]
+
+
+def rattle():
+    """Functions and structs that cross, as C has them, by the library's sources."""
+    functions, structs, consts = {}, {}, {}
+    sources = [f"crates/{crate}/src/{file}" for crate in CRATES for file in sorted(os.listdir(f"{ROOT}/crates/{crate}/src"))]
+    for source in sources:
+        text = re.sub(r"//[^\n]*", "", read(source))
+        for found in EXPORT.finditer(text):
+            params = [it.split(":", 1) for it in split(found[2])]
+            flat = [one for name, kind in params for one in c_params(name.strip(), kind.strip())]
+            functions[found[1]] = (c_type(found[3]) if found[3] else "void", flat)
+        for found in re.finditer(r"#\[repr\(C\)\]\s*(?:#\[[^\n]*\]\s*)*pub struct (\w+) \{(.*?)\n\}", text, re.S):
+            fields = []
+            for field in split(found[2]):
+                if field.startswith("ghost "):
+                    continue
+                name, kind = re.sub(r"^pub(\(crate\))? ", "", field).split(":", 1)
+                array = re.fullmatch(r"\[(\w+); (\d+)\]", kind.strip())
+                fields.append((c_type(array[1]), f"{name.strip()}[{array[2]}]") if array else (c_type(kind), name.strip()))
+            structs[c_name(found[1])] = fields
+        if source.endswith("/status.rt"):
+            for found in re.finditer(r"const (\w+): u32 = (\d+);", text):
+                consts[found[1]] = int(found[2])
+    codecs = dict(re.findall(r"(\d+) => Codec::(\w+),", read("crates/codec_payload_handle/src/settings.rt")))
+    return functions, structs, consts, {name.lower(): int(number) for number, name in codecs.items()}
+
+
+def spaced(kind, name):
+    """A type and a name as the header may write them, in one way."""
+    stars = len(name) - len(name.lstrip("*"))
+    return (" ".join(kind.split()) + (" " + "*" * stars if stars else ""), name.lstrip("*"))
+
+
+def c_declared(text):
+    """One declaration, as `const cpay_spec *spec`, as its type and name."""
+    kind, stars, name = re.fullmatch(r"(.*?)(\**)(\w+(?:\[\d+\])?)", " ".join(text.split()), re.S).groups()
+    return spaced(kind, stars + name)
+
+
+def header():
+    """Functions, structs and numbers by the header."""
+    text = read("include/codec_payload.h") + read("include/codec_payload_media.h")
+    text = re.sub(r"#if 0\n.*?#endif\n", "", re.sub(r"/\*.*?\*/", "", text, flags=re.S), flags=re.S)
+    structs, functions = {}, {}
+    for found in re.finditer(r"typedef struct \{(.*?)\} (\w+);", text, re.S):
+        structs[found[2]] = [c_declared(it) for it in found[1].split(";") if it.strip()]
+    rest = re.sub(r"typedef struct \{.*?\} \w+;", "", text, flags=re.S)
+    for found in re.finditer(r"^(?:CPAY_CHECKED )?(\w+) (cpay_\w+)\(([^)]*)\);", rest, re.M | re.S):
+        functions[found[2]] = (found[1], [c_declared(it) for it in split(found[3]) if it != "void"])
+    numbers = {name: int(value) for name, value in re.findall(r"\b(CPAY_\w+) = (\d+)", rest)}
+    return functions, structs, numbers
+
+
+def plain(functions, structs):
+    """The header's functions and structs with handles and numbers in place of its kinds and its statuses."""
+    frees = {f"{kind}_free" for kind in KINDS}
+    plain_functions = {"cpay_free": ("void", [("cpay_handle *", "handle")])} if frees <= functions.keys() else {}
+    for name, (answer, params) in functions.items():
+        if name not in {*frees, VERSION}:
+            answer = {"cpay_status": "uint32_t"}.get(answer, answer)
+            params = [("cpay_handle *", "handle") if kind.removesuffix(" *") in KINDS else (kind, one) for kind, one in params]
+            plain_functions[name] = (answer, params)
+    return plain_functions, {name: fields for name, fields in structs.items() if name not in KINDS}
+
+
+def differences(what, wanted, found):
+    for name in sorted({*wanted, *found}):
+        if wanted.get(name) != found.get(name):
+            yield f"{what} {name}: the library has {wanted.get(name)}, and here is {found.get(name)}"
+
+
+def wrapped(start, parts, end, indent):
+    """One call or declaration, in lines of at most 128 characters."""
+    lines, line = [], start
+    for place, part in enumerate(parts):
+        piece = part + (end if place + 1 == len(parts) else ",")
+        if len(line) + 1 + len(piece) > 128:
+            lines.append(line)
+            line = " " * (indent - 1)
+        line += piece if line.endswith("(") else " " + piece
+    return "\n".join([*lines, line if parts else line + end])
+
+
+def calls(functions):
+    """The text of bindings/c/calls.c."""
+    text = [CALLS_BEGIN]
+    for kind in KINDS:
+        text.append(f"void {kind}_free({kind} *{kind.split('_')[-1]}) {{\n    if ({kind.split('_')[-1]}) "
+                    f"proved_cpay_free(&{kind.split('_')[-1]}->handle);\n}}\n")
+    for name, (answer, params) in functions.items():
+        if name.endswith("_free") or name == VERSION:
+            continue
+        lengths = {one for _, one in params}
+        given, refused, declared = [], [], []
+        for kind, one in params:
+            declared.append((("cpay_handle *" if kind.removesuffix(" *") in KINDS else kind) + " " + one).replace("* ", "*"))
+            if kind.removesuffix(" *") in KINDS:
+                given.append(f"&{one}->handle")
+            elif f"{one}_len" in lengths:
+                refused.append(f"(!{one} && {one}_len)")
+                given.append(f"{one} ? {one} : ({kind})nothing")
+            else:
+                given.append(one)
+        proved = f"{answer} proved_{name}("
+        text.append(wrapped(proved, declared, ");", len(proved)))
+        signature = f"{answer} {name}("
+        text.append(wrapped(signature, [f"{kind} {one}".replace("* ", "*") for kind, one in params], ") {", len(signature)))
+        if refused:
+            text.append(f"    if ({' || '.join(refused) if len(refused) > 1 else refused[0][1:-1]}) "
+                        f"return {'CPAY_INVALID' if answer == 'cpay_status' else 'false'};")
+        call = f"    return proved_{name}("
+        text.append(wrapped(call, given, ");", len(call)) + "\n}\n")
+    return "\n".join(text)
+
+
+def main():
+    if sys.argv[1:] == ["--calls"]:
+        print(calls(header()[0]), end="")
+        return 0
+    functions, structs, statuses, codecs = rattle()
+    as_written, written_structs, numbers = header()
+    of_header, its_structs = plain(as_written, written_structs)
+    in_c = {f"CPAY_{name.replace('amrwb', 'amr_wb')}".upper(): value for name, value in codecs.items()}
+    in_c |= {f"CPAY_{name}": value for name, value in statuses.items()}
+    wrong = [
+        *differences("header: function", functions, of_header),
+        *differences("header: struct", structs, its_structs),
+        *(f"header: {name} is not {value}" for name, value in in_c.items() if numbers.get(name) != value),
+    ]
+    if f"#if 0\n{read('bindings/c/example.c')}#endif\n" not in read("include/codec_payload.h"):
+        wrong.append("header: the example is not that of bindings/c/example.c")
+    if f"```c\n{read('bindings/c/example.c')}```\n" not in read("docs/C.md"):
+        wrong.append("docs/C.md: the example is not that of bindings/c/example.c")
+    wrong += [f"header: {kind} is not one handle" for kind in KINDS if written_structs.get(kind) != HANDLE]
+    if read("bindings/c/calls.c") != calls(as_written):
+        wrong.append("bindings/c/calls.c is not what check_header.py --calls prints")
+    if not functions or not structs:
+        wrong.append("no function, or no struct, was found")
+    counts = f"{len(functions)} functions and {len(structs)} structs"
+    print("\n".join([*wrong, f"{counts}: {'NOT the same' if wrong else 'all the same'}"]))
+    return 1 if wrong else 0
+
+
+if __name__ == "__main__":
+    sys.exit(main())

@@ -1,0 +1,222 @@
+#!/usr/bin/env python3
+"""Tries wrong bodies: each has to be refused by the prover, by the contract of the function that it edits.
+
+  scripts/mutants.py                     all edits of must-fail/ and mutants/, of every crate
+  scripts/mutants.py CRATE [NAME..]      those of one crate, or those of its edits that are named
+  scripts/mutants.py CRATE FILE.edit..   edits from anywhere, applied to that crate
+  scripts/mutants.py --high-impact [CRATE]   those of mutants/high_impact.txt, which would hurt most
+  scripts/mutants.py --stale             the edits of all crates that cannot be applied, without the prover
+
+An edit is a file with a line 'file: src/x.rt' and pairs of lines 'old: TEXT' and 'new: TEXT'; each old text stands once in
+that file. It is applied to a scratch copy of the crate, over what `rt check` has proved, and the function in which its first
+old text stands is checked, with what that calls. One line is printed for each edit, and the last line has the counts:
+
+  refused     a clause was not proved
+  PROVED      the wrong body meets the contract: the contract is too weak
+  BAD EDIT    it cannot be applied, or the edited text does not compile, so no contract was tried
+
+The status is 0 where all were refused. Needs rt, and takes 5 to 20 seconds an edit, and the check of each crate before.
+"""
+import glob
+import os
+import re
+import shutil
+import subprocess
+import sys
+import tempfile
+
+ROOT = os.path.dirname(os.path.dirname(os.path.realpath(__file__)))
+SOURCES = ("src", "specs", "proofs")
+PROVED = ("out",)
+NAMES_ONLY = re.compile(r"(\./)?proofs/.*(has no field|is not in scope|has no `|was not admitted)")
+
+
+def crates():
+    """Each crate of the repository with those that it names in crates.txt."""
+    found = {}
+    with open(f"{ROOT}/crates.txt", encoding="utf-8") as lines:
+        for line in lines:
+            if line.strip() and not line.startswith("#"):
+                name, _, uses = line.partition(":")
+                found[name.split()[0]] = uses.split()
+    return {name: [it for it in uses if it in found] for name, uses in found.items()}
+
+
+def with_those_below(crate):
+    return [crate, *(it for below in crates()[crate] for it in with_those_below(below))]
+
+
+def edits_of(crate):
+    found = glob.glob(f"{ROOT}/crates/{crate}/must-fail/*.edit") + glob.glob(f"{ROOT}/mutants/{crate}/*.edit")
+    return sorted(found, key=os.path.basename)
+
+
+def read_edit(path):
+    """The edit's steps: file, old text, new text."""
+    steps, file, old = [], None, None
+    with open(path, encoding="utf-8") as lines:
+        for line in lines.read().split("\n"):
+            if line.startswith("file: "):
+                file = line[6:].strip()
+            elif line.startswith("old: "):
+                old = line[5:]
+            elif line.startswith("new:") and file and old:
+                steps.append((file, old, line[4:].removeprefix(" ")))
+                old = None
+    return steps
+
+
+def function_at(file, text, place):
+    """The path of the function that stands at a place of a file, or of the module where none does."""
+    module = re.sub(r"^src/|(/lib|/main)?\.rt$", "", file).replace("/", "::")
+    module = "" if module in ("lib", "main") else module
+    before = text[:place]
+    line_end = text.find("\n", place)
+    heads = list(re.finditer(r"^( *)(?:pub(?:\([a-z]+\))? )?(?:const )?fn (\w+)", text[: line_end if line_end >= 0 else None], re.M))
+    if not heads:
+        return module
+    indent, name = heads[-1].groups()
+    closed = re.search(rf"^{indent}\}}", text[heads[-1].end() : place], re.M)
+    if closed:
+        return module
+    parts = [module] if module else []
+    if indent:
+        impl = list(re.finditer(r"^(?:unsafe )?impl(?:<[^>]*>)? +(.*?)\{", before, re.M | re.S))
+        if impl:
+            header = re.sub(r"<[^<>]*>", "", re.sub(r"<[^<>]*>", "", impl[-1][1])).split(" where ")[0]
+            trait, _, kind = header.partition(" for ")
+            parts.append((kind or trait).strip().split("::")[-1] + (trait.strip().split("::")[-1] if kind else ""))
+    return "::".join([*parts, name])
+
+
+def apply(steps, folder):
+    """The texts of the files that the edit changes and the function to check, or why it cannot be applied."""
+    texts, function = {}, None
+    for file, old, new in steps:
+        if file not in texts:
+            try:
+                with open(f"{folder}/{file}", encoding="utf-8") as it:
+                    texts[file] = it.read()
+            except OSError:
+                return None, f"there is no file {file}"
+        found = texts[file].count(old)
+        if found != 1:
+            return None, f"an old text stands in {file} {found} times, and not once"
+        if old == new:
+            return None, f"an edit of {file} changes nothing"
+        if function is None:
+            function = function_at(file, texts[file], texts[file].index(old))
+        texts[file] = texts[file].replace(old, new)
+    return (texts, function) if texts else (None, "it has no pair of 'old:' and 'new:'")
+
+
+def check(folder, function):
+    words = ["rt", "check", *(["--only", function] if function else [])]
+    ran = subprocess.run(words, cwd=folder, stdin=subprocess.DEVNULL, stdout=subprocess.PIPE, stderr=subprocess.STDOUT, errors="replace")
+    return ran.returncode, ran.stdout
+
+
+def judge(folder, function):
+    """What came of a check of the edited crate: one of the three words, and the first thing that was said."""
+    status, said = check(folder, function)
+    if function and re.search(r"fits (nothing|no function|several)|has no function", said):
+        status, said = check(folder, "")
+    lines = said.rstrip("\n").split("\n")
+    told = [it for it in lines if re.match(r"(note: )?\S+:\d+:\d+:", it) and (": error" in it or it.startswith("note: "))]
+    counts = re.search(r"^only=(\d+) proved=(\d+)|^logic=(proved|not-proved)", said, re.M)
+    if not counts:
+        return "BAD EDIT", next(iter(told), lines[-1])
+    if status == 0 and (counts[1] == counts[2] if counts[1] else counts[3] == "proved"):
+        return "PROVED", ""
+    unread = next((it for it in told if re.match(r"(\./)?(src|specs)/", it) and re.search(r"is not in scope|expected the end|has no field", it)), None)
+    if unread or re.search(r"error\[", said) and not re.search(r"^fn .*: not proved", said, re.M):
+        return "BAD EDIT", unread or next(iter(told), lines[-1])
+    told = [it for it in told if not NAMES_ONLY.match(it)]
+    return "refused", next(iter(told), "by names in proof files alone")
+
+
+def copy_crate(crate, room, parts):
+    for part in parts:
+        if os.path.isdir(f"{ROOT}/crates/{crate}/{part}"):
+            shutil.copytree(f"{ROOT}/crates/{crate}/{part}", f"{room}/crates/{crate}/{part}", symlinks=True)
+
+
+def try_crate(crate, edits):
+    """Tries the edits on one scratch copy of the crate, and counts the answers."""
+    folder = f"{ROOT}/crates/{crate}"
+    status, said = check(folder, "")
+    if status:
+        sys.exit(f"{crate} is not proved:\n{said[-2000:]}")
+    counts = {}
+    with tempfile.TemporaryDirectory(prefix="mutants-") as room:
+        for name in ("crates.txt", "HANDLES"):
+            shutil.copy(f"{ROOT}/{name}", room)
+        proved = with_those_below(crate)
+        for one in crates():
+            copy_crate(one, room, SOURCES + PROVED * (one in proved))
+        copy = f"{room}/crates/{crate}"
+        for edit in edits:
+            texts, function = apply(read_edit(edit), folder)
+            if texts is None:
+                word, why = "BAD EDIT", function
+            else:
+                for file, text in texts.items():
+                    with open(f"{copy}/{file}", "w", encoding="utf-8") as it:
+                        it.write(text)
+                word, why = judge(copy, function)
+                for file in texts:
+                    shutil.copy2(f"{folder}/{file}", f"{copy}/{file}")
+            counts[word] = counts.get(word, 0) + 1
+            name = os.path.basename(edit).removesuffix(".edit")
+            print(f"{crate}/{name}: {word}{': ' + why[:160] if why else ''}", flush=True)
+    return counts
+
+
+def telling(crate):
+    """The names of the edits of a crate that would hurt most."""
+    with open(f"{ROOT}/mutants/high_impact.txt", encoding="utf-8") as lines:
+        named = [line.strip().split("/") for line in lines if not line.startswith("#")]
+    return [name for of, name in named if of == crate]
+
+
+def print_stale():
+    """Prints the edits that cannot be applied, and counts them."""
+    count = 0
+    for crate in crates():
+        missing = set(telling(crate)) - {os.path.basename(it).removesuffix(".edit") for it in edits_of(crate)}
+        for name in sorted(missing):
+            count += 1
+            print(f"mutants/high_impact.txt: there is no {crate}/{name}")
+        for edit in edits_of(crate):
+            texts, why = apply(read_edit(edit), f"{ROOT}/crates/{crate}")
+            if texts is None:
+                count += 1
+                print(f"{os.path.relpath(edit, ROOT)}: {why}")
+    print(f"{count} stale")
+    return 1 if count else 0
+
+
+def main(words):
+    if words == ["--stale"]:
+        return print_stale()
+    is_telling = words[:1] == ["--high-impact"]
+    words = words[is_telling:]
+    if words and words[0] not in crates():
+        sys.exit(f"crates.txt has no crate {words[0]}")
+    chosen = [words[0]] if words else list(crates())
+    counts = {}
+    for crate in chosen:
+        edits = edits_of(crate)
+        if is_telling:
+            edits = [it for it in edits if os.path.basename(it).removesuffix(".edit") in telling(crate)]
+        elif words[1:]:
+            by_name = {os.path.basename(it).removesuffix(".edit"): it for it in edits}
+            edits = [it if os.path.isfile(it) else by_name.get(it.removesuffix(".edit")) or sys.exit(f"no edit {it}") for it in words[1:]]
+        for word, count in (try_crate(crate, edits) if edits else {}).items():
+            counts[word] = counts.get(word, 0) + count
+    print(", ".join(f"{counts.get(it, 0)} {it}" for it in ("refused", "PROVED", "BAD EDIT")))
+    return 0 if set(counts) <= {"refused"} else 1
+
+
+if __name__ == "__main__":
+    sys.exit(main(sys.argv[1:]))
