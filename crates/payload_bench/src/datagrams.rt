@@ -174,7 +174,7 @@ fn receiver_of(alloc: Global) -> Result<Receiver> {
     let settings = Settings {
         payload_type: 96,
         no_media: Vec::new(alloc),
-        ssrc: None,
+        ssrc: Some(7),
         red: None,
         retransmission: None,
         extension_ids: ExtensionIds::default(),
