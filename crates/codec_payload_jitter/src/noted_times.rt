@@ -67,7 +67,8 @@ impl NotedTimes {
         if !self.places.is_empty() || !is_noted(backward, packet.number) {
             return Ok(Vec::new(alloc));
         }
-        vec![in alloc; packet; places_for(backward)]
+        let places = vec![in alloc; packet; places_for(backward)]?;
+        Ok(places)
     }
 
     /// Notes the time of a packet, if its number is one of those that are noted. The places were found before.
