@@ -67,7 +67,7 @@ RUN_ELSEWHERE = {
     "scripts/bench.sh": ("scripts/allocations.sh", "payload_bench"),
     "scripts/examples.py": ("scripts/test.sh", "runs scripts/examples.py"),
     "cc -Iinclude examples/": ("scripts/examples.py", "examples/{name}.c"),
-    "bindings/out/gateway": ("scripts/examples.py", 'programs["gateway", language]'),
+    "bindings/out/gateway": ("scripts/examples.py", '[programs[name, language]]'),
     "cd rust": ("scripts/rust.sh", 'cd "$root/rust"'),
     "scripts/pictures.py": ("scripts/documents.py", "scripts/pictures.py"),
     "make install": ("scripts/install_test.sh", "install PREFIX="),
