@@ -43,7 +43,7 @@ README_LINES = 170
 PICTURE_BYTES = 80_000
 FENCE = re.compile(r"^( *)```(.*)$")
 # Commands of the documents that are run here, in the root of the repository: none needs what is built, and each is quick.
-RUN_HERE = ["scripts/mutants.py --stale", "scripts/check_header.py", "scripts/documents.py"]
+RUN_HERE = ["scripts/mutants.py --stale", "scripts/check_header.py", "scripts/count_lines.sh", "scripts/documents.py"]
 # All others: how a command begins, and the file that runs it, with the words by which it does.
 RUN_ELSEWHERE = {
     "scripts/test.sh": ("scripts/test.sh", "scripts/test.sh --no-proofs"),
