@@ -3,10 +3,11 @@
 use crate::asserts::{assert_bytes, assert_same};
 use crate::buffer::meta;
 use crate::library::{buffer_of, pop_unit, push};
-use codec_payload_core::buffer::{Depacketized, DepacketizingBuffer};
+use codec_payload_core::buffer::{Depacketized, DepacketizingBuffer, RtpMeta};
 use codec_payload_core::error::PacketError;
 use codec_payload_core::wire::{Codec, SenderInfo, SeqNo, Ticks};
 use std::alloc::Global;
+use std::process::Abort;
 use std::test::Fail;
 
 /// Pushes one of the packets 4 to 6 of a VP8 frame, which was received then.
@@ -59,7 +60,29 @@ fn unit_tells_of_its_packets(rt: HostRuntime) -> Result<(), Fail> {
     Ok(())
 }
 
-/// The next unit goes into memory that is used again.
+/// The unit of that number, of one packet, is the next, in this memory.
+fn assert_next(
+    rt: &impl Abort,
+    buffer: &mut DepacketizingBuffer,
+    number: u64,
+    bytes: &mut Vec<u8>,
+    metas: &mut Vec<RtpMeta>,
+) -> Result<(), Fail> {
+    match buffer.pop_into(bytes, metas) {
+        Some(Ok(info)) => assert_same(rt, "its time", &info.time.numer(), &number),
+        _ => return Err("no unit".into()),
+    }
+    assert_bytes(rt, "its bytes", bytes, &[0x90]);
+    assert_same(
+        rt,
+        "its packets",
+        &metas.as_slice(),
+        &[meta(number, number)].as_slice(),
+    );
+    Ok(())
+}
+
+/// Units go into memory that is used again.
 #[test]
 fn units_into_the_same_memory(rt: HostRuntime) -> Result<(), Fail> {
     let mut buffer = buffer_of(rt.alloc(), Codec::Opus)?;
@@ -67,15 +90,7 @@ fn units_into_the_same_memory(rt: HostRuntime) -> Result<(), Fail> {
     let mut metas = Vec::new(rt.alloc());
     for number in [70_000, 70_001] {
         push(rt.alloc(), &mut buffer, meta(number, number), &[0x90])?;
-        let info = buffer.pop_into(&mut bytes, &mut metas).ok_or("no unit")??;
-        assert_same(&rt, "its time", &info.time.numer(), &number);
-        assert_bytes(&rt, "its bytes", &bytes, &[0x90]);
-        assert_same(
-            &rt,
-            "its packets",
-            &metas.as_slice(),
-            &[meta(number, number)].as_slice(),
-        );
+        assert_next(&rt, &mut buffer, number, &mut bytes, &mut metas)?;
     }
     Ok(())
 }
