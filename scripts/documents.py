@@ -64,7 +64,7 @@ RUN_ELSEWHERE = {
     "scripts/allocations.sh": ("scripts/test.sh", "runs scripts/allocations.sh"),
     "scripts/instructions.sh": ("scripts/test.sh", "runs scripts/instructions.sh"),
     "scripts/mutants.py": ("scripts/test.sh", "runs scripts/mutants.py --stale"),
-    "scripts/bench.sh": ("scripts/allocations.sh", "payload_bench"),
+    "scripts/bench.sh": ("scripts/allocations.sh", "tools/bench/bench.c"),
     "scripts/examples.py": ("scripts/test.sh", "runs scripts/examples.py"),
     "cc -Iinclude examples/": ("scripts/examples.py", "examples/{name}.c"),
     "bindings/out/gateway": ("scripts/examples.py", '[programs[name, language]]'),

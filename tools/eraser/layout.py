@@ -22,8 +22,7 @@ KEPT_MODULES = {("media", "amr_wb"), ("media", "av1"), ("media", "opus"), ("vpx"
 UNNAMED_MODULES = {("vpx", "fields"), ("vpx", "reader"), ("rtp", "writing")}
 
 # Crates of tests, and the folder of `rust/tests` for each.
-TESTS = {"payload_codec_tests": "codecs", "payload_run_tests": "runs", "payload_datagram_tests": "datagrams",
-         "payload_wire_tests": "wire", "payload_rtcp_tests": "rtcp"}
+TESTS = {"payload_datagram_tests": "datagrams", "payload_wire_tests": "wire"}
 # Programs, which are compared with the proved ones, and the library of both.
 PROGRAMS = ["payload_vectors", "payload_datagrams"]
 PROGRAMS_LIBRARY = "payload_lines"

@@ -1,5 +1,5 @@
 use Rattle.std.proofs.Common.{length}
-use Rattle.payload_hostile.proofs.buffers.put_all_popped.Given as goal
+use Rattle.payload_hostile.proofs.runs.put_all_popped.Given as goal
 
 -- each unit takes a packet with it
 abbrev pub decreases-loop-unit : goal.decreases-loop-unit
