@@ -74,11 +74,13 @@
     clippy::question_mark,
     clippy::manual_find,
     clippy::manual_range_contains,
+    clippy::mem_replace_with_default,
     clippy::needless_range_loop,
     clippy::too_many_arguments,
     clippy::ptr_arg,
     clippy::boxed_local,
     clippy::default_constructed_unit_structs,
+    clippy::single_match,
     clippy::len_without_is_empty
 )]
 

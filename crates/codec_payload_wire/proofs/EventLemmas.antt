@@ -15,11 +15,10 @@ use Rattle.codec_payload_jitter.specs.NotedTimes.{AreTimesOf}
 use Rattle.codec_payload_jitter.specs.Numbers.{Numbering, answer_for, numbering_after}
 use Rattle.codec_payload_jitter.specs.declared.numbers.Extended.TheVariants as extended
 use Rattle.codec_payload_sender.specs.declared.sender.Stream.{Stream}
-use Rattle.codec_payload_stream.specs.Sessions.{Session}
-use Rattle.codec_payload_wire.proofs.ReceivingLemmas.{AllNumbered, IsListening, pops_as, pushes}
+use Rattle.codec_payload_stream.specs.Sessions.{Session, ended}
+use Rattle.codec_payload_wire.proofs.ReceivingLemmas.{AllNumbered, IsListening, finishes_as, pops_as, pushes}
 use Rattle.codec_payload_wire.proofs.StepLemmas.{Takes}
 use Rattle.codec_payload_wire.specs.Releases.{AreDatagrams, HaveNoPops, ReadsAs, delivered}
-use Rattle.codec_payload_wire.specs.WireRuns.{ended}
 use Rattle.codec_payload_wire.specs.declared.run.DatagramStep.{DatagramStep}
 use Rattle.codec_payload_wire.specs.declared.run.DatagramStep.TheVariants as steps
 
@@ -98,15 +97,17 @@ module _ (stream : Stream) (types : (stream.payload_type < 64) ⊎ (95 < stream.
         brings = (one.wait, rest.events, refl, one.at_end, subst (λ (b : Bool). Brings b later rest.events) one.ended rest.brings);
       }
   met (steps.Finish ∷ later) s t answers listening numbers times takes =
+      let at_end : takes.0 ≡ ended s = finishes_as stream s takes.0 listening takes.1 in
       let rest = met later (ended s) t answers (record {
         payload_type = listening.payload_type;
+        named = listening.named;
         ssrc = listening.ssrc;
         not_again = listening.not_again;
         rate = listening.rate;
         running = refl;
         none_noted = listening.none_noted;
         of_codec = listening.of_codec;
-      }) numbers times takes in
+      }) numbers times (subst (λ (x : Session). Takes later datagrams x answers t) at_end takes.2) in
       record { events = rest.events; meets = rest.meets; brings = rest.brings }
 
 -- Where all comes first

@@ -1,5 +1,6 @@
 -- What a receiver does with the datagrams of its sender, and with pops, is what its buffer does with their packets.
-use Rattle.std.proofs.Common.{◌≡◌, ◌≢◌, ◌∙◌, refl, sym, ap, subst, ℕ, ◌+◌, ◌%◌, ◌^◌, ◌<◌, ◌⊎◌, List, [], ◌∷◌, Bool, true, false, not, cond, Option, Some, None, Ok, Err}
+use Rattle.std.proofs.Common.{◌≡◌, ◌≢◌, ◌∙◌, refl, sym, ap, subst, ℕ, ◌+◌, ◌%◌, ◌^◌, ◌<◌, ◌⊎◌, inl, inr, ◌&&◌, ◌||◌, List, [], ◌∷◌, Bool, true, false, not, cond, Option, Some, None, Ok, Err}
+use Rattle.std.specs.Prelude.{slice_get}
 use Rattle.std.proofs.lemmas.Bool.{eq-eqb, or_left}
 use Rattle.codec_payload_base.specs.declared.error.PacketError.TheVariants as faults
 use Rattle.codec_payload_base.specs.declared.wire.Ticks.{Ticks}
@@ -23,7 +24,9 @@ use Rattle.codec_payload_jitter.specs.declared.numbers.Extended.TheVariants as e
 use Rattle.codec_payload_jitter.specs.declared.outcome.Outcome.{Outcome}
 use Rattle.codec_payload_sender.specs.declared.sender.Stream.{Stream}
 use Rattle.codec_payload_stream.specs.Kinds.{Datagram, WithMedia, datagram_at, header_for, is_other}
-use Rattle.codec_payload_stream.specs.Sessions.{Heard, Hears, Session}
+use Rattle.codec_payload_stream.specs.Choice.{is_silent, origin_of, verdict_of}
+use Rattle.codec_payload_stream.specs.Sessions.{Finishes, Heard, Hears, ReceivesBy, ReceivesBytes, Session, SettlesOn, ended, first_waiting, is_none_of, is_open}
+use Rattle.codec_payload_stream.specs.declared.choice.Candidate.{Candidate}
 use Rattle.codec_payload_stream.specs.declared.receiver.ReceiveError.TheVariants as refusals
 use Rattle.codec_payload_wire.proofs.ReadingLemmas.{datagram_is, packet_at}
 use Rattle.codec_payload_wire.specs.Releases.{ReadsAs, is_sent_again_by}
@@ -37,7 +40,8 @@ AllNumbered first s (k ∷ ks) = (answer_for s ((first + k) % 2 ^ 16) ≡ extend
 -- a receiver of the stream, which knows of no numbers without media, and to which no restart was told
 pub record IsListening (stream : Stream) (s : Session) : Type 0 where
   pub payload_type : s.stream.payload_type ≡ stream.payload_type
-  pub ssrc : is_other s.ssrc stream.ssrc ≡ false
+  pub named : s.named ≡ Some stream.ssrc
+  pub ssrc : s.ssrc ≡ Some stream.ssrc
   pub not_again : is_sent_again_by s.stream.retransmission stream ≡ false
   pub rate : s.packets.rate ≡ stream.clock_rate
   pub running : s.packets.is_restarting ≡ false
@@ -53,6 +57,37 @@ heard now d s t (Err refusals.OutOfMemory) not_memory told = absurd (not_memory 
 heard now d s t (Err (refusals.Rtp e)) not_memory told = told
 heard now d s t (Err refusals.Red) not_memory told = told
 heard now d s t (Err refusals.Retransmission) not_memory told = told
+heard now d s t (Err refusals.BlocksOutOfMemory) not_memory told = told
+
+-- of two branches of which the second is taken, what is known of both is known of the second
+second : {X : Type 0} (P : X → Type 0) (b : Bool) (x y : X) → b ≡ false → P (cond b x y) → P y
+second P b x y taken known = subst (λ (c : Bool). P (cond c x y)) taken known
+
+-- a receiver that names its SSRC receives each datagram as its stream has it
+heard_at_once : (stream : Stream) (now : Ticks) (bytes : List ℕ) (s t : Session) (receipt : Receipt) → IsListening stream s
+    → Delivers now bytes s receipt t → Heard now (datagram_at s.stream s.ssrc bytes) s receipt t
+heard_at_once stream now bytes s t receipt listening delivers = by_case delivers.1
+  where
+    settled_already : is_open s now.0 ≡ false
+    settled_already = ap (λ (named : Option ℕ). is_none_of named && not s.packets.ended && (is_none_of s.ssrc || is_silent s.choice now.0)) listening.named
+
+    by_case : ReceivesBytes now bytes s receipt t → Heard now (datagram_at s.stream s.ssrc bytes) s receipt t
+    by_case (inl by) =
+        let told = second (λ v. ReceivesBy v now bytes s receipt t) (is_open s now.0)
+        (verdict_of s.choice.candidates s.ssrc (origin_of (datagram_at s.stream None bytes))) _ settled_already by in
+        told
+    by_case (inr got) = absurd (delivers.0 got.0)
+
+-- its SSRC is no other one
+same_ssrc : (stream : Stream) (s : Session) → IsListening stream s → is_other s.ssrc stream.ssrc ≡ false
+same_ssrc stream s listening = ap (λ (o : Option ℕ). is_other o stream.ssrc) listening.ssrc ∙ ap not (eq-eqb stream.ssrc stream.ssrc refl)
+
+-- at the end of the stream nothing waits for a choice
+pub finishes_as : (stream : Stream) (s t : Session) → IsListening stream s → Finishes s t → t ≡ ended s
+finishes_as stream s t listening finishes =
+    let none : first_waiting s ≡ None = ap (λ (o : Option ℕ). cond (is_none_of o) (slice_get s.choice.candidates 0) None) listening.ssrc in
+    let stays : SettlesOn None finishes.0 s finishes.1 = subst (λ (o : Option Candidate). SettlesOn o finishes.0 s finishes.1) none finishes.2 in
+    finishes.3 ∙ ap ended stays.1
 
 -- a push of the packet of that number, which has the RTP time of its number
 pub record TakesIn (time_of : ℕ → ℕ) (n : ℕ) (a : Arrival) (r t : Receiving) : Type 0 where
@@ -105,9 +140,9 @@ pub pushes : (time_of : ℕ → ℕ) (stream : Stream) (now : Ticks) (q : Packet
     → Delivers now bytes s receipt t → IsPushed time_of stream now q s t
 pushes time_of stream now q bytes s t receipt types listening reads numbered times time delivers =
     let is : datagram_at s.stream s.ssrc bytes ≡ WithMedia (packet_at stream q) =
-    datagram_is s.stream s.ssrc stream q bytes reads listening.payload_type types listening.ssrc listening.not_again in
+    datagram_is s.stream s.ssrc stream q bytes reads listening.payload_type types (same_ssrc stream s listening) listening.not_again in
     let hears : Hears now (WithMedia (packet_at stream q)) s receipt t =
-    subst (λ (d : Datagram). Hears now d s receipt t) is (heard now (datagram_at s.stream s.ssrc bytes) s t receipt delivers.0 delivers.1) in
+    subst (λ (d : Datagram). Hears now d s receipt t) is (heard now (datagram_at s.stream s.ssrc bytes) s t receipt delivers.0 (heard_at_once stream now bytes s t receipt listening delivers)) in
     let a : Arrival = record { now = now; header = header_for s.stream (packet_at stream q).header; bytes = q.payload } in
     let one = takes_in time_of q.number a s.packets hears.packets hears.outcome listening.running listening.of_codec numbered times time hears.takes in
     let meta : RtpMeta = meta_for now s.packets.rate a.header q.number in
@@ -126,7 +161,8 @@ pushes time_of stream now q bytes s t receipt types listening reads numbered tim
       numbering = ap (λ (x : Receiving). x.numbering) packets ∙ one.numbering;
       listening = record {
         payload_type = ap (λ (x : Session). x.stream.payload_type) hears.left ∙ listening.payload_type;
-        ssrc = ap (λ (x : Session). is_other x.ssrc stream.ssrc) hears.left ∙ ap not (eq-eqb stream.ssrc stream.ssrc refl);
+        named = ap (λ (x : Session). x.named) hears.left ∙ listening.named;
+        ssrc = ap (λ (x : Session). x.ssrc) hears.left;
         not_again = ap (λ (x : Session). is_sent_again_by x.stream.retransmission stream) hears.left ∙ listening.not_again;
         rate = ap (λ (x : Receiving). x.rate) packets ∙ (one.rate ∙ listening.rate);
         running = ap (λ (x : Receiving). x.is_restarting) packets ∙ one.running;
@@ -216,7 +252,8 @@ pops_as stream now answer s t listening not_memory popped =
       numbering = ap (λ (x : Receiving). x.numbering) packets ∙ turn.numbering;
       listening = record {
         payload_type = ap (λ (x : Session). x.stream.payload_type) popped.2 ∙ listening.payload_type;
-        ssrc = ap (λ (x : Session). is_other x.ssrc stream.ssrc) popped.2 ∙ listening.ssrc;
+        named = ap (λ (x : Session). x.named) popped.2 ∙ listening.named;
+        ssrc = ap (λ (x : Session). x.ssrc) popped.2 ∙ listening.ssrc;
         not_again = ap (λ (x : Session). is_sent_again_by x.stream.retransmission stream) popped.2 ∙ listening.not_again;
         rate = ap (λ (x : Receiving). x.rate) packets ∙ (turn.rate ∙ listening.rate);
         running = ap (λ (x : Receiving). x.is_restarting) packets ∙ (turn.is_restarting ∙ listening.running);

@@ -292,6 +292,11 @@ impl<B: Depacketizer> JitterBuffer<B> {
         self.wait_limits
     }
 
+    /// Whether the stream has ended, by [`JitterBuffer::finish`].
+    pub fn has_ended(&self) -> bool {
+        self.ended
+    }
+
     /// The stream has ended: from now on pops wait for nothing, and give all complete frames. Packets within the windows still
     /// go in; no restart is found until [`JitterBuffer::restart`].
     pub fn finish(&mut self) {
