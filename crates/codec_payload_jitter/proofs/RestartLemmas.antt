@@ -87,6 +87,7 @@ counted_restarts c outcomes.Suspect = refl
 counted_restarts c (outcomes.Restarted with_kept) = refl
 counted_restarts c outcomes.NoMedia = refl
 counted_restarts c outcomes.OtherStream = refl
+counted_restarts c outcomes.Undecided = refl
 counted_restarts c outcomes.Rtcp = refl
 
 again_restarts : (c : PacketCounters) (o : Outcome) → (counted_in_again c o).restarts ≡ c.restarts
