@@ -135,7 +135,7 @@ man: $(manual)/codec_payload.h.3
 $(manual)/codec_payload.h.3: include/codec_payload.h include/codec_payload_media.h packaging/Doxyfile
 	rm -rf $(out)/man $(out)/html
 	mkdir -p $(out)
-	doxygen packaging/Doxyfile
+	(cat packaging/Doxyfile && echo OUTPUT_DIRECTORY = $(out)) | doxygen -
 	find $(manual) ! -type d ! -name 'cpay_*' ! -name codec_payload.h.3 ! -name codec_payload_media.h.3 -delete
 
 install: all
@@ -177,7 +177,7 @@ deb: dist
 	sed -e 's|@VERSION@|$(VERSION)|' -e "s|@DATE@|$$(date -R -d @$${SOURCE_DATE_EPOCH:-$$(date +%s)})|" \
 	    packaging/debian/changelog.in >$(out)/deb/$(name)/debian/changelog
 	rm $(out)/deb/$(name)/debian/changelog.in
-	cd $(out)/deb/$(name) && $(packages)
+	cd $(out)/deb/$(name) && unset MAKEFLAGS MFLAGS && $(packages)
 	mv $(out)/deb/*.deb $(out)
 
 # The build's needs are those of the machine, so they are not looked for among packages of the other architecture.
