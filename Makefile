@@ -97,12 +97,12 @@ $(shared): $(out)/codec_payload.o packaging/codec_payload.map
 	$(CC) -shared -Wl,-soname,$(soname) -Wl,--version-script=packaging/codec_payload.map -Wl,-z,defs -Wl,-z,noexecstack \
 	    $(CFLAGS) $(LDFLAGS) $< -o $@
 
-# The tests: each is a program over the archive.
+# The tests: each is a program over the archive. `strict=-Werror` is how the repository builds them.
 programs = $(addprefix $(tests)/,example checks datagrams packets values loopback vectors frames oom)
 
 $(tests)/%: c/%.c $(wildcard c/*.h) $(headers) $(LIBRARY)
 	@mkdir -p $(tests)
-	$(CC) -std=c99 $(warnings) -Werror $(CPPFLAGS) -O1 -g $(SANITIZERS) $(LDFLAGS) -Iinclude $< $(LIBRARY) $(wrapped) -o $@
+	$(CC) -std=c99 $(warnings) $(strict) $(CPPFLAGS) $(CFLAGS) $(SANITIZERS) $(LDFLAGS) -Iinclude $< $(LIBRARY) $(wrapped) -o $@
 
 $(tests)/oom: wrapped = -Wl,--wrap=malloc,--wrap=realloc,--wrap=free
 
@@ -112,7 +112,7 @@ check: $(programs)
 # The header for C++, as two standards.
 $(tests)/plus%: c/plus.cpp c/check.h $(headers) $(LIBRARY)
 	@mkdir -p $(tests)
-	$(CXX) -std=c++$* $(warnings) -Werror $(CPPFLAGS) -O1 -g $(SANITIZERS) $(LDFLAGS) -Iinclude $< $(LIBRARY) -o $@
+	$(CXX) -std=c++$* $(warnings) $(strict) $(CPPFLAGS) $(CFLAGS) $(SANITIZERS) $(LDFLAGS) -Iinclude $< $(LIBRARY) -o $@
 
 check-plus: $(tests)/plus17 $(tests)/plus20
 	$(RUN) $(tests)/plus17

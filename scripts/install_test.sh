@@ -100,7 +100,7 @@ packages() {
     fi
     mkdir -p "$work/$2/var/lib/dpkg/info" "$work/$2/var/lib/dpkg/updates"
     : >"$work/$2/var/lib/dpkg/status"
-    dpkg --root="$work/$2" --force-depends --force-architecture --no-triggers -i "$1/$3"/*.deb >"$work/dpkg.log" 2>&1 || {
+    PATH=$PATH:/usr/sbin:/sbin dpkg --root="$work/$2" --force-depends --force-architecture --no-triggers -i "$1/$3"/*.deb >"$work/dpkg.log" 2>&1 || {
         cat "$work/dpkg.log" >&2
         fail "the packages do not go into a fresh root"
     }
