@@ -6,7 +6,7 @@ The recorders write the VP8 capture of tools/rtp_record under each condition of 
 frames, by their MD5s: those of which every packet came. The stream over UDP in C is run by scripts/bindings.sh, all examples for
 Rust by scripts/rust.sh, and the examples for Rattle by rt ci.
 
-Needs the library as scripts/bindings.sh library builds it, a C compiler with sanitizers, $CC or cc, and cargo of 1.88 or later.
+Needs make, a C compiler with sanitizers, $CC or cc, and cargo of 1.88 or later.
 The last line says what passed; the status is 0 where all did.
 """
 import hashlib
@@ -17,7 +17,7 @@ import sys
 import tempfile
 
 ROOT = os.path.dirname(os.path.dirname(os.path.realpath(__file__)))
-OUT = f"{ROOT}/bindings/out"
+OUT = f"{ROOT}/c/out"
 sys.path.insert(0, f"{ROOT}/tools/rtp_record/tests")
 
 import capture  # noqa: E402  (the folder is known only now)
@@ -100,8 +100,7 @@ def recorders(programs, folder):
 
 
 def main():
-    if not os.path.exists(f"{OUT}/libcodec_payload.a"):
-        subprocess.run([f"{ROOT}/scripts/bindings.sh", "library"], check=True, stdout=subprocess.DEVNULL)
+    subprocess.run(["make", "-s", "-C", ROOT], check=True, stdout=subprocess.DEVNULL)
     with tempfile.TemporaryDirectory() as folder:
         programs = built(folder)
         wrong = [*gateways(programs), *recorders(programs, folder)]
