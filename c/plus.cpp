@@ -52,6 +52,8 @@ void over_datagrams() {
     CHECK(to.pop(100, unit, found) == CPAY_EMPTY);
     CHECK(moved.pop(100, unit, found) == CPAY_OK && found == frame && unit.bytes == 3000);
     CHECK(moved.pop(100, unit, found) == CPAY_NONE && found.empty());
+    cpay_extension_values values = {};
+    CHECK(moved.values(values) == CPAY_OK && !values.has_audio_level);
     to = std::move(moved);
     std::array<std::uint64_t, 4> missing = {};
     CHECK(to.missing(missing, count) == CPAY_OK && count == 0);
