@@ -97,12 +97,12 @@ $(shared): $(out)/codec_payload.o packaging/codec_payload.map
 	$(CC) -shared -Wl,-soname,$(soname) -Wl,--version-script=packaging/codec_payload.map -Wl,-z,defs -Wl,-z,noexecstack \
 	    $(CFLAGS) $(LDFLAGS) $< -o $@
 
-# The tests: each is a program over the archive.
+# The tests: each is a program over the archive. `strict=-Werror` is how the repository builds them.
 programs = $(addprefix $(tests)/,example checks datagrams packets values loopback vectors frames oom)
 
 $(tests)/%: c/%.c $(wildcard c/*.h) $(headers) $(LIBRARY)
 	@mkdir -p $(tests)
-	$(CC) -std=c99 $(warnings) -Werror $(CPPFLAGS) -O1 -g $(SANITIZERS) $(LDFLAGS) -Iinclude $< $(LIBRARY) $(wrapped) -o $@
+	$(CC) -std=c99 $(warnings) $(strict) $(CPPFLAGS) $(CFLAGS) $(SANITIZERS) $(LDFLAGS) -Iinclude $< $(LIBRARY) $(wrapped) -o $@
 
 $(tests)/oom: wrapped = -Wl,--wrap=malloc,--wrap=realloc,--wrap=free
 
@@ -112,7 +112,7 @@ check: $(programs)
 # The header for C++, as two standards.
 $(tests)/plus%: c/plus.cpp c/check.h $(headers) $(LIBRARY)
 	@mkdir -p $(tests)
-	$(CXX) -std=c++$* $(warnings) -Werror $(CPPFLAGS) -O1 -g $(SANITIZERS) $(LDFLAGS) -Iinclude $< $(LIBRARY) -o $@
+	$(CXX) -std=c++$* $(warnings) $(strict) $(CPPFLAGS) $(CFLAGS) $(SANITIZERS) $(LDFLAGS) -Iinclude $< $(LIBRARY) -o $@
 
 check-plus: $(tests)/plus17 $(tests)/plus20
 	$(RUN) $(tests)/plus17
@@ -135,7 +135,7 @@ man: $(manual)/codec_payload.h.3
 $(manual)/codec_payload.h.3: include/codec_payload.h include/codec_payload_media.h packaging/Doxyfile
 	rm -rf $(out)/man $(out)/html
 	mkdir -p $(out)
-	doxygen packaging/Doxyfile
+	(cat packaging/Doxyfile && echo OUTPUT_DIRECTORY = $(out)) | doxygen -
 	find $(manual) ! -type d ! -name 'cpay_*' ! -name codec_payload.h.3 ! -name codec_payload_media.h.3 -delete
 
 install: all
@@ -177,7 +177,7 @@ deb: dist
 	sed -e 's|@VERSION@|$(VERSION)|' -e "s|@DATE@|$$(date -R -d @$${SOURCE_DATE_EPOCH:-$$(date +%s)})|" \
 	    packaging/debian/changelog.in >$(out)/deb/$(name)/debian/changelog
 	rm $(out)/deb/$(name)/debian/changelog.in
-	cd $(out)/deb/$(name) && $(packages)
+	cd $(out)/deb/$(name) && unset MAKEFLAGS MFLAGS && $(packages)
 	mv $(out)/deb/*.deb $(out)
 
 # The build's needs are those of the machine, so they are not looked for among packages of the other architecture.

@@ -210,6 +210,11 @@ cpay_status cpay_receiver_restart(cpay_receiver *receiver) {
     return proved_cpay_receiver_restart(&receiver->handle);
 }
 
+cpay_status proved_cpay_receiver_restart_as(cpay_handle *receiver, uint32_t ssrc, uint32_t rtx_ssrc);
+cpay_status cpay_receiver_restart_as(cpay_receiver *receiver, uint32_t ssrc, uint32_t rtx_ssrc) {
+    return proved_cpay_receiver_restart_as(&receiver->handle, ssrc, rtx_ssrc);
+}
+
 cpay_status proved_cpay_receiver_missing(cpay_handle *receiver, uint64_t *numbers, size_t numbers_len, size_t *count);
 cpay_status cpay_receiver_missing(cpay_receiver *receiver, uint64_t *numbers, size_t numbers_len, size_t *count) {
     if (!numbers && numbers_len) return CPAY_INVALID;

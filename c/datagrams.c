@@ -16,6 +16,8 @@ static cpay_receiver_settings settings_of(cpay_spec spec) {
     settings.hold_back = 30;
     settings.spec = spec;
     settings.payload_type = TYPE;
+    settings.has_ssrc = true;
+    settings.ssrc = SSRC;
     return settings;
 }
 
@@ -58,7 +60,7 @@ static cpay_receiver_counts_info counts_of(cpay_receiver *receiver) {
     cpay_receiver_counts_info c = {0};
     CHECK(cpay_receiver_counts(receiver, &c) == CPAY_OK);
     uint64_t dropped = c.no_media + c.duplicates + c.late + c.suspect + c.evicted;
-    CHECK(c.received + c.recovered == c.rtcp + c.malformed + c.other_streams + dropped + c.held + c.released + c.left);
+    CHECK(c.received + c.recovered == c.rtcp + c.malformed + c.other_streams + c.undecided + dropped + c.held + c.released + c.left);
     return c;
 }
 
@@ -151,6 +153,7 @@ static void settings(void) {
         CHECK(cpay_receiver_set_wait_limits(&it.receiver, &wait_limits) == status);
         CHECK(cpay_receiver_finish(&it.receiver) == status);
         CHECK(cpay_receiver_restart(&it.receiver) == status);
+        CHECK(cpay_receiver_restart_as(&it.receiver, 1, 2) == status);
         CHECK(cpay_receiver_report(&it.receiver, &report) == status);
         CHECK(cpay_receiver_counts(&it.receiver, &counts) == status);
     }
@@ -358,6 +361,64 @@ static void amr_wb(void) {
     cpay_receiver_free(&receiver);
 }
 
+/* What becomes of a packet of that SSRC and number. */
+static uint32_t came_of(cpay_receiver *receiver, uint64_t now, uint32_t ssrc, uint16_t number) {
+    uint8_t bytes[16];
+    uint32_t outcome = 99;
+    size_t size = packet(bytes, TYPE, number, (uint32_t)number * 960, 2);
+    for (int i = 0; i < 4; i++) bytes[8 + i] = (uint8_t)(ssrc >> (24 - 8 * i));
+    CHECK(cpay_receiver_receive(receiver, now, bytes, size, &outcome) == CPAY_OK);
+    return outcome;
+}
+
+/* No SSRC is named: a stray packet comes first, and two packets of one SSRC choose the stream; both go in, with their own times. */
+static void choice(void) {
+    cpay_receiver_settings settings = settings_of(opus());
+    settings.has_ssrc = false;
+    settings.tick_rate = 1000;
+    cpay_receiver receiver = receiver_of(&settings);
+    CHECK(came_of(&receiver, 0, 1, 500) == CPAY_UNDECIDED && came_of(&receiver, 5, 2, 11) == CPAY_UNDECIDED);
+    CHECK(counts_of(&receiver).undecided == 2 && counts_of(&receiver).received == 2 && !counts_of(&receiver).has_ssrc);
+    CHECK(next(&receiver, 5) == -1);
+    CHECK(came_of(&receiver, 7, 2, 10) == CPAY_HELD);
+    cpay_receiver_counts_info counts = counts_of(&receiver);
+    CHECK(counts.has_ssrc && counts.ssrc == 2 && counts.undecided == 0 && counts.other_streams == 1 && counts.held == 2);
+    CHECK(next(&receiver, 7) == 10 && next(&receiver, 7) == 11 && came_of(&receiver, 8, 1, 501) == CPAY_OTHER_STREAM);
+    /* the stream is silent for two seconds, and two packets of another choose again */
+    CHECK(came_of(&receiver, 2006, 3, 900) == CPAY_OTHER_STREAM && came_of(&receiver, 2007, 3, 901) == CPAY_UNDECIDED);
+    CHECK(came_of(&receiver, 2027, 3, 902) == CPAY_HELD && counts_of(&receiver).ssrc == 3 && counts_of(&receiver).restarts == 1);
+    CHECK(next(&receiver, 2027) == 901 && next(&receiver, 2027) == 902);
+    cpay_receiver_free(&receiver);
+    /* of packets that wait the first comes out at the end */
+    receiver = receiver_of(&settings);
+    CHECK(came_of(&receiver, 0, 2, 10) == CPAY_UNDECIDED && came_of(&receiver, 0, 1, 500) == CPAY_UNDECIDED);
+    CHECK(cpay_receiver_finish(&receiver) == CPAY_OK && next(&receiver, 0) == 10 && counts_of(&receiver).other_streams == 1);
+    cpay_receiver_free(&receiver);
+}
+
+/* A new SSRC is told, and that of retransmissions: those of the streams before are of another stream. */
+static void told_as(void) {
+    cpay_receiver_settings settings = settings_of(opus());
+    settings.has_rtx = true;
+    settings.rtx_ssrc = 2;
+    settings.rtx_payload_type = 112;
+    cpay_receiver receiver = receiver_of(&settings);
+    uint8_t bytes[20];
+    uint32_t outcome = 99;
+    CHECK(came(&receiver, 0, TYPE, 7) == CPAY_HELD && next(&receiver, 0) == 7);
+    CHECK(cpay_receiver_restart_as(&receiver, 3, 4) == CPAY_OK);
+    CHECK(came(&receiver, 1, TYPE, 8) == CPAY_OTHER_STREAM && came_of(&receiver, 1, 3, 100) == CPAY_RESTARTED_ALONE);
+    CHECK(came_of(&receiver, 1, 3, 102) == CPAY_HELD && next(&receiver, 1) == 100 && next(&receiver, 1) == -1);
+    size_t size = packet(bytes, 112, 500, 0, 4);
+    memcpy(bytes + 8, "\0\0\0\4\0\145\145\145", 8); /* number 101 of SSRC 4 */
+    CHECK(cpay_receiver_receive(&receiver, 1, bytes, size, &outcome) == CPAY_OK && outcome == CPAY_HELD);
+    CHECK(next(&receiver, 1) == 101 && next(&receiver, 1) == 102);
+    bytes[11] = 2;
+    CHECK(cpay_receiver_receive(&receiver, 1, bytes, size, &outcome) == CPAY_OK && outcome == CPAY_OTHER_STREAM);
+    CHECK(cpay_receiver_restart(&receiver) == CPAY_OK && counts_of(&receiver).ssrc == 3);
+    cpay_receiver_free(&receiver);
+}
+
 /* After the end of a stream the next one begins by a call, under another SSRC and from any number. */
 static void told_anew(void) {
     cpay_receiver_settings settings = settings_of(opus());
@@ -368,7 +429,7 @@ static void told_anew(void) {
     CHECK(came(&receiver, 0, TYPE, 7) == CPAY_HELD && cpay_receiver_finish(&receiver) == CPAY_OK && next(&receiver, 0) == 7);
     bytes[8] ^= 1;
     CHECK(cpay_receiver_receive(&receiver, 1, bytes, size, &outcome) == CPAY_OK && outcome == CPAY_OTHER_STREAM);
-    CHECK(cpay_receiver_restart(&receiver) == CPAY_OK);
+    CHECK(cpay_receiver_restart_as(&receiver, SSRC ^ 0x01000000, 0) == CPAY_OK);
     CHECK(cpay_receiver_receive(&receiver, 2, bytes, size, &outcome) == CPAY_OK && outcome == CPAY_RESTARTED_ALONE);
     CHECK(counts_of(&receiver).restarts == 1 && counts_of(&receiver).ssrc == (SSRC ^ 0x01000000));
     cpay_receiver_free(&receiver);
@@ -498,6 +559,8 @@ int main(void) {
     others();
     small_room();
     amr_wb();
+    choice();
+    told_as();
     told_anew();
     red();
     sent_again();

@@ -203,6 +203,8 @@ static int datagrams(int *met) {
     receives.spec = spec;
     receives.payload_type = 96;
     receives.hold_back = 0;
+    receives.has_ssrc = true;
+    receives.ssrc = 7;
     receives.extension_ids = sends.extension_ids;
     AGAIN(status, cpay_receiver_new(&receiver, &receives, no_media, 1));
     if (status) return 1;
@@ -249,7 +251,8 @@ static size_t packet(uint8_t *out, uint8_t type, uint8_t ssrc, uint8_t number, c
     return 12 + size;
 }
 
-/* Of four packets the second comes in RED with the third (RFC 2198), and the last is sent again (RFC 4588). Padding comes alone. */
+/* Of four packets the second comes in RED with the third (RFC 2198), and the last is sent again (RFC 4588). Padding comes alone. No
+ * SSRC is named, so that the first packet waits for the next one. */
 static int recovery(int *met) {
     long before = kept;
     cpay_receiver_settings receives = CPAY_FILE;
@@ -275,19 +278,15 @@ static int recovery(int *met) {
         AGAIN(status, cpay_receiver_receive(&receiver, 0, bytes, size, &outcome)); \
         if (status || outcome != (wanted)) return 2; \
     } while (0)
-    COMES(CPAY_HELD, 63, 7, 10, "\x6f\x0a", 2);
-    COMES(CPAY_HELD, 63, 7, 12, "\xef\0\x04\x01\x6f\x0b\x0c", 7);
-    /* A block for which memory was wanting stays missing, and can be sent again. */
-    if (cpay_receiver_counts(&receiver, &counts)) return 3;
-    if (counts.recovered == 0) {
-        if (!refused) return 4;
-        (*met)++;
-        received++;
-        COMES(CPAY_HELD, 112, 9, 1, "\0\x0b\x0b", 3);
-    }
+    COMES(CPAY_UNDECIDED, 63, 7, 10, "\x6f\x0a", 2);
+    size_t size = packet(bytes, 63, 7, 12, "\xef\0\x04\x01\x6f\x0b\x0c", 7);
+    AGAIN(status, cpay_receiver_receive(&receiver, 0, bytes, size, &outcome));
+    /* If memory ran out for what it repeats, the packet itself was received, and is a duplicate when it is given again. */
+    if (!status && outcome == CPAY_DUPLICATE && refused) received++;
+    else if (status || outcome != CPAY_HELD) return 3;
     COMES(CPAY_HELD, 112, 9, 2, "\0\x0d\x0d", 3);
     COMES(CPAY_NO_MEDIA, 112, 9, 3, "", 0);
-    size_t size = packet(bytes, 111, 7, 14, "\1", 1);
+    size = packet(bytes, 111, 7, 14, "\1", 1);
     bytes[0] |= 0x20; /* the byte is padding */
     AGAIN(status, cpay_receiver_receive(&receiver, 0, bytes, size, &outcome));
     if (status || outcome != CPAY_NO_MEDIA) return 5;
@@ -296,7 +295,7 @@ static int recovery(int *met) {
         if (status || unit.bytes != 1 || bytes[0] != number || !unit.contiguous) return 6;
     }
     if (cpay_receiver_counts(&receiver, &counts) || counts.received != received) return 7;
-    if (counts.released != 4 || counts.recovered + counts.retransmitted != 2 || counts.no_media != 2) return 8;
+    if (counts.released != 4 || counts.recovered != 1 || counts.retransmitted != 1 || counts.no_media != 2) return 8;
     cpay_receiver_free(&receiver);
     return kept == before ? 0 : 9;
 }

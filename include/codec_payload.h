@@ -522,7 +522,7 @@ typedef struct {
                                    free, no frame waits */
     uint64_t max_wait;        /**< with has_max_wait: a complete frame is released once this number of ticks of your clock has
                                    passed since its last packet was received */
-    uint32_t ssrc;            /**< with has_ssrc: the SSRC of the stream; else it is that of the first packet */
+    uint32_t ssrc;            /**< with has_ssrc: the SSRC of the stream; else two packets choose it: see cpay_receiver_receive */
     uint32_t tick_rate;       /**< how many ticks of the caller's clock a second has, above 0: for the jitter of reports alone */
     uint32_t red_step;        /**< with has_red: how many ticks of the RTP clock packets are apart, 1 to 16383 */
     uint32_t rtx_ssrc;        /**< with has_rtx: the SSRC under which packets are sent again */
@@ -573,19 +573,28 @@ enum {
     CPAY_HELD_AND_EVICTED = 1, /**< there was no room: the lowest packet was evicted, which can be this one */
     CPAY_DUPLICATE = 2,        /**< a packet of its number is held already; it was dropped */
     CPAY_LATE = 3,             /**< all up to its number is done; it was dropped */
-    CPAY_SUSPECT = 4,          /**< its number is far from all others; it is kept until the next packet comes */
+    CPAY_SUSPECT = 4,          /**< its number is far from all others; it is kept until another suspect packet or a restart */
     CPAY_RESTARTED = 5,        /**< the sender has restarted: it went in, and the suspect packet before it too */
     CPAY_RESTARTED_ALONE = 6,  /**< the same, and no other packet: the suspect one had no media, memory was wanting for it, or
                                     there was none, since cpay_receiver_restart told of the restart */
     CPAY_NO_MEDIA = 7,         /**< padding alone, or a payload type without media; no frame waits for its number */
     CPAY_OTHER_STREAM = 8,     /**< another SSRC or payload type */
-    CPAY_RTCP = 9              /**< RTCP on the same port */
+    CPAY_RTCP = 9,             /**< RTCP on the same port */
+    CPAY_UNDECIDED = 10        /**< the stream is not chosen so far: the datagram is kept until it is */
 };
 
 /** Takes a datagram in, at that time in ticks of a clock of the caller's, and tells what became of it: CPAY_HELD and so on. Any
  * bytes may be given. CPAY_RTP_HEADER_TOO_SHORT to CPAY_RTP_PADDING_TOO_LONG where they are no RTP packet: it is counted as
  * malformed, and *outcome is not told; likewise CPAY_RED_CORRUPTED and CPAY_RTX_TOO_SHORT. Of a packet in RED the outcome is
- * that of its primary block. With CPAY_OUT_OF_MEMORY nothing has changed, and it can be given again. [m] */
+ * that of its primary block.
+ *
+ * If the settings name no SSRC, the first packet of each of up to four SSRCs waits (CPAY_UNDECIDED). The stream is that of the first
+ * two packets of one SSRC whose numbers are 1 to 100 apart, either way. The packet that waits is received first, at the time at
+ * which it came, and then this one; the others that wait are of other streams. If no packet of the stream came for two seconds (by
+ * `tick_rate`), packets of other SSRCs wait again, and two of them choose anew, as after cpay_receiver_restart.
+ *
+ * After CPAY_OUT_OF_MEMORY the datagram can be given again: nothing of it has changed anything, but for a packet in RED that was
+ * received itself while memory ran out for what it repeats. Such a packet is a duplicate then, and what it repeats goes in. [m] */
 CPAY_CHECKED cpay_status cpay_receiver_receive(cpay_receiver *receiver, uint64_t now, const uint8_t *datagram,
                                                size_t datagram_len, uint32_t *outcome);
 
@@ -617,12 +626,17 @@ typedef struct {
 CPAY_CHECKED cpay_status cpay_receiver_set_wait_limits(cpay_receiver *receiver, const cpay_wait_limits *wait_limits);
 
 /** The stream has ended: from now on pops wait for nothing, and give all complete frames. Packets within the windows still go
- * in; no restart is found until cpay_receiver_restart. */
+ * in; no restart is found until cpay_receiver_restart. If no SSRC was chosen so far, the first of the packets that wait chooses it;
+ * without memory for it, they still wait, and the call can be made again. [m] */
 CPAY_CHECKED cpay_status cpay_receiver_finish(cpay_receiver *receiver);
 
 /** The sender begins anew, as signalling or a new SSRC tells: the next packet of the stream gets a number above all others, and
- * pops wait again. Where the settings name no SSRC, the stream's is again that of the first packet that comes. */
+ * pops wait again. If the settings name no SSRC, two packets choose it again; those that wait are of other streams. */
 CPAY_CHECKED cpay_status cpay_receiver_restart(cpay_receiver *receiver);
+
+/** The same if you know the new SSRC, which is named from then on: packets of the SSRC before are of another stream. `rtx_ssrc` is the
+ * SSRC under which packets are sent again from now on; without has_rtx in the settings it is not looked at. */
+CPAY_CHECKED cpay_status cpay_receiver_restart_as(cpay_receiver *receiver, uint32_t ssrc, uint32_t rtx_ssrc);
 
 /** The numbers that are missing, in rising order, as many as there is room for, into `numbers`, and how many they are into `count`:
  * those above the last that went out, and above the least since the stream began or began anew, up to the greatest, that are
@@ -643,12 +657,13 @@ typedef struct {
 CPAY_CHECKED cpay_status cpay_receiver_report(cpay_receiver *receiver, cpay_report_info *report);
 
 /** How many datagrams came to what, modulo 2^64: `received` and `recovered` together are the sum of rtcp, malformed,
- * other_streams, no_media, duplicates, late, suspect, evicted, held, released and left. */
+ * other_streams, undecided, no_media, duplicates, late, suspect, evicted, held, released and left. */
 typedef struct {
     uint64_t received;
     uint64_t rtcp;
     uint64_t malformed; /**< neither RTCP nor RTP */
-    uint64_t other_streams;
+    uint64_t other_streams; /**< another SSRC or payload type, and packets that waited and are not of the stream that was chosen */
+    uint64_t undecided;     /**< packets that wait for the stream to be chosen: at most 4 */
     uint64_t no_media;
     uint64_t duplicates;
     uint64_t late;

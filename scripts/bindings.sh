@@ -130,8 +130,8 @@ cd "$root"
 step scripts/assembly.py check
 assembly=$(tail -n 1 "$work/log")
 check_headers
-step make check check-sanitized
-! command -v "$plus" >/dev/null || step make check-plus
+step make check check-sanitized strict=-Werror
+! command -v "$plus" >/dev/null || step make check-plus strict=-Werror
 allocators="the C library's allocator"
 run_other_allocators
 proved="without rt, so neither the archive that rt builds nor scripts of the program"
@@ -150,7 +150,7 @@ if command -v rt >/dev/null; then
 fi
 arm="without gcc-aarch64-linux-gnu and qemu-user, so not for AArch64"
 if command -v aarch64-linux-gnu-gcc >/dev/null && command -v qemu-aarch64 >/dev/null; then
-    step make check-aarch64
+    step make check-aarch64 strict=-Werror
     arm="AArch64 by qemu"
 fi
 twin="without cargo, so without tools/twin"

@@ -9,7 +9,8 @@ import struct
 from program_vectors import Row, bad
 
 OPUS = "stream opus 48000 96\n"
-WAITS = f"{OPUS}wait 1000 0 50\n"
+OPEN = f"{OPUS}wait 1000 0 50\n"
+WAITS = f"{OPEN}ssrc 7\n"
 FIRST = 65_536
 
 
@@ -69,7 +70,7 @@ DEATHS = [
     ),
     Row(
         "the first two packets are swapped",
-        f"{OPUS}wait 1000 1 50\nreceive\n" + came(0, 11, "01") + "pop 0\ndeadline\n" + came(1, 10, "00") + "pop 1\npop 1\n",
+        f"{OPUS}wait 1000 1 50\nssrc 7\nreceive\n" + came(0, 11, "01") + "pop 0\ndeadline\n" + came(1, 10, "00") + "pop 1\npop 1\n",
         "held\nnone\ndeadline 50\nheld\n" + unit(FIRST + 10, "00") + unit(FIRST + 11, "01"),
     ),
     Row(
@@ -80,7 +81,7 @@ DEATHS = [
     # Of 16 places 2 are kept free: with 15 packets held the frame behind the gap is due, though it waits by number alone.
     Row(
         "a gap never outlives the buffer",
-        f"{OPUS}wait - 0 -\nlimit 16\nreceive\n" + came(0, 10, "00") + "pop 0\n"
+        f"{OPUS}wait - 0 -\nlimit 16\nssrc 7\nreceive\n" + came(0, 10, "00") + "pop 0\n"
         + "".join(came(n, n, f"{n:02x}") + f"pop {n}\n" for n in range(12, 27)) + "pop 26\n" * 15 + "counters\n",
         "held\n" + unit(FIRST + 10, "00") + "held\nnone\n" * 14 + "held\n" + unit(FIRST + 12, "0c", 0)
         + "".join(unit(FIRST + n, f"{n:02x}") for n in range(13, 27)) + "none\ncounters received 16 released 16 units 16\n",
@@ -88,7 +89,7 @@ DEATHS = [
     # 23 frames of type 15, which have no speech, are 0.46 s in a packet: 30 of such packets are 14 s, and max_wait is 100 ms.
     Row(
         "AMR-WB with 23 frames a packet behind a gap",
-        "stream amrwb-octet 16000 96\nwait 30 0 100\nreceive\n" + came(0, 0, "f0" + "fc" * 22 + "7c") + "pop 0\n"
+        "stream amrwb-octet 16000 96\nwait 30 0 100\nssrc 7\nreceive\n" + came(0, 0, "f0" + "fc" * 22 + "7c") + "pop 0\n"
         + came(460, 2, "f0" + "fc" * 22 + "7c", time=14_720) + "pop 559\ndeadline\npop 560\n",
         "held\n" + f"unit {FIRST} {FIRST} 1 {2**32} " + "7c" * 23 + "\nheld\nnone\ndeadline 560\n"
         + f"unit {FIRST + 2} {FIRST + 2} 0 {2**32 + 14_720} " + "7c" * 23 + "\n",
@@ -112,10 +113,16 @@ OUTCOMES = [
     ),
     Row(
         "a restart that the caller tells, with another SSRC",
-        WAITS + "receive\n" + came(0, 10, "00") + "finish\npop 0\n" + came(0, 11, "01", ssrc=8) + "restart\n" + came(0, 5, "02", ssrc=8)
-        + came(0, 11, "03") + "pop 0\npop 50\n",
-        "held\n" + unit(FIRST + 10, "00") + "other stream\nheld\nother stream\nnone\n".replace("held", "restarted alone")
-        + unit(2 * FIRST + 5, "02", 0),
+        OPEN + "receive\n" + came(0, 10, "00") + "finish\npop 0\n" + came(0, 11, "01", ssrc=8) + "restart\n" + came(0, 5, "02", ssrc=8)
+        + came(0, 11, "03") + came(0, 6, "04", ssrc=8) + "pop 0\npop 50\npop 50\ncounters\n",
+        "undecided\n" + unit(FIRST + 10, "00") + "other stream\nundecided\nundecided\nheld\nnone\n" + unit(2 * FIRST + 5, "02", 0)
+        + unit(2 * FIRST + 6, "04") + "counters received 5 other 2 released 3 restarts 1 units 3\n",
+    ),
+    Row(
+        "packets that wait are counted, and the first of them comes out at the end",
+        OPEN + "receive\n" + came(0, 10, "00") + came(0, 5, "01", ssrc=8) + "counters\nfinish\ncounters\npop 0\ncounters\n",
+        "undecided\nundecided\ncounters received 2 undecided 2\ncounters received 2 other 1 held 1\n" + unit(FIRST + 10, "00")
+        + "counters received 2 other 1 released 1 units 1\n",
     ),
     Row(
         "the SSRC that is set stays over a restart",
@@ -480,7 +487,8 @@ def captured():
 
 def played(sender, stream, packets):
     """A row that plays a sender's audio: each packet of the stream is a unit with the payload that tshark tells, and so is the
-    primary block of each packet in RED (RFC 2198, section 3), here behind at most one older block."""
+    primary block of each packet in RED (RFC 2198, section 3), here behind at most one older block. No SSRC is named, so the first
+    packet waits for the second."""
     codec, rate, kind, *red_kind = stream.split()
     setup = f"stream {codec} {rate} {kind}\nwait 1000 0 50\n" + (f"red {red_kind[0]} 960\n" if red_kind else "")
     given = outcomes = units = ""
@@ -496,7 +504,7 @@ def played(sender, stream, packets):
         if its_kind in red_kind:
             older = int.from_bytes(payload[2:4], "big") % 1_024 if payload[0] & 0x80 else None
             payload = payload[1:] if older is None else payload[5 + older :]
-        outcomes += "held\n"
+        outcomes += "held\n" if units else "undecided\n"
         place = FIRST + first[0] + (int(number) - first[0]) % 65_536
         units += unit(place, payload.hex(), time=first[1] + (int(time) - first[1]) % 2**32)
     return Row(f"played: {sender}", setup + "receive\n" + given + "pop 0\n" * (len(packets) + 1), outcomes + units + "none\n" * (

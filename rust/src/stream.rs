@@ -3,7 +3,10 @@
 //! What stands between datagrams and the buffer: the datagrams of one stream are told apart, sequence numbers of 16 bits are
 //! extended, and packets are received by a clock.
 
+mod blocks;
+mod choice;
 mod datagram;
+mod defaults;
 #[doc(hidden)]
 pub mod receiver;
 #[doc(hidden)]

@@ -1,14 +1,14 @@
 -- What the calls on a receiver of datagrams do.
-use Rattle.std.specs.Prelude.{◌≡◌, ◌≢◌, ℕ, ◌-◌, ◌^◌, ◌&&◌, ◌||◌, ◌==◌, not, nat_le, nat_lt, if◌then◌else◌, Bool, true, false, Option, Some, None, Result, Ok, Err, List, is_some, length, drop, ◌++◌}
+use Rattle.std.specs.Prelude.{◌≡◌, ◌≢◌, ℕ, ◌+◌, ◌-◌, ◌%◌, ◌^◌, ◌&&◌, ◌||◌, ◌==◌, not, nat_le, nat_lt, if◌then◌else◌, Bool, true, false, Option, Some, None, Result, Ok, Err, List, is_some, length, drop, ◌++◌}
 use Rattle.codec_payload_core.specs.Depacketizers.{DepacketizerState}
 use Rattle.codec_payload_jitter.specs.Missing.{missing_numbers}
-use Rattle.codec_payload_jitter.specs.Receiving.{PopsWith, begun_anew, settled, waiting_at}
+use Rattle.codec_payload_jitter.specs.Receiving.{PopsWith, settled, waiting_at}
 use Rattle.codec_payload_jitter.specs.declared.waiting.WaitLimits.{WaitLimits}
 use Rattle.codec_payload_jitter.specs.declared.outcome.Outcome.{Outcome}
 use Rattle.codec_payload_jitter.specs.declared.outcome.Outcome.TheVariants as outcomes
 use Rattle.codec_payload_jitter.specs.Receiving.{Receiving}
-use Rattle.codec_payload_stream.specs.Kinds.{datagram_at}
-use Rattle.codec_payload_stream.specs.Sessions.{Session, Heard, session_by, time_with}
+use Rattle.codec_payload_stream.specs.Kinds.{retransmitted_under}
+use Rattle.codec_payload_stream.specs.Sessions.{ReceivesBytes, Session, restarted, session_by, time_with}
 use Rattle.codec_payload_stream.specs.declared.receiver.ReceiveError.{ReceiveError}
 use Rattle.codec_payload_stream.specs.declared.receiver.ReceiveError.TheVariants as errors
 use Rattle.codec_payload_stream.specs.declared.receiver.RedSettings.{RedSettings}
@@ -105,6 +105,7 @@ outcome_number (outcomes.Restarted false) = 6
 outcome_number outcomes.NoMedia = 7
 outcome_number outcomes.OtherStream = 8
 outcome_number outcomes.Rtcp = 9
+outcome_number outcomes.Undecided = 10
 
 -- what is told of an answer
 abbrev pub Tells : Result Outcome ReceiveError → ℕ → (before after : ℕ) → Type 0
@@ -113,13 +114,14 @@ Tells (Err errors.OutOfMemory) status before after = (status ≡ 17) × (after �
 Tells (Err (errors.Rtp e)) status before after = (status ≡ rtp_status e) × (after ≡ before)
 Tells (Err errors.Red) status before after = (status ≡ 14) × (after ≡ before)
 Tells (Err errors.Retransmission) status before after = (status ≡ 49) × (after ≡ before)
+Tells (Err errors.BlocksOutOfMemory) status before after = (status ≡ 17) × (after ≡ before)
 
 -- a datagram is received
 pub record Takes (r : StreamReceiver) (now : ℕ) (bytes : List ℕ) (status before after : ℕ) (s : StreamReceiver) : Type 0 where
   pub at : Ticks
   pub at_is : at.0 ≡ now
   pub answer : Result Outcome ReceiveError
-  pub heard : Heard at (datagram_at r.receiver.stream r.receiver.ssrc bytes) r.receiver answer s.receiver
+  pub receives : ReceivesBytes at bytes r.receiver answer s.receiver
   pub tells : Tells answer status before after
   pub waiting : s.waiting ≡ r.waiting
   pub taken : s.taken ≡ r.taken
@@ -160,10 +162,11 @@ TellsNumber None status before after = (status ≡ 32) × (after ≡ before)
 
 -- how many datagrams came to what
 pub record TellsCounts (r : StreamReceiver) (c : ReceiverCountsInfo) : Type 0 where
-  pub received : c.received ≡ r.receiver.arrived.received
+  pub received : c.received ≡ (r.receiver.arrived.received + length r.receiver.choice.candidates) % 2 ^ 64
   pub rtcp : c.rtcp ≡ r.receiver.arrived.rtcp
   pub malformed : c.malformed ≡ r.receiver.arrived.malformed
   pub other_streams : c.other_streams ≡ r.receiver.arrived.other_streams
+  pub undecided : c.undecided ≡ length r.receiver.choice.candidates
   pub no_media : c.no_media ≡ r.receiver.packets.counters.no_media
   pub duplicates : c.duplicates ≡ r.receiver.packets.counters.duplicates
   pub late : c.late ≡ r.receiver.packets.counters.late
@@ -185,9 +188,9 @@ TellsReport None status before after = (status ≡ 32) × (after ≡ before)
 TellsReport (Some x) status before after =
     (status ≡ 0) × (after ≡ record { cumulative_lost = x.cumulative_lost; highest = x.highest; jitter = x.jitter; fraction_lost = x.fraction_lost })
 
--- the sender begins anew
-abbrev pub is_restarting : Session → Session
-is_restarting s = record s { ssrc = s.named; packets = begun_anew s.packets; reception = s.no_reception }
+-- the sender begins anew under that SSRC, and packets are retransmitted under that one
+abbrev pub restarted_as : (ssrc rtx_ssrc : ℕ) → Session → Session
+restarted_as ssrc rtx_ssrc s = restarted (Some ssrc) (record s { stream = retransmitted_under (Some rtx_ssrc) s.stream; named = Some ssrc })
 
 -- frames wait by other values
 abbrev pub waiting_by : WaitLimits → Session → Session

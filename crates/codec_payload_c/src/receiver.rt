@@ -4,7 +4,8 @@ ghost use Rattle.std.specs.Prelude.{◌≡◌, ◌≢◌, ◌&&◌, is_some, Boo
 ghost use Rattle.codec_payload_core.specs.Depacketizers.{depacketizer_state_of};
 ghost use Rattle.codec_payload_jitter.specs.Receiving.{deadline_of};
 ghost use Rattle.codec_payload_stream.specs.Reports.{report_of, reported};
-ghost use Rattle.codec_payload_c.specs.StreamReceivers.{AreSettings, IsNewStream, IsStreamReceiverOf, PopsUnit, Takes, TellsCounts, TellsMissing, TellsNumber, TellsReport, TellsTaken, TellsTimed, is_restarting, bound_given, is_in_range, outcome_number, red_in_range, red_set, rtx_in_range, rtx_set, wait_limits_given, waiting_by};
+ghost use Rattle.codec_payload_stream.specs.Sessions.{Finishes, restarted};
+ghost use Rattle.codec_payload_c.specs.StreamReceivers.{AreSettings, IsNewStream, IsStreamReceiverOf, PopsUnit, Takes, Tells, TellsCounts, TellsMissing, TellsNumber, TellsReport, TellsTaken, TellsTimed, bound_given, is_in_range, outcome_number, red_in_range, red_set, rtx_in_range, rtx_set, restarted_as, wait_limits_given, waiting_by};
 ghost use Rattle.codec_payload_handle.specs.Kinds.{Makes, OnStreamReceiver, Refuses, is_stream_receiver};
 ghost use Rattle.codec_payload_handle.specs.Settings.{depacketizer_set};
 
@@ -59,7 +60,7 @@ pub struct ReceiverSettings {
     pub rtx_payload_type: u8,
     /// Whether `max_wait` is set; else frames wait for as long as `hold_back` and `start` say.
     pub has_max_wait: bool,
-    /// Whether `ssrc` is set; else it is that of the first packet of the stream.
+    /// Whether `ssrc` is set; else two packets of one SSRC choose the stream.
     pub has_ssrc: bool,
     /// Whether the stream is sent in RED.
     pub has_red: bool,
@@ -91,6 +92,8 @@ pub struct ReceiverCountsInfo {
     pub rtcp: u64,
     pub malformed: u64,
     pub other_streams: u64,
+    /// Packets that wait for the stream to be chosen.
+    pub undecided: u64,
     pub no_media: u64,
     pub duplicates: u64,
     pub late: u64,
@@ -263,6 +266,7 @@ fn number_of(outcome: Outcome) -> u32
         Outcome::NoMedia => 7,
         Outcome::OtherStream => 8,
         Outcome::Rtcp => 9,
+        Outcome::Undecided => 10,
     }
 }
 
@@ -270,15 +274,23 @@ fn number_of(outcome: Outcome) -> u32
 fn receive(stream: &mut StreamReceiver, now: u64, datagram: &[u8], outcome: &mut u32) -> u32
     ensures { Takes stream.old now datagram.now result outcome.old outcome.new stream.new }
 {
-    match stream.receiver.receive(Ticks(now), datagram) {
-        Ok(told) => {
-            *outcome = number_of(told);
+    let answer = stream.receiver.receive(Ticks(now), datagram);
+    report_answer(answer, outcome)
+}
+
+/// The status of an answer, and its outcome, if it has one.
+fn report_answer(answer: Result<Outcome, ReceiveError>, outcome: &mut u32) -> u32
+    ensures { Tells answer result outcome.old outcome.new }
+{
+    match answer {
+        Ok(known) => {
+            *outcome = number_of(known);
             status::OK
         }
         Err(ReceiveError::Rtp(fault)) => status_of(fault),
         Err(ReceiveError::Red) => status::RED_CORRUPTED,
         Err(ReceiveError::Retransmission) => status::RTX_TOO_SHORT,
-        Err(ReceiveError::OutOfMemory) => status::OUT_OF_MEMORY,
+        Err(ReceiveError::OutOfMemory | ReceiveError::BlocksOutOfMemory) => status::OUT_OF_MEMORY,
     }
 }
 
@@ -328,6 +340,7 @@ fn counts_of(stream: &StreamReceiver) -> ReceiverCountsInfo
         rtcp: counters.rtcp,
         malformed: counters.malformed,
         other_streams: counters.other_streams,
+        undecided: counters.undecided,
         no_media: packets.no_media,
         duplicates: packets.duplicates,
         late: packets.late,
@@ -558,7 +571,7 @@ pub extern "C" fn cpay_receiver_set_wait_limits(
 /// The stream has ended: from now on pops wait for nothing.
 #[unsafe(no_mangle)]
 pub extern "C" fn cpay_receiver_finish(alloc: Global, handle: &mut Handle) -> u32
-    ensures ends { OnStreamReceiver handle.old.place.value (λ r s. (result ≡ 0) × (s ≡ record r { receiver = record r.receiver { packets = record r.receiver.packets { ended = Bool.true; is_restarting = Bool.false } } })) handle.new.place.value }
+    ensures ends { OnStreamReceiver handle.old.place.value (λ r s. (result ≡ 0) × Finishes r.receiver s.receiver × (s ≡ record r { receiver = s.receiver })) handle.new.place.value }
     ensures refused { Refuses is_stream_receiver handle.old.place.value result handle.new.place.value }
 {
     let Some(mut object) = handle.take(alloc) else {
@@ -578,7 +591,7 @@ pub extern "C" fn cpay_receiver_finish(alloc: Global, handle: &mut Handle) -> u3
 /// The sender begins anew: the next packet of the stream gets a number above all others.
 #[unsafe(no_mangle)]
 pub extern "C" fn cpay_receiver_restart(alloc: Global, handle: &mut Handle) -> u32
-    ensures begins { OnStreamReceiver handle.old.place.value (λ r s. (result ≡ 0) × (s ≡ record r { receiver = is_restarting r.receiver })) handle.new.place.value }
+    ensures begins { OnStreamReceiver handle.old.place.value (λ r s. (result ≡ 0) × (s ≡ record r { receiver = restarted r.receiver.named r.receiver })) handle.new.place.value }
     ensures refused { Refuses is_stream_receiver handle.old.place.value result handle.new.place.value }
 {
     let Some(mut object) = handle.take(alloc) else {
@@ -587,6 +600,31 @@ pub extern "C" fn cpay_receiver_restart(alloc: Global, handle: &mut Handle) -> u
     let answer = match &mut *object {
         Object::StreamReceiver(stream) => {
             stream.receiver.restart();
+            status::OK
+        }
+        _ => status::OTHER_KIND,
+    };
+    handle.put(object);
+    answer
+}
+
+/// The same, where the caller knows the new SSRC, and that of retransmissions.
+#[unsafe(no_mangle)]
+pub extern "C" fn cpay_receiver_restart_as(
+    alloc: Global,
+    handle: &mut Handle,
+    ssrc: u32,
+    rtx_ssrc: u32,
+) -> u32
+    ensures begins { OnStreamReceiver handle.old.place.value (λ r s. (result ≡ 0) × (s ≡ record r { receiver = restarted_as ssrc rtx_ssrc r.receiver })) handle.new.place.value }
+    ensures refused { Refuses is_stream_receiver handle.old.place.value result handle.new.place.value }
+{
+    let Some(mut object) = handle.take(alloc) else {
+        return status::EMPTY;
+    };
+    let answer = match &mut *object {
+        Object::StreamReceiver(stream) => {
+            stream.receiver.restart_as(ssrc, Some(rtx_ssrc));
             status::OK
         }
         _ => status::OTHER_KIND,

@@ -1,18 +1,17 @@
 -- Every datagram is accounted for.
 use Rattle.std.proofs.Common.{◌≡◌, ◌⊎◌, ◌∙◌, refl, ap, sym, subst, inl, inr, cond, ℕ, ◌+◌, ◌%◌, ◌^◌, List, [], ◌∷◌, Bool, true, false, Option, Some, None, Result, Ok, Err, arith, eqb}
 use Rattle.codec_payload_base.specs.declared.wire.Ticks.{Ticks}
-use Rattle.codec_payload_red.specs.RedBlocks.{Block}
-use Rattle.codec_payload_red.specs.RedRecovery.{RecoveredPacket}
-use Rattle.codec_payload_jitter.specs.Receiving.{Receiving, Arrival, Confirms, ReceivesAs, ReceivesAgainAs, RecoversAs, RecoversIf, NotesAs}
+use Rattle.codec_payload_jitter.specs.Receiving.{Receiving, Arrival, Confirms, GoesOn, ReceivesAs, ReceivesAgainAs, RecoversAs, RecoversIf, NotesAs}
 use Rattle.codec_payload_jitter.specs.Receiving.{Accepts, counted, counted_again, counted_in_again, is_stored, may_recover, next, number_again}
 use Rattle.codec_payload_jitter.specs.declared.numbers.Extended.{Extended}
 use Rattle.codec_payload_jitter.specs.declared.numbers.Extended.TheVariants as extended
 use Rattle.codec_payload_jitter.specs.declared.outcome.Outcome.{Outcome}
 use Rattle.codec_payload_jitter.specs.declared.outcome.Outcome.TheVariants as outcomes
 use Rattle.codec_payload_jitter.specs.declared.outcome.PacketCounters.{PacketCounters}
+use Rattle.codec_payload_stream.specs.Choice.{latest_after, origin_of}
 use Rattle.codec_payload_stream.specs.Kinds.{Kinds, Carrier, Datagram, RtcpPacket, Malformed, OfOthers, WithoutMedia, WithMedia, InRed, Again, AgainEmpty}
-use Rattle.codec_payload_stream.specs.Sessions.{Session, TakesDatagram, TakesPrimaryIf, RecoversOr, RecoversBlock, RecoversAll, RecoversUnless, AnswersFor}
-use Rattle.codec_payload_stream.specs.Sessions.{Heard, IsSorted, arrived_with, ssrc_after, packet_in, is_suspect, error_of, observed_in}
+use Rattle.codec_payload_stream.specs.Sessions.{Session, TakesDatagram, TakesPrimaryIf, RecoversOne, RecoversAll, RecoversUnless, AnswersFor}
+use Rattle.codec_payload_stream.specs.Sessions.{Heard, IsSorted, all_carried, arrived_with, ssrc_after, is_suspect, error_of, observed_in, told_of_red}
 use Rattle.codec_payload_stream.specs.declared.datagram.Malformation.{Malformation}
 use Rattle.codec_payload_stream.specs.declared.datagram.Malformation.TheVariants as malformations
 use Rattle.codec_payload_stream.specs.declared.receiver.Arrived.{Arrived}
@@ -47,6 +46,7 @@ again_balance c outcomes.Suspect = refl
 again_balance c (outcomes.Restarted with_kept) = refl
 again_balance c outcomes.NoMedia = refl
 again_balance c outcomes.OtherStream = refl
+again_balance c outcomes.Undecided = refl
 again_balance c outcomes.Rtcp = refl
 
 confirms_balance : (n : ℕ) (k : Option Arrival) (r t : Receiving) (with_kept : Bool) → Confirms n k r with_kept t → balance_of t ≡ balance_of r
@@ -63,14 +63,18 @@ counted_balance c outcomes.Suspect = refl
 counted_balance c (outcomes.Restarted with_kept) = refl
 counted_balance c outcomes.NoMedia = refl
 counted_balance c outcomes.OtherStream = refl
+counted_balance c outcomes.Undecided = refl
 counted_balance c outcomes.Rtcp = refl
 
 accepts_balance : (a : Arrival) (n : ℕ) (r t : Receiving) (o : Outcome) → Accepts a n r o t → balance_of t ≡ one_pushed (balance_of r)
 accepts_balance a n r t o got = ap balance_of got.3 ∙ counted_balance r.counters o
 
+goes_on_balance : (n : ℕ) (a : Arrival) (r t : Receiving) (o : Outcome) → GoesOn n a r o t → balance_of t ≡ one_pushed (balance_of r)
+goes_on_balance n a r t o got = ap balance_of got.2 ∙ accepts_balance a n r got.0 o got.1
+
 receives_as_balance : (answer : Extended) (a : Arrival) (r t : Receiving) (o : Outcome) → ReceivesAs answer a r o t → balance_of t ≡ one_pushed (balance_of r)
-receives_as_balance (extended.Number n) a r t o got = ap balance_of got.2 ∙ accepts_balance a n r got.0 o got.1
-receives_as_balance (extended.Restarted n) a r t o got = confirms_balance n got.1.kept _ t got.2 got.4 ∙ accepts_balance a n r got.1 got.0 got.3
+receives_as_balance (extended.Number n) a r t o got = goes_on_balance n a r t o got
+receives_as_balance (extended.Restarted n) a r t o got = confirms_balance n got.1.kept _ t got.2 got.4 ∙ goes_on_balance n a r got.1 got.0 got.3
 receives_as_balance extended.Suspect a r t o got = ap balance_of got.1
 receives_as_balance extended.Spent a r t o got = ap balance_of got.1
 
@@ -90,7 +94,7 @@ in_again_balance c o = by_test (is_stored o)
 receives_again_balance : (number : Option ℕ) (a : Arrival) (r t : Receiving) (o : Outcome) → ReceivesAgainAs number a r o t → balance_of t ≡ one_pushed (balance_of r)
 receives_again_balance None a r t o got = ap balance_of got.1
 receives_again_balance (Some n) a r t o got =
-    ap balance_of got.2 ∙ in_again_balance got.0.counters o ∙ ap balance_of got.1.2 ∙ accepts_balance a n r got.1.0 o got.1.1
+    ap balance_of got.2 ∙ in_again_balance got.0.counters o ∙ goes_on_balance n a r got.0 o got.1
 
 -- a packet that another one carried went in or it did not
 abbrev pub Recovered : Receiving → Receiving → Type 0
@@ -99,20 +103,15 @@ Recovered r t = (balance_of t ≡ balance_of r) ⊎ (balance_of t ≡ one_recove
 recovers_if_balance : (b : Bool) (n : ℕ) (a : Arrival) (r t : Receiving) (went_in : Bool) → RecoversIf b n a r went_in t → Recovered r t
 recovers_if_balance false n a r t went_in got = inl (ap balance_of got.1)
 recovers_if_balance true n a r t went_in got =
-    let in_mid : balance_of got.1 ≡ one_pushed (balance_of r) = ap balance_of got.2.2 ∙ accepts_balance a n r got.2.0 got.0 got.2.1 in
+    let in_mid : balance_of got.1 ≡ one_pushed (balance_of r) = accepts_balance a n r got.1 got.0 got.2 in
     inr (ap balance_of got.4 ∙ ap (λ (b : Balance). record { pushed = b.pushed; recovered = next b.recovered }) in_mid)
 
 recovers_as_balance : (number : Option ℕ) (a : Arrival) (r t : Receiving) (went_in : Bool) → RecoversAs number a r went_in t → Recovered r t
 recovers_as_balance None a r t went_in got = inl (ap balance_of got.1)
 recovers_as_balance (Some n) a r t went_in got = recovers_if_balance (may_recover r n) n a r t went_in got
 
-recovers_or_balance : (b : Bool) (a : Arrival) (r t : Receiving) → RecoversOr b a r t → Recovered r t
-recovers_or_balance true a r t got = recovers_as_balance (number_again r a.header.sequence_number) a r t got.0 got.1
-recovers_or_balance false a r t got = inl (ap balance_of got)
-
-block_balance : (s : Kinds) (now : Ticks) (ssrc : ℕ) (x : Option RecoveredPacket) (r t : Receiving) → RecoversBlock s now ssrc x r t → Recovered r t
-block_balance s now ssrc None r t got = inl (ap balance_of got)
-block_balance s now ssrc (Some x) r t got = recovers_or_balance got.0 _ r t got.1
+one_balance : (a : Arrival) (r t : Receiving) → RecoversOne a r t → Recovered r t
+one_balance a r t got = recovers_as_balance (number_again r a.header.sequence_number) a r t got.0 got.1
 
 -- Each is accounted for
 
@@ -126,16 +125,16 @@ recovered_balanced a r t (inr one) kept =
     let after : IsBalanced a (one_recovered (balance_of r)) = omega (arith, kept) in
     subst (λ (b : Balance). IsBalanced a b) (sym one) after
 
-all_balanced : (a : Arrived) (s : Kinds) (now : Ticks) (c : Carrier) (blocks : List Block) (r t : Receiving) → RecoversAll s now c blocks r t
-    → IsBalanced a (balance_of r) → IsBalanced a (balance_of t)
-all_balanced a s now c [] r t got kept = subst (λ (x : Receiving). IsBalanced a (balance_of x)) (sym got) kept
-all_balanced a s now c (b ∷ bs) r t got kept =
-    all_balanced a s now c bs got.0 t got.2 (recovered_balanced a r got.0 (block_balance s now c.header.ssrc (packet_in c b) r got.0 got.1) kept)
+all_balanced : (a : Arrived) (whole : Bool) (all : List Arrival) (r t : Receiving) → RecoversAll whole all r t → IsBalanced a (balance_of r) → IsBalanced a (balance_of t)
+all_balanced a true [] r t got kept = subst (λ (x : Receiving). IsBalanced a (balance_of x)) (sym got) kept
+all_balanced a true (one ∷ more) r t got kept = all_balanced a true more got.0 t got.2 (recovered_balanced a r got.0 (one_balance one r got.0 got.1) kept)
+all_balanced a false [] r t got kept = absurd got
+all_balanced a false (one ∷ more) r t (inl same) kept = subst (λ (x : Receiving). IsBalanced a (balance_of x)) (sym same) kept
+all_balanced a false (one ∷ more) r t (inr got) kept = all_balanced a false more got.0 t got.2 (recovered_balanced a r got.0 (one_balance one r got.0 got.1) kept)
 
-unless_balanced : (a : Arrived) (suspect : Bool) (s : Kinds) (now : Ticks) (c : Carrier) (r t : Receiving) → RecoversUnless suspect s now c r t
-    → IsBalanced a (balance_of r) → IsBalanced a (balance_of t)
-unless_balanced a true s now c r t got kept = subst (λ (x : Receiving). IsBalanced a (balance_of x)) (sym got) kept
-unless_balanced a false s now c r t got kept = all_balanced a s now c c.older r t got kept
+unless_balanced : (a : Arrived) (suspect whole : Bool) (all : List Arrival) (r t : Receiving) → RecoversUnless suspect whole all r t → IsBalanced a (balance_of r) → IsBalanced a (balance_of t)
+unless_balanced a true whole all r t got kept = subst (λ (x : Receiving). IsBalanced a (balance_of x)) (sym got.1) kept
+unless_balanced a false whole all r t got kept = all_balanced a whole all r t got kept
 
 primary_balance : (b : Bool) (s : Kinds) (now : Ticks) (c : Carrier) (r t : Receiving) (o : Outcome) → TakesPrimaryIf b s now c r o t → balance_of t ≡ one_pushed (balance_of r)
 primary_balance true s now c r t o got = ap balance_of got.2 ∙ receives_as_balance _ _ r got.0 o got.1
@@ -151,18 +150,18 @@ pushed_balanced a r t one kept =
 apart_balanced : (a a' : Arrived) (r t : Receiving) → t ≡ r → IsBalanced a' (balance_of r) → IsBalanced a' (balance_of t)
 apart_balanced a a' r t same kept = subst (λ (x : Receiving). IsBalanced a' (balance_of x)) (sym same) kept
 
-pub takes_balanced : (s : Kinds) (now : Ticks) (a : Arrived) (d : Datagram) (r t : Receiving) (o : Outcome) → TakesDatagram s now d r o t → IsSorted a r.counters
+pub takes_balanced : (s : Kinds) (now : Ticks) (a : Arrived) (d : Datagram) (r t : Receiving) (o : Outcome) (whole : Bool) → TakesDatagram s now d r o whole t → IsSorted a r.counters
     → IsSorted (arrived_with a d) t.counters
-takes_balanced s now a RtcpPacket r t o got kept = apart_balanced a (arrived_with a RtcpPacket) r t got.1 (omega (arith, kept))
-takes_balanced s now a (Malformed e) r t o got kept = apart_balanced a (arrived_with a (Malformed e)) r t got (omega (arith, kept))
-takes_balanced s now a OfOthers r t o got kept = apart_balanced a (arrived_with a OfOthers) r t got.1 (omega (arith, kept))
-takes_balanced s now a (WithoutMedia h) r t o got kept = pushed_balanced a r t (ap balance_of got.1.2 ∙ notes_as_balance _ r got.1.0 got.1.1) kept
-takes_balanced s now a (WithMedia p) r t o got kept = pushed_balanced a r t (ap balance_of got.2 ∙ receives_as_balance _ _ r got.0 o got.1) kept
-takes_balanced s now a (InRed c) r t o got kept =
-    unless_balanced (record a { received = next a.received }) (is_suspect o) s now c got.0 t got.2
+takes_balanced s now a RtcpPacket r t o whole got kept = apart_balanced a (arrived_with a RtcpPacket) r t got.1 (omega (arith, kept))
+takes_balanced s now a (Malformed e) r t o whole got kept = apart_balanced a (arrived_with a (Malformed e)) r t got (omega (arith, kept))
+takes_balanced s now a OfOthers r t o whole got kept = apart_balanced a (arrived_with a OfOthers) r t got.1 (omega (arith, kept))
+takes_balanced s now a (WithoutMedia h) r t o whole got kept = pushed_balanced a r t (ap balance_of got.1.2 ∙ notes_as_balance _ r got.1.0 got.1.1) kept
+takes_balanced s now a (WithMedia p) r t o whole got kept = pushed_balanced a r t (ap balance_of got.2 ∙ receives_as_balance _ _ r got.0 o got.1) kept
+takes_balanced s now a (InRed c) r t o whole got kept =
+    unless_balanced (record a { received = next a.received }) (is_suspect o) whole (all_carried s now c) got.0 t got.2
     (pushed_balanced a r got.0 (primary_balance (eqb c.primary.pt s.payload_type) s now c r got.0 o got.1) kept)
-takes_balanced s now a (Again it) r t o got kept = pushed_balanced a r t (receives_again_balance _ _ r t o got) kept
-takes_balanced s now a AgainEmpty r t o got kept = pushed_balanced a r t (ap balance_of got.1) kept
+takes_balanced s now a (Again it) r t o whole got kept = pushed_balanced a r t (receives_again_balance _ _ r t o got) kept
+takes_balanced s now a AgainEmpty r t o whole got kept = pushed_balanced a r t (ap balance_of got.1) kept
 
 -- Answers
 
@@ -171,21 +170,33 @@ not_memory_of (malformations.Rtp e) is = cc
 not_memory_of malformations.Red is = cc
 not_memory_of malformations.Retransmission is = cc
 
-not_memory : (d : Datagram) (o : Outcome) → AnswersFor d o (Err errors.OutOfMemory) → ⊥
-not_memory RtcpPacket o is = cc
-not_memory (Malformed e) o is = not_memory_of e (cc)
-not_memory OfOthers o is = cc
-not_memory (WithoutMedia h) o is = cc
-not_memory (WithMedia p) o is = cc
-not_memory (InRed c) o is = cc
-not_memory (Again it) o is = cc
-not_memory AgainEmpty o is = cc
+not_memory_in_red : (whole : Bool) (o : Outcome) → told_of_red whole o ≡ Err errors.OutOfMemory → ⊥
+not_memory_in_red true o is = cc
+not_memory_in_red false o is = cc
 
-pub heard : (now : Ticks) (d : Datagram) (s t : Session) (o : Outcome) (packets : Receiving) (answer : Result Outcome ReceiveError)
-    → TakesDatagram s.stream now d s.packets o packets → AnswersFor d o answer
-    → t ≡ record s { ssrc = ssrc_after s.ssrc d; packets = packets; arrived = arrived_with s.arrived d; reception = observed_in s.reception now.0 d } → Heard now d s answer t
-heard now d s t o packets (Ok told) takes answers left = record { outcome = o; packets = packets; takes = takes; answers = answers; left = left }
-heard now d s t o packets (Err (errors.Rtp e)) takes answers left = record { outcome = o; packets = packets; takes = takes; answers = answers; left = left }
-heard now d s t o packets (Err errors.Red) takes answers left = record { outcome = o; packets = packets; takes = takes; answers = answers; left = left }
-heard now d s t o packets (Err errors.Retransmission) takes answers left = record { outcome = o; packets = packets; takes = takes; answers = answers; left = left }
-heard now d s t o packets (Err errors.OutOfMemory) takes answers left = absurd (not_memory d o answers)
+not_memory : (d : Datagram) (o : Outcome) (whole : Bool) → AnswersFor d o whole (Err errors.OutOfMemory) → ⊥
+not_memory RtcpPacket o whole is = cc
+not_memory (Malformed e) o whole is = not_memory_of e (cc)
+not_memory OfOthers o whole is = cc
+not_memory (WithoutMedia h) o whole is = cc
+not_memory (WithMedia p) o whole is = cc
+not_memory (InRed c) o whole is = not_memory_in_red whole o (sym is)
+not_memory (Again it) o whole is = cc
+not_memory AgainEmpty o whole is = cc
+
+pub heard : (now : Ticks) (d : Datagram) (s t : Session) (o : Outcome) (whole : Bool) (packets : Receiving) (answer : Result Outcome ReceiveError)
+    → TakesDatagram s.stream now d s.packets o whole packets → AnswersFor d o whole answer
+    → t ≡ record s {
+      ssrc = ssrc_after s.ssrc d;
+      packets = packets;
+      arrived = arrived_with s.arrived d;
+      reception = observed_in s.reception now.0 d;
+      choice = record s.choice { latest = latest_after s.choice.latest now.0 (origin_of d) };
+    }
+    → Heard now d s answer t
+heard now d s t o whole packets (Ok told) takes answers left = record { outcome = o; whole = whole; packets = packets; takes = takes; answers = answers; left = left }
+heard now d s t o whole packets (Err (errors.Rtp e)) takes answers left = record { outcome = o; whole = whole; packets = packets; takes = takes; answers = answers; left = left }
+heard now d s t o whole packets (Err errors.Red) takes answers left = record { outcome = o; whole = whole; packets = packets; takes = takes; answers = answers; left = left }
+heard now d s t o whole packets (Err errors.Retransmission) takes answers left = record { outcome = o; whole = whole; packets = packets; takes = takes; answers = answers; left = left }
+heard now d s t o whole packets (Err errors.BlocksOutOfMemory) takes answers left = record { outcome = o; whole = whole; packets = packets; takes = takes; answers = answers; left = left }
+heard now d s t o whole packets (Err errors.OutOfMemory) takes answers left = absurd (not_memory d o whole answers)

@@ -113,6 +113,15 @@ abbrev pub is_sent_again : Option Retransmission → Header → Bool
 is_sent_again None h = false
 is_sent_again (Some r) h = (r.ssrc == h.ssrc) && (r.payload_type == h.payload_type)
 
+-- where that SSRC takes the place of the one before, if it is told
+abbrev pub under : Option Retransmission → Option ℕ → Option Retransmission
+under None ssrc = None
+under (Some r) None = Some r
+under (Some r) (Some ssrc) = Some (record r { ssrc = ssrc })
+
+abbrev pub retransmitted_under : Option ℕ → Kinds → Kinds
+retransmitted_under ssrc s = record s { retransmission = under s.retransmission ssrc }
+
 -- the SSRC of the stream, or where that is not known, the one that came
 abbrev pub ssrc_or : Option ℕ → ℕ → ℕ
 ssrc_or None ssrc = ssrc

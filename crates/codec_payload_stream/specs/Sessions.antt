@@ -1,5 +1,7 @@
 -- A receiver: each datagram, and each of them accounted for.
-use Rattle.std.specs.Prelude.{◌≡◌, ℕ, max, ◌+◌, ◌%◌, ◌^◌, ◌==◌, ◌&&◌, not, nat_le, nat_lt, if◌then◌else◌, Bool, true, false, List, [], ◌∷◌, Option, Some, None, Result, Ok, Err}
+use Rattle.std.specs.Prelude.{◌≡◌, ◌≢◌, ◌⊎◌, ℕ, max, ◌+◌, ◌-◌, ◌*◌, ◌%◌, ◌^◌, ◌==◌, ◌&&◌, ◌||◌, not, length, slice_get, nat_le, nat_lt, if◌then◌else◌, Bool, true, false, List, [], ◌∷◌, Option, Some, None, Result, Ok, Err}
+use Rattle.std.specs.List.{filter_map}
+use Rattle.std.specs.Option.{is_some, option_map}
 use Rattle.codec_payload_base.specs.declared.error.PacketError.{PacketError}
 use Rattle.codec_payload_base.specs.declared.wire.Ticks.{Ticks}
 use Rattle.codec_payload_red.specs.RedBlocks.{Block}
@@ -9,15 +11,21 @@ use Rattle.codec_payload_codec.specs.Depacketizers.{DepacketizerState}
 use Rattle.codec_payload_buffer.specs.Release.{Release}
 use Rattle.codec_payload_buffer.specs.Steps.{empty_buffer}
 use Rattle.codec_payload_jitter.specs.Numbers.{Numbering, numbering_within}
-use Rattle.codec_payload_jitter.specs.Receiving.{Receiving, Arrival, Notes, Receives, ReceivesAgain, Recovers, counted, next, no_packets}
+use Rattle.codec_payload_jitter.specs.Receiving.{Receiving, Arrival, Notes, Receives, ReceivesAgain, Recovers, begun_anew, counted, next, no_packets}
 use Rattle.codec_payload_jitter.specs.Waiting.{most_held_back, room_for}
 use Rattle.codec_payload_jitter.specs.declared.numbers.WindowError.{WindowError}
 use Rattle.codec_payload_jitter.specs.declared.numbers.WindowError.TheVariants as windows
 use Rattle.codec_payload_jitter.specs.declared.outcome.Outcome.{Outcome}
 use Rattle.codec_payload_jitter.specs.declared.outcome.Outcome.TheVariants as outcomes
 use Rattle.codec_payload_jitter.specs.declared.outcome.PacketCounters.{PacketCounters}
-use Rattle.codec_payload_stream.specs.Kinds.{Kinds, Carrier, Datagram, RtcpPacket, Malformed, OfOthers, WithoutMedia, WithMedia, InRed, Again, AgainEmpty, block_header, header_for, original_header}
+use Rattle.codec_payload_stream.specs.Choice.{Choosing, IsCandidate, is_silent, latest_after, leaving, no_choice, origin_of, verdict_of, waiting_with}
+use Rattle.codec_payload_stream.specs.Kinds.{Kinds, Carrier, Datagram, RtcpPacket, Malformed, OfOthers, WithoutMedia, WithMedia, InRed, Again, AgainEmpty, block_header, datagram_at, header_for, original_header}
 use Rattle.codec_payload_stream.specs.Reports.{Reception, no_reception, observed}
+use Rattle.codec_payload_stream.specs.declared.blocks.BlockCopy.{BlockCopy}
+use Rattle.codec_payload_stream.specs.declared.choice.Candidate.{Candidate}
+use Rattle.codec_payload_stream.specs.declared.choice.Origin.{Origin}
+use Rattle.codec_payload_stream.specs.declared.choice.Verdict.{Verdict}
+use Rattle.codec_payload_stream.specs.declared.choice.Verdict.TheVariants as verdicts
 use Rattle.codec_payload_stream.specs.declared.datagram.Malformation.{Malformation}
 use Rattle.codec_payload_stream.specs.declared.datagram.Malformation.TheVariants as malformations
 use Rattle.codec_payload_stream.specs.declared.datagram.RedStream.{RedStream}
@@ -33,7 +41,7 @@ use Rattle.codec_payload_stream.specs.declared.receiver.SettingsError.TheVariant
 
 -- a receiver, as contracts see it: what tells the datagrams of the stream, the SSRC that the settings name, if they do, and that of
 -- the stream, if it is known, the jitter buffer, how many datagrams came to what before it, the RTP time of the latest unit, what
--- came of the sender, and what that begins with
+-- came of the sender, what that begins with, and what is known for the choice of the stream
 pub record Session : Type 0 where
   pub stream : Kinds
   pub named : Option ℕ
@@ -43,6 +51,7 @@ pub record Session : Type 0 where
   pub time : Option ℕ
   pub reception : Reception
   pub no_reception : Reception
+  pub choice : Choosing
 
 -- Each is accounted for
 
@@ -64,12 +73,12 @@ IsSorted a c = (a.received + c.recovered) % 2 ^ 64 ≡ (c.pushed + a.rtcp + a.ma
 
 -- Nothing is lost in silence: each datagram that was received, and each packet that was recovered, was RTCP, malformed, of another
 -- stream, without media, there already, late, suspect or evicted, or it is held, or it went out in a unit, or left with a frame and
--- not in a unit; counted modulo 2^64
+-- not in a unit, or waits for the choice of the stream; counted modulo 2^64
 abbrev pub IsAccountedFor : Counters → ℕ → Type 0
 IsAccountedFor c held =
     (c.received + c.packets.recovered) % 2 ^ 64
     ≡ (c.rtcp + c.malformed + c.other_streams + c.packets.no_media + c.packets.duplicates + c.packets.late + c.packets.suspect + c.packets.evicted
-    + held + c.packets.released + c.packets.left) % 2 ^ 64
+    + held + c.packets.released + c.packets.left + c.undecided) % 2 ^ 64
 
 -- Receiving
 
@@ -84,24 +93,35 @@ ssrc_after ssrc OfOthers = ssrc
 ssrc_after ssrc (Again o) = ssrc
 ssrc_after ssrc AgainEmpty = ssrc
 
--- a packet that another one carried goes in where it is missing; where memory is wanting for it, nothing changes
-abbrev pub RecoversOr : Bool → Arrival → Receiving → Receiving → Type 0
-RecoversOr true a r t = (went_in : Bool) × Recovers a r went_in t
-RecoversOr false a r t = t ≡ r
-
--- the packet that a block is, if it is one
-abbrev pub RecoversBlock : Kinds → Ticks → ℕ → Option RecoveredPacket → Receiving → Receiving → Type 0
-RecoversBlock s now ssrc None r t = t ≡ r
-RecoversBlock s now ssrc (Some x) r t = (with_memory : Bool) × RecoversOr with_memory (record { now = now; header = block_header s ssrc x; bytes = x.bytes }) r t
-
 -- the numbers of blocks are told from that of the packet; 65,536 on top keeps those before it above 0
 abbrev pub packet_in : Carrier → Block → Option RecoveredPacket
 packet_in c b = recovered_from c.receiver (65536 + c.header.sequence_number) c.header.timestamp b
 
--- each of the blocks, in order
-abbrev pub RecoversAll : Kinds → Ticks → Carrier → List Block → Receiving → Receiving → Type 0
-RecoversAll s now c [] r t = t ≡ r
-RecoversAll s now c (b ∷ bs) r t = (mid : Receiving) × RecoversBlock s now c.header.ssrc (packet_in c b) r mid × RecoversAll s now c bs mid t
+-- the packet that a block is, as it comes
+abbrev pub block_arrival : Kinds → Ticks → ℕ → RecoveredPacket → Arrival
+block_arrival s now ssrc x = record { now = now; header = block_header s ssrc x; bytes = x.bytes }
+
+abbrev pub carried : Kinds → Ticks → Carrier → Block → Option Arrival
+carried s now c b = option_map (block_arrival s now c.header.ssrc) (packet_in c b)
+
+-- the packets that the older blocks are, in the order of their headers
+abbrev pub all_carried : Kinds → Ticks → Carrier → List Arrival
+all_carried s now c = filter_map (carried s now c) c.older
+
+-- the same of a copy
+abbrev pub copied : Ticks → BlockCopy → Arrival
+copied now c = record { now = now; header = c.header; bytes = c.payload.items }
+
+-- a packet that another one carried goes in where it is missing
+abbrev pub RecoversOne : Arrival → Receiving → Receiving → Type 0
+RecoversOne a r t = (went_in : Bool) × Recovers a r went_in t
+
+-- each of these goes in where it is missing, in order; with no memory for one, it and those after it do not
+abbrev pub RecoversAll : Bool → List Arrival → Receiving → Receiving → Type 0
+RecoversAll true [] r t = t ≡ r
+RecoversAll true (a ∷ more) r t = (mid : Receiving) × RecoversOne a r mid × RecoversAll true more mid t
+RecoversAll false [] r t = ⊥
+RecoversAll false (a ∷ more) r t = (t ≡ r) ⊎ ((mid : Receiving) × RecoversOne a r mid × RecoversAll false more mid t)
 
 -- what the packet itself is: its primary block, where that is media of the stream
 abbrev pub TakesPrimaryIf : Bool → Kinds → Ticks → Carrier → Receiving → Outcome → Receiving → Type 0
@@ -120,27 +140,28 @@ is_suspect outcomes.Late = false
 is_suspect outcomes.NoMedia = false
 is_suspect (outcomes.Restarted _) = false
 is_suspect outcomes.OtherStream = false
+is_suspect outcomes.Undecided = false
 is_suspect outcomes.Rtcp = false
 
 -- of a suspect packet nothing is recovered
-abbrev pub RecoversUnless : Bool → Kinds → Ticks → Carrier → Receiving → Receiving → Type 0
-RecoversUnless true s now c r t = t ≡ r
-RecoversUnless false s now c r t = RecoversAll s now c c.older r t
+abbrev pub RecoversUnless : Bool → Bool → List Arrival → Receiving → Receiving → Type 0
+RecoversUnless true whole all r t = (whole ≡ true) × (t ≡ r)
+RecoversUnless false whole all r t = RecoversAll whole all r t
 
 -- a packet of RED: first what it is itself, and then what it carries
-abbrev pub TakesRed : Kinds → Ticks → Carrier → Receiving → Outcome → Receiving → Type 0
-TakesRed s now c r outcome t = (mid : Receiving) × TakesPrimary s now c r outcome mid × RecoversUnless (is_suspect outcome) s now c mid t
+abbrev pub TakesRed : Kinds → Ticks → Carrier → Receiving → Outcome → Bool → Receiving → Type 0
+TakesRed s now c r outcome whole t = (mid : Receiving) × TakesPrimary s now c r outcome mid × RecoversUnless (is_suspect outcome) whole (all_carried s now c) mid t
 
--- the jitter buffer takes in what is its stream's
-abbrev pub TakesDatagram : Kinds → Ticks → Datagram → Receiving → Outcome → Receiving → Type 0
-TakesDatagram s now RtcpPacket r outcome t = (outcome ≡ outcomes.Rtcp) × (t ≡ r)
-TakesDatagram s now (Malformed e) r outcome t = t ≡ r
-TakesDatagram s now OfOthers r outcome t = (outcome ≡ outcomes.OtherStream) × (t ≡ r)
-TakesDatagram s now (WithoutMedia h) r outcome t = (outcome ≡ outcomes.NoMedia) × Notes h.sequence_number r t
-TakesDatagram s now (WithMedia p) r outcome t = Receives (record { now = now; header = header_for s p.header; bytes = p.payload }) r outcome t
-TakesDatagram s now (InRed c) r outcome t = TakesRed s now c r outcome t
-TakesDatagram s now (Again o) r outcome t = ReceivesAgain (record { now = now; header = original_header s o; bytes = o.bytes }) r outcome t
-TakesDatagram s now AgainEmpty r outcome t = (outcome ≡ outcomes.NoMedia) × (t ≡ record r { counters = counted r.counters outcomes.NoMedia })
+-- the jitter buffer takes in what is its stream's; whole: all that it carries
+abbrev pub TakesDatagram : Kinds → Ticks → Datagram → Receiving → Outcome → Bool → Receiving → Type 0
+TakesDatagram s now RtcpPacket r outcome whole t = (outcome ≡ outcomes.Rtcp) × (t ≡ r)
+TakesDatagram s now (Malformed e) r outcome whole t = t ≡ r
+TakesDatagram s now OfOthers r outcome whole t = (outcome ≡ outcomes.OtherStream) × (t ≡ r)
+TakesDatagram s now (WithoutMedia h) r outcome whole t = (outcome ≡ outcomes.NoMedia) × Notes h.sequence_number r t
+TakesDatagram s now (WithMedia p) r outcome whole t = Receives (record { now = now; header = header_for s p.header; bytes = p.payload }) r outcome t
+TakesDatagram s now (InRed c) r outcome whole t = TakesRed s now c r outcome whole t
+TakesDatagram s now (Again o) r outcome whole t = ReceivesAgain (record { now = now; header = original_header s o; bytes = o.bytes }) r outcome t
+TakesDatagram s now AgainEmpty r outcome whole t = (outcome ≡ outcomes.NoMedia) × (t ≡ record r { counters = counted r.counters outcomes.NoMedia })
 
 -- the fault that is told of a malformed datagram
 abbrev pub error_of : Malformation → ReceiveError
@@ -148,15 +169,20 @@ error_of (malformations.Rtp e) = errors.Rtp e
 error_of malformations.Red = errors.Red
 error_of malformations.Retransmission = errors.Retransmission
 
-abbrev pub AnswersFor : Datagram → Outcome → Result Outcome ReceiveError → Type 0
-AnswersFor (Malformed e) outcome answer = answer ≡ Err (error_of e)
-AnswersFor RtcpPacket outcome answer = answer ≡ Ok outcome
-AnswersFor OfOthers outcome answer = answer ≡ Ok outcome
-AnswersFor (WithoutMedia h) outcome answer = answer ≡ Ok outcome
-AnswersFor (WithMedia p) outcome answer = answer ≡ Ok outcome
-AnswersFor (InRed c) outcome answer = answer ≡ Ok outcome
-AnswersFor (Again o) outcome answer = answer ≡ Ok outcome
-AnswersFor AgainEmpty outcome answer = answer ≡ Ok outcome
+-- what is told of a packet of RED, where all that it carries was looked at, or memory was wanting for some of it
+abbrev pub told_of_red : Bool → Outcome → Result Outcome ReceiveError
+told_of_red true outcome = Ok outcome
+told_of_red false outcome = Err errors.BlocksOutOfMemory
+
+abbrev pub AnswersFor : Datagram → Outcome → Bool → Result Outcome ReceiveError → Type 0
+AnswersFor (Malformed e) outcome whole answer = answer ≡ Err (error_of e)
+AnswersFor RtcpPacket outcome whole answer = answer ≡ Ok outcome
+AnswersFor OfOthers outcome whole answer = answer ≡ Ok outcome
+AnswersFor (WithoutMedia h) outcome whole answer = answer ≡ Ok outcome
+AnswersFor (WithMedia p) outcome whole answer = answer ≡ Ok outcome
+AnswersFor (InRed c) outcome whole answer = answer ≡ told_of_red whole outcome
+AnswersFor (Again o) outcome whole answer = answer ≡ Ok outcome
+AnswersFor AgainEmpty outcome whole answer = answer ≡ Ok outcome
 
 -- the packets of the stream's sender are counted for reports, as they came: not those that were sent again apart
 abbrev pub observed_in : Reception → ℕ → Datagram → Reception
@@ -172,10 +198,17 @@ observed_in r now AgainEmpty = r
 -- a datagram is received, and its outcome told
 pub record Hears (now : Ticks) (d : Datagram) (s : Session) (answer : Result Outcome ReceiveError) (t : Session) : Type 0 where
   pub outcome : Outcome
+  pub whole : Bool
   pub packets : Receiving
-  pub takes : TakesDatagram s.stream now d s.packets outcome packets
-  pub answers : AnswersFor d outcome answer
-  pub left : t ≡ record s { ssrc = ssrc_after s.ssrc d; packets = packets; arrived = arrived_with s.arrived d; reception = observed_in s.reception now.0 d }
+  pub takes : TakesDatagram s.stream now d s.packets outcome whole packets
+  pub answers : AnswersFor d outcome whole answer
+  pub left : t ≡ record s {
+    ssrc = ssrc_after s.ssrc d;
+    packets = packets;
+    arrived = arrived_with s.arrived d;
+    reception = observed_in s.reception now.0 d;
+    choice = record s.choice { latest = latest_after s.choice.latest now.0 (origin_of d) };
+  }
 
 -- where memory was wanting, nothing has changed
 abbrev pub Heard : Ticks → Datagram → Session → Result Outcome ReceiveError → Session → Type 0
@@ -183,7 +216,107 @@ Heard now d s (Err errors.OutOfMemory) t = t ≡ s
 Heard now d s (Err (errors.Rtp e)) t = Hears now d s (Err (errors.Rtp e)) t
 Heard now d s (Err errors.Red) t = Hears now d s (Err errors.Red) t
 Heard now d s (Err errors.Retransmission) t = Hears now d s (Err errors.Retransmission) t
+Heard now d s (Err errors.BlocksOutOfMemory) t = Hears now d s (Err errors.BlocksOutOfMemory) t
 Heard now d s (Ok outcome) t = Hears now d s (Ok outcome) t
+
+-- The choice of the stream
+
+-- no SSRC is named, the stream has not ended, and none was chosen so far, or what was chosen has been silent for 2 s
+abbrev pub is_none_of : Option ℕ → Bool
+is_none_of None = true
+is_none_of (Some n) = false
+
+abbrev pub is_open : Session → ℕ → Bool
+is_open s now = is_none_of s.named && not s.packets.ended && (is_none_of s.ssrc || is_silent s.choice now)
+
+-- what is to be done with a datagram
+abbrev pub verdict_in : Session → ℕ → List ℕ → Verdict
+verdict_in s now bytes = if is_open s now then verdict_of s.choice.candidates s.ssrc (origin_of (datagram_at s.stream None bytes)) else verdicts.Hear
+
+-- so many packets that waited are of other streams
+abbrev pub turned_away : ℕ → Arrived → Arrived
+turned_away n a = record a { received = (a.received + n) % 2 ^ 64; other_streams = (a.other_streams + n) % 2 ^ 64 }
+
+abbrev pub turned_away_if : Bool → Arrived → Arrived
+turned_away_if true a = turned_away 1 a
+turned_away_if false a = a
+
+-- a datagram waits, for which another one may leave; where memory is wanting, nothing has changed
+pub record Waits (now : Ticks) (o : Origin) (bytes : List ℕ) (s t : Session) : Type 0 where
+  pub candidate : Candidate
+  pub is : IsCandidate now o bytes candidate
+  pub left : t ≡ record s {
+    arrived = turned_away_if (is_some (leaving o.ssrc s.choice.candidates)) s.arrived;
+    choice = record s.choice { candidates = waiting_with candidate s.choice.candidates };
+  }
+
+abbrev pub Keeps : Ticks → Origin → List ℕ → Session → Result Outcome ReceiveError → Session → Type 0
+Keeps now o bytes s (Ok outcome) t = (outcome ≡ outcomes.Undecided) × Waits now o bytes s t
+Keeps now o bytes s (Err fault) t = (fault ≡ errors.OutOfMemory) × (t ≡ s)
+
+-- none waits any more; the stream's SSRC is that
+abbrev pub settled_on : ℕ → Session → Session
+settled_on ssrc s = record s { ssrc = Some ssrc; choice = record s.choice { candidates = [] } }
+
+-- the stream is that of the packet that waits: this is received first, as it came; the others that wait are of other streams. Where
+-- memory is wanting for it, nothing has changed
+pub record Settles (c : Candidate) (s t : Session) : Type 0 where
+  pub answer : Result Outcome ReceiveError
+  pub mid : Session
+  pub heard : Heard c.received (datagram_at s.stream (Some c.ssrc) c.bytes.items) (settled_on c.ssrc s) answer mid
+  pub went : answer ≢ Err errors.OutOfMemory
+  pub left : t ≡ record mid { arrived = turned_away (length s.choice.candidates - 1) mid.arrived }
+
+abbrev pub SettlesOn : Option Candidate → Bool → Session → Session → Type 0
+SettlesOn None whole s t = (whole ≡ true) × (t ≡ s)
+SettlesOn (Some c) true s t = Settles c s t
+SettlesOn (Some c) false s t = t ≡ s
+
+-- the next packet is the first of another sender, with that SSRC if it is known
+abbrev pub gone_over_to : Option ℕ → Session → Session
+gone_over_to ssrc s = record s { ssrc = ssrc; packets = begun_anew s.packets; reception = s.no_reception }
+
+-- a stream that was silent is left, as if the caller had told a restart
+abbrev pub opened_if : Bool → Session → Session
+opened_if true s = s
+opened_if false s = gone_over_to None s
+
+abbrev pub opened : Session → Session
+opened s = opened_if (is_none_of s.ssrc) s
+
+-- then the datagram itself is received
+abbrev pub HearsIf : Bool → Ticks → List ℕ → Session → Result Outcome ReceiveError → Session → Type 0
+HearsIf true now bytes s answer t = Heard now (datagram_at s.stream s.ssrc bytes) s answer t
+HearsIf false now bytes s answer t = (answer ≡ Err errors.OutOfMemory) × (t ≡ s)
+
+pub record Chooses (place : ℕ) (now : Ticks) (bytes : List ℕ) (s : Session) (answer : Result Outcome ReceiveError) (t : Session) : Type 0 where
+  pub whole : Bool
+  pub mid : Session
+  pub settles : SettlesOn (slice_get s.choice.candidates place) whole (opened s) mid
+  pub hears : HearsIf whole now bytes mid answer t
+
+abbrev pub ReceivesBy : Verdict → Ticks → List ℕ → Session → Result Outcome ReceiveError → Session → Type 0
+ReceivesBy verdicts.Hear now bytes s answer t = Heard now (datagram_at s.stream s.ssrc bytes) s answer t
+ReceivesBy (verdicts.Keep o) now bytes s answer t = Keeps now o bytes s answer t
+ReceivesBy (verdicts.Choose place) now bytes s answer t = Chooses place now bytes s answer t
+
+-- any bytes are received; where memory is wanting to tell what they are, nothing has changed
+abbrev pub ReceivesBytes : Ticks → List ℕ → Session → Result Outcome ReceiveError → Session → Type 0
+ReceivesBytes now bytes s answer t = ReceivesBy (verdict_in s now.0 bytes) now bytes s answer t ⊎ ((answer ≡ Err errors.OutOfMemory) × (t ≡ s))
+
+-- the end of the stream: of packets that wait the first is received, unless memory is wanting for it
+abbrev pub ended : Session → Session
+ended s = record s { packets = record s.packets { ended = true; is_restarting = false } }
+
+abbrev pub first_waiting : Session → Option Candidate
+first_waiting s = if is_none_of s.ssrc then slice_get s.choice.candidates 0 else None
+
+abbrev pub Finishes : Session → Session → Type 0
+Finishes s t = (whole : Bool) × (mid : Session) × SettlesOn (first_waiting s) whole s mid × (t ≡ ended mid)
+
+-- the sender begins anew: packets that wait are of other streams
+abbrev pub restarted : Option ℕ → Session → Session
+restarted ssrc s = gone_over_to ssrc (record s { arrived = turned_away (length s.choice.candidates) s.arrived; choice = record s.choice { candidates = []; latest = None } })
 
 -- Pops
 
@@ -231,6 +364,7 @@ session_with s depacketizer red numbering = record {
   time = None;
   reception = no_reception numbering s.tick_rate s.clock_rate;
   no_reception = no_reception numbering s.tick_rate s.clock_rate;
+  choice = no_choice (2 * s.tick_rate);
 }
 
 abbrev pub session_within : Settings → DepacketizerState → Option RedStream → Result Numbering WindowError → Result Session SettingsError

@@ -1,18 +1,18 @@
 //! Which datagrams belong to a stream, and what the jitter buffer does with each.
 
-ghost use Rattle.std.specs.Prelude.{◌≡◌, IfOk, OnErr, IfErr};
+ghost use Rattle.std.specs.Prelude.{◌≡◌, IfOk, OnErr, IfErr, true};
 ghost use Rattle.codec_payload_base.specs.declared.error.PacketError.TheVariants.{OutOfMemory};
-ghost use Rattle.codec_payload_red.specs.RedBlocks.{blocks_of};
 ghost use Rattle.codec_payload_red.specs.RedRecovery.{packet_of as recovered_of};
 ghost use Rattle.codec_payload_rtp.specs.RtpValues.{header_of, packet_of};
 ghost use Rattle.codec_payload_jitter.specs.Receiving.{Receives, ReceivesAgain};
-ghost use Rattle.codec_payload_stream.specs.Kinds.{again_kind, block_header, carrier_of, datagram_at, datagram_of, header_for, is_among, is_other, is_padding_only, is_sent_again, kind_for, media_kind, original_header, original_of, red_kind, red_of, ssrc_or};
-ghost use Rattle.codec_payload_stream.specs.Sessions.{RecoversAll, RecoversOr, TakesDatagram, TakesPrimary, TakesRed, is_suspect, observed_in, ssrc_after};
+ghost use Rattle.codec_payload_stream.specs.Kinds.{again_kind, block_header, carrier_of, datagram_at, datagram_of, header_for, is_among, is_other, is_padding_only, is_sent_again, kind_for, media_kind, original_header, original_of, red_kind, red_of, retransmitted_under, ssrc_or, under};
+ghost use Rattle.codec_payload_stream.specs.Sessions.{TakesDatagram, TakesPrimary, TakesRed, is_suspect, observed_in, ssrc_after};
 
+use crate::blocks::{copy_blocks, recover_all};
 use crate::receiver::Retransmission;
 use crate::reports::ReceptionStatistics;
 use codec_payload_base::error::PacketError;
-use codec_payload_base::wire::{ExtensionValues, Pt, RtpHeader as Header, SeqNo, Ticks};
+use codec_payload_base::wire::{ExtensionValues, Pt, RtpHeader as Header, Ticks};
 use codec_payload_codec::codec::Depacketizer;
 use codec_payload_jitter::jitter::{JitterBuffer, Outcome};
 use codec_payload_red::red::{Recovered, RedBlock, RedDecoder, RedReceiver};
@@ -35,10 +35,10 @@ pub(crate) enum Malformation {
 /// A packet of RED.
 #[derive(Debug, Drop)]
 pub(crate) struct RedPacket<'a> {
-    packet: RtpPacket<'a>,
-    receiver: RedReceiver,
+    pub(crate) packet: RtpPacket<'a>,
+    pub(crate) receiver: RedReceiver,
     primary: RedBlock<'a>,
-    older: Vec<RedBlock<'a>>,
+    pub(crate) older: Vec<RedBlock<'a>>,
 }
 
 /// A packet that was sent again (RFC 4588, section 4).
@@ -73,6 +73,26 @@ pub(crate) enum Datagram<'a> {
 pub(crate) struct RedStream {
     pub(crate) payload_type: u8,
     pub(crate) receiver: RedReceiver,
+}
+
+/// What became of a datagram.
+#[derive(Clone, Copy, Debug)]
+pub(crate) struct Taken {
+    pub(crate) outcome: Outcome,
+    /// Whether there was memory for all that it carries.
+    pub(crate) whole: bool,
+}
+
+impl Taken {
+    /// It carries nothing else, or nothing of what it carries is looked at.
+    fn whole(outcome: Outcome) -> Taken
+        ensures { result ≡ record { outcome = outcome; whole = true } }
+    {
+        Taken {
+            outcome,
+            whole: true,
+        }
+    }
 }
 
 /// What tells the datagrams of a stream.
@@ -129,6 +149,16 @@ fn is_sent_again(retransmission: Option<Retransmission>, header: &RtpHeader<'_>)
     match retransmission {
         Some(it) => it.ssrc == header.ssrc && it.payload_type == header.payload_type,
         None => false,
+    }
+}
+
+/// Under what packets are retransmitted, where that SSRC takes the place of the one before.
+fn under(retransmission: Option<Retransmission>, ssrc: Option<u32>) -> Option<Retransmission>
+    ensures { result ≡ under retransmission ssrc }
+{
+    match (retransmission, ssrc) {
+        (Some(it), Some(ssrc)) => Some(Retransmission { ssrc, ..it }),
+        _ => retransmission,
     }
 }
 
@@ -252,6 +282,13 @@ impl Stream {
         }
     }
 
+    /// Packets are retransmitted under that SSRC from now on, if they are retransmitted and it is told.
+    pub(crate) fn retransmit_under(&mut self, ssrc: Option<u32>)
+        ensures { self.new ≡ retransmitted_under ssrc self.old }
+    {
+        self.retransmission = under(self.retransmission, ssrc);
+    }
+
     /// What reads payloads of that type, if it is that of RED.
     fn red_of(&self, payload_type: u8) -> Option<RedReceiver>
         ensures { result ≡ red_of self.now.red payload_type }
@@ -331,7 +368,7 @@ impl Stream {
     }
 
     /// The header of a packet that another one carried.
-    fn block_header(&self, ssrc: u32, recovered: &Recovered<'_>) -> Header
+    pub(crate) fn block_header(&self, ssrc: u32, recovered: &Recovered<'_>) -> Header
         ensures { result ≡ block_header self.now ssrc (recovered_of recovered.now) }
     {
         Header {
@@ -344,59 +381,25 @@ impl Stream {
         }
     }
 
-    /// The jitter buffer takes in a packet that another one carried, where that is missing. Whether there was memory.
-    fn recover<B: Depacketizer>(
-        &self,
-        packets: &mut JitterBuffer<B>,
-        now: Ticks,
-        ssrc: u32,
-        recovered: &Recovered<'_>,
-    ) -> bool
-        ensures { RecoversOr result (record { now = now; header = block_header self.now ssrc (recovered_of recovered.now); bytes = recovered.now.payload.now }) packets.old packets.new }
-    {
-        let Ok(payload) = Vec::from_slice(self.alloc, recovered.payload) else {
-            return false;
-        };
-        packets
-            .push_recovered(now, self.block_header(ssrc, recovered), payload)
-            .is_ok()
-    }
-
-    /// The jitter buffer takes in the packets that the older blocks of a packet are, where they are missing.
-    fn recover_all<B: Depacketizer>(
-        &self,
-        packets: &mut JitterBuffer<B>,
-        now: Ticks,
-        red: &RedPacket<'_>,
-    )
-        ensures { RecoversAll self.now now (carrier_of red.now) (blocks_of red.now.older.items) packets.old packets.new }
-    {
-        let header = &red.packet.header;
-        let number = SeqNo(65_536 + u64::from(header.sequence_number));
-        for block in &red.older {
-            let found = red.receiver.recover_block(number, header.timestamp, block);
-            if let Some(recovered) = found {
-                let _with_memory = self.recover(packets, now, header.ssrc, &recovered);
-            }
-        }
-    }
-
-    /// The jitter buffer takes in a packet of RED: what it is itself, and unless that is suspect, what it carries.
+    /// The jitter buffer takes in a packet of RED: what it is itself, and unless that is suspect, what it carries. The payloads of
+    /// what it carries are copied first.
     fn push_red<B: Depacketizer>(
         &self,
         packets: &mut JitterBuffer<B>,
         now: Ticks,
         red: &RedPacket<'_>,
-    ) -> Result<Outcome, PacketError>
-        ensures ok { IfOk result (λ outcome. TakesRed self.now now (carrier_of red.now) packets.old outcome packets.new) }
+    ) -> Result<Taken, PacketError>
+        ensures ok { IfOk result (λ taken. TakesRed self.now now (carrier_of red.now) packets.old taken.outcome taken.whole packets.new) }
         ensures err { OnErr result (packets.new ≡ packets.old) }
         ensures fault { IfErr result (λ f. f ≡ OutOfMemory) }
     {
+        let copies = copy_blocks(self, red)?;
         let outcome = self.push_primary(packets, now, red)?;
-        if outcome != Outcome::Suspect {
-            self.recover_all(packets, now, red);
+        if outcome == Outcome::Suspect {
+            return Ok(Taken::whole(outcome));
         }
-        Ok(outcome)
+        let whole = recover_all(packets, now, copies);
+        Ok(Taken { outcome, whole })
     }
 
     /// The jitter buffer takes in what is its stream's.
@@ -405,28 +408,29 @@ impl Stream {
         packets: &mut JitterBuffer<B>,
         now: Ticks,
         datagram: &Datagram<'_>,
-    ) -> Result<Outcome, PacketError>
-        ensures ok { IfOk result (λ outcome. TakesDatagram self.now now (datagram_of datagram.now) packets.old outcome packets.new) }
+    ) -> Result<Taken, PacketError>
+        ensures ok { IfOk result (λ taken. TakesDatagram self.now now (datagram_of datagram.now) packets.old taken.outcome taken.whole packets.new) }
         ensures err { OnErr result (packets.new ≡ packets.old) }
         ensures fault { IfErr result (λ f. f ≡ OutOfMemory) }
     {
-        match datagram {
-            Datagram::Rtcp | Datagram::Malformed(_) => Ok(Outcome::Rtcp),
-            Datagram::OtherStream => Ok(Outcome::OtherStream),
+        let outcome = match datagram {
+            Datagram::Red(red) => return self.push_red(packets, now, red),
+            Datagram::Rtcp | Datagram::Malformed(_) => Outcome::Rtcp,
+            Datagram::OtherStream => Outcome::OtherStream,
             Datagram::NoMedia(packet) => {
                 packets.push_no_media(packet.header.sequence_number)?;
-                Ok(Outcome::NoMedia)
+                Outcome::NoMedia
             }
             Datagram::Media(packet) => {
-                self.push_packet(packets, now, &packet.header, packet.payload)
+                self.push_packet(packets, now, &packet.header, packet.payload)?
             }
-            Datagram::Red(red) => self.push_red(packets, now, red),
-            Datagram::SentAgain(sent) => self.push_retransmitted(packets, now, sent),
+            Datagram::SentAgain(sent) => self.push_retransmitted(packets, now, sent)?,
             Datagram::Nothing => {
                 packets.push_nothing();
-                Ok(Outcome::NoMedia)
+                Outcome::NoMedia
             }
-        }
+        };
+        Ok(Taken::whole(outcome))
     }
 }
 

@@ -1,5 +1,6 @@
 -- What a receiver does with the datagrams of its sender, and with pops, is what its buffer does with their packets.
-use Rattle.std.proofs.Common.{◌≡◌, ◌≢◌, ◌∙◌, refl, sym, ap, subst, ℕ, ◌+◌, ◌%◌, ◌^◌, ◌<◌, ◌⊎◌, List, [], ◌∷◌, Bool, true, false, not, cond, Option, Some, None, Ok, Err}
+use Rattle.std.proofs.Common.{◌≡◌, ◌≢◌, ◌∙◌, refl, sym, ap, subst, ℕ, ◌+◌, ◌%◌, ◌^◌, ◌<◌, ◌⊎◌, inl, inr, ◌&&◌, ◌||◌, List, [], ◌∷◌, Bool, true, false, not, cond, Option, Some, None, Ok, Err}
+use Rattle.std.specs.Prelude.{slice_get}
 use Rattle.std.proofs.lemmas.Bool.{eq-eqb, or_left}
 use Rattle.codec_payload_base.specs.declared.error.PacketError.TheVariants as faults
 use Rattle.codec_payload_base.specs.declared.wire.Ticks.{Ticks}
@@ -12,15 +13,20 @@ use Rattle.codec_payload_runs.specs.Arrivals.{PopsWaiting, Tells}
 use Rattle.codec_payload_send.specs.Packets.{Packet}
 use Rattle.codec_payload_runs.specs.Schedule.{Answer, RunState, run_state}
 use Rattle.codec_payload_jitter.specs.NoMediaNumbers.{passed_no_media, no_media_left}
-use Rattle.codec_payload_jitter.specs.Numbers.{Numbering, answer_for, numbering_after, numbering_with, without_restart}
-use Rattle.codec_payload_jitter.specs.Receiving.{Arrival, PopsWith, Receives, ReceivesAs, Receiving, answer_in, is_starting, meta_for, settled, waiting_at}
+use Rattle.codec_payload_jitter.specs.NotedTimes.{AreTimesOf, noted_with}
+use Rattle.codec_payload_jitter.specs.Numbers.{Numbering, answer_for, numbering_after, numbering_with}
+use Rattle.codec_payload_jitter.specs.Receiving.{Arrival, GoesOn, PopsWith, Receives, ReceivesAs, Receiving, answer_to, is_starting, meta_for, settled, waiting_at, with_noted}
 use Rattle.codec_payload_jitter.specs.Waiting.{most_held_back}
+use Rattle.codec_payload_jitter.proofs.RestartLemmas.{answer_to_is, still_times}
+use Rattle.codec_payload_jitter.specs.declared.noted_times.NotedTime.{NotedTime}
 use Rattle.codec_payload_jitter.specs.declared.numbers.Extended.{Extended}
 use Rattle.codec_payload_jitter.specs.declared.numbers.Extended.TheVariants as extended
 use Rattle.codec_payload_jitter.specs.declared.outcome.Outcome.{Outcome}
 use Rattle.codec_payload_sender.specs.declared.sender.Stream.{Stream}
 use Rattle.codec_payload_stream.specs.Kinds.{Datagram, WithMedia, datagram_at, header_for, is_other}
-use Rattle.codec_payload_stream.specs.Sessions.{Heard, Hears, Session}
+use Rattle.codec_payload_stream.specs.Choice.{is_silent, origin_of, verdict_of}
+use Rattle.codec_payload_stream.specs.Sessions.{Finishes, Heard, Hears, ReceivesBy, ReceivesBytes, Session, SettlesOn, ended, first_waiting, is_none_of, is_open}
+use Rattle.codec_payload_stream.specs.declared.choice.Candidate.{Candidate}
 use Rattle.codec_payload_stream.specs.declared.receiver.ReceiveError.TheVariants as refusals
 use Rattle.codec_payload_wire.proofs.ReadingLemmas.{datagram_is, packet_at}
 use Rattle.codec_payload_wire.specs.Releases.{ReadsAs, is_sent_again_by}
@@ -34,7 +40,8 @@ AllNumbered first s (k ∷ ks) = (answer_for s ((first + k) % 2 ^ 16) ≡ extend
 -- a receiver of the stream, which knows of no numbers without media, and to which no restart was told
 pub record IsListening (stream : Stream) (s : Session) : Type 0 where
   pub payload_type : s.stream.payload_type ≡ stream.payload_type
-  pub ssrc : is_other s.ssrc stream.ssrc ≡ false
+  pub named : s.named ≡ Some stream.ssrc
+  pub ssrc : s.ssrc ≡ Some stream.ssrc
   pub not_again : is_sent_again_by s.stream.retransmission stream ≡ false
   pub rate : s.packets.rate ≡ stream.clock_rate
   pub running : s.packets.is_restarting ≡ false
@@ -50,17 +57,41 @@ heard now d s t (Err refusals.OutOfMemory) not_memory told = absurd (not_memory 
 heard now d s t (Err (refusals.Rtp e)) not_memory told = told
 heard now d s t (Err refusals.Red) not_memory told = told
 heard now d s t (Err refusals.Retransmission) not_memory told = told
+heard now d s t (Err refusals.BlocksOutOfMemory) not_memory told = told
 
--- a number within the windows is that of the packet, whether the stream has ended or not
-answer_is : (r : Receiving) (low n : ℕ) → r.is_restarting ≡ false → answer_for r.numbering low ≡ extended.Number n → answer_in r low ≡ extended.Number n
-answer_is r low n running is = rw running (by_ended r.ended)
+-- of two branches of which the second is taken, what is known of both is known of the second
+second : {X : Type 0} (P : X → Type 0) (b : Bool) (x y : X) → b ≡ false → P (cond b x y) → P y
+second P b x y taken known = subst (λ (c : Bool). P (cond c x y)) taken known
+
+-- a receiver that names its SSRC receives each datagram as its stream has it
+heard_at_once : (stream : Stream) (now : Ticks) (bytes : List ℕ) (s t : Session) (receipt : Receipt) → IsListening stream s
+    → Delivers now bytes s receipt t → Heard now (datagram_at s.stream s.ssrc bytes) s receipt t
+heard_at_once stream now bytes s t receipt listening delivers = by_case delivers.1
   where
-    by_ended : (b : Bool) → cond b (without_restart (answer_for r.numbering low)) (answer_for r.numbering low) ≡ extended.Number n
-    by_ended true = ap without_restart is
-    by_ended false = is
+    settled_already : is_open s now.0 ≡ false
+    settled_already = ap (λ (named : Option ℕ). is_none_of named && not s.packets.ended && (is_none_of s.ssrc || is_silent s.choice now.0)) listening.named
 
--- a push of the packet of that number
-pub record TakesIn (n : ℕ) (a : Arrival) (r t : Receiving) : Type 0 where
+    by_case : ReceivesBytes now bytes s receipt t → Heard now (datagram_at s.stream s.ssrc bytes) s receipt t
+    by_case (inl by) =
+        let told = second (λ v. ReceivesBy v now bytes s receipt t) (is_open s now.0)
+        (verdict_of s.choice.candidates s.ssrc (origin_of (datagram_at s.stream None bytes))) _ settled_already by in
+        told
+    by_case (inr got) = absurd (delivers.0 got.0)
+
+-- its SSRC is no other one
+same_ssrc : (stream : Stream) (s : Session) → IsListening stream s → is_other s.ssrc stream.ssrc ≡ false
+same_ssrc stream s listening = ap (λ (o : Option ℕ). is_other o stream.ssrc) listening.ssrc ∙ ap not (eq-eqb stream.ssrc stream.ssrc refl)
+
+-- at the end of the stream nothing waits for a choice
+pub finishes_as : (stream : Stream) (s t : Session) → IsListening stream s → Finishes s t → t ≡ ended s
+finishes_as stream s t listening finishes =
+    let none : first_waiting s ≡ None = ap (λ (o : Option ℕ). cond (is_none_of o) (slice_get s.choice.candidates 0) None) listening.ssrc in
+    let stays : SettlesOn None finishes.0 s finishes.1 = subst (λ (o : Option Candidate). SettlesOn o finishes.0 s finishes.1) none finishes.2 in
+    finishes.3 ∙ ap ended stays.1
+
+-- a push of the packet of that number, which has the RTP time of its number
+pub record TakesIn (time_of : ℕ → ℕ) (n : ℕ) (a : Arrival) (r t : Receiving) : Type 0 where
+  pub times : AreTimesOf time_of t.noted
   pub buffer : t.buffer ≡ pushed r.buffer (arrived r.buffer.depacketizer (meta_for a.now r.rate a.header n) a.bytes)
   pub numbering : t.numbering ≡ numbering_after r.numbering a.header.sequence_number
   pub rate : t.rate ≡ r.rate
@@ -68,18 +99,22 @@ pub record TakesIn (n : ℕ) (a : Arrival) (r t : Receiving) : Type 0 where
   pub no_media_numbers : t.no_media_numbers ≡ r.no_media_numbers
   pub ended : t.ended ≡ r.ended
 
-takes_in : (n : ℕ) (a : Arrival) (r t : Receiving) (outcome : Outcome) → r.is_restarting ≡ false → is_built_in_depacketizer r.buffer.depacketizer ≡ true
-    → answer_for r.numbering a.header.sequence_number ≡ extended.Number n
-    → Receives a r outcome t → TakesIn n a r t
-takes_in n a r t outcome running of_codec numbered receives =
+takes_in : (time_of : ℕ → ℕ) (n : ℕ) (a : Arrival) (r t : Receiving) (outcome : Outcome) → r.is_restarting ≡ false → is_built_in_depacketizer r.buffer.depacketizer ≡ true
+    → answer_for r.numbering a.header.sequence_number ≡ extended.Number n → AreTimesOf time_of r.noted → a.header.timestamp ≡ time_of n
+    → Receives a r outcome t → TakesIn time_of n a r t
+takes_in time_of n a r t outcome running of_codec numbered times time receives =
     let low : ℕ = a.header.sequence_number in
-    let is : answer_in r low ≡ extended.Number n = answer_is r low n running numbered in
+    let is : answer_to r a.header ≡ extended.Number n = answer_to_is time_of r a.header n running times numbered time in
     let mid : Receiving = receives.0 in
-    let went = subst (λ (e : Extended). ReceivesAs e a r outcome mid) is receives.1 in
-    let trusted : mid ≡ record went.0 { kept = None } = went.2 in
+    let went : GoesOn n a r outcome mid = subst (λ (e : Extended). ReceivesAs e a r outcome mid) is receives.1 in
+    let trusted : mid ≡ with_noted n a went.0 = went.2 in
     let accepted = went.1.3 in
     let packet : went.1.1.0 ≡ arrived r.buffer.depacketizer (meta_for a.now r.rate a.header n) a.bytes = went.1.1.1.2 of_codec in
+    let x : NotedTime = record { number = n; time = a.header.timestamp } in
+    let noted : t.noted ≡ noted_with r.numbering.backward r.noted x =
+    ap (λ (y : Receiving). y.noted) receives.2 ∙ (ap (λ (y : Receiving). y.noted) trusted ∙ ap (λ (y : Receiving). noted_with y.numbering.backward y.noted x) accepted) in
     record {
+      times = subst (AreTimesOf time_of) (sym noted) (still_times time_of r.numbering.backward r.noted x time times);
       buffer = ap (λ (x : Receiving). x.buffer) receives.2 ∙ (ap (λ (x : Receiving). x.buffer) trusted ∙ (ap (λ (x : Receiving). x.buffer) accepted ∙ (went.1.1.2 ∙ ap (pushed r.buffer) packet)));
       numbering = ap (λ (x : Receiving). x.numbering) receives.2 ∙ ap (λ (e : Extended). numbering_with r.numbering e low) (is ∙ sym numbered);
       rate = ap (λ (x : Receiving). x.rate) receives.2 ∙ (ap (λ (x : Receiving). x.rate) trusted ∙ ap (λ (x : Receiving). x.rate) accepted);
@@ -89,7 +124,8 @@ takes_in n a r t outcome running of_codec numbered receives =
     }
 
 -- a datagram of the sender is a push of its packet
-pub record IsPushed (stream : Stream) (now : Ticks) (q : Packet) (s t : Session) : Type 0 where
+pub record IsPushed (time_of : ℕ → ℕ) (stream : Stream) (now : Ticks) (q : Packet) (s t : Session) : Type 0 where
+  pub times : AreTimesOf time_of t.packets.noted
   pub meta : RtpMeta
   pub tells : Tells stream.clock_rate q meta
   pub received : meta.received ≡ now
@@ -98,20 +134,22 @@ pub record IsPushed (stream : Stream) (now : Ticks) (q : Packet) (s t : Session)
   pub listening : IsListening stream t
   pub ended : t.packets.ended ≡ s.packets.ended
 
-pub pushes : (stream : Stream) (now : Ticks) (q : Packet) (bytes : List ℕ) (s t : Session) (receipt : Receipt) → (stream.payload_type < 64)
+pub pushes : (time_of : ℕ → ℕ) (stream : Stream) (now : Ticks) (q : Packet) (bytes : List ℕ) (s t : Session) (receipt : Receipt) → (stream.payload_type < 64)
     ⊎ (95 < stream.payload_type) → IsListening stream s → ReadsAs stream q bytes
-    → answer_for s.packets.numbering (q.number % 2 ^ 16) ≡ extended.Number q.number → Delivers now bytes s receipt t → IsPushed stream now q s t
-pushes stream now q bytes s t receipt types listening reads numbered delivers =
+    → answer_for s.packets.numbering (q.number % 2 ^ 16) ≡ extended.Number q.number → AreTimesOf time_of s.packets.noted → q.rtp_time ≡ time_of q.number
+    → Delivers now bytes s receipt t → IsPushed time_of stream now q s t
+pushes time_of stream now q bytes s t receipt types listening reads numbered times time delivers =
     let is : datagram_at s.stream s.ssrc bytes ≡ WithMedia (packet_at stream q) =
-    datagram_is s.stream s.ssrc stream q bytes reads listening.payload_type types listening.ssrc listening.not_again in
+    datagram_is s.stream s.ssrc stream q bytes reads listening.payload_type types (same_ssrc stream s listening) listening.not_again in
     let hears : Hears now (WithMedia (packet_at stream q)) s receipt t =
-    subst (λ (d : Datagram). Hears now d s receipt t) is (heard now (datagram_at s.stream s.ssrc bytes) s t receipt delivers.0 delivers.1) in
+    subst (λ (d : Datagram). Hears now d s receipt t) is (heard now (datagram_at s.stream s.ssrc bytes) s t receipt delivers.0 (heard_at_once stream now bytes s t receipt listening delivers)) in
     let a : Arrival = record { now = now; header = header_for s.stream (packet_at stream q).header; bytes = q.payload } in
-    let one = takes_in q.number a s.packets hears.packets hears.outcome listening.running listening.of_codec numbered hears.takes in
+    let one = takes_in time_of q.number a s.packets hears.packets hears.outcome listening.running listening.of_codec numbered times time hears.takes in
     let meta : RtpMeta = meta_for now s.packets.rate a.header q.number in
     let packets : t.packets ≡ hears.packets = ap (λ (x : Session). x.packets) hears.left in
     let buffer : t.packets.buffer ≡ pushed s.packets.buffer (arrived s.packets.buffer.depacketizer meta q.payload) = ap (λ (x : Receiving). x.buffer) packets ∙ one.buffer in
     record {
+      times = subst (λ (x : Receiving). AreTimesOf time_of x.noted) (sym packets) one.times;
       meta = meta;
       tells = record {
         number = refl;
@@ -123,7 +161,8 @@ pushes stream now q bytes s t receipt types listening reads numbered delivers =
       numbering = ap (λ (x : Receiving). x.numbering) packets ∙ one.numbering;
       listening = record {
         payload_type = ap (λ (x : Session). x.stream.payload_type) hears.left ∙ listening.payload_type;
-        ssrc = ap (λ (x : Session). is_other x.ssrc stream.ssrc) hears.left ∙ ap not (eq-eqb stream.ssrc stream.ssrc refl);
+        named = ap (λ (x : Session). x.named) hears.left ∙ listening.named;
+        ssrc = ap (λ (x : Session). x.ssrc) hears.left;
         not_again = ap (λ (x : Session). is_sent_again_by x.stream.retransmission stream) hears.left ∙ listening.not_again;
         rate = ap (λ (x : Receiving). x.rate) packets ∙ (one.rate ∙ listening.rate);
         running = ap (λ (x : Receiving). x.is_restarting) packets ∙ one.running;
@@ -152,6 +191,7 @@ pub record IsPopped (stream : Stream) (now : Ticks) (answer : Answer) (s t : Ses
   pub wait : Option ℕ
   pub at_end : s.packets.ended ≡ true → wait ≡ Some 0
   pub pops : PopsWaiting wait s.packets.buffer answer t.packets.buffer
+  pub noted : t.packets.noted ≡ s.packets.noted
   pub numbering : t.packets.numbering ≡ s.packets.numbering
   pub listening : IsListening stream t
   pub ended : t.packets.ended ≡ s.packets.ended
@@ -162,6 +202,7 @@ pub record IsTurn (wait : Option ℕ) (r : Receiving) (answer : Answer) (t : Rec
   pub of_codec : is_built_in_depacketizer t.buffer.depacketizer ≡ true
   pub no_media_numbers : t.no_media_numbers ≡ r.no_media_numbers
   pub rate : t.rate ≡ r.rate
+  pub noted : t.noted ≡ r.noted
   pub numbering : t.numbering ≡ r.numbering
   pub is_restarting : t.is_restarting ≡ r.is_restarting
   pub ended : t.ended ≡ r.ended
@@ -173,6 +214,7 @@ turn_of None r answer t of_codec not_memory pops = record {
   of_codec = ap (λ (x : Receiving). is_built_in_depacketizer x.buffer.depacketizer) pops.1 ∙ of_codec;
   no_media_numbers = ap (λ (x : Receiving). x.no_media_numbers) pops.1;
   rate = ap (λ (x : Receiving). x.rate) pops.1;
+  noted = ap (λ (x : Receiving). x.noted) pops.1;
   numbering = ap (λ (x : Receiving). x.numbering) pops.1;
   is_restarting = ap (λ (x : Receiving). x.is_restarting) pops.1;
   ended = ap (λ (x : Receiving). x.ended) pops.1;
@@ -182,6 +224,7 @@ turn_of (Some h) r answer t of_codec not_memory pops = record {
   of_codec = ap (λ (x : Receiving). is_built_in_depacketizer x.buffer.depacketizer) pops.2 ∙ pop_stays (record r.buffer { hold_back = h }) pops.0 answer of_codec not_memory pops.1;
   no_media_numbers = ap (λ (x : Receiving). x.no_media_numbers) pops.2;
   rate = ap (λ (x : Receiving). x.rate) pops.2;
+  noted = ap (λ (x : Receiving). x.noted) pops.2;
   numbering = ap (λ (x : Receiving). x.numbering) pops.2;
   is_restarting = ap (λ (x : Receiving). x.is_restarting) pops.2;
   ended = ap (λ (x : Receiving). x.ended) pops.2;
@@ -205,10 +248,12 @@ pops_as stream now answer s t listening not_memory popped =
       wait = wait;
       at_end = waits_for_nothing r now.0;
       pops = subst (λ (x : Receiving). PopsWaiting wait r.buffer answer x.buffer) (sym packets) turn.pops;
+      noted = ap (λ (x : Receiving). x.noted) packets ∙ turn.noted;
       numbering = ap (λ (x : Receiving). x.numbering) packets ∙ turn.numbering;
       listening = record {
         payload_type = ap (λ (x : Session). x.stream.payload_type) popped.2 ∙ listening.payload_type;
-        ssrc = ap (λ (x : Session). is_other x.ssrc stream.ssrc) popped.2 ∙ listening.ssrc;
+        named = ap (λ (x : Session). x.named) popped.2 ∙ listening.named;
+        ssrc = ap (λ (x : Session). x.ssrc) popped.2 ∙ listening.ssrc;
         not_again = ap (λ (x : Session). is_sent_again_by x.stream.retransmission stream) popped.2 ∙ listening.not_again;
         rate = ap (λ (x : Receiving). x.rate) packets ∙ (turn.rate ∙ listening.rate);
         running = ap (λ (x : Receiving). x.is_restarting) packets ∙ (turn.is_restarting ∙ listening.running);

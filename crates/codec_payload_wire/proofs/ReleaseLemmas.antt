@@ -16,21 +16,21 @@ use Rattle.codec_payload_runs.specs.Schedule.{Answer, RunState}
 use Rattle.codec_payload_send.specs.Sending.{Sample}
 use Rattle.codec_payload_runs.specs.ReportedIds.{read_by}
 use Rattle.codec_payload_runs.specs.Units.{payloads_by, may_split}
+use Rattle.codec_payload_jitter.specs.NotedTimes.{AreTimesOf}
 use Rattle.codec_payload_jitter.proofs.NumbersLemmas.{are_true_numbers, none_restarts}
 use Rattle.codec_payload_jitter.specs.Numbers.{StayNear, GoOn, IsNumbering, Numbering, answer_for, numbering_after, is_restart, low_bits, moved, no_numbers, number_for, number_in, numbers_for}
 use Rattle.codec_payload_jitter.specs.declared.numbers.Extended.{Extended}
 use Rattle.codec_payload_jitter.specs.declared.numbers.Extended.TheVariants as extended
 use Rattle.codec_payload_sender.specs.Senders.{Sending}
-use Rattle.codec_payload_stream.specs.Kinds.{is_other}
 use Rattle.codec_payload_stream.specs.Sessions.{Session}
-use Rattle.codec_payload_wire.proofs.EventLemmas.{Brings, IsMet, all_told, delivery_of, met, order_told, split_at_end}
+use Rattle.codec_payload_wire.proofs.EventLemmas.{Brings, IsMet, all_told, delivery_of, met, order_told, split_at_end, times_from}
 use Rattle.codec_payload_wire.proofs.NewReceivers.{IsBegun, new_is_begun}
 use Rattle.codec_payload_wire.proofs.ReceivingLemmas.{AllNumbered, IsListening}
 use Rattle.codec_payload_wire.proofs.SendingLemmas.{SendsRun, running, same_count, sends_run}
 use Rattle.codec_payload_wire.proofs.StepLemmas.{ComesTo, Takes, comes_to}
 use Rattle.codec_payload_wire.specs.Releases.{is_sent_again_by, AllComeFirst, AreDatagrams, ComeWithin, StayWithin, IsDelivery}
 use Rattle.codec_payload_wire.specs.Releases.{IsWithinWindows, ReleaseOverDatagrams, ReleasesUnits, delivered, received_steps, sending_steps}
-use Rattle.codec_payload_wire.specs.WireRuns.{ended, Runs, Wire, begins}
+use Rattle.codec_payload_wire.specs.WireRuns.{Runs, Wire, begins}
 use Rattle.codec_payload_wire.specs.declared.run.DatagramStep.{DatagramStep}
 use Rattle.codec_payload_wire.specs.declared.run.DatagramStep.TheVariants as steps
 use Rattle.codec_payload_wire.specs.declared.run.SentSample.{SentSample}
@@ -87,7 +87,7 @@ takes_below [] datagrams s t answers takes = tt
 takes_below (steps.Send i ∷ later) datagrams s t answers takes = takes_below later datagrams s t answers takes
 takes_below (steps.Deliver k now ∷ later) datagrams s t answers takes = (slice_get_within datagrams k takes.0 takes.1, takes_below later datagrams takes.3 t answers takes.5)
 takes_below (steps.Pop now ∷ later) datagrams s t answers takes = takes_below later datagrams takes.2 t takes.1 takes.6
-takes_below (steps.Finish ∷ later) datagrams s t answers takes = takes_below later datagrams (ended s) t answers takes
+takes_below (steps.Finish ∷ later) datagrams s t answers takes = takes_below later datagrams takes.0 t answers takes.2
 
 max_more : (number g k : ℕ) → max (number + g) (number + k) ≡ number + max g k
 max_more number g k = omega arith
@@ -164,7 +164,8 @@ module _ (samples : List Sample) (all_steps : List DatagramStep) (sender : Sendi
   listening : IsListening sender.stream receiver
   listening = record {
     payload_type = ap (λ (x : Session). x.stream.payload_type) begun.is ∙ within.one_stream.payload_type;
-    ssrc = ap (λ (x : Session). is_other x.ssrc sender.stream.ssrc) begun.is ∙ within.one_stream.ssrc;
+    named = ap (λ (x : Session). x.named) begun.is ∙ within.one_stream.ssrc;
+    ssrc = ap (λ (x : Session). x.ssrc) begun.is ∙ within.one_stream.ssrc;
     not_again = ap (λ (x : Session). is_sent_again_by x.stream.retransmission sender.stream) begun.is ∙ within.one_stream.not_again;
     rate = ap (λ (x : Session). x.packets.rate) begun.is ∙ within.one_stream.clock_rate;
     running = ap (λ (x : Session). x.packets.is_restarting) begun.is;
@@ -189,8 +190,11 @@ module _ (samples : List Sample) (all_steps : List DatagramStep) (sender : Sendi
   sent : SendsRun receiver.packets.buffer sender.stream sender.mtu first 0 samples all_steps (begins sender receiver) t []
   sent = sends_from first (first_small forward backward number (delivered received) low within.within) (first_low forward backward sender.stream.number (delivered received) within.within)
 
+  nothing_noted : AreTimesOf (times_from first sent.all) receiver.packets.noted
+  nothing_noted = subst (λ (x : Session). AreTimesOf (times_from first sent.all) x.packets.noted) (sym begun.is) (λ k d below. absurd (omega (arith, below)))
+
   come : IsMet rate sent.all received receiver t.pops t.session
-  come = met sender.stream within.one_stream.not_rtcp first sent.all t.datagrams sent.at.reads sent.at.numbered received receiver t.session t.pops listening numbers takes
+  come = met sender.stream within.one_stream.not_rtcp first sent.all t.datagrams sent.at.reads sent.at.numbered received receiver t.session t.pops listening numbers nothing_noted takes
 
   abbrev start : RunState
   start = running receiver.packets.buffer first rate sender []

@@ -375,5 +375,5 @@ module _ (buffer : State) (stream : Stream) (budget start : ℕ) (small : start 
       let sending : run.0.sending ≡ s.sending = ap (λ (x : Wire). x.sending) run.1.4 in
       stays place (steps.Pop now) later s run.0 t packets refl sending (sends_run place later run.0 t packets (at_same s run.0 packets sending (ap (λ (x : Wire). x.datagrams) run.1.4) at) run.2)
   sends_run place (steps.Finish ∷ later) s t packets at run =
-      let sending : run.0.sending ≡ s.sending = ap (λ (x : Wire). x.sending) run.1 in
-      stays place steps.Finish later s run.0 t packets refl sending (sends_run place later run.0 t packets (at_same s run.0 packets sending (ap (λ (x : Wire). x.datagrams) run.1) at) run.2)
+      let sending : run.0.sending ≡ s.sending = ap (λ (x : Wire). x.sending) run.1.2 in
+      stays place steps.Finish later s run.0 t packets refl sending (sends_run place later run.0 t packets (at_same s run.0 packets sending (ap (λ (x : Wire). x.datagrams) run.1.2) at) run.2)

@@ -9,9 +9,9 @@ use Rattle.codec_payload_base.specs.declared.error.PacketError.TheVariants as fa
 use Rattle.codec_payload_base.specs.declared.wire.Ticks.{Ticks}
 use Rattle.codec_payload_runs.specs.Schedule.{Answer}
 use Rattle.codec_payload_send.specs.Sending.{Sample}
-use Rattle.codec_payload_stream.specs.Sessions.{Session}
+use Rattle.codec_payload_stream.specs.Sessions.{Finishes, Session}
 use Rattle.codec_payload_wire.specs.Releases.{received_steps, sends_after, sent_after}
-use Rattle.codec_payload_wire.specs.WireRuns.{Delivers, PopsUnit, Receipt, Runs, SendsIt, Wire, ended}
+use Rattle.codec_payload_wire.specs.WireRuns.{Delivers, PopsUnit, Receipt, Runs, SendsIt, Wire}
 use Rattle.codec_payload_wire.specs.declared.run.DatagramStep.{DatagramStep}
 use Rattle.codec_payload_wire.specs.declared.run.DatagramStep.TheVariants as steps
 use Rattle.codec_payload_wire.specs.declared.run.SentSample.{SentSample}
@@ -34,7 +34,7 @@ Takes (steps.Deliver k now ∷ later) datagrams s answers t =
     (bytes : List ℕ) × (slice_get datagrams k ≡ Some bytes) × (receipt : Receipt) × (mid : Session) × Delivers now bytes s receipt mid × Takes later datagrams mid answers t
 Takes (steps.Pop now ∷ later) datagrams s answers t =
     (answer : Answer) × (more : List Answer) × (mid : Session) × (answers ≡ answer ∷ more) × (answer ≢ Some (Err faults.OutOfMemory)) × PopsUnit now s answer mid × Takes later datagrams mid more t
-Takes (steps.Finish ∷ later) datagrams s answers t = Takes later datagrams (ended s) answers t
+Takes (steps.Finish ∷ later) datagrams s answers t = (mid : Session) × Finishes s mid × Takes later datagrams mid answers t
 
 -- what the steps of a run come to
 pub record ComesTo (samples : List Sample) (all_steps : List DatagramStep) (s t : Wire) : Type 0 where
@@ -152,14 +152,18 @@ module _ (samples : List Sample) where
       }
   comes_to (steps.Finish ∷ later) s t run =
       let comes = comes_to later run.0 t run.2 in
-      let session : run.0.session ≡ ended s.session = ap (λ (x : Wire). x.session) run.1 in
-      let same : run.0.datagrams ≡ s.datagrams = ap (λ (x : Wire). x.datagrams) run.1 in
+      let session : run.0.session ≡ run.1.0 = ap (λ (x : Wire). x.session) run.1.2 in
+      let same : run.0.datagrams ≡ s.datagrams = ap (λ (x : Wire). x.datagrams) run.1.2 in
       record {
         later = comes.later;
-        sends = comes.sends ∙ ap (λ (x : Wire). x.sends ++ comes.later) run.1;
+        sends = comes.sends ∙ ap (λ (x : Wire). x.sends ++ comes.later) run.1.2;
         answers = comes.answers;
-        pops = comes.pops ∙ ap (λ (x : Wire). x.pops ++ comes.answers) run.1;
+        pops = comes.pops ∙ ap (λ (x : Wire). x.pops ++ comes.answers) run.1.2;
         grows = λ j b there. comes.grows j b (subst (λ (ds : List (List ℕ)). slice_get ds j ≡ Some b) (sym same) there);
-        takes = subst (λ (ds : List (List ℕ)). Takes (Received (length ds) later comes.later) t.datagrams (ended s.session) comes.answers t.session) same
-            (subst (λ (x : Session). Takes (Received (length run.0.datagrams) later comes.later) t.datagrams x comes.answers t.session) session comes.takes);
+        takes = (
+          run.1.0,
+          run.1.1,
+          subst (λ (ds : List (List ℕ)). Takes (Received (length ds) later comes.later) t.datagrams run.1.0 comes.answers t.session) same
+              (subst (λ (x : Session). Takes (Received (length run.0.datagrams) later comes.later) t.datagrams x comes.answers t.session) session comes.takes),
+        );
       }

@@ -20,7 +20,6 @@ use Rattle.codec_payload_rtp.specs.RtpReading.{rtp_at}
 use Rattle.codec_payload_sender.specs.Datagrams.{header_with}
 use Rattle.codec_payload_sender.specs.Senders.{Sending}
 use Rattle.codec_payload_sender.specs.declared.sender.Stream.{Stream}
-use Rattle.codec_payload_stream.specs.Kinds.{is_other}
 use Rattle.codec_payload_stream.specs.Sessions.{Session, session_by}
 use Rattle.codec_payload_stream.specs.declared.receiver.Retransmission.{Retransmission}
 use Rattle.codec_payload_stream.specs.declared.receiver.Settings.{Settings}
@@ -94,7 +93,8 @@ is_sent_again_by None stream = false
 is_sent_again_by (Some r) stream = (r.ssrc == stream.ssrc) && (r.payload_type == stream.payload_type)
 
 -- a sender of a codec, and the settings and the depacketizer of a receiver of its stream: this reads what the packetizer makes, and
--- takes the sender's packets for neither RTCP (RFC 5761, section 4) nor another stream, nor for packets that are sent again
+-- takes the sender's packets for neither RTCP (RFC 5761, section 4) nor another stream, nor for packets that are sent again; it names
+-- the sender's SSRC
 pub record AreOfOneStream (sender : Sending) (settings : Settings) (depacketizer : DepacketizerState) : Type 0 where
   pub built_in : is_built_in sender.packetizer ≡ true
   pub alike : kind_of_depacketizer depacketizer ≡ payloads_by sender.packetizer
@@ -102,7 +102,7 @@ pub record AreOfOneStream (sender : Sending) (settings : Settings) (depacketizer
   pub clock_rate : settings.clock_rate ≡ sender.stream.clock_rate
   pub payload_type : settings.payload_type ≡ sender.stream.payload_type
   pub not_rtcp : (sender.stream.payload_type < 64) ⊎ (95 < sender.stream.payload_type)
-  pub ssrc : is_other settings.ssrc sender.stream.ssrc ≡ false
+  pub ssrc : settings.ssrc ≡ Some sender.stream.ssrc
   pub not_again : is_sent_again_by settings.retransmission sender.stream ≡ false
 
 -- each of these indices is less than `forward` above the greatest before it, and at most `backward` below it; g is the greatest so far

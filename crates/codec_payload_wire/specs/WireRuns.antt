@@ -1,17 +1,16 @@
 -- What the steps of a run over datagrams do, one after another.
-use Rattle.std.specs.Prelude.{◌≡◌, ◌≢◌, ℕ, ◌<◌, ◌^◌, false, true, List, [], ◌∷◌, ◌++◌, Option, Some, None, Result, Err, MatchOption, length, map, slice_get}
+use Rattle.std.specs.Prelude.{◌≡◌, ◌≢◌, ℕ, ◌<◌, ◌^◌, List, [], ◌∷◌, ◌++◌, Option, Some, None, Result, Err, MatchOption, length, map, slice_get}
 use Rattle.std.specs.Global.{Vec}
 use Rattle.codec_payload_base.specs.declared.error.PacketError.{PacketError}
 use Rattle.codec_payload_base.specs.declared.error.PacketError.TheVariants as faults
 use Rattle.codec_payload_base.specs.declared.wire.Ticks.{Ticks}
 use Rattle.codec_payload_runs.specs.Schedule.{Answer}
 use Rattle.codec_payload_send.specs.Sending.{Sample}
-use Rattle.codec_payload_jitter.specs.Receiving.{Receiving, PopsWith, settled, waiting_at}
+use Rattle.codec_payload_jitter.specs.Receiving.{PopsWith, Receiving, settled, waiting_at}
 use Rattle.codec_payload_jitter.specs.declared.outcome.Outcome.{Outcome}
 use Rattle.codec_payload_sender.specs.Datagrams.{Sample as SentNow}
 use Rattle.codec_payload_sender.specs.Senders.{Sending, Sends, Refuses}
-use Rattle.codec_payload_stream.specs.Kinds.{datagram_at}
-use Rattle.codec_payload_stream.specs.Sessions.{Session, Heard, time_with}
+use Rattle.codec_payload_stream.specs.Sessions.{Finishes, ReceivesBytes, Session, time_with}
 use Rattle.codec_payload_stream.specs.declared.receiver.ReceiveError.{ReceiveError}
 use Rattle.codec_payload_stream.specs.declared.receiver.ReceiveError.TheVariants as refusals
 use Rattle.codec_payload_wire.specs.declared.run.DatagramRun.{DatagramRun}
@@ -69,15 +68,12 @@ Receipt = Result Outcome ReceiveError
 
 -- a datagram is given to the receiver
 abbrev pub Delivers : Ticks → List ℕ → Session → Receipt → Session → Type 0
-Delivers now bytes s receipt t = (receipt ≢ Err refusals.OutOfMemory) × Heard now (datagram_at s.stream s.ssrc bytes) s receipt t
+Delivers now bytes s receipt t = (receipt ≢ Err refusals.OutOfMemory) × ReceivesBytes now bytes s receipt t
 
 -- a pop of the receiver
 abbrev pub PopsUnit : Ticks → Session → Answer → Session → Type 0
 PopsUnit now s answer t =
     (packets : Receiving) × PopsWith (waiting_at (settled s.packets) now.0) (settled s.packets) answer packets × (t ≡ record s { packets = packets; time = time_with s.time answer })
-
-abbrev pub ended : Session → Session
-ended s = record s { packets = record s.packets { ended = true; is_restarting = false } }
 
 -- one step: a `Send` that names a sample gets an entry, a `Deliver` that names a datagram a receipt, and each `Pop` an answer
 abbrev pub DoesStep : List Sample → DatagramStep → Wire → Wire → Type 0
@@ -90,7 +86,7 @@ DoesStep samples (steps.Deliver k now) s t =
     (receipt : Receipt) × (session : Session) × Delivers now bytes s.session receipt session × (t ≡ record s { session = session; receipts = s.receipts ++ receipt ∷ [] }))
 DoesStep samples (steps.Pop now) s t =
     (answer : Answer) × (session : Session) × (answer ≢ Some (Err faults.OutOfMemory)) × PopsUnit now s.session answer session × (t ≡ record s { session = session; pops = s.pops ++ answer ∷ [] })
-DoesStep samples steps.Finish s t = t ≡ record s { session = ended s.session }
+DoesStep samples steps.Finish s t = (session : Session) × Finishes s.session session × (t ≡ record s { session = session })
 
 -- the steps, in order
 abbrev pub Runs : List Sample → List DatagramStep → Wire → Wire → Type 0

@@ -8,8 +8,7 @@ ghost use Rattle.codec_payload_jitter.specs.declared.outcome.Outcome.{Outcome as
 ghost use Rattle.codec_payload_stream.specs.declared.receiver.ReceiveError.{ReceiveError as Refusal};
 ghost use Rattle.codec_payload_stream.specs.declared.receiver.ReceiveError.TheVariants as refusals;
 ghost use Rattle.codec_payload_runs.specs.Schedule.{Answer};
-ghost use Rattle.codec_payload_stream.specs.Kinds.{datagram_at};
-ghost use Rattle.codec_payload_stream.specs.Sessions.{Heard};
+ghost use Rattle.codec_payload_stream.specs.Sessions.{ReceivesBytes};
 ghost use Rattle.codec_payload_wire.specs.Releases.{ReleasesWithinWindows};
 ghost use Rattle.codec_payload_wire.specs.WireRuns.{DoesStep, PopsUnit, Runs, SendsIt, SendsOrRefuses, begins, bytes_in, sent_sample, wire_of};
 ghost use Rattle.codec_payload_wire.specs.declared.run.SentSample.{SentSample as Entry};
@@ -195,7 +194,7 @@ fn deliver<D: Depacketizer>(
     now: Ticks,
     bytes: &[u8],
 ) -> Result<Result<Outcome, ReceiveError>, PacketError>
-    ensures ok { IfOk result (λ receipt. (receipt ≢ Result.Err refusals.OutOfMemory) × Heard now (datagram_at receiver.old.stream receiver.old.ssrc bytes.now) receiver.old receipt receiver.new) }
+    ensures ok { IfOk result (λ receipt. (receipt ≢ Result.Err refusals.OutOfMemory) × ReceivesBytes now bytes.now receiver.old receipt receiver.new) }
     ensures fault { IfErr result (λ fault. fault ≡ OutOfMemory) }
 {
     match receiver.receive(now, bytes) {

@@ -1,6 +1,6 @@
 //! A sender: its datagrams byte for byte, and what a receiver makes of those that the network leaves.
 
-use crate::events::{STARTS_LATER, pop_all, receiver_of, take};
+use crate::events::{STARTS_LATER, pop_all, receiver_for, take};
 use codec_payload_base::wire::{Codec, ExtensionValues, Frequency, MediaTime};
 use codec_payload_codec::codec::{CodecPacketizer, NoBox};
 use codec_payload_rtp::values::ExtensionIds;
@@ -132,7 +132,7 @@ fn deliver(
 fn over_a_network_that_loses_and_repeats(rt: HostRuntime) -> Result<(), Fail> {
     let alloc = rt.alloc();
     let mut sender = sender_of(alloc, settings())?;
-    let mut receiver = receiver_of(alloc, STARTS_LATER, 4_096)?;
+    let mut receiver = receiver_for(alloc, Some(0x0102_0304), STARTS_LATER, 4_096)?;
     let mut told = String::new(alloc);
     for n in 0..20u8 {
         assert!(rt; speak(&mut sender, u64::from(n), &[n]));

@@ -27,6 +27,7 @@ fn word_of(outcome: Outcome) -> &'static str {
         Outcome::NoMedia => "no media",
         Outcome::OtherStream => "other stream",
         Outcome::Rtcp => "rtcp",
+        Outcome::Undecided => "undecided",
     }
 }
 
@@ -91,6 +92,7 @@ pub fn print_counters(
         ("rtcp", counters.rtcp),
         ("malformed", counters.malformed),
         ("other", counters.other_streams),
+        ("undecided", counters.undecided),
         ("no_media", packets.no_media),
         ("duplicates", packets.duplicates),
         ("late", packets.late),

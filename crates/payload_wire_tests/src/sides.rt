@@ -36,7 +36,7 @@ pub fn receiver_of(alloc: Global, wait_limits: WaitLimits) -> Result<Receiver<No
     let settings = Settings {
         payload_type: 96,
         no_media: Vec::new(alloc),
-        ssrc: None,
+        ssrc: Some(7),
         red: None,
         retransmission: None,
         extension_ids: ExtensionIds::default(),

@@ -26,6 +26,9 @@ pub enum Outcome {
     NoMedia,
     /// It is a packet of another SSRC or payload type. A jitter buffer never tells this of a packet that is pushed.
     OtherStream,
+    /// The stream is not chosen so far: the datagram is kept until it is. A jitter buffer never reports this of a packet that is
+    /// pushed.
+    Undecided,
     /// It is a packet of RTCP. A jitter buffer never tells this of a packet that is pushed.
     Rtcp,
 }
@@ -93,7 +96,11 @@ pub(crate) fn outcome_of(placed: Placed) -> Outcome {
 /// One more packet came to that.
 fn count_outcome(mut counters: PacketCounters, outcome: Outcome) -> PacketCounters {
     match outcome {
-        Outcome::Held | Outcome::Restarted(_) | Outcome::OtherStream | Outcome::Rtcp => {}
+        Outcome::Held
+        | Outcome::Restarted(_)
+        | Outcome::OtherStream
+        | Outcome::Undecided
+        | Outcome::Rtcp => {}
         Outcome::Duplicate => counters.duplicates = counters.duplicates.wrapping_add(1),
         Outcome::Late => counters.late = counters.late.wrapping_add(1),
         Outcome::Suspect => counters.suspect = counters.suspect.wrapping_add(1),

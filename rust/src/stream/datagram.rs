@@ -9,9 +9,10 @@ use crate::memory::TryVec;
 use crate::red::{Recovered, RedBlock, RedDecoder, RedReceiver};
 use crate::rtp::packet::{PacketHeader, RtpError, RtpPacket, is_rtcp};
 use crate::rtp::values::ExtensionIds;
+use crate::stream::blocks::{copy_blocks, recover_all};
 use crate::stream::receiver::Retransmission;
 use crate::stream::reports::ReceptionStatistics;
-use crate::wire::{ExtensionValues, Pt, RtpHeader as Header, SeqNo, Ticks};
+use crate::wire::{ExtensionValues, Pt, RtpHeader as Header, Ticks};
 use alloc::vec::Vec;
 
 /// Why a datagram is none of any stream.
@@ -28,10 +29,10 @@ pub(crate) enum Malformation {
 /// A packet of RED.
 #[derive(Debug)]
 pub(crate) struct RedPacket<'a> {
-    packet: RtpPacket<'a>,
-    receiver: RedReceiver,
+    pub(crate) packet: RtpPacket<'a>,
+    pub(crate) receiver: RedReceiver,
     primary: RedBlock<'a>,
-    older: Vec<RedBlock<'a>>,
+    pub(crate) older: Vec<RedBlock<'a>>,
 }
 
 /// A packet that was sent again (RFC 4588, section 4).
@@ -68,6 +69,24 @@ pub(crate) struct RedStream {
     pub(crate) receiver: RedReceiver,
 }
 
+/// What became of a datagram.
+#[derive(Clone, Copy, Debug)]
+pub(crate) struct Taken {
+    pub(crate) outcome: Outcome,
+    /// Whether there was memory for all that it carries.
+    pub(crate) whole: bool,
+}
+
+impl Taken {
+    /// It carries nothing else, or nothing of what it carries is looked at.
+    fn whole(outcome: Outcome) -> Taken {
+        Taken {
+            outcome,
+            whole: true,
+        }
+    }
+}
+
 /// What tells the datagrams of a stream.
 #[derive(Debug)]
 pub(crate) struct Stream {
@@ -101,6 +120,14 @@ fn is_sent_again(retransmission: Option<Retransmission>, header: &PacketHeader<'
     match retransmission {
         Some(it) => it.ssrc == header.ssrc && it.payload_type == header.payload_type,
         None => false,
+    }
+}
+
+/// Under what packets are retransmitted, where that SSRC takes the place of the one before.
+fn under(retransmission: Option<Retransmission>, ssrc: Option<u32>) -> Option<Retransmission> {
+    match (retransmission, ssrc) {
+        (Some(it), Some(ssrc)) => Some(Retransmission { ssrc, ..it }),
+        _ => retransmission,
     }
 }
 
@@ -203,6 +230,11 @@ impl Stream {
         }
     }
 
+    /// Packets are retransmitted under that SSRC from now on, if they are retransmitted and it is told.
+    pub(crate) fn retransmit_under(&mut self, ssrc: Option<u32>) {
+        self.retransmission = under(self.retransmission, ssrc);
+    }
+
     /// What reads payloads of that type, if it is that of RED.
     fn red_of(&self, payload_type: u8) -> Option<RedReceiver> {
         match self.red {
@@ -266,7 +298,7 @@ impl Stream {
     }
 
     /// The header of a packet that another one carried.
-    fn block_header(&self, ssrc: u32, recovered: &Recovered<'_>) -> Header {
+    pub(crate) fn block_header(&self, ssrc: u32, recovered: &Recovered<'_>) -> Header {
         Header {
             payload_type: Pt::new_with_value(self.payload_type),
             sequence_number: (recovered.seq_no.0 % 65_536) as u16,
@@ -277,51 +309,21 @@ impl Stream {
         }
     }
 
-    /// The jitter buffer takes in a packet that another one carried, where that is missing. Whether there was memory.
-    fn recover<B: Depacketizer>(
-        &self,
-        packets: &mut JitterBuffer<B>,
-        now: Ticks,
-        ssrc: u32,
-        recovered: &Recovered<'_>,
-    ) -> bool {
-        let Ok(payload) = Vec::try_from_slice(recovered.payload) else {
-            return false;
-        };
-        packets
-            .push_recovered(now, self.block_header(ssrc, recovered), payload)
-            .is_ok()
-    }
-
-    /// The jitter buffer takes in the packets that the older blocks of a packet are, where they are missing.
-    fn recover_all<B: Depacketizer>(
-        &self,
-        packets: &mut JitterBuffer<B>,
-        now: Ticks,
-        red: &RedPacket<'_>,
-    ) {
-        let header = &red.packet.header;
-        let number = SeqNo(65_536 + u64::from(header.sequence_number));
-        for block in &red.older {
-            let found = red.receiver.recover_block(number, header.timestamp, block);
-            if let Some(recovered) = found {
-                let _with_memory = self.recover(packets, now, header.ssrc, &recovered);
-            }
-        }
-    }
-
-    /// The jitter buffer takes in a packet of RED: what it is itself, and unless that is suspect, what it carries.
+    /// The jitter buffer takes in a packet of RED: what it is itself, and unless that is suspect, what it carries. The payloads of
+    /// what it carries are copied first.
     fn push_red<B: Depacketizer>(
         &self,
         packets: &mut JitterBuffer<B>,
         now: Ticks,
         red: &RedPacket<'_>,
-    ) -> Result<Outcome, PacketError> {
+    ) -> Result<Taken, PacketError> {
+        let copies = copy_blocks(self, red)?;
         let outcome = self.push_primary(packets, now, red)?;
-        if outcome != Outcome::Suspect {
-            self.recover_all(packets, now, red);
+        if outcome == Outcome::Suspect {
+            return Ok(Taken::whole(outcome));
         }
-        Ok(outcome)
+        let whole = recover_all(packets, now, copies);
+        Ok(Taken { outcome, whole })
     }
 
     /// The jitter buffer takes in what is its stream's.
@@ -330,24 +332,25 @@ impl Stream {
         packets: &mut JitterBuffer<B>,
         now: Ticks,
         datagram: &Datagram<'_>,
-    ) -> Result<Outcome, PacketError> {
-        match datagram {
-            Datagram::Rtcp | Datagram::Malformed(_) => Ok(Outcome::Rtcp),
-            Datagram::OtherStream => Ok(Outcome::OtherStream),
+    ) -> Result<Taken, PacketError> {
+        let outcome = match datagram {
+            Datagram::Red(red) => return self.push_red(packets, now, red),
+            Datagram::Rtcp | Datagram::Malformed(_) => Outcome::Rtcp,
+            Datagram::OtherStream => Outcome::OtherStream,
             Datagram::NoMedia(packet) => {
                 packets.push_no_media(packet.header.sequence_number)?;
-                Ok(Outcome::NoMedia)
+                Outcome::NoMedia
             }
             Datagram::Media(packet) => {
-                self.push_packet(packets, now, &packet.header, packet.payload)
+                self.push_packet(packets, now, &packet.header, packet.payload)?
             }
-            Datagram::Red(red) => self.push_red(packets, now, red),
-            Datagram::SentAgain(sent) => self.push_retransmitted(packets, now, sent),
+            Datagram::SentAgain(sent) => self.push_retransmitted(packets, now, sent)?,
             Datagram::Nothing => {
                 packets.push_nothing();
-                Ok(Outcome::NoMedia)
+                Outcome::NoMedia
             }
-        }
+        };
+        Ok(Taken::whole(outcome))
     }
 }
 

@@ -12,11 +12,15 @@ use crate::red::RedReceiver;
 use crate::rtp::packet::RtpError;
 use crate::rtp::times::RtpTimes;
 use crate::rtp::values::ExtensionIds;
-use crate::stream::datagram::{Datagram, Malformation, RedStream, Stream, observe, ssrc_after};
+use crate::stream::choice::{Choice, Origin, Verdict};
+use crate::stream::datagram::{
+    Datagram, Malformation, RedStream, Stream, Taken, observe, ssrc_after,
+};
 use crate::stream::reports::{ReceptionReport, ReceptionStatistics};
 use crate::wire::{Frequency, Ticks};
 use alloc::vec::Vec;
 use core::fmt;
+use core::mem;
 
 /// For how many packets of a datagram of RED places are kept free: its primary block, a suspect packet, and eight older blocks.
 const RED_AT_ONCE: usize = 10;
@@ -50,7 +54,8 @@ pub struct ReceiverSettings {
     /// Payload types that come under the stream's SSRC and numbers and carry no media of it: telephone events beside audio,
     /// comfort noise, forward error correction.
     pub no_media: Vec<u8>,
-    /// The SSRC of the stream. `None`: that of the first packet with one of these payload types.
+    /// The SSRC of the stream. `None`: that of the first two packets of one SSRC, with these payload types, whose numbers are 1 to
+    /// 100 apart; see [`Receiver::receive`].
     pub ssrc: Option<u32>,
     /// How the stream is sent in RED, if it is.
     pub red: Option<RedSettings>,
@@ -127,6 +132,10 @@ pub enum ReceiveError {
     Retransmission,
     /// Memory is wanting. Nothing has changed, and the datagram can be given again.
     OutOfMemory,
+    /// The packet of RED itself was received and is counted, and memory ran out among the packets that its older blocks are: that
+    /// packet and those of the blocks after it did not go in, and stay missing. The datagram can be given again: it is a duplicate
+    /// then, and its blocks go in.
+    BlocksOutOfMemory,
 }
 
 impl fmt::Display for ReceiveError {
@@ -138,6 +147,7 @@ impl fmt::Display for ReceiveError {
                 f.write_str("the retransmission has no original sequence number")
             }
             ReceiveError::OutOfMemory => f.write_str("out of memory"),
+            ReceiveError::BlocksOutOfMemory => f.write_str("out of memory for a block of RED"),
         }
     }
 }
@@ -160,8 +170,10 @@ pub struct Counters {
     pub rtcp: u64,
     /// Those that are neither RTP packets nor RTCP, and packets of RED and of retransmissions that are none of their format.
     pub malformed: u64,
-    /// Packets of another SSRC or payload type.
+    /// Packets of another SSRC or payload type, and those that waited for the stream to be chosen and are not of it.
     pub other_streams: u64,
+    /// Packets that wait for the stream to be chosen: at most 4.
+    pub undecided: u64,
     /// What became of the packets of the stream, and of those that were recovered.
     pub packets: PacketCounters,
 }
@@ -193,6 +205,7 @@ pub struct Receiver<B = NoBox> {
     statistics: ReceptionStatistics,
     /// The statistics before any packet came.
     no_statistics: ReceptionStatistics,
+    choice: Choice,
 }
 
 impl<B: Depacketizer> Receiver<B> {
@@ -219,6 +232,7 @@ impl<B: Depacketizer> Receiver<B> {
         };
         let clock_rate = settings.clock_rate;
         let statistics = ReceptionStatistics::over(numbers, settings.tick_rate, clock_rate);
+        let choice = Choice::over(settings.tick_rate);
         let wait_limits = settings.wait_limits;
         let buffer = DepacketizingBuffer::with_limit(
             depacketizer,
@@ -242,6 +256,7 @@ impl<B: Depacketizer> Receiver<B> {
             times: RtpTimes::new(),
             statistics,
             no_statistics: statistics,
+            choice,
         })
     }
 
@@ -251,19 +266,120 @@ impl<B: Depacketizer> Receiver<B> {
     /// The packets that its older blocks are go in where they are missing, and are counted as recovered; of a suspect packet none do.
     /// A packet that was sent again goes in under the number that it had first; see [`JitterBuffer::push_retransmitted`].
     ///
-    /// Takes memory for the payload, for what is known of the packet, and for the list of the blocks of RED. Where it is wanting,
-    /// nothing has changed. Where it is wanting for an older block alone, that packet stays missing.
+    /// If the settings name no SSRC, the first packet of each of up to four SSRCs waits ([`Outcome::Undecided`]). The stream is that
+    /// of the first two packets of one SSRC whose numbers are 1 to 100 apart, either way: the one that waits is received first, at
+    /// the time at which it came, and then this one. The others that wait are of other streams. If no packet of the stream came for
+    /// 2 s (by `tick_rate`), packets of other SSRCs wait again, and two of them choose anew, as after [`Receiver::restart`].
+    ///
+    /// Takes memory for the payload, for what is known of the packet, for a datagram that waits, and for the blocks of RED, whose
+    /// payloads are copied before anything changes. If there is none, this datagram has changed nothing: a packet that waited may have
+    /// been received, and the datagram can be given again. See [`ReceiveError::BlocksOutOfMemory`] for the one case in which
+    /// the packet itself was received before that.
     pub fn receive(&mut self, now: Ticks, bytes: &[u8]) -> Result<Outcome, ReceiveError> {
+        match self.verdict(now, bytes) {
+            Ok(verdict) => self.receive_by(verdict, now, bytes),
+            Err(_) => Err(ReceiveError::OutOfMemory),
+        }
+    }
+
+    /// Does that with a datagram.
+    fn receive_by(
+        &mut self,
+        verdict: Verdict,
+        now: Ticks,
+        bytes: &[u8],
+    ) -> Result<Outcome, ReceiveError> {
+        match verdict {
+            Verdict::Hear => self.hear(now, bytes),
+            Verdict::Keep(origin) => self.keep(now, origin, bytes),
+            Verdict::Choose(place) => self.choose(place, now, bytes),
+        }
+    }
+
+    /// What is to be done with a datagram.
+    fn verdict(&self, now: Ticks, bytes: &[u8]) -> Result<Verdict, PacketError> {
+        if !self.is_open(now) {
+            return Ok(Verdict::Hear);
+        }
+        let datagram = self.stream.sort(None, bytes)?;
+        Ok(self.choice.verdict(self.ssrc, &datagram))
+    }
+
+    /// Whether another stream may be chosen.
+    fn is_open(&self, now: Ticks) -> bool {
+        self.named.is_none()
+            && !self.packets.has_ended()
+            && (self.ssrc.is_none() || self.choice.is_silent(now))
+    }
+
+    /// A datagram waits for the choice of the stream.
+    fn keep(&mut self, now: Ticks, origin: Origin, bytes: &[u8]) -> Result<Outcome, ReceiveError> {
+        match self.choice.keep(now, origin, bytes) {
+            Ok(left) => {
+                if left {
+                    self.turn_away(1);
+                }
+                Ok(Outcome::Undecided)
+            }
+            Err(_) => Err(ReceiveError::OutOfMemory),
+        }
+    }
+
+    /// The stream is that of the packet which waits at this place; then this datagram is received.
+    fn choose(&mut self, place: usize, now: Ticks, bytes: &[u8]) -> Result<Outcome, ReceiveError> {
+        if self.ssrc.is_some() {
+            self.go_over_to(None);
+        }
+        if !self.settle_on(place) {
+            return Err(ReceiveError::OutOfMemory);
+        }
+        self.hear(now, bytes)
+    }
+
+    /// If no SSRC was chosen so far, the first of the packets that wait chooses it. Whether there was memory.
+    fn settle_first(&mut self) -> bool {
+        match self.ssrc {
+            None => self.settle_on(0),
+            Some(_) => true,
+        }
+    }
+
+    /// The stream is that of the packet which waits at this place, if one does: it is received, and the others are of other streams.
+    /// Whether there was memory; else nothing has changed.
+    fn settle_on(&mut self, place: usize) -> bool {
+        let waiting = mem::replace(&mut self.choice.candidates, Vec::new());
+        let Some(first) = waiting.get(place) else {
+            self.choice.candidates = waiting;
+            return true;
+        };
+        self.ssrc = Some(first.ssrc);
+        if is_out_of_memory(&self.hear(first.received, &first.bytes)) {
+            self.ssrc = None;
+            self.choice.candidates = waiting;
+            return false;
+        }
+        self.turn_away(waiting.len().saturating_sub(1));
+        true
+    }
+
+    /// So many packets that waited are of other streams.
+    fn turn_away(&mut self, count: usize) {
+        self.arrived = turned_away(self.arrived, count as u64);
+    }
+
+    /// Receives a datagram, as the stream has it.
+    fn hear(&mut self, now: Ticks, bytes: &[u8]) -> Result<Outcome, ReceiveError> {
         let Ok(datagram) = self.stream.sort(self.ssrc, bytes) else {
             return Err(ReceiveError::OutOfMemory);
         };
-        let Ok(outcome) = self.stream.take(&mut self.packets, now, &datagram) else {
+        let Ok(taken) = self.stream.take(&mut self.packets, now, &datagram) else {
             return Err(ReceiveError::OutOfMemory);
         };
         self.ssrc = ssrc_after(self.ssrc, &datagram);
         self.arrived = with_datagram(self.arrived, &datagram);
         observe(&mut self.statistics, now, &datagram);
-        answer_for(&datagram, outcome)
+        self.choice.note(now, &datagram);
+        answer_for(&datagram, taken)
     }
 
     /// The next unit, at that time, where its turn has come. See [`JitterBuffer::pop`].
@@ -309,16 +425,43 @@ impl<B: Depacketizer> Receiver<B> {
 
     /// The stream has ended: from now on pops wait for nothing, and give all complete frames. Packets within the windows still
     /// go in; no restart is found until [`Receiver::restart`].
+    ///
+    /// If no SSRC was chosen so far, the first of the packets that wait is received, and chooses it: else a stream of one packet would
+    /// be lost. That takes memory; if there is none, all of them still wait, and `finish` can be called again. From then on the first
+    /// packet chooses.
     pub fn finish(&mut self) {
+        let _with_memory = self.settle_first();
         self.packets.finish();
     }
 
     /// The sender begins anew: the next packet of the stream gets a number above all others, whatever it carries, and pops wait
-    /// again. What is held stays, and comes out before what is new; a suspect packet is dropped, and stays counted as such. Where
-    /// the settings name no SSRC, the stream's is again that of the first packet that comes with one of its payload types. Reports
-    /// begin anew.
+    /// again. What is held stays, and comes out before what is new; a suspect packet is dropped, and stays counted as such. If the
+    /// settings name no SSRC, the stream is chosen anew, by two packets; those that wait are of other streams. Reports begin anew.
     pub fn restart(&mut self) {
-        self.ssrc = self.named;
+        let named = self.named;
+        self.begin_anew(named);
+    }
+
+    /// The same where the caller knows the new SSRC, and under which SSRC packets are retransmitted from now on (`None`: as before;
+    /// without `retransmission` in the settings it is not looked at). The SSRC is named from then on: packets of the SSRC that was left
+    /// are of another stream.
+    pub fn restart_as(&mut self, ssrc: u32, retransmission: Option<u32>) {
+        self.stream.retransmit_under(retransmission);
+        self.named = Some(ssrc);
+        self.begin_anew(Some(ssrc));
+    }
+
+    /// The sender begins anew, with that SSRC if it is known.
+    fn begin_anew(&mut self, ssrc: Option<u32>) {
+        let waiting = self.choice.candidates.len();
+        self.turn_away(waiting);
+        self.choice.forget();
+        self.go_over_to(ssrc);
+    }
+
+    /// The next packet is the first of another sender, with that SSRC if it is known.
+    fn go_over_to(&mut self, ssrc: Option<u32>) {
+        self.ssrc = ssrc;
         self.statistics = self.no_statistics;
         self.packets.restart();
     }
@@ -347,11 +490,13 @@ impl<B: Depacketizer> Receiver<B> {
 
     /// How many datagrams came to what.
     pub fn counters(&self) -> Counters {
+        let undecided = self.choice.candidates.len() as u64;
         Counters {
-            received: self.arrived.received,
+            received: self.arrived.received.wrapping_add(undecided),
             rtcp: self.arrived.rtcp,
             malformed: self.arrived.malformed,
             other_streams: self.arrived.other_streams,
+            undecided,
             packets: self.packets.counters(),
         }
     }
@@ -414,6 +559,18 @@ fn with_datagram(mut arrived: Arrived, datagram: &Datagram<'_>) -> Arrived {
     arrived
 }
 
+/// So many more datagrams came, and are of other streams.
+fn turned_away(mut arrived: Arrived, count: u64) -> Arrived {
+    arrived.received = arrived.received.wrapping_add(count);
+    arrived.other_streams = arrived.other_streams.wrapping_add(count);
+    arrived
+}
+
+/// Whether memory was wanting.
+fn is_out_of_memory(answer: &Result<Outcome, ReceiveError>) -> bool {
+    matches!(answer, Err(ReceiveError::OutOfMemory))
+}
+
 /// What is told of a malformed datagram.
 fn error_of(malformation: Malformation) -> ReceiveError {
     match malformation {
@@ -424,10 +581,11 @@ fn error_of(malformation: Malformation) -> ReceiveError {
 }
 
 /// What is told of a datagram.
-fn answer_for(datagram: &Datagram<'_>, outcome: Outcome) -> Result<Outcome, ReceiveError> {
+fn answer_for(datagram: &Datagram<'_>, taken: Taken) -> Result<Outcome, ReceiveError> {
     match datagram {
         Datagram::Malformed(malformation) => Err(error_of(*malformation)),
-        _ => Ok(outcome),
+        Datagram::Red(_) if !taken.whole => Err(ReceiveError::BlocksOutOfMemory),
+        _ => Ok(taken.outcome),
     }
 }
 

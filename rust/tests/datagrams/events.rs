@@ -87,14 +87,23 @@ fn padding(number: u16) -> [u8; 13] {
     bytes
 }
 
-/// A receiver of Opus under payload type 96, with telephone events under 101.
+/// A receiver of Opus under SSRC 7 and payload type 96, with telephone events under 101.
 pub fn receiver_of(wait_limits: WaitLimits, limit: usize) -> Result<Receiver<NoBox>, Fail> {
+    receiver_for(Some(7), wait_limits, limit)
+}
+
+/// The same under that SSRC, or any.
+pub fn receiver_for(
+    ssrc: Option<u32>,
+    wait_limits: WaitLimits,
+    limit: usize,
+) -> Result<Receiver<NoBox>, Fail> {
     let depack: CodecDepacketizer<NoBox> =
         CodecDepacketizer::from_codec(Codec::Opus).ok_or("no depacketizer")?;
     let settings = ReceiverSettings {
         payload_type: 96,
         no_media: vec![101],
-        ssrc: None,
+        ssrc,
         red: None,
         retransmission: None,
         extension_ids: ExtensionIds::default(),
@@ -124,6 +133,7 @@ fn letter_of(outcome: Outcome) -> char {
         Outcome::NoMedia => 'n',
         Outcome::OtherStream => 'o',
         Outcome::Rtcp => 'c',
+        Outcome::Undecided => 'u',
     }
 }
 

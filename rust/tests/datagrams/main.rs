@@ -6,6 +6,8 @@
 #[cfg(test)]
 mod amr_wb;
 #[cfg(test)]
+mod choice;
+#[cfg(test)]
 mod elements;
 #[cfg(test)]
 mod events;

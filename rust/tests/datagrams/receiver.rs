@@ -20,7 +20,7 @@ struct Row {
     told: &'static str,
 }
 
-const ROWS: [Row; 12] = [
+const ROWS: [Row; 13] = [
     Row {
         name: "first-packet-0-second-65535",
         wait_limits: WAITS,
@@ -54,13 +54,25 @@ const ROWS: [Row; 12] = [
             Event::Packet(0, 10),
             Event::Packet(0, 40_000),
             Event::Packet(0, 11),
-            Event::Packet(0, 40_001),
-            Event::Packet(0, 20_000),
             Event::Packet(0, 40_002),
+            Event::Packet(0, 20_000),
+            Event::Packet(0, 40_003),
             Event::Packet(0, 12),
             Event::Pops(0),
         ],
         told: "hshsssh 10 11 12.",
+    },
+    Row {
+        name: "a-suspect-packet-stays",
+        wait_limits: WAITS,
+        events: &[
+            Event::Packet(0, 10),
+            Event::Packet(0, 40_000),
+            Event::Packet(0, 11),
+            Event::Packet(0, 40_001),
+            Event::Pops(50),
+        ],
+        told: "hshR 10 11 64 65.",
     },
     Row {
         name: "restart-told-by-padding",

@@ -3,7 +3,7 @@
 //! A sender: its datagrams byte for byte, and what a receiver makes of those that the network leaves.
 
 use crate::Fail;
-use crate::events::{STARTS_LATER, pop_all, receiver_of, take};
+use crate::events::{STARTS_LATER, pop_all, receiver_for, take};
 use codec_payload::codec::{CodecPacketizer, NoBox};
 use codec_payload::memory::AllocError;
 use codec_payload::rtp::values::ExtensionIds;
@@ -130,7 +130,7 @@ fn deliver(
 #[test]
 fn over_a_network_that_loses_and_repeats() -> Result<(), Fail> {
     let mut sender = sender_of(settings())?;
-    let mut receiver = receiver_of(STARTS_LATER, 4_096)?;
+    let mut receiver = receiver_for(Some(0x0102_0304), STARTS_LATER, 4_096)?;
     let mut told = String::new();
     for n in 0..20u8 {
         assert!(speak(&mut sender, u64::from(n), &[n]));

@@ -36,7 +36,7 @@ pub fn receiver_of(wait_limits: WaitLimits) -> Result<Receiver<NoBox>, Fail> {
     let settings = ReceiverSettings {
         payload_type: 96,
         no_media: Vec::new(),
-        ssrc: None,
+        ssrc: Some(7),
         red: None,
         retransmission: None,
         extension_ids: ExtensionIds::default(),

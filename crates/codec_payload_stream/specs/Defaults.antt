@@ -1,0 +1,33 @@
+-- Settings by purpose: what they set, and what is left out.
+use Rattle.std.specs.Prelude.{◌≡◌, ℕ, [], Option, Some, None}
+use Rattle.codec_payload_jitter.specs.declared.waiting.WaitLimits.{WaitLimits}
+use Rattle.codec_payload_rtp.specs.declared.values.ExtensionIds.{ExtensionIds}
+use Rattle.codec_payload_stream.specs.declared.defaults.Windows.{Windows}
+use Rattle.codec_payload_stream.specs.declared.receiver.Settings.{Settings}
+
+-- no header extension has an id
+abbrev pub no_ids : ExtensionIds
+no_ids = record { abs_capture_time = None; video_orientation = None; video_content_type = None; video_timing = None; layers_allocation = None; audio_level = None }
+
+-- at least the packets of 5 s behind, and more than twice as many ahead
+abbrev pub audio_windows : Windows
+audio_windows = record { forward = 3000; backward = 1000 }
+
+abbrev pub video_windows : Windows
+video_windows = record { forward = 12000; backward = 5000 }
+
+-- the stream's payload type, clock rate, wait limits and windows are these; no SSRC is named, nothing comes without media, in RED or
+-- again; the caller's clock has ticks of milliseconds
+pub record HasDefaults (payload_type rate : ℕ) (limits : WaitLimits) (windows : Windows) (s : Settings) : Type 0 where
+  pub payload_type_is : s.payload_type ≡ payload_type
+  pub no_media : s.no_media.items ≡ []
+  pub ssrc : s.ssrc ≡ None
+  pub red : s.red ≡ None
+  pub retransmission : s.retransmission ≡ None
+  pub extension_ids : s.extension_ids ≡ no_ids
+  pub clock_rate : s.clock_rate ≡ rate
+  pub tick_rate : s.tick_rate ≡ 1000
+  pub wait_limits : s.wait_limits ≡ limits
+  pub limit : s.limit ≡ 4096
+  pub forward : s.forward ≡ windows.forward
+  pub backward : s.backward ≡ windows.backward

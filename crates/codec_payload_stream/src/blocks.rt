@@ -1,0 +1,93 @@
+//! What packets of RED carry besides their own media.
+
+ghost use Rattle.std.specs.Prelude.{◌≡◌, IfOk, map};
+ghost use Rattle.std.specs.Option.{option_map};
+ghost use Rattle.codec_payload_red.specs.RedBlocks.{block_of, blocks_of};
+ghost use Rattle.std.specs.List.{filter_map};
+ghost use Rattle.codec_payload_stream.specs.Kinds.{carrier_of};
+ghost use Rattle.codec_payload_stream.specs.Sessions.{RecoversAll, all_carried, carried, copied};
+
+use crate::datagram::{RedPacket, Stream};
+use codec_payload_base::wire::{RtpHeader as Header, SeqNo, Ticks};
+use codec_payload_codec::codec::Depacketizer;
+use codec_payload_jitter::jitter::JitterBuffer;
+use codec_payload_red::red::RedBlock;
+use std::alloc::AllocError;
+use std::collections::VecDeque;
+
+/// A packet that another one carried, in memory of its own.
+#[derive(Debug, Drop)]
+pub(crate) struct BlockCopy {
+    header: Header,
+    payload: Vec<u8>,
+}
+
+/// The packets that the older blocks of a packet are, in the order of their headers.
+pub(crate) fn copy_blocks(
+    stream: &Stream,
+    red: &RedPacket<'_>,
+) -> Result<VecDeque<BlockCopy>, AllocError>
+    ensures { IfOk result (λ copies. (now : Ticks) → map (copied now) copies.items ≡ all_carried stream.now now (carrier_of red.now)) }
+{
+    copy_each(stream, red, &red.older)
+}
+
+/// The packets that these blocks of a packet are, in order.
+fn copy_each(
+    stream: &Stream,
+    red: &RedPacket<'_>,
+    blocks: &[RedBlock<'_>],
+) -> Result<VecDeque<BlockCopy>, AllocError>
+    ensures { IfOk result (λ copies. (now : Ticks) → map (copied now) copies.items ≡ filter_map (carried stream.now now (carrier_of red.now)) (blocks_of blocks.now)) }
+{
+    let mut copies = VecDeque::new(stream.alloc);
+    for block in blocks {
+        match copy_block(stream, red, block)? {
+            Some(copy) => {
+                copies.push_back(copy)?;
+            }
+            None => {}
+        }
+    }
+    Ok(copies)
+}
+
+/// The packet that an older block of a packet is, if it is one.
+fn copy_block(
+    stream: &Stream,
+    red: &RedPacket<'_>,
+    block: &RedBlock<'_>,
+) -> Result<Option<BlockCopy>, AllocError>
+    ensures { IfOk result (λ copy. (now : Ticks) → option_map (copied now) copy ≡ carried stream.now now (carrier_of red.now) (block_of block.now)) }
+{
+    let header = &red.packet.header;
+    let number = SeqNo(65_536 + u64::from(header.sequence_number));
+    match red.receiver.recover_block(number, header.timestamp, block) {
+        Some(recovered) => {
+            let payload = Vec::from_slice(stream.alloc, recovered.payload)?;
+            let header = stream.block_header(header.ssrc, &recovered);
+            Ok(Some(BlockCopy { header, payload }))
+        }
+        None => Ok(None),
+    }
+}
+
+/// The jitter buffer takes in those of these packets that are missing, in order. Whether there was memory for all of them: where
+/// there is none for one, it and those after it do not go in.
+pub(crate) fn recover_all<B: Depacketizer>(
+    packets: &mut JitterBuffer<B>,
+    now: Ticks,
+    mut copies: VecDeque<BlockCopy>,
+) -> bool
+    ensures { RecoversAll result (map (copied now) copies.items) packets.old packets.new }
+{
+    while let Some(copy) = copies.pop_front() {
+        if packets
+            .push_recovered(now, copy.header, copy.payload)
+            .is_err()
+        {
+            return false;
+        }
+    }
+    true
+}
