@@ -30,9 +30,12 @@ void over_datagrams() {
     sends.spec = VP8;
     sends.mtu = 1200;
     sends.payload_type = 96;
+    sends.ssrc = 7;
     cpay_receiver_settings receives = CPAY_LIVE_VIDEO;
     receives.spec = VP8;
     receives.payload_type = 96;
+    receives.ssrc = 7;
+    receives.has_ssrc = true;
     cpay::sender from;
     cpay::receiver to;
     CHECK(from.make(sends) == CPAY_OK);
