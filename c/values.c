@@ -59,6 +59,8 @@ static cpay_receiver receiver_of(uint32_t codec, uint32_t rate, cpay_extension_i
     settings.spec.codec = codec;
     settings.spec.rate = rate;
     settings.payload_type = TYPE;
+    settings.has_ssrc = true;
+    settings.ssrc = SSRC;
     settings.extension_ids = under;
     CHECK(cpay_receiver_new(&receiver, &settings, NULL, 0) == CPAY_OK);
     return receiver;

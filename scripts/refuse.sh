@@ -242,53 +242,53 @@ while IFS='|' read -r name most whole after; do
     words=$name
     refuse_call "$name" "$whole" "$after" "$most"
 done <<'END'
-packetize opus|999|packetize 9090 90, then 9090 90|packetize fault 17, then 9090 90
-packetize pcmu|999|packetize 9090 90, then 9090 90|packetize fault 17, then 9090 90
-packetize g722|999|packetize 9090 90, then 9090 90|packetize fault 17, then 9090 90
-packetize cn|999|packetize 2a8040, then 2a8040|packetize fault 17, then 2a8040
-packetize amrwb|999|packetize f740, then f740|packetize fault 17, then f740
-packetize amrwb-octet|999|packetize f074, then f074|packetize fault 17, then f074
-packetize tele|999|packetize 058a0320060a0140, then 058a0320060a0140|packetize fault 17, then 058a0320060a0140
-packetize vp8|999|packetize 1090 0090 0090, then 1090 0090 0090|packetize fault 17, then 1090 0090 0090
-packetize vp8-id|999|packetize 9080209090 80802090, then 9080219090 80802190|packetize fault 17, then 9080209090 80802090
-packetize vp9|999|packetize aa92341001008249 a49234100183, then aa92351002008249 a49235100283|packetize fault 17, then aa92341001008249 a49234100183
-packetize vp9-flex|999|packetize 9892348249 94923483, then 9892358249 94923583|packetize fault 17, then 9892348249 94923483
-packetize av1|999|packetize 1808aa 5030bb 90cc, then 1808aa 5030bb 90cc|packetize fault 17, then 1808aa 5030bb 90cc
-packetize null|999|packetize 909090, then 909090|packetize fault 17, then 909090
-depacketize opus|999|depacketize ok, then 909090|depacketize fault 17, then 909090
-depacketize pcmu|999|depacketize ok, then 909090|depacketize fault 17, then 909090
-depacketize g722|999|depacketize ok, then 909090|depacketize fault 17, then 909090
-depacketize cn|999|depacketize ok, then 2a8040|depacketize fault 17, then 2a8040
-depacketize amrwb|999|depacketize ok, then 74|depacketize fault 17, then 74
-depacketize amrwb-octet|999|depacketize ok, then 74|depacketize fault 17, then 74
-depacketize tele|999|depacketize ok, then 058a0320|depacketize fault 17, then 058a0320
-depacketize vp8|999|depacketize ok, then 909090|depacketize fault 17, then 909090
-depacketize vp8-id|999|depacketize ok, then 909090|depacketize fault 17, then 909090
-depacketize vp9|999|depacketize ok, then 824983|depacketize fault 17, then 824983
-depacketize vp9-flex|999|depacketize ok, then 824983|depacketize fault 17, then 824983
-depacketize av1|999|depacketize ok, then 0a01aa3202bbcc|depacketize fault 17, then 0a01aa
-depacketize null|999|depacketize ok, then 909090|depacketize fault 17, then 909090
-pop opus|999|pop unit 0 0 1 9090 held 1 ready 1, then unit 1 1 1 90|pop fault 17 held 2 ready 2, then unit 0 0 1 9090 unit 1 1 1 90
-pop pcmu|999|pop unit 0 0 1 9090 held 1 ready 1, then unit 1 1 1 90|pop fault 17 held 2 ready 2, then unit 0 0 1 9090 unit 1 1 1 90
-pop g722|999|pop unit 0 0 1 9090 held 1 ready 1, then unit 1 1 1 90|pop fault 17 held 2 ready 2, then unit 0 0 1 9090 unit 1 1 1 90
-pop cn|999|pop unit 0 0 1 2a8040 held 0 ready 0, then|pop fault 17 held 1 ready 1, then unit 0 0 1 2a8040
-pop amrwb|999|pop unit 0 0 1 74 held 0 ready 0, then|pop fault 17 held 1 ready 1, then unit 0 0 1 74
-pop amrwb-octet|999|pop unit 0 0 1 74 held 0 ready 0, then|pop fault 17 held 1 ready 1, then unit 0 0 1 74
-pop tele|999|pop unit 0 0 1 058a0320 held 0 ready 0, then|pop fault 17 held 1 ready 1, then unit 0 0 1 058a0320
-pop vp8|999|pop unit 0 2 1 909090 held 0 ready 0, then|pop fault 17 held 3 ready 1, then unit 0 2 1 909090
-pop vp8-id|999|pop unit 0 1 1 909090 held 0 ready 0, then|pop fault 17 held 2 ready 1, then unit 0 1 1 909090
-pop vp9|999|pop unit 0 1 1 824983 held 0 ready 0, then|pop fault 17 held 2 ready 1, then unit 0 1 1 824983
-pop vp9-flex|999|pop unit 0 1 1 824983 held 0 ready 0, then|pop fault 17 held 2 ready 1, then unit 0 1 1 824983
-pop av1|999|pop unit 0 2 1 0a01aa3202bbcc held 0 ready 0, then|pop fault 17 held 3 ready 1, then unit 0 2 1 0a01aa3202bbcc
-pop null|999|pop unit 0 0 1 909090 held 0 ready 0, then|pop fault 17 held 1 ready 1, then unit 0 0 1 909090
-pop-skipping|999|pop unit 3 3 1 01 held 0 ready 0, then|pop fault 17 held 2 ready 2, then unit 3 3 1 01|pop fault 17 held 1 ready 1, then unit 3 3 1 01
-push|999|push ok held 5 ready 1, then unit 1 5 1 9091919192|push fault 17 held 4 ready 0, then unit 1 5 1 9091919192
-push-evicting|999|push ok held 4 ready 4, then unit 2 2 0 90 unit 3 3 1 90 unit 4 4 1 90 unit 5 5 1 91|push fault 17 held 4 ready 4, then unit 1 1 1 90 unit 2 2 1 90 unit 3 3 1 90 unit 4 4 1 90
-encode|999|encode e00f0002600909010203|encode fault 17
-decode|999|decode 96 960 0909 96 0 010203|decode fault 17
-recover|999|recover 11 1920 0909|recover fault 17
-wrap|999|wrap ef2d0001ef0f00016f01032a, then ef2d0001ef0f00016f022a2b|wrap fault 17, then ef3c0001ef1e00016f01032b
-wrap-again|999|wrap ef2d0001ef0f00016f11132a, then ef2d0001ef0f00016f122a2b|wrap fault 17, then ef3c0001ef1e00016f11132b
+packetize opus|7|packetize 9090 90, then 9090 90|packetize fault 17, then 9090 90
+packetize pcmu|7|packetize 9090 90, then 9090 90|packetize fault 17, then 9090 90
+packetize g722|7|packetize 9090 90, then 9090 90|packetize fault 17, then 9090 90
+packetize cn|5|packetize 2a8040, then 2a8040|packetize fault 17, then 2a8040
+packetize amrwb|5|packetize f740, then f740|packetize fault 17, then f740
+packetize amrwb-octet|5|packetize f074, then f074|packetize fault 17, then f074
+packetize tele|5|packetize 058a0320060a0140, then 058a0320060a0140|packetize fault 17, then 058a0320060a0140
+packetize vp8|9|packetize 1090 0090 0090, then 1090 0090 0090|packetize fault 17, then 1090 0090 0090
+packetize vp8-id|7|packetize 9080209090 80802090, then 9080219090 80802190|packetize fault 17, then 9080209090 80802090
+packetize vp9|7|packetize aa92341001008249 a49234100183, then aa92351002008249 a49235100283|packetize fault 17, then aa92341001008249 a49234100183
+packetize vp9-flex|7|packetize 9892348249 94923483, then 9892358249 94923583|packetize fault 17, then 9892348249 94923483
+packetize av1|9|packetize 1808aa 5030bb 90cc, then 1808aa 5030bb 90cc|packetize fault 17, then 1808aa 5030bb 90cc
+packetize null|5|packetize 909090, then 909090|packetize fault 17, then 909090
+depacketize opus|2|depacketize ok, then 909090|
+depacketize pcmu|2|depacketize ok, then 909090|
+depacketize g722|2|depacketize ok, then 909090|
+depacketize cn|2|depacketize ok, then 2a8040|depacketize fault 17, then 2a8040
+depacketize amrwb|2|depacketize ok, then 74|depacketize fault 17, then 74
+depacketize amrwb-octet|2|depacketize ok, then 74|depacketize fault 17, then 74
+depacketize tele|2|depacketize ok, then 058a0320|depacketize fault 17, then 058a0320
+depacketize vp8|2|depacketize ok, then 909090|
+depacketize vp8-id|2|depacketize ok, then 909090|
+depacketize vp9|2|depacketize ok, then 824983|
+depacketize vp9-flex|2|depacketize ok, then 824983|
+depacketize av1|5|depacketize ok, then 0a01aa3202bbcc|depacketize fault 17, then 0a01aa
+depacketize null|2|depacketize ok, then 909090|depacketize fault 17, then 909090
+pop opus|12|pop unit 0 0 1 9090 held 1 ready 1, then unit 1 1 1 90|pop fault 17 held 2 ready 2, then unit 0 0 1 9090 unit 1 1 1 90
+pop pcmu|12|pop unit 0 0 1 9090 held 1 ready 1, then unit 1 1 1 90|pop fault 17 held 2 ready 2, then unit 0 0 1 9090 unit 1 1 1 90
+pop g722|12|pop unit 0 0 1 9090 held 1 ready 1, then unit 1 1 1 90|pop fault 17 held 2 ready 2, then unit 0 0 1 9090 unit 1 1 1 90
+pop cn|8|pop unit 0 0 1 2a8040 held 0 ready 0, then|pop fault 17 held 1 ready 1, then unit 0 0 1 2a8040
+pop amrwb|8|pop unit 0 0 1 74 held 0 ready 0, then|pop fault 17 held 1 ready 1, then unit 0 0 1 74
+pop amrwb-octet|8|pop unit 0 0 1 74 held 0 ready 0, then|pop fault 17 held 1 ready 1, then unit 0 0 1 74
+pop tele|8|pop unit 0 0 1 058a0320 held 0 ready 0, then|pop fault 17 held 1 ready 1, then unit 0 0 1 058a0320
+pop vp8|12|pop unit 0 2 1 909090 held 0 ready 0, then|pop fault 17 held 3 ready 1, then unit 0 2 1 909090
+pop vp8-id|10|pop unit 0 1 1 909090 held 0 ready 0, then|pop fault 17 held 2 ready 1, then unit 0 1 1 909090
+pop vp9|10|pop unit 0 1 1 824983 held 0 ready 0, then|pop fault 17 held 2 ready 1, then unit 0 1 1 824983
+pop vp9-flex|10|pop unit 0 1 1 824983 held 0 ready 0, then|pop fault 17 held 2 ready 1, then unit 0 1 1 824983
+pop av1|13|pop unit 0 2 1 0a01aa3202bbcc held 0 ready 0, then|pop fault 17 held 3 ready 1, then unit 0 2 1 0a01aa3202bbcc
+pop null|8|pop unit 0 0 1 909090 held 0 ready 0, then|pop fault 17 held 1 ready 1, then unit 0 0 1 909090
+pop-skipping|14|pop unit 3 3 1 01 held 0 ready 0, then|pop fault 17 held 2 ready 2, then unit 3 3 1 01|pop fault 17 held 1 ready 1, then unit 3 3 1 01
+push|18|push ok held 5 ready 1, then unit 1 5 1 9091919192|push fault 17 held 4 ready 0, then unit 1 5 1 9091919192
+push-evicting|25|push ok held 4 ready 4, then unit 2 2 0 90 unit 3 3 1 90 unit 4 4 1 90 unit 5 5 1 91|push fault 17 held 4 ready 4, then unit 1 1 1 90 unit 2 2 1 90 unit 3 3 1 90 unit 4 4 1 90
+encode|4|encode e00f0002600909010203|encode fault 17
+decode|1|decode 96 960 0909 96 0 010203|decode fault 17
+recover|2|recover 11 1920 0909|recover fault 17
+wrap|14|wrap ef2d0001ef0f00016f01032a, then ef2d0001ef0f00016f022a2b|wrap fault 17, then ef3c0001ef1e00016f01032b
+wrap-again|46|wrap ef2d0001ef0f00016f11132a, then ef2d0001ef0f00016f122a2b|wrap fault 17, then ef3c0001ef1e00016f11132b
 END
 
 # The same of payload_hostile, which reads the name of the call.
