@@ -240,6 +240,27 @@ REDS = [
         RED + in_red(0, 10, red("00"), 0) + in_red(0, 11, "", 960, padding=7) + came(0, 12, "02", time=1_920) + "pop 0\npop 0\n",
         "held\nno media\nheld\n" + unit(FIRST + 10, "00") + unit(FIRST + 12, "02", time=1_920),
     ),
+    # Number 11 is padding that is lost, so the block of 12 seems to be of number 11. Its time came with number 10.
+    Row(
+        "padding is lost: a block of a time that came is not stored under the number of the padding",
+        RED + in_red(0, 10, red("00"), 0) + in_red(0, 12, red("01", (96, 960, "00")), 960) + "pop 0\n" * 2 + "pop 50\n" * 2 + "counters\n",
+        "held\nheld\n" + unit(FIRST + 10, "00") + "none\n" + unit(FIRST + 12, "01", 0, 960) + "none\ncounters received 2 released 2 units 2\n",
+    ),
+    # The same, and number 11 is late: its block is stored under 12, and the packet itself repeats it.
+    Row(
+        "padding is lost: a late packet does not repeat the block that was stored for it, and is not waited for",
+        RED + in_red(0, 10, red("00"), 0) + in_red(0, 13, red("02", (96, 960, "01")), 1_920) + in_red(0, 11, red("01", (96, 960, "00")), 960)
+        + "pop 0\n" * 4 + "counters\n",
+        "held\nheld\nno media\n" + unit(FIRST + 10, "00") + unit(FIRST + 12, "01", time=960) + unit(FIRST + 13, "02", time=1_920)
+        + "none\ncounters received 3 recovered 1 no_media 1 released 3 units 3\n",
+    ),
+    Row(
+        "the packet of a recovered block is a duplicate where it has the block's number",
+        RED + in_red(0, 10, red("00"), 0) + in_red(0, 12, red("02", (96, 960, "01")), 1_920) + in_red(0, 11, red("01", (96, 960, "00")), 960)
+        + "pop 0\n" * 4 + "counters\n",
+        "held\nheld\nduplicate\n" + unit(FIRST + 10, "00") + unit(FIRST + 11, "01", time=960) + unit(FIRST + 12, "02", time=1_920)
+        + "none\ncounters received 3 recovered 1 duplicates 1 released 3 units 3\n",
+    ),
     Row(
         "a number without media takes no block: the frame before the padding is not released again",
         RED + in_red(0, 10, red("00"), 0) + in_red(0, 11, "", 0, padding=7) + in_red(0, 12, red("01", (96, 960, "00")), 960) + "pop 0\n" * 3

@@ -11,6 +11,7 @@ mod defaults;
 pub mod receiver;
 #[doc(hidden)]
 pub mod reports;
+mod seen_times;
 
 #[doc(inline)]
 pub use receiver::{

@@ -198,6 +198,15 @@ impl<B: Depacketizer> JitterBuffer<B> {
         Ok(true)
     }
 
+    /// Whether a packet of that number is missing: the number lies within the windows, is neither held nor late, and is not known to
+    /// carry no media.
+    pub fn is_missing(&self, low: u16) -> bool {
+        match self.number_again(low) {
+            Some(number) => self.may_recover(number),
+            None => false,
+        }
+    }
+
     /// A packet came that has no number of this sender's: one that is sent again and has nothing in it (RFC 4588, section 4).
     pub fn push_nothing(&mut self) {
         self.count_no_media();

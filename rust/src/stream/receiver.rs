@@ -17,6 +17,7 @@ use crate::stream::datagram::{
     Datagram, Malformation, RedStream, Stream, Taken, observe, ssrc_after,
 };
 use crate::stream::reports::{ReceptionReport, ReceptionStatistics};
+use crate::stream::seen_times::SeenTimes;
 use crate::wire::{Frequency, Ticks};
 use alloc::vec::Vec;
 use core::fmt;
@@ -206,6 +207,8 @@ pub struct Receiver<B = NoBox> {
     /// The statistics before any packet came.
     no_statistics: ReceptionStatistics,
     choice: Choice,
+    /// Which RTP times came lately.
+    seen: SeenTimes,
 }
 
 impl<B: Depacketizer> Receiver<B> {
@@ -257,6 +260,7 @@ impl<B: Depacketizer> Receiver<B> {
             statistics,
             no_statistics: statistics,
             choice,
+            seen: SeenTimes::none(),
         })
     }
 
@@ -372,7 +376,10 @@ impl<B: Depacketizer> Receiver<B> {
         let Ok(datagram) = self.stream.sort(self.ssrc, bytes) else {
             return Err(ReceiveError::OutOfMemory);
         };
-        let Ok(taken) = self.stream.take(&mut self.packets, now, &datagram) else {
+        let Ok(taken) = self
+            .stream
+            .take(&mut self.packets, &mut self.seen, now, &datagram)
+        else {
             return Err(ReceiveError::OutOfMemory);
         };
         self.ssrc = ssrc_after(self.ssrc, &datagram);
@@ -463,6 +470,7 @@ impl<B: Depacketizer> Receiver<B> {
     fn go_over_to(&mut self, ssrc: Option<u32>) {
         self.ssrc = ssrc;
         self.statistics = self.no_statistics;
+        self.seen = SeenTimes::none();
         self.packets.restart();
     }
 

@@ -16,6 +16,7 @@ returns-then-left g c =
       reception = c.self.inside.statistics;
       no_reception = c.self.inside.no_statistics;
       choice = c.self.inside.choice;
+      seen = c.self.inside.seen;
     } in
     let ok = c.in-Ok.ensures.ok in
     let ssrc : ℕ = c.args.origin.ssrc in (
@@ -41,6 +42,7 @@ returns-else-left g c =
       reception = c.self.inside.statistics;
       no_reception = c.self.inside.no_statistics;
       choice = c.self.inside.choice;
+      seen = c.self.inside.seen;
     } in
     let ok = c.in-Ok.ensures.ok in
     let ssrc : ℕ = c.args.origin.ssrc in (
