@@ -1,9 +1,14 @@
-/* An audio gateway with RED (RFC 2198), both sides. Each frame of 20 ms of Opus goes out with the frame before it and the third
- * before it; one datagram in six is lost. The frames come out in order, those too that only a later datagram carried:
+/* Audio gateway with RED (RFC 2198), both sides. Each frame of 20 ms of Opus is sent with the previous frame and the third frame
+ * before it; one datagram in six is lost. The frames are released in order, and among them frames that only a later datagram carried:
  *
  *     cc gateway.c $(pkg-config --cflags --libs codec-payload) && ./a.out
  *
- * The status is 0 where exactly the frames came that some datagram carried. */
+ * The rules:
+ * - Packetize with an MTU of the budget minus 1: a payload of `budget` bytes or more is sent without RED framing.
+ * - `red_step` is the packet time in ticks of the RTP clock: 960 for 20 ms of Opus.
+ * - Wait at least as long as the largest distance: three packets are 60 ms here, and `max_wait` is 100 ms.
+ * - A frame that a later packet supplied is counted in `recovered`, and its number is not requested by NACK.
+ * The status is 0 if exactly the frames arrived that some datagram carried. */
 #include "codec_payload.h"
 
 #include <inttypes.h>
@@ -38,7 +43,7 @@ static void put_header(uint8_t *datagram, uint16_t number, uint32_t time, uint32
     memcpy(datagram, header, HEADER);
 }
 
-/* The datagram of a frame, whose bytes are its number; how many bytes it has. */
+/* Writes the datagram of a frame, whose bytes are its number, and returns its size. */
 static size_t send_frame(cpay_red_sender *red, uint32_t frame, uint8_t *datagram) {
     uint8_t opus[40];
     size_t size = 0;
@@ -48,7 +53,7 @@ static size_t send_frame(cpay_red_sender *red, uint32_t frame, uint8_t *datagram
     return HEADER + size;
 }
 
-/* Takes what has its turn, and notes which frames came. */
+/* Pops the units that are due, and notes which frames arrived. */
 static void play(cpay_receiver *receiver, uint64_t now, bool *came) {
     uint8_t opus[BUDGET];
     cpay_unit unit = {0};

@@ -1,9 +1,16 @@
-/* A recorder's core: the VP8 stream that a capture has to one UDP port becomes an IVF file, frame by frame as it comes whole.
+/* A recorder's core: writes the frames of the VP8 stream that a capture has to one UDP port to an IVF file, as they are released.
  *
  *     cc recorder.c $(pkg-config --cflags --libs codec-payload)
  *     ./a.out capture.pcap 5004 96 frames.ivf
  *
- * It reads captures of the classic format and of Ethernet alone, with IPv4. tools/rtp_record is a whole recorder. */
+ * It reads captures of the classic format with Ethernet and IPv4. tools/rtp_record is a whole recorder.
+ *
+ * The rules:
+ * - Begin the file with a keyframe.
+ * - The time of a frame is its RTP time; it does not wrap.
+ * - At the end call cpay_receiver_finish, then pop the remaining frames.
+ * - From a file wait without a time limit (CPAY_FILE); from a live stream use CPAY_LIVE_VIDEO.
+ * - Report the faults of the disk: fclose reports what fwrite buffered. */
 #include "codec_payload.h"
 
 #include <stdio.h>
@@ -12,7 +19,7 @@
 
 enum { RECORD = 16, ETHERNET = 14, UDP = 8, MOST = 65536, MOST_FRAME = 1 << 22 };
 
-/* How a capture begins, by the unit of its times. */
+/* The first four bytes of a capture, by the unit of its times. */
 static const uint32_t MICROSECONDS = 0xa1b2c3d4, NANOSECONDS = 0xa1b23c4d;
 
 typedef struct {
@@ -55,7 +62,7 @@ static void put_file_header(recording *it, const cpay_frame_facts *facts) {
     put(it, 0, 8);
 }
 
-/* Writes the frames whose turn has come, from the first keyframe on. */
+/* Writes the frames that are due, from the first keyframe on. */
 static void take_frames(recording *it, uint64_t now) {
     static uint8_t frame[MOST_FRAME];
     cpay_unit unit = {0};

@@ -1,22 +1,25 @@
 #!/bin/bash
-# Counts what the bench program's calls ask of memory. It prints a table of allocations a frame, and one of the bytes that a
-# receiving stream keeps, and fails where `packetize_into`, a sender of datagrams or a reader or writer of RTP packets takes
-# memory in steady state.
+# Counts what the calls of tools/bench ask of memory, over the proved library for C. It prints a table of allocations a frame, and
+# one of the bytes that a receiving stream keeps, and fails if `cpay_packetize_into`, a sender of datagrams or a reader of RTP
+# packets allocates in steady state. Of `packetize_into`, `wrap_into`, `pop_into` and calls that ask alone,
+# rust/tests/steady_state.rs shows the same.
 #
-#   scripts/allocations.sh           builds crates/payload_bench and counts in all its cases
-#   scripts/allocations.sh WORD      in those with WORD in their names alone
+#   scripts/allocations.sh           builds tools/bench and counts in all its cases
+#   scripts/allocations.sh WORD      only in those with WORD in their names
 #
 # A shim counts calls of malloc, calloc, realloc and the like. A case is run with 100 frames a repeat and with 300, so what the
 # program itself takes falls out of the difference. Where a case tells of the memory that stays, the bytes that are asked for
 # and not given back are read as the clock is, behind the work, less those of a case without a stream. It needs rt and a C
 # compiler, $CC or cc, for a C library that takes LD_PRELOAD, and some two minutes.
 set -eu
-cd "$(dirname "$0")/../crates/payload_bench"
+root=$(cd "$(dirname "$0")/.." && pwd)
 mtu=${MTU:-1200} word=${1:-}
 work=$(mktemp -d)
 trap 'rm -rf "$work"' EXIT
 
-rt run > /dev/null 2> "$work/messages" || { cat "$work/messages"; exit 1; }
+bench=$work/bench
+library=$("$root/scripts/bindings.sh" library | tail -n 1)/libcodec_payload.a
+"${CC:-cc}" -std=c99 -O2 -I"$root/include" "$root/tools/bench/bench.c" "$library" -o "$bench"
 
 cat > "$work/count.c" <<'END'
 /* Counts the allocations, and the bytes that are asked for and not given back as the clock is read last; writes both at the
@@ -94,7 +97,7 @@ END
 
 # counted CASE TIMES: the allocations, and the bytes that stay, of one repeat and one that goes before it.
 counted() {
-    LD_PRELOAD=$work/count.so out/payload_bench "$1" "$2" 1 "$mtu" 9> "$work/counts" > /dev/null
+    LD_PRELOAD=$work/count.so "$bench" "$1" "$2" 1 "$mtu" 9> "$work/counts" > /dev/null
     cat "$work/counts"
 }
 
@@ -108,7 +111,7 @@ few_of() {
 
 failed=0
 printf '| case | allocations a frame |\n|---|---|\n'
-for case in $(out/payload_bench | grep -F -- "$word" | grep -v '^memory/'); do
+for case in $("$bench" | grep -F -- "$word" | grep -v '^memory/'); do
     few=$(few_of "$case")
     read -r less _ < <(counted "$case" "$few")
     read -r more _ < <(counted "$case" $((3 * few)))
@@ -132,10 +135,10 @@ for case in $(out/payload_bench | grep -F -- "$word" | grep -v '^memory/'); do
     esac
 done
 
-if out/payload_bench | grep -qF -- "memory/$word"; then
+if "$bench" | grep -qF -- "memory/$word"; then
     read -r _ none < <(counted memory/none 1)
     printf '\n| stream | bytes |\n|---|---|\n'
-    for case in $(out/payload_bench | grep '^memory/' | grep -v '/none$'); do
+    for case in $("$bench" | grep '^memory/' | grep -v '/none$'); do
         read -r _ kept < <(counted "$case" 1)
         printf '| %s | %s |\n' "${case#memory/}" $((kept - none))
     done

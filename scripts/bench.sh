@@ -1,22 +1,25 @@
 #!/bin/bash
 # Times the library's calls beside copying the same payloads into fresh Vecs, and prints tables of nanoseconds and ratios.
 #
-#   scripts/bench.sh                 builds crates/payload_bench and runs all its cases
-#   scripts/bench.sh OTHER [WORD]    beside another build of that program, as one of an older state; WORD: the cases with it in
-#                                    their names alone
+#   scripts/bench.sh                 builds tools/bench over the proved library for C and runs all its cases
+#   scripts/bench.sh OTHER [WORD]    beside another build of that program, as one of an older state; WORD: only the cases with it
+#                                    in their names
 #
 # Each number is the least of ROUNDS rounds of REPEATS repeats; both builds take turns. A ratio to a copy says how much more
 # a call takes than asking for the memory of the payloads and copying their bytes; a ratio to the buffer how much more a receiver
-# takes than a push and a pop of its buffer. It needs rt, and some five minutes.
+# takes than a push and a pop of its buffer. It needs rt, a C compiler, $CC or cc, and some five minutes. Figures up to 2026-11-24
+# are of a program in Rattle, without the boundary to C.
 set -eu
-cd "$(dirname "$0")/../crates/payload_bench"
+root=$(cd "$(dirname "$0")/.." && pwd)
 rounds=${ROUNDS:-5} repeats=${REPEATS:-20} mtu=${MTU:-1200}
 other=${1:-} word=${2:-}
-results=$(mktemp)
-trap 'rm -f "$results"' EXIT
+work=$(mktemp -d)
+trap 'rm -rf "$work"' EXIT
+results=$work/results
+bench=$work/bench
 
-rt run > /dev/null 2> "$results" || { cat "$results"; exit 1; }
-: > "$results"
+library=$("$root/scripts/bindings.sh" library | tail -n 1)/libcodec_payload.a
+"${CC:-cc}" -std=c99 -O2 -I"$root/include" "$root/tools/bench/bench.c" "$library" -o "$bench"
 
 # So many calls that a repeat takes about a millisecond or more.
 times_of() {
@@ -34,8 +37,8 @@ times_of() {
 }
 
 for _ in $(seq "$rounds"); do
-    for case in $(out/payload_bench | grep -F -- "$word" | grep -v '^memory/'); do
-        printf 'now\t%s\n' "$(out/payload_bench "$case" "$(times_of "$case")" "$repeats" "$mtu")" >> "$results"
+    for case in $("$bench" | grep -F -- "$word" | grep -v '^memory/'); do
+        printf 'now\t%s\n' "$("$bench" "$case" "$(times_of "$case")" "$repeats" "$mtu")" >> "$results"
         if [ -n "$other" ]; then
             printf 'other\t%s\n' "$("$other" "$case" "$(times_of "$case")" "$repeats" "$mtu")" >> "$results"
         fi

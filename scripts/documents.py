@@ -43,7 +43,7 @@ README_LINES = 170
 PICTURE_BYTES = 80_000
 FENCE = re.compile(r"^( *)```(.*)$")
 # Commands of the documents that are run here, in the root of the repository: none needs what is built, and each is quick.
-RUN_HERE = ["scripts/mutants.py --stale", "scripts/check_header.py", "scripts/documents.py"]
+RUN_HERE = ["scripts/mutants.py --stale", "scripts/check_header.py", "scripts/count_lines.sh", "scripts/documents.py"]
 # All others: how a command begins, and the file that runs it, with the words by which it does.
 RUN_ELSEWHERE = {
     "scripts/test.sh": ("scripts/test.sh", "scripts/test.sh --no-proofs"),
@@ -64,10 +64,10 @@ RUN_ELSEWHERE = {
     "scripts/allocations.sh": ("scripts/test.sh", "runs scripts/allocations.sh"),
     "scripts/instructions.sh": ("scripts/test.sh", "runs scripts/instructions.sh"),
     "scripts/mutants.py": ("scripts/test.sh", "runs scripts/mutants.py --stale"),
-    "scripts/bench.sh": ("scripts/allocations.sh", "payload_bench"),
+    "scripts/bench.sh": ("scripts/allocations.sh", "tools/bench/bench.c"),
     "scripts/examples.py": ("scripts/test.sh", "runs scripts/examples.py"),
     "cc -Iinclude examples/": ("scripts/examples.py", "examples/{name}.c"),
-    "bindings/out/gateway": ("scripts/examples.py", 'programs["gateway", language]'),
+    "bindings/out/gateway": ("scripts/examples.py", '[programs[name, language]]'),
     "cd rust": ("scripts/rust.sh", 'cd "$root/rust"'),
     "scripts/pictures.py": ("scripts/documents.py", "scripts/pictures.py"),
     "make install": ("scripts/install_test.sh", "install PREFIX="),

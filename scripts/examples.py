@@ -1,13 +1,15 @@
 #!/usr/bin/env python3
-"""Builds and runs the examples for C over the library and for Rust over rust/, and compares what comes of them.
+"""Builds and runs the recipes of docs/RECIPES.md, for C over the library and for Rust over rust/, and compares their output.
 
-The gateways fail by themselves unless exactly the frames come that some datagram carried, and print the same in both languages.
-The recorders write the VP8 capture of tools/rtp_record under each condition of its tests, and what they write are the encoder's
-frames, by their MD5s: those of which every packet came. The stream over UDP in C is run by scripts/bindings.sh, all examples for
-Rust by scripts/rust.sh, and the examples for Rattle by rt ci.
+  scripts/examples.py [ARCHIVE]    the archive of the library, by default bindings/out/libcodec_payload.a
+
+Each recipe of SIMULATED fails by itself if its network shows a fault, and must print the same in both languages, and the line that
+docs/RECIPES.md has. The recorders write the VP8 capture of tools/rtp_record under each condition of its tests. The frames in their
+files must be the encoder's, by their MD5s: the frames of which every packet arrived. The stream over UDP in C is run by
+scripts/bindings.sh, all examples for Rust by scripts/rust.sh, and the examples for Rattle by rt ci.
 
 Needs the library as scripts/bindings.sh library builds it, a C compiler with sanitizers, $CC or cc, and cargo of 1.88 or later.
-The last line says what passed; the status is 0 where all did.
+The last line says what passed; the status is 0 if all passed.
 """
 import hashlib
 import os
@@ -17,28 +19,29 @@ import sys
 import tempfile
 
 ROOT = os.path.dirname(os.path.dirname(os.path.realpath(__file__)))
-OUT = f"{ROOT}/bindings/out"
+ARCHIVE = f"{ROOT}/bindings/out/libcodec_payload.a"
 sys.path.insert(0, f"{ROOT}/tools/rtp_record/tests")
 
 import capture  # noqa: E402  (the folder is known only now)
 import conditions  # noqa: E402
 
-NAMES = ["gateway", "recorder"]
+SIMULATED = ["nack", "keyframe", "sfu", "gateway", "sdp"]
+NAMES = [*SIMULATED, "recorder"]
 CAPTURES = f"{ROOT}/tools/rtp_record/captures"
 PORT, PAYLOAD_TYPE = "15004", "96"
-# ffmpeg's encoder was told so in tools/rtp_record/live.sh.
+# An option of ffmpeg's encoder in tools/rtp_record/live.sh.
 KEYFRAMES_EACH = 30
 C_FLAGS = ["-std=c99", "-pedantic", "-Wall", "-Wextra", "-Wconversion", "-Werror", "-O1", "-g", "-fsanitize=address,undefined",
            "-fno-sanitize-recover=all"]
 
 
-def built(folder):
+def built(folder, archive):
     """The programs, by name and language."""
     programs = {}
     for name in NAMES:
         programs[name, "C"] = f"{folder}/{name}"
         subprocess.run([os.environ.get("CC", "cc"), *C_FLAGS, f"-I{ROOT}/include", f"{ROOT}/examples/{name}.c",
-                        f"{OUT}/libcodec_payload.a", "-o", programs[name, "C"]], check=True)
+                        archive, "-o", programs[name, "C"]], check=True)
         subprocess.run(["cargo", "build", "--offline", "--quiet", "--example", name], cwd=f"{ROOT}/rust",
                        env={**os.environ, "CARGO_TARGET_DIR": f"{folder}/target"}, check=True)
         programs[name, "Rust"] = f"{folder}/target/debug/examples/{name}"
@@ -62,7 +65,7 @@ def frames_in(path):
 
 
 def wanted(packets, there):
-    """The MD5s, as the encoder gave them, of the frames all of whose packets are there, from the first such keyframe on."""
+    """The encoder's MD5s of the frames all of whose packets are there, from the first such keyframe on."""
     with open(f"{CAPTURES}/vp8.md5", encoding="ascii") as lines:
         given = [line.split(",")[5].strip() for line in lines if line[0] != "#"]
     frames = capture.frames_of(packets)
@@ -72,15 +75,21 @@ def wanted(packets, there):
     return [given[place] for place in whole if place >= first]
 
 
-def gateways(programs):
-    told = {}
-    for language in ("C", "Rust"):
-        ran = subprocess.run([programs["gateway", language]], capture_output=True, text=True, check=False)
-        told[language] = ran.stdout
-        if ran.returncode:
-            yield f"the gateway in {language}: status {ran.returncode}: {ran.stdout}{ran.stderr}"
-    if told["C"] != told["Rust"]:
-        yield f"the gateways print {told['C']!r} and {told['Rust']!r}"
+def simulated(programs):
+    """A line for each recipe that fails, or prints something else than the other language or the page."""
+    with open(f"{ROOT}/docs/RECIPES.md", encoding="utf-8") as it:
+        page = it.read()
+    for name in SIMULATED:
+        printed = {}
+        for language in ("C", "Rust"):
+            ran = subprocess.run([programs[name, language]], capture_output=True, text=True, check=False)
+            printed[language] = ran.stdout
+            if ran.returncode:
+                yield f"{name} in {language}: status {ran.returncode}: {ran.stdout}{ran.stderr}"
+        if printed["C"] != printed["Rust"]:
+            yield f"{name} prints {printed['C']!r} in C and {printed['Rust']!r} in Rust"
+        if printed["Rust"] not in page:
+            yield f"docs/RECIPES.md lacks the output of {name}: {printed['Rust']!r}"
 
 
 def recorders(programs, folder):
@@ -95,20 +104,21 @@ def recorders(programs, folder):
             ran = subprocess.run(words, capture_output=True, text=True, check=False)
             found = [] if ran.returncode else frames_in(path)
             if found != frames or ran.stdout != f"{len(frames)} frames\n":
-                yield (f"the recorder in {language}, {condition.__name__}: {len(frames)} frames are wanted, and it wrote "
+                yield (f"the recorder in {language}, {condition.__name__}: expected {len(frames)} frames, and it wrote "
                        f"{len(found)}: {ran.stdout}{ran.stderr}")
 
 
-def main():
-    if not os.path.exists(f"{OUT}/libcodec_payload.a"):
+def main(words):
+    archive = os.path.realpath(words[0]) if words else ARCHIVE
+    if not os.path.exists(archive):
         subprocess.run([f"{ROOT}/scripts/bindings.sh", "library"], check=True, stdout=subprocess.DEVNULL)
     with tempfile.TemporaryDirectory() as folder:
-        programs = built(folder)
-        wrong = [*gateways(programs), *recorders(programs, folder)]
-    told = f"examples: the gateways, and the recorders under {len(conditions.ALL)} conditions, in C and Rust"
-    print("\n".join([*wrong, f"{told}: {f'{len(wrong)} faults' if wrong else 'all passed'}"]))
+        programs = built(folder, archive)
+        wrong = [*simulated(programs), *recorders(programs, folder)]
+    tested = f"examples: {len(SIMULATED)} recipes, and the recorders under {len(conditions.ALL)} conditions, in C and Rust"
+    print("\n".join([*wrong, f"{tested}: {f'{len(wrong)} faults' if wrong else 'all passed'}"]))
     return 1 if wrong else 0
 
 
 if __name__ == "__main__":
-    sys.exit(main())
+    sys.exit(main(sys.argv[1:]))

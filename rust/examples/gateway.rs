@@ -1,4 +1,4 @@
-//! An audio gateway with RED (RFC 2198), both sides. Each frame of 20 ms of Opus is sent with the previous frame and the third
+//! Audio gateway with RED (RFC 2198), both sides. Each frame of 20 ms of Opus is sent with the previous frame and the third
 //! frame before it; one datagram in six is lost. The frames are released in order, and among them frames that only a later datagram
 //! carried:
 //!
@@ -7,6 +7,11 @@
 //! ```
 //!
 //! It fails unless exactly the frames arrive that some datagram carried.
+//!
+//! - Packetize with an MTU of the budget minus 1: a payload of `budget` bytes or more is sent without RED framing.
+//! - `step` is the packet time in ticks of the RTP clock: 960 for 20 ms of Opus.
+//! - Wait at least as long as the largest distance: three packets are 60 ms here, and `max_wait` is 100 ms.
+//! - A frame that a later packet supplied is counted in `recovered`, and its number is not requested by NACK.
 
 use codec_payload::jitter::WaitLimits;
 use codec_payload::rtp::{PacketHeader, RtpPacket};
@@ -52,7 +57,7 @@ fn datagram(number: u16, time: u32, payload: &[u8]) -> Result<Vec<u8>, Box<dyn E
     Ok(bytes)
 }
 
-/// Takes the units that are due, and notes which frames arrived.
+/// Pops the units that are due, and notes which frames arrived.
 fn play(receiver: &mut Receiver, now: Ticks, came: &mut [bool]) -> Result<(), Box<dyn Error>> {
     for unit in receiver.units(now) {
         let unit = unit?;
@@ -69,12 +74,8 @@ fn main() -> Result<(), Box<dyn Error>> {
         payload_type: RED_TYPE,
         step: STEP,
     });
-    // A frame waits until the third datagram after it has arrived.
-    settings.wait_limits = WaitLimits {
-        hold_back: Some(8),
-        start: 8,
-        max_wait: None,
-    };
+    // A missing frame is waited for 100 ms: five packets, more than the largest distance.
+    settings.wait_limits = WaitLimits::live();
     let mut sender = RedSender::new(Pt::from(RED_TYPE), Pt::from(OPUS_TYPE), &[1, 3]);
     let depacketizer = CodecDepacketizer::from_codec(Codec::Opus).ok_or("Opus is supported")?;
     let mut receiver = Receiver::new(depacketizer, settings)?;

@@ -1,16 +1,19 @@
-//! NACK loop: asks for missing packets and stores the retransmissions (RFC 4585, section 6.2.1), over a simulated network that loses
+//! NACK loop: requests missing packets and stores the retransmissions (RFC 4585, section 6.2.1), over a simulated network that loses
 //! 10 % and takes 20 ms each way. It fails unless every frame arrives:
 //!
 //! ```sh
 //! cargo run --example nack
 //! ```
 //!
-//! - Ask once per round-trip time for each missing number, at most `TRIES` times.
-//! - Set `max_wait` above the round-trip time, or frames are released without the packets that were asked for.
+//! - Request each missing number once per round-trip time, at most `TRIES` times.
+//! - Set `max_wait` to twice the round-trip time and 100 ms more (`WaitLimits::for_round_trip`). If it is below the round-trip time,
+//!   frames are released without the packets that were requested.
+//! - Stop at the cutoff: `missing` no longer reports numbers whose frames were released or discarded.
 //! - A retransmission under its own SSRC and payload type (RFC 4588) needs `ReceiverSettings::retransmission`. One under the stream's
 //!   own SSRC needs nothing.
 
 use codec_payload::jitter::WaitLimits;
+use codec_payload::rtcp::{Nack, pack_numbers};
 use codec_payload::sender::{Sample, Sender, SenderSettings};
 use codec_payload::stream::{Receiver, ReceiverSettings};
 use codec_payload::{
@@ -24,14 +27,14 @@ const INTERVAL: u64 = 33;
 const ONE_WAY: u64 = 20;
 const TRIES: u32 = 5;
 
-/// When each missing number was asked for last, and how often.
+/// When each missing number was last requested, and how often.
 #[derive(Default)]
 struct NackLoop {
     requests: HashMap<u64, (u64, u32)>,
 }
 
 impl NackLoop {
-    /// The numbers to ask for now.
+    /// Returns the numbers to request now.
     fn due(&mut self, receiver: &Receiver, now: u64, round_trip: u64) -> Vec<u64> {
         let missing: Vec<u64> = receiver.missing(512).collect();
         let lowest = missing.first().copied().unwrap_or(u64::MAX);
@@ -50,30 +53,21 @@ impl NackLoop {
     }
 }
 
-/// A generic NACK for rising numbers.
-fn nack(own_ssrc: u32, media_ssrc: u32, numbers: &[u64]) -> Vec<u8> {
-    let mut packet = vec![0x81, 205, 0, 0]; // version 2, format 1: generic NACK; transport-layer feedback
-    packet.extend(own_ssrc.to_be_bytes());
-    packet.extend(media_ssrc.to_be_bytes());
-    let mut rest = numbers;
-    while let [first, later @ ..] = rest {
-        let covered = later
-            .iter()
-            .take_while(|number| **number - first <= 16)
-            .count();
-        let mask = later[..covered]
-            .iter()
-            .fold(0_u16, |mask, number| mask | 1 << (number - first - 1));
-        packet.extend((*first as u16).to_be_bytes());
-        packet.extend(mask.to_be_bytes());
-        rest = &later[covered..];
+/// A generic NACK for rising numbers. Its pairs of PID and BLP have the low 16 bits of the numbers.
+fn nack(own_ssrc: u32, media_ssrc: u32, numbers: &[u64]) -> Result<Vec<u8>, Box<dyn Error>> {
+    let numbers: Vec<u16> = numbers.iter().map(|number| *number as u16).collect();
+    let (mut pairs, mut packet) = (Vec::new(), Vec::new());
+    pack_numbers(&numbers, &mut pairs)?;
+    Nack {
+        sender_ssrc: own_ssrc,
+        media_ssrc,
+        pairs: &pairs,
     }
-    let words = packet.len() / 4 - 1;
-    packet[2..4].copy_from_slice(&(words as u16).to_be_bytes());
-    packet
+    .write(&mut packet)?;
+    Ok(packet)
 }
 
-/// The simulated sender keeps what it sent, and when that arrives.
+/// The simulated sender keeps the packets that it sent, with the time of each one's arrival.
 #[derive(Default)]
 struct Network {
     chance: u32,
@@ -89,7 +83,7 @@ impl Network {
         (self.chance >> 16).is_multiple_of(10)
     }
 
-    /// Sends again what a NACK asks for.
+    /// Retransmits what a NACK asks for.
     fn answer(&mut self, nack: &[u8], now: u64) {
         for pair in nack[12..].chunks_exact(4) {
             let first = u16::from_be_bytes([pair[0], pair[1]]);
@@ -159,7 +153,7 @@ fn main() -> Result<(), Box<dyn Error>> {
         network.deliver(&mut receiver, now)?;
         let due = requests.due(&receiver, now, 2 * ONE_WAY);
         if !due.is_empty() {
-            network.answer(&nack(8, 7, &due), now);
+            network.answer(&nack(8, 7, &due)?, now);
             nacks += 1;
         }
         for unit in receiver.units(Ticks(now)) {

@@ -1,11 +1,17 @@
-//! A recorder's core: a VP8 stream becomes an IVF file, frame by frame as it comes whole.
+//! A recorder's core: writes the frames of a VP8 stream to an IVF file as they are released.
 //!
 //! ```sh
 //! cargo run --example recorder                                # records a simulated stream with losses, and checks the file
-//! cargo run --example recorder capture.pcap 5004 96 frames.ivf    # records what a capture has to UDP port 5004
+//! cargo run --example recorder capture.pcap 5004 96 frames.ivf    # records the datagrams of a capture to UDP port 5004
 //! ```
 //!
 //! It reads captures of the classic format with Ethernet and IPv4.
+//!
+//! - Begin the file with a keyframe.
+//! - The time of a frame is its RTP time; it does not wrap.
+//! - At the end call `finish`, then pop the remaining frames.
+//! - From a file wait without a time limit (`WaitLimits::file`); from a live stream use the limits for live media.
+//! - Report the faults of the disk: `BufWriter` reports them only when it is flushed.
 
 use codec_payload::jitter::WaitLimits;
 use codec_payload::media::frame_info;
@@ -67,11 +73,7 @@ impl<W: Write> Recorder<W> {
     fn new(payload_type: u8, file: W) -> Result<Self, Box<dyn Error>> {
         let depacketizer = CodecDepacketizer::from_codec(Codec::Vp8).ok_or("VP8 is supported")?;
         let mut settings = ReceiverSettings::for_stream(payload_type, Frequency::NINETY_KHZ);
-        settings.wait_limits = WaitLimits {
-            hold_back: Some(30),
-            start: 0,
-            max_wait: Some(500),
-        };
+        settings.wait_limits = WaitLimits::file();
         Ok(Recorder {
             receiver: Receiver::new(depacketizer, settings)?,
             file,

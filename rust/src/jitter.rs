@@ -10,6 +10,8 @@ pub mod missing;
 #[doc(hidden)]
 pub mod no_media_numbers;
 #[doc(hidden)]
+pub mod noted_times;
+#[doc(hidden)]
 pub mod numbers;
 #[doc(hidden)]
 pub mod outcome;
@@ -21,6 +23,9 @@ pub use jitter_buffer::{JitterBuffer, KeptPacket, Outcome, PacketCounters, WaitL
 
 #[doc(inline)]
 pub use missing::MissingNumbers;
+
+#[doc(inline)]
+pub use noted_times::NotedTime;
 
 #[doc(inline)]
 pub use numbers::{Extended, SequenceNumbers, WindowError};

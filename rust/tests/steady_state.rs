@@ -1,5 +1,6 @@
 //! Calls that use memory again allocate nothing once it has grown.
 
+use codec_payload::contiguity::{Vp8Contiguity, Vp9Contiguity};
 use codec_payload::sender::{Sample, Sender, SenderSettings};
 use codec_payload::*;
 use std::alloc::{GlobalAlloc, Layout, System};
@@ -110,4 +111,110 @@ fn pops() {
     buffer.pop_into(&mut bytes, &mut metas).unwrap().unwrap();
     let again = allocations(|| assert!(buffer.pop_into(&mut bytes, &mut metas).unwrap().is_ok()));
     assert_eq!((again, bytes.len()), (0, 100));
+}
+
+/// Payloads of a codec, and of each: whether it begins a unit, and whether it ends one in a packet without the marker and with it.
+const ENDS: [(Codec, &[&[u8]], &str); 11] = [
+    (Codec::Opus, &[&[0x90, 0x90], &[0x90]], " 111 111"),
+    (Codec::PCMU, &[&[0x90, 0x90], &[0x90]], " 111 111"),
+    (Codec::G722, &[&[0x90, 0x90], &[0x90]], " 111 111"),
+    (Codec::CN, &[&[0x2a, 0x80, 0x40]], " 111"),
+    (Codec::AmrWb, &[&[0xf7, 0x40]], " 111"),
+    (
+        Codec::Tele,
+        &[&[0x05, 0x8a, 0x03, 0x20, 0x06, 0x0a, 0x01, 0x40]],
+        " 111",
+    ),
+    (Codec::Vp8, &[&[0x10, 0x90], &[0, 0x90]], " 101 001"),
+    (
+        Codec::Vp8,
+        &[&[0x90, 0x80, 0x20, 0x90, 0x90], &[0x80, 0x80, 0x20, 0x90]],
+        " 101 001",
+    ),
+    (
+        Codec::Vp9,
+        &[
+            &[0xaa, 0x92, 0x34, 0x10, 0x01, 0x00, 0x82, 0x49],
+            &[0xa4, 0x92, 0x34, 0x10, 0x01, 0x83],
+        ],
+        " 101 001",
+    ),
+    (
+        Codec::Av1,
+        &[&[0x18, 0x08, 0xaa], &[0x50, 0x30, 0xbb], &[0x90, 0xcc]],
+        " 101 101 001",
+    ),
+    (Codec::Null, &[&[0x90, 0x90, 0x90]], " 111"),
+];
+
+#[test]
+fn ends_of_units() {
+    for (codec, payloads, wanted) in ENDS {
+        let depacketizer = CodecDepacketizer::from_codec(codec).unwrap();
+        let mut found = String::new();
+        for payload in payloads {
+            let mut ends = [false; 3];
+            let made = allocations(|| {
+                ends = [
+                    depacketizer.is_partition_head(payload),
+                    depacketizer.is_partition_tail(false, payload),
+                    depacketizer.is_partition_tail(true, payload),
+                ];
+            });
+            assert_eq!(made, 0, "{codec}");
+            found.push(' ');
+            found.extend(ends.map(|end| if end { '1' } else { '0' }));
+        }
+        assert_eq!(found, wanted, "{codec}");
+    }
+}
+
+/// Detectors, patches, contiguity, an empty buffer, frames that are skipped or refused, and a RED sender that is made.
+#[test]
+fn calls_that_never_allocate() {
+    let mut buffer = DepacketizingBuffer::<NoBox>::with_limit(
+        CodecDepacketizer::from_codec(Codec::Vp8).unwrap(),
+        0,
+        65_536,
+    );
+    let mut noise = packetizer(Codec::CN);
+    let made = allocations(|| {
+        assert!(detect_vp8_keyframe(&[0x10, 0x90]));
+        assert!(detect_vp9_keyframe(&[0xaa, 0x92]));
+        assert!(detect_av1_keyframe(&[0x18, 0x08, 0xaa]));
+        assert!(detect_vp9_keyframe_bitstream(&[0x82]));
+        assert_eq!(leb_128_size(300), 2);
+        let payload = [0x90, 0xf0, 0x81, 0x02, 0x03, 0x44, 0x90];
+        let asked = Vp8Descriptor::parse(&payload)
+            .unwrap()
+            .patch()
+            .picture_id(0x7fff);
+        let patch = asked.tl0_pic_idx(9).key_idx(5).build().unwrap();
+        let mut patched = [0; 7];
+        patch.copy_to(&payload, &mut patched);
+        assert_eq!(patched, [0x90, 0xf0, 0xff, 0xff, 0x09, 0x45, 0x90]);
+        let frame = Vp8CodecExtra {
+            picture_id: Some(7),
+            tl0_picture_id: Some(3),
+            layer_index: 1,
+            discardable: false,
+            sync: false,
+            is_keyframe: false,
+        };
+        assert_eq!(Vp8Contiguity::new().check(&frame, true), (true, true));
+        let frame = Vp9CodecExtra {
+            picture_id: Some(7),
+            tl0_picture_id: Some(3),
+            tid: Some(1),
+            ..Vp9CodecExtra::default()
+        };
+        assert_eq!(Vp9Contiguity::new().check(&frame, true), (true, true));
+        assert!(buffer.pop().is_none());
+        assert!(noise.packetize(2, &[]).unwrap().is_empty());
+        let fault = noise.packetize(2, &[1, 2, 3]).err();
+        assert_eq!(fault, Some(PacketError::ErrPayloadTooLarge));
+        let mut red = RedSender::new(Pt::from(63), Pt::from(96), &[1, 3]);
+        red.sync(Pt::from(63), Pt::from(96), &[2]);
+    });
+    assert_eq!(made, 0);
 }

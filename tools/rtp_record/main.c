@@ -39,7 +39,7 @@ static capture *open_capture(const options *wanted) {
     const char *name = wanted->interface ? wanted->interface : wanted->capture;
     capture *from = capture_open(name, wanted->interface != NULL, wanted->filter);
     if (from && !wire_knows_link(capture_link(from))) {
-        complain("%s: link type %d is none that is read", name, capture_link(from));
+        complain("%s: unsupported link type %d", name, capture_link(from));
         capture_close(from);
         return NULL;
     }
@@ -66,14 +66,14 @@ static void run(options *wanted) {
     streams found = {0};
     if (wanted->output.mux) {
         size_t tracks = count_tracks(wanted);
-        if (tracks == 0) complain("%s: no stream becomes a track", wanted->output.mux);
+        if (tracks == 0) complain("%s: no stream can be written", wanted->output.mux);
         else wanted->output.together = writer_new(wanted->output.mux, tracks);
     }
     capture *from = open_capture(wanted);
     if (!from) return;
     read_all(wanted, from, &found, &wanted->output);
-    /* live, to be interrupted is the end that is wanted */
-    if (capture_stopped() && !wanted->interface) complain("%s: interrupted; what came before it is told and written", wanted->capture);
+    /* an interruption is the normal end of a live recording */
+    if (capture_stopped() && !wanted->interface) complain("%s: interrupted; everything before was written", wanted->capture);
     streams_close(&found, &wanted->known, &wanted->output);
     if (wanted->json) report_json(&found);
     else report_table(&found);

@@ -42,7 +42,7 @@ unsigned long complaints(void) { return failures; }
 
 void messages_quiet(void) { quiet = true; }
 
-/* Whether progress is shown: asked once, as it is wanted at each packet. */
+/* Whether progress is shown: asked once, because each packet needs the answer. */
 static bool shows_progress(void) {
     static enum { UNKNOWN, SHOWN, HIDDEN } state;
     if (state == UNKNOWN) state = !quiet && isatty(STDERR_FILENO) ? SHOWN : HIDDEN;

@@ -9,24 +9,24 @@ static const char HELP[] =
     "usage: rtp_record [OPTION].. CAPTURE\n"
     "       rtp_record [OPTION].. -i INTERFACE\n"
     "Lists the RTP streams of a capture (pcap or pcapng, or - for the standard input) or of an interface, and\n"
-    "writes them as files that play, without encoding them anew.\n"
+    "writes them as files that play, without encoding them again.\n"
     "\n"
     "  -i, --interface NAME   live, until it is interrupted\n"
-    "  -f, --filter FILTER    packets of that filter of libpcap's language alone\n"
+    "  -f, --filter FILTER    only packets of that filter, in libpcap's language\n"
     "  -o, --output FOLDER    writes each stream into a file of that folder, named by its SSRC\n"
-    "  -o, --output FILE      writes the first stream into that file, and later ones beside it: by its ending a\n"
+    "  -o, --output FILE      writes the first stream into that file, and later ones beside it; its ending is one of\n"
     "                         .webm, .mkv, .mka, .ivf, .obu, .ogg, .opus, .wav or .awb\n"
-    "  -m, --mux FILE         writes all streams into one file, put together in time by sender reports\n"
-    "  -s, --sdp FILE         what was signalled, as SDP; may be given more than once\n"
-    "  -p, --map PT=NAME/RATE a payload type by hand, with /CHANNELS and ;PARAMETERS behind it where they are wanted\n"
+    "  -m, --mux FILE         writes all streams into one file, synchronised by sender reports\n"
+    "  -s, --sdp FILE         the signalled session, as SDP; may be given more than once\n"
+    "  -p, --map PT=NAME/RATE a payload type by hand; /CHANNELS and ;PARAMETERS may follow\n"
     "  -a, --all              frames before the first keyframe too\n"
-    "  -c, --clean            leaves frames out that refer to lost ones\n"
-    "  -F, --fill             silence where packets of G.711 and AMR-WB are lost\n"
+    "  -c, --clean            leaves out frames that refer to lost ones\n"
+    "  -F, --fill             writes silence for lost packets of G.711 and AMR-WB\n"
     "  -j, --json             the list as JSON\n"
     "  -q, --quiet            no progress, and no remarks\n"
     "  -h, --help             this text\n"
     "\n"
-    "Status: 0 all was written, 1 something failed, 2 wrong use.\n";
+    "Status: 0 everything was written, 1 something failed, 2 wrong use.\n";
 
 static const struct option LONG[] = {
     {"interface", required_argument, NULL, 'i'}, {"filter", required_argument, NULL, 'f'}, {"output", required_argument, NULL, 'o'},
@@ -69,7 +69,7 @@ options_answer options_read(options *it, int count, char **words) {
     }
     if (optind < count) it->capture = words[optind++];
     if (optind < count || !it->capture == !it->interface) {
-        complain("one capture, or one interface, is wanted; --help tells more");
+        complain("give one capture or one interface; see --help");
         return OPTIONS_WRONG;
     }
     if ((it->output.folder || it->output.file) && it->output.mux) {
@@ -77,7 +77,7 @@ options_answer options_read(options *it, int count, char **words) {
         return OPTIONS_WRONG;
     }
     if (it->output.mux && (it->interface || (it->capture[0] == '-' && !it->capture[1]))) {
-        complain("--mux wants a capture that can be read twice");
+        complain("--mux needs a capture file that can be read twice");
         return OPTIONS_WRONG;
     }
     return OPTIONS_RUN;

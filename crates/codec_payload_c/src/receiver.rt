@@ -5,7 +5,7 @@ ghost use Rattle.codec_payload_core.specs.Depacketizers.{depacketizer_state_of};
 ghost use Rattle.codec_payload_jitter.specs.Receiving.{deadline_of};
 ghost use Rattle.codec_payload_stream.specs.Reports.{report_of, reported};
 ghost use Rattle.codec_payload_stream.specs.Sessions.{Finishes, restarted};
-ghost use Rattle.codec_payload_c.specs.StreamReceivers.{AreSettings, IsNewStream, IsStreamReceiverOf, PopsUnit, Takes, TellsCounts, TellsMissing, TellsNumber, TellsReport, TellsTimed, bound_given, is_in_range, outcome_number, red_in_range, red_set, rtx_in_range, rtx_set, restarted_as, wait_limits_given, waiting_by};
+ghost use Rattle.codec_payload_c.specs.StreamReceivers.{AreSettings, IsNewStream, IsStreamReceiverOf, PopsUnit, Takes, Tells, TellsCounts, TellsMissing, TellsNumber, TellsReport, TellsTimed, bound_given, is_in_range, outcome_number, red_in_range, red_set, rtx_in_range, rtx_set, restarted_as, wait_limits_given, waiting_by};
 ghost use Rattle.codec_payload_handle.specs.Kinds.{Makes, OnStreamReceiver, Refuses, is_stream_receiver};
 ghost use Rattle.codec_payload_handle.specs.Settings.{depacketizer_set};
 
@@ -273,9 +273,17 @@ fn number_of(outcome: Outcome) -> u32
 fn receive(stream: &mut StreamReceiver, now: u64, datagram: &[u8], outcome: &mut u32) -> u32
     ensures { Takes stream.old now datagram.now result outcome.old outcome.new stream.new }
 {
-    match stream.receiver.receive(Ticks(now), datagram) {
-        Ok(told) => {
-            *outcome = number_of(told);
+    let answer = stream.receiver.receive(Ticks(now), datagram);
+    report_answer(answer, outcome)
+}
+
+/// The status of an answer, and its outcome, if it has one.
+fn report_answer(answer: Result<Outcome, ReceiveError>, outcome: &mut u32) -> u32
+    ensures { Tells answer result outcome.old outcome.new }
+{
+    match answer {
+        Ok(known) => {
+            *outcome = number_of(known);
             status::OK
         }
         Err(ReceiveError::Rtp(fault)) => status_of(fault),

@@ -4,3 +4,4 @@ pub mod NoMediaLemmas
 pub mod MissingLemmas
 pub mod RunLemmas
 pub mod PressureLemmas
+pub mod RestartLemmas

@@ -129,7 +129,7 @@ all_above (n ∷ ns) s h g greatest below some order = by_answer (λ t k. all_ab
     by_answer later extended.Spent is = later s h greatest below some order
     by_answer later (extended.Number v) is = (
       given_above s h n v g greatest below some order (ap number_in is),
-      later (record s { greatest = Some (greater s.greatest v); suspect = None }) (max h v) (ap (λ (o : Option ℕ). Some (greater o v)) greatest) (omega arith) some order,
+      later (record s { greatest = Some (greater s.greatest v) }) (max h v) (ap (λ (o : Option ℕ). Some (greater o v)) greatest) (omega arith) some order,
     )
     by_answer later (extended.Restarted v) is = (
       given_above s h n v g greatest below some order (ap number_in is),
@@ -179,7 +179,7 @@ numbers_by (t ∷ ts) s x g up first greatest apart order same is from high fits
     let one : answer_for s (t % 65536) ≡ extended.Number (t + up - first) =
     ap (λ (o : Option ℕ). answer_by s o (t % 65536)) greatest ∙ near_by s x g t up first apart order same is from high near.0 near.1 fits.0 in
     rw one (ap (λ (rest : List (Option ℕ)). Some (t + up - first) ∷ rest)
-    (numbers_by ts (record s { greatest = Some (greater s.greatest (t + up - first)); suspect = None }) (max x (t + up - first)) (max g t) up first
+    (numbers_by ts (record s { greatest = Some (greater s.greatest (t + up - first)) }) (max x (t + up - first)) (max g t) up first
     (ap (λ (o : Option ℕ). Some (greater o (t + up - first))) greatest) apart order same (greatest_by x g t up first is (omega (arith, near.1))) (omega arith) high fits.1 near.3))
 
 pub are_true_anew : AreTrueAnew

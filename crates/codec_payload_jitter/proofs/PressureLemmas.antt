@@ -1,5 +1,5 @@
 -- While little room is left, a pop that gives nothing leaves no complete frame; and while more is left, few packets evict none.
-use Rattle.std.proofs.Common.{◌≡◌, ◌≢◌, ◌∙◌, refl, ap, sym, subst, ℕ, ◌+◌, ◌-◌, ◌<◌, ◌≤◌, List, [], ◌∷◌, Bool, true, false, ◌||◌}
+use Rattle.std.proofs.Common.{◌≡◌, ◌∙◌, refl, ap, sym, subst, ℕ, ◌+◌, ◌-◌, ◌<◌, ◌≤◌, List, [], ◌∷◌, Bool, true, false, ◌||◌}
 use Rattle.std.proofs.Common.{Option, Some, None, Result, Ok, Err, inl, inr, length, arith, cond, ltb}
 use Rattle.std.specs.Prelude.{nat_lt}
 use Rattle.std.proofs.lemmas.Bool.{ltb-true, ltb-false, lt-ltb}
@@ -12,8 +12,8 @@ use Rattle.codec_payload_buffer.specs.Steps.{State, HasTaken, Passes, Pops, Take
 use Rattle.codec_payload_buffer.specs.declared.buffer.frames.CompleteFrame.{CompleteFrame}
 use Rattle.codec_payload_buffer.proofs.BlankLemmas.{leaves_few, takes_away}
 use Rattle.codec_payload_jitter.specs.Pressure.{Event, Packet, Retransmitted, Recovered, WithoutMedia, Comes, ComeAll, Drains, Burst, DoesBursts, SparesCompleteFrames}
-use Rattle.codec_payload_jitter.specs.Receiving.{Receiving, Arrival, Accepts, Confirms, GoesInAgain, GoesOn, NotesAs, Notes, PopsWith, Receives, ReceivesAgain, ReceivesAgainAs, ReceivesAs, Recovers, RecoversAs, RecoversIf, Restarts, TakesIn}
-use Rattle.codec_payload_jitter.specs.Receiving.{answer_in, counted, counted_again, counted_in_again, counted_pop, counted_recovered, is_stored, has_little_room, is_pressed, may_recover, next, number_again, numbered, outcome_at, restarted, settled, units_in, waiting_at}
+use Rattle.codec_payload_jitter.specs.Receiving.{Receiving, Arrival, Accepts, Confirms, GoesInAgain, GoesOn, NotesAs, PopsWith, ReceivesAgainAs, ReceivesAs, RecoversAs, RecoversIf, Restarts}
+use Rattle.codec_payload_jitter.specs.Receiving.{answer_in, answer_to, kept_number, with_noted, counted, counted_again, counted_in_again, counted_pop, counted_recovered, is_stored, has_little_room, is_pressed, may_recover, next, number_again, numbered, outcome_at, restarted, settled, units_in, waiting_at}
 use Rattle.codec_payload_jitter.specs.NoMediaNumbers.{noted_no_media}
 use Rattle.codec_payload_jitter.specs.Runs.{Answer}
 use Rattle.codec_payload_jitter.specs.declared.numbers.Extended.{Extended}
@@ -166,17 +166,17 @@ goes_in_again a n r true t kept goes =
 
 confirms : (n : ℕ) (kept : Option Arrival) (r : Receiving) (with_kept : Bool) (t : Receiving) → r.kept ≡ kept → Confirms n kept (restarted r) with_kept t → Stores 0 r t
 confirms n None r with_kept t is same = moved 0 r (restarted r) t same.1 (as_it_is r (restarted r) refl refl (omega arith) refl)
-confirms n (Some a) r with_kept t is goes = goes_in_again a (n - 1) r with_kept t is goes
+confirms n (Some a) r with_kept t is goes = goes_in_again a (kept_number n a.header.sequence_number) r with_kept t is goes
 
 -- Events
 
 goes_on : (n : ℕ) (a : Arrival) (r : Receiving) (o : Outcome) (t : Receiving) → GoesOn n a r o t → Stores 1 r t
 goes_on n a r o t goes =
-    moved 1 r (record goes.0 { kept = None }) t goes.2
-    (like 1 r goes.0 (record goes.0 { kept = None }) (record { buffer = refl; room = refl; kept = omega arith; evicted = refl }) (accepts a n r goes.0 o goes.1))
+    moved 1 r (with_noted n a goes.0) t goes.2
+    (like 1 r goes.0 (with_noted n a goes.0) (record { buffer = refl; room = refl; kept = omega arith; evicted = refl }) (accepts a n r goes.0 o goes.1))
 
 restarts : (n : ℕ) (a : Arrival) (r : Receiving) (o : Outcome) (t : Receiving) → Restarts n a r o t → Stores 1 r t
-restarts n a r o t goes = both 1 0 r goes.1 t (accepts a n r goes.1 goes.0 goes.3) (confirms n goes.1.kept goes.1 goes.2 t refl goes.4)
+restarts n a r o t goes = both 1 0 r goes.1 t (goes_on n a r goes.0 goes.1 goes.3) (confirms n goes.1.kept goes.1 goes.2 t refl goes.4)
 
 is_kept : (a : Arrival) (r t : Receiving) → t ≡ record r { kept = Some a; counters = counted r.counters outcomes.Suspect } → Stores 1 r t
 is_kept a r t is = moved 1 r (record r { kept = Some a; counters = counted r.counters outcomes.Suspect }) t is (record { limit = refl; room = refl; held = omega arith; evicted = λ fits. refl })
@@ -214,7 +214,7 @@ recovers_if : (missing : Bool) (n : ℕ) (a : Arrival) (r : Receiving) (went_in 
 recovers_if false n a r went_in t got = weaker 0 1 r t (omega arith) (moved 0 r r t got.1 (nothing r))
 recovers_if true n a r went_in t got =
     like_by r got.1 t (numbered r (extended.Number n) a.header.sequence_number (record got.1 { counters = counted_recovered got.1.counters })) got.4
-    refl refl refl refl (goes_on n a r got.0 got.1 got.2)
+    refl refl refl refl (accepts a n r got.1 got.0 got.2)
 
 recovers_as : (number : Option ℕ) (a : Arrival) (r : Receiving) (went_in : Bool) (t : Receiving) → RecoversAs number a r went_in t → Stores 1 r t
 recovers_as None a r went_in t got = weaker 0 1 r t (omega arith) (moved 0 r r t got.1 (nothing r))
@@ -222,7 +222,7 @@ recovers_as (Some n) a r went_in t got = recovers_if (may_recover r n) n a r wen
 
 notes_as : (answer : Extended) (r t : Receiving) → NotesAs answer r t → Stores 0 r t
 notes_as (extended.Number n) r t noted =
-    moved 0 r (record r { no_media_numbers = noted_no_media n r.no_media_numbers; kept = None; counters = counted r.counters outcomes.NoMedia }) t noted
+    moved 0 r (record r { no_media_numbers = noted_no_media n r.no_media_numbers; counters = counted r.counters outcomes.NoMedia }) t noted
     (as_it_is r _ refl refl (omega arith) refl)
 notes_as (extended.Restarted n) r t noted =
     let s : Receiving = record r { no_media_numbers = noted_no_media n r.no_media_numbers; counters = counted r.counters outcomes.NoMedia } in
@@ -234,7 +234,7 @@ comes : (event : Event) (r t : Receiving) → Comes event r t → Stores 1 r t
 comes (Packet a) r t come =
     let low = a.header.sequence_number in
     let got = come.1 in
-    like_by r got.0 t (numbered r (answer_in r low) low got.0) got.2 refl refl refl refl (receives_as (answer_in r low) a r come.0 got.0 got.1)
+    like_by r got.0 t (numbered r (answer_to r a.header) low got.0) got.2 refl refl refl refl (receives_as (answer_to r a.header) a r come.0 got.0 got.1)
 comes (Retransmitted a) r t come = receives_again (number_again r a.header.sequence_number) a r come.0 t come.1
 comes (Recovered a) r t come = recovers_as (number_again r a.header.sequence_number) a r come.0 t come.1
 comes (WithoutMedia low) r t come =

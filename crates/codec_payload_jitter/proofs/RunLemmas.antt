@@ -8,9 +8,13 @@ use Rattle.codec_payload_buffer.specs.Steps.{State, pushed, is_dropped, without_
 use Rattle.codec_payload_buffer.specs.Stretches.{after_pushes}
 use Rattle.codec_payload_jitter.specs.Numbers.{Numbering, low_bits, no_numbers, number_for, numbering_after, numbers_for, answer_for}
 use Rattle.codec_payload_jitter.specs.Numbers.{numbering_with, without_restart, number_in, is_restart, GoOn, moved}
+use Rattle.codec_payload_jitter.specs.NotedTimes.{AreTimesOf, noted_with}
+use Rattle.codec_payload_jitter.specs.declared.noted_times.NotedTime.{NotedTime}
+use Rattle.codec_payload_jitter.proofs.RestartLemmas.{answer_to_is, still_times}
+use Rattle.codec_payload_jitter.specs.Receiving.{answer_by_time, answer_to, with_noted}
 use Rattle.codec_payload_jitter.specs.Receiving.{Receiving, Arrival, answer_in, Receives, ReceivesAs, TakesIn, settled, waiting_at, PopsWith}
 use Rattle.codec_payload_jitter.specs.NoMediaNumbers.{passed_no_media, no_media_left}
-use Rattle.codec_payload_jitter.specs.Runs.{ReceivesAll, low_numbers, ArriveAs, AreStretches, AreTrueStretches, Answer, numbering_past, numbers_by_round, TurnWith, IsChain, GoOnByRound, AreChains}
+use Rattle.codec_payload_jitter.specs.Runs.{ReceivesAll, HaveTimes, HaveTimesByRound, low_numbers, ArriveAs, AreStretches, AreTrueStretches, Answer, numbering_past, numbers_by_round, TurnWith, IsChain, GoOnByRound, AreChains}
 use Rattle.codec_payload_jitter.specs.declared.outcome.Outcome.{Outcome}
 use Rattle.codec_payload_jitter.proofs.NumbersLemmas.{are_true_numbers, none_restarts}
 
@@ -35,30 +39,39 @@ takes_depacketizer : (rate : ℕ) (a : Arrival) (number : Option ℕ) (s t : Sta
 takes_depacketizer rate a None s t takes = ap (λ (x : State). x.depacketizer) takes
 takes_depacketizer rate a (Some n) s t takes = ap (λ (x : State). x.depacketizer) takes.2 ∙ pushed_depacketizer s takes.0
 
+-- what is noted then
+abbrev pub noted_at : Receiving → Arrival → Option ℕ → List NotedTime
+noted_at r a None = r.noted
+noted_at r a (Some n) = noted_with r.numbering.backward r.noted (record { number = n; time = a.header.timestamp })
+
 -- what a push does, where no restart is told
 pub record IsOne (number : Option ℕ) (a : Arrival) (r t : Receiving) : Type 0 where
   pub takes : TakesAt r.rate a number r.buffer t.buffer
   pub rate : t.rate ≡ r.rate
   pub no_media_numbers : t.no_media_numbers ≡ r.no_media_numbers
+  pub noted : t.noted ≡ noted_at r a number
 
 one_as : (answer : Extended) (a : Arrival) (r t : Receiving) (outcome : Outcome) → is_restart answer ≡ false → ReceivesAs answer a r outcome t → IsOne (number_in answer) a r t
 one_as (extended.Number n) a r t outcome on got =
-    let all : t ≡ record got.0 { kept = None } = got.2 in
+    let all : t ≡ with_noted n a got.0 = got.2 in
     record {
       takes = subst (λ (s : State). TakesIn r.rate a n r.buffer s) (sym (ap (λ (x : Receiving). x.buffer) all ∙ ap (λ (x : Receiving). x.buffer) got.1.3)) got.1.1;
       rate = ap (λ (x : Receiving). x.rate) all ∙ ap (λ (x : Receiving). x.rate) got.1.3;
       no_media_numbers = ap (λ (x : Receiving). x.no_media_numbers) all ∙ ap (λ (x : Receiving). x.no_media_numbers) got.1.3;
+      noted = ap (λ (x : Receiving). x.noted) all ∙ ap (λ (x : Receiving). noted_at x a (Some n)) got.1.3;
     }
 one_as (extended.Restarted n) a r t outcome on got = cc
 one_as extended.Suspect a r t outcome on got = record {
   takes = ap (λ (x : Receiving). x.buffer) got.1;
   rate = ap (λ (x : Receiving). x.rate) got.1;
   no_media_numbers = ap (λ (x : Receiving). x.no_media_numbers) got.1;
+  noted = ap (λ (x : Receiving). x.noted) got.1;
 }
 one_as extended.Spent a r t outcome on got = record {
   takes = ap (λ (x : Receiving). x.buffer) got.1;
   rate = ap (λ (x : Receiving). x.rate) got.1;
   no_media_numbers = ap (λ (x : Receiving). x.no_media_numbers) got.1;
+  noted = ap (λ (x : Receiving). x.noted) got.1;
 }
 
 unless_restart : (answer : Extended) → is_restart answer ≡ false → without_restart answer ≡ answer
@@ -75,30 +88,60 @@ answer_is r low running on = rw running (by_ended r.ended)
     by_ended true = unless_restart (answer_for r.numbering low) on
     by_ended false = refl
 
+-- a packet that has a number has its RTP time
+abbrev pub HasTime : (ℕ → ℕ) → Arrival → Option ℕ → Type 0
+HasTime time_of a None = Unit {0}
+HasTime time_of a (Some n) = a.header.timestamp ≡ time_of n
+
+-- so the answer is that of the numbering
+answer_of : (time_of : ℕ → ℕ) (r : Receiving) (a : Arrival) (answer : Extended) → r.is_restarting ≡ false → answer_for r.numbering a.header.sequence_number ≡ answer → is_restart answer ≡ false
+    → AreTimesOf time_of r.noted → HasTime time_of a (number_in answer) → answer_to r a.header ≡ answer
+answer_of time_of r a (extended.Number n) running is on times time = answer_to_is time_of r a.header n running times is time
+answer_of time_of r a (extended.Restarted n) running is on times time = cc
+answer_of time_of r a extended.Suspect running is on times time =
+    ap (answer_by_time r a.header) (answer_is r a.header.sequence_number running (ap is_restart is) ∙ is)
+answer_of time_of r a extended.Spent running is on times time =
+    ap (answer_by_time r a.header) (answer_is r a.header.sequence_number running (ap is_restart is) ∙ is)
+
+-- what is noted are the sender's times still
+still_at : (time_of : ℕ → ℕ) (r : Receiving) (a : Arrival) (number : Option ℕ) → HasTime time_of a number → AreTimesOf time_of r.noted → AreTimesOf time_of (noted_at r a number)
+still_at time_of r a None time times = times
+still_at time_of r a (Some n) time times = still_times time_of r.numbering.backward r.noted (record { number = n; time = a.header.timestamp }) time times
+
 -- one push
-pub record OneOf (a : Arrival) (r t : Receiving) : Type 0 where
+pub record OneOf (time_of : ℕ → ℕ) (a : Arrival) (r t : Receiving) : Type 0 where
   pub one : IsOne (number_for r.numbering a.header.sequence_number) a r t
   pub numbering : t.numbering ≡ numbering_after r.numbering a.header.sequence_number
   pub running : t.is_restarting ≡ false
+  pub times : AreTimesOf time_of t.noted
 
-one_of : (a : Arrival) (r t : Receiving) (outcome : Outcome) → r.is_restarting ≡ false → is_restart (answer_for r.numbering a.header.sequence_number) ≡ false
-    → Receives a r outcome t → OneOf a r t
-one_of a r t outcome running on receives =
+one_of : (time_of : ℕ → ℕ) (a : Arrival) (r t : Receiving) (outcome : Outcome) → r.is_restarting ≡ false → is_restart (answer_for r.numbering a.header.sequence_number) ≡ false
+    → AreTimesOf time_of r.noted → HasTime time_of a (number_for r.numbering a.header.sequence_number) → Receives a r outcome t → OneOf time_of a r t
+one_of time_of a r t outcome running on times time receives =
     let low = a.header.sequence_number in
-    let is : answer_in r low ≡ answer_for r.numbering low = answer_is r low running on in
+    let is : answer_to r a.header ≡ answer_for r.numbering low = answer_of time_of r a (answer_for r.numbering low) running refl on times time in
     let mid : Receiving = receives.0 in
     let taken : ReceivesAs (answer_for r.numbering low) a r outcome mid = subst (λ (e : Extended). ReceivesAs e a r outcome mid) is receives.1 in
     let one = one_as (answer_for r.numbering low) a r mid outcome on taken in
     let number = number_for r.numbering low in
+    let noted : t.noted ≡ noted_at r a number = ap (λ (x : Receiving). x.noted) receives.2 ∙ one.noted in
     record {
       one = record {
         takes = subst (λ (s : State). TakesAt r.rate a number r.buffer s) (sym (ap (λ (x : Receiving). x.buffer) receives.2)) one.takes;
         rate = ap (λ (x : Receiving). x.rate) receives.2 ∙ one.rate;
         no_media_numbers = ap (λ (x : Receiving). x.no_media_numbers) receives.2 ∙ one.no_media_numbers;
+        noted = noted;
       };
       numbering = ap (λ (x : Receiving). x.numbering) receives.2 ∙ ap (λ (e : Extended). numbering_with r.numbering e low) is;
       running = ap (λ (x : Receiving). x.is_restarting) receives.2;
+      times = subst (AreTimesOf time_of) (sym noted) (still_at time_of r a number time times);
     }
+
+-- the first of these packets, and those after it
+first_time : (time_of : ℕ → ℕ) (a : Arrival) (arrivals : List Arrival) (number : Option ℕ) (numbers : List (Option ℕ)) → HaveTimes time_of (a ∷ arrivals) (number ∷ numbers)
+    → HasTime time_of a number × HaveTimes time_of arrivals numbers
+first_time time_of a arrivals None numbers have = (tt, have)
+first_time time_of a arrivals (Some n) numbers have = have
 
 one_more : (a : Arrival) (arrivals : List Arrival) (rate : ℕ) (s m t : State) (number : Option ℕ) (numbers : List (Option ℕ)) (ps : List Held)
     → TakesAt rate a number s m → ArriveAs s.depacketizer rate arrivals numbers ps → t ≡ after_pushes m ps
@@ -107,13 +150,15 @@ one_more a arrivals rate s m t None numbers ps takes arrive is = (ps, arrive, is
 one_more a arrivals rate s m t (Some n) numbers ps takes arrive is = (takes.0 ∷ ps, (takes.0, ps, refl, takes.1, arrive), is ∙ ap (λ (x : State). after_pushes x ps) takes.2)
 
 pub are_stretches : AreStretches
-are_stretches [] r t outcomes running on all = ([], refl, ap (λ (x : Receiving). x.buffer) all.1)
-are_stretches (a ∷ arrivals) r t outcomes running on all =
+are_stretches time_of [] r t outcomes running on times have all = ([], refl, ap (λ (x : Receiving). x.buffer) all.1)
+are_stretches time_of (a ∷ arrivals) r t outcomes running on times have all =
     let mid : Receiving = all.2 in
     let low : ℕ = a.header.sequence_number in
-    let one = one_of a r mid all.0 running on.0 all.4 in
+    let time = first_time time_of a arrivals (number_for r.numbering low) (numbers_for (numbering_after r.numbering low) (low_numbers arrivals)) have in
+    let one = one_of time_of a r mid all.0 running on.0 times time.0 all.4 in
     let numbering : mid.numbering ≡ numbering_after r.numbering low = one.numbering in
-    let later = are_stretches arrivals mid t all.1 one.running (subst (λ (n : Numbering). GoOn n (low_numbers arrivals)) (sym numbering) on.1) all.5 in
+    let later = are_stretches time_of arrivals mid t all.1 one.running (subst (λ (n : Numbering). GoOn n (low_numbers arrivals)) (sym numbering) on.1)
+    one.times (subst (λ (n : Numbering). HaveTimes time_of arrivals (numbers_for n (low_numbers arrivals))) (sym numbering) time.1) all.5 in
     let depacketizer : mid.buffer.depacketizer ≡ r.buffer.depacketizer = takes_depacketizer r.rate a (number_for r.numbering low) r.buffer mid.buffer one.one.takes in
     let arrive : ArriveAs r.buffer.depacketizer r.rate arrivals (numbers_for (numbering_after r.numbering low) (low_numbers arrivals)) later.0 =
     subst (λ (d : DepacketizerState). ArriveAs d r.rate arrivals (numbers_for (numbering_after r.numbering low) (low_numbers arrivals)) later.0) depacketizer
@@ -122,36 +167,42 @@ are_stretches (a ∷ arrivals) r t outcomes running on all =
     one_more a arrivals r.rate r.buffer mid.buffer t.buffer (number_for r.numbering low) (numbers_for (numbering_after r.numbering low) (low_numbers arrivals)) later.0 one.one.takes arrive later.2
 
 pub are_true_stretches : AreTrueStretches
-are_true_stretches forward backward first ts arrivals r t outcomes running kept fresh fits near lows all =
+are_true_stretches time_of forward backward first ts arrivals r t outcomes running times have kept fresh fits near lows all =
     let on : GoOn r.numbering (low_numbers arrivals) =
     subst (λ (ns : List ℕ). GoOn r.numbering ns) (sym lows) (subst (λ (n : Numbering). GoOn n (map low_bits (first ∷ ts))) (sym fresh) (none_restarts forward backward kept first ts fits near)) in
-    let stretch = are_stretches arrivals r t outcomes running on all in
     let numbers : numbers_for r.numbering (low_numbers arrivals) ≡ map (moved first) (first ∷ ts) =
     ap (λ (n : Numbering). numbers_for n (low_numbers arrivals)) fresh ∙ ap (λ (ns : List ℕ). numbers_for (no_numbers forward backward) ns) lows
     ∙ are_true_numbers forward backward kept first ts fits near in
+    let stretch = are_stretches time_of arrivals r t outcomes running on times (subst (HaveTimes time_of arrivals) (sym numbers) have) all in
     (stretch.0, subst (λ (ns : List (Option ℕ)). ArriveAs r.buffer.depacketizer r.rate arrivals ns stretch.0) numbers stretch.1, stretch.2)
 
 -- Rounds
 
 -- pushes of a sender that does not restart leave all but numbering, buffer, the packet that is kept and counters
-pub record Stay (lows : List ℕ) (r t : Receiving) : Type 0 where
+pub record Stay (time_of : ℕ → ℕ) (lows : List ℕ) (r t : Receiving) : Type 0 where
+  pub times : AreTimesOf time_of t.noted
   pub no_media_numbers : t.no_media_numbers ≡ r.no_media_numbers
   pub rate : t.rate ≡ r.rate
   pub numbering : t.numbering ≡ numbering_past r.numbering lows
   pub running : t.is_restarting ≡ false
 
-stay : (arrivals : List Arrival) (r t : Receiving) (outcomes : List Outcome) → r.is_restarting ≡ false → GoOn r.numbering (low_numbers arrivals)
-    → ReceivesAll arrivals r outcomes t → Stay (low_numbers arrivals) r t
-stay [] r t outcomes running on all = record {
+stay : (time_of : ℕ → ℕ) (arrivals : List Arrival) (r t : Receiving) (outcomes : List Outcome) → r.is_restarting ≡ false → GoOn r.numbering (low_numbers arrivals)
+    → AreTimesOf time_of r.noted → HaveTimes time_of arrivals (numbers_for r.numbering (low_numbers arrivals)) → ReceivesAll arrivals r outcomes t → Stay time_of (low_numbers arrivals) r t
+stay time_of [] r t outcomes running on times have all = record {
+  times = subst (λ (x : Receiving). AreTimesOf time_of x.noted) (sym all.1) times;
   running = ap (λ (x : Receiving). x.is_restarting) all.1 ∙ running;
   no_media_numbers = ap (λ (x : Receiving). x.no_media_numbers) all.1;
   rate = ap (λ (x : Receiving). x.rate) all.1;
   numbering = ap (λ (x : Receiving). x.numbering) all.1;
 }
-stay (a ∷ arrivals) r t outcomes running on all =
-    let one = one_of a r all.2 all.0 running on.0 all.4 in
-    let rest = stay arrivals all.2 t all.1 one.running (subst (λ (n : Numbering). GoOn n (low_numbers arrivals)) (sym one.numbering) on.1) all.5 in
+stay time_of (a ∷ arrivals) r t outcomes running on times have all =
+    let low : ℕ = a.header.sequence_number in
+    let time = first_time time_of a arrivals (number_for r.numbering low) (numbers_for (numbering_after r.numbering low) (low_numbers arrivals)) have in
+    let one = one_of time_of a r all.2 all.0 running on.0 times time.0 all.4 in
+    let rest = stay time_of arrivals all.2 t all.1 one.running (subst (λ (n : Numbering). GoOn n (low_numbers arrivals)) (sym one.numbering) on.1)
+    one.times (subst (λ (n : Numbering). HaveTimes time_of arrivals (numbers_for n (low_numbers arrivals))) (sym one.numbering) time.1) all.5 in
     record {
+      times = rest.times;
       no_media_numbers = rest.no_media_numbers ∙ one.one.no_media_numbers;
       rate = rest.rate ∙ one.one.rate;
       numbering = rest.numbering ∙ ap (λ (n : Numbering). numbering_past n (low_numbers arrivals)) one.numbering;
@@ -168,6 +219,7 @@ pub record IsTurn (wait : Option ℕ) (r : Receiving) (answer : Answer) (t : Rec
   pub turn : TurnWith wait r.buffer answer t.buffer
   pub no_media_numbers : t.no_media_numbers ≡ r.no_media_numbers
   pub rate : t.rate ≡ r.rate
+  pub noted : t.noted ≡ r.noted
   pub numbering : t.numbering ≡ r.numbering
   pub is_restarting : t.is_restarting ≡ r.is_restarting
 
@@ -176,6 +228,7 @@ turn_of None r answer t pops = record {
   turn = (pops.0, ap (λ (x : Receiving). x.buffer) pops.1);
   no_media_numbers = ap (λ (x : Receiving). x.no_media_numbers) pops.1;
   rate = ap (λ (x : Receiving). x.rate) pops.1;
+  noted = ap (λ (x : Receiving). x.noted) pops.1;
   numbering = ap (λ (x : Receiving). x.numbering) pops.1;
   is_restarting = ap (λ (x : Receiving). x.is_restarting) pops.1;
 }
@@ -183,24 +236,26 @@ turn_of (Some h) r answer t pops = record {
   turn = subst (λ (s : State). Pops (record r.buffer { hold_back = h }) answer s) (sym (ap (λ (x : Receiving). x.buffer) pops.2)) pops.1;
   no_media_numbers = ap (λ (x : Receiving). x.no_media_numbers) pops.2;
   rate = ap (λ (x : Receiving). x.rate) pops.2;
+  noted = ap (λ (x : Receiving). x.noted) pops.2;
   numbering = ap (λ (x : Receiving). x.numbering) pops.2;
   is_restarting = ap (λ (x : Receiving). x.is_restarting) pops.2;
 }
 
 pub are_chains : AreChains
-are_chains [] r t answers running none on does = (does.0, ap (λ (x : Receiving). x.buffer) does.1)
-are_chains (round ∷ rounds) r t answers running none on does =
+are_chains time_of [] r t answers running none on times have does = (does.0, ap (λ (x : Receiving). x.buffer) does.1)
+are_chains time_of (round ∷ rounds) r t answers running none on times have does =
     let mid : Receiving = does.1 in
     let after : Receiving = does.3 in
     let lows = low_numbers round.arrivals in
     let wait : Option ℕ = waiting_at (settled mid) round.pop_at in
-    let stretch = are_stretches round.arrivals r mid does.0 running on.0 does.6 in
-    let stays = stay round.arrivals r mid does.0 running on.0 does.6 in
+    let stretch = are_stretches time_of round.arrivals r mid does.0 running on.0 times have.0 does.6 in
+    let stays = stay time_of round.arrivals r mid does.0 running on.0 times have.0 does.6 in
     let none_noted : mid.no_media_numbers ≡ [] = stays.no_media_numbers ∙ none in
     let turn : IsTurn wait mid does.2 after = turn_of wait mid does.2 after (subst (λ (x : Receiving). PopsWith wait x does.2 after) (settled_none mid none_noted) does.7) in
     let rate : after.rate ≡ r.rate = turn.rate ∙ stays.rate in
     let numbering : after.numbering ≡ numbering_past r.numbering lows = turn.numbering ∙ stays.numbering in
-    let rest = are_chains rounds after t does.4 (turn.is_restarting ∙ stays.running) (turn.no_media_numbers ∙ none_noted) (subst (λ (n : Numbering). GoOnByRound n rounds) (sym numbering) on.1) does.8 in (
+    let rest = are_chains time_of rounds after t does.4 (turn.is_restarting ∙ stays.running) (turn.no_media_numbers ∙ none_noted) (subst (λ (n : Numbering). GoOnByRound n rounds) (sym numbering) on.1)
+    (subst (AreTimesOf time_of) (sym turn.noted) stays.times) (subst (λ (n : Numbering). HaveTimesByRound time_of n rounds) (sym numbering) have.1) does.8 in (
       stretch.0,
       wait,
       does.2,

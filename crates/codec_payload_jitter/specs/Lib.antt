@@ -1,7 +1,9 @@
 pub mod NoMediaNumbers
 pub mod Missing
+pub mod NotedTimes
 pub mod Numbers
 pub mod Pressure
 pub mod Receiving
+pub mod Restarts
 pub mod Runs
 pub mod Waiting

@@ -6,7 +6,7 @@ use Rattle.codec_payload_jitter.specs.declared.numbers.Extended.TheVariants as e
 use Rattle.codec_payload_jitter.specs.declared.numbers.WindowError.{WindowError}
 use Rattle.codec_payload_jitter.specs.declared.numbers.WindowError.TheVariants as errors
 
--- what is known of a stream's numbers: the greatest that was given; the latest packet that got none, where none got one
+-- what is known of a stream's numbers: the greatest that was given; the latest packet that got none, where no restart came
 -- since; and the windows: a packet may be less than `forward` ahead of the greatest, and at most `backward` behind it
 pub record Numbering : Type 0 where
   pub greatest : Option ℕ
@@ -118,9 +118,9 @@ abbrev pub greater : Option ℕ → ℕ → ℕ
 greater None x = x
 greater (Some g) x = max g x
 
--- what is known then
+-- what is known then: a packet within the windows leaves the one that is suspect
 abbrev pub numbering_with : Numbering → Extended → ℕ → Numbering
-numbering_with s (extended.Number x) n = record s { greatest = Some (greater s.greatest x); suspect = None }
+numbering_with s (extended.Number x) n = record s { greatest = Some (greater s.greatest x) }
 numbering_with s (extended.Restarted x) n = record s { greatest = Some (greater s.greatest x); suspect = None }
 numbering_with s extended.Suspect n = record s { suspect = Some n }
 numbering_with s extended.Spent n = s
@@ -181,11 +181,15 @@ before-first = refl
 pub starts-is_restarting : numbers_for (no_numbers 3000 1000) (50000 ∷ 30000 ∷ 30001 ∷ 30002 ∷ []) ≡ Some 115536 ∷ None ∷ Some 161073 ∷ Some 161074 ∷ []
 starts-is_restarting = refl
 
+-- also while packets of the former sender still come
+pub beside-former : numbers_for (no_numbers 3000 1000) (50000 ∷ 30000 ∷ 50001 ∷ 30001 ∷ []) ≡ Some 115536 ∷ None ∷ Some 115537 ∷ Some 161073 ∷ []
+beside-former = refl
+
 -- a packet from elsewhere
-pub from-elsewhere : numbers_for (no_numbers 3000 1000) (50000 ∷ 30000 ∷ 50001 ∷ 30001 ∷ []) ≡ Some 115536 ∷ None ∷ Some 115537 ∷ None ∷ []
+pub from-elsewhere : numbers_for (no_numbers 3000 1000) (50000 ∷ 30000 ∷ 50001 ∷ 50002 ∷ []) ≡ Some 115536 ∷ None ∷ Some 115537 ∷ Some 115538 ∷ []
 from-elsewhere = refl
 
--- the suspicion lasts until a number within the windows, or another suspect, comes
+-- the suspicion lasts until another suspect comes
 pub another-suspect : numbers_for (no_numbers 3000 1000) (50000 ∷ 30000 ∷ 10000 ∷ 30001 ∷ 30002 ∷ []) ≡ Some 115536 ∷ None ∷ None ∷ None ∷ Some 161074 ∷ []
 another-suspect = refl
 

@@ -1,5 +1,5 @@
 -- Pressure: while little room is left, pops wait for nothing, so no complete frame is evicted.
-use Rattle.std.specs.Prelude.{◌≡◌, ◌≢◌, ℕ, ◌<◌, Bool, Option, None, List, [], ◌∷◌, length}
+use Rattle.std.specs.Prelude.{◌≡◌, ◌≢◌, ℕ, ◌<◌, Bool, None, List, [], ◌∷◌, length}
 use Rattle.codec_payload_buffer.specs.Frames.{frames}
 use Rattle.codec_payload_jitter.specs.Receiving.{Receiving, Arrival, Receives, ReceivesAgain, Recovers, Notes, PopsWith, settled, waiting_at}
 use Rattle.codec_payload_jitter.specs.Runs.{Answer}

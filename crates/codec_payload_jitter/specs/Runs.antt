@@ -6,6 +6,7 @@ use Rattle.codec_payload_base.specs.declared.error.PacketError.{PacketError}
 use Rattle.codec_payload_buffer.specs.Release.{Release}
 use Rattle.codec_payload_buffer.specs.Steps.{State, IsArrived, Pops}
 use Rattle.codec_payload_buffer.specs.Stretches.{after_pushes}
+use Rattle.codec_payload_jitter.specs.NotedTimes.{AreTimesOf}
 use Rattle.codec_payload_jitter.specs.Numbers.{Numbering, numbering_after, IsNumbering, no_numbers, numbers_for, low_bits, moved, GoOn, StayNear}
 use Rattle.codec_payload_jitter.specs.Receiving.{Receiving, Arrival, Receives, meta_for, settled, waiting_at, PopsWith}
 use Rattle.codec_payload_jitter.specs.declared.outcome.Outcome.{Outcome}
@@ -28,18 +29,27 @@ ArriveAs depacketizer rate (a ∷ arrivals) (None ∷ numbers) ps = ArriveAs dep
 ArriveAs depacketizer rate (a ∷ arrivals) (Some n ∷ numbers) ps =
     (p : Held) × (rest : List Held) × (ps ≡ p ∷ rest) × IsArrived depacketizer (meta_for a.now rate a.header n) a.bytes p × ArriveAs depacketizer rate arrivals numbers rest
 
--- pushes into a jitter buffer that was told of no restart, of a sender that does not restart, are pushes into its buffer, under the numbers of the numbering
+-- packets of these numbers have the RTP times that are told; one without a number is not looked at
+abbrev pub HaveTimes : (ℕ → ℕ) → List Arrival → List (Option ℕ) → Type 0
+HaveTimes time_of [] numbers = Unit {0}
+HaveTimes time_of (a ∷ arrivals) [] = ⊥
+HaveTimes time_of (a ∷ arrivals) (None ∷ numbers) = HaveTimes time_of arrivals numbers
+HaveTimes time_of (a ∷ arrivals) (Some n ∷ numbers) = (a.header.timestamp ≡ time_of n) × HaveTimes time_of arrivals numbers
+
+-- pushes into a jitter buffer that was told of no restart, of a sender that does not restart and gives each number one RTP time,
+-- are pushes into its buffer, under the numbers of the numbering
 abbrev pub AreStretches : Type 0
 AreStretches =
-    (arrivals : List Arrival) (r t : Receiving) (outcomes : List Outcome) → r.is_restarting ≡ false → GoOn r.numbering (low_numbers arrivals)
+    (time_of : ℕ → ℕ) (arrivals : List Arrival) (r t : Receiving) (outcomes : List Outcome) → r.is_restarting ≡ false → GoOn r.numbering (low_numbers arrivals)
+    → AreTimesOf time_of r.noted → HaveTimes time_of arrivals (numbers_for r.numbering (low_numbers arrivals))
     → ReceivesAll arrivals r outcomes t
     → (ps : List Held) × ArriveAs r.buffer.depacketizer r.rate arrivals (numbers_for r.numbering (low_numbers arrivals)) ps × (t.buffer ≡ after_pushes r.buffer ps)
 
 -- and where its numbers stay near each other, under its true numbers, moved by one constant
 abbrev pub AreTrueStretches : Type 0
 AreTrueStretches =
-    (forward backward first : ℕ) (ts : List ℕ) (arrivals : List Arrival) (r t : Receiving) (outcomes : List Outcome)
-    → r.is_restarting ≡ false → IsNumbering (no_numbers forward backward) → r.numbering ≡ no_numbers forward backward → first + 65536 < 2 ^ 64 → StayNear forward backward first ts
+    (time_of : ℕ → ℕ) (forward backward first : ℕ) (ts : List ℕ) (arrivals : List Arrival) (r t : Receiving) (outcomes : List Outcome)
+    → r.is_restarting ≡ false → AreTimesOf time_of r.noted → HaveTimes time_of arrivals (map (moved first) (first ∷ ts)) → IsNumbering (no_numbers forward backward) → r.numbering ≡ no_numbers forward backward → first + 65536 < 2 ^ 64 → StayNear forward backward first ts
     → low_numbers arrivals ≡ map low_bits (first ∷ ts) → ReceivesAll arrivals r outcomes t
     → (ps : List Held) × ArriveAs r.buffer.depacketizer r.rate arrivals (map (moved first) (first ∷ ts)) ps × (t.buffer ≡ after_pushes r.buffer ps)
 
@@ -89,8 +99,15 @@ IsChain rate (round ∷ rounds) (numbers ∷ more) s answers t =
     (ps : List Held) × (wait : Option ℕ) × (answer : Answer) × (after : State) × (later : List Answer) × (answers ≡ answer ∷ later)
     × ArriveAs s.depacketizer rate round.arrivals numbers ps × TurnWith wait (after_pushes s ps) answer after × IsChain rate rounds more after later t
 
--- the rounds of a jitter buffer, of a sender that does not restart and without numbers that carry no media, are turns of its buffer, each pop with a `hold_back` of its own
+-- and each number has one RTP time in all of them
+abbrev pub HaveTimesByRound : (ℕ → ℕ) → Numbering → List Round → Type 0
+HaveTimesByRound time_of s [] = Unit {0}
+HaveTimesByRound time_of s (round ∷ rounds) =
+    HaveTimes time_of round.arrivals (numbers_for s (low_numbers round.arrivals)) × HaveTimesByRound time_of (numbering_past s (low_numbers round.arrivals)) rounds
+
+-- the rounds of a jitter buffer, of such a sender and without numbers that carry no media, are turns of its buffer, each pop with a `hold_back` of its own
 abbrev pub AreChains : Type 0
 AreChains =
-    (rounds : List Round) (r t : Receiving) (answers : List Answer) → r.is_restarting ≡ false → r.no_media_numbers ≡ [] → GoOnByRound r.numbering rounds → DoesRounds rounds r answers t
+    (time_of : ℕ → ℕ) (rounds : List Round) (r t : Receiving) (answers : List Answer) → r.is_restarting ≡ false → r.no_media_numbers ≡ [] → GoOnByRound r.numbering rounds
+    → AreTimesOf time_of r.noted → HaveTimesByRound time_of r.numbering rounds → DoesRounds rounds r answers t
     → IsChain r.rate rounds (numbers_by_round r.numbering rounds) r.buffer answers t.buffer

@@ -5,6 +5,7 @@
 pub mod jitter;
 pub mod missing;
 pub mod no_media_numbers;
+pub mod noted_times;
 pub mod numbers;
 pub mod outcome;
 mod theorems;

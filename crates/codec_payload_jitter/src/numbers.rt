@@ -1,7 +1,8 @@
 //! Sequence numbers of 16 bits, extended to numbers of 64 bits that do not wrap.
 
-ghost use Rattle.std.specs.Prelude.{◌≡◌, ◌≤◌, ◌<◌, ◌+◌, ◌%◌, None, IfSome};
-ghost use Rattle.codec_payload_jitter.specs.Numbers.{no_numbers, numbering_within, number_in, answer_for, answer_anew, without_restart, number_within, lowest_with, numbering_with, numbering_after, ahead, behind, follows_suspect};
+ghost use Rattle.std.specs.Prelude.{◌≡◌, ◌≤◌, ◌<◌, ◌+◌, ◌%◌, None, Some, IfSome};
+ghost use Rattle.codec_payload_jitter.specs.Numbers.{no_numbers, numbering_within, number_in, answer_for, answer_anew, without_restart, number_within, lowest_with, numbering_with, numbering_after, ahead, behind, follows_suspect, greater};
+ghost use Rattle.codec_payload_jitter.specs.Receiving.{kept_number};
 ghost use Rattle.codec_payload_jitter.specs.declared.numbers.Extended.TheVariants as extended;
 
 pub use crate::theorems::numbers_are_true;
@@ -21,8 +22,8 @@ pub enum Extended {
     Number(u64),
     /// The sender has restarted: the packet comes right after one that was suspect, and this is its number, above all others.
     Restarted(u64),
-    /// It is far from the greatest number, and gets none. Where the next packet that gets none is its successor, the sender
-    /// has restarted.
+    /// It is far from the greatest number, and gets none. If the next packet that gets none is its successor, the sender has
+    /// restarted.
     Suspect,
     /// Its number would need more than 64 bits. Nothing has changed.
     Spent,
@@ -56,12 +57,13 @@ pub enum WindowError {
 /// Let d be the distance from the greatest number so far to the number with the packet's low bits that is nearest to it. Where
 /// `-backward <= d < forward`, that is the packet's number; the first packet gets 65,536 and its low bits, so that those sent
 /// before it have numbers too. All others are suspect, until two come one after the other: then the sender has restarted, and
-/// its numbers go on above all that were given. A packet within the windows ends the suspicion.
+/// its numbers go on above all that were given. Packets within the windows between the two change nothing (RFC 3550, appendix
+/// A.1).
 #[derive(Clone, Copy, Debug)]
 pub struct SequenceNumbers {
     /// The greatest number that was given.
     greatest: Option<u64>,
-    /// The latest packet that got no number, if none got one since.
+    /// The latest packet that got no number, if no restart came since.
     suspect: Option<u16>,
     forward: u16,
     backward: u16,
@@ -146,16 +148,32 @@ impl SequenceNumbers {
         ensures { self.new ≡ numbering_with self.old answer low }
     {
         match answer {
-            Extended::Number(number) | Extended::Restarted(number) => {
-                self.greatest = Some(match self.greatest {
-                    Some(greatest) => greatest.max(number),
-                    None => number,
-                });
+            Extended::Number(number) => self.raise_to(number),
+            Extended::Restarted(number) => {
+                self.raise_to(number);
                 self.suspect = None;
             }
             Extended::Suspect => self.suspect = Some(low),
             Extended::Spent => {}
         }
+    }
+
+    /// A number was given.
+    fn raise_to(&mut self, number: u64)
+        requires far { self.old.greatest ≡ None → 65536 ≤ number }
+        ensures { self.new ≡ record self.old { greatest = Some (greater self.old.greatest number) } }
+    {
+        self.greatest = Some(match self.greatest {
+            Some(greatest) => greatest.max(number),
+            None => number,
+        });
+    }
+
+    /// How far behind the greatest number a packet may be.
+    pub(crate) fn backward(&self) -> u16
+        ensures { result ≡ self.now.backward }
+    {
+        self.backward
     }
 
     /// The greatest number that was given.
@@ -251,4 +269,11 @@ fn follows(suspect: Option<u16>, low: u16) -> bool
         Some(suspect) => (u32::from(suspect) + 1) % 65_536 == u32::from(low),
         None => false,
     }
+}
+
+/// The number of a packet that carries `low` and came before the one of that number: the greatest below it.
+pub(crate) fn kept_number(number: u64, low: u16) -> u64
+    ensures { result ≡ kept_number number low }
+{
+    number.saturating_sub((number % 65_536 + 65_536 - u64::from(low)) % 65_536)
 }

@@ -3,6 +3,7 @@
 ghost use Rattle.codec_payload_jitter.specs.Numbers.{AreTrueNumbers, NoneRestarts, NeverMix, AreTrueAnew};
 ghost use Rattle.codec_payload_jitter.specs.NoMediaNumbers.{PassesNoMediaAlone, PassesInPlace};
 ghost use Rattle.codec_payload_jitter.specs.Pressure.{SparesCompleteFrames};
+ghost use Rattle.codec_payload_jitter.specs.Restarts.{NeverRestarts};
 ghost use Rattle.codec_payload_jitter.specs.Runs.{AreChains, AreStretches, AreTrueStretches};
 
 /// Where the true numbers of a sender's packets each lie within the windows of the greatest true number so far, the numbers
@@ -21,7 +22,13 @@ pub fn passes_no_media_alone()
     ensures in_place { PassesInPlace }
 {}
 
-/// Pushes into a jitter buffer, of a sender that does not restart, are pushes into its buffer, under the numbers that are
+/// A sender that gives each number one RTP time, and whose packets come within the windows, is never reported as restarted,
+/// whatever is lost, repeated, delayed, retransmitted or reordered.
+pub fn senders_never_restart()
+    ensures { NeverRestarts }
+{}
+
+/// Pushes into a jitter buffer, of a sender that does not restart and gives each number one RTP time, are pushes into its buffer, under the numbers that are
 /// extended; and where the true numbers each lie within the windows of the greatest true number so far, under the true ones
 /// plus one constant. So what is proved of pushes into a buffer holds of those into a jitter buffer.
 pub fn receives_are_pushes()

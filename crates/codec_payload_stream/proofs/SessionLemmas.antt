@@ -1,7 +1,7 @@
 -- Every datagram is accounted for.
 use Rattle.std.proofs.Common.{◌≡◌, ◌⊎◌, ◌∙◌, refl, ap, sym, subst, inl, inr, cond, ℕ, ◌+◌, ◌%◌, ◌^◌, List, [], ◌∷◌, Bool, true, false, Option, Some, None, Result, Ok, Err, arith, ◌&&◌, not}
 use Rattle.codec_payload_base.specs.declared.wire.Ticks.{Ticks}
-use Rattle.codec_payload_jitter.specs.Receiving.{Receiving, Arrival, Confirms, ReceivesAs, ReceivesAgainAs, RecoversAs, RecoversIf, NotesAs}
+use Rattle.codec_payload_jitter.specs.Receiving.{Receiving, Arrival, Confirms, GoesOn, ReceivesAs, ReceivesAgainAs, RecoversAs, RecoversIf, NotesAs}
 use Rattle.codec_payload_jitter.specs.Receiving.{Accepts, counted, counted_again, counted_in_again, is_stored, may_recover, next, number_again}
 use Rattle.codec_payload_jitter.specs.declared.numbers.Extended.{Extended}
 use Rattle.codec_payload_jitter.specs.declared.numbers.Extended.TheVariants as extended
@@ -70,9 +70,12 @@ counted_balance c outcomes.Rtcp = refl
 accepts_balance : (a : Arrival) (n : ℕ) (r t : Receiving) (o : Outcome) → Accepts a n r o t → balance_of t ≡ one_pushed (balance_of r)
 accepts_balance a n r t o got = ap balance_of got.3 ∙ counted_balance r.counters o
 
+goes_on_balance : (n : ℕ) (a : Arrival) (r t : Receiving) (o : Outcome) → GoesOn n a r o t → balance_of t ≡ one_pushed (balance_of r)
+goes_on_balance n a r t o got = ap balance_of got.2 ∙ accepts_balance a n r got.0 o got.1
+
 receives_as_balance : (answer : Extended) (a : Arrival) (r t : Receiving) (o : Outcome) → ReceivesAs answer a r o t → balance_of t ≡ one_pushed (balance_of r)
-receives_as_balance (extended.Number n) a r t o got = ap balance_of got.2 ∙ accepts_balance a n r got.0 o got.1
-receives_as_balance (extended.Restarted n) a r t o got = confirms_balance n got.1.kept _ t got.2 got.4 ∙ accepts_balance a n r got.1 got.0 got.3
+receives_as_balance (extended.Number n) a r t o got = goes_on_balance n a r t o got
+receives_as_balance (extended.Restarted n) a r t o got = confirms_balance n got.1.kept _ t got.2 got.4 ∙ goes_on_balance n a r got.1 got.0 got.3
 receives_as_balance extended.Suspect a r t o got = ap balance_of got.1
 receives_as_balance extended.Spent a r t o got = ap balance_of got.1
 
@@ -92,7 +95,7 @@ in_again_balance c o = by_test (is_stored o)
 receives_again_balance : (number : Option ℕ) (a : Arrival) (r t : Receiving) (o : Outcome) → ReceivesAgainAs number a r o t → balance_of t ≡ one_pushed (balance_of r)
 receives_again_balance None a r t o got = ap balance_of got.1
 receives_again_balance (Some n) a r t o got =
-    ap balance_of got.2 ∙ in_again_balance got.0.counters o ∙ ap balance_of got.1.2 ∙ accepts_balance a n r got.1.0 o got.1.1
+    ap balance_of got.2 ∙ in_again_balance got.0.counters o ∙ goes_on_balance n a r got.0 o got.1
 
 -- a packet that another one carried went in or it did not
 abbrev pub Recovered : Receiving → Receiving → Type 0
@@ -101,7 +104,7 @@ Recovered r t = (balance_of t ≡ balance_of r) ⊎ (balance_of t ≡ one_recove
 recovers_if_balance : (b : Bool) (n : ℕ) (a : Arrival) (r t : Receiving) (went_in : Bool) → RecoversIf b n a r went_in t → Recovered r t
 recovers_if_balance false n a r t went_in got = inl (ap balance_of got.1)
 recovers_if_balance true n a r t went_in got =
-    let in_mid : balance_of got.1 ≡ one_pushed (balance_of r) = ap balance_of got.2.2 ∙ accepts_balance a n r got.2.0 got.0 got.2.1 in
+    let in_mid : balance_of got.1 ≡ one_pushed (balance_of r) = accepts_balance a n r got.1 got.0 got.2 in
     inr (ap balance_of got.4 ∙ ap (λ (b : Balance). record { pushed = b.pushed; recovered = next b.recovered }) in_mid)
 
 recovers_as_balance : (number : Option ℕ) (a : Arrival) (r t : Receiving) (went_in : Bool) → RecoversAs number a r went_in t → Recovered r t

@@ -1,5 +1,5 @@
 -- What comes to a receiver, as the events that its buffer meets.
-use Rattle.std.proofs.Common.{◌≡◌, ◌∙◌, refl, sym, ap, subst, ℕ, zero, suc, ◌+◌, ◌%◌, ◌^◌, ◌<◌, ◌⊎◌, inl, inr, List, [], ◌∷◌, ◌++◌, Bool, true, Option, Some, None, Ok, Err, length, arith}
+use Rattle.std.proofs.Common.{◌≡◌, ◌∙◌, refl, sym, ap, subst, ℕ, zero, suc, ◌+◌, ◌-◌, ◌%◌, ◌^◌, ◌<◌, ◌⊎◌, inl, inr, List, [], ◌∷◌, ◌++◌, Bool, true, Option, Some, None, Ok, Err, length, arith}
 use Rattle.std.specs.Prelude.{slice_get}
 use Rattle.std.proofs.lemmas.Option.{same_Some}
 use Rattle.codec_payload_buffer.proofs.MemberLemmas.{IsIn}
@@ -11,6 +11,7 @@ use Rattle.codec_payload_runs.specs.Headline.{ArePushesBy, InOrder}
 use Rattle.codec_payload_send.specs.Packets.{Packet, AreNumbered}
 use Rattle.codec_payload_runs.specs.Schedule.{Answer}
 use Rattle.codec_payload_runs.specs.SentStream.{SentUnit}
+use Rattle.codec_payload_jitter.specs.NotedTimes.{AreTimesOf}
 use Rattle.codec_payload_jitter.specs.Numbers.{Numbering, answer_for, numbering_after}
 use Rattle.codec_payload_jitter.specs.declared.numbers.Extended.TheVariants as extended
 use Rattle.codec_payload_sender.specs.declared.sender.Stream.{Stream}
@@ -41,6 +42,20 @@ packet_at_index stream first (q ∷ qs) (d ∷ ds) (suc k) bytes are numbered th
     let rest = packet_at_index stream (first + 1) qs ds k bytes are.1 numbered.1 there in
     (rest.0, rest.1, rest.2, omega (arith, rest.3))
 
+-- the RTP times of these packets, by their numbers from `first` on
+abbrev pub time_in : List Packet → ℕ → ℕ
+time_in [] n = 0
+time_in (q ∷ packets) zero = q.rtp_time
+time_in (q ∷ packets) (suc n) = time_in packets n
+
+abbrev pub times_from : ℕ → List Packet → ℕ → ℕ
+times_from first packets n = time_in packets (n - first)
+
+time_at : (packets : List Packet) (k : ℕ) (q : Packet) → slice_get packets k ≡ Some q → q.rtp_time ≡ time_in packets k
+time_at [] k q there = absurd (cc)
+time_at (p ∷ packets) zero q there = ap (λ (x : Packet). x.rtp_time) (sym (same_Some p q there))
+time_at (p ∷ packets) (suc k) q there = time_at packets k q there
+
 -- what the buffer meets of these steps
 pub record IsMet (clock_rate : ℕ) (packets : List Packet) (all_steps : List DatagramStep) (s : Session) (answers : List Answer) (t : Session) : Type 0 where
   pub events : List Event
@@ -50,36 +65,38 @@ pub record IsMet (clock_rate : ℕ) (packets : List Packet) (all_steps : List Da
 module _ (stream : Stream) (types : (stream.payload_type < 64) ⊎ (95 < stream.payload_type)) (first : ℕ) (packets : List Packet) (datagrams : List (List ℕ))
     (are : AreDatagrams stream packets datagrams) (numbered : AreNumbered first packets) where
   pub met : (all_steps : List DatagramStep) (s t : Session) (answers : List Answer) → IsListening stream s
-      → AllNumbered first s.packets.numbering (delivered all_steps) → Takes all_steps datagrams s answers t
+      → AllNumbered first s.packets.numbering (delivered all_steps) → AreTimesOf (times_from first packets) s.packets.noted → Takes all_steps datagrams s answers t
       → IsMet stream.clock_rate packets all_steps s answers t
-  met [] s t answers listening numbers takes = record { events = []; meets = (takes.0, ap (λ (x : Session). x.packets.buffer) takes.1); brings = refl }
-  met (steps.Send i ∷ later) s t answers listening numbers takes =
-      let rest = met later s t answers listening numbers takes in
+  met [] s t answers listening numbers times takes = record { events = []; meets = (takes.0, ap (λ (x : Session). x.packets.buffer) takes.1); brings = refl }
+  met (steps.Send i ∷ later) s t answers listening numbers times takes =
+      let rest = met later s t answers listening numbers times takes in
       record { events = rest.events; meets = rest.meets; brings = rest.brings }
-  met (steps.Deliver k now ∷ later) s t answers listening numbers takes =
+  met (steps.Deliver k now ∷ later) s t answers listening numbers times takes =
       let mid : Session = takes.3 in
       let p = packet_at_index stream first packets datagrams k takes.0 are numbered takes.1 in
       let q : Packet = p.0 in
       let number : answer_for s.packets.numbering (q.number % 2 ^ 16) ≡ extended.Number q.number =
       subst (λ (n : ℕ). answer_for s.packets.numbering (n % 2 ^ 16) ≡ extended.Number n) (sym p.3) numbers.0 in
-      let one = pushes stream now q takes.0 s mid takes.2 types listening p.2 number takes.4 in
+      let place : k ≡ q.number - first = omega (arith, p.3) in
+      let time : q.rtp_time ≡ times_from first packets q.number = time_at packets k q p.1 ∙ ap (time_in packets) place in
+      let one = pushes (times_from first packets) stream now q takes.0 s mid takes.2 types listening p.2 number times time takes.4 in
       let numbering : mid.packets.numbering ≡ numbering_after s.packets.numbering ((first + k) % 2 ^ 16) = one.numbering ∙ ap (λ (n : ℕ). numbering_after s.packets.numbering (n % 2 ^ 16)) p.3 in
-      let rest = met later mid t answers one.listening (subst (λ (n : Numbering). AllNumbered first n (delivered later)) (sym numbering) numbers.1) takes.5 in
+      let rest = met later mid t answers one.listening (subst (λ (n : Numbering). AllNumbered first n (delivered later)) (sym numbering) numbers.1) one.times takes.5 in
       record {
         events = Arrives k one.meta ∷ rest.events;
         meets = (q, p.1, one.tells, subst (λ (b : State). Meets stream.clock_rate packets rest.events b answers t.packets.buffer) one.buffer rest.meets);
         brings = (one.meta, rest.events, refl, one.received, subst (λ (b : Bool). Brings b later rest.events) one.ended rest.brings);
       }
-  met (steps.Pop now ∷ later) s t answers listening numbers takes =
+  met (steps.Pop now ∷ later) s t answers listening numbers times takes =
       let mid : Session = takes.2 in
       let one = pops_as stream now takes.0 s mid listening takes.4 takes.5 in
-      let rest = met later mid t takes.1 one.listening (subst (λ (n : Numbering). AllNumbered first n (delivered later)) (sym one.numbering) numbers) takes.6 in
+      let rest = met later mid t takes.1 one.listening (subst (λ (n : Numbering). AllNumbered first n (delivered later)) (sym one.numbering) numbers) (subst (AreTimesOf (times_from first packets)) (sym one.noted) times) takes.6 in
       record {
         events = Asked one.wait ∷ rest.events;
         meets = (takes.0, takes.1, mid.packets.buffer, takes.3, one.pops, rest.meets);
         brings = (one.wait, rest.events, refl, one.at_end, subst (λ (b : Bool). Brings b later rest.events) one.ended rest.brings);
       }
-  met (steps.Finish ∷ later) s t answers listening numbers takes =
+  met (steps.Finish ∷ later) s t answers listening numbers times takes =
       let at_end : takes.0 ≡ ended s = finishes_as stream s takes.0 listening takes.1 in
       let rest = met later (ended s) t answers (record {
         payload_type = listening.payload_type;
@@ -90,7 +107,7 @@ module _ (stream : Stream) (types : (stream.payload_type < 64) ⊎ (95 < stream.
         running = refl;
         none_noted = listening.none_noted;
         of_codec = listening.of_codec;
-      }) numbers (subst (λ (x : Session). Takes later datagrams x answers t) at_end takes.2) in
+      }) numbers times (subst (λ (x : Session). Takes later datagrams x answers t) at_end takes.2) in
       record { events = rest.events; meets = rest.meets; brings = rest.brings }
 
 -- Where all comes first

@@ -13,9 +13,12 @@ use Rattle.codec_payload_runs.specs.Arrivals.{PopsWaiting, Tells}
 use Rattle.codec_payload_send.specs.Packets.{Packet}
 use Rattle.codec_payload_runs.specs.Schedule.{Answer, RunState, run_state}
 use Rattle.codec_payload_jitter.specs.NoMediaNumbers.{passed_no_media, no_media_left}
-use Rattle.codec_payload_jitter.specs.Numbers.{Numbering, answer_for, numbering_after, numbering_with, without_restart}
-use Rattle.codec_payload_jitter.specs.Receiving.{Arrival, PopsWith, Receives, ReceivesAs, Receiving, answer_in, is_starting, meta_for, settled, waiting_at}
+use Rattle.codec_payload_jitter.specs.NotedTimes.{AreTimesOf, noted_with}
+use Rattle.codec_payload_jitter.specs.Numbers.{Numbering, answer_for, numbering_after, numbering_with}
+use Rattle.codec_payload_jitter.specs.Receiving.{Arrival, GoesOn, PopsWith, Receives, ReceivesAs, Receiving, answer_to, is_starting, meta_for, settled, waiting_at, with_noted}
 use Rattle.codec_payload_jitter.specs.Waiting.{most_held_back}
+use Rattle.codec_payload_jitter.proofs.RestartLemmas.{answer_to_is, still_times}
+use Rattle.codec_payload_jitter.specs.declared.noted_times.NotedTime.{NotedTime}
 use Rattle.codec_payload_jitter.specs.declared.numbers.Extended.{Extended}
 use Rattle.codec_payload_jitter.specs.declared.numbers.Extended.TheVariants as extended
 use Rattle.codec_payload_jitter.specs.declared.outcome.Outcome.{Outcome}
@@ -86,16 +89,9 @@ finishes_as stream s t listening finishes =
     let stays : SettlesOn None finishes.0 s finishes.1 = subst (λ (o : Option Candidate). SettlesOn o finishes.0 s finishes.1) none finishes.2 in
     finishes.3 ∙ ap ended stays.1
 
--- a number within the windows is that of the packet, whether the stream has ended or not
-answer_is : (r : Receiving) (low n : ℕ) → r.is_restarting ≡ false → answer_for r.numbering low ≡ extended.Number n → answer_in r low ≡ extended.Number n
-answer_is r low n running is = rw running (by_ended r.ended)
-  where
-    by_ended : (b : Bool) → cond b (without_restart (answer_for r.numbering low)) (answer_for r.numbering low) ≡ extended.Number n
-    by_ended true = ap without_restart is
-    by_ended false = is
-
--- a push of the packet of that number
-pub record TakesIn (n : ℕ) (a : Arrival) (r t : Receiving) : Type 0 where
+-- a push of the packet of that number, which has the RTP time of its number
+pub record TakesIn (time_of : ℕ → ℕ) (n : ℕ) (a : Arrival) (r t : Receiving) : Type 0 where
+  pub times : AreTimesOf time_of t.noted
   pub buffer : t.buffer ≡ pushed r.buffer (arrived r.buffer.depacketizer (meta_for a.now r.rate a.header n) a.bytes)
   pub numbering : t.numbering ≡ numbering_after r.numbering a.header.sequence_number
   pub rate : t.rate ≡ r.rate
@@ -103,18 +99,22 @@ pub record TakesIn (n : ℕ) (a : Arrival) (r t : Receiving) : Type 0 where
   pub no_media_numbers : t.no_media_numbers ≡ r.no_media_numbers
   pub ended : t.ended ≡ r.ended
 
-takes_in : (n : ℕ) (a : Arrival) (r t : Receiving) (outcome : Outcome) → r.is_restarting ≡ false → is_built_in_depacketizer r.buffer.depacketizer ≡ true
-    → answer_for r.numbering a.header.sequence_number ≡ extended.Number n
-    → Receives a r outcome t → TakesIn n a r t
-takes_in n a r t outcome running of_codec numbered receives =
+takes_in : (time_of : ℕ → ℕ) (n : ℕ) (a : Arrival) (r t : Receiving) (outcome : Outcome) → r.is_restarting ≡ false → is_built_in_depacketizer r.buffer.depacketizer ≡ true
+    → answer_for r.numbering a.header.sequence_number ≡ extended.Number n → AreTimesOf time_of r.noted → a.header.timestamp ≡ time_of n
+    → Receives a r outcome t → TakesIn time_of n a r t
+takes_in time_of n a r t outcome running of_codec numbered times time receives =
     let low : ℕ = a.header.sequence_number in
-    let is : answer_in r low ≡ extended.Number n = answer_is r low n running numbered in
+    let is : answer_to r a.header ≡ extended.Number n = answer_to_is time_of r a.header n running times numbered time in
     let mid : Receiving = receives.0 in
-    let went = subst (λ (e : Extended). ReceivesAs e a r outcome mid) is receives.1 in
-    let trusted : mid ≡ record went.0 { kept = None } = went.2 in
+    let went : GoesOn n a r outcome mid = subst (λ (e : Extended). ReceivesAs e a r outcome mid) is receives.1 in
+    let trusted : mid ≡ with_noted n a went.0 = went.2 in
     let accepted = went.1.3 in
     let packet : went.1.1.0 ≡ arrived r.buffer.depacketizer (meta_for a.now r.rate a.header n) a.bytes = went.1.1.1.2 of_codec in
+    let x : NotedTime = record { number = n; time = a.header.timestamp } in
+    let noted : t.noted ≡ noted_with r.numbering.backward r.noted x =
+    ap (λ (y : Receiving). y.noted) receives.2 ∙ (ap (λ (y : Receiving). y.noted) trusted ∙ ap (λ (y : Receiving). noted_with y.numbering.backward y.noted x) accepted) in
     record {
+      times = subst (AreTimesOf time_of) (sym noted) (still_times time_of r.numbering.backward r.noted x time times);
       buffer = ap (λ (x : Receiving). x.buffer) receives.2 ∙ (ap (λ (x : Receiving). x.buffer) trusted ∙ (ap (λ (x : Receiving). x.buffer) accepted ∙ (went.1.1.2 ∙ ap (pushed r.buffer) packet)));
       numbering = ap (λ (x : Receiving). x.numbering) receives.2 ∙ ap (λ (e : Extended). numbering_with r.numbering e low) (is ∙ sym numbered);
       rate = ap (λ (x : Receiving). x.rate) receives.2 ∙ (ap (λ (x : Receiving). x.rate) trusted ∙ ap (λ (x : Receiving). x.rate) accepted);
@@ -124,7 +124,8 @@ takes_in n a r t outcome running of_codec numbered receives =
     }
 
 -- a datagram of the sender is a push of its packet
-pub record IsPushed (stream : Stream) (now : Ticks) (q : Packet) (s t : Session) : Type 0 where
+pub record IsPushed (time_of : ℕ → ℕ) (stream : Stream) (now : Ticks) (q : Packet) (s t : Session) : Type 0 where
+  pub times : AreTimesOf time_of t.packets.noted
   pub meta : RtpMeta
   pub tells : Tells stream.clock_rate q meta
   pub received : meta.received ≡ now
@@ -133,20 +134,22 @@ pub record IsPushed (stream : Stream) (now : Ticks) (q : Packet) (s t : Session)
   pub listening : IsListening stream t
   pub ended : t.packets.ended ≡ s.packets.ended
 
-pub pushes : (stream : Stream) (now : Ticks) (q : Packet) (bytes : List ℕ) (s t : Session) (receipt : Receipt) → (stream.payload_type < 64)
+pub pushes : (time_of : ℕ → ℕ) (stream : Stream) (now : Ticks) (q : Packet) (bytes : List ℕ) (s t : Session) (receipt : Receipt) → (stream.payload_type < 64)
     ⊎ (95 < stream.payload_type) → IsListening stream s → ReadsAs stream q bytes
-    → answer_for s.packets.numbering (q.number % 2 ^ 16) ≡ extended.Number q.number → Delivers now bytes s receipt t → IsPushed stream now q s t
-pushes stream now q bytes s t receipt types listening reads numbered delivers =
+    → answer_for s.packets.numbering (q.number % 2 ^ 16) ≡ extended.Number q.number → AreTimesOf time_of s.packets.noted → q.rtp_time ≡ time_of q.number
+    → Delivers now bytes s receipt t → IsPushed time_of stream now q s t
+pushes time_of stream now q bytes s t receipt types listening reads numbered times time delivers =
     let is : datagram_at s.stream s.ssrc bytes ≡ WithMedia (packet_at stream q) =
     datagram_is s.stream s.ssrc stream q bytes reads listening.payload_type types (same_ssrc stream s listening) listening.not_again in
     let hears : Hears now (WithMedia (packet_at stream q)) s receipt t =
     subst (λ (d : Datagram). Hears now d s receipt t) is (heard now (datagram_at s.stream s.ssrc bytes) s t receipt delivers.0 (heard_at_once stream now bytes s t receipt listening delivers)) in
     let a : Arrival = record { now = now; header = header_for s.stream (packet_at stream q).header; bytes = q.payload } in
-    let one = takes_in q.number a s.packets hears.packets hears.outcome listening.running listening.of_codec numbered hears.takes in
+    let one = takes_in time_of q.number a s.packets hears.packets hears.outcome listening.running listening.of_codec numbered times time hears.takes in
     let meta : RtpMeta = meta_for now s.packets.rate a.header q.number in
     let packets : t.packets ≡ hears.packets = ap (λ (x : Session). x.packets) hears.left in
     let buffer : t.packets.buffer ≡ pushed s.packets.buffer (arrived s.packets.buffer.depacketizer meta q.payload) = ap (λ (x : Receiving). x.buffer) packets ∙ one.buffer in
     record {
+      times = subst (λ (x : Receiving). AreTimesOf time_of x.noted) (sym packets) one.times;
       meta = meta;
       tells = record {
         number = refl;
@@ -188,6 +191,7 @@ pub record IsPopped (stream : Stream) (now : Ticks) (answer : Answer) (s t : Ses
   pub wait : Option ℕ
   pub at_end : s.packets.ended ≡ true → wait ≡ Some 0
   pub pops : PopsWaiting wait s.packets.buffer answer t.packets.buffer
+  pub noted : t.packets.noted ≡ s.packets.noted
   pub numbering : t.packets.numbering ≡ s.packets.numbering
   pub listening : IsListening stream t
   pub ended : t.packets.ended ≡ s.packets.ended
@@ -198,6 +202,7 @@ pub record IsTurn (wait : Option ℕ) (r : Receiving) (answer : Answer) (t : Rec
   pub of_codec : is_built_in_depacketizer t.buffer.depacketizer ≡ true
   pub no_media_numbers : t.no_media_numbers ≡ r.no_media_numbers
   pub rate : t.rate ≡ r.rate
+  pub noted : t.noted ≡ r.noted
   pub numbering : t.numbering ≡ r.numbering
   pub is_restarting : t.is_restarting ≡ r.is_restarting
   pub ended : t.ended ≡ r.ended
@@ -209,6 +214,7 @@ turn_of None r answer t of_codec not_memory pops = record {
   of_codec = ap (λ (x : Receiving). is_built_in_depacketizer x.buffer.depacketizer) pops.1 ∙ of_codec;
   no_media_numbers = ap (λ (x : Receiving). x.no_media_numbers) pops.1;
   rate = ap (λ (x : Receiving). x.rate) pops.1;
+  noted = ap (λ (x : Receiving). x.noted) pops.1;
   numbering = ap (λ (x : Receiving). x.numbering) pops.1;
   is_restarting = ap (λ (x : Receiving). x.is_restarting) pops.1;
   ended = ap (λ (x : Receiving). x.ended) pops.1;
@@ -218,6 +224,7 @@ turn_of (Some h) r answer t of_codec not_memory pops = record {
   of_codec = ap (λ (x : Receiving). is_built_in_depacketizer x.buffer.depacketizer) pops.2 ∙ pop_stays (record r.buffer { hold_back = h }) pops.0 answer of_codec not_memory pops.1;
   no_media_numbers = ap (λ (x : Receiving). x.no_media_numbers) pops.2;
   rate = ap (λ (x : Receiving). x.rate) pops.2;
+  noted = ap (λ (x : Receiving). x.noted) pops.2;
   numbering = ap (λ (x : Receiving). x.numbering) pops.2;
   is_restarting = ap (λ (x : Receiving). x.is_restarting) pops.2;
   ended = ap (λ (x : Receiving). x.ended) pops.2;
@@ -241,6 +248,7 @@ pops_as stream now answer s t listening not_memory popped =
       wait = wait;
       at_end = waits_for_nothing r now.0;
       pops = subst (λ (x : Receiving). PopsWaiting wait r.buffer answer x.buffer) (sym packets) turn.pops;
+      noted = ap (λ (x : Receiving). x.noted) packets ∙ turn.noted;
       numbering = ap (λ (x : Receiving). x.numbering) packets ∙ turn.numbering;
       listening = record {
         payload_type = ap (λ (x : Session). x.stream.payload_type) popped.2 ∙ listening.payload_type;

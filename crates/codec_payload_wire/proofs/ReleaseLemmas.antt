@@ -16,13 +16,14 @@ use Rattle.codec_payload_runs.specs.Schedule.{Answer, RunState}
 use Rattle.codec_payload_send.specs.Sending.{Sample}
 use Rattle.codec_payload_runs.specs.ReportedIds.{read_by}
 use Rattle.codec_payload_runs.specs.Units.{payloads_by, may_split}
+use Rattle.codec_payload_jitter.specs.NotedTimes.{AreTimesOf}
 use Rattle.codec_payload_jitter.proofs.NumbersLemmas.{are_true_numbers, none_restarts}
 use Rattle.codec_payload_jitter.specs.Numbers.{StayNear, GoOn, IsNumbering, Numbering, answer_for, numbering_after, is_restart, low_bits, moved, no_numbers, number_for, number_in, numbers_for}
 use Rattle.codec_payload_jitter.specs.declared.numbers.Extended.{Extended}
 use Rattle.codec_payload_jitter.specs.declared.numbers.Extended.TheVariants as extended
 use Rattle.codec_payload_sender.specs.Senders.{Sending}
 use Rattle.codec_payload_stream.specs.Sessions.{Session}
-use Rattle.codec_payload_wire.proofs.EventLemmas.{Brings, IsMet, all_told, delivery_of, met, order_told, split_at_end}
+use Rattle.codec_payload_wire.proofs.EventLemmas.{Brings, IsMet, all_told, delivery_of, met, order_told, split_at_end, times_from}
 use Rattle.codec_payload_wire.proofs.NewReceivers.{IsBegun, new_is_begun}
 use Rattle.codec_payload_wire.proofs.ReceivingLemmas.{AllNumbered, IsListening}
 use Rattle.codec_payload_wire.proofs.SendingLemmas.{SendsRun, running, same_count, sends_run}
@@ -189,8 +190,11 @@ module _ (samples : List Sample) (all_steps : List DatagramStep) (sender : Sendi
   sent : SendsRun receiver.packets.buffer sender.stream sender.mtu first 0 samples all_steps (begins sender receiver) t []
   sent = sends_from first (first_small forward backward number (delivered received) low within.within) (first_low forward backward sender.stream.number (delivered received) within.within)
 
+  nothing_noted : AreTimesOf (times_from first sent.all) receiver.packets.noted
+  nothing_noted = subst (λ (x : Session). AreTimesOf (times_from first sent.all) x.packets.noted) (sym begun.is) (λ k d below. absurd (omega (arith, below)))
+
   come : IsMet rate sent.all received receiver t.pops t.session
-  come = met sender.stream within.one_stream.not_rtcp first sent.all t.datagrams sent.at.reads sent.at.numbered received receiver t.session t.pops listening numbers takes
+  come = met sender.stream within.one_stream.not_rtcp first sent.all t.datagrams sent.at.reads sent.at.numbered received receiver t.session t.pops listening numbers nothing_noted takes
 
   abbrev start : RunState
   start = running receiver.packets.buffer first rate sender []

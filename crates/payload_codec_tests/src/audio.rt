@@ -1,118 +1,332 @@
-//! The worked examples of the audio formats: what a new packetizer or depacketizer of a format answers.
+//! The worked examples of the audio formats.
 
-mod amr_wb;
-mod plain;
-mod tele;
-
-use crate::tables::{Frame, assert_received, assert_sent, packetize};
+use crate::asserts::{
+    Frame, assert_frames, assert_printed, assert_received, assert_same, assert_sent,
+};
 use codec_payload_audio::amr_wb::{AmrWbDepacketizer, AmrWbPacketizer};
 use codec_payload_audio::plain::{
     ComfortNoiseDepacketizer, ComfortNoisePacketizer, G7xxPacketizer, G711Depacketizer,
     NullDepacketizer, NullPacketizer, OpusDepacketizer, OpusPacketizer,
 };
-use codec_payload_audio::tele::{TelephoneEventDepacketizer, TelephoneEventPacketizer};
+use codec_payload_audio::tele::{
+    TelephoneEventDepacketizer, TelephoneEventPacketizer, duration_from_units,
+};
 use codec_payload_base::error::PacketError;
-use std::alloc::{AllocError, Global};
-use std::process::Abort;
+use codec_payload_base::interface::{CodecExtra, Packetizer, TelephoneEvent};
+use codec_payload_base::wire::Frequency;
+use std::test::Fail;
 
-/// Whose packetizer and depacketizer a row is of.
-#[derive(Clone, Copy)]
-pub enum Format {
-    AmrWb { octet_align: bool },
-    ComfortNoise,
-    Telephone,
-    Opus,
-    G711,
-    Null,
-}
+/// The frame of type 8 of 477 speech bits: 59 bytes `a5` and the bits 10100.
+const FRAME_OF_TYPE_8: [u8; 61] = [
+    0x44, 0xa5, 0xa5, 0xa5, 0xa5, 0xa5, 0xa5, 0xa5, 0xa5, 0xa5, 0xa5, 0xa5, 0xa5, 0xa5, 0xa5, 0xa5,
+    0xa5, 0xa5, 0xa5, 0xa5, 0xa5, 0xa5, 0xa5, 0xa5, 0xa5, 0xa5, 0xa5, 0xa5, 0xa5, 0xa5, 0xa5, 0xa5,
+    0xa5, 0xa5, 0xa5, 0xa5, 0xa5, 0xa5, 0xa5, 0xa5, 0xa5, 0xa5, 0xa5, 0xa5, 0xa5, 0xa5, 0xa5, 0xa5,
+    0xa5, 0xa5, 0xa5, 0xa5, 0xa5, 0xa5, 0xa5, 0xa5, 0xa5, 0xa5, 0xa5, 0xa5, 0xa0,
+];
 
-/// What a new packetizer answers.
-pub fn sent(
-    alloc: Global,
-    format: Format,
-    mtu: usize,
-    frame: &[u8],
-) -> Result<Vec<Vec<u8>>, PacketError> {
-    match format {
-        Format::AmrWb { octet_align } => {
-            packetize(alloc, &mut AmrWbPacketizer { octet_align }, mtu, frame)
-        }
-        Format::ComfortNoise => packetize(alloc, &mut ComfortNoisePacketizer {}, mtu, frame),
-        Format::Telephone => packetize(alloc, &mut TelephoneEventPacketizer {}, mtu, frame),
-        Format::Opus => packetize(alloc, &mut OpusPacketizer {}, mtu, frame),
-        Format::G711 => packetize(alloc, &mut G7xxPacketizer::default(), mtu, frame),
-        Format::Null => packetize(alloc, &mut NullPacketizer {}, mtu, frame),
+/// Its octet-aligned payload.
+const TYPE_8_OCTET_ALIGNED: [u8; 62] = [
+    0xf0, 0x44, 0xa5, 0xa5, 0xa5, 0xa5, 0xa5, 0xa5, 0xa5, 0xa5, 0xa5, 0xa5, 0xa5, 0xa5, 0xa5, 0xa5,
+    0xa5, 0xa5, 0xa5, 0xa5, 0xa5, 0xa5, 0xa5, 0xa5, 0xa5, 0xa5, 0xa5, 0xa5, 0xa5, 0xa5, 0xa5, 0xa5,
+    0xa5, 0xa5, 0xa5, 0xa5, 0xa5, 0xa5, 0xa5, 0xa5, 0xa5, 0xa5, 0xa5, 0xa5, 0xa5, 0xa5, 0xa5, 0xa5,
+    0xa5, 0xa5, 0xa5, 0xa5, 0xa5, 0xa5, 0xa5, 0xa5, 0xa5, 0xa5, 0xa5, 0xa5, 0xa5, 0xa0,
+];
+
+/// Its bandwidth-efficient payload.
+const TYPE_8_BANDWIDTH_EFFICIENT: [u8; 61] = [
+    0xf4, 0x69, 0x69, 0x69, 0x69, 0x69, 0x69, 0x69, 0x69, 0x69, 0x69, 0x69, 0x69, 0x69, 0x69, 0x69,
+    0x69, 0x69, 0x69, 0x69, 0x69, 0x69, 0x69, 0x69, 0x69, 0x69, 0x69, 0x69, 0x69, 0x69, 0x69, 0x69,
+    0x69, 0x69, 0x69, 0x69, 0x69, 0x69, 0x69, 0x69, 0x69, 0x69, 0x69, 0x69, 0x69, 0x69, 0x69, 0x69,
+    0x69, 0x69, 0x69, 0x69, 0x69, 0x69, 0x69, 0x69, 0x69, 0x69, 0x69, 0x69, 0x68,
+];
+
+/// A frame is its header, F FT Q and two zeros, and its speech bits. A payload (RFC 4867, sections 4.3 and 4.4) begins with
+/// CMR 15: in the octet-aligned layout the byte f0, the header, and the speech as it is; in the bandwidth-efficient one 1111
+/// and then all bits without filling. In each row: whether the layout is octet-aligned.
+static SPEECH: [(&str, bool, Frame); 8] = [
+    (
+        "amr-wb-type-14-sent, octet-aligned",
+        true,
+        Frame {
+            mtu: 1_200,
+            bytes: &[0x74],
+            packets: Ok(&[&[0xf0, 0x74]]),
+        },
+    ),
+    (
+        "amr-wb-type-14-sent, bandwidth-efficient",
+        false,
+        Frame {
+            mtu: 1_200,
+            bytes: &[0x74],
+            packets: Ok(&[&[0xf7, 0x40]]),
+        },
+    ),
+    (
+        "amr-wb-type-8-octet-aligned",
+        true,
+        Frame {
+            mtu: 62,
+            bytes: &FRAME_OF_TYPE_8,
+            packets: Ok(&[&TYPE_8_OCTET_ALIGNED]),
+        },
+    ),
+    (
+        "amr-wb-type-8-bandwidth-efficient",
+        false,
+        Frame {
+            mtu: 61,
+            bytes: &FRAME_OF_TYPE_8,
+            packets: Ok(&[&TYPE_8_BANDWIDTH_EFFICIENT]),
+        },
+    ),
+    (
+        "amr-wb-type-8-mtu-61-fault",
+        true,
+        Frame {
+            mtu: 61,
+            bytes: &FRAME_OF_TYPE_8,
+            packets: Err(PacketError::ErrPayloadTooLarge),
+        },
+    ),
+    (
+        "amr-wb-reserved-frame-fault",
+        false,
+        Frame {
+            mtu: 1_200,
+            bytes: &[0x50],
+            packets: Err(PacketError::ErrAmrWbCorruptedPacket),
+        },
+    ),
+    (
+        "amr-wb-no-data-skipped",
+        false,
+        Frame {
+            mtu: 1_200,
+            bytes: &[0x7c],
+            packets: Ok(&[]),
+        },
+    ),
+    (
+        "amr-wb-no-data-two-bytes-fault",
+        false,
+        Frame {
+            mtu: 1_200,
+            bytes: &[0x7c, 0x00],
+            packets: Err(PacketError::ErrAmrWbCorruptedPacket),
+        },
+    ),
+];
+
+/// A comfort noise payload.
+const NOISE: [u8; 3] = [0x2a, 0x80, 0x40];
+
+/// The rows `cn-one-packet-no-marker` and `cn-mtu-2-fault`.
+static OF_NOISE: [Frame; 2] = [
+    Frame {
+        mtu: 1_200,
+        bytes: &NOISE,
+        packets: Ok(&[&NOISE]),
+    },
+    Frame {
+        mtu: 2,
+        bytes: &NOISE,
+        packets: Err(PacketError::ErrPayloadTooLarge),
+    },
+];
+
+/// The rows `opus-two-pieces` and `opus-mtu-zero`, which G.711 shares.
+static IN_PIECES: [Frame; 2] = [
+    Frame {
+        mtu: 2,
+        bytes: &[0x90, 0x90, 0x90],
+        packets: Ok(&[&[0x90, 0x90], &[0x90]]),
+    },
+    Frame {
+        mtu: 0,
+        bytes: &[0x90, 0x90, 0x90],
+        packets: Ok(&[]),
+    },
+];
+
+/// Null sends a frame whole, whatever the MTU.
+static WHOLE: [Frame; 1] = [Frame {
+    mtu: 1,
+    bytes: &[1, 2],
+    packets: Ok(&[&[1, 2]]),
+}];
+
+/// Two reports on telephone events (RFC 4733, section 2.3).
+const TWO_REPORTS: [u8; 8] = [0x05, 0x8a, 0x03, 0x20, 0x06, 0x0a, 0x01, 0x40];
+
+static OF_REPORTS: [Frame; 1] = [Frame {
+    mtu: 8,
+    bytes: &TWO_REPORTS,
+    packets: Ok(&[&TWO_REPORTS]),
+}];
+
+#[test]
+fn frames_are_sent(rt: HostRuntime) {
+    let alloc = rt.alloc();
+    for (name, octet_align, frame) in &SPEECH {
+        let mut speech = AmrWbPacketizer {
+            octet_align: *octet_align,
+        };
+        let answer = speech.packetize(alloc, frame.mtu, frame.bytes);
+        assert_sent(&rt, name, &answer, &frame.packets);
     }
+    assert_frames(&rt, alloc, "cn", &mut ComfortNoisePacketizer {}, &OF_NOISE);
+    assert_frames(&rt, alloc, "opus", &mut OpusPacketizer {}, &IN_PIECES);
+    assert_frames(
+        &rt,
+        alloc,
+        "g7xx",
+        &mut G7xxPacketizer::default(),
+        &IN_PIECES,
+    );
+    assert_frames(&rt, alloc, "null", &mut NullPacketizer {}, &WHOLE);
+    assert_frames(
+        &rt,
+        alloc,
+        "tele",
+        &mut TelephoneEventPacketizer {},
+        &OF_REPORTS,
+    );
 }
 
-/// What a new depacketizer makes of a payload behind the one byte 7.
-pub fn assert_received_as(
-    rt: &impl Abort,
-    alloc: Global,
-    name: &str,
-    format: Format,
-    payload: &[u8],
-    wanted: &Result<&[u8], PacketError>,
-) -> Result<(), AllocError> {
-    match format {
-        Format::AmrWb { octet_align } => {
-            let mut depacketizer = AmrWbDepacketizer { octet_align };
-            assert_received(rt, alloc, name, &mut depacketizer, payload, wanted)
-        }
-        Format::ComfortNoise => {
-            let mut depacketizer = ComfortNoiseDepacketizer {};
-            assert_received(rt, alloc, name, &mut depacketizer, payload, wanted)
-        }
-        Format::Telephone => {
-            let mut depacketizer = TelephoneEventDepacketizer::default();
-            assert_received(rt, alloc, name, &mut depacketizer, payload, wanted)
-        }
-        Format::Opus => {
-            let mut depacketizer = OpusDepacketizer::default();
-            assert_received(rt, alloc, name, &mut depacketizer, payload, wanted)
-        }
-        Format::G711 => {
-            let mut depacketizer = G711Depacketizer::default();
-            assert_received(rt, alloc, name, &mut depacketizer, payload, wanted)
-        }
-        Format::Null => {
-            let mut depacketizer = NullDepacketizer {};
-            assert_received(rt, alloc, name, &mut depacketizer, payload, wanted)
-        }
+/// A payload, and what comes out of it behind the one byte 7.
+type Received = (
+    &'static str,
+    &'static [u8],
+    Result<&'static [u8], PacketError>,
+);
+
+/// What comes out of AMR-WB is the header of each frame and its speech bits; in each row: whether it is octet-aligned.
+static SPEECH_RECEIVED: [(bool, Received); 5] = [
+    (
+        false,
+        (
+            "amr-wb-two-frames-received",
+            &[0xff, 0x53, 0x5a, 0x5a, 0x5a, 0x5a, 0x5a],
+            Ok(&[7, 0x74, 0x4c, 0x5a, 0x5a, 0x5a, 0x5a, 0x5a]),
+        ),
+    ),
+    (
+        true,
+        (
+            "amr-wb-reserved-entry-fault",
+            &[0xf0, 0x50],
+            Err(PacketError::ErrAmrWbCorruptedPacket),
+        ),
+    ),
+    (
+        false,
+        (
+            "amr-wb-no-entry-fault",
+            &[0xf0],
+            Err(PacketError::ErrShortPacket),
+        ),
+    ),
+    (false, ("amr-wb-empty-payload", &[], Ok(&[7]))),
+    (
+        false,
+        (
+            "amr-wb-eight-ff-fault",
+            &[0xff; 8],
+            Err(PacketError::ErrShortPacket),
+        ),
+    ),
+];
+
+#[test]
+fn speech_is_received(rt: HostRuntime) -> Result<(), Fail> {
+    for (octet_align, (name, payload, wanted)) in &SPEECH_RECEIVED {
+        let mut speech = AmrWbDepacketizer {
+            octet_align: *octet_align,
+        };
+        assert_received(&rt, rt.alloc(), name, &mut speech, payload, wanted)?;
     }
+    Ok(())
 }
 
-/// A frame that a new packetizer of a format is given.
-pub struct SentRow {
-    name: &'static str,
-    format: Format,
-    frame: Frame,
+#[test]
+fn payloads_are_received(rt: HostRuntime) -> Result<(), Fail> {
+    let alloc = rt.alloc();
+    let short = Err(PacketError::ErrShortPacket);
+    let mut noise = ComfortNoiseDepacketizer {};
+    assert_received(&rt, alloc, "cn-empty-fault", &mut noise, &[], &short)?;
+    let bytes = Ok([7, 1, 2].as_slice());
+    let mut opus = OpusDepacketizer::default();
+    assert_received(&rt, alloc, "opus", &mut opus, &[1, 2], &bytes)?;
+    let mut g711 = G711Depacketizer::default();
+    assert_received(&rt, alloc, "g711", &mut g711, &[1, 2], &bytes)?;
+    assert_received(
+        &rt,
+        alloc,
+        "null",
+        &mut NullDepacketizer {},
+        &[1, 2],
+        &bytes,
+    )?;
+    Ok(())
 }
 
-/// The packets of each row's frame.
-pub fn assert_all_sent(rt: &impl Abort, alloc: Global, rows: &[SentRow]) {
-    for row in rows {
-        let answer = sent(alloc, row.format, row.frame.mtu, row.frame.bytes);
-        assert_sent(rt, row.name, &answer, &row.frame.packets);
-    }
+/// The two reports.
+const EVENTS: [TelephoneEvent; 2] = [
+    TelephoneEvent {
+        event: 5,
+        end: true,
+        volume: 10,
+        duration: 100_000_000,
+    },
+    TelephoneEvent {
+        event: 6,
+        end: false,
+        volume: 10,
+        duration: 40_000_000,
+    },
+];
+
+/// What comes out is the first report; all are read.
+#[test]
+fn tele_two_reports(rt: HostRuntime) -> Result<(), Fail> {
+    let alloc = rt.alloc();
+    let name = "tele-two-reports";
+    let mut depacketizer = TelephoneEventDepacketizer::default();
+    let first = Ok([7, 0x05, 0x8a, 0x03, 0x20].as_slice());
+    let extra = assert_received(&rt, alloc, name, &mut depacketizer, &TWO_REPORTS, &first)?;
+    assert_same(&rt, name, &extra, &CodecExtra::Tele(EVENTS[0]));
+    let events = TelephoneEvent::parse_all(&TWO_REPORTS, Frequency::EIGHT_KHZ).ok_or(name)?;
+    let events: Vec<TelephoneEvent> = events.collect(alloc)?;
+    assert_same(&rt, name, &events.as_slice(), &EVENTS.as_slice());
+    Ok(())
 }
 
-/// A payload that a new depacketizer of a format is given, and what it makes of it behind the one byte 7.
-pub struct ReceivedRow {
-    name: &'static str,
-    format: Format,
-    payload: &'static [u8],
-    wanted: Result<&'static [u8], PacketError>,
-}
-
-/// What each row's payload gives.
-pub fn assert_all_received(
-    rt: &impl Abort,
-    alloc: Global,
-    rows: &[ReceivedRow],
-) -> Result<(), AllocError> {
-    for row in rows {
-        assert_received_as(rt, alloc, row.name, row.format, row.payload, &row.wanted)?;
-    }
+/// The rows `tele-five-bytes-fault`, `tele-all-ones-written` and `tele-three-seconds-none`.
+#[test]
+fn tele_reports(rt: HostRuntime) -> Result<(), Fail> {
+    let alloc = rt.alloc();
+    let name = "tele-five-bytes-fault";
+    let fault = PacketError::InvalidTelephoneEvent(
+        "payload must contain one or more complete 4-byte reports",
+    );
+    let text = "Invalid telephone event: payload must contain one or more complete 4-byte reports";
+    assert_printed(&rt, alloc, &fault, text)?;
+    let mut depacketizer = TelephoneEventDepacketizer::default();
+    let five = [0x05, 0x8a, 0x03, 0x20, 0x06];
+    assert_received(&rt, alloc, name, &mut depacketizer, &five, &Err(fault))?;
+    let ones = TelephoneEvent::parse(&[0xff; 4], Frequency::EIGHT_KHZ).ok_or("a report")?;
+    assert_eq!(rt; ones.volume, 63);
+    assert_eq!(rt;
+        ones.to_bytes(Frequency::EIGHT_KHZ),
+        Some([0xff, 0xbf, 0xff, 0xff])
+    );
+    let long = TelephoneEvent {
+        duration: 3_000_000_000,
+        ..EVENTS[1]
+    };
+    assert_eq!(rt; long.to_bytes(Frequency::FORTY_EIGHT_KHZ), None);
+    let second = duration_from_units(48_000, Frequency::FORTY_EIGHT_KHZ);
+    assert_eq!(rt; second, 1_000_000_000);
     Ok(())
 }

@@ -1,22 +1,21 @@
-//! The worked examples of AV1, a table of frames beside a plain packer, and what is left where memory is refused.
+//! The worked examples of AV1.
 
-mod depacketizer;
-mod packetizer;
-mod plain_packer;
-
-use crate::tables::{Unit, packetize};
-use codec_payload_av1::av1::{Av1Depacketizer, Av1Packetizer};
+use crate::asserts::{Frame, assert_received, assert_same, assert_sent, filled, put_together};
+use codec_payload_av1::av1::{Av1CodecExtra, Av1Depacketizer, Av1Packetizer, detect_av1_keyframe};
 use codec_payload_base::error::PacketError;
-use std::alloc::Global;
+use codec_payload_base::interface::{CodecExtra, Packetizer};
+use std::alloc::{AllocError, Global};
+use std::process::Abort;
+use std::test::Fail;
 
 /// A temporal delimiter, a sequence header and a frame.
-pub const TWO_OBUS: [u8; 9] = [0x12, 0x00, 0x0a, 0x01, 0xaa, 0x32, 0x02, 0xbb, 0xcc];
+const TWO_OBUS: [u8; 9] = [0x12, 0x00, 0x0a, 0x01, 0xaa, 0x32, 0x02, 0xbb, 0xcc];
 
 /// The same without the temporal delimiter.
-pub const TWO_OBUS_UNIT: [u8; 7] = [0x0a, 0x01, 0xaa, 0x32, 0x02, 0xbb, 0xcc];
+const TWO_OBUS_UNIT: [u8; 7] = [0x0a, 0x01, 0xaa, 0x32, 0x02, 0xbb, 0xcc];
 
 /// The two in packets of two bytes.
-pub const PACKETS_OF_TWO: [&[u8]; 5] = [
+const PACKETS_OF_TWO: [&[u8]; 5] = [
     &[0x58, 0x08],
     &[0x90, 0xaa],
     &[0x50, 0x30],
@@ -24,11 +23,289 @@ pub const PACKETS_OF_TWO: [&[u8]; 5] = [
     &[0x90, 0xcc],
 ];
 
-pub fn sent(alloc: Global, mtu: usize, frame: &[u8]) -> Result<Vec<Vec<u8>>, PacketError> {
-    packetize(alloc, &mut Av1Packetizer::default(), mtu, frame)
+/// Four metadata OBUs.
+const FOUR_OBUS: [u8; 12] = [
+    0x2a, 0x01, 0x11, 0x2a, 0x01, 0x22, 0x2a, 0x01, 0x33, 0x2a, 0x01, 0x44,
+];
+
+/// The four in one packet.
+const FOUR_OBUS_PACKET: [u8; 13] = [
+    0x00, 0x02, 0x28, 0x11, 0x02, 0x28, 0x22, 0x02, 0x28, 0x33, 0x02, 0x28, 0x44,
+];
+
+/// A frame that a new packetizer is given.
+struct SentRow {
+    name: &'static str,
+    frame: Frame,
 }
 
-/// A depacketizer that holds nothing.
-pub fn unit(alloc: Global) -> Unit<Av1Depacketizer> {
-    Unit::new(alloc, Av1Depacketizer::new(alloc))
+/// A frame is OBUs with their sizes. A packet is the byte Z Y W W N (version 1.0.0 of AV1's RTP format, section 4.4) and
+/// elements, which are OBUs without sizes or pieces of these; each has its length in front, but for the last where W counts
+/// the elements.
+static SENT: [SentRow; 9] = [
+    SentRow {
+        name: "av1-two-obus-mtu-1200",
+        frame: Frame {
+            mtu: 1_200,
+            bytes: &TWO_OBUS,
+            packets: Ok(&[&[0x28, 0x02, 0x08, 0xaa, 0x30, 0xbb, 0xcc]]),
+        },
+    },
+    SentRow {
+        name: "av1-two-obus-mtu-3",
+        frame: Frame {
+            mtu: 3,
+            bytes: &TWO_OBUS,
+            packets: Ok(&[&[0x18, 0x08, 0xaa], &[0x50, 0x30, 0xbb], &[0x90, 0xcc]]),
+        },
+    },
+    SentRow {
+        name: "av1-four-obus-mtu-1200",
+        frame: Frame {
+            mtu: 1_200,
+            bytes: &FOUR_OBUS,
+            packets: Ok(&[&FOUR_OBUS_PACKET]),
+        },
+    },
+    SentRow {
+        name: "av1-four-obus-mtu-9",
+        frame: Frame {
+            mtu: 9,
+            bytes: &FOUR_OBUS,
+            packets: Ok(&[
+                &[0x30, 0x02, 0x28, 0x11, 0x02, 0x28, 0x22, 0x28, 0x33],
+                &[0x10, 0x28, 0x44],
+            ]),
+        },
+    },
+    SentRow {
+        name: "av1-four-obus-mtu-12",
+        frame: Frame {
+            mtu: 12,
+            bytes: &FOUR_OBUS,
+            packets: Ok(&[
+                &[
+                    0x40, 0x02, 0x28, 0x11, 0x02, 0x28, 0x22, 0x02, 0x28, 0x33, 0x01, 0x28,
+                ],
+                &[0x90, 0x44],
+            ]),
+        },
+    },
+    SentRow {
+        name: "av1-shortest-size",
+        frame: Frame {
+            mtu: 1_200,
+            bytes: &[0x0a, 0x81, 0x00, 0xaa],
+            packets: Ok(&[&[0x18, 0x08, 0xaa]]),
+        },
+    },
+    SentRow {
+        name: "av1-frame-size-past-end-fault",
+        frame: Frame {
+            mtu: 1_200,
+            bytes: &[0x0a, 0x05, 0xaa],
+            packets: Err(PacketError::ErrAv1CorruptedPacket),
+        },
+    },
+    SentRow {
+        name: "av1-mtu-looked-at-first",
+        frame: Frame {
+            mtu: 1,
+            bytes: &[0x12, 0x00, 0x0a, 0x05],
+            packets: Ok(&[]),
+        },
+    },
+    SentRow {
+        name: "av1-mtu-2-five-packets",
+        frame: Frame {
+            mtu: 2,
+            bytes: &TWO_OBUS_UNIT,
+            packets: Ok(&PACKETS_OF_TWO),
+        },
+    },
+];
+
+#[test]
+fn frames_are_sent(rt: HostRuntime) {
+    for row in &SENT {
+        let mut packetizer = Av1Packetizer::default();
+        let answer = packetizer.packetize(rt.alloc(), row.frame.mtu, row.frame.bytes);
+        assert_sent(&rt, row.name, &answer, &row.frame.packets);
+    }
+}
+
+/// Bytes with a filling byte `bb`, so many times, in the middle.
+type Filled = (&'static [u8], usize, &'static [u8]);
+
+fn bytes_of(alloc: Global, (front, count, back): Filled) -> Result<Vec<u8>, AllocError> {
+    filled(alloc, front, 0xbb, count, back)
+}
+
+/// A frame of many bytes and its two packets, with the lengths of these.
+struct FilledRow {
+    name: &'static str,
+    mtu: usize,
+    frame: Filled,
+    first: Filled,
+    second: Filled,
+    lengths: [usize; 2],
+}
+
+/// Frames are OBUs of metadata without bytes and an OBU of a frame, which is long; packets cut that OBU where the MTU is
+/// reached.
+const FILLED: [FilledRow; 4] = [
+    FilledRow {
+        name: "av1-largest-fragment-mtu-136",
+        mtu: 136,
+        frame: (
+            &[0x2a, 0x00, 0x2a, 0x00, 0x2a, 0x00, 0x32, 0xc7, 0x01],
+            199,
+            &[],
+        ),
+        first: (
+            &[0x40, 0x01, 0x28, 0x01, 0x28, 0x01, 0x28, 0x7f, 0x30],
+            126,
+            &[],
+        ),
+        second: (&[0x90], 73, &[]),
+        lengths: [135, 74],
+    },
+    FilledRow {
+        name: "av1-three-bytes-unused-mtu-136",
+        mtu: 136,
+        frame: (&[0x2a, 0x00, 0x2a, 0x00, 0x32, 0x7f], 127, &[0x2a, 0x00]),
+        first: (&[0x30, 0x01, 0x28, 0x01, 0x28, 0x30], 127, &[]),
+        second: (&[0x10, 0x28], 0, &[]),
+        lengths: [133, 2],
+    },
+    FilledRow {
+        name: "av1-two-full-packets-mtu-10",
+        mtu: 10,
+        frame: (&[0x32, 0x11], 17, &[]),
+        first: (&[0x50, 0x30], 8, &[]),
+        second: (&[0x90], 9, &[]),
+        lengths: [10, 10],
+    },
+    FilledRow {
+        name: "av1-largest-fragment-mtu-16392",
+        mtu: 16_392,
+        frame: (
+            &[0x2a, 0x00, 0x2a, 0x00, 0x2a, 0x00, 0x32, 0x9f, 0x9c, 0x01],
+            19_999,
+            &[],
+        ),
+        first: (
+            &[0x40, 0x01, 0x28, 0x01, 0x28, 0x01, 0x28, 0xff, 0x7f, 0x30],
+            16_382,
+            &[],
+        ),
+        second: (&[0x90], 3_617, &[]),
+        lengths: [16_392, 3_618],
+    },
+];
+
+/// The two packets of a row's frame.
+fn assert_filled(rt: &impl Abort, alloc: Global, row: &FilledRow) -> Result<(), AllocError> {
+    let first = bytes_of(alloc, row.first)?;
+    let second = bytes_of(alloc, row.second)?;
+    assert_same(rt, row.name, &[first.len(), second.len()], &row.lengths);
+    let frame = bytes_of(alloc, row.frame)?;
+    let answer = Av1Packetizer::default().packetize(alloc, row.mtu, &frame);
+    assert_sent(rt, row.name, &answer, &Ok(&[&first, &second]));
+    Ok(())
+}
+
+#[test]
+fn filled_frames_are_sent(rt: HostRuntime) -> Result<(), Fail> {
+    for row in &FILLED {
+        assert_filled(&rt, rt.alloc(), row)?;
+    }
+    Ok(())
+}
+
+/// Packets that a new depacketizer is given, the unit that it puts together, and whether the N bit was set.
+struct UnitRow {
+    name: &'static str,
+    packets: &'static [&'static [u8]],
+    unit: &'static [u8],
+    is_keyframe: bool,
+}
+
+/// Packets as `packetizer` has them; a unit is OBUs with their sizes, without a temporal delimiter.
+const UNITS: [UnitRow; 5] = [
+    UnitRow {
+        name: "av1-two-obus-mtu-1200",
+        packets: &[&[0x28, 0x02, 0x08, 0xaa, 0x30, 0xbb, 0xcc]],
+        unit: &TWO_OBUS_UNIT,
+        is_keyframe: true,
+    },
+    UnitRow {
+        name: "av1-leading-obu-lost",
+        packets: &[&[0x50, 0x30, 0xbb], &[0x90, 0xcc]],
+        unit: &[0x32, 0x02, 0xbb, 0xcc],
+        is_keyframe: false,
+    },
+    UnitRow {
+        name: "av1-shortest-size",
+        packets: &[&[0x18, 0x08, 0xaa]],
+        unit: &[0x0a, 0x01, 0xaa],
+        is_keyframe: true,
+    },
+    UnitRow {
+        name: "av1-mtu-2-five-packets",
+        packets: &PACKETS_OF_TWO,
+        unit: &TWO_OBUS_UNIT,
+        is_keyframe: true,
+    },
+    UnitRow {
+        name: "av1-mtu-2-first-lost",
+        packets: &[&[0x90, 0xaa], &[0x50, 0x30], &[0xd0, 0xbb], &[0x90, 0xcc]],
+        unit: &[0x32, 0x02, 0xbb, 0xcc],
+        is_keyframe: false,
+    },
+];
+
+#[test]
+fn units_are_put_together(rt: HostRuntime) -> Result<(), Fail> {
+    for row in &UNITS {
+        let mut depacketizer = Av1Depacketizer::new(rt.alloc());
+        let (unit, extra) = put_together(rt.alloc(), &mut depacketizer, row.packets)?;
+        assert_eq!(rt; unit.as_slice(), row.unit, "in {}", row.name);
+        let is_keyframe = row.is_keyframe;
+        let told = CodecExtra::Av1(Av1CodecExtra { is_keyframe });
+        assert_same(&rt, row.name, &extra, &told);
+    }
+    assert!(rt; detect_av1_keyframe(&[0x18, 0x08, 0xaa]));
+    Ok(())
+}
+
+/// Payloads that are corrupted, each by its name.
+const CORRUPTED: [(&str, &[u8]); 4] = [
+    // An element of no bytes.
+    ("av1-zero-length-fault", &[0x00, 0x00]),
+    // An element of 5 bytes, of which one is there.
+    ("av1-length-past-end-fault", &[0x00, 0x05, 0x30]),
+    (
+        // One element, with two OBUs that have sizes.
+        "av1-two-obus-in-element-fault",
+        &[0x10, 0x0a, 0x00, 0x0a, 0x00],
+    ),
+    (
+        // An element with the greatest length that ten bytes of LEB128 can have.
+        "av1-huge-length-fault",
+        &[
+            0x00, 0xff, 0xff, 0xff, 0xff, 0xff, 0xff, 0xff, 0xff, 0xff, 0x7f,
+        ],
+    ),
+];
+
+#[test]
+fn corrupted_payloads_are_refused(rt: HostRuntime) -> Result<(), Fail> {
+    let alloc = rt.alloc();
+    for (name, payload) in CORRUPTED {
+        let mut depacketizer = Av1Depacketizer::new(alloc);
+        let wanted = Err(PacketError::ErrAv1CorruptedPacket);
+        assert_received(&rt, alloc, name, &mut depacketizer, payload, &wanted)?;
+    }
+    Ok(())
 }

@@ -1,5 +1,5 @@
-//! The worked examples of the parts, of the codecs and of RED, as tests over what these crates make public: the test of a file
-//! of the sources stands in the file of that name.
+//! The worked examples of the codecs and of RED by their names, each public call once, and what Rattle alone shows: generic
+//! code at the types of the library. What else is tested of behaviour stands in `rust/tests/codecs`.
 #![tactic(auto)]
 
 #[cfg(test)]
@@ -13,12 +13,12 @@ mod base;
 #[cfg(test)]
 mod media;
 #[cfg(test)]
-mod red;
+mod recovery;
 #[cfg(test)]
-mod tables;
+mod red;
 #[cfg(test)]
 mod vp8;
 #[cfg(test)]
-mod vp9;
+mod vp8_patch;
 #[cfg(test)]
-mod vpx;
+mod vp9;

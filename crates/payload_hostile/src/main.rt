@@ -1,11 +1,10 @@
-//! Makes one call of the library, by the name that is the one line of standard input, and prints what it answered and how
-//! things stand after it. `scripts/refuse.sh` refuses it each allocation in turn.
+//! Makes one call of a sink, a payloader or a run, by the name that is the one line of standard input, and prints what it answered
+//! and how things are after it. `scripts/refuse.sh` refuses it each allocation in turn, and those of the calls that the library for
+//! C has too to `tools/refused`.
 #![tactic(auto)]
 
-mod buffers;
-mod codecs;
-mod questions;
 mod report;
+mod runs;
 mod senders;
 
 use codec_payload_core::error::PacketError;

@@ -1,10 +1,10 @@
 //! RED, sinks, and a sample that is sent.
 
-use crate::report::{put_answer, put_bytes, put_fault};
+use crate::report::{put_answer, put_bytes};
 use codec_payload_core::codec::CodecPacketizer;
 use codec_payload_core::error::PacketError;
 use codec_payload_core::payload::{MemorySink, OutgoingPacket, PacketSink, Payloader, RedSink};
-use codec_payload_core::red::{RedDecoder, RedEncoder, RedReceiver, RedSender, RedundantBlock};
+use codec_payload_core::red::RedSender;
 use codec_payload_core::vp8::Vp8Packetizer;
 use codec_payload_core::wire::{
     ExtensionValues, Frequency, MediaTime, Pt, SeqNo, Ticks, ToPayload,
@@ -43,105 +43,6 @@ pub fn put_sink(text: &mut String, sink: &MemorySink) -> Result<(), AllocError> 
         write!(text, " {}:", packet.seq_no.0)?;
         put_bytes(text, &packet.payload)?;
     }
-    Ok(())
-}
-
-pub fn encodes(alloc: Global, text: &mut String) -> Result<(), PacketError> {
-    let mut redundant = Vec::new(alloc);
-    redundant.push(RedundantBlock {
-        pt: 96,
-        timestamp_offset: 960,
-        payload: Vec::from_slice(alloc, &[9, 9])?,
-    })?;
-    text.push_str("encode")?;
-    match RedEncoder::encode(alloc, 96, &[1, 2, 3], &redundant) {
-        Ok(payload) => put_bytes(text, &payload)?,
-        Err(fault) => put_fault(text, &fault)?,
-    }
-    text.push_str("\n")?;
-    Ok(())
-}
-
-pub fn decodes(alloc: Global, text: &mut String) -> Result<(), PacketError> {
-    let payload = [0xe0u8, 0x0f, 0x00, 0x02, 0x60, 9, 9, 1, 2, 3];
-    text.push_str("decode")?;
-    match RedDecoder::decode(alloc, &payload) {
-        Ok(blocks) => {
-            for block in &blocks {
-                write!(text, " {} {}", block.pt, block.timestamp_offset)?;
-                put_bytes(text, block.payload)?;
-            }
-        }
-        Err(fault) => put_fault(text, &fault)?,
-    }
-    text.push_str("\n")?;
-    Ok(())
-}
-
-/// Recovers two packets from a payload, that of number 11 and that of number 12 itself.
-pub fn recovers(alloc: Global, text: &mut String) -> Result<(), PacketError> {
-    let payload = [0xe0u8, 0x0f, 0x00, 0x02, 0x60, 9, 9, 1, 2, 3];
-    let Some(receiver) = RedReceiver::new(96, 960) else {
-        return Ok(());
-    };
-    text.push_str("recover")?;
-    match receiver.recover(alloc, SeqNo(12), 2_880, &payload) {
-        Ok(packets) => {
-            for packet in &packets {
-                write!(text, " {} {}", packet.seq_no.0, packet.rtp_time)?;
-                put_bytes(text, packet.payload)?;
-            }
-        }
-        Err(fault) => put_fault(text, &fault)?,
-    }
-    text.push_str("\n")?;
-    Ok(())
-}
-
-/// Wraps a payload behind four others, and then another, which shows what was remembered.
-pub fn wraps(alloc: Global, text: &mut String) -> Result<(), PacketError> {
-    let mut sender = RedSender::new(
-        alloc,
-        Pt::new_with_value(63),
-        Pt::new_with_value(111),
-        &[1, 3],
-    );
-    for (byte, time) in [(0u8, 0u32), (1, 960), (2, 1_920), (3, 2_880)] {
-        sender.wrap(Vec::from_slice(alloc, &[byte])?, time, 1_200)?;
-    }
-    let payload = Vec::from_slice(alloc, &[0x2a])?;
-    text.push_str("wrap")?;
-    match sender.wrap(payload, 3_840, 1_200) {
-        Ok(wrapped) => put_bytes(text, &wrapped)?,
-        Err(fault) => put_fault(text, &fault)?,
-    }
-    text.push_str(", then")?;
-    let next = sender.wrap(Vec::from_slice(alloc, &[0x2b])?, 4_800, 1_200)?;
-    put_bytes(text, &next)?;
-    text.push_str("\n")?;
-    Ok(())
-}
-
-/// Wraps twenty payloads of one byte into the same bytes, of which the first ones alone ask for memory, and then one more, which is
-/// told.
-pub fn wraps_into(alloc: Global, text: &mut String) -> Result<(), PacketError> {
-    let mut sender = RedSender::new(
-        alloc,
-        Pt::new_with_value(63),
-        Pt::new_with_value(111),
-        &[1, 3],
-    );
-    let mut wrapped = Vec::new(alloc);
-    for byte in 0..20u8 {
-        let time = u32::from(byte) * 960;
-        sender.wrap_into(&[byte], time, 1_200, &mut wrapped)?;
-    }
-    text.push_str("wrap")?;
-    match sender.wrap_into(&[0x2a], 19_200, 1_200, &mut wrapped) {
-        Ok(()) => put_bytes(text, &wrapped)?,
-        Err(fault) => put_fault(text, &fault)?,
-    }
-    text.push_str("\n")?;
     Ok(())
 }
 

@@ -2,7 +2,7 @@
 
 ghost use Rattle.std.specs.Prelude.{[], Some, ⊤, Bool, true, false};
 
-use crate::asserts::{assert_bytes, assert_holds, assert_same, assert_shown};
+use crate::asserts::{assert_bytes, assert_same};
 use crate::library::{
     Ended, bytes_and_markers, bytes_of_units, counts_of, push, run_steps, sample, samples_of, send,
 };
@@ -56,46 +56,6 @@ impl Packetizer for Lawless {
 
     fn nackable(&self) -> bool {
         true
-    }
-}
-
-/// Sends each byte in a packet, marks one that repeats the packet before, and has no packet asked for again.
-#[derive(Debug, Drop)]
-struct MarksRepeats {}
-
-impl Packetizer for MarksRepeats {
-    ghost state = { λ _. [] };
-
-    ghost packetize_step = { λ _ _ _ _ _. ⊤ };
-
-    ghost marker_step = { λ _ _ _ _ _ _. ⊤ };
-
-    ghost marks_spurts = { λ _. false };
-
-    ghost may_be_asked_for = { λ _. false };
-
-    fn packetize(
-        &mut self,
-        alloc: Global,
-        mtu: usize,
-        b: &[u8],
-    ) -> Result<Vec<Vec<u8>>, PacketError> {
-        EachByte {}.packetize(alloc, mtu, b)
-    }
-
-    fn is_marker(&mut self, data: &[u8], previous: Option<&[u8]>, _last: bool) -> bool {
-        match previous {
-            Some(before) => before == data,
-            None => false,
-        }
-    }
-
-    fn marks_talkspurt(&self) -> bool {
-        false
-    }
-
-    fn nackable(&self) -> bool {
-        false
     }
 }
 
@@ -298,54 +258,5 @@ fn box_lawless_packets_sent(rt: HostRuntime) -> Result<(), Fail> {
         &sent.as_slice(),
         &[(0, true), (3, true)].as_slice(),
     );
-    Ok(())
-}
-
-/// Whether a packet may be asked for again.
-fn has_nackable(sink: &MemorySink) -> bool {
-    for packet in sink.packets() {
-        if packet.nackable {
-            return true;
-        }
-    }
-    false
-}
-
-/// The packet before is the last that the sink holds, also of the sample before. No clause says so.
-#[test]
-fn a_box_is_told_the_packet_before(rt: HostRuntime) -> Result<(), Fail> {
-    let alloc = rt.alloc();
-    let marks = BoxedPacketizer(Box::new(alloc, MarksRepeats {})?);
-    let sink = sent_of(alloc, marks, &[&[7, 7, 8], &[8]], 1)?;
-    let sent = bytes_and_markers(alloc, &sink)?;
-    assert_bytes(&rt, "what is sent", &sent, &[7, 0, 7, 1, 8, 0, 8, 1]);
-    assert_holds(
-        &rt,
-        "packets that are not asked for again",
-        !has_nackable(&sink),
-    );
-    Ok(())
-}
-
-/// What is in a box is not shown.
-#[test]
-fn debug_of_boxed_packetizers(rt: HostRuntime) -> Result<(), Fail> {
-    let alloc = rt.alloc();
-    let sends = BoxedPacketizer(Box::new(alloc, EachByte {})?);
-    assert_shown(&rt, alloc, &sends, "BoxedPacketizer")?;
-    assert_shown(&rt, alloc, &CodecPacketizer::Boxed(sends), "Boxed")?;
-    Ok(())
-}
-
-#[test]
-fn debug_of_boxed_depacketizers(rt: HostRuntime) -> Result<(), Fail> {
-    let alloc = rt.alloc();
-    let each_packet = EachPacket {
-        heads: true,
-        refuses: true,
-    };
-    let reads = BoxedDepacketizer(Box::new(alloc, each_packet)?);
-    assert_shown(&rt, alloc, &reads, "BoxedDepacketizer")?;
-    assert_shown(&rt, alloc, &CodecDepacketizer::Boxed(reads), "Boxed")?;
     Ok(())
 }

@@ -1,14 +1,12 @@
 //! The rules of the buffer, in worked examples.
 
 mod rows;
-mod search;
 mod unit;
 
 use crate::asserts::{assert_bytes, assert_count, assert_same};
 use crate::buffer::rows::{Packet, STEPS, Step, StepsRow, Unit};
 use crate::library::{buffer_of, depacketizer_of, pop_unit, push};
 use codec_payload_core::buffer::{Depacketized, DepacketizingBuffer, RtpMeta};
-use codec_payload_core::codec::CodecExtra;
 use codec_payload_core::error::PacketError;
 use codec_payload_core::wire::{Codec, Frequency, MediaTime, Pt, SeqNo, Ticks};
 use std::alloc::Global;
@@ -41,38 +39,6 @@ fn pop(buffer: &mut DepacketizingBuffer) -> Result<Option<(u64, bool)>, PacketEr
         Some(Err(fault)) => Err(fault),
         None => Ok(None),
     }
-}
-
-/// The next units are these, each told by the number of its first packet and by whether it is contiguous; `None` where none
-/// comes.
-fn assert_pops(
-    rt: &impl Abort,
-    buffer: &mut DepacketizingBuffer,
-    wanted: &[Option<(u64, bool)>],
-) -> Result<(), Fail> {
-    for unit in wanted {
-        assert_same(rt, "what comes out", &pop(buffer)?, unit);
-    }
-    Ok(())
-}
-
-/// So many packets are held, and so many complete frames.
-fn assert_held(rt: &impl Abort, buffer: &DepacketizingBuffer, held: usize, ready: usize) {
-    let got = (buffer.held(), buffer.ready());
-    assert_same(rt, "packets and frames that are held", &got, &(held, ready));
-}
-
-/// Pushes a packet of the one frame of that time.
-fn push_part(
-    alloc: Global,
-    buffer: &mut DepacketizingBuffer,
-    number: u64,
-    marker: bool,
-    payload: &[u8],
-) -> Result<(), PacketError> {
-    let mut meta = meta(number, 960);
-    meta.header.marker = marker;
-    push(alloc, buffer, meta, payload)
 }
 
 fn push_packet(
@@ -130,101 +96,32 @@ fn steps_are_answered(rt: HostRuntime) -> Result<(), Fail> {
     Ok(())
 }
 
-/// An Opus buffer that holds everything back, into which packets 1 to 4,096 were pushed.
-fn full_buffer(alloc: Global) -> Result<DepacketizingBuffer, Fail> {
-    let mut buffer = buffer_of_limit(alloc, Codec::Opus, usize::MAX, 4_096)?;
-    for number in 1..=4_096 {
-        push(alloc, &mut buffer, meta(number, number), &[])?;
-    }
-    Ok(buffer)
-}
-
-/// A packet below all that a full buffer holds leaves at once, and yet the unit after it does not follow.
-#[test]
-fn full_buffer_evicts_the_packet_that_came(rt: HostRuntime) -> Result<(), Fail> {
-    let mut buffer = full_buffer(rt.alloc())?;
-    push(rt.alloc(), &mut buffer, meta(0, 0), &[])?;
-    assert_count(&rt, "packets that are held", buffer.held(), 4_096);
-    assert_pops(&rt, &mut buffer, &[Some((1, false)), Some((2, true))])
-}
-
-/// The next unit has this byte, the time 960 and no extra.
-fn assert_opus(rt: &impl Abort, buffer: &mut DepacketizingBuffer, byte: u8) -> Result<(), Fail> {
-    let unit = pop_unit(buffer, "no unit")?;
-    assert_bytes(rt, "a unit", &unit.bytes, &[byte]);
-    let got = (unit.time.numer(), unit.codec_extra);
-    assert_same(rt, "its time and extra", &got, &(960, CodecExtra::None));
-    Ok(())
-}
-
-/// Of two packets of one number the first stays. Two packets of one time are two units.
-#[test]
-fn units_are_what_came_first(rt: HostRuntime) -> Result<(), Fail> {
-    let mut buffer = buffer_of(rt.alloc(), Codec::Opus)?;
-    for (number, byte) in [(1, 5), (1, 6), (2, 7)] {
-        push_part(rt.alloc(), &mut buffer, number, false, &[byte])?;
-    }
-    assert_opus(&rt, &mut buffer, 5)?;
-    assert_opus(&rt, &mut buffer, 7)
-}
-
-/// Packets 2 to 4,097 of a VP8 frame, whose first is missing.
-fn headless_buffer(alloc: Global) -> Result<DepacketizingBuffer, Fail> {
-    let mut buffer = buffer_of(alloc, Codec::Vp8)?;
-    for number in 2..=4_097u64 {
-        push_part(alloc, &mut buffer, number, number == 4_097, &[0x00, 0x90])?;
-    }
-    Ok(buffer)
-}
-
-/// The first packet leaves at once and comes too late from then on.
-#[test]
-fn ready_4097_first_last(rt: HostRuntime) -> Result<(), Fail> {
-    let mut buffer = headless_buffer(rt.alloc())?;
-    for _ in 0..2 {
-        push_part(rt.alloc(), &mut buffer, 1, false, &[0x10, 0x90])?;
-        assert_held(&rt, &buffer, 4_096, 0);
-        assert_pops(&rt, &mut buffer, &[None])?;
-    }
-    Ok(())
-}
-
-/// Packets of AV1 from 4,096 down to 1, each of which begins a unit, and of which the last ends one. There is always one
-/// complete frame.
-fn push_downwards(
-    rt: &impl Abort,
+/// The packets of these numbers of a VP8 frame of packets 1 to 4,097.
+fn push_long_frame(
     alloc: Global,
     buffer: &mut DepacketizingBuffer,
-) -> Result<(), Fail> {
-    for below in 0..4_096u64 {
-        push_part(alloc, buffer, 4_096 - below, below == 0, &[0x10, 0x30])?;
-        assert_count(rt, "complete frames", buffer.ready(), 1);
+    from: u64,
+    to: u64,
+) -> Result<(), PacketError> {
+    for number in from..to {
+        let descriptor = if number == 1 { 0x10 } else { 0x00 };
+        let mut meta = meta(number, 960);
+        meta.header.marker = number == 4_097;
+        push(alloc, buffer, meta, &[descriptor, 0x90])?;
     }
     Ok(())
 }
 
-/// Of a buffer full of packets that each begin a unit, of which the last ends one, the lowest are evicted one by one, and the
-/// frame begins one packet later each time.
+/// The first packet of the frame leaves at once and comes too late from then on.
 #[test]
-fn ready_as_a_frame_shrinks(rt: HostRuntime) -> Result<(), Fail> {
-    let mut buffer = buffer_of(rt.alloc(), Codec::Av1)?;
-    push_downwards(&rt, rt.alloc(), &mut buffer)?;
-    for number in 4_097..4_100u64 {
-        push_part(rt.alloc(), &mut buffer, number, true, &[0x10, 0x30])?;
-    }
-    assert_held(&rt, &buffer, 4_096, 4);
-    let unit = pop_unit(&mut buffer, "no unit")?;
-    let got = (unit.seq_range(), unit.contiguous);
-    assert_same(&rt, "the frame", &got, &(SeqNo(4)..=SeqNo(4_096), false));
-    assert_count(&rt, "complete frames behind it", buffer.ready(), 3);
-    assert_pops(&rt, &mut buffer, &[Some((4_097, true))])
-}
-
-/// A VP8 frame of packets 1 to 4,097.
-fn push_long_frame(alloc: Global, buffer: &mut DepacketizingBuffer) -> Result<(), PacketError> {
-    for number in 1..=4_097u64 {
-        let descriptor = if number == 1 { 0x10 } else { 0x00 };
-        push_part(alloc, buffer, number, number == 4_097, &[descriptor, 0x90])?;
+fn ready_4097_first_last(rt: HostRuntime) -> Result<(), Fail> {
+    let mut buffer = buffer_of(rt.alloc(), Codec::Vp8)?;
+    push_long_frame(rt.alloc(), &mut buffer, 2, 4_098)?;
+    for _ in 0..2 {
+        push_long_frame(rt.alloc(), &mut buffer, 1, 2)?;
+        let got = (buffer.held(), buffer.ready());
+        assert_same(&rt, "packets and frames", &got, &(4_096, 0));
+        assert_same(&rt, "what comes out", &pop(&mut buffer)?, &None);
     }
     Ok(())
 }
@@ -234,20 +131,11 @@ fn push_long_frame(alloc: Global, buffer: &mut DepacketizingBuffer) -> Result<()
 fn limit_65536_vp8(rt: HostRuntime) -> Result<(), Fail> {
     let alloc = rt.alloc();
     let mut buffer = buffer_of_limit(alloc, Codec::Vp8, 0, 65_536)?;
-    assert_count(&rt, "the limit", buffer.limit(), 65_536);
-    push_long_frame(alloc, &mut buffer)?;
+    push_long_frame(alloc, &mut buffer, 1, 4_098)?;
     let unit = pop_unit(&mut buffer, "no unit")?;
-    assert_bytes(
-        &rt,
-        "the frame",
-        &unit.bytes,
-        &vec![in alloc; 0x90u8; 4_097]?,
-    );
-    assert_same(
-        &rt,
-        "its numbers",
-        &unit.seq_range(),
-        &(SeqNo(1)..=SeqNo(4_097)),
-    );
-    assert_pops(&rt, &mut buffer, &[None])
+    let wanted = vec![in alloc; 0x90u8; 4_097]?;
+    assert_bytes(&rt, "the frame", &unit.bytes, &wanted);
+    let numbers = SeqNo(1)..=SeqNo(4_097);
+    assert_same(&rt, "its numbers", &unit.seq_range(), &numbers);
+    Ok(())
 }

@@ -1,12 +1,8 @@
-//! Which codecs are built in, and what a specification sets.
+//! Which codecs are built in.
 
-use crate::asserts::{assert_bytes, assert_count, assert_same, assert_shown};
-use crate::library::received;
-use codec_payload_core::codec::{
-    CodecDepacketizer, CodecExtra, CodecPacketizer, Packetizer, TelephoneEvent,
-};
-use codec_payload_core::payload::Payloader;
-use codec_payload_core::wire::{Codec, CodecSpec, Frequency};
+use crate::asserts::{assert_same, assert_shown};
+use codec_payload_core::codec::{CodecDepacketizer, CodecPacketizer};
+use codec_payload_core::wire::Codec;
 use std::alloc::Global;
 use std::test::Fail;
 
@@ -43,75 +39,14 @@ fn is_there(alloc: Global, codec: Codec) -> (bool, bool) {
 #[test]
 fn from_codec_eleven(rt: HostRuntime) -> Result<(), Fail> {
     for codec in THERE {
-        assert_same(
-            &rt,
-            "built-in codecs",
-            &is_there(rt.alloc(), codec),
-            &(true, true),
-        );
+        let there = is_there(rt.alloc(), codec);
+        assert_same(&rt, "built-in codecs", &there, &(true, true));
     }
     for codec in ABSENT {
-        assert_same(
-            &rt,
-            "other codecs",
-            &is_there(rt.alloc(), codec),
-            &(false, false),
-        );
+        let there = is_there(rt.alloc(), codec);
+        assert_same(&rt, "other codecs", &there, &(false, false));
     }
     let opus = CodecPacketizer::from_codec(Codec::Opus).ok_or("no packetizer")?;
     assert_shown(&rt, rt.alloc(), &opus, "Opus(OpusPacketizer)")?;
-    let payloader = Payloader::with_packetizer(opus, Frequency::FORTY_EIGHT_KHZ);
-    assert_same(
-        &rt,
-        "the clock",
-        &payloader.clock_rate(),
-        &Frequency::FORTY_EIGHT_KHZ,
-    );
-    Ok(())
-}
-
-fn specification(codec: Codec) -> Result<CodecSpec, Fail> {
-    Ok(CodecSpec {
-        codec,
-        clock_rate: Frequency::make(16_000).ok_or("a rate")?,
-        octet_align: true,
-    })
-}
-
-/// 800 units are 100 milliseconds at 8 kHz, and 50 at 16 kHz.
-const EVENT: TelephoneEvent = TelephoneEvent {
-    event: 5,
-    end: true,
-    volume: 10,
-    duration: 50_000_000,
-};
-
-#[test]
-fn a_specification_sets_the_clock(rt: HostRuntime) -> Result<(), Fail> {
-    let (_, extra) = received(
-        rt.alloc(),
-        &specification(Codec::Tele)?,
-        &[0x05, 0x8a, 0x03, 0x20],
-    )?;
-    assert_same(&rt, "what is told", &extra, &CodecExtra::Tele(EVENT));
-    Ok(())
-}
-
-/// The payloads of a frame of speech from a packetizer that is told a specification.
-fn sent_speech(alloc: Global, frame: &[u8]) -> Result<Vec<Vec<u8>>, Fail> {
-    let mut speech = CodecPacketizer::from_codec(Codec::AmrWb).ok_or("no packetizer")?;
-    speech.configure_for(&specification(Codec::AmrWb)?);
-    Ok(speech.packetize(alloc, 1_200, frame)?)
-}
-
-#[test]
-fn a_specification_sets_the_layout(rt: HostRuntime) -> Result<(), Fail> {
-    let payloads = sent_speech(rt.alloc(), &[0x74])?;
-    assert_count(&rt, "payloads of a frame", payloads.len(), 1);
-    for payload in &payloads {
-        assert_bytes(&rt, "the payload", payload, &[0xf0, 0x74]);
-        let (frame, _) = received(rt.alloc(), &specification(Codec::AmrWb)?, payload)?;
-        assert_bytes(&rt, "the frame", &frame, &[0x74]);
-    }
     Ok(())
 }

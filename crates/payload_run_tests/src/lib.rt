@@ -1,5 +1,5 @@
-//! The worked examples of the buffer, of payloaders and of whole runs, the programs of docs/RATTLE.md, and hostile input, as
-//! tests over `codec_payload_core` alone: the test of a file of the sources stands in the file of that name.
+//! The worked examples of the buffer, of payloaders and of whole runs by their names, the programs of docs/RATTLE.md, and codecs of
+//! a caller's own, over `codec_payload_core` alone. What else is tested of behaviour stands in `rust/tests/runs`.
 #![tactic(auto)]
 
 #[cfg(test)]
@@ -14,8 +14,6 @@ mod codec;
 mod contiguity;
 #[cfg(test)]
 mod gateway;
-#[cfg(test)]
-mod hostile;
 #[cfg(test)]
 mod library;
 #[cfg(test)]

@@ -2,9 +2,7 @@
 //! the proof of a test.
 
 use codec_payload_core::buffer::{Depacketized, DepacketizingBuffer, RtpMeta};
-use codec_payload_core::codec::{
-    CodecDepacketizer, CodecExtra, Depacketizer, Packetizer, Vp9PacketizerMode,
-};
+use codec_payload_core::codec::{CodecDepacketizer, Depacketizer, Packetizer, Vp9PacketizerMode};
 use codec_payload_core::error::PacketError;
 use codec_payload_core::payload::{MemorySink, Payloader};
 use codec_payload_core::schedule::{RedRun, Run, Step, run_schedule};
@@ -17,25 +15,6 @@ use std::test::Fail;
 /// A depacketizer of a built-in codec.
 pub(super) fn depacketizer_of(alloc: Global, codec: Codec) -> Result<CodecDepacketizer, Fail> {
     Ok(CodecDepacketizer::from_codec(alloc, codec).ok_or("no depacketizer")?)
-}
-
-/// A depacketizer of a built-in codec that is told a specification.
-pub(super) fn depacketizer_for(alloc: Global, spec: &CodecSpec) -> Result<CodecDepacketizer, Fail> {
-    let mut depacketizer = depacketizer_of(alloc, spec.codec)?;
-    depacketizer.configure_for(spec);
-    Ok(depacketizer)
-}
-
-/// What such a depacketizer makes of a payload.
-pub(super) fn received(
-    alloc: Global,
-    spec: &CodecSpec,
-    payload: &[u8],
-) -> Result<(Vec<u8>, CodecExtra), Fail> {
-    let mut out = Vec::new(alloc);
-    let mut extra = CodecExtra::None;
-    depacketizer_for(alloc, spec)?.depacketize(payload, &mut out, &mut extra)?;
-    Ok((out, extra))
 }
 
 /// An empty buffer of a built-in codec, which holds nothing back.

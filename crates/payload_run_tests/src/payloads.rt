@@ -1,8 +1,8 @@
 //! Payloads in memory that is used again.
 
-use crate::asserts::{assert_bytes, assert_count, assert_same};
+use crate::asserts::{assert_bytes, assert_same};
 use crate::own_codec::EachByte;
-use codec_payload_core::codec::{CodecPacketizer, Packetizer, Vp9PacketizerMode};
+use codec_payload_core::codec::{CodecPacketizer, Packetizer};
 use codec_payload_core::error::PacketError;
 use codec_payload_core::payloads::Payloads;
 use codec_payload_core::wire::Codec;
@@ -25,8 +25,8 @@ struct SentRow {
     payloads: Result<&'static [&'static [u8]], PacketError>,
 }
 
-/// All go into the same memory, one after another. VP9 begins with the picture id 0x1234.
-static SENT: [SentRow; 12] = [
+/// All go into the same memory, one after another.
+static SENT: [SentRow; 6] = [
     SentRow {
         name: "av1-two-obus-mtu-3",
         codec: Codec::Av1,
@@ -35,29 +35,8 @@ static SENT: [SentRow; 12] = [
         payloads: Ok(&[&[0x18, 0x08, 0xaa], &[0x50, 0x30, 0xbb], &[0x90, 0xcc]]),
     },
     SentRow {
-        name: "av1-two-obus-mtu-1200",
-        codec: Codec::Av1,
-        mtu: 1_200,
-        frame: &[0x12, 0x00, 0x0a, 0x01, 0xaa, 0x32, 0x02, 0xbb, 0xcc],
-        payloads: Ok(&[&[0x28, 0x02, 0x08, 0xaa, 0x30, 0xbb, 0xcc]]),
-    },
-    SentRow {
-        name: "av1-frame-size-past-end-fault",
-        codec: Codec::Av1,
-        mtu: 1_200,
-        frame: &[0x0a, 0x05, 0xaa],
-        payloads: Err(PacketError::ErrAv1CorruptedPacket),
-    },
-    SentRow {
         name: "opus-two-pieces",
         codec: Codec::Opus,
-        mtu: 2,
-        frame: &[0x90, 0x90, 0x90],
-        payloads: Ok(&[&[0x90, 0x90], &[0x90]]),
-    },
-    SentRow {
-        name: "g7xx-as-opus",
-        codec: Codec::G722,
         mtu: 2,
         frame: &[0x90, 0x90, 0x90],
         payloads: Ok(&[&[0x90, 0x90], &[0x90]]),
@@ -70,25 +49,11 @@ static SENT: [SentRow; 12] = [
         payloads: Ok(&[&[]]),
     },
     SentRow {
-        name: "cn-one-packet-no-marker",
-        codec: Codec::CN,
-        mtu: 1_200,
-        frame: &[0x2a, 0x80, 0x40],
-        payloads: Ok(&[&[0x2a, 0x80, 0x40]]),
-    },
-    SentRow {
         name: "cn-mtu-2-fault",
         codec: Codec::CN,
         mtu: 2,
         frame: &[0x2a, 0x80, 0x40],
         payloads: Err(PacketError::ErrPayloadTooLarge),
-    },
-    SentRow {
-        name: "a telephone report",
-        codec: Codec::Tele,
-        mtu: 4,
-        frame: &[0x05, 0x8a, 0x03, 0x20],
-        payloads: Ok(&[&[0x05, 0x8a, 0x03, 0x20]]),
     },
     SentRow {
         name: "amr-wb-type-14-sent",
@@ -104,119 +69,59 @@ static SENT: [SentRow; 12] = [
         frame: &[0x90, 0x90, 0x90],
         payloads: Ok(&[&[0x10, 0x90], &[0x00, 0x90], &[0x00, 0x90]]),
     },
-    SentRow {
-        name: "vp9-nonflex-two-packets",
-        codec: Codec::Vp9,
-        mtu: 10,
-        frame: &[0x82, 0x49, 0x83],
-        payloads: Ok(&[
-            &[0xaa, 0x92, 0x34, 0x10, 0x01, 0x00, 0x82, 0x49],
-            &[0xa4, 0x92, 0x34, 0x10, 0x01, 0x83],
-        ]),
-    },
 ];
 
-/// The header of the packet at a place.
-fn header_of(place: usize) -> [u8; 12] {
-    [0x80, 96, 0, (place % 256) as u8, 0, 0, 3, 0xc0, 1, 2, 3, 4]
-}
+static OF_BYTES: SentRow = SentRow {
+    name: "box-byte-a-packet",
+    codec: Codec::Unknown,
+    mtu: 1_200,
+    frame: &[1, 2],
+    payloads: Ok(&[&[1], &[2]]),
+};
 
-/// Puts a header in front of each payload.
-fn put_headers(out: &mut Payloads) {
-    for place in 0..out.len() {
-        if place < out.len() && out.headroom() == HEADROOM {
-            out.put_header(place, &header_of(place));
-        }
-    }
-}
+/// The header of each packet.
+const HEADER: [u8; 12] = [0x80, 96, 0, 7, 0, 0, 3, 0xc0, 1, 2, 3, 4];
 
-/// How long the region of a packet is, with its rooms.
-fn region_size(out: &mut Payloads, place: usize) -> usize {
-    if place < out.len() {
-        out.packet_mut(place).len()
-    } else {
-        0
-    }
-}
-
-/// These payloads are there, each behind the header that was put in front of it, with its rooms.
-fn assert_packets(
-    rt: &impl Abort,
-    alloc: Global,
-    name: &str,
-    out: &mut Payloads,
-    payloads: &[&[u8]],
-) -> Result<(), Fail> {
-    assert_count(rt, name, out.len(), payloads.len());
-    put_headers(out);
+/// These payloads are there, each behind the header that is put in front of it, with its rooms.
+fn assert_packets(rt: &impl Abort, name: &str, out: &mut Payloads, payloads: &[&[u8]]) {
+    assert_same(rt, name, &out.len(), &payloads.len());
     for (place, payload) in payloads.iter().enumerate() {
-        if place < out.len() {
-            let mut packet = Vec::from_slice(alloc, &header_of(place))?;
-            packet.extend_from_slice(payload)?;
+        if place < out.len() && out.headroom() == HEADROOM {
+            out.put_header(place, &HEADER);
             assert_bytes(rt, name, out.get(place), payload);
-            assert_bytes(rt, name, out.header(place), &header_of(place));
-            assert_bytes(rt, name, out.packet(place), &packet);
+            assert_bytes(rt, name, out.header(place), &HEADER);
+            let whole = out.packet(place).len();
+            let region = out.packet_mut(place).len();
+            assert_same(rt, name, &region, &whole.saturating_add(TAILROOM));
         }
-        let size = HEADROOM
-            .saturating_add(payload.len())
-            .saturating_add(TAILROOM);
-        assert_count(rt, name, region_size(out, place), size);
     }
-    Ok(())
 }
 
-/// Writes the payloads of a frame.
-fn write<P: Packetizer>(
-    alloc: Global,
-    pack: &mut P,
-    mtu: usize,
-    frame: &[u8],
-    out: &mut Payloads,
-) -> Result<(), PacketError> {
-    pack.packetize_into(alloc, mtu, frame, out)
-}
-
-/// What comes of a row is what it says.
-fn assert_row(
+/// Writes the payloads of a frame, which are these.
+fn assert_written<P: Packetizer>(
     rt: &impl Abort,
     alloc: Global,
+    packetizer: &mut P,
     row: &SentRow,
     out: &mut Payloads,
-) -> Result<(), Fail> {
-    let mode = Vp9PacketizerMode::NonFlexible;
-    let mut pack = CodecPacketizer::new(row.codec, mode, 0x1234).ok_or("no packetizer")?;
-    let answer = write(alloc, &mut pack, row.mtu, row.frame, out);
-    match &row.payloads {
-        Ok(payloads) => {
-            answer?;
-            assert_packets(rt, alloc, row.name, out, payloads)
-        }
-        Err(wanted) => {
-            let Err(fault) = answer else {
-                return Err("no fault".into());
-            };
-            assert_same(rt, row.name, &fault, wanted);
-            assert_count(rt, row.name, out.len(), 0);
-            Ok(())
-        }
+) {
+    let answer = packetizer.packetize_into(alloc, row.mtu, row.frame, out);
+    match (&answer, &row.payloads) {
+        (Ok(()), Ok(payloads)) => assert_packets(rt, row.name, out, payloads),
+        (Err(fault), Err(wanted)) => assert_same(rt, row.name, fault, wanted),
+        _ => panic!(rt; "{} gives {answer:?}", row.name),
     }
 }
 
+/// All go into the same memory; the last is of a codec of a caller's own.
 #[test]
 fn rows_into_the_same_memory(rt: HostRuntime) -> Result<(), Fail> {
     let alloc = rt.alloc();
     let mut out = Payloads::new(alloc, HEADROOM, TAILROOM)?;
     for row in &SENT {
-        assert_row(&rt, alloc, row, &mut out)?;
+        let mut packetizer = CodecPacketizer::from_codec(row.codec).ok_or("no packetizer")?;
+        assert_written(&rt, alloc, &mut packetizer, row, &mut out);
     }
+    assert_written(&rt, alloc, &mut EachByte {}, &OF_BYTES, &mut out);
     Ok(())
-}
-
-#[test]
-fn a_codec_of_ones_own_into_memory(rt: HostRuntime) -> Result<(), Fail> {
-    let alloc = rt.alloc();
-    let mut out = Payloads::new(alloc, HEADROOM, TAILROOM)?;
-    let mut pack = CodecPacketizer::Boxed(EachByte {});
-    write(alloc, &mut pack, 1_200, &[1, 2], &mut out)?;
-    assert_packets(&rt, alloc, "box-byte-a-packet", &mut out, &[&[1], &[2]])
 }

@@ -7,8 +7,9 @@ use crate::codec::{CodecDepacketizer, Depacketizer, NoBox};
 use crate::error::PacketError;
 use crate::jitter::missing::MissingNumbers;
 use crate::jitter::no_media_numbers::{is_late, is_noted, note_no_media, pass_no_media_numbers};
+use crate::jitter::noted_times::{NotedTime, NotedTimes, is_soon_after};
 use crate::jitter::numbers::{
-    Extended, SequenceNumbers, lowest_with, number_within, without_restart,
+    Extended, SequenceNumbers, kept_number, lowest_with, number_within, without_restart,
 };
 pub use crate::jitter::outcome::{Outcome, PacketCounters};
 use crate::jitter::outcome::{
@@ -40,6 +41,7 @@ pub struct JitterBuffer<B = NoBox> {
     buffer: DepacketizingBuffer<B>,
     /// Numbers without media above the cutoff, in rising order.
     no_media_numbers: Vec<u64>,
+    noted_times: NotedTimes,
     kept: Option<KeptPacket>,
     clock_rate: Frequency,
     wait_limits: WaitLimits,
@@ -81,6 +83,7 @@ impl<B: Depacketizer> JitterBuffer<B> {
             numbers,
             buffer,
             no_media_numbers: Vec::new(),
+            noted_times: NotedTimes::new(),
             kept: None,
             clock_rate,
             wait_limits,
@@ -110,7 +113,7 @@ impl<B: Depacketizer> JitterBuffer<B> {
         payload: Vec<u8>,
     ) -> Result<Outcome, PacketError> {
         let low = header.sequence_number;
-        let answer = self.answer_to(low);
+        let answer = self.answer_to_packet(&header);
         let mut numbers = self.numbers;
         numbers.take(answer, low);
         let lowest = lowest_with(self.lowest, answer);
@@ -160,7 +163,7 @@ impl<B: Depacketizer> JitterBuffer<B> {
             header,
             payload,
         };
-        let outcome = self.store_within_windows(number, packet)?;
+        let outcome = self.store_and_note(number, packet)?;
         self.count_again(outcome);
         self.set_numbers(numbers, lowest);
         Ok(outcome)
@@ -192,7 +195,7 @@ impl<B: Depacketizer> JitterBuffer<B> {
             header,
             payload,
         };
-        self.store_within_windows(number, packet)?;
+        self.accept(number, packet)?;
         self.count_recovered();
         self.set_numbers(numbers, lowest);
         Ok(true)
@@ -341,6 +344,38 @@ impl<B: Depacketizer> JitterBuffer<B> {
         }
     }
 
+    /// What the number of a packet with media comes to: if it came before with another RTP time, the packet is suspect, or it
+    /// confirms that the sender has restarted.
+    fn answer_to_packet(&self, header: &RtpHeader) -> Extended {
+        let answer = self.answer_to(header.sequence_number);
+        let Extended::Number(number) = answer else {
+            return answer;
+        };
+        if !self.is_contradicted(number, header.timestamp) {
+            return answer;
+        }
+        if self.follows_kept(header) {
+            self.numbers.answer_anew(header.sequence_number)
+        } else {
+            Extended::Suspect
+        }
+    }
+
+    /// Whether the number came before with another RTP time, where restarts are looked for.
+    fn is_contradicted(&self, number: u64, time: u32) -> bool {
+        let packet = NotedTime { number, time };
+        let backward = self.numbers.backward();
+        !(self.ended || self.is_restarting) && self.noted_times.contradicts(backward, packet)
+    }
+
+    /// Whether the packet comes soon after the suspect one.
+    fn follows_kept(&self, header: &RtpHeader) -> bool {
+        match &self.kept {
+            Some(kept) => is_soon_after(self.clock_rate, &kept.header, header),
+            None => false,
+        }
+    }
+
     /// The number of a packet that was sent again, if it is within the windows.
     fn number_again(&self, low: u16) -> Option<u64> {
         if self.is_restarting {
@@ -365,7 +400,7 @@ impl<B: Depacketizer> JitterBuffer<B> {
     /// What becomes of a packet, by what its number came to.
     fn receive_as(&mut self, answer: Extended, packet: KeptPacket) -> Result<Outcome, PacketError> {
         match answer {
-            Extended::Number(number) => self.store_within_windows(number, packet),
+            Extended::Number(number) => self.store_and_note(number, packet),
             Extended::Restarted(number) => self.restart_with(number, packet),
             Extended::Suspect => {
                 self.keep(packet);
@@ -378,20 +413,22 @@ impl<B: Depacketizer> JitterBuffer<B> {
         }
     }
 
-    /// Takes in a packet within the windows. Nothing is suspect any more.
-    fn store_within_windows(
-        &mut self,
-        number: u64,
-        packet: KeptPacket,
-    ) -> Result<Outcome, PacketError> {
+    /// Takes in a packet that has that number, and notes its RTP time. The suspect packet stays.
+    fn store_and_note(&mut self, number: u64, packet: KeptPacket) -> Result<Outcome, PacketError> {
+        let noted = NotedTime {
+            number,
+            time: packet.header.timestamp,
+        };
+        let backward = self.numbers.backward();
+        let places = self.noted_times.first_places(backward, noted)?;
         let outcome = self.accept(number, packet)?;
-        self.kept = None;
+        self.noted_times.note(places, backward, noted);
         Ok(outcome)
     }
 
     /// Takes in the packet that confirms a restart, and the one before it, if that was kept.
     fn restart_with(&mut self, number: u64, packet: KeptPacket) -> Result<Outcome, PacketError> {
-        self.accept(number, packet)?;
+        self.store_and_note(number, packet)?;
         let with_kept = self.confirm(number);
         Ok(Outcome::Restarted(with_kept))
     }
@@ -430,10 +467,7 @@ impl<B: Depacketizer> JitterBuffer<B> {
     /// What a number without media comes to.
     fn note_as(&mut self, answer: Extended) -> Result<(), PacketError> {
         match answer {
-            Extended::Number(number) => {
-                self.note(number)?;
-                self.kept = None;
-            }
+            Extended::Number(number) => self.note(number)?,
             Extended::Restarted(number) => {
                 self.note(number)?;
                 self.confirm(number);
@@ -465,7 +499,10 @@ impl<B: Depacketizer> JitterBuffer<B> {
     fn confirm(&mut self, number: u64) -> bool {
         self.counters.restarts = self.counters.restarts.wrapping_add(1);
         match self.kept.take() {
-            Some(packet) => self.store_suspect(number.saturating_sub(1), packet),
+            Some(packet) => {
+                let number = kept_number(number, packet.header.sequence_number);
+                self.store_suspect(number, packet)
+            }
             None => false,
         }
     }

@@ -17,8 +17,8 @@ pub enum Extended {
     Number(u64),
     /// The sender has restarted: the packet comes right after one that was suspect, and this is its number, above all others.
     Restarted(u64),
-    /// It is far from the greatest number, and gets none. Where the next packet that gets none is its successor, the sender
-    /// has restarted.
+    /// It is far from the greatest number, and gets none. If the next packet that gets none is its successor, the sender has
+    /// restarted.
     Suspect,
     /// Its number would need more than 64 bits. Nothing has changed.
     Spent,
@@ -62,12 +62,13 @@ impl core::error::Error for WindowError {}
 /// Let d be the distance from the greatest number so far to the number with the packet's low bits that is nearest to it. Where
 /// `-backward <= d < forward`, that is the packet's number; the first packet gets 65,536 and its low bits, so that those sent
 /// before it have numbers too. All others are suspect, until two come one after the other: then the sender has restarted, and
-/// its numbers go on above all that were given. A packet within the windows ends the suspicion.
+/// its numbers go on above all that were given. Packets within the windows between the two change nothing (RFC 3550, appendix
+/// A.1).
 #[derive(Clone, Copy, Debug)]
 pub struct SequenceNumbers {
     /// The greatest number that was given.
     greatest: Option<u64>,
-    /// The latest packet that got no number, if none got one since.
+    /// The latest packet that got no number, if no restart came since.
     suspect: Option<u16>,
     forward: u16,
     backward: u16,
@@ -119,16 +120,27 @@ impl SequenceNumbers {
     /// Goes on with what the number of a packet came to.
     pub(crate) fn take(&mut self, answer: Extended, low: u16) {
         match answer {
-            Extended::Number(number) | Extended::Restarted(number) => {
-                self.greatest = Some(match self.greatest {
-                    Some(greatest) => greatest.max(number),
-                    None => number,
-                });
+            Extended::Number(number) => self.raise_to(number),
+            Extended::Restarted(number) => {
+                self.raise_to(number);
                 self.suspect = None;
             }
             Extended::Suspect => self.suspect = Some(low),
             Extended::Spent => {}
         }
+    }
+
+    /// A number was given.
+    fn raise_to(&mut self, number: u64) {
+        self.greatest = Some(match self.greatest {
+            Some(greatest) => greatest.max(number),
+            None => number,
+        });
+    }
+
+    /// How far behind the greatest number a packet may be.
+    pub(crate) fn backward(&self) -> u16 {
+        self.backward
     }
 
     /// The greatest number that was given.
@@ -205,4 +217,9 @@ fn follows(suspect: Option<u16>, low: u16) -> bool {
         Some(suspect) => (u32::from(suspect) + 1) % 65_536 == u32::from(low),
         None => false,
     }
+}
+
+/// The number of a packet that carries `low` and came before the one of that number: the greatest below it.
+pub(crate) fn kept_number(number: u64, low: u16) -> u64 {
+    number.saturating_sub((number % 65_536 + 65_536 - u64::from(low)) % 65_536)
 }

@@ -61,7 +61,7 @@ const THIRD: Step = Step::Push(Packet {
     payload: &[0x00, 0x90],
 });
 
-pub const STEPS: [StepsRow; 15] = [
+pub const STEPS: [StepsRow; 14] = [
     StepsRow {
         name: "opus-hold-back-1",
         codec: Codec::Opus,
@@ -158,39 +158,6 @@ pub const STEPS: [StepsRow; 15] = [
                 last: 3,
                 contiguous: true,
             })),
-        ],
-    },
-    StepsRow {
-        name: "opus-hold-back-0-goes-on-over-a-gap",
-        codec: Codec::Opus,
-        hold_back: 0,
-        limit: 4_096,
-        steps: &[
-            Step::Push(Packet {
-                number: 3,
-                time: 3,
-                marker: false,
-                payload: &[0x07],
-            }),
-            Step::Push(Packet {
-                number: 0,
-                time: 0,
-                marker: false,
-                payload: &[0x07],
-            }),
-            Step::Pop(Some(Unit {
-                bytes: &[0x07],
-                first: 0,
-                last: 0,
-                contiguous: true,
-            })),
-            Step::Pop(Some(Unit {
-                bytes: &[0x07],
-                first: 3,
-                last: 3,
-                contiguous: false,
-            })),
-            Step::Pop(None),
         ],
     },
     StepsRow {

@@ -1,14 +1,11 @@
 //! What units tell of their packets, and units in memory that is used again.
 
-use crate::asserts::{assert_bytes, assert_count, assert_same};
+use crate::asserts::{assert_bytes, assert_same};
 use crate::buffer::meta;
 use crate::library::{buffer_of, pop_unit, push};
-use codec_payload_core::buffer::{Depacketized, DepacketizingBuffer, RtpMeta, UnitInfo};
+use codec_payload_core::buffer::{Depacketized, DepacketizingBuffer, RtpMeta};
 use codec_payload_core::error::PacketError;
-use codec_payload_core::wire::{
-    AbsCaptureTime, Codec, ExtensionValues, MediaTime, Pt, RtpHeader, SenderInfo, SeqNo, Ticks,
-    VideoLayersAllocation, VideoTiming,
-};
+use codec_payload_core::wire::{Codec, SenderInfo, SeqNo, Ticks};
 use std::alloc::Global;
 use std::process::Abort;
 use std::test::Fail;
@@ -50,7 +47,7 @@ fn unit_tells_of_its_packets(rt: HostRuntime) -> Result<(), Fail> {
         push_received(rt.alloc(), &mut buffer, number, received)?;
     }
     let unit = pop_unit(&mut buffer, "no unit")?;
-    assert_count(&rt, "its packets", unit.meta().len(), 3);
+    assert_same(&rt, "its packets", &unit.meta().len(), &3);
     let times = (unit.first_network_time(), first_ntp_time(&unit));
     assert_same(&rt, "when it came", &times, &(Ticks(8), Some(5)));
     let told = (unit.seq_range(), unit.start_of_talkspurt());
@@ -63,144 +60,7 @@ fn unit_tells_of_its_packets(rt: HostRuntime) -> Result<(), Fail> {
     Ok(())
 }
 
-/// The values of the unit that comes of a VP8 frame in packets with these values.
-fn merged_of(alloc: Global, values: &[ExtensionValues]) -> Result<ExtensionValues, Fail> {
-    let mut buffer = buffer_of(alloc, Codec::Vp8)?;
-    for (place, value) in values.iter().enumerate() {
-        let mut meta = meta(place as u64, 960);
-        meta.header.ext_vals = *value;
-        meta.header.marker = place + 1 == values.len();
-        // The S bit begins a frame.
-        let descriptor = if place == 0 { 0x10 } else { 0x00 };
-        push(alloc, &mut buffer, meta, &[descriptor, 0x01])?;
-    }
-    Ok(pop_unit(&mut buffer, "no unit")?.ext_vals())
-}
-
-fn captured(capture_time: u64) -> AbsCaptureTime {
-    AbsCaptureTime {
-        capture_time,
-        clock_offset: None,
-    }
-}
-
-/// Capture time and layers allocation are those of the first packet, or else of the last; all others those of the last.
-#[test]
-fn unit_merges_extension_values(rt: HostRuntime) -> Result<(), Fail> {
-    let alloc = rt.alloc();
-    let mut first = ExtensionValues::default();
-    first.abs_capture_time = Some(captured(1));
-    first.layers_allocation = VideoLayersAllocation::new(&[1]);
-    first.audio_level = Some(-1);
-    let mut last = ExtensionValues::default();
-    last.abs_capture_time = Some(captured(2));
-    last.layers_allocation = VideoLayersAllocation::new(&[2]);
-    last.video_orientation = Some(2);
-    last.video_content_type = Some(2);
-    let none = ExtensionValues::default();
-
-    let mut merged = last;
-    merged.abs_capture_time = first.abs_capture_time;
-    merged.layers_allocation = first.layers_allocation;
-    for (values, wanted) in [
-        ([first, none, last].as_slice(), merged),
-        (&[none, first, last], last),
-        (&[last], last),
-    ] {
-        assert_same(
-            &rt,
-            "the values of a unit",
-            &merged_of(alloc, values)?,
-            &wanted,
-        );
-    }
-    let turned = merged_of(alloc, &[last, none])?.video_orientation;
-    assert_same(&rt, "the orientation of a unit", &turned, &None);
-    Ok(())
-}
-
-/// Every value of a header extension.
-fn all_values() -> ExtensionValues {
-    ExtensionValues {
-        abs_capture_time: Some(AbsCaptureTime {
-            capture_time: 0x1234_5678_0000_0001,
-            clock_offset: Some(-7),
-        }),
-        video_orientation: Some(3),
-        video_content_type: Some(1),
-        video_timing: Some(VideoTiming {
-            flags: 2,
-            encode_start: 1,
-            encode_finish: 2,
-            packetize_complete: 3,
-            last_left_pacer: 4,
-            network_1: 5,
-            network_2: 6,
-        }),
-        layers_allocation: VideoLayersAllocation::new(&[0x40, 0, 0x0a]),
-        audio_level: Some(-30),
-        voice_activity: Some(true),
-    }
-}
-
-/// What is known of a packet of Opus: every value of a header extension, or none.
-fn meta_of(number: u64, ext_vals: ExtensionValues) -> RtpMeta {
-    RtpMeta {
-        received: Ticks(number.wrapping_add(5)),
-        time: MediaTime::from_90khz(number.wrapping_mul(960)),
-        seq_no: SeqNo(number),
-        header: RtpHeader {
-            payload_type: Pt::new_with_value(111),
-            sequence_number: (number % 65_536) as u16,
-            timestamp: 7,
-            ssrc: 0x0102_0304,
-            marker: true,
-            ext_vals,
-        },
-        last_sender_info: Some(SenderInfo {
-            ssrc: 9,
-            ntp_time: 10,
-            rtp_time: 11,
-            packet_count: 12,
-            octet_count: 13,
-        }),
-    }
-}
-
-/// The next unit, into this memory.
-fn pop_into(
-    buffer: &mut DepacketizingBuffer,
-    bytes: &mut Vec<u8>,
-    metas: &mut Vec<RtpMeta>,
-) -> Option<Result<UnitInfo, PacketError>> {
-    buffer.pop_into(bytes, metas)
-}
-
-/// What is known of the packet of that number: of even ones with every value of a header extension, of others with none.
-fn known_of(number: u64) -> RtpMeta {
-    let values = if number % 2 == 0 {
-        all_values()
-    } else {
-        ExtensionValues::default()
-    };
-    meta_of(number, values)
-}
-
-/// Pushes the packet of that number.
-fn push_number(
-    alloc: Global,
-    buffer: &mut DepacketizingBuffer,
-    number: u64,
-) -> Result<(), PacketError> {
-    push(
-        alloc,
-        buffer,
-        known_of(number),
-        &[0x90, (number % 256) as u8],
-    )
-}
-
-/// The unit of that number, of one packet, is the next.
+/// The unit of that number, of one packet, is the next, in this memory.
 fn assert_next(
     rt: &impl Abort,
     buffer: &mut DepacketizingBuffer,
@@ -208,76 +68,29 @@ fn assert_next(
     bytes: &mut Vec<u8>,
     metas: &mut Vec<RtpMeta>,
 ) -> Result<(), Fail> {
-    let info = match pop_into(buffer, bytes, metas) {
-        Some(Ok(info)) => info,
-        Some(Err(_)) => return Err("a fault".into()),
-        None => return Err("no unit".into()),
-    };
-    let wanted = known_of(number);
-    assert_same(rt, "the time of the unit", &info.time, &wanted.time);
-    assert_same(rt, "contiguous", &info.contiguous, &true);
-    assert_bytes(rt, "the unit", bytes, &[0x90, (number % 256) as u8]);
-    assert_count(rt, "packets", metas.len(), 1);
-    for meta in metas.iter() {
-        assert_same(rt, "what is known", meta, &wanted);
+    match buffer.pop_into(bytes, metas) {
+        Some(Ok(info)) => assert_same(rt, "its time", &info.time.numer(), &number),
+        _ => return Err("no unit".into()),
     }
+    assert_bytes(rt, "its bytes", bytes, &[0x90]);
+    assert_same(
+        rt,
+        "its packets",
+        &metas.as_slice(),
+        &[meta(number, number)].as_slice(),
+    );
     Ok(())
 }
 
+/// Units go into memory that is used again.
 #[test]
 fn units_into_the_same_memory(rt: HostRuntime) -> Result<(), Fail> {
-    let alloc = rt.alloc();
-    let mut buffer = buffer_of(alloc, Codec::Opus)?;
-    let mut bytes = Vec::from_slice(alloc, &[1, 2, 3])?;
-    let mut metas = Vec::new(alloc);
-    push_number(alloc, &mut buffer, 70_000)?;
-    push_number(alloc, &mut buffer, 70_001)?;
-    assert_next(&rt, &mut buffer, 70_000, &mut bytes, &mut metas)?;
-    assert_next(&rt, &mut buffer, 70_001, &mut bytes, &mut metas)?;
-    let end = pop_into(&mut buffer, &mut bytes, &mut metas).is_none();
-    assert_same(&rt, "the end", &end, &true);
-    Ok(())
-}
-
-/// The number of the next unit, or none.
-fn next_number(buffer: &mut DepacketizingBuffer) -> Result<Option<u64>, PacketError> {
-    match buffer.pop() {
-        Some(Ok(unit)) => Ok(Some(unit.seq_range().start().0)),
-        Some(Err(fault)) => Err(fault),
-        None => Ok(None),
+    let mut buffer = buffer_of(rt.alloc(), Codec::Opus)?;
+    let mut bytes = Vec::from_slice(rt.alloc(), &[1, 2, 3])?;
+    let mut metas = Vec::new(rt.alloc());
+    for number in [70_000, 70_001] {
+        push(rt.alloc(), &mut buffer, meta(number, number), &[0x90])?;
+        assert_next(&rt, &mut buffer, number, &mut bytes, &mut metas)?;
     }
-}
-
-/// A burst of packets from that number on goes through a buffer, which gives memory back on the way. How many units come out
-/// in order.
-fn burst(alloc: Global, buffer: &mut DepacketizingBuffer, from: u64) -> Result<u64, PacketError> {
-    for place in 0..1_000u64 {
-        push_number(alloc, buffer, from.wrapping_add(place))?;
-    }
-    let mut in_order = 0u64;
-    for place in 0..1_001u64 {
-        if next_number(buffer)? == Some(from.wrapping_add(place)) {
-            in_order = in_order.wrapping_add(1);
-        }
-    }
-    Ok(in_order)
-}
-
-#[test]
-fn bursts_come_out_whole(rt: HostRuntime) -> Result<(), Fail> {
-    let alloc = rt.alloc();
-    let mut buffer = buffer_of(alloc, Codec::Opus)?;
-    assert_same(
-        &rt,
-        "the first burst",
-        &burst(alloc, &mut buffer, 100)?,
-        &1_000,
-    );
-    assert_same(
-        &rt,
-        "the second burst",
-        &burst(alloc, &mut buffer, 1_100)?,
-        &1_000,
-    );
     Ok(())
 }

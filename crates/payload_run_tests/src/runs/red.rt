@@ -1,61 +1,12 @@
-//! Runs with RED: a worked one, and which lost packets come back.
+//! A run with RED.
 
 use crate::asserts::{assert_bytes, assert_same};
-use crate::library::{
-    Ended, buffer_of, bytes_of_units, payloader_of, run_steps, sample, samples_of,
-};
-use codec_payload_core::buffer::RtpMeta;
-use codec_payload_core::payload::MemorySink;
+use crate::library::{Ended, buffer_of, bytes_of_units, payloader_of, run_steps, samples_of};
 use codec_payload_core::red::{RedReceiver, RedSender};
-use codec_payload_core::schedule::{RedRun, Run, Step};
-use codec_payload_core::wire::{Codec, ExtensionValues, Frequency, Pt, Ticks, ToPayload};
-use std::alloc::{AllocError, Global};
-use std::process::Abort;
+use codec_payload_core::schedule::{RedRun, Step};
+use codec_payload_core::wire::{Codec, Frequency, Pt};
+use std::alloc::Global;
 use std::test::Fail;
-
-/// How packets are put in RED: which older ones each repeats, how far apart their RTP times lie, and the most bytes of a
-/// payload.
-#[derive(Clone, Copy, Debug)]
-struct Protection<'a> {
-    distances: &'a [u32],
-    step: u32,
-    budget: usize,
-}
-
-/// A sender of blocks of payload type 96 in packets of type 63.
-fn sender_of(alloc: Global, distances: &[u32]) -> Result<RedSender, Fail> {
-    if !RedSender::accepts(distances) {
-        return Err("distances that no sender takes".into());
-    }
-    let (red, primary) = (Pt::new_with_value(63), Pt::new_with_value(96));
-    Ok(RedSender::new(alloc, red, primary, distances))
-}
-
-/// A run of Opus at 48 kHz with RED, the first packet of which is packet 10.
-fn run_in_red(
-    alloc: Global,
-    protection: Protection<'_>,
-    samples: &[ToPayload],
-    steps: &[Step],
-) -> Result<Ended, Fail> {
-    let mut payloader = payloader_of(Codec::Opus, Frequency::FORTY_EIGHT_KHZ)?;
-    let mut buffer = buffer_of(alloc, Codec::Opus)?;
-    let mut sender = sender_of(alloc, protection.distances)?;
-    let receiver = RedReceiver::new(96, protection.step).ok_or("no receiver")?;
-    let red = RedRun {
-        sender: &mut sender,
-        budget: protection.budget,
-        receiver: &receiver,
-    };
-    Ok(run_steps(
-        alloc,
-        &mut payloader,
-        &mut buffer,
-        samples,
-        steps,
-        Some(red),
-    )?)
-}
 
 const THREE_SAMPLES: [Step; 9] = [
     Step::Send {
@@ -78,229 +29,54 @@ const THREE_SAMPLES: [Step; 9] = [
     Step::Pop,
 ];
 
-/// All payloads, one behind another, of packets that have type 63.
-fn payloads_in_red(rt: &impl Abort, alloc: Global, sink: &MemorySink) -> Result<Vec<u8>, Fail> {
-    let mut sent = Vec::new(alloc);
-    for packet in sink.packets() {
-        assert_same(rt, "payload types", &packet.pt, &Pt::new_with_value(63));
-        sent.extend_from_slice(&packet.payload)?;
-    }
-    Ok(sent)
+/// A run of Opus at 48 kHz with RED, in which each payload of type 63 repeats the one before.
+fn run_in_red(alloc: Global, frames: &[&[u8]]) -> Result<Ended, Fail> {
+    let mut payloader = payloader_of(Codec::Opus, Frequency::FORTY_EIGHT_KHZ)?;
+    let mut buffer = buffer_of(alloc, Codec::Opus)?;
+    let (red, primary) = (Pt::new_with_value(63), Pt::new_with_value(96));
+    let mut sender = RedSender::new(alloc, red, primary, &[1]);
+    let receiver = RedReceiver::new(96, 960).ok_or("no receiver")?;
+    let red = RedRun {
+        sender: &mut sender,
+        budget: 1_200,
+        receiver: &receiver,
+    };
+    let samples = samples_of(alloc, frames)?;
+    Ok(run_steps(
+        alloc,
+        &mut payloader,
+        &mut buffer,
+        &samples,
+        &THREE_SAMPLES,
+        Some(red),
+    )?)
 }
 
-/// When a packet was received, its number, its RTP time and its marker.
-type Told = (Ticks, u64, u32, bool);
+/// What is sent in three packets.
+const PACKETS: [&[u8]; 3] = [
+    &[0x60, 1, 2],
+    &[0xe0, 0x0f, 0, 2, 0x60, 1, 2, 3, 4],
+    &[0xe0, 0x0f, 0, 2, 0x60, 3, 4, 5],
+];
 
-/// What is told of a packet, which has type 96 and no values of header extensions.
-fn told_of(rt: &impl Abort, meta: &RtpMeta) -> Told {
-    let header = &meta.header;
-    let got = (header.payload_type, header.ext_vals);
-    let wanted = (Pt::new_with_value(96), ExtensionValues::default());
-    assert_same(rt, "payload types and values", &got, &wanted);
-    (
-        meta.received,
-        meta.seq_no.0,
-        header.timestamp,
-        header.marker,
-    )
-}
-
-/// What is told of the packets of all units.
-fn told_of_units(rt: &impl Abort, alloc: Global, run: &Run) -> Result<Vec<Told>, AllocError> {
-    let mut told = Vec::new(alloc);
-    for pop in &run.pops {
-        if let Some(Ok(unit)) = pop {
-            for meta in unit.meta() {
-                told.push(told_of(rt, meta))?;
-            }
-        }
-    }
-    Ok(told)
-}
+/// Time, marker and number of each unit's packet: the samples start talk spurts, and a recovered packet is told without marker.
+const TOLD: [(u32, bool, u64); 3] = [(960, false, 10), (1_920, true, 11), (2_880, true, 12)];
 
 #[test]
 fn program_red_run(rt: HostRuntime) -> Result<(), Fail> {
-    let alloc = rt.alloc();
-    let samples = samples_of(alloc, &[&[1, 2], &[3, 4], &[5]])?;
-    let protection = Protection {
-        distances: &[1],
-        step: 960,
-        budget: 1_200,
-    };
-    let ended = run_in_red(alloc, protection, &samples, &THREE_SAMPLES)?;
-    let sent = payloads_in_red(&rt, alloc, &ended.sink)?;
-    let wanted = [
-        0x60u8, 1, 2, 0xe0, 0x0f, 0, 2, 0x60, 1, 2, 3, 4, 0xe0, 0x0f, 0, 2, 0x60, 3, 4, 5,
-    ];
-    assert_bytes(&rt, "what is sent", &sent, &wanted);
-    let units = bytes_of_units(alloc, &ended.run)?;
+    let ended = run_in_red(rt.alloc(), &[&[1, 2], &[3, 4], &[5]])?;
+    for (packet, wanted) in ended.sink.packets().iter().zip(&PACKETS) {
+        assert_same(&rt, "payload types", &packet.pt, &Pt::new_with_value(63));
+        assert_bytes(&rt, "what is sent", &packet.payload, wanted);
+    }
+    let units = bytes_of_units(rt.alloc(), &ended.run)?;
     assert_bytes(&rt, "what comes out", &units, &[1, 2, 3, 4, 5, 255]);
-    // The samples start talk spurts: their packets have the marker, which a recovered packet is not told with.
-    let wanted = [
-        (Ticks(3), 10u64, 960u32, false),
-        (Ticks(3), 11, 1_920, true),
-        (Ticks(4), 12, 2_880, true),
-    ];
-    let told = told_of_units(&rt, alloc, &ended.run)?;
-    assert_same(&rt, "what is told", &told.as_slice(), &wanted.as_slice());
-    Ok(())
-}
-
-/// How many bytes each of ten samples has.
-const LENGTHS: [usize; 10] = [10, 25, 13, 40, 1, 30, 22, 8, 35, 17];
-
-/// Whether the packet that comes has the lost one in a block: of the distances, shallowest first, those whose payload was
-/// sent and whose offset fits 14 bits have one, as long as the budget has room for all so far.
-fn has_block(protection: Protection<'_>, comes: usize, lost: usize) -> bool {
-    let own = LENGTHS.get(comes).copied().unwrap_or(0);
-    let mut room = protection.budget.saturating_sub(own).saturating_sub(1);
-    for distance in protection.distances {
-        let Some(older) = comes.checked_sub(*distance as usize) else {
-            continue;
-        };
-        if distance.saturating_mul(protection.step) > 16_383 {
-            continue;
-        }
-        let length = LENGTHS.get(older).copied().unwrap_or(0);
-        if room < length.saturating_add(4) {
-            return false;
-        }
-        if older == lost {
-            return true;
-        }
-        room = room.saturating_sub(length.saturating_add(4));
-    }
-    false
-}
-
-/// Packets that are lost, one after another.
-#[derive(Clone, Copy, Debug)]
-struct Burst {
-    first: usize,
-    count: usize,
-}
-
-impl Burst {
-    fn spares(self, place: usize) -> bool {
-        place < self.first || place >= self.first.saturating_add(self.count)
-    }
-}
-
-/// Whether the sample of that place comes out: its packet comes, or one that has it in a block.
-fn comes_out(protection: Protection<'_>, burst: Burst, place: usize) -> bool {
-    for comes in 0..LENGTHS.len() {
-        if burst.spares(comes) && (comes == place || has_block(protection, comes, place)) {
-            return true;
-        }
-    }
-    false
-}
-
-/// Which of the ten samples come out, each told by its place.
-fn wanted_units(
-    alloc: Global,
-    protection: Protection<'_>,
-    burst: Burst,
-) -> Result<Vec<u8>, AllocError> {
-    let mut units = Vec::new(alloc);
-    for place in 0..LENGTHS.len() {
-        if comes_out(protection, burst, place) {
-            units.push(place as u8)?;
-        }
-    }
-    Ok(units)
-}
-
-/// Ten samples, each of which has its place in each byte.
-fn ten_samples(alloc: Global, step: u32) -> Result<Vec<ToPayload>, Fail> {
-    let mut samples = Vec::new(alloc);
-    let mut time = 0u64;
-    for (place, length) in LENGTHS.iter().enumerate() {
-        time = time.wrapping_add(u64::from(step));
-        let bytes = vec![in alloc; place as u8; *length]?;
-        samples.push(sample(alloc, time, &bytes)?)?;
-    }
-    Ok(samples)
-}
-
-/// Sends all samples, pushes the packets that come, and pops.
-fn steps_of(alloc: Global, mtu: usize, burst: Burst) -> Result<Vec<Step>, AllocError> {
-    let mut steps = Vec::new(alloc);
-    for sample in 0..LENGTHS.len() {
-        steps.push(Step::Send { sample, mtu })?;
-    }
-    for place in 0..LENGTHS.len() {
-        if burst.spares(place) {
-            steps.push(Step::Push(place))?;
-        }
-    }
-    for _ in 0..LENGTHS.len() {
-        steps.push(Step::Pop)?;
-    }
-    Ok(steps)
-}
-
-/// The places of the samples that came out, and 255 for one that is not whole.
-fn places_of(alloc: Global, run: &Run) -> Result<Vec<u8>, AllocError> {
-    let mut places = Vec::new(alloc);
-    for pop in &run.pops {
+    for (pop, wanted) in ended.run.pops.iter().zip(&TOLD) {
         if let Some(Ok(unit)) = pop {
-            places.push(place_of(&unit.bytes))?;
+            let header = unit.meta()[0].header;
+            let told = (header.timestamp, header.marker, unit.meta()[0].seq_no.0);
+            assert_same(&rt, "what is told", &told, wanted);
         }
-    }
-    Ok(places)
-}
-
-fn place_of(unit: &[u8]) -> u8 {
-    let place = unit.first().copied().unwrap_or(255);
-    let whole = LENGTHS.get(place as usize) == Some(&unit.len());
-    if whole { place } else { 255 }
-}
-
-/// What comes out.
-fn units_of(alloc: Global, protection: Protection<'_>, burst: Burst) -> Result<Vec<u8>, Fail> {
-    let samples = ten_samples(alloc, protection.step)?;
-    let steps = steps_of(alloc, protection.budget.saturating_sub(1), burst)?;
-    let ended = run_in_red(alloc, protection, &samples, &steps)?;
-    Ok(places_of(alloc, &ended.run)?)
-}
-
-/// A burst is made up for exactly where a packet that came has a block.
-fn assert_made_up(
-    rt: &impl Abort,
-    alloc: Global,
-    protection: Protection<'_>,
-    burst: Burst,
-) -> Result<(), Fail> {
-    let units = units_of(alloc, protection, burst)?;
-    let wanted = wanted_units(alloc, protection, burst)?;
-    assert_eq!(rt; units, wanted, "{protection:?}, {burst:?}");
-    Ok(())
-}
-
-/// Every single loss, and every burst of two to four.
-fn assert_recovered(rt: &impl Abort, alloc: Global, distances: &[u32]) -> Result<(), Fail> {
-    for step in [160u32, 960, 2_048] {
-        for budget in [1_200usize, 60, 45] {
-            let protection = Protection {
-                distances,
-                step,
-                budget,
-            };
-            for count in 1..5usize {
-                for first in 0..LENGTHS.len() {
-                    assert_made_up(rt, alloc, protection, Burst { first, count })?;
-                }
-            }
-        }
-    }
-    Ok(())
-}
-
-#[test]
-fn recovered_at_distances(rt: HostRuntime) -> Result<(), Fail> {
-    for distances in [[1].as_slice(), &[1, 2], &[1, 3], &[2, 5, 8]] {
-        assert_recovered(&rt, rt.alloc(), distances)?;
     }
     Ok(())
 }

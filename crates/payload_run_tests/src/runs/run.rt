@@ -1,23 +1,35 @@
 //! Runs of a stream that is built from one specification.
 
 use crate::asserts::{assert_bytes, assert_holds, assert_same};
-use crate::library::counts_of;
+use crate::library::{bytes_of_units, counts_of, samples_of};
 use codec_payload_core::codec::Vp9PacketizerMode;
 use codec_payload_core::schedule::{Run, Step, Stream, run_stream};
-use codec_payload_core::wire::{
-    Codec, CodecSpec, ExtensionValues, Frequency, MediaTime, Pt, Ticks, ToPayload,
-};
+use codec_payload_core::wire::{Codec, CodecSpec, Frequency};
 use std::alloc::Global;
 use std::test::Fail;
 
+/// A frame of mode 0, with 132 bits behind its header.
+const SPEECH: [u8; 18] = [
+    0x04, 1, 2, 3, 4, 5, 6, 7, 8, 9, 10, 11, 12, 13, 14, 15, 16, 0xf0,
+];
+
+/// The frame, and 255 for a pop that gives nothing.
+const SPEECH_THEN_NONE: [u8; 19] = [
+    0x04, 1, 2, 3, 4, 5, 6, 7, 8, 9, 10, 11, 12, 13, 14, 15, 16, 0xf0, 255,
+];
+
+const SEND_AND_POP: [Step; 4] = [
+    Step::Send {
+        sample: 0,
+        mtu: 1_200,
+    },
+    Step::Push(0),
+    Step::Pop,
+    Step::Pop,
+];
+
 /// A run of a stream of that codec with an RTP clock of 16 kHz, whose first packet has the number 7, over one sample.
-fn run_of(
-    alloc: Global,
-    codec: Codec,
-    octet_align: bool,
-    frame: &[u8],
-    steps: &[Step],
-) -> Result<Option<Run>, Fail> {
+fn run_of(alloc: Global, codec: Codec, octet_align: bool) -> Result<Option<Run>, Fail> {
     let spec = CodecSpec {
         codec,
         clock_rate: Frequency::make(16_000).ok_or("no rate")?,
@@ -31,91 +43,21 @@ fn run_of(
         hold_back: 0,
         limit: 4_096,
     };
-    let samples = samples_of(alloc, frame)?;
-    Ok(run_stream(alloc, stream, &samples, steps)?)
+    let samples = samples_of(alloc, &[&SPEECH])?;
+    Ok(run_stream(alloc, stream, &samples, &SEND_AND_POP)?)
 }
 
-fn samples_of(alloc: Global, bytes: &[u8]) -> Result<Vec<ToPayload>, Fail> {
-    let mut samples = Vec::new(alloc);
-    samples.push(ToPayload {
-        pt: Pt::new_with_value(96),
-        wallclock: Ticks(0),
-        rtp_time: MediaTime::new(160, Frequency::EIGHT_KHZ),
-        bytes: Vec::from_slice(alloc, bytes)?,
-        start_of_talk_spurt: false,
-        ext_vals: ExtensionValues::default(),
-    })?;
-    Ok(samples)
-}
-
-/// For each pop the number of the first packet of the unit that came out.
-fn numbers_of(alloc: Global, run: &Run) -> Result<Vec<Option<u64>>, Fail> {
-    let mut numbers = Vec::new(alloc);
-    for pop in &run.pops {
-        numbers.push(match pop {
-            Some(Ok(unit)) => Some(unit.meta()[0].seq_no.0),
-            Some(Err(_)) => return Err("a fault".into()),
-            None => None,
-        })?;
-    }
-    Ok(numbers)
-}
-
-/// The bytes of the unit that the first pop gave.
-fn first_unit(run: &Run) -> Result<&[u8], Fail> {
-    match run.pops.first() {
-        Some(Some(Ok(unit))) => Ok(unit.bytes.as_slice()),
-        _ => Err("no unit".into()),
-    }
-}
-
-/// A frame of mode 0, with 132 bits behind its header.
-const SPEECH: [u8; 18] = [
-    0x04, 1, 2, 3, 4, 5, 6, 7, 8, 9, 10, 11, 12, 13, 14, 15, 16, 0xf0,
-];
-
-const SEND_AND_POP: [Step; 4] = [
-    Step::Send {
-        sample: 0,
-        mtu: 1_200,
-    },
-    Step::Push(0),
-    Step::Pop,
-    Step::Pop,
-];
-
-/// The frame comes back in either layout of AMR-WB: sender and receiver are both told the layout.
+/// The frame comes back in either layout of AMR-WB: sender and receiver are both told the layout. RED has no packetizer.
 #[test]
 fn amr_wb_in_either_layout(rt: HostRuntime) -> Result<(), Fail> {
-    let alloc = rt.alloc();
     for octet_align in [false, true] {
-        let run = run_of(alloc, Codec::AmrWb, octet_align, &SPEECH, &SEND_AND_POP)?;
-        let run = run.ok_or("no packetizer")?;
-        let counts = counts_of(alloc, &run, "a refused sample")?;
-        assert_same(
-            &rt,
-            "packets of the sample",
-            &counts.as_slice(),
-            &[1].as_slice(),
-        );
-        let numbers = numbers_of(alloc, &run)?;
-        assert_same(
-            &rt,
-            "pops",
-            &numbers.as_slice(),
-            &[Some(7), None].as_slice(),
-        );
-        assert_bytes(&rt, "the frame", first_unit(&run)?, &SPEECH);
+        let run = run_of(rt.alloc(), Codec::AmrWb, octet_align)?.ok_or("no packetizer")?;
+        let counts = counts_of(rt.alloc(), &run, "a refused sample")?;
+        assert_same(&rt, "packets", &counts.as_slice(), &[1].as_slice());
+        let units = bytes_of_units(rt.alloc(), &run)?;
+        assert_bytes(&rt, "the frame", &units, &SPEECH_THEN_NONE);
     }
-    Ok(())
-}
-
-/// Codecs that wrap others, and those that are not built in, have no packetizer.
-#[test]
-fn no_packetizer(rt: HostRuntime) -> Result<(), Fail> {
-    for codec in [Codec::Red, Codec::Rtx, Codec::H264, Codec::Unknown] {
-        let run = run_of(rt.alloc(), codec, false, &[1], &[Step::Pop])?;
-        assert_holds(&rt, "codecs without a packetizer", run.is_none());
-    }
+    let none = run_of(rt.alloc(), Codec::Red, false)?.is_none();
+    assert_holds(&rt, "RED", none);
     Ok(())
 }

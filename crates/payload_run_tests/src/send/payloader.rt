@@ -4,9 +4,7 @@ use crate::asserts::assert_same;
 use crate::library::{Ended, buffer_of, payloader_of, run_steps, sample};
 use codec_payload_core::payload::MemorySink;
 use codec_payload_core::schedule::{Run, Step};
-use codec_payload_core::wire::{
-    AbsCaptureTime, Codec, ExtensionValues, Frequency, VideoLayersAllocation, VideoTiming,
-};
+use codec_payload_core::wire::{AbsCaptureTime, Codec, ExtensionValues, Frequency};
 use std::alloc::{AllocError, Global};
 use std::process::Abort;
 use std::test::Fail;
@@ -80,56 +78,5 @@ fn vp8_extension_values_stripped(rt: HostRuntime) -> Result<(), Fail> {
         &[0x90, 0x90, 0x90],
         &both,
         &[captured, none, turned],
-    )
-}
-
-/// Every value there is.
-fn all_values() -> ExtensionValues {
-    ExtensionValues {
-        abs_capture_time: Some(AbsCaptureTime {
-            capture_time: u64::MAX,
-            clock_offset: Some(i64::MIN),
-        }),
-        video_orientation: Some(1),
-        video_content_type: Some(1),
-        video_timing: Some(VideoTiming {
-            flags: 2,
-            encode_start: 10,
-            encode_finish: 20,
-            packetize_complete: 30,
-            last_left_pacer: 40,
-            network_1: 50,
-            network_2: 60,
-        }),
-        layers_allocation: VideoLayersAllocation::new(&[0x40, 0, 0x0a]),
-        audio_level: Some(-127),
-        voice_activity: Some(true),
-    }
-}
-
-#[test]
-fn all_values_on_one_packet(rt: HostRuntime) -> Result<(), Fail> {
-    assert_values(&rt, rt.alloc(), &[0x90], &all_values(), &[all_values()])
-}
-
-#[test]
-fn all_values_over_three_packets(rt: HostRuntime) -> Result<(), Fail> {
-    let all = all_values();
-    let mut audio = ExtensionValues::default();
-    audio.audio_level = Some(-127);
-    audio.voice_activity = Some(true);
-    let mut first = audio;
-    first.abs_capture_time = all.abs_capture_time;
-    first.layers_allocation = all.layers_allocation;
-    let mut last = audio;
-    last.video_orientation = Some(1);
-    last.video_content_type = Some(1);
-    last.video_timing = all.video_timing;
-    assert_values(
-        &rt,
-        rt.alloc(),
-        &[0x90, 0x90, 0x90],
-        &all,
-        &[first, audio, last],
     )
 }

@@ -12,7 +12,7 @@ returns-clause-ok g c =
     let low : ℕ = c.args.header.sequence_number in
     let n : ℕ = c.in-Some.number in
     let answer : Extended = extended.Number n in
-    let mid : Receiving = c.store_within_windows.new.self in
+    let mid : Receiving = c.store_and_note.new.self in
     let stored : Receiving = record mid { counters = counted_in_again mid.counters c.in_ok-outcome.outcome } in
     let is : number_again r low ≡ Some n = sym c.number_again.ensures.value ∙ c.in-Some.is in
     let numbers : c.take.new.self ≡ numbering_with r.numbering answer low = c.take.ensures ∙ ap (λ (x : Receiving). numbering_with x.numbering answer low) c.self.view_is in

@@ -1,0 +1,164 @@
+/* NACK loop: requests missing packets and stores the retransmissions (RFC 4585, section 6.2.1).
+ *
+ *     cc nack.c $(pkg-config --cflags --libs codec-payload) && ./a.out
+ *
+ * The rules of such a loop:
+ * - Request each missing number once per round-trip time, at most TRIES times.
+ * - Set max_wait to twice the round-trip time and 100 ms more. If it is below the round-trip time, frames are released without the
+ *   packets that were requested.
+ * - Stop at the cutoff: cpay_receiver_missing no longer reports numbers whose frames were released or discarded.
+ * - A retransmission under its own SSRC and payload type (RFC 4588) needs has_rtx in the settings; one under the stream's own SSRC
+ *   needs nothing.
+ * The network is simulated: 10 % loss, 20 ms each way. The status is 0 if every frame arrived. */
+#include "codec_payload.h"
+
+#include <stdio.h>
+#include <stdlib.h>
+#include <string.h>
+
+enum { FRAMES = 600, FRAME = 3000, INTERVAL = 33, ONE_WAY = 20, TRIES = 5, HISTORY = 1024, ASKED = 512, MTU = 1200, ROOM = 1500 };
+
+static void check(cpay_status status, const char *what) {
+    if (status == CPAY_OK) return;
+    fprintf(stderr, "%s: %s\n", what, cpay_status_text(status));
+    exit(EXIT_FAILURE);
+}
+
+/* ---- The recipe ---- */
+
+typedef struct {
+    uint64_t number, asked_at;
+    unsigned tries;
+} request;
+
+typedef struct {
+    request requests[ASKED]; /* by number modulo ASKED */
+} nack_loop;
+
+/* Writes the numbers to request now, at most `most`, and returns their count. */
+static size_t due_requests(nack_loop *it, cpay_receiver *receiver, uint64_t now, uint64_t round_trip, uint64_t *due, size_t most) {
+    uint64_t missing[ASKED];
+    size_t count = 0, found = 0;
+    check(cpay_receiver_missing(receiver, missing, ASKED, &found), "missing");
+    for (size_t i = 0; i < found && count < most; i++) {
+        request *one = &it->requests[missing[i] % ASKED];
+        if (one->number != missing[i]) *one = (request){.number = missing[i]};
+        if (one->tries == TRIES || (one->tries > 0 && now - one->asked_at < round_trip)) continue;
+        one->asked_at = now;
+        one->tries++;
+        due[count++] = missing[i];
+    }
+    return count;
+}
+
+static void put(uint8_t *at, uint32_t value, int bytes) {
+    for (int i = 0; i < bytes; i++) at[i] = (uint8_t)(value >> 8 * (bytes - 1 - i));
+}
+
+/* Writes a generic NACK for rising numbers and returns its size: 12 bytes, and 4 for each pair of PID and bit mask. */
+static size_t put_nack(uint8_t *packet, uint32_t own_ssrc, uint32_t media_ssrc, const uint64_t *numbers, size_t count) {
+    size_t size = 12;
+    for (size_t i = 0; i < count;) {
+        uint64_t first = numbers[i++];
+        uint32_t mask = 0;
+        for (; i < count && numbers[i] - first <= 16; i++) mask |= 1u << (numbers[i] - first - 1);
+        put(packet + size, (uint32_t)(first & 0xffff), 2);
+        put(packet + size + 2, mask, 2);
+        size += 4;
+    }
+    packet[0] = 0x81; /* version 2, format 1: generic NACK */
+    packet[1] = 205;  /* transport-layer feedback */
+    put(packet + 2, (uint32_t)(size / 4 - 1), 2);
+    put(packet + 4, own_ssrc, 4);
+    put(packet + 8, media_ssrc, 4);
+    return size;
+}
+
+/* ---- The simulated network and sender ---- */
+
+typedef struct {
+    uint8_t bytes[ROOM];
+    size_t size;
+    uint64_t arrives_at; /* 0: not on its way */
+} sent;
+
+static sent history[HISTORY];
+
+static bool lost(void) {
+    static uint32_t chance = 1;
+    chance = chance * 1664525 + 1013904223;
+    return (chance >> 16) % 10 == 0;
+}
+
+/* The sender answers a NACK with the packets that its history still has. */
+static void answer_nack(const uint8_t *packet, size_t size, uint64_t now) {
+    for (size_t at = 12; at + 4 <= size; at += 4) {
+        uint32_t first = (uint32_t)(packet[at] << 8 | packet[at + 1]), mask = (uint32_t)(packet[at + 2] << 8 | packet[at + 3]);
+        for (uint32_t i = 0; i <= 16; i++)
+            if ((i == 0 || mask >> (i - 1) & 1) && !lost()) history[(first + i) % HISTORY].arrives_at = now + 2 * ONE_WAY;
+    }
+}
+
+static void deliver(cpay_receiver *receiver, uint64_t now) {
+    for (size_t i = 0; i < HISTORY; i++) {
+        uint32_t outcome = 0;
+        if (!history[i].arrives_at || history[i].arrives_at > now) continue;
+        check(cpay_receiver_receive(receiver, now, history[i].bytes, history[i].size, &outcome), "receive");
+        history[i].arrives_at = 0;
+    }
+}
+
+int main(void) {
+    static uint8_t frame[FRAME], unit_bytes[FRAME];
+    static nack_loop loop;
+    cpay_spec vp8 = {.codec = CPAY_VP8, .rate = 90000};
+    cpay_sender_settings sends = {.spec = vp8, .mtu = MTU, .ssrc = 7, .payload_type = 96};
+    cpay_receiver_settings settings = CPAY_LIVE_VIDEO_WITH_NACK;
+    cpay_receiver_counts_info counts = {0};
+    cpay_sender sender = CPAY_INIT;
+    cpay_receiver receiver = CPAY_INIT;
+    cpay_unit unit = {0};
+    unsigned frames = 0, gaps = 0, nacks = 0;
+    settings.spec = vp8;
+    settings.payload_type = 96;
+    settings.has_ssrc = true;
+    settings.ssrc = 7;
+    settings.max_wait = 2 * (2 * ONE_WAY) + 100;
+    settings.start = 1;
+    check(cpay_sender_new(&sender, &sends), "sender");
+    check(cpay_receiver_new(&receiver, &settings, NULL, 0), "receiver");
+    for (uint64_t now = 0; now < (FRAMES + 30) * INTERVAL; now++) {
+        uint64_t due[ASKED];
+        uint8_t packet[12 + 4 * ASKED];
+        cpay_status status;
+        if (now % INTERVAL == 0 && now / INTERVAL < FRAMES) {
+            size_t count = 0;
+            cpay_sender_counts_info info = {0};
+            check(cpay_sender_counts(&sender, &info), "counts");
+            check(cpay_sender_send(&sender, now * 90, false, frame, FRAME, &count), "send");
+            for (size_t i = 0; i < count; i++) {
+                sent *slot = &history[(info.next_number + i) % HISTORY];
+                check(cpay_sender_datagram(&sender, i, slot->bytes, ROOM, &slot->size), "datagram");
+                slot->arrives_at = lost() && now > 0 ? 0 : now + ONE_WAY; /* the first frame arrives */
+            }
+        }
+        deliver(&receiver, now);
+        size_t asked = due_requests(&loop, &receiver, now, 2 * ONE_WAY, due, ASKED);
+        if (asked > 0) {
+            size_t size = put_nack(packet, 8, 7, due, asked);
+            answer_nack(packet, size, now);
+            nacks++;
+        }
+        while (!(status = cpay_receiver_pop(&receiver, now, &unit, unit_bytes, FRAME))) {
+            frames++;
+            gaps += !unit.contiguous;
+        }
+        if (status != CPAY_NONE) check(status, "pop");
+    }
+    check(cpay_receiver_counts(&receiver, &counts), "counts");
+    printf("%u of %d frames, %u gaps, %u NACKs, %u packets missing at the end\n", frames, FRAMES, gaps, nacks,
+           (unsigned)(FRAMES * 3 - counts.released));
+    cpay_sender_free(&sender);
+    cpay_receiver_free(&receiver);
+    return frames == FRAMES ? EXIT_SUCCESS : EXIT_FAILURE;
+}

@@ -1,0 +1,406 @@
+//! Senders that restart on their SSRC within or near the windows, and hostile networks in which none does. It prints two tables of
+//! docs/LIMITS.md, and fails if a restart takes longer to find than documented, or if one is reported of a sender that does not
+//! restart:
+//!
+//! ```sh
+//! cargo run --release --example restarts
+//! ```
+//!
+//! The clock is simulated, one millisecond a step. The network takes 20 ms. The receiver has the settings for live media, the
+//! windows of audio or video, and is told the SSRC. The caller pops until there is no unit, in each millisecond.
+
+use codec_payload::sender::{Sample, Sender, SenderSettings};
+use codec_payload::stream::{Receiver, ReceiverSettings};
+use codec_payload::{
+    Codec, CodecDepacketizer, CodecPacketizer, ExtensionValues, Frequency, MediaTime, Ticks,
+};
+use std::collections::{BTreeMap, HashSet};
+use std::error::Error;
+
+type Fault = Box<dyn Error>;
+
+/// How long a packet takes, in milliseconds.
+const NETWORK: u64 = 20;
+/// The bytes of a payload.
+const PAYLOAD: usize = 100;
+/// The longest time between two units at a restart, in milliseconds; of slow streams it is five frame intervals.
+const LONGEST: u64 = 300;
+/// The same while packets of the former sender still arrive.
+const LONGEST_BESIDE: u64 = 2_000;
+/// How far behind the greatest number the second sender begins.
+const DISTANCES: [u16; 6] = [1, 360, 900, 1_000, 1_001, 1_100];
+/// Runs of each network.
+const RUNS: usize = 3;
+
+/// What is sent.
+#[derive(Clone, Copy)]
+struct Stream {
+    name: &'static str,
+    codec: Codec,
+    clock_rate: u32,
+    /// Milliseconds from frame to frame.
+    interval: u64,
+    /// Packets in a frame.
+    packets: usize,
+    forward: u16,
+    backward: u16,
+}
+
+const STREAMS: [Stream; 4] = [
+    audio("audio, 20 ms", 20),
+    audio("audio in DTX, 400 ms", 400),
+    video("video, 3 packets", 3),
+    video("video, 30 packets", 30),
+];
+
+const fn audio(name: &'static str, interval: u64) -> Stream {
+    Stream {
+        name,
+        codec: Codec::Opus,
+        clock_rate: 48_000,
+        interval,
+        packets: 1,
+        forward: 3_000,
+        backward: 1_000,
+    }
+}
+
+const fn video(name: &'static str, packets: usize) -> Stream {
+    Stream {
+        name,
+        codec: Codec::Vp8,
+        clock_rate: 90_000,
+        interval: 33,
+        packets,
+        forward: 12_000,
+        backward: 5_000,
+    }
+}
+
+/// Random numbers (SplitMix64).
+struct Random(u64);
+
+impl Random {
+    /// A number from `least` to `most`.
+    fn within(&mut self, least: u64, most: u64) -> u64 {
+        self.0 = self.0.wrapping_add(0x9e37_79b9_7f4a_7c15);
+        let mut bits = self.0;
+        bits = (bits ^ bits >> 30).wrapping_mul(0xbf58_476d_1ce4_e5b9);
+        bits = (bits ^ bits >> 27).wrapping_mul(0x94d0_49bb_1331_11eb);
+        least + (bits ^ bits >> 31) % (most - least + 1)
+    }
+}
+
+/// A datagram, and when it was sent.
+struct Sent {
+    at: u64,
+    datagram: Vec<u8>,
+}
+
+impl Stream {
+    fn rate(self) -> Result<Frequency, Fault> {
+        Ok(Frequency::make(self.clock_rate).ok_or("the rate is 0")?)
+    }
+
+    fn sender(self, first_number: u16) -> Result<Sender, Fault> {
+        let mut settings = SenderSettings::for_stream(96, 7, self.rate()?);
+        settings.mtu = PAYLOAD;
+        settings.first_number = first_number;
+        let packetizer = CodecPacketizer::from_codec(self.codec).ok_or("no packetizer")?;
+        Ok(Sender::new(packetizer, settings)?)
+    }
+
+    fn receiver(self) -> Result<Receiver, Fault> {
+        let mut settings = ReceiverSettings::for_stream(96, self.rate()?);
+        settings.ssrc = Some(7);
+        settings.forward = self.forward;
+        settings.backward = self.backward;
+        let depacketizer = CodecDepacketizer::from_codec(self.codec).ok_or("no depacketizer")?;
+        Ok(Receiver::new(depacketizer, settings)?)
+    }
+
+    /// The datagrams of a frame.
+    fn frame(self, sender: &mut Sender, rtp_time: u64, at: u64) -> Result<Vec<Sent>, Fault> {
+        let bytes = vec![0; (PAYLOAD - 10) * self.packets];
+        sender.send(&Sample {
+            rtp_time: MediaTime::new(rtp_time, self.rate()?),
+            bytes: &bytes,
+            start_of_talk_spurt: false,
+            ext_vals: ExtensionValues::default(),
+        })?;
+        Ok(sender
+            .datagrams()
+            .map(|datagram| Sent {
+                at,
+                datagram: datagram.to_vec(),
+            })
+            .collect())
+    }
+
+    /// The RTP time of a moment.
+    fn ticks(self, at: u64) -> u64 {
+        at * u64::from(self.clock_rate) / 1_000
+    }
+}
+
+/// What came of a run.
+#[derive(Default)]
+struct Outcome {
+    /// The RTP times of the units.
+    times: HashSet<u32>,
+    /// The longest time between two units, in milliseconds.
+    longest_pause: u64,
+    restarts: u64,
+}
+
+/// Delivers the datagrams at their times, and pops in each millisecond.
+fn receive(stream: Stream, arriving: &BTreeMap<u64, Vec<Vec<u8>>>) -> Result<Outcome, Fault> {
+    let mut receiver = stream.receiver()?;
+    let mut outcome = Outcome::default();
+    let end = arriving.keys().next_back().copied().unwrap_or(0);
+    let mut last_unit = None;
+    for now in 0..end + 1_000 {
+        for datagram in arriving.get(&now).into_iter().flatten() {
+            receiver.receive(Ticks(now), datagram)?;
+        }
+        while let Some(unit) = receiver.pop(Ticks(now)) {
+            outcome.times.insert(unit?.time.numer() as u32);
+            outcome.longest_pause = outcome.longest_pause.max(now - last_unit.unwrap_or(now));
+            last_unit = Some(now);
+        }
+    }
+    outcome.restarts = receiver.counters().packets.restarts;
+    Ok(outcome)
+}
+
+fn put(arriving: &mut BTreeMap<u64, Vec<Vec<u8>>>, at: u64, datagram: &[u8]) {
+    arriving.entry(at).or_default().push(datagram.to_vec());
+}
+
+/// How a sender restarts: so many numbers behind the greatest, with another RTP offset or times that go on, and beside
+/// retransmissions of the former sender or not.
+#[derive(Clone, Copy)]
+struct Restart {
+    distance: u16,
+    offset: u64,
+    beside_former: bool,
+}
+
+/// Runs a sender for 1,200 packets at least, and another for three seconds. Returns how many frames of the second were not released.
+fn restart(stream: Stream, how: Restart) -> Result<(Outcome, usize), Fault> {
+    let mut arriving = BTreeMap::new();
+    let frames = 1_200 / stream.packets as u64 + 1;
+    let mut former = Vec::new();
+    let mut sender = stream.sender(30_000)?;
+    for frame in 0..frames {
+        let at = frame * stream.interval;
+        former.extend(stream.frame(&mut sender, stream.ticks(at), at)?);
+    }
+    let last = 30_000 + former.len() as u16 - 1;
+    let mut sender = stream.sender(last - how.distance)?;
+    let begins = frames * stream.interval;
+    let mut times = Vec::new();
+    for frame in 0..3_000 / stream.interval + 10 {
+        let at = begins + frame * stream.interval;
+        let time = stream.ticks(at) + how.offset;
+        times.push(time as u32);
+        for sent in stream.frame(&mut sender, time, at)? {
+            put(&mut arriving, at + NETWORK, &sent.datagram);
+        }
+    }
+    for sent in &former {
+        put(&mut arriving, sent.at + NETWORK, &sent.datagram);
+    }
+    if how.beside_former {
+        for step in 0..300 {
+            let old = &former[former.len() - 1 - step as usize % 200];
+            put(
+                &mut arriving,
+                begins + NETWORK + 5 + 10 * step,
+                &old.datagram,
+            );
+        }
+    }
+    let outcome = receive(stream, &arriving)?;
+    let lost = times.iter().filter(|it| !outcome.times.contains(it));
+    let lost = lost.count();
+    Ok((outcome, lost))
+}
+
+/// What a network does to a stream of a sender that does not restart.
+#[derive(Clone, Copy, PartialEq)]
+enum Network {
+    BurstWhole,
+    BurstSpread,
+    BurstAndSilence,
+    JustBehind,
+    Twice,
+    SentAgain,
+    TimesJump,
+}
+
+const NETWORKS: [(Network, &str); 7] = [
+    (Network::BurstWhole, "a burst that arrives late, at once"),
+    (Network::BurstSpread, "a burst of which each packet is late"),
+    (
+        Network::BurstAndSilence,
+        "a late burst, and silence meanwhile",
+    ),
+    (Network::JustBehind, "five seconds just behind the wait"),
+    (Network::Twice, "everything twice, with pauses"),
+    (
+        Network::SentAgain,
+        "retransmissions, and storms of old packets",
+    ),
+    (Network::TimesJump, "RTP times that jump, and late bursts"),
+];
+
+/// The datagrams of 40 seconds, some of them late, lost or repeated.
+fn hostile(
+    stream: Stream,
+    network: Network,
+    random: &mut Random,
+) -> Result<BTreeMap<u64, Vec<Vec<u8>>>, Fault> {
+    let mut arriving = BTreeMap::new();
+    let mut sender = stream.sender(random.within(0, 65_535) as u16)?;
+    let mut history: Vec<Vec<u8>> = Vec::new();
+    let mut offset = random.within(0, 0xffff_ffff);
+    let mut at = 0;
+    let (mut from, mut to, mut late) = (0, 0, 0);
+    let mut storm = 10_000;
+    while at < 40_000 {
+        if at > to + 2_000 {
+            let length = match network {
+                Network::JustBehind => random.within(1_000, 5_000),
+                _ => random.within(100, 2_000),
+            };
+            late = match network {
+                Network::JustBehind => random.within(60, 450),
+                _ => random.within(100, 4_900 - length),
+            };
+            (from, to) = (at, at + length);
+            if network == Network::TimesJump {
+                offset = random.within(0, 0xffff_ffff);
+            }
+        }
+        let within = from <= at && at < to;
+        for sent in stream.frame(&mut sender, stream.ticks(at) + offset, at)? {
+            let jitter = if network == Network::TimesJump {
+                random.within(0, 60)
+            } else {
+                0
+            };
+            let on_time = at + NETWORK + jitter;
+            let datagram = &sent.datagram;
+            match network {
+                Network::BurstWhole | Network::BurstAndSilence if within => {
+                    put(&mut arriving, to + late, datagram)
+                }
+                Network::BurstSpread | Network::JustBehind | Network::TimesJump if within => {
+                    put(&mut arriving, on_time + late, datagram)
+                }
+                Network::Twice => {
+                    put(&mut arriving, on_time, datagram);
+                    put(&mut arriving, on_time + random.within(50, 800), datagram);
+                }
+                Network::SentAgain if random.within(1, 20) == 1 => {
+                    for _ in 0..random.within(1, 3) {
+                        put(&mut arriving, on_time + random.within(40, 400), datagram);
+                    }
+                }
+                _ => put(&mut arriving, on_time, datagram),
+            }
+            history.push(sent.datagram);
+        }
+        if network == Network::SentAgain && at >= storm {
+            storm += random.within(3_000, 8_000);
+            let most = history.len().min(usize::from(stream.backward) / 2);
+            for _ in 0..random.within(50, 500) {
+                let old = history.len() - 1 - random.within(0, most as u64 - 1) as usize;
+                put(&mut arriving, at + NETWORK, &history[old]);
+            }
+        }
+        at += stream.interval;
+        let silent = match network {
+            Network::Twice => random.within(0, 99) == 0,
+            Network::BurstAndSilence => within && at >= to,
+            _ => false,
+        };
+        if silent {
+            at += random.within(300, 3_000);
+        }
+    }
+    Ok(arriving)
+}
+
+/// Prints a row of restarts. Returns how many were not found in time.
+fn print_restarts(distance: u16, beside_former: bool) -> Result<u32, Fault> {
+    let mut wrong = 0;
+    let beside = if beside_former {
+        ", with retransmissions"
+    } else {
+        ""
+    };
+    print!("| {distance}{beside} |");
+    for stream in STREAMS {
+        let how = Restart {
+            distance,
+            offset: 0x1234_5678,
+            beside_former,
+        };
+        let (outcome, lost) = restart(stream, how)?;
+        print!(" {}; {lost} |", outcome.longest_pause);
+        let longest = if beside_former {
+            LONGEST_BESIDE
+        } else {
+            LONGEST.max(5 * stream.interval)
+        };
+        wrong += u32::from(outcome.longest_pause > longest);
+        // Times that go on make no difference.
+        let (going_on, _) = restart(stream, Restart { offset: 0, ..how })?;
+        wrong += u32::from(going_on.longest_pause > longest);
+        // One number behind, the second sender passes the first before a restart is found.
+        let expected = 2 * u64::from(distance > 1);
+        wrong += u32::from(!beside_former && outcome.restarts + going_on.restarts != expected);
+    }
+    println!();
+    Ok(wrong)
+}
+
+/// Prints a row of restarts that are reported, and returns how many.
+fn print_network(network: Network, name: &str) -> Result<u32, Fault> {
+    let mut all = 0;
+    print!("| {name} |");
+    for stream in STREAMS {
+        let mut random = Random(1);
+        let mut restarts = 0;
+        for _ in 0..RUNS {
+            let arriving = hostile(stream, network, &mut random)?;
+            restarts += receive(stream, &arriving)?.restarts;
+        }
+        all += restarts as u32;
+        print!(" {restarts} |");
+    }
+    println!();
+    Ok(all)
+}
+
+fn main() -> Result<(), Fault> {
+    let names = STREAMS.map(|it| it.name).join(" | ");
+    let mut wrong = 0;
+    println!("| numbers behind | {names} |\n|---|---|---|---|---|");
+    for distance in DISTANCES {
+        wrong += print_restarts(distance, false)?;
+    }
+    for distance in [360, 1_100] {
+        wrong += print_restarts(distance, true)?;
+    }
+    println!("\n| network | {names} |\n|---|---|---|---|---|");
+    for (network, name) in NETWORKS {
+        wrong += print_network(network, name)?;
+    }
+    if wrong > 0 {
+        return Err(format!("{wrong} cases are not as documented").into());
+    }
+    Ok(())
+}
