@@ -249,10 +249,10 @@ REDS = [
     # The same, and number 11 is late: its block is stored under 12, and the packet itself repeats it.
     Row(
         "padding is lost: a late packet does not repeat the block that was stored for it, and is not waited for",
-        RED + in_red(0, 10, red("00"), 0) + in_red(0, 13, red("02", (96, 960, "01")), 1_920) + in_red(0, 11, red("01", (96, 960, "00")), 960)
-        + "pop 0\n" * 4 + "counters\n",
-        "held\nheld\nno media\n" + unit(FIRST + 10, "00") + unit(FIRST + 12, "01", time=960) + unit(FIRST + 13, "02", time=1_920)
-        + "none\ncounters received 3 recovered 1 no_media 1 released 3 units 3\n",
+        RED + in_red(0, 10, red("00"), 0) + in_red(0, 13, red("02", (96, 960, "01")), 1_920)
+        + in_red(0, 11, red("01", (96, 960, "00")), 960) * 2 + "pop 0\n" * 4 + "counters\n",
+        "held\nheld\nno media\nno media\n" + unit(FIRST + 10, "00") + unit(FIRST + 12, "01", time=960)
+        + unit(FIRST + 13, "02", time=1_920) + "none\ncounters received 4 recovered 1 no_media 2 released 3 units 3\n",
     ),
     Row(
         "the packet of a recovered block is a duplicate where it has the block's number",

@@ -11,7 +11,7 @@ use Rattle.codec_payload_codec.specs.Depacketizers.{DepacketizerState}
 use Rattle.codec_payload_buffer.specs.Release.{Release}
 use Rattle.codec_payload_buffer.specs.Steps.{empty_buffer}
 use Rattle.codec_payload_jitter.specs.Numbers.{Numbering, numbering_within}
-use Rattle.codec_payload_jitter.specs.Receiving.{Receiving, Arrival, Notes, Receives, ReceivesAgain, Recovers, begun_anew, counted, is_missing, next, no_packets}
+use Rattle.codec_payload_jitter.specs.Receiving.{Receiving, Arrival, Notes, Receives, ReceivesAgain, Recovers, begun_anew, counted, next, no_packets, would_store}
 use Rattle.codec_payload_jitter.specs.Waiting.{most_held_back, room_for}
 use Rattle.codec_payload_jitter.specs.declared.numbers.WindowError.{WindowError}
 use Rattle.codec_payload_jitter.specs.declared.numbers.WindowError.TheVariants as windows
@@ -139,9 +139,9 @@ RecoversAll true (a ∷ more) r t = (mid : Holding) × RecoversOne a r mid × Re
 RecoversAll false [] r t = ⊥
 RecoversAll false (a ∷ more) r t = (t ≡ r) ⊎ ((mid : Holding) × RecoversOne a r mid × RecoversAll false more mid t)
 
--- a packet repeats a block: one of its time was stored under another number, since its own number is missing
+-- a packet repeats a block: one of its time was stored, and the packet itself would be stored too, under another number
 abbrev pub is_repeat : Seen → Receiving → (time low : ℕ) → Bool
-is_repeat seen r time low = is_brought time seen.places && is_missing r low
+is_repeat seen r time low = is_brought time seen.places && would_store r low
 
 -- the time of a packet with media is noted, in a stream that is sent in RED; a restart forgets those before
 abbrev pub is_restart : Outcome → Bool

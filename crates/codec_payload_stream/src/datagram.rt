@@ -504,7 +504,7 @@ fn is_repeat<B: Depacketizer>(
 ) -> bool
     ensures { result ≡ is_repeat seen.now packets.now time number }
 {
-    seen.is_brought(time) && packets.is_missing(number)
+    seen.is_brought(time) && packets.would_store(number)
 }
 
 /// Whether the sender has restarted.

@@ -201,11 +201,10 @@ impl<B: Depacketizer> JitterBuffer<B> {
         Ok(true)
     }
 
-    /// Whether a packet of that number is missing: the number lies within the windows, is neither held nor late, and is not known to
-    /// carry no media.
-    pub fn is_missing(&self, low: u16) -> bool {
+    /// Whether a packet of that number would be stored: the number lies within the windows, and is neither held nor late.
+    pub fn would_store(&self, low: u16) -> bool {
         match self.number_again(low) {
-            Some(number) => self.may_recover(number),
+            Some(number) => is_stored(outcome_in(&self.buffer, SeqNo(number))),
             None => false,
         }
     }

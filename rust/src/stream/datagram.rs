@@ -415,7 +415,7 @@ fn is_repeat<B: Depacketizer>(
     time: u32,
     number: u16,
 ) -> bool {
-    seen.is_brought(time) && packets.is_missing(number)
+    seen.is_brought(time) && packets.would_store(number)
 }
 
 /// Whether the sender has restarted.
