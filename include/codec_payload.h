@@ -574,7 +574,7 @@ enum {
     CPAY_HELD_AND_EVICTED = 1, /**< there was no room: the lowest packet was evicted, which can be this one */
     CPAY_DUPLICATE = 2,        /**< a packet of its number is held already; it was dropped */
     CPAY_LATE = 3,             /**< all up to its number is done; it was dropped */
-    CPAY_SUSPECT = 4,          /**< its number is far from all others; it is kept until the next packet comes */
+    CPAY_SUSPECT = 4,          /**< its number is far from all others; it is kept until another suspect packet or a restart */
     CPAY_RESTARTED = 5,        /**< the sender has restarted: it went in, and the suspect packet before it too */
     CPAY_RESTARTED_ALONE = 6,  /**< the same, and no other packet: the suspect one had no media, memory was wanting for it, or
                                     there was none, since cpay_receiver_restart told of the restart */
