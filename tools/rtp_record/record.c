@@ -41,8 +41,6 @@ struct record {
     size_t room;
     int64_t last_time;
     int64_t last_duration;
-    uint64_t last_rtp; /* of the latest unit, without wrapping */
-    bool has_last;
     bool begun;
     bool lacking; /* a frame is missing since the latest keyframe */
     bool failed;
@@ -193,22 +191,9 @@ static bool fill_gap(record *it, int64_t until, const unit_facts *facts) {
     return true;
 }
 
-/* Whether a unit came before, under another number. RED tells how much older a payload is in time alone (RFC 2198, section 3), and
- * the library reckons its number by that: where numbers without media stand between, a payload that was there comes again. */
-static bool is_repeated(record *it, const cpay_unit *unit) {
-    enum { REPEATED = 8 }; /* so many steps back at most is what RED repeats looked for */
-    bool repeated = it->stream.has_red && it->has_last && unit->rtp_time <= it->last_rtp &&
-                    it->last_rtp - unit->rtp_time <= (uint64_t)REPEATED * it->stream.red_step;
-    if (!repeated) it->last_rtp = unit->rtp_time;
-    it->has_last = true;
-    it->totals.repeated += repeated;
-    return repeated;
-}
-
 /* A unit becomes frames of the track: one, but of AMR-WB as many as it has. */
 static bool take_unit(record *it, const cpay_unit *unit) {
     unit_facts facts;
-    if (is_repeated(it, unit)) return true;
     if (!unit_look(&it->stream.use, it->bytes, unit->bytes, &facts)) {
         it->totals.refused++;
         it->lacking = true;
@@ -273,11 +258,10 @@ bool record_take(record *it, const record_packet *packet) {
 
 void record_sender_report(record *it, uint64_t ntp, uint32_t rtp_time) { timeline_report(&it->times, ntp, rtp_time); }
 
-/* How many packets others in RED carried, but for those that had come. */
+/* How many packets others in RED carried. */
 static uint64_t recovered(record *it) {
     cpay_receiver_counts_info counts = {0};
-    if (cpay_receiver_counts(&it->receiver, &counts) || counts.recovered < it->totals.repeated) return 0;
-    return counts.recovered - it->totals.repeated;
+    return cpay_receiver_counts(&it->receiver, &counts) ? 0 : counts.recovered;
 }
 
 bool record_close(record *it, record_totals *totals) {

@@ -46,7 +46,6 @@ typedef struct {
     uint64_t filled;  /* frames that were put where packets are lost */
     double seconds;   /* from the first frame to the last */
     uint64_t recovered; /* packets that others in RED carried */
-    uint64_t repeated;  /* units that RED gave though they had come */
 } record_totals;
 
 typedef struct record record;

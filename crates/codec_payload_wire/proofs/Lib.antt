@@ -1,3 +1,4 @@
+pub mod BlockTimeLemmas
 pub mod EventLemmas
 pub mod NewReceivers
 pub mod ReadingLemmas

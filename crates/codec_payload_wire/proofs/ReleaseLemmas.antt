@@ -23,6 +23,7 @@ use Rattle.codec_payload_jitter.specs.declared.numbers.Extended.{Extended}
 use Rattle.codec_payload_jitter.specs.declared.numbers.Extended.TheVariants as extended
 use Rattle.codec_payload_sender.specs.Senders.{Sending}
 use Rattle.codec_payload_stream.specs.Sessions.{Session}
+use Rattle.codec_payload_wire.proofs.BlockTimeLemmas.{BringsNone, new_brings_none}
 use Rattle.codec_payload_wire.proofs.EventLemmas.{Brings, IsMet, all_told, delivery_of, met, order_told, split_at_end, times_from}
 use Rattle.codec_payload_wire.proofs.NewReceivers.{IsBegun, new_is_begun}
 use Rattle.codec_payload_wire.proofs.ReceivingLemmas.{AllNumbered, IsListening}
@@ -171,6 +172,7 @@ module _ (samples : List Sample) (all_steps : List DatagramStep) (sender : Sendi
     running = ap (λ (x : Session). x.packets.is_restarting) begun.is;
     none_noted = ap (λ (x : Session). x.packets.no_media_numbers) begun.is;
     of_codec = ap (λ (x : Session). is_built_in_depacketizer x.packets.buffer.depacketizer) begun.is ∙ (ap is_codec within.one_stream.alike ∙ of_codec sender.packetizer within.one_stream.built_in);
+    none_brought = subst BringsNone (sym (ap (λ (x : Session). x.seen) begun.is)) new_brings_none;
   }
 
   -- from a number with those low bits on
