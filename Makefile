@@ -1,16 +1,25 @@
-# Builds and installs the library for C.
+# Builds, tests and installs the library for C, from c/generated, the assembly of the proved library, and two short files of C.
+# A C compiler and make do; on x86-64 and AArch64 Linux.
 #
-#   make                                  the archive and the shared library, in bindings/out
-#   make man                              manual pages and HTML of the header, in bindings/out, by doxygen
-#   make install PREFIX=/usr DESTDIR=..   header, both libraries, codec-payload.pc, a CMake package, documents, and manual pages
+#   make                                  the archive and the shared library, in c/out
+#   make check                            builds and runs the C tests; `make check-sanitized` with the address and
+#                                         undefined-behaviour sanitizers
+#   make check-plus                       the test of the header for C++, as C++17 and as C++20
+#   make check-aarch64                    the C tests for AArch64, by a cross compiler and qemu (Debian: gcc-aarch64-linux-gnu,
+#                                         libc6-dev-arm64-cross, qemu-user)
+#   make example, make loopback           builds and runs the header's example; a stream of VP8 over UDP with losses
+#   make install PREFIX=/usr DESTDIR=..   headers, both libraries, codec-payload.pc, a CMake package, documents, and manual pages
 #                                         where `make man` was called
 #   make uninstall PREFIX=..
-#   make dist                             a tarball with the archive in it, for those who do not have rt
-#   make deb                              Debian packages, in bindings/out, by debhelper: the shared library, what is wanted to
-#                                         build against it and, where libpcap and libavformat are there, the recorder
-#   make check                            installs into a fresh folder and builds against it (scripts/install_test.sh)
+#   make man                              manual pages and HTML of the headers, in c/out, by doxygen
+#   make dist                             a tarball of all that these commands need
+#   make deb                              Debian packages, in c/out, by debhelper: the shared library, what is wanted to build
+#                                         against it and, where libpcap and libavformat are there, the recorder
+#   make deb-aarch64                      the same for arm64 by the cross compiler, without the recorder
+#   make check-install                    installs into a fresh folder and builds against it (scripts/install_test.sh)
+#   make clean
 #
-# The archive is proved and built by rt, once, where it is not there yet.
+# CC, CFLAGS, CPPFLAGS and LDFLAGS are yours. `make check LIBRARY=libcodec_payload.a tests=FOLDER` tests another archive.
 
 VERSION := $(shell sed -n 's/^\#define CPAY_VERSION_[MP][A-Z]* //p' include/codec_payload.h | paste -sd.)
 PREFIX ?= /usr/local
@@ -19,44 +28,119 @@ INCLUDEDIR ?= $(PREFIX)/include
 DOCDIR ?= $(PREFIX)/share/doc/codec-payload
 MANDIR ?= $(PREFIX)/share/man
 DESTDIR ?=
-CC ?= cc
 INSTALL ?= install
+CFLAGS ?= -O2 -g
+# How a program of another architecture is run.
+RUN ?=
 
-out = bindings/out
+out = c/out
 archive = $(out)/libcodec_payload.a
 soname = libcodec_payload.so.0
 shared = $(out)/libcodec_payload.so.$(VERSION)
+LIBRARY = $(archive)
+tests = $(out)/tests
 cmake = $(LIBDIR)/cmake/codec-payload
 name = codec-payload-$(VERSION)
+headers = $(wildcard include/*.h include/*.hpp)
 documents = README.md CHANGELOG.md
 pages = $(wildcard docs/*.md)
 pictures = $(wildcard docs/pictures/*.svg)
 manual = $(out)/man/man3
 recorder = tools/rtp_record
-shipped = Makefile include packaging bindings/c/example.c $(documents) $(pages) $(pictures) $(archive) \
+vectors = crates/payload_vectors
+shipped = Makefile include packaging $(documents) $(pages) $(pictures) $(wildcard c/*.c c/*.cpp c/*.h c/*.sh c/*.txt c/generated/*.S) \
+    $(vectors)/stdin $(vectors)/stdout \
     $(addprefix $(recorder)/,Makefile README.md rtp_record.1 completion.bash) $(wildcard $(recorder)/*.c $(recorder)/*.h)
 # Without libpcap and libavformat the packages are made without the recorder.
 profiles = $(shell pkg-config --exists libpcap libavformat libavcodec libavutil || echo pkg.codec-payload.notools)
 
+# The tools that go with the compiler, and the compiler's architecture, such as x86_64.
+OBJCOPY ?= $(shell $(CC) -print-prog-name=objcopy)
+ifeq ($(origin AR),default)
+AR := $(shell $(CC) -print-prog-name=ar)
+endif
+architecture := $(firstword $(subst -, ,$(shell $(CC) -dumpmachine)))
+assembly = c/generated/$(architecture)-linux.S
+# Targets of indirect branches are marked, as the assembly marks its own: CET on x86-64, BTI and signed returns on AArch64.
+protection_x86_64 = -fcf-protection
+protection_aarch64 = -mbranch-protection=standard
+warnings = -pedantic -Wall -Wextra -Wconversion
+compile = $(CC) -std=c99 $(warnings) $(CPPFLAGS) $(CFLAGS) -fPIC -fno-lto $(protection_$(architecture)) -Iinclude
+
 all: $(archive) $(shared)
 
-$(archive):
-	scripts/bindings.sh library
+shared: $(shared)
 
-$(shared): $(archive) packaging/codec_payload.map
-	$(CC) -shared -Wl,-soname,$(soname) -Wl,--version-script=packaging/codec_payload.map -Wl,-z,defs \
-	    $(LDFLAGS) -Wl,--whole-archive $(archive) -Wl,--no-whole-archive -o $@
+$(out):
+	mkdir -p $@
+
+$(assembly):
+	@echo "$(assembly) is not there: x86-64 and AArch64 on Linux have files, and your compiler is for $(architecture)" >&2
+	@exit 1
+
+$(out)/proved.o: $(assembly) | $(out)
+	$(CC) $(CPPFLAGS) -c -Wa,--noexecstack $< -o $@
+
+$(out)/%.o: c/%.c $(headers) | $(out)
+	$(compile) -c $< -o $@
+
+# One object, whose names for others are the calls of the header alone.
+$(out)/codec_payload.o: $(addprefix $(out)/,proved.o memory.o calls.o)
+	$(CC) -r -nostdlib -o $(out)/all.o $^
+	$(OBJCOPY) --wildcard --keep-global-symbol='cpay_*' $(out)/all.o $@
+
+$(archive): $(out)/codec_payload.o
+	rm -f $@
+	$(AR) rcs $@ $<
+
+$(shared): $(out)/codec_payload.o packaging/codec_payload.map
+	$(CC) -shared -Wl,-soname,$(soname) -Wl,--version-script=packaging/codec_payload.map -Wl,-z,defs -Wl,-z,noexecstack \
+	    $(CFLAGS) $(LDFLAGS) $< -o $@
+
+# The tests: each is a program over the archive. `strict=-Werror` is how the repository builds them.
+programs = $(addprefix $(tests)/,example checks datagrams packets values loopback vectors frames oom)
+
+$(tests)/%: c/%.c $(wildcard c/*.h) $(headers) $(LIBRARY)
+	@mkdir -p $(tests)
+	$(CC) -std=c99 $(warnings) $(strict) $(CPPFLAGS) $(CFLAGS) $(SANITIZERS) $(LDFLAGS) -Iinclude $< $(LIBRARY) $(wrapped) -o $@
+
+$(tests)/oom: wrapped = -Wl,--wrap=malloc,--wrap=realloc,--wrap=free
+
+check: $(programs)
+	c/check.sh $(tests) $(RUN)
+
+# The header for C++, as two standards.
+$(tests)/plus%: c/plus.cpp c/check.h $(headers) $(LIBRARY)
+	@mkdir -p $(tests)
+	$(CXX) -std=c++$* $(warnings) $(strict) $(CPPFLAGS) $(CFLAGS) $(SANITIZERS) $(LDFLAGS) -Iinclude $< $(LIBRARY) -o $@
+
+check-plus: $(tests)/plus17 $(tests)/plus20
+	$(RUN) $(tests)/plus17
+	$(RUN) $(tests)/plus20
+
+check-sanitized:
+	$(MAKE) check tests=$(tests)-sanitized SANITIZERS="-fsanitize=address,undefined -fno-sanitize-recover=all"
+
+# gcc and g++ for AArch64, and what runs their programs.
+CROSS ?= aarch64-linux-gnu-
+cross = CC=$(CROSS)gcc CXX=$(CROSS)g++ AR=$(CROSS)ar OBJCOPY=$(CROSS)objcopy out=c/out/aarch64
+check-aarch64:
+	$(MAKE) check $(cross) RUN="qemu-aarch64 -L /usr/aarch64-linux-gnu"
+
+example loopback: %: $(tests)/%
+	$(RUN) $<
 
 man: $(manual)/codec_payload.h.3
 
 $(manual)/codec_payload.h.3: include/codec_payload.h include/codec_payload_media.h packaging/Doxyfile
 	rm -rf $(out)/man $(out)/html
-	doxygen packaging/Doxyfile
+	mkdir -p $(out)
+	(cat packaging/Doxyfile && echo OUTPUT_DIRECTORY = $(out)) | doxygen -
 	find $(manual) ! -type d ! -name 'cpay_*' ! -name codec_payload.h.3 ! -name codec_payload_media.h.3 -delete
 
 install: all
 	$(INSTALL) -d $(DESTDIR)$(INCLUDEDIR) $(DESTDIR)$(LIBDIR)/pkgconfig $(DESTDIR)$(cmake) $(DESTDIR)$(DOCDIR)
-	$(INSTALL) -m 644 include/codec_payload.h include/codec_payload_media.h $(DESTDIR)$(INCLUDEDIR)
+	$(INSTALL) -m 644 $(headers) $(DESTDIR)$(INCLUDEDIR)
 	$(INSTALL) -m 644 $(archive) $(shared) $(DESTDIR)$(LIBDIR)
 	ln -sf $(notdir $(shared)) $(DESTDIR)$(LIBDIR)/$(soname)
 	ln -sf $(soname) $(DESTDIR)$(LIBDIR)/libcodec_payload.so
@@ -74,16 +158,18 @@ install: all
 	fi
 
 uninstall:
-	rm -f $(DESTDIR)$(INCLUDEDIR)/codec_payload.h $(DESTDIR)$(INCLUDEDIR)/codec_payload_media.h
+	rm -f $(addprefix $(DESTDIR)$(INCLUDEDIR)/,$(notdir $(headers)))
 	rm -f $(DESTDIR)$(LIBDIR)/libcodec_payload.a $(DESTDIR)$(LIBDIR)/libcodec_payload.so \
 	    $(DESTDIR)$(LIBDIR)/$(soname) $(DESTDIR)$(LIBDIR)/$(notdir $(shared)) $(DESTDIR)$(LIBDIR)/pkgconfig/codec-payload.pc
 	rm -rf $(DESTDIR)$(cmake) $(DESTDIR)$(DOCDIR)
 	rm -f $(DESTDIR)$(MANDIR)/man3/cpay_* $(DESTDIR)$(MANDIR)/man3/codec_payload.h.3 \
 	    $(DESTDIR)$(MANDIR)/man3/codec_payload_media.h.3
 
-dist: $(archive)
+dist: | $(out)
 	tar -czf $(out)/$(name).tar.gz --transform 's|^|$(name)/|' $(shipped)
 
+# How dpkg-buildpackage is called: for the machine's own architecture.
+packages = DEB_BUILD_PROFILES="$(profiles)" dpkg-buildpackage -b -us -uc
 deb: dist
 	rm -rf $(out)/deb && mkdir -p $(out)/deb
 	tar -xzf $(out)/$(name).tar.gz -C $(out)/deb
@@ -91,10 +177,18 @@ deb: dist
 	sed -e 's|@VERSION@|$(VERSION)|' -e "s|@DATE@|$$(date -R -d @$${SOURCE_DATE_EPOCH:-$$(date +%s)})|" \
 	    packaging/debian/changelog.in >$(out)/deb/$(name)/debian/changelog
 	rm $(out)/deb/$(name)/debian/changelog.in
-	cd $(out)/deb/$(name) && DEB_BUILD_PROFILES="$(profiles)" dpkg-buildpackage -b -us -uc
+	cd $(out)/deb/$(name) && unset MAKEFLAGS MFLAGS && $(packages)
 	mv $(out)/deb/*.deb $(out)
 
-check: all
+# The build's needs are those of the machine, so they are not looked for among packages of the other architecture.
+deb-aarch64:
+	$(MAKE) deb out=c/out/aarch64 \
+	    packages='DEB_BUILD_OPTIONS=nocheck DEB_BUILD_PROFILES="cross nocheck pkg.codec-payload.notools" dpkg-buildpackage -b -us -uc -d -aarm64'
+
+check-install: all
 	scripts/install_test.sh
 
-.PHONY: all man install uninstall dist deb check
+clean:
+	rm -rf $(out)
+
+.PHONY: all shared check check-plus check-sanitized check-aarch64 example loopback man install uninstall dist deb deb-aarch64 check-install clean

@@ -54,7 +54,7 @@
  *
  * FILES. What payloads and frames say is in codec_payload_media.h, which this file includes.
  *
- * AN EXAMPLE, which is bindings/c/example.c, in full: */
+ * AN EXAMPLE, which is c/example.c, in full: */
 #if 0
 #include "codec_payload.h"
 #include <stdio.h>

@@ -9,7 +9,7 @@
 #
 # A shim counts calls of malloc, calloc, realloc and the like. A case is run with 100 frames a repeat and with 300, so what the
 # program itself takes falls out of the difference. Where a case tells of the memory that stays, the bytes that are asked for
-# and not given back are read as the clock is, behind the work, less those of a case without a stream. It needs rt and a C
+# and not given back are read as the clock is, behind the work, less those of a case without a stream. It needs make and a C
 # compiler, $CC or cc, for a C library that takes LD_PRELOAD, and some two minutes.
 set -eu
 root=$(cd "$(dirname "$0")/.." && pwd)
@@ -18,7 +18,8 @@ work=$(mktemp -d)
 trap 'rm -rf "$work"' EXIT
 
 bench=$work/bench
-library=$("$root/scripts/bindings.sh" library | tail -n 1)/libcodec_payload.a
+make -s -C "$root" >/dev/null
+library=$root/c/out/libcodec_payload.a
 "${CC:-cc}" -std=c99 -O2 -I"$root/include" "$root/tools/bench/bench.c" "$library" -o "$bench"
 
 cat > "$work/count.c" <<'END'

@@ -7,7 +7,7 @@
 #
 # Each number is the least of ROUNDS rounds of REPEATS repeats; both builds take turns. A ratio to a copy says how much more
 # a call takes than asking for the memory of the payloads and copying their bytes; a ratio to the buffer how much more a receiver
-# takes than a push and a pop of its buffer. It needs rt, a C compiler, $CC or cc, and some five minutes. Figures up to 2026-11-24
+# takes than a push and a pop of its buffer. It needs make, a C compiler, $CC or cc, and some five minutes. Figures up to 2026-11-24
 # are of a program in Rattle, without the boundary to C.
 set -eu
 root=$(cd "$(dirname "$0")/.." && pwd)
@@ -18,7 +18,8 @@ trap 'rm -rf "$work"' EXIT
 results=$work/results
 bench=$work/bench
 
-library=$("$root/scripts/bindings.sh" library | tail -n 1)/libcodec_payload.a
+make -s -C "$root" >/dev/null
+library=$root/c/out/libcodec_payload.a
 "${CC:-cc}" -std=c99 -O2 -I"$root/include" "$root/tools/bench/bench.c" "$library" -o "$bench"
 
 # So many calls that a repeat takes about a millisecond or more.

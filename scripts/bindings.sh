@@ -1,76 +1,75 @@
 #!/bin/sh
-# Builds the library for C, and tests it.
+# Tests the library for C: that of c/generated, as `make` builds it, and the archive that rt proves and builds, side by side.
 #
 #   scripts/bindings.sh            all that stands below
-#   scripts/bindings.sh library    proves and builds the library, and prints the folder of libcodec_payload.a
-#   scripts/bindings.sh example    builds the library, and builds and runs the example of the header
+#   scripts/bindings.sh proved     proves the library, builds c/out/proved/libcodec_payload.a, and prints that folder
 #
-# The tests: the header against the library; the header as C99 and C11 and, where there is a
-# C++ compiler, as C++11 and C++20; that the compiler tells one kind of struct from another, and a status that is not looked at;
-# what each call answers (bindings/c/checks.c, datagrams.c, values.c, packets.c); what frames say that other readers told of (frames.c, frames.txt),
-# and hostile ones; a stream over UDP on loopback (loopback.c);
-# scripts of payload_vectors through the library, compared byte for byte with the program (vectors.c, inputs.py); allocations
-# less frees after each kind of use, and each allocation of a session refused in turn (oom.c); all of these also with the
-# address and undefined-behaviour sanitizers, and the first four over jemalloc and mimalloc, if these are installed; the calls beside those of the generated Rust crate (tools/twin), if there is cargo;
-# and the installed library (install_test.sh).
+# The tests: the assembly is of these sources, and made anew it is the same (scripts/assembly.py check); the header against the
+# library; the header as C99 and C11 and, where there is a C++ compiler, as C++11 and C++20; that the compiler tells one kind of
+# struct from another, and a status that is not looked at; `make check` (c/check.sh says what runs) over both archives, and over that
+# of the assembly also with the address and undefined-behaviour sanitizers, over jemalloc and mimalloc, and for AArch64 by qemu;
+# scripts of payload_vectors through each, compared byte for byte with the program (c/vectors.c, c/inputs.py); the header for C++
+# (c/plus.cpp); the ABI (scripts/abi.sh); the calls beside those of the generated Rust crate (tools/twin), if there is cargo; and what
+# is installed (install_test.sh).
 #
-# Needs rt, a C compiler ($CC or cc) with its sanitizers, binutils and Python 3; for tools/twin cargo; for what is installed make,
-# pkg-config and a C++ compiler. No network.
-# On a fresh clone rt first proves the library and the program.
-# The last line says what passed; the status is 0 where all did.
+# Needs a C compiler ($CC or cc) with its sanitizers, make, binutils and Python 3; for tools/twin cargo; for what is installed
+# pkg-config and a C++ compiler; for AArch64 gcc-aarch64-linux-gnu and qemu-user. No network. Without rt the archive that rt builds,
+# and the program, are left out, and the last line says so. That line says what passed; the status is 0 where all did.
 set -eu
 
 root=$(cd "$(dirname "$0")/.." && pwd)
-out=$root/bindings/out
+out=$root/c/out
 compiler=${CC:-cc}
 warnings="-pedantic -Wall -Wextra -Wconversion -Werror"
 work=$(mktemp -d)
 trap 'rm -rf "$work"' EXIT
-mkdir -p "$out"
+mkdir -p "$out/proved"
 
 fail() {
     echo "$1" >&2
     exit 1
 }
 
-# One archive of the library, of bindings/c/calls.c over it, and of the three functions by which it calls malloc, realloc and
-# free. The calls of the header are the only names that it gives to others: those that are proved are called proved_* and become
-# local.
-build_library() {
+# step WORDS..: one command, whose output is shown if it fails
+step() {
+    "$@" >"$work/log" 2>&1 || {
+        cat "$work/log" >&2
+        fail "$* failed"
+    }
+}
+
+# One archive of the library as rt builds it, of c/calls.c over it, and of the kit's three functions by which it calls malloc,
+# realloc and free. The calls of the header are the only names that it gives to others: those that are proved are called proved_* and
+# become local.
+build_proved() {
+    kit=$(dirname "$(rt doc)")
     (cd "$root/crates/codec_payload_c" && rt lib) >"$work/lib.log" 2>&1 || {
         cat "$work/lib.log" >&2
         fail "the library is not proved"
     }
-    rm -f "$out/libcodec_payload.a"
-    "$compiler" -std=c99 $warnings -O2 -fPIC -I"$root/include" -c "$root/bindings/c/calls.c" -o "$work/calls.o" &&
+    rm -f "$out/proved/libcodec_payload.a"
+    "$compiler" -std=c99 $warnings -O2 -fPIC -I"$root/include" -c "$root/c/calls.c" -o "$work/calls.o" &&
         (cd "$work" && cp "$root/crates/codec_payload_c/out/libcodec_payload_c.a" "$kit/c/liblibc_c.a" . &&
             nm --defined-only --extern-only libcodec_payload_c.a | sed -n 's/.* \(cpay_[a-z0-9_]*\)$/\1 proved_\1/p' >names &&
             objcopy --redefine-syms=names libcodec_payload_c.a &&
             printf 'CREATE all.a\nADDLIB libcodec_payload_c.a\nADDLIB liblibc_c.a\nADDMOD calls.o\nSAVE\nEND\n' | ar -M &&
             ld -r --whole-archive all.a -o all.o && objcopy --wildcard --keep-global-symbol='cpay_*' all.o codec_payload.o &&
-            ar rcs "$out/libcodec_payload.a" codec_payload.o) || fail "the archive is not made"
+            ar rcs "$out/proved/libcodec_payload.a" codec_payload.o) || fail "the archive is not made"
 }
 
-# compile NAME FLAGS..: builds bindings/c/NAME.c
-compile() {
-    name=$1
-    shift
-    "$compiler" -std=c99 $warnings -O1 -g "$@" -I"$root/include" "$root/bindings/c/$name.c" "$out/libcodec_payload.a" \
-        -o "$work/$name" || fail "bindings/c/$name.c does not build"
-}
-
-# Runs every script through the library and through the program; both answer the same bytes and the same status.
+# Runs every script through the library, by the program $1 of c/vectors.c, and through the proved program; both answer the same
+# bytes and the same status.
 compare_scripts() {
     count=0
     for script in "$work/scripts"/*; do
         status=0
         "$root/crates/payload_vectors/out/payload_vectors" <"$script" >"$work/wanted" 2>"$work/wanted-messages" || status=$?
         found=0
-        "$work/vectors" <"$script" >"$work/found" 2>"$work/found-messages" || found=$?
+        "$1" <"$script" >"$work/found" 2>"$work/found-messages" || found=$?
         [ "$status" -eq "$found" ] && cmp -s "$work/wanted" "$work/found" &&
             cmp -s "$work/wanted-messages" "$work/found-messages" || {
             cp "$script" "$out/differs"
-            fail "C answers another output or status to $(basename "$script"), which is kept as bindings/out/differs"
+            fail "$1 answers another output or status to $(basename "$script"), which is kept as c/out/differs"
         }
         count=$((count + 1))
     done
@@ -84,30 +83,23 @@ refuses() {
     ! "$compiler" -std=c99 $warnings -c -I"$root/include" "$work/mistake.c" -o "$work/mistake.o" 2>/dev/null || fail "$1: compiles"
 }
 
-# run_c FLAGS..: all C tests, built with these flags
-run_c() {
-    compile example "$@"
-    "$work/example" >"$work/example-out" || fail "the example did not end well"
-    [ "$(sed -n 2p "$work/example-out")" = "packets 65536 to 65538: a frame of 3000 bytes" ] || fail "the example printed something else"
-    compile checks "$@"
-    "$work/checks" || fail "bindings/c/checks.c failed"
-    compile datagrams "$@"
-    "$work/datagrams" || fail "bindings/c/datagrams.c failed"
-    compile packets "$@"
-    "$work/packets" || fail "bindings/c/packets.c failed"
-    compile values "$@"
-    "$work/values" || fail "bindings/c/values.c failed"
-    compile loopback "$@"
-    "$work/loopback" >"$work/loopback-out" || fail "bindings/c/loopback.c failed"
-    tail -n 1 "$work/loopback-out" | grep -qx '1278000 bytes of frames, 64 gaps' || fail "bindings/c/loopback.c printed something else"
-    compile vectors "$@"
-    compare_scripts
-    compile frames "$@"
-    cut -d' ' -f1,2 "$root/bindings/c/frames.txt" | "$work/frames" tell | cut -d' ' -f1-4 >"$work/told"
-    cut -d' ' -f3- "$root/bindings/c/frames.txt" | cmp -s - "$work/told" || fail "bindings/c/frames.c tells other than bindings/c/frames.txt"
-    cut -d' ' -f1,2 "$root/bindings/c/frames.txt" | "$work/frames" hostile >/dev/null || fail "bindings/c/frames.c failed"
-    compile oom "$@" -Wl,--wrap=malloc,--wrap=realloc,--wrap=free
-    "$work/oom" || fail "bindings/c/oom.c failed"
+# The headers as each standard, and mistakes that a compiler finds.
+check_headers() {
+    "$root/scripts/check_header.py" || fail "the header and the library differ"
+    for header in "$root/include"/*.h; do
+        for standard in c99 c11; do
+            "$compiler" -std=$standard $warnings -fsyntax-only -x c "$header" || fail "$header is no $standard"
+        done
+    done
+    refuses 'cpay_buffer_pop(buffer, unit, NULL, 0)'
+    refuses 'if (cpay_buffer_pop(packetizer, unit, NULL, 0)) return'
+    ! (refuses 'if (cpay_buffer_pop(buffer, unit, NULL, 0)) return') 2>/dev/null || fail "the compiler refuses what is right"
+    command -v "$plus" >/dev/null || return 0
+    for header in "$root/include"/*.h; do
+        for standard in c++11 c++20; do
+            "$plus" -std=$standard $warnings -fsyntax-only -x c++ "$header" || fail "$header is no $standard"
+        done
+    done
 }
 
 # Runs the tests over allocators that align small blocks to less than 16 bytes, if they are installed.
@@ -116,67 +108,63 @@ run_other_allocators() {
         path=$(find /usr/lib -name "$library" 2>/dev/null | head -n 1)
         [ -n "$path" ] || continue
         for name in checks datagrams packets values; do
-            LD_PRELOAD=$path "$work/$name" >/dev/null || fail "bindings/c/$name.c failed over $library"
+            LD_PRELOAD=$path "$out/tests/$name" >/dev/null || fail "c/$name.c failed over $library"
         done
         allocators="$allocators, $library"
     done
 }
 
-command -v rt >/dev/null || fail "rt is not there"
-kit=$(dirname "$(rt doc)")
-command -v "$compiler" >/dev/null || fail "there is no C compiler; set CC"
-build_library
-
 case ${1:-all} in
-library)
-    echo "$out"
-    exit 0
-    ;;
-example)
-    compile example
-    "$work/example"
+proved)
+    command -v rt >/dev/null || fail "rt is not there"
+    build_proved
+    echo "$out/proved"
     exit 0
     ;;
 all) ;;
-*) fail "usage: scripts/bindings.sh [library|example]" ;;
+*) fail "usage: scripts/bindings.sh [proved]" ;;
 esac
-
-"$root/scripts/check_header.py" || fail "the header and the library differ"
-for header in "$root/include"/*.h; do
-    for standard in c99 c11; do
-        "$compiler" -std=$standard $warnings -fsyntax-only -x c "$header" || fail "$header is no $standard"
-    done
-done
-refuses 'cpay_buffer_pop(buffer, unit, NULL, 0)'
-refuses 'if (cpay_buffer_pop(packetizer, unit, NULL, 0)) return'
-! (refuses 'if (cpay_buffer_pop(buffer, unit, NULL, 0)) return') 2>/dev/null || fail "the compiler refuses what is right"
+command -v "$compiler" >/dev/null || fail "there is no C compiler; set CC"
 plus=${CXX:-c++}
-if command -v "$plus" >/dev/null; then
-    for header in "$root/include"/*.h; do
-        for standard in c++11 c++20; do
-            "$plus" -std=$standard $warnings -fsyntax-only -x c++ "$header" || fail "$header is no $standard"
-        done
-    done
-fi
-(cd "$root/crates/payload_vectors" && rt run <stdin) >"$work/run.log" 2>&1 || {
-    cat "$work/run.log" >&2
-    fail "payload_vectors is not proved"
-}
-"$root/bindings/c/inputs.py" "$work/scripts" >/dev/null
-run_c
+cd "$root"
+step scripts/assembly.py check
+assembly=$(tail -n 1 "$work/log")
+check_headers
+step make check check-sanitized strict=-Werror
+! command -v "$plus" >/dev/null || step make check-plus strict=-Werror
 allocators="the C library's allocator"
 run_other_allocators
-run_c -fsanitize=address,undefined -fno-sanitize-recover=all
+proved="without rt, so neither the archive that rt builds nor scripts of the program"
+if command -v rt >/dev/null; then
+    build_proved
+    step make check LIBRARY=c/out/proved/libcodec_payload.a tests=c/out/proved/tests
+    (cd crates/payload_vectors && rt run <stdin) >"$work/run.log" 2>&1 || {
+        cat "$work/run.log" >&2
+        fail "payload_vectors is not proved"
+    }
+    c/inputs.py "$work/scripts" >/dev/null
+    for tests in tests tests-sanitized proved/tests; do
+        compare_scripts "$out/$tests/vectors"
+    done
+    proved="the archive that rt builds, and $count scripts"
+fi
+arm="without gcc-aarch64-linux-gnu and qemu-user, so not for AArch64"
+if command -v aarch64-linux-gnu-gcc >/dev/null && command -v qemu-aarch64 >/dev/null; then
+    step make check-aarch64 strict=-Werror
+    arm="AArch64 by qemu"
+fi
 twin="without cargo, so without tools/twin"
 if command -v cargo >/dev/null; then
-    (cd "$root/tools/twin" && cargo run --offline --quiet --release -- 20000) >"$work/twin" 2>&1 || {
+    (cd tools/twin && cargo run --offline --quiet --release -- 20000) >"$work/twin" 2>&1 || {
         cat "$work/twin" >&2
         fail "the library and the generated Rust crate differ"
     }
     twin=$(tail -n 1 "$work/twin")
 fi
+step scripts/abi.sh
+abi=$(tail -n 1 "$work/log")
+step scripts/install_test.sh
+installed=$(tail -n 1 "$work/log")
 
-"$root/scripts/install_test.sh" || fail "the installed library does not do"
-
-echo "faces: the header, the example, the checks, $count scripts and the refused allocations, with and without" \
-    "sanitizers, over $allocators, and the installed library: all passed; $twin"
+echo "C: $assembly; the headers, the tests with and without sanitizers, over $allocators; $proved; $arm; $abi; $twin; $installed:" \
+    "all passed"

@@ -4,9 +4,9 @@
 The header is written by hand. This reads both and compares every function: its name, its answer, and of each parameter
 the name and the type; every struct that crosses: its fields in order with their types; and the numbers of the statuses and of
 the codecs. A handle of the library is in C a struct of its kind, so that the compiler tells one kind from another. The
-example in the header, and in docs/C.md, is the text of bindings/c/example.c. The last line says how many functions and structs are the same; the status is 0 where all are.
+example in the header, and in docs/C.md, is the text of c/example.c. The last line says how many functions and structs are the same; the status is 0 where all are.
 
-bindings/c/calls.c, which lets NULL go with a length of 0, is what `check_header.py --calls` prints, and that is compared too.
+c/calls.c, which lets NULL go with a length of 0, is what `check_header.py --calls` prints, and that is compared too.
 """
 import os
 import re
@@ -170,7 +170,7 @@ def wrapped(start, parts, end, indent):
 
 
 def calls(functions):
-    """The text of bindings/c/calls.c."""
+    """The text of c/calls.c."""
     text = [CALLS_BEGIN]
     for kind in KINDS:
         text.append(f"void {kind}_free({kind} *{kind.split('_')[-1]}) {{\n    if ({kind.split('_')[-1]}) "
@@ -215,13 +215,13 @@ def main():
         *differences("header: struct", structs, its_structs),
         *(f"header: {name} is not {value}" for name, value in in_c.items() if numbers.get(name) != value),
     ]
-    if f"#if 0\n{read('bindings/c/example.c')}#endif\n" not in read("include/codec_payload.h"):
-        wrong.append("header: the example is not that of bindings/c/example.c")
-    if f"```c\n{read('bindings/c/example.c')}```\n" not in read("docs/C.md"):
-        wrong.append("docs/C.md: the example is not that of bindings/c/example.c")
+    if f"#if 0\n{read('c/example.c')}#endif\n" not in read("include/codec_payload.h"):
+        wrong.append("header: the example is not that of c/example.c")
+    if f"```c\n{read('c/example.c')}```\n" not in read("docs/C.md"):
+        wrong.append("docs/C.md: the example is not that of c/example.c")
     wrong += [f"header: {kind} is not one handle" for kind in KINDS if written_structs.get(kind) != HANDLE]
-    if read("bindings/c/calls.c") != calls(as_written):
-        wrong.append("bindings/c/calls.c is not what check_header.py --calls prints")
+    if read("c/calls.c") != calls(as_written):
+        wrong.append("c/calls.c is not what check_header.py --calls prints")
     if not functions or not structs:
         wrong.append("no function, or no struct, was found")
     counts = f"{len(functions)} functions and {len(structs)} structs"

@@ -12,7 +12,7 @@ same wherever it stands; toolchain.txt has the line of `rt version`, and no page
 README.md is one of docs/PERFORMANCE.md; each picture is shown by a page, is light, and is of today's data; docs/DIFFERENCES.md
 names each law of the ported crates. Each block of code has a language, by which it is tested:
 
-  c        compiled, and linked and run where the library is built (scripts/bindings.sh library)
+  c        compiled, and linked and run where the library is built (`make`)
   rust     built by cargo over rust/, and run
   rattle   stands, word for word, in a crate that the gate proves
   antt     stands, word for word, in the definitions of a crate
@@ -37,7 +37,7 @@ import pictures as drawn
 import program_vectors
 
 ROOT = os.path.dirname(os.path.dirname(os.path.realpath(__file__)))
-LIBRARY = f"{ROOT}/bindings/out"
+LIBRARY = f"{ROOT}/c/out"
 WIDTH = 128
 README_LINES = 170
 PICTURE_BYTES = 80_000
@@ -67,9 +67,15 @@ RUN_ELSEWHERE = {
     "scripts/bench.sh": ("scripts/allocations.sh", "tools/bench/bench.c"),
     "scripts/examples.py": ("scripts/test.sh", "runs scripts/examples.py"),
     "cc -Iinclude examples/": ("scripts/examples.py", "examples/{name}.c"),
-    "bindings/out/gateway": ("scripts/examples.py", '[programs[name, language]]'),
+    "c/out/gateway": ("scripts/examples.py", '[programs[name, language]]'),
     "cd rust": ("scripts/rust.sh", 'cd "$root/rust"'),
     "scripts/pictures.py": ("scripts/documents.py", "scripts/pictures.py"),
+    "scripts/assembly.py": ("scripts/bindings.sh", "step scripts/assembly.py"),
+    "scripts/abi.sh": ("scripts/bindings.sh", "step scripts/abi.sh"),
+    "make check": ("scripts/bindings.sh", "step make check"),
+    "make check-aarch64": ("scripts/bindings.sh", "step make check-aarch64"),
+    "make loopback": ("c/check.sh", "loopback"),
+    "make example": ("c/check.sh", "example"),
     "make install": ("scripts/install_test.sh", "install PREFIX="),
     "make man": ("scripts/install_test.sh", "doxygen"),
     "make dist": ("scripts/install_test.sh", "dist"),
@@ -89,7 +95,7 @@ RUN_ELSEWHERE = {
     "tools/rtp_record/rtp_record": ("scripts/test.sh", "runs tools/rtp_record/test.sh"),
     "./install.sh": ("scripts/test.sh", "tools/rtp_record/install.sh"),
     "./rtp_record": ("scripts/test.sh", "runs tools/rtp_record/test.sh"),
-    "../../scripts/bindings.sh": ("scripts/test.sh", "runs scripts/bindings.sh"),
+    "make -C ../..": ("scripts/install_test.sh", "make"),
     "cd crates/": ("scripts/process.py", '["rt", "run"]'),
 }
 
@@ -347,7 +353,7 @@ def tested_sh(block):
                 return f"{path} does not run: {command}"
             script = re.sub(r"^\w+=\S+ ", "", command).split()[0]
             aim = os.path.join(ROOT, "tools/rtp_record" if block.page.startswith("tools/rtp_record") else "", script)
-            is_built = script.endswith("/rtp_record") or script.startswith("bindings/out/")
+            is_built = script.endswith("/rtp_record") or script.startswith("c/out/")
             if "/" in script and not is_built and not os.path.exists(aim):
                 return f"there is no {script}"
     return ""

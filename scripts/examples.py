@@ -1,14 +1,14 @@
 #!/usr/bin/env python3
 """Builds and runs the recipes of docs/RECIPES.md, for C over the library and for Rust over rust/, and compares their output.
 
-  scripts/examples.py [ARCHIVE]    the archive of the library, by default bindings/out/libcodec_payload.a
+  scripts/examples.py [ARCHIVE]    the archive of the library, by default c/out/libcodec_payload.a
 
 Each recipe of SIMULATED fails by itself if its network shows a fault, and must print the same in both languages, and the line that
 docs/RECIPES.md has. The recorders write the VP8 capture of tools/rtp_record under each condition of its tests. The frames in their
 files must be the encoder's, by their MD5s: the frames of which every packet arrived. The stream over UDP in C is run by
 scripts/bindings.sh, all examples for Rust by scripts/rust.sh, and the examples for Rattle by rt ci.
 
-Needs the library as scripts/bindings.sh library builds it, a C compiler with sanitizers, $CC or cc, and cargo of 1.88 or later.
+Needs make, a C compiler with sanitizers, $CC or cc, and cargo of 1.88 or later.
 The last line says what passed; the status is 0 if all passed.
 """
 import hashlib
@@ -19,7 +19,7 @@ import sys
 import tempfile
 
 ROOT = os.path.dirname(os.path.dirname(os.path.realpath(__file__)))
-ARCHIVE = f"{ROOT}/bindings/out/libcodec_payload.a"
+ARCHIVE = f"{ROOT}/c/out/libcodec_payload.a"
 sys.path.insert(0, f"{ROOT}/tools/rtp_record/tests")
 
 import capture  # noqa: E402  (the folder is known only now)
@@ -110,8 +110,8 @@ def recorders(programs, folder):
 
 def main(words):
     archive = os.path.realpath(words[0]) if words else ARCHIVE
-    if not os.path.exists(archive):
-        subprocess.run([f"{ROOT}/scripts/bindings.sh", "library"], check=True, stdout=subprocess.DEVNULL)
+    if not words:
+        subprocess.run(["make", "-s", "-C", ROOT], check=True, stdout=subprocess.DEVNULL)
     with tempfile.TemporaryDirectory() as folder:
         programs = built(folder, archive)
         wrong = [*simulated(programs), *recorders(programs, folder)]

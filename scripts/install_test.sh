@@ -3,13 +3,13 @@
 #
 # The archive and the shared library export the calls of the header alone. The example is built by pkg-config, as C and as C++,
 # against the shared library and against the archive, and by CMake where there is cmake; each prints what it should. The same by
-# the tarball of `make dist`, unpacked elsewhere and without rt. In the end all is uninstalled, and nothing is left. Manual pages
-# are made and installed where there is doxygen, and Debian packages where there are debhelper and doxygen: lintian finds no
-# error in them, the example is built against what they unpack, and the recorder, where libpcap and libavformat are there, lists
-# and writes a capture of the repository.
+# the tarball of `make dist`, unpacked elsewhere and without rt, where `make check` passes. In the end all is uninstalled, and nothing
+# is left. Both libraries ask for no executable stack and say that branches are protected. Manual pages are made and installed where
+# there is doxygen, and Debian packages where there are debhelper and doxygen, for arm64 too with its cross compiler: lintian finds no
+# error in them, and hardening-check and blhc no flag that is missing; they go into a fresh root, the example is built against what is
+# there, and the recorder, where libpcap and libavformat are there, lists and writes a capture of the repository.
 #
-# Needs make, a C and a C++ compiler, nm and pkg-config; the library as `scripts/bindings.sh library` builds it. The last line says
-# what passed; the status is 0 where all did.
+# Needs make, a C and a C++ compiler, nm, readelf and pkg-config. The last line says what passed; the status is 0 where all did.
 set -eu
 
 root=$(cd "$(dirname "$0")/.." && pwd)
@@ -23,7 +23,7 @@ fail() {
     exit 1
 }
 
-for tool in make nm pkg-config "$compiler" "$plus"; do
+for tool in make nm readelf pkg-config "$compiler" "$plus"; do
     command -v "$tool" >/dev/null || fail "$tool is not there"
 done
 
@@ -80,37 +80,71 @@ END
     prints "$work/project/build/example_static"
 }
 
-# packs FOLDER: Debian packages of it, and the example against what is in them
-packs() {
-    command -v dh >/dev/null && command -v doxygen >/dev/null && command -v dpkg-buildpackage >/dev/null || return 0
-    make -s -C "$1" deb >"$work/deb.log" 2>&1 || {
-        tail -n 40 "$work/deb.log" >&2
+# is_protected LIBRARY..: no executable stack, and the notes of CET or BTI in the archive
+is_protected() {
+    ! readelf -lW "$2" | grep -q 'GNU_STACK.*RWE' || fail "$2 asks for an executable stack"
+    readelf -nW "$1" 2>/dev/null | grep -qE 'IBT, SHSTK|BTI, PAC' || fail "$1 does not say that its branches are protected"
+}
+
+# packages FOLDER TARGET OUT: Debian packages of it, in a fresh root, $work/TARGET
+packages() {
+    make -C "$1" "$2" >"$work/$2.log" 2>&1 || {
+        tail -n 40 "$work/$2.log" >&2
         fail "there are no Debian packages"
     }
     if command -v lintian >/dev/null; then
-        lintian --fail-on error "$1"/bindings/out/*.deb >"$work/lintian.log" 2>&1 || {
+        lintian --fail-on error "$1/$3"/*.deb >"$work/lintian.log" 2>&1 || {
             cat "$work/lintian.log" >&2
             fail "lintian finds errors"
         }
     fi
-    for package in "$1"/bindings/out/*.deb; do
-        dpkg-deb -x "$package" "$work/debian"
-    done
-    [ -f "$work/debian/usr/share/man/man3/cpay_buffer_pop.3.gz" ] || fail "the manual pages are not packed"
-    folder=$(dirname "$(find "$work/debian" -name libcodec_payload.so.0)")
-    "$compiler" -std=c11 -I"$work/debian/usr/include" "$1/bindings/c/example.c" -L"$folder" -lcodec_payload -o "$work/packed" &&
+    mkdir -p "$work/$2/var/lib/dpkg/info" "$work/$2/var/lib/dpkg/updates"
+    : >"$work/$2/var/lib/dpkg/status"
+    PATH=$PATH:/usr/sbin:/sbin dpkg --root="$work/$2" --force-depends --force-architecture --no-triggers -i "$1/$3"/*.deb >"$work/dpkg.log" 2>&1 || {
+        cat "$work/dpkg.log" >&2
+        fail "the packages do not go into a fresh root"
+    }
+    [ -f "$work/$2/usr/share/man/man3/cpay_buffer_pop.3.gz" ] || fail "the manual pages are not packed"
+}
+
+# packs FOLDER: Debian packages of it, and the example against what is in them
+packs() {
+    command -v dh >/dev/null && command -v doxygen >/dev/null && command -v dpkg-buildpackage >/dev/null || return 0
+    packages "$1" deb c/out
+    folder=$(dirname "$(find "$work/deb" -name libcodec_payload.so.0)")
+    if command -v hardening-check >/dev/null; then
+        # The proved code has no arrays on its stack whose bounds a canary would guard, and no calls that are fortified. The notes of
+        # CET are looked for in the archive above: the shared library loses them to the start files of Debian 12, which have none.
+        hardening-check --nopie --nostackprotector --nofortify --nocfprotection "$folder/libcodec_payload.so.0" >"$work/hardening" || {
+            cat "$work/hardening" >&2
+            fail "the shared library is not hardened as Debian asks"
+        }
+    fi
+    ! command -v blhc >/dev/null || blhc --bindnow --ignore-line '.* -r -nostdlib .*' "$work/deb.log" >"$work/blhc" || {
+        cat "$work/blhc" >&2
+        fail "blhc misses flags in the build of the packages"
+    }
+    "$compiler" -std=c11 -I"$work/deb/usr/include" "$1/c/example.c" -L"$folder" -lcodec_payload -o "$work/packed" &&
         LD_LIBRARY_PATH=$folder "$work/packed" >"$work/printed" || fail "the example fails against the Debian packages"
     packed=", the Debian packages"
-    pkg-config --exists libpcap libavformat libavcodec libavutil || return 0
-    records "$folder"
-    packed="$packed with the recorder"
+    if pkg-config --exists libpcap libavformat libavcodec libavutil; then
+        records "$folder"
+        packed="$packed with the recorder"
+    fi
+    command -v aarch64-linux-gnu-gcc >/dev/null && command -v qemu-aarch64 >/dev/null || return 0
+    packages "$1" deb-aarch64 c/out/aarch64
+    folder=$(dirname "$(find "$work/deb-aarch64" -name libcodec_payload.so.0)")
+    aarch64-linux-gnu-gcc -std=c11 -I"$work/deb-aarch64/usr/include" "$1/c/example.c" -L"$folder" -lcodec_payload -o "$work/arm" &&
+        qemu-aarch64 -L /usr/aarch64-linux-gnu -E LD_LIBRARY_PATH="$folder" "$work/arm" >"$work/printed" ||
+        fail "the example fails against the Debian packages for arm64"
+    packed="$packed and those for arm64"
 }
 
 # records FOLDER: the packed recorder lists and writes a capture over the shared library in that folder
 records() {
-    recorder=$work/debian/usr/bin/rtp_record
+    recorder=$work/deb/usr/bin/rtp_record
     for file in bin/rtp_record share/man/man1/rtp_record.1.gz share/bash-completion/completions/rtp_record; do
-        [ -f "$work/debian/usr/$file" ] || fail "the package of the recorder lacks $file"
+        [ -f "$work/deb/usr/$file" ] || fail "the package of the recorder lacks $file"
     done
     LD_LIBRARY_PATH=$1 ldd "$recorder" | grep -q "libcodec_payload.so.0 => $1/" || fail "the recorder is not linked against the library"
     LD_LIBRARY_PATH=$1 "$recorder" --help | grep -q '^usage: rtp_record' || fail "the recorder has no help"
@@ -126,8 +160,9 @@ installs() {
     make -s -C "$1" install PREFIX="$prefix" || fail "it is not installed"
     exports "" "$prefix/lib/libcodec_payload.a"
     exports -D "$prefix/lib/libcodec_payload.so.0"
-    builds_by_pkg_config "$1/bindings/c/example.c"
-    builds_by_cmake "$1/bindings/c/example.c"
+    is_protected "$prefix/lib/libcodec_payload.a" "$prefix/lib/libcodec_payload.so.0"
+    builds_by_pkg_config "$1/c/example.c"
+    builds_by_cmake "$1/c/example.c"
     make -s -C "$1" uninstall PREFIX="$prefix"
     [ -z "$(find "$prefix" ! -type d)" ] || fail "something is left of what was installed"
 }
@@ -141,8 +176,13 @@ make -s -C "$root" install PREFIX=/usr DESTDIR="$work/staged"
 grep -q -x prefix=/usr "$work/staged/usr/lib/pkgconfig/codec-payload.pc" || fail "DESTDIR stands in codec-payload.pc"
 make -s -C "$root" dist
 mkdir "$work/unpacked"
-tar -xzf "$root"/bindings/out/codec-payload-*.tar.gz -C "$work/unpacked"
+tar -xzf "$root"/c/out/codec-payload-*.tar.gz -C "$work/unpacked"
 prefix=$work/other
+PATH=/usr/bin:/bin
+make -s -C "$work/unpacked"/codec-payload-* check >"$work/check.log" 2>&1 || {
+    tail -n 40 "$work/check.log" >&2
+    fail "make check fails in the unpacked tarball"
+}
 installs "$work/unpacked"/codec-payload-*
 
 echo "install: exports, pkg-config, C++, CMake, the tarball$packed and the way back: all passed"

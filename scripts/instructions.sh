@@ -2,18 +2,18 @@
 # Counts the instructions of a push and a pop while 64 and 4,096 packets are held, and fails where they grow as if each call went
 # over all that is held.
 #
-#   scripts/instructions.sh    over the library that scripts/bindings.sh built; builds it where it is not there
+#   scripts/instructions.sh    over the library as `make` builds it
 #
 # In order a push and a pop take the same at any number held. In a mixed order what lies above a packet moves up, 8 or 16 bytes a
 # packet, as by memmove; a search that went over all would take some four instructions a packet more. Needs valgrind and a C
 # compiler, $CC or cc. The last line says what passed.
 set -eu
 root=$(cd "$(dirname "$0")/.." && pwd)
-library=$root/bindings/out/libcodec_payload.a
+library=$root/c/out/libcodec_payload.a
 work=$(mktemp -d)
 trap 'rm -rf "$work"' EXIT
-[ -f "$library" ] || "$root/scripts/bindings.sh" library >/dev/null
-"${CC:-cc}" -std=c99 -O1 -I"$root/include" "$root/bindings/c/held.c" "$library" -o "$work/held"
+make -s -C "$root" >/dev/null
+"${CC:-cc}" -std=c99 -O1 -I"$root/include" "$root/c/held.c" "$library" -o "$work/held"
 
 # instructions ORDER HELD: how many a push and a pop take
 instructions() {

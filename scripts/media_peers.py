@@ -2,15 +2,15 @@
 """Compares what the library for C tells of frames with what other readers tell of them.
 
     scripts/media_peers.py             all of it; the last line counts what was compared
-    scripts/media_peers.py rows        writes some of what those tell to bindings/c/frames.txt too, which scripts/bindings.sh reads
+    scripts/media_peers.py rows        writes some of what those tell to c/frames.txt too, which c/check.sh reads
     scripts/media_peers.py times       the nanoseconds of one cpay_frame_info for each kind of frame
 
 The frames are those of encoders (scripts/media_frames.sh), headers of VP9 and AV1 made field by field at random, and hostile
 ones: beginnings, all bytes of one and two, and frames with a byte changed. The readers are ffmpeg's bitstream filter
 `trace_headers` (VP9, AV1), ffprobe, ffmpeg's muxer of MP4 (av1C), libvpx (VP8) and libopus. Where one of them refuses what the
-standard lets pass, it is not asked. bindings/c/frames.c asks the library, with and without the sanitizers.
+standard lets pass, it is not asked. c/frames.c asks the library, with and without the sanitizers.
 
-Needs the library (scripts/bindings.sh library), a C compiler, and ffmpeg with libvpx, libaom and libopus.
+Needs the library (`make`), a C compiler, and ffmpeg with libvpx, libaom and libopus.
 """
 
 import collections
@@ -103,8 +103,8 @@ def tell(program, codec, frames):
 def build(folder, name, flags):
     program = folder / name
     subprocess.run(
-        ["cc", "-std=c99", "-O2", "-g", *flags, f"-I{ROOT}/include", ROOT / "bindings/c/frames.c"]
-        + [ROOT / "bindings/out/libcodec_payload.a", "-o", program],
+        ["cc", "-std=c99", "-O2", "-g", *flags, f"-I{ROOT}/include", ROOT / "c/frames.c"]
+        + [ROOT / "c/out/libcodec_payload.a", "-o", program],
         check=True,
     )
     return program
@@ -472,7 +472,7 @@ def main():
         frames = [(codec, read_hex(folder, name)[place][:700]) for codec, name, place in seeds]
         print("under the sanitizers:", ask(checked, "hostile", frames)[-1])
     if sys.argv[1:] == ["rows"]:
-        write_rows(ROOT / "bindings/c/frames.txt")
+        write_rows(ROOT / "c/frames.txt")
     for what, count in sorted(counts.items()):
         print(f"{count:7} {what}")
     print(f"media_peers: {sum(counts.values())} answers compared, none differs")

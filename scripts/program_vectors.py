@@ -1,7 +1,7 @@
 """Inputs of the program payload_vectors, each with what it prints and how it ends.
 
 The outputs are worked out by the RFCs of the formats and the rules of the buffer in docs/FORMATS.md. scripts/process.py runs them
-through the program, and bindings/c/inputs.py gives the same inputs to the library for C.
+through the program, and c/inputs.py gives the same inputs to the library for C.
 """
 from typing import NamedTuple
 

@@ -25,7 +25,8 @@ for crate in "$vectors" "$hostile"; do
         exit 1
     }
 done
-library=$("$root/scripts/bindings.sh" library | tail -n 1)/libcodec_payload.a
+make -s -C "$root" >/dev/null
+library=$root/c/out/libcodec_payload.a
 "${CC:-cc}" -std=c99 -O1 -I"$root/include" "$root/tools/refused/refused.c" "$library" -o "$work/calls"
 tried=0
 promised=0

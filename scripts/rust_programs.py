@@ -19,7 +19,7 @@ import tempfile
 from concurrent.futures import ThreadPoolExecutor
 
 ROOT = os.path.dirname(os.path.dirname(os.path.realpath(__file__)))
-sys.path.insert(0, f"{ROOT}/bindings/c")
+sys.path.insert(0, f"{ROOT}/c")
 
 import datagram_vectors  # noqa: E402  (inputs.py is found only now)
 import inputs  # noqa: E402

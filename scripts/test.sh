@@ -6,7 +6,8 @@
 #
 # Needs rt, a C and a C++ compiler, make, binutils, pkg-config, Python 3, cargo and valgrind; what is missing of Debian's packages is
 # installed where that may be done, and else named before anything starts. debhelper, lintian and doxygen are looked for
-# in the same way; without them no Debian packages and manual pages are made. Without libpcap, libavformat and ffmpeg the recorder
+# in the same way; without them no Debian packages and manual pages are made. So are gcc-aarch64-linux-gnu with qemu-user, without
+# which the library for C is tested natively alone, and abigail-tools, without which its ABI is not compared. Without libpcap, libavformat and ffmpeg the recorder
 # is not tested; without ffmpeg what frames say is not compared with other readers; without Debian's packages of crates and the
 # runtime of libFuzzer rust-extras and tools/fuzz are not. The last line is `N passed, N failed`; the status is 0 if nothing failed.
 set -u
@@ -45,6 +46,12 @@ wants dpkg-dev dpkg-buildpackage
 wants fakeroot fakeroot
 wants lintian lintian
 wants doxygen doxygen
+wants gcc-aarch64-linux-gnu aarch64-linux-gnu-gcc
+[ -f /usr/aarch64-linux-gnu/include/stdio.h ] || absent="$absent libc6-dev-arm64-cross"
+wants qemu-user qemu-aarch64
+wants abigail-tools abidw abidiff
+wants devscripts hardening-check
+wants blhc blhc
 find /usr/lib -name libjemalloc.so.2 2>/dev/null | grep -q . || absent="$absent libjemalloc2"
 for name in bytes criterion proptest; do
     ls /usr/share/cargo/registry 2>/dev/null | grep -q "^$name-[0-9]" ||

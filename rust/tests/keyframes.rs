@@ -30,7 +30,10 @@ fn delta_frames_after_a_gap_wait_for_a_keyframe() {
     assert!(!gate.wants_keyframe());
     assert!(gate.release(VP8_DELTA, true));
     assert!(!gate.release(VP8_DELTA, false), "a gap");
-    assert!(!gate.release(VP8_DELTA, true), "contiguous, after a unit that cannot be shown");
+    assert!(
+        !gate.release(VP8_DELTA, true),
+        "contiguous, after a unit that cannot be shown"
+    );
     assert!(gate.wants_keyframe());
     assert!(gate.release(VP8_KEY, true));
     assert!(!gate.wants_keyframe());
@@ -42,7 +45,10 @@ fn a_lost_unit_and_skipped_units_want_a_keyframe() {
     assert!(gate.release(VP8_KEY, true));
     gate.skip();
     assert!(gate.wants_keyframe());
-    assert!(gate.release(VP8_DELTA, true), "by its picture ids it follows");
+    assert!(
+        gate.release(VP8_DELTA, true),
+        "by its picture ids it follows"
+    );
     assert!(gate.wants_keyframe(), "only a keyframe ends it");
     assert!(gate.release(VP8_KEY, true));
     gate.lose();

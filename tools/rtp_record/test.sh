@@ -5,7 +5,7 @@ set -u
 cd "$(dirname "$0")" || exit 2
 passed=0
 failed=0
-make -s all sanitized || exit 2
+make -s -C ../.. && make -s all sanitized || exit 2
 
 # counts COMMAND..: its last line is `N passed, N failed`
 counts() {

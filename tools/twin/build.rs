@@ -22,14 +22,14 @@ fn main() {
     println!("cargo::rustc-link-search=native={out}");
     println!(
         "cargo::rustc-link-search=native={}",
-        root.join("bindings/out").display()
+        root.join("c/out").display()
     );
     println!("cargo::rustc-link-lib=static=twin_shim");
     println!("cargo::rustc-link-lib=static=codec_payload");
     for path in [
         "shim.c",
         "../../include/codec_payload.h",
-        "../../bindings/out/libcodec_payload.a",
+        "../../c/out/libcodec_payload.a",
     ] {
         println!("cargo::rerun-if-changed={path}");
     }

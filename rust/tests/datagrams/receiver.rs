@@ -20,7 +20,7 @@ struct Row {
     told: &'static str,
 }
 
-const ROWS: [Row; 12] = [
+const ROWS: [Row; 13] = [
     Row {
         name: "first-packet-0-second-65535",
         wait_limits: WAITS,

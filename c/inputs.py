@@ -1,7 +1,7 @@
 #!/usr/bin/env python3
 """Writes scripts for the program payload_vectors into a folder, one a file.
 
-  bindings/c/inputs.py FOLDER
+  c/inputs.py FOLDER
 
 They are its stored input, those of scripts/program_vectors.py, and two hundred that a fixed generator makes: of each codec, with
 lost, repeated and late packets. The generator's numbers are its own, so they are the same wherever it runs.
@@ -9,7 +9,7 @@ lost, repeated and late packets. The generator's numbers are its own, so they ar
 import os
 import sys
 
-ROOT = os.path.dirname(os.path.dirname(os.path.dirname(os.path.realpath(__file__))))
+ROOT = os.path.dirname(os.path.dirname(os.path.realpath(__file__)))
 VECTORS = f"{ROOT}/crates/payload_vectors"
 sys.path.insert(0, f"{ROOT}/scripts")
 

@@ -1,0 +1,109 @@
+/* codec_payload.hpp, as C++17 and as C++20: frames go through each class and come back, an object that was moved from is empty, and
+ * what holds is counted. */
+#include "codec_payload.hpp"
+#include "check.h"
+
+#include <array>
+#include <type_traits>
+#if __cplusplus >= 202002L
+#include <span>
+#endif
+
+namespace {
+
+const cpay_spec VP8 = {CPAY_VP8, 90000, 0, false, false, false};
+const cpay_spec OPUS = {CPAY_OPUS, 48000, 0, false, false, false};
+
+static_assert(std::is_nothrow_move_constructible_v<cpay::receiver> && !std::is_copy_constructible_v<cpay::receiver>);
+static_assert(std::is_nothrow_move_assignable_v<cpay::sender> && !std::is_copy_assignable_v<cpay::sender>);
+static_assert(std::is_convertible_v<std::vector<std::uint8_t> &, cpay::room>);
+static_assert(std::is_convertible_v<const std::vector<std::uint8_t> &, cpay::bytes>);
+static_assert(!std::is_convertible_v<const std::vector<std::uint8_t> &, cpay::room>);
+static_assert(!std::is_convertible_v<std::vector<std::uint16_t> &, cpay::bytes>);
+#if __cplusplus >= 202002L
+static_assert(std::is_convertible_v<std::span<std::uint8_t>, cpay::room>);
+static_assert(std::is_constructible_v<std::span<const std::uint8_t>, cpay::bytes>);
+#endif
+
+void over_datagrams() {
+    cpay_sender_settings sends = {};
+    sends.spec = VP8;
+    sends.mtu = 1200;
+    sends.payload_type = 96;
+    cpay_receiver_settings receives = CPAY_LIVE_VIDEO;
+    receives.spec = VP8;
+    receives.payload_type = 96;
+    cpay::sender from;
+    cpay::receiver to;
+    CHECK(from.make(sends) == CPAY_OK);
+    CHECK(from.make(sends) == CPAY_FULL);
+    CHECK(to.make(receives) == CPAY_OK);
+    std::vector<std::uint8_t> frame(3000, 7), datagram, found;
+    std::size_t count = 0;
+    std::uint32_t outcome = 0;
+    CHECK(from.send(3000, false, frame, count) == CPAY_OK && count == 3);
+    for (std::size_t place = 0; place < count; place++) {
+        CHECK(from.datagram(place, datagram) == CPAY_OK);
+        CHECK(to.receive(0, datagram, outcome) == CPAY_OK && outcome == CPAY_HELD);
+    }
+    CHECK(from.datagram(count, datagram) == CPAY_NONE && datagram.empty());
+    cpay::receiver moved = std::move(to);
+    cpay_unit unit = {};
+    CHECK(to.pop(100, unit, found) == CPAY_EMPTY);
+    CHECK(moved.pop(100, unit, found) == CPAY_OK && found == frame && unit.bytes == 3000);
+    CHECK(moved.pop(100, unit, found) == CPAY_NONE && found.empty());
+    to = std::move(moved);
+    std::array<std::uint64_t, 4> missing = {};
+    CHECK(to.missing(missing, count) == CPAY_OK && count == 0);
+    cpay_receiver_counts_info counts = {};
+    CHECK(to.counts(counts) == CPAY_OK && counts.units == 1);
+    CHECK(to.finish() == CPAY_OK);
+    to.clear();
+    CHECK(to.finish() == CPAY_EMPTY);
+    CHECK(to.make(receives) == CPAY_OK);
+}
+
+void over_payloads() {
+    cpay::packetizer from;
+    cpay::buffer to;
+    cpay::depacketizer reads;
+    CHECK(from.make(VP8) == CPAY_OK && to.make(VP8, 0, 16) == CPAY_OK && reads.make(VP8) == CPAY_OK);
+    const std::vector<std::uint8_t> frame = {0x90, 0x91, 0x92};
+    std::vector<std::uint8_t> payload, found;
+    std::size_t count = 0;
+    cpay_packet_info info = {};
+    CHECK(from.packetize(2, false, frame, count) == CPAY_OK && count == 3);
+    for (std::uint64_t number = 0; number < count; number++) {
+        CHECK(from.packet(info, payload) == CPAY_OK && payload.size() == 2);
+        cpay_received packet = {number, 0, 3000, info.marker};
+        CHECK(to.push(packet, payload) == CPAY_OK && reads.depacketize(payload) == CPAY_OK);
+    }
+    cpay_unit unit = {};
+    cpay_extra extra = {};
+    CHECK(to.pop(unit, found) == CPAY_OK && found == frame && unit.last == 2);
+    CHECK(reads.depacketized(extra, found) == CPAY_OK && found == frame && extra.kind == CPAY_EXTRA_VP8);
+}
+
+void over_red() {
+    const std::uint32_t distances[] = {1};
+    const std::uint8_t payload[] = {1, 2, 3};
+    std::array<std::uint8_t, 64> wrapped = {};
+    std::size_t size = 0, count = 0;
+    cpay::red_sender from;
+    CHECK(from.make(63, 111, distances) == CPAY_OK);
+    CHECK(from.wrap(960, 64, payload, wrapped, size) == CPAY_OK && size == 4);
+    CHECK(from.wrap(1920, 64, payload, wrapped, size) == CPAY_OK && size == 11);
+    cpay_red_block_place blocks[2] = {};
+    CHECK(cpay_red_blocks(wrapped.data(), size, blocks, 2, &count) == CPAY_OK && count == 2 && blocks[0].offset == 960);
+    cpay::packetizer opus;
+    CHECK(opus.make(OPUS) == CPAY_OK);
+}
+
+} // namespace
+
+int main() {
+    over_datagrams();
+    over_payloads();
+    over_red();
+    return checked();
+}

@@ -1,0 +1,211 @@
+/** @file
+ * codec_payload.h for C++17 and later: kinds that free themselves, and bytes by one argument.
+ *
+ * Each class below holds one kind of codec_payload.h in the object itself. It can be moved and not copied, and its end frees what it
+ * holds. `make` is the call named *_new, and each other method the call of its name there, with the same statuses: nothing here
+ * throws, but for a std::vector that grows. Containers with data() and size() go as bytes: std::vector, std::array, std::span.
+ * What has no method is called with get(). */
+#ifndef CODEC_PAYLOAD_HPP
+#define CODEC_PAYLOAD_HPP
+
+#include "codec_payload.h"
+
+#include <cstddef>
+#include <cstdint>
+#include <type_traits>
+#include <utility>
+#include <vector>
+
+namespace cpay {
+
+/** Items that stand one behind the other and belong to somebody else, as in std::span of C++20, from and to which it converts. */
+template <class Item> class view {
+public:
+    constexpr view() noexcept = default;
+    constexpr view(Item *at, std::size_t size) noexcept : at_(at), size_(size) {}
+    template <std::size_t Size> constexpr view(Item (&items)[Size]) noexcept : at_(items), size_(Size) {}
+    template <class Items, class = std::enable_if_t<
+                               !std::is_same_v<std::remove_cv_t<std::remove_reference_t<Items>>, view> &&
+                               std::is_convertible_v<std::remove_pointer_t<decltype(std::declval<Items &>().data())> (*)[],
+                                                     Item (*)[]>>>
+    constexpr view(Items &&items) noexcept : at_(items.data()), size_(items.size()) {}
+
+    constexpr Item *data() const noexcept { return at_; }
+    constexpr std::size_t size() const noexcept { return size_; }
+    constexpr bool empty() const noexcept { return size_ == 0; }
+    constexpr Item *begin() const noexcept { return at_; }
+    constexpr Item *end() const noexcept { return at_ + size_; }
+    constexpr Item &operator[](std::size_t place) const noexcept { return at_[place]; }
+
+private:
+    Item *at_ = nullptr;
+    std::size_t size_ = 0;
+};
+
+/** Bytes that a call reads, and bytes that it writes. */
+using bytes = view<const std::uint8_t>;
+using room = view<std::uint8_t>;
+
+/** What all kinds have. */
+template <class Kind, void (*Free)(Kind *)> class handle {
+public:
+    handle() noexcept = default;
+    handle(handle &&other) noexcept : kind_(std::exchange(other.kind_, Kind{})) {}
+    handle &operator=(handle &&other) noexcept {
+        if (this != &other) {
+            Free(&kind_);
+            kind_ = std::exchange(other.kind_, Kind{});
+        }
+        return *this;
+    }
+    handle(const handle &) = delete;
+    handle &operator=(const handle &) = delete;
+    ~handle() { Free(&kind_); }
+
+    /** For calls of codec_payload.h. What it points to must not be copied. */
+    Kind *get() noexcept { return &kind_; }
+    /** Frees what it holds; `make` can then be called again. */
+    void clear() noexcept { Free(&kind_); }
+
+private:
+    Kind kind_ = {};
+};
+
+/** Bytes that a call tells the number of: once with the room that is there, and once more if it was too little. */
+template <class Call> [[nodiscard]] cpay_status into(std::vector<std::uint8_t> &bytes, std::size_t &size, Call call) {
+    bytes.resize(bytes.capacity());
+    cpay_status status = call(room(bytes));
+    if (status == CPAY_TOO_SMALL) {
+        bytes.resize(size);
+        status = call(room(bytes));
+    }
+    bytes.resize(status == CPAY_OK ? size : 0);
+    return status;
+}
+
+/** Frames go in, the datagrams of one stream come out. */
+class sender : public handle<cpay_sender, cpay_sender_free> {
+public:
+    [[nodiscard]] cpay_status make(const cpay_sender_settings &settings) noexcept { return cpay_sender_new(get(), &settings); }
+    [[nodiscard]] cpay_status send(std::uint64_t rtp_time, bool starts_talk_spurt, bytes frame, std::size_t &count) noexcept {
+        return cpay_sender_send(get(), rtp_time, starts_talk_spurt, frame.data(), frame.size(), &count);
+    }
+    [[nodiscard]] cpay_status send_sample(const cpay_sample &sample, bytes frame, std::size_t &count) noexcept {
+        return cpay_sender_send_sample(get(), &sample, frame.data(), frame.size(), &count);
+    }
+    [[nodiscard]] cpay_status datagram(std::size_t place, room datagram, std::size_t &size) noexcept {
+        return cpay_sender_datagram(get(), place, datagram.data(), datagram.size(), &size);
+    }
+    /** The same into a vector, which grows as is needed, and is empty on each status but CPAY_OK. */
+    [[nodiscard]] cpay_status datagram(std::size_t place, std::vector<std::uint8_t> &to) {
+        std::size_t size = 0;
+        return into(to, size, [&](room it) { return datagram(place, it, size); });
+    }
+    [[nodiscard]] cpay_status counts(cpay_sender_counts_info &counts) noexcept { return cpay_sender_counts(get(), &counts); }
+};
+
+/** Datagrams of a socket go in, whole units of one stream come out in order. */
+class receiver : public handle<cpay_receiver, cpay_receiver_free> {
+public:
+    [[nodiscard]] cpay_status make(const cpay_receiver_settings &settings, bytes no_media = {}) noexcept {
+        return cpay_receiver_new(get(), &settings, no_media.data(), no_media.size());
+    }
+    [[nodiscard]] cpay_status receive(std::uint64_t now, bytes datagram, std::uint32_t &outcome) noexcept {
+        return cpay_receiver_receive(get(), now, datagram.data(), datagram.size(), &outcome);
+    }
+    [[nodiscard]] cpay_status pop(std::uint64_t now, cpay_unit &unit, room to) noexcept {
+        return cpay_receiver_pop(get(), now, &unit, to.data(), to.size());
+    }
+    /** The same into a vector, which grows as is needed, and is empty on each status but CPAY_OK. */
+    [[nodiscard]] cpay_status pop(std::uint64_t now, cpay_unit &unit, std::vector<std::uint8_t> &to) {
+        return into(to, unit.bytes, [&](room it) { return pop(now, unit, it); });
+    }
+    [[nodiscard]] cpay_status next_deadline(std::uint64_t &at) noexcept { return cpay_receiver_next_deadline(get(), &at); }
+    [[nodiscard]] cpay_status set_wait_limits(const cpay_wait_limits &limits) noexcept {
+        return cpay_receiver_set_wait_limits(get(), &limits);
+    }
+    [[nodiscard]] cpay_status finish() noexcept { return cpay_receiver_finish(get()); }
+    [[nodiscard]] cpay_status restart() noexcept { return cpay_receiver_restart(get()); }
+    [[nodiscard]] cpay_status missing(view<std::uint64_t> numbers, std::size_t &count) noexcept {
+        return cpay_receiver_missing(get(), numbers.data(), numbers.size(), &count);
+    }
+    [[nodiscard]] cpay_status report(cpay_report_info &report) noexcept { return cpay_receiver_report(get(), &report); }
+    [[nodiscard]] cpay_status counts(cpay_receiver_counts_info &counts) noexcept { return cpay_receiver_counts(get(), &counts); }
+};
+
+/** A frame goes in, its payloads come out. */
+class packetizer : public handle<cpay_packetizer, cpay_packetizer_free> {
+public:
+    [[nodiscard]] cpay_status make(const cpay_spec &spec) noexcept { return cpay_packetizer_new(get(), &spec); }
+    [[nodiscard]] cpay_status packetize(std::size_t mtu, bool starts_talk_spurt, bytes frame, std::size_t &count) noexcept {
+        return cpay_packetize(get(), mtu, starts_talk_spurt, frame.data(), frame.size(), &count);
+    }
+    [[nodiscard]] cpay_status packet(cpay_packet_info &info, room payload) noexcept {
+        return cpay_packet(get(), &info, payload.data(), payload.size());
+    }
+    /** The same into a vector, which grows as is needed, and is empty on each status but CPAY_OK. */
+    [[nodiscard]] cpay_status packet(cpay_packet_info &info, std::vector<std::uint8_t> &to) {
+        return into(to, info.bytes, [&](room it) { return packet(info, it); });
+    }
+    [[nodiscard]] cpay_status packetize_into(const cpay_frame_cut &cut, bytes frame, room to, view<cpay_placed_packet> packets,
+                                             cpay_frame_room &needed) noexcept {
+        return cpay_packetize_into(get(), &cut, frame.data(), frame.size(), to.data(), to.size(), packets.data(), packets.size(),
+                                   &needed);
+    }
+};
+
+/** Payloads in any order go in, whole units come out in order. */
+class buffer : public handle<cpay_buffer, cpay_buffer_free> {
+public:
+    [[nodiscard]] cpay_status make(const cpay_spec &spec, std::size_t hold_back, std::size_t limit) noexcept {
+        return cpay_buffer_new(get(), &spec, hold_back, limit);
+    }
+    [[nodiscard]] cpay_status push(const cpay_received &packet, bytes payload) noexcept {
+        return cpay_buffer_push(get(), &packet, payload.data(), payload.size());
+    }
+    [[nodiscard]] cpay_status pop(cpay_unit &unit, room to) noexcept {
+        return cpay_buffer_pop(get(), &unit, to.data(), to.size());
+    }
+    /** The same into a vector, which grows as is needed, and is empty on each status but CPAY_OK. */
+    [[nodiscard]] cpay_status pop(cpay_unit &unit, std::vector<std::uint8_t> &to) {
+        return into(to, unit.bytes, [&](room it) { return pop(unit, it); });
+    }
+    [[nodiscard]] cpay_status counts(cpay_buffer_counts_info &counts) noexcept { return cpay_buffer_counts(get(), &counts); }
+    [[nodiscard]] cpay_status set_hold_back(std::size_t hold_back) noexcept { return cpay_buffer_set_hold_back(get(), hold_back); }
+    [[nodiscard]] cpay_status skip_number(std::uint64_t number) noexcept { return cpay_buffer_skip_number(get(), number); }
+};
+
+/** Payloads of one frame, in order, go in; what they carry comes out. */
+class depacketizer : public handle<cpay_depacketizer, cpay_depacketizer_free> {
+public:
+    [[nodiscard]] cpay_status make(const cpay_spec &spec) noexcept { return cpay_depacketizer_new(get(), &spec); }
+    [[nodiscard]] cpay_status depacketize(bytes payload) noexcept {
+        return cpay_depacketize(get(), payload.data(), payload.size());
+    }
+    [[nodiscard]] cpay_status depacketized(std::size_t &size, cpay_extra &extra, room to) noexcept {
+        return cpay_depacketized(get(), &size, &extra, to.data(), to.size());
+    }
+    /** The same into a vector, which grows as is needed, and is empty on each status but CPAY_OK. */
+    [[nodiscard]] cpay_status depacketized(cpay_extra &extra, std::vector<std::uint8_t> &to) {
+        std::size_t size = 0;
+        return into(to, size, [&](room it) { return depacketized(size, extra, it); });
+    }
+};
+
+/** Payloads go in, RED payloads that repeat earlier ones come out (RFC 2198). */
+class red_sender : public handle<cpay_red_sender, cpay_red_sender_free> {
+public:
+    [[nodiscard]] cpay_status make(std::uint8_t red_pt, std::uint8_t primary_pt, view<const std::uint32_t> distances) noexcept {
+        return cpay_red_sender_new(get(), red_pt, primary_pt, distances.data(), distances.size());
+    }
+    [[nodiscard]] cpay_status sync(std::uint8_t red_pt, std::uint8_t primary_pt, view<const std::uint32_t> distances) noexcept {
+        return cpay_red_sync(get(), red_pt, primary_pt, distances.data(), distances.size());
+    }
+    [[nodiscard]] cpay_status wrap(std::uint32_t rtp_time, std::size_t budget, bytes payload, room to, std::size_t &size) noexcept {
+        return cpay_red_wrap(get(), rtp_time, budget, payload.data(), payload.size(), to.data(), to.size(), &size);
+    }
+};
+
+} // namespace cpay
+
+#endif
