@@ -388,7 +388,7 @@ typedef struct {
 
 /** The next unit whose turn has come, or CPAY_NONE. With CPAY_TOO_SMALL *unit is told, and the unit waits for the next call. A
  * fault from 1 to 16 is the depacketizer's: its frame has left, and the next call goes on. With CPAY_OUT_OF_MEMORY the frame
- * stays, and the next call tries it again. [m] */
+ * stays, and the next call tries it again; frames that the same call skipped before it have left. [m] */
 CPAY_CHECKED cpay_status cpay_buffer_pop(cpay_buffer *buffer, cpay_unit *unit, uint8_t *bytes, size_t bytes_len);
 
 typedef struct {
@@ -578,7 +578,8 @@ enum {
     CPAY_RESTARTED = 5,        /**< the sender has restarted: it went in, and the suspect packet before it too */
     CPAY_RESTARTED_ALONE = 6,  /**< the same, and no other packet: the suspect one had no media, memory was wanting for it, or
                                     there was none, since cpay_receiver_restart told of the restart */
-    CPAY_NO_MEDIA = 7,         /**< padding alone, or a payload type without media; no frame waits for its number */
+    CPAY_NO_MEDIA = 7,         /**< padding alone, a payload type without media, or a packet whose media a block of RED brought
+                                    under another number; no frame waits for its number */
     CPAY_OTHER_STREAM = 8,     /**< another SSRC or payload type */
     CPAY_RTCP = 9,             /**< RTCP on the same port */
     CPAY_UNDECIDED = 10        /**< the stream is not chosen so far: the datagram is kept until it is */

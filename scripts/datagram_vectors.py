@@ -107,9 +107,9 @@ OUTCOMES = [
         "counters received 11 rtcp 1 malformed 1 other 2 duplicates 1 late 1 suspect 1 evicted 1 held 2 released 1 units 1\n",
     ),
     Row(
-        "strays with neighbouring numbers do not restart a stream",
+        "strays with neighbouring numbers restart a stream, as in appendix A.1 of RFC 3550: packets between them leave the first suspect",
         WAITS + "receive\n" + "".join(came(0, n, "00") for n in (10, 40_000, 11, 40_001, 20_000, 40_002, 12)) + "counters\n",
-        "held\nsuspect\nheld\nsuspect\nsuspect\nsuspect\nheld\ncounters received 7 suspect 4 held 3\n",
+        "held\nsuspect\nheld\nrestarted\nsuspect\nheld\nsuspect\ncounters received 7 suspect 2 held 5 restarts 1\n",
     ),
     Row(
         "a restart that the caller tells, with another SSRC",

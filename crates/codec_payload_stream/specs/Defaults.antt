@@ -1,5 +1,5 @@
 -- Settings by purpose: what they set, and what is left out.
-use Rattle.std.specs.Prelude.{◌≡◌, ℕ, [], Option, Some, None}
+use Rattle.std.specs.Prelude.{◌≡◌, ℕ, [], None}
 use Rattle.codec_payload_jitter.specs.declared.waiting.WaitLimits.{WaitLimits}
 use Rattle.codec_payload_rtp.specs.declared.values.ExtensionIds.{ExtensionIds}
 use Rattle.codec_payload_stream.specs.declared.defaults.Windows.{Windows}

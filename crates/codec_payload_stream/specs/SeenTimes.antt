@@ -1,5 +1,5 @@
 -- The RTP times that came lately in a stream that is sent in RED.
-use Rattle.std.specs.Prelude.{◌≡◌, ℕ, ◌+◌, ◌%◌, ◌==◌, ◌&&◌, ◌||◌, if◌then◌else◌, Bool, true, false, List, [], ◌∷◌, Option, Some, None, replicate, slice_set}
+use Rattle.std.specs.Prelude.{ℕ, ◌+◌, ◌%◌, ◌==◌, ◌&&◌, ◌||◌, Bool, false, List, [], ◌∷◌, Option, Some, None, replicate, slice_set}
 use Rattle.codec_payload_stream.specs.declared.seen_times.SeenTime.{SeenTime}
 
 -- the latest 64 times, and the place that the next one takes

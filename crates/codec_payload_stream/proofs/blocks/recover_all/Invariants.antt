@@ -1,4 +1,4 @@
-use Rattle.std.proofs.Common.{ℕ, Bool, map, length}
+use Rattle.std.proofs.Common.{Bool, map, length}
 use Rattle.codec_payload_stream.specs.Sessions.{Holding, RecoversAll, copied}
 use Rattle.codec_payload_stream.proofs.blocks.recover_all.Given as goal
 

@@ -1,4 +1,4 @@
-use Rattle.std.proofs.Common.{◌≡◌, ◌∙◌, ℕ, Bool, true, false, refl, sym, ap}
+use Rattle.std.proofs.Common.{◌∙◌, ℕ, Bool, true, false, refl, sym, ap}
 use Rattle.std.specs.Option.{is_some}
 use Rattle.codec_payload_stream.specs.Choice.{Choosing, leaving, waiting_with}
 use Rattle.codec_payload_stream.specs.Sessions.{Session, turned_away_if}
