@@ -464,6 +464,24 @@ static void red(void) {
     cpay_receiver_free(&receiver);
 }
 
+/* Number 11 is padding that is lost: the block of number 12 has the time of number 10, which came, and is not stored again. */
+static void red_once(void) {
+    cpay_receiver_settings settings = settings_of(opus());
+    uint8_t bytes[64] = {0};
+    uint32_t outcome = 99;
+    settings.has_red = true;
+    settings.red_payload_type = 63;
+    settings.red_step = 960;
+    cpay_receiver receiver = receiver_of(&settings);
+    CHECK(came(&receiver, 0, TYPE, 10) == CPAY_HELD);
+    size_t size = packet(bytes, 63, 12, 11 * 960, 8);
+    memcpy(bytes + 12, "\xef\x0f\0\x02\x6f\x0a\x0a\x0c", 8); /* an offset of 960, two bytes; then the packet's own byte */
+    CHECK(cpay_receiver_receive(&receiver, 0, bytes, size, &outcome) == CPAY_OK && outcome == CPAY_HELD);
+    CHECK(next(&receiver, 0) == 10 && next(&receiver, 0) == -1);
+    CHECK(counts_of(&receiver).recovered == 0 && counts_of(&receiver).held == 1);
+    cpay_receiver_free(&receiver);
+}
+
 /* RFC 4588, section 4: the original number of two bytes stands before the payload, under another SSRC and payload type. */
 static void sent_again(void) {
     cpay_receiver_settings settings = settings_of(opus());
@@ -563,6 +581,7 @@ int main(void) {
     told_as();
     told_anew();
     red();
+    red_once();
     sent_again();
     times();
     reports();

@@ -126,6 +126,9 @@ public:
     }
     [[nodiscard]] cpay_status finish() noexcept { return cpay_receiver_finish(get()); }
     [[nodiscard]] cpay_status restart() noexcept { return cpay_receiver_restart(get()); }
+    [[nodiscard]] cpay_status restart_as(std::uint32_t ssrc, std::uint32_t rtx_ssrc) noexcept {
+        return cpay_receiver_restart_as(get(), ssrc, rtx_ssrc);
+    }
     [[nodiscard]] cpay_status missing(view<std::uint64_t> numbers, std::size_t &count) noexcept {
         return cpay_receiver_missing(get(), numbers.data(), numbers.size(), &count);
     }
