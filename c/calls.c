@@ -185,6 +185,11 @@ cpay_status cpay_receiver_pop(cpay_receiver *receiver, uint64_t now, cpay_unit *
     return proved_cpay_receiver_pop(&receiver->handle, now, unit, bytes ? bytes : (uint8_t *)nothing, bytes_len);
 }
 
+cpay_status proved_cpay_receiver_values(cpay_handle *receiver, cpay_extension_values *values);
+cpay_status cpay_receiver_values(cpay_receiver *receiver, cpay_extension_values *values) {
+    return proved_cpay_receiver_values(&receiver->handle, values);
+}
+
 cpay_status proved_cpay_receiver_next_deadline(cpay_handle *receiver, uint64_t *at);
 cpay_status cpay_receiver_next_deadline(cpay_receiver *receiver, uint64_t *at) {
     return proved_cpay_receiver_next_deadline(&receiver->handle, at);

@@ -194,6 +194,7 @@ static int datagrams(int *met) {
     cpay_receiver receiver = CPAY_INIT;
     cpay_receiver_counts_info counts = {0};
     cpay_unit unit = {0};
+    cpay_extension_values values = {0};
     static uint8_t frame[FRAME], bytes[FRAME];
     static const uint8_t no_media[1] = {101};
     uint64_t received = 0;
@@ -233,7 +234,8 @@ static int datagrams(int *met) {
         if (!whole && status == CPAY_NONE) continue;
         if (status != CPAY_TOO_SMALL || unit.bytes != FRAME) return 6;
         if (cpay_receiver_pop(&receiver, i, &unit, bytes, FRAME) || memcmp(bytes, frame, FRAME)) return 7;
-        if (whole && (unit.values.has_audio_level != (i % 2) || unit.values.layers_allocation_len != 40 * (i % 2))) return 10;
+        if (cpay_receiver_values(&receiver, &values)) return 10;
+        if (whole && (values.has_audio_level != (i % 2) || values.layers_allocation_len != 40 * (i % 2))) return 11;
     }
     if (cpay_receiver_counts(&receiver, &counts) || counts.received != received || counts.restarts != 1) return 8;
     cpay_sender_free(&sender);

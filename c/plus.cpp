@@ -30,9 +30,12 @@ void over_datagrams() {
     sends.spec = VP8;
     sends.mtu = 1200;
     sends.payload_type = 96;
+    sends.ssrc = 7;
     cpay_receiver_settings receives = CPAY_LIVE_VIDEO;
     receives.spec = VP8;
     receives.payload_type = 96;
+    receives.ssrc = 7;
+    receives.has_ssrc = true;
     cpay::sender from;
     cpay::receiver to;
     CHECK(from.make(sends) == CPAY_OK);
@@ -52,6 +55,8 @@ void over_datagrams() {
     CHECK(to.pop(100, unit, found) == CPAY_EMPTY);
     CHECK(moved.pop(100, unit, found) == CPAY_OK && found == frame && unit.bytes == 3000);
     CHECK(moved.pop(100, unit, found) == CPAY_NONE && found.empty());
+    cpay_extension_values values = {};
+    CHECK(moved.values(values) == CPAY_OK && !values.has_audio_level);
     to = std::move(moved);
     std::array<std::uint64_t, 4> missing = {};
     CHECK(to.missing(missing, count) == CPAY_OK && count == 0);

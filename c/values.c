@@ -74,6 +74,17 @@ static void sent(cpay_sender *sender, size_t place, const uint8_t *wanted, size_
     CHECK(cpay_receiver_receive(receiver, 0, bytes, found, &outcome) == CPAY_OK && outcome == CPAY_HELD);
 }
 
+/* The values of the unit that was given last. */
+static bool tells(cpay_receiver *receiver, const cpay_extension_values *wanted) {
+    cpay_extension_values found = {.clock_offset = 7, .layers_allocation = {8}};
+    return cpay_receiver_values(receiver, &found) == CPAY_OK && same_values(&found, wanted);
+}
+
+static bool tells_none(cpay_receiver *receiver) {
+    cpay_extension_values found = {.clock_offset = 7, .has_clock_offset = true, .layers_allocation = {8}};
+    return cpay_receiver_values(receiver, &found) == CPAY_OK && has_none(&found);
+}
+
 /* A frame of VP8 in two packets: each value stands on the packet that it goes on, in the form of one byte. */
 static void video(void) {
     static const uint8_t first[] = {0x90, TYPE, 0xff, 0xff, 0, 0, 0, 5, 1, 2, 3, 4, 0xbe, 0xde, 0, 4,
@@ -94,14 +105,18 @@ static void video(void) {
     CHECK(cpay_sender_send_sample(&sender, &sample, (const uint8_t *)"abcde", 5, &count) == CPAY_OK && count == 2);
     sent(&sender, 0, first, sizeof first, &receiver);
     sent(&sender, 1, second, sizeof second, &receiver);
-    CHECK(cpay_receiver_pop(&receiver, 0, &unit, bytes, 4) == CPAY_TOO_SMALL && same_values(&unit.values, &wanted));
+    CHECK(cpay_receiver_pop(&receiver, 0, &unit, bytes, 4) == CPAY_TOO_SMALL);
+    /* no unit was given yet */
+    CHECK(cpay_receiver_values(&receiver, &part) == CPAY_NONE && part.clock_offset == 7);
     memset(&unit, 0, sizeof unit);
     CHECK(cpay_receiver_pop(&receiver, 0, &unit, bytes, 8) == CPAY_OK && unit.bytes == 5 && same(bytes, "abcde", 5));
-    CHECK(same_values(&unit.values, &wanted));
+    CHECK(tells(&receiver, &wanted));
+    /* they stay until the next unit is given */
+    CHECK(cpay_receiver_pop(&receiver, 0, &unit, bytes, 8) == CPAY_NONE && tells(&receiver, &wanted));
     /* a receiver that knows no ids reads no values */
     CHECK(cpay_receiver_receive(&deaf, 0, first, sizeof first, &outcome) == CPAY_OK);
     CHECK(cpay_receiver_receive(&deaf, 0, second, sizeof second, &outcome) == CPAY_OK);
-    CHECK(cpay_receiver_pop(&deaf, 0, &unit, bytes, 8) == CPAY_OK && unit.bytes == 5 && has_none(&unit.values));
+    CHECK(cpay_receiver_pop(&deaf, 0, &unit, bytes, 8) == CPAY_OK && unit.bytes == 5 && tells_none(&deaf));
     /* one datagram alone has a part of them */
     CHECK(cpay_extension_values_of(first, sizeof first, &ids, &part) == CPAY_OK);
     CHECK(part.has_abs_capture_time && part.abs_capture_time == wanted.abs_capture_time && !part.has_clock_offset);
@@ -116,7 +131,7 @@ static void video(void) {
     cpay_sample plain = {.rtp_time = 6};
     CHECK(cpay_sender_send_sample(&sender, &plain, (const uint8_t *)"f", 1, &count) == CPAY_OK && count == 1);
     sent(&sender, 0, bare, sizeof bare, &receiver);
-    CHECK(cpay_receiver_pop(&receiver, 0, &unit, bytes, 8) == CPAY_OK && unit.bytes == 1 && has_none(&unit.values));
+    CHECK(cpay_receiver_pop(&receiver, 0, &unit, bytes, 8) == CPAY_OK && unit.bytes == 1 && tells_none(&receiver));
     cpay_receiver_free(&receiver);
     cpay_receiver_free(&deaf);
     cpay_sender_free(&sender);
@@ -178,7 +193,7 @@ static void two_bytes(void) {
     CHECK(cpay_sender_send_sample(&sender, &sample, (const uint8_t *)"op", 2, &count) == CPAY_OK && count == 1);
     sent(&sender, 0, wanted, sizeof wanted, &receiver);
     CHECK(cpay_receiver_pop(&receiver, 0, &unit, bytes, 8) == CPAY_OK && unit.starts_talk_spurt);
-    CHECK(same_values(&unit.values, &sample.values));
+    CHECK(tells(&receiver, &sample.values));
     /* bytes behind the length, and an offset without a time, are not looked at */
     sample.values.layers_allocation_len = 0;
     sample.values.has_abs_capture_time = false;
@@ -187,8 +202,10 @@ static void two_bytes(void) {
     CHECK(cpay_sender_send_sample(&sender, &sample, (const uint8_t *)"q", 1, &count) == CPAY_OK && count == 1);
     sent(&sender, 0, empty, sizeof empty, &receiver);
     CHECK(cpay_receiver_pop(&receiver, 0, &unit, bytes, 8) == CPAY_OK);
-    CHECK(unit.values.has_layers_allocation && unit.values.layers_allocation_len == 0 && unit.values.layers_allocation[0] == 0);
-    CHECK(!unit.values.has_abs_capture_time && !unit.values.has_clock_offset && unit.values.clock_offset == 0);
+    cpay_extension_values found = {.clock_offset = 7, .layers_allocation = {8}};
+    CHECK(cpay_receiver_values(&receiver, &found) == CPAY_OK);
+    CHECK(found.has_layers_allocation && found.layers_allocation_len == 0 && found.layers_allocation[0] == 0);
+    CHECK(!found.has_abs_capture_time && !found.has_clock_offset && found.clock_offset == 0);
     cpay_sender_free(&sender);
     cpay_receiver_free(&receiver);
 }
@@ -206,7 +223,7 @@ static void longest(void) {
     wanted[276] = 'o';
     CHECK(cpay_sender_send_sample(&sender, &sample, (const uint8_t *)"o", 1, &count) == CPAY_OK && count == 1);
     sent(&sender, 0, wanted, sizeof wanted, &receiver);
-    CHECK(cpay_receiver_pop(&receiver, 0, &unit, bytes, 8) == CPAY_OK && same_values(&unit.values, &sample.values));
+    CHECK(cpay_receiver_pop(&receiver, 0, &unit, bytes, 8) == CPAY_OK && tells(&receiver, &sample.values));
     cpay_sender_free(&sender);
     cpay_receiver_free(&receiver);
 }

@@ -328,7 +328,7 @@ typedef struct {
  * codec that is not there, a rate of 0 or another limit. [m] */
 CPAY_CHECKED cpay_status cpay_buffer_new(cpay_buffer *buffer, const cpay_spec *spec, size_t hold_back, size_t limit);
 
-/** A received packet. Values of header extensions and sender reports are not passed on: a unit of a buffer has no values. */
+/** A received packet. Values of header extensions and sender reports are not passed on. */
 typedef struct {
     uint64_t number;   /**< the sequence number without wrapping (cpay_extend_number); its low 16 bits are the header's */
     uint64_t received; /**< when it was received, by a clock of the caller's */
@@ -383,7 +383,6 @@ typedef struct {
     bool contiguous;        /**< it follows the unit before it, by its numbers or its picture ids */
     bool starts_talk_spurt; /**< its first packet has the marker, which audio sets where a talk spurt starts */
     cpay_extra extra;
-    cpay_extension_values values; /**< of its last packet; capture time and layers allocation of its first, where that has them */
 } cpay_unit;
 
 /** The next unit whose turn has come, or CPAY_NONE. With CPAY_TOO_SMALL *unit is told, and the unit waits for the next call. A
@@ -536,7 +535,7 @@ typedef struct {
     bool has_ssrc;
     bool has_red; /**< the stream is sent in RED (RFC 2198): what its packets repeat goes in where it is missing */
     bool has_rtx; /**< packets are sent again in a stream of their own (RFC 4588) */
-    cpay_extension_ids extension_ids; /**< under which ids the values of units come; two that are the same read one element */
+    cpay_extension_ids extension_ids; /**< for cpay_receiver_values; two ids that are the same read one element */
 } cpay_receiver_settings;
 
 /** Settings by purpose. All have no codec yet, at most 4096 packets held, a clock of milliseconds, no ids of header extensions, and
@@ -604,6 +603,10 @@ CPAY_CHECKED cpay_status cpay_receiver_receive(cpay_receiver *receiver, uint64_t
  * the timestamp of its packets plus 2^32, and each later one the nearest to that of the unit before with its timestamp. [m] */
 CPAY_CHECKED cpay_status cpay_receiver_pop(cpay_receiver *receiver, uint64_t now, cpay_unit *unit, uint8_t *bytes,
                                            size_t bytes_len);
+
+/** The values of header extensions of the unit that cpay_receiver_pop gave last with CPAY_OK: those of its last packet, but the capture
+ * time and the layers allocation of its first packet if that has them. CPAY_NONE if no unit was given yet. Takes no memory. */
+CPAY_CHECKED cpay_status cpay_receiver_values(cpay_receiver *receiver, cpay_extension_values *values);
 
 /** When a pop may give a unit without a datagram coming. CPAY_NONE where only a datagram can help. */
 CPAY_CHECKED cpay_status cpay_receiver_next_deadline(cpay_receiver *receiver, uint64_t *at);

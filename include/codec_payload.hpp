@@ -120,6 +120,7 @@ public:
     [[nodiscard]] cpay_status pop(std::uint64_t now, cpay_unit &unit, std::vector<std::uint8_t> &to) {
         return into(to, unit.bytes, [&](room it) { return pop(now, unit, it); });
     }
+    [[nodiscard]] cpay_status values(cpay_extension_values &values) noexcept { return cpay_receiver_values(get(), &values); }
     [[nodiscard]] cpay_status next_deadline(std::uint64_t &at) noexcept { return cpay_receiver_next_deadline(get(), &at); }
     [[nodiscard]] cpay_status set_wait_limits(const cpay_wait_limits &limits) noexcept {
         return cpay_receiver_set_wait_limits(get(), &limits);

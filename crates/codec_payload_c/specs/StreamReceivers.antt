@@ -1,5 +1,5 @@
 -- What the calls on a receiver of datagrams do.
-use Rattle.std.specs.Prelude.{◌≡◌, ℕ, ◌+◌, ◌-◌, ◌%◌, ◌^◌, ◌&&◌, ◌||◌, ◌==◌, not, nat_le, nat_lt, if◌then◌else◌, Bool, true, false, Option, Some, None, Result, Ok, Err, List, is_some, length, drop, ◌++◌}
+use Rattle.std.specs.Prelude.{◌≡◌, ◌≢◌, ℕ, ◌+◌, ◌-◌, ◌%◌, ◌^◌, ◌&&◌, ◌||◌, ◌==◌, not, nat_le, nat_lt, if◌then◌else◌, Bool, true, false, Option, Some, None, Result, Ok, Err, List, is_some, length, drop, ◌++◌}
 use Rattle.codec_payload_core.specs.Depacketizers.{DepacketizerState}
 use Rattle.codec_payload_jitter.specs.Missing.{missing_numbers}
 use Rattle.codec_payload_jitter.specs.Receiving.{PopsWith, settled, waiting_at}
@@ -18,7 +18,8 @@ use Rattle.codec_payload_stream.specs.declared.reports.ReceptionReport.{Receptio
 use Rattle.codec_payload_base.specs.declared.wire.Ticks.{Ticks}
 use Rattle.codec_payload_core.specs.Release.{Release}
 use Rattle.codec_payload_handle.specs.Popping.{Answer, AnswersPop}
-use Rattle.codec_payload_handle.specs.Units.{TellsUnit}
+use Rattle.codec_payload_handle.specs.Units.{TellsUnit, TellsValues}
+use Rattle.codec_payload_handle.specs.declared.extension_values.ExtensionValues.{ExtensionValues as CValues}
 use Rattle.codec_payload_handle.specs.declared.object.Object.{Object}
 use Rattle.codec_payload_handle.specs.declared.object.Object.TheVariants as objects
 use Rattle.codec_payload_handle.specs.declared.object.StreamReceiver.{StreamReceiver}
@@ -86,6 +87,7 @@ pub record IsNewStream (s : ReceiverSettings) (no_media : List ℕ) (depacketize
   pub depacketizer_is : depacketizer ≡ Some by
   pub made : session_by settings by ≡ Ok r.receiver
   pub waiting : r.waiting ≡ None
+  pub taken : r.taken ≡ None
 
 abbrev pub IsStreamReceiverOf : ReceiverSettings → List ℕ → Option DepacketizerState → Object → Type 0
 IsStreamReceiverOf s no_media depacketizer (objects.StreamReceiver r) = IsNewStream s no_media depacketizer r
@@ -122,6 +124,7 @@ pub record Takes (r : StreamReceiver) (now : ℕ) (bytes : List ℕ) (status bef
   pub receives : ReceivesBytes at bytes r.receiver answer s.receiver
   pub tells : Tells answer status before after
   pub waiting : s.waiting ≡ r.waiting
+  pub taken : s.taken ≡ r.taken
 
 -- a pop at that time
 abbrev pub PopsAt : ℕ → Session → Answer → Session → Type 0
@@ -136,11 +139,21 @@ time_or time (Some t) = t
 abbrev pub TellsTimed : Option ℕ → Release → CUnit → Type 0
 TellsTimed time u unit = TellsUnit u (record unit { rtp_time = u.time.numer }) × (unit.rtp_time ≡ time_or u.time.numer time)
 
--- the next unit of a receiver
+-- a unit is told, and where the caller gets its bytes it is the one that was taken last
+abbrev pub TellsAndTakes : ℕ → StreamReceiver → Release → CUnit → Type 0
+TellsAndTakes status s u unit = TellsTimed s.receiver.time u unit × (status ≡ 0 → s.taken ≡ Some u)
+
+-- the next unit of a receiver; where none is given, the one that was taken last stays
 abbrev pub PopsUnit : StreamReceiver → ℕ → ℕ → (unit_before unit : CUnit) (before bytes : List ℕ) → StreamReceiver → Type 0
 PopsUnit r now status unit_before unit before bytes s =
-    AnswersPop (s.receiver ≡ r.receiver) (λ answer. PopsAt now r.receiver answer s.receiver) (TellsTimed s.receiver.time) status
+    AnswersPop (s.receiver ≡ r.receiver) (λ answer. PopsAt now r.receiver answer s.receiver) (TellsAndTakes status s) status
     (record { waited = r.waiting; waits = s.waiting; unit_before = unit_before; unit = unit; before = before; bytes = bytes })
+    × (status ≢ 0 → s.taken ≡ r.taken)
+
+-- the values of the unit that was taken last
+abbrev pub TellsTaken : Option Release → ℕ → (before after : CValues) → Type 0
+TellsTaken None status before after = (status ≡ 32) × (after ≡ before)
+TellsTaken (Some u) status before after = (status ≡ 0) × TellsValues u.metas after
 
 -- a number, if there is one; else status 32
 abbrev pub TellsNumber : Option ℕ → ℕ → (before after : ℕ) → Type 0

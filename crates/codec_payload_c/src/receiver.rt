@@ -5,7 +5,7 @@ ghost use Rattle.codec_payload_core.specs.Depacketizers.{depacketizer_state_of};
 ghost use Rattle.codec_payload_jitter.specs.Receiving.{deadline_of};
 ghost use Rattle.codec_payload_stream.specs.Reports.{report_of, reported};
 ghost use Rattle.codec_payload_stream.specs.Sessions.{Finishes, restarted};
-ghost use Rattle.codec_payload_c.specs.StreamReceivers.{AreSettings, IsNewStream, IsStreamReceiverOf, PopsUnit, Takes, Tells, TellsCounts, TellsMissing, TellsNumber, TellsReport, TellsTimed, bound_given, is_in_range, outcome_number, red_in_range, red_set, rtx_in_range, rtx_set, restarted_as, wait_limits_given, waiting_by};
+ghost use Rattle.codec_payload_c.specs.StreamReceivers.{AreSettings, IsNewStream, IsStreamReceiverOf, PopsUnit, Takes, Tells, TellsCounts, TellsMissing, TellsNumber, TellsReport, TellsTaken, TellsTimed, bound_given, is_in_range, outcome_number, red_in_range, red_set, rtx_in_range, rtx_set, restarted_as, wait_limits_given, waiting_by};
 ghost use Rattle.codec_payload_handle.specs.Kinds.{Makes, OnStreamReceiver, Refuses, is_stream_receiver};
 ghost use Rattle.codec_payload_handle.specs.Settings.{depacketizer_set};
 
@@ -15,11 +15,12 @@ use codec_payload_core::buffer::Depacketized;
 use codec_payload_core::codec::CodecDepacketizer;
 use codec_payload_core::wire::{Frequency, Ticks};
 use codec_payload_handle::bytes::fill;
+use codec_payload_handle::extension_values::ExtensionValues;
 use codec_payload_handle::handle::Handle;
 use codec_payload_handle::object::{Object, StreamReceiver};
 use codec_payload_handle::settings::{Spec, depacketizer_of};
 use codec_payload_handle::status;
-use codec_payload_handle::unit::{Unit, unit_of};
+use codec_payload_handle::unit::{Unit, unit_of, values_in};
 use codec_payload_jitter::jitter::WaitLimits as Waiting;
 use codec_payload_jitter::outcome::Outcome;
 use codec_payload_stream::receiver::{
@@ -315,14 +316,15 @@ fn pop(stream: &mut StreamReceiver, now: u64, unit: &mut Unit, bytes: &mut [u8])
             Some(Ok(next)) => stream.waiting = Some(next),
         }
     }
-    let Some(next) = &stream.waiting else {
+    let Some(next) = stream.waiting.take() else {
         return status::NONE;
     };
-    *unit = timed_unit(next, stream.receiver.unit_time());
+    *unit = timed_unit(&next, stream.receiver.unit_time());
     if !fill(bytes, &next.bytes) {
+        stream.waiting = Some(next);
         return status::TOO_SMALL;
     }
-    stream.waiting = None;
+    stream.taken = Some(next);
     status::OK
 }
 
@@ -393,6 +395,7 @@ fn stream_by(
         Ok(receiver) => Ok(StreamReceiver {
             receiver,
             waiting: None,
+            taken: None,
         }),
         // Settings in range are never refused.
         Err(_) => Err(status::OUT_OF_MEMORY),
@@ -479,6 +482,34 @@ pub extern "C" fn cpay_receiver_pop(
     };
     let answer = match &mut *object {
         Object::StreamReceiver(stream) => pop(stream, now, unit, bytes),
+        _ => status::OTHER_KIND,
+    };
+    handle.put(object);
+    answer
+}
+
+/// The values of header extensions of the unit that a pop gave last.
+#[unsafe(no_mangle)]
+pub extern "C" fn cpay_receiver_values(
+    alloc: Global,
+    handle: &mut Handle,
+    values: &mut ExtensionValues,
+) -> u32
+    ensures tells { OnStreamReceiver handle.old.place.value (λ r s. (s ≡ r) × TellsTaken r.taken result values.old values.new) handle.new.place.value }
+    ensures refused { Refuses is_stream_receiver handle.old.place.value result handle.new.place.value }
+    ensures unchanged { result ≢ 0 → values.new ≡ values.old }
+{
+    let Some(mut object) = handle.take(alloc) else {
+        return status::EMPTY;
+    };
+    let answer = match &mut *object {
+        Object::StreamReceiver(stream) => match &stream.taken {
+            Some(unit) => {
+                *values = values_in(unit);
+                status::OK
+            }
+            None => status::NONE,
+        },
         _ => status::OTHER_KIND,
     };
     handle.put(object);

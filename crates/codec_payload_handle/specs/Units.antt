@@ -22,4 +22,3 @@ pub record TellsUnit (u : Release) (unit : CUnit) : Type 0 where
   pub contiguous : unit.contiguous ≡ u.contiguous
   pub starts : (m : RtpMeta) × IsFirst u.metas m × (unit.starts_talk_spurt ≡ m.header.marker)
   pub extra : unit.extra ≡ extra_told u.codec_extra
-  pub values : TellsValues u.metas unit.values

@@ -44,11 +44,12 @@ pub struct StreamSender {
     pub rate: Frequency,
 }
 
-/// A receiver of datagrams, and the unit that it gave and the caller had no room for.
+/// A receiver of datagrams, the unit that it gave and the caller had no room for, and the one that the caller took last.
 #[derive(Drop)]
 pub struct StreamReceiver {
     pub receiver: DatagramReceiver,
     pub waiting: Option<Depacketized>,
+    pub taken: Option<Depacketized>,
 }
 
 /// A value behind a handle.

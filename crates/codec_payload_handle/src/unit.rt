@@ -28,9 +28,6 @@ pub struct Unit {
     pub starts_talk_spurt: bool,
     /// What its payloads told besides.
     pub extra: Extra,
-    /// The values of header extensions that go with it: those of its last packet, with the capture time and the layers
-    /// allocation of its first packet where that has them.
-    pub values: ExtensionValues,
 }
 
 /// The first of packets.
@@ -49,8 +46,9 @@ fn last_of(metas: &[RtpMeta]) -> &RtpMeta
     &metas[metas.len() - 1]
 }
 
-/// The values of header extensions that go with a unit, as C has them.
-fn values_in(unit: &Depacketized) -> ExtensionValues
+/// The values of header extensions that go with a unit, as C has them: those of its last packet, with the capture time and the
+/// layers allocation of its first packet where that has them.
+pub fn values_in(unit: &Depacketized) -> ExtensionValues
     ensures { TellsValues unit.now.metas result }
 {
     let metas = unit.meta();
@@ -73,6 +71,5 @@ pub fn unit_of(unit: &Depacketized) -> Unit
         contiguous: unit.contiguous,
         starts_talk_spurt: unit.start_of_talkspurt(),
         extra: extra_of(&unit.codec_extra),
-        values: values_in(unit),
     }
 }

@@ -11,4 +11,5 @@ returns-in-Ok-new-clause-ok c = record {
   depacketizer_is = refl;
   made = sym c.in-Ok-new.ensures;
   waiting = refl;
+  taken = refl;
 }
