@@ -755,7 +755,7 @@ CPAY_CHECKED cpay_status cpay_red_recover(uint8_t primary_pt, uint32_t step, uin
 /** A text for each status, in English. */
 static inline const char *cpay_status_text(cpay_status status) {
     switch (status) {
-    case CPAY_OK: return "done";
+    case CPAY_OK: return "success";
     case CPAY_SHORT_PACKET: return "the packet is too short";
     case CPAY_PAYLOAD_TOO_LARGE: return "the payload exceeds the MTU";
     case CPAY_TOO_MANY_LAYERS: return "too many spatial layers";
@@ -764,26 +764,26 @@ static inline const char *cpay_status_text(cpay_status status) {
     case CPAY_VP9_CORRUPTED: return "the VP9 packet is corrupted";
     case CPAY_AV1_CORRUPTED: return "the AV1 packet or frame is corrupted";
     case CPAY_RED_CORRUPTED: return "the RED packet is corrupted";
-    case CPAY_TELE_INVALID: return "the payload is not whole telephone reports";
+    case CPAY_TELE_INVALID: return "invalid telephone-event payload";
     case CPAY_AMR_WB_CORRUPTED: return "the AMR-WB packet or frame is corrupted";
     case CPAY_OUT_OF_MEMORY: return "out of memory";
-    case CPAY_NONE: return "there is none";
-    case CPAY_TOO_SMALL: return "the caller's bytes are too few";
-    case CPAY_EMPTY: return "nothing was made in it";
-    case CPAY_OTHER_KIND: return "it holds something of another kind";
-    case CPAY_FULL: return "it is full already";
-    case CPAY_INVALID: return "an argument is none that the call takes";
-    case CPAY_FRAME_TOO_SHORT: return "the frame ends too early";
-    case CPAY_FRAME_MARKER: return "the frame has a wrong marker";
-    case CPAY_FRAME_RESERVED: return "the frame has a reserved value";
-    case CPAY_FRAME_SIZES: return "the frame has sizes that do not fit";
+    case CPAY_NONE: return "nothing available";
+    case CPAY_TOO_SMALL: return "output buffer too small";
+    case CPAY_EMPTY: return "handle not initialised";
+    case CPAY_OTHER_KIND: return "handle of another type";
+    case CPAY_FULL: return "handle already in use";
+    case CPAY_INVALID: return "invalid argument";
+    case CPAY_FRAME_TOO_SHORT: return "frame truncated";
+    case CPAY_FRAME_MARKER: return "wrong start code or marker in frame";
+    case CPAY_FRAME_RESERVED: return "reserved value in frame";
+    case CPAY_FRAME_SIZES: return "inconsistent sizes in frame";
     case CPAY_RTP_HEADER_TOO_SHORT: return "the RTP packet is shorter than its fixed header";
     case CPAY_RTP_VERSION: return "the RTP version is not 2";
     case CPAY_RTP_CSRCS_TOO_SHORT: return "the RTP packet ends inside its CSRCs";
     case CPAY_RTP_EXTENSION_HEADER_TOO_SHORT: return "the RTP packet ends inside the header of its extension";
     case CPAY_RTP_EXTENSION_TOO_SHORT: return "the RTP packet ends inside its extension";
-    case CPAY_RTP_PADDING_OF_ZERO: return "the RTP padding has no bytes";
-    case CPAY_RTP_PADDING_TOO_LONG: return "the RTP padding is longer than what is left";
+    case CPAY_RTP_PADDING_OF_ZERO: return "RTP padding length is 0";
+    case CPAY_RTP_PADDING_TOO_LONG: return "RTP padding exceeds the payload";
     case CPAY_RTX_TOO_SHORT: return "the retransmission has no original sequence number";
     default: return "unknown status";
     }

@@ -323,9 +323,9 @@ def fault_of(packet):
             return "RTP packet ends inside its extension"
     if packet[0] & 0x20:
         if end == len(packet) or packet[-1] > len(packet) - end:
-            return "RTP padding is longer than what is left"
+            return "RTP padding exceeds the payload"
         if packet[-1] == 0:
-            return "RTP padding has no bytes"
+            return "RTP padding length is 0"
     return None
 
 

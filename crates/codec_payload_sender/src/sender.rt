@@ -50,10 +50,10 @@ pub enum SenderError {
     #[error("the payload type is above 127")]
     PayloadType,
     /// More than 65,535 bytes are to be free behind each datagram.
-    #[error("more than 65535 bytes are to be free behind a datagram")]
+    #[error("tailroom exceeds 65535 bytes")]
     Tailroom,
     /// An id of a header extension is 0, or two are the same.
-    #[error("an id of a header extension is 0, or two are the same")]
+    #[error("header extension id is 0 or used twice")]
     ExtensionIds,
     /// Memory is wanting.
     #[error("out of memory")]
