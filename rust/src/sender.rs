@@ -53,12 +53,8 @@ impl fmt::Display for SenderError {
     fn fmt(&self, f: &mut fmt::Formatter<'_>) -> fmt::Result {
         match self {
             SenderError::PayloadType => f.write_str("the payload type is above 127"),
-            SenderError::Tailroom => {
-                f.write_str("more than 65535 bytes are to be free behind a datagram")
-            }
-            SenderError::ExtensionIds => {
-                f.write_str("an id of a header extension is 0, or two are the same")
-            }
+            SenderError::Tailroom => f.write_str("tailroom exceeds 65535 bytes"),
+            SenderError::ExtensionIds => f.write_str("header extension id is 0 or used twice"),
             SenderError::OutOfMemory => f.write_str("out of memory"),
         }
     }

@@ -43,8 +43,8 @@ impl fmt::Display for RtpError {
                 f.write_str("RTP packet ends inside the header of its extension")
             }
             RtpError::ExtensionTooShort => f.write_str("RTP packet ends inside its extension"),
-            RtpError::PaddingOfZero => f.write_str("RTP padding has no bytes"),
-            RtpError::PaddingTooLong => f.write_str("RTP padding is longer than what is left"),
+            RtpError::PaddingOfZero => f.write_str("RTP padding length is 0"),
+            RtpError::PaddingTooLong => f.write_str("RTP padding exceeds the payload"),
         }
     }
 }

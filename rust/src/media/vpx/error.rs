@@ -21,10 +21,10 @@ pub enum MediaError {
 impl fmt::Display for MediaError {
     fn fmt(&self, f: &mut fmt::Formatter<'_>) -> fmt::Result {
         match self {
-            MediaError::MissingBytes => f.write_str("media frame ends too early"),
-            MediaError::WrongMarker => f.write_str("media frame has a wrong marker"),
-            MediaError::ReservedValue => f.write_str("media frame has a reserved value"),
-            MediaError::SizesDoNotFit => f.write_str("media frame has sizes that do not fit"),
+            MediaError::MissingBytes => f.write_str("media frame truncated"),
+            MediaError::WrongMarker => f.write_str("wrong start code or marker in media frame"),
+            MediaError::ReservedValue => f.write_str("reserved value in media frame"),
+            MediaError::SizesDoNotFit => f.write_str("inconsistent sizes in media frame"),
         }
     }
 }
