@@ -42,6 +42,7 @@
 //! | [`sender`], [`stream`] | one stream between frames and a socket: `Sender` and `Receiver` |
 //! | [`jitter`] | the jitter buffer of a receiver, for callers who read RTP headers themselves |
 //! | [`rtp`], [`rtcp`] | RTP packets, header extensions and their values; RTCP packets |
+//! | [`keyframes`] | which units of video a decoder can show, and when to request a keyframe |
 //! | [`media`] | what frames say: keyframe, size, duration; OBUs, superframes, `av1C`, the Opus header |
 //! | [`red`], [`vp8`], [`vp9`], [`av1`], [`amr_wb`], [`tele`], [`plain`] | one format each |
 //! | [`payload`], [`payloads`] | samples become packets, in fresh memory or in memory that is used again |
@@ -100,6 +101,7 @@ pub mod described;
 pub mod error;
 pub mod interface;
 pub mod jitter;
+pub mod keyframes;
 pub mod media;
 pub mod payload;
 pub mod payloads;

@@ -52,7 +52,13 @@ sends() {
     rm -f "captures/$name.mkv"
 }
 
-wanted=${*:-vp8 vp9 opus pcmu pcma g722 amrwb chromium-vp8 chromium-vp9 chromium-av1 chromium-red chromium-keys chromium-fec chromium-g722}
+# describes_red NAME SSRC: the session of GStreamer's stream in RED, which writes none itself (RFC 2198, section 5)
+describes_red() {
+    printf 'v=0\r\no=- 0 0 IN IP4 127.0.0.1\r\ns=-\r\nc=IN IP4 127.0.0.1\r\nt=0 0\r\nm=audio %s RTP/AVP 63 96\r\n' "$port" >"captures/$1.sdp"
+    printf 'a=rtpmap:63 red/48000/2\r\na=fmtp:63 96/96\r\na=rtpmap:96 opus/48000/2\r\na=ssrc:%s cname:test\r\n' "$2" >>"captures/$1.sdp"
+}
+
+wanted=${*:-vp8 vp9 opus pcmu pcma g722 amrwb gstreamer-red chromium-vp8 chromium-vp9 chromium-av1 chromium-red chromium-keys chromium-fec chromium-change chromium-g722}
 for name in $wanted; do
     case $name in
     interface | gstreamer) python3 "live/$name.py" ;;
@@ -67,12 +73,19 @@ for name in $wanted; do
             audio/x-raw,rate=16000,channels=1 ! voamrwbenc ! tee name=t ! queue ! rtpamrpay pt=97 ! \
             udpsink host=127.0.0.1 port=$port t. ! queue ! filesink location=captures/amrwb.frames
         ;;
+    gstreamer-red) # the first packet lasts 648 ticks, all others 960
+        capture gstreamer-red gst-launch-1.0 -q audiotestsrc num-buffers=200 samplesperbuffer=960 is-live=true ! \
+            audio/x-raw,rate=48000,channels=2 ! opusenc bitrate=24000 ! rtpopuspay pt=96 ssrc=7340033 ! \
+            rtpredenc pt=63 distance=2 ! udpsink host=127.0.0.1 port=$port
+        describes_red gstreamer-red 7340033
+        ;;
     chromium-vp8) call "$name" 'video=VP8,rtx&audio=opus&seconds=4' ;;
     chromium-vp9) call "$name" 'video=VP9,rtx&seconds=4' ;;
     chromium-av1) call "$name" 'video=AV1,rtx&seconds=4' ;;
     chromium-red) call "$name" 'audio=red,opus&seconds=3' ;;
     chromium-keys) call "$name" 'audio=opus,telephone-event&keys=1234%23&seconds=3' ;;
     chromium-fec) call "$name" 'video=VP8,rtx,red,ulpfec&seconds=3' ;;
+    chromium-change) call "$name" 'video=VP8,VP9,rtx&then=VP9&seconds=3' ;;
     chromium-g722) call "$name" 'audio=G722,telephone-event,CN&keys=19&seconds=3' ;;
     *)
         echo "$name: no capture of that name is made here" >&2

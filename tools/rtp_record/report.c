@@ -58,7 +58,7 @@ void report_table(const streams *it) {
     printf("%" PRIu64 " datagrams: %" PRIu64 " RTP, %" PRIu64 " RTCP, %" PRIu64 " STUN, %" PRIu64 " DTLS, %" PRIu64 " ZRTP, %" PRIu64
            " others; %" PRIu64 " fragments, %" PRIu64 " cut, %" PRIu64 " malformed, %" PRIu64 " of too many streams\n",
            it->packets, it->rtp, it->rtcp, it->stun, it->dtls, it->zrtp, it->other, it->fragments, it->cut, it->malformed,
-           it->passed_over);
+           it->too_many);
 }
 
 /* Text as JSON has it. All of it comes from names of codecs, addresses and paths. */
@@ -129,5 +129,5 @@ void report_json(const streams *it) {
            ", \"zrtp\": %" PRIu64 ", \"others\": %" PRIu64 ", \"fragments\": %" PRIu64 ", \"cut\": %" PRIu64 ", \"malformed\": %" PRIu64
            ", \"of_too_many_streams\": %" PRIu64 "\n}\n",
            it->packets, it->rtp, it->rtcp, it->stun, it->dtls, it->zrtp, it->other, it->fragments, it->cut, it->malformed,
-           it->passed_over);
+           it->too_many);
 }

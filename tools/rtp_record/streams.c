@@ -21,7 +21,7 @@ static size_t bucket_of(const wire_flow *flow, uint32_t ssrc) {
     return mixed >> 22; /* the upper bits of a product are the mixed ones: 10 of them, for 1024 buckets */
 }
 
-/* The stream of a packet, which is mostly that of the packet before. */
+/* The stream of a flow and an SSRC that was found or added last. */
 static stream *find(streams *it, const wire_flow *flow, uint32_t ssrc) {
     if (it->latest && is_stream(it->latest, flow, ssrc)) return it->latest;
     for (stream *one = it->buckets[bucket_of(flow, ssrc)]; one; one = one->next)
@@ -95,19 +95,50 @@ static size_t beside(const stream *it, const signalling *known, uint8_t types[PA
     return count;
 }
 
+/* Whether a stream does not take media of that type, which is another format of its sender. */
+static bool is_other_format(const stream *it, const signalling *known, uint8_t payload_type) {
+    if (!it->settled || payload_type == it->payload_type || payload_type == it->red_payload_type) return false;
+    codec_use use = signalling_use(known, &it->flow, it->ssrc, payload_type);
+    return codec_is_media(&use);
+}
+
+/* The stream of a packet. A sender may change its format and keep its SSRC (RFC 3550, section 5.1): each format is a stream of its own,
+ * and a packet goes to the stream that takes its type. NULL if there are too many, or out of memory. */
+static stream *stream_of(streams *all, const signalling *known, const wire_flow *flow, const cpay_rtp_info *header) {
+    stream *it = find(all, flow, header->ssrc);
+    if (!it) return add(all, flow, header->ssrc);
+    if (!is_other_format(it, known, header->payload_type)) return it;
+    for (stream *one = all->buckets[bucket_of(flow, header->ssrc)]; one; one = one->next)
+        if (is_stream(one, flow, header->ssrc) && !is_other_format(one, known, header->payload_type)) return all->latest = one;
+    return all->latest = add(all, flow, header->ssrc);
+}
+
 /* ---- recording ---- */
 
-/* How many ticks of the RTP clock packets in RED are apart: the least step between two of those kept, one behind the other by
- * their numbers; else 20 ms. */
+/* The step between the packet at a place and the one before it, in ticks of the RTP clock; 0 if their numbers are not consecutive,
+ * or if RED cannot express the step (RFC 2198, section 3: 14 bits). */
+static uint32_t step_at(const stream *it, size_t place) {
+    const cpay_rtp_info *before = &it->kept[place - 1].header, *packet = &it->kept[place].header;
+    uint32_t step = packet->timestamp - before->timestamp;
+    bool follows = packet->sequence_number == (uint16_t)(before->sequence_number + 1);
+    return follows && step < 1 << 14 ? step : 0;
+}
+
+/* How many ticks of the RTP clock packets in RED are apart: the most frequent step between the kept packets, the smallest of equally
+ * frequent ones; 20 ms if there is none. A single step says little: GStreamer's first Opus packet lasts 648 ticks, the others 960. */
 static uint32_t step_of(const stream *it) {
-    uint32_t least = 0;
+    uint32_t found = it->use.rate / 50;
+    size_t most = 0;
     for (size_t i = 1; i < it->kept_count; i++) {
-        const cpay_rtp_info *before = &it->kept[i - 1].header, *packet = &it->kept[i].header;
-        uint32_t step = packet->timestamp - before->timestamp;
-        bool follows = packet->sequence_number == (uint16_t)(before->sequence_number + 1);
-        if (follows && step > 0 && step < 1 << 14 && (!least || step < least)) least = step;
+        uint32_t step = step_at(it, i);
+        size_t times = 0;
+        for (size_t k = 1; k < it->kept_count; k++) times += step_at(it, k) == step;
+        if (step > 0 && (times > most || (times == most && step < found))) {
+            found = step;
+            most = times;
+        }
     }
-    return least ? least : it->use.rate / 50;
+    return found;
 }
 
 /* Where something of a stream goes: FOLDER/SSRC.ENDING, or beside the file that was named. A second flow with the same SSRC, and a
@@ -221,12 +252,17 @@ static void keep(streams *all, stream *it, const record_packet *packet) {
     all->kept_bytes += packet->size;
 }
 
-/* A packet is kept until the stream is valid and its codec known; what it is has to be settled once too much is kept. */
+/* The codec of a stream is known, and of a stream in RED how far apart its packets are. */
+static bool knows_enough(const stream *it) {
+    return it->settled && (it->red_payload_type == PAYLOAD_TYPES || it->kept_count >= STEPS_SEEN);
+}
+
+/* Keeps packets until the stream is valid and described; once too many are kept, it is settled with what is known. */
 static void keep_or_settle(streams *all, stream *it, const signalling *known, streams_output *output, const record_packet *packet) {
     keep(all, it, packet);
-    if (!it->valid && (it->kept_count == MOST_KEPT || all->kept_bytes > MOST_KEPT_BYTES)) drop_kept(all, it);
-    else if (it->valid && (it->settled || it->kept_count == MOST_KEPT || all->kept_bytes > MOST_KEPT_BYTES))
-        settle(all, it, known, output);
+    bool full = it->kept_count == MOST_KEPT || all->kept_bytes > MOST_KEPT_BYTES;
+    if (!it->valid && full) drop_kept(all, it);
+    else if (it->valid && (knows_enough(it) || full)) settle(all, it, known, output);
 }
 
 /* ---- datagrams ---- */
@@ -248,10 +284,9 @@ static void take_rtp(streams *all, const signalling *known, streams_output *outp
         all->malformed++;
         return;
     }
-    stream *it = find(all, &datagram->flow, packet.header.ssrc);
-    if (!it) it = add(all, &datagram->flow, packet.header.ssrc);
+    stream *it = stream_of(all, known, &datagram->flow, &packet.header);
     if (!it) {
-        all->passed_over++;
+        all->too_many++;
         return;
     }
     all->rtp++;

@@ -16,6 +16,7 @@ enum {
     MOST_STREAMS = 4096,
     MOST_KEPT = 64,            /* packets of a stream whose codec is not known yet */
     MOST_KEPT_BYTES = 8 << 20, /* of all such streams */
+    STEPS_SEEN = 16,           /* packets of a stream in RED before its step is taken from them */
     BUCKETS = 1024,
     REPORTS = 64, /* sender reports that are kept for streams that are not written yet */
 };
@@ -53,7 +54,7 @@ typedef struct {
     size_t kept_bytes;
     wire_report reports[REPORTS]; /* the latest sender reports, whose place is their count modulo REPORTS */
     size_t report_count;
-    uint64_t packets, rtp, rtcp, fragments, cut, malformed, stun, dtls, zrtp, other, passed_over;
+    uint64_t packets, rtp, rtcp, fragments, cut, malformed, stun, dtls, zrtp, other, too_many;
 } streams;
 
 /* How streams are written. */

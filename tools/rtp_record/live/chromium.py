@@ -4,8 +4,8 @@
   live/chromium.py FOLDER NAME 'video=VP8&audio=opus&seconds=4'
 
 FOLDER/NAME.pcap gets what the sender sent over loopback, NAME.sdp its offer, and NAME.video.md5 and NAME.audio.md5 the frames as
-the encoder gave them to the packetizer, in the form of ffmpeg's framemd5 with a last column that marks keyframes; of AV1 without
-temporal delimiters and with a size in each OBU, as files have them. Needs Chromium and tcpdump, as root. Chromium of a
+the encoder gave them to the packetizer, in the form of ffmpeg's framemd5 with two more columns, which mark keyframes and name the
+codec; of AV1 without temporal delimiters and with a size in each OBU, as files have them. Needs Chromium and tcpdump, as root. Chromium of a
 distribution takes --disable-webrtc-encryption, which Chrome's stable builds do not."""
 
 import hashlib
@@ -36,7 +36,7 @@ class Call:
     def take(self, path, body):
         words = path.strip("/").split("/")
         if words[0] == "frame":
-            self.frames.setdefault(words[1], []).append((int(words[2]), words[3], body))
+            self.frames.setdefault(words[1], []).append((int(words[2]), words[3], words[4], body))
         elif words[0] == "sdp":
             self.sdp = body.decode()
         elif words[0] == "failed":
@@ -107,8 +107,9 @@ def run_browser(port, wanted, call):
 
 def write_md5(path, frames):
     with open(path, "w", encoding="ascii") as file:
-        for place, (_, kind, frame) in enumerate(sorted(frames)):
-            file.write(f"0, {place:10}, {place:10}, {1:8}, {len(frame):8}, {hashlib.md5(frame).hexdigest()}, {kind}\n")
+        for place, (_, kind, codec, frame) in enumerate(sorted(frames)):
+            md5 = hashlib.md5(frame).hexdigest()
+            file.write(f"0, {place:10}, {place:10}, {1:8}, {len(frame):8}, {md5}, {kind}, {codec}\n")
 
 
 def main():
@@ -133,7 +134,7 @@ def main():
         if kind == "audio" and ("red" in wanted or "keys" in wanted):
             continue  # the page sees RED and not what is in it, and frames that keys take the place of
         if "video=AV1" in wanted and kind == "video":
-            frames = [(place, key, without_delimiters(frame)) for place, key, frame in frames]
+            frames = [(place, key, codec, without_delimiters(frame)) for place, key, codec, frame in frames]
         write_md5(f"{folder}/{name}.{kind}.md5", frames)
 
 

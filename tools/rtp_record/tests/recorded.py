@@ -142,9 +142,9 @@ def of_sdp(name):
 
 
 def all_streams():
-    """Each stream of captures/."""
-    for name in sorted(file[:-5] for file in os.listdir(CAPTURES) if file.endswith(".pcap")):
-        if name.startswith("chromium-"):
+    """Each stream of captures/ that has one codec: that of test_change.py changes."""
+    for name in sorted(file[:-5] for file in os.listdir(CAPTURES) if file.endswith(".pcap") and file != "chromium-change.pcap"):
+        if name.startswith(("chromium-", "gstreamer-")):
             yield from of_sdp(name)
         else:
             first = capture.media_of(capture.read(f"{CAPTURES}/{name}.pcap"))[0]
