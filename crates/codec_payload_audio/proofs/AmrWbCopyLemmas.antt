@@ -40,7 +40,7 @@ carries_first toc small clear =
           ∙ ap (λ t. bits 4 15 ++ t) (sym six);
     }
 
--- a front that ends r bits behind whole bytes
+-- a front that ends r bits after whole bytes
 pub cut_front : (xs ys : List ℕ) (b n r s : ℕ) → s + r ≡ 8 → n ≡ 8 * length xs + r → take n (bits_of (xs ++ b ∷ ys)) ≡ bits_of xs ++ bits r (b / 2 ^ s)
 cut_front xs ys b n r s width e =
     let size : length (bits_of xs) ≡ 8 * length xs = length-bits_of xs in

@@ -88,7 +88,7 @@ reads_eight old new b t r f k q = (
   omega (arith, ap length r.1, length-append (bits 8 b) (left new), length-bits 8 b),
 )
 
--- the entries read so far stand before those that are left
+-- the entries read so far are before those that are left
 pub record SoFar (octet : Bool) (old now : List ℕ) : Type 0 where
   pub es : List Entry
   pub before : with_front es (entries_at octet now) ≡ entries_at octet old

@@ -79,7 +79,7 @@ rest_sum : (octet : Bool) (n : ℕ) → n + cond octet (gap n) 0 ≡ cond octet 
 rest_sum true n = refl
 rest_sum false n = add-zero n
 
--- what is left behind the speech and what fills its byte up
+-- the rest after the speech and what fills its byte up
 pub frame_rest : (octet : Bool) (old now new : Reader) (n : ℕ) → now ≡ moved old n → left new ≡ drop (cond octet (gap n) 0) (left now) → left new ≡ drop (cond octet (n + gap n) n) (left old)
 frame_rest octet old now new n e skipped =
     skipped
@@ -87,7 +87,7 @@ frame_rest octet old now new n e skipped =
     ∙ drop-drop (cond octet (gap n) 0) n (left old)
     ∙ ap (λ t. drop t (left old)) (rest_sum octet n)
 
--- where frames begin with bytes, so does what is left
+-- where frames begin with bytes, so does the rest
 pub whole_now : (old now : Reader) (n : ℕ) → now ≡ moved old n → n ≤ length (left old) → length (left old) % 8 ≡ 0 → (length (left now) + n) % 8 ≡ 0
 whole_now old now n e within whole = omega (arith, ap length (plain_rest old now n e), length-drop n (left old))
 

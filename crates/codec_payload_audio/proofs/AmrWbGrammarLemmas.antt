@@ -13,7 +13,7 @@ use Rattle.codec_payload_audio.specs.AmrWbPayload.{request_size, entry_fill, spe
 abbrev entry_for : Frame → Entry
 entry_for f = record { kind = f.kind; quality = f.quality }
 
--- ---- what is spelled so is received
+-- ---- a value spelled so is received
 
 one_entry : (octet : Bool) (v : ℕ) (f : Frame) (fill rest : List ℕ) → v < 2 → IsFrame f → length fill ≡ entry_fill octet
     → entries_at octet (toc_entry v f ++ (fill ++ rest)) ≡ entry_then v (entry_for f) rest (entries_at octet rest)
@@ -372,7 +372,7 @@ pub received_is_spelled : ReceivedIsSpelled
 received_is_spelled octet [] frames h = inl (refl, none_received octet frames h)
 received_is_spelled octet (b ∷ bs) frames h = inr (bytes_received octet (b ∷ bs) frames (omega arith) h)
 
--- ---- what is sent is spelled so
+-- ---- a sent payload is spelled so
 
 gap_below : (n : ℕ) → gap n < 8
 gap_below n = omega arith

@@ -23,7 +23,7 @@ entry_is toc n rest small =
     ∙ ap (λ t. bits 1 0 ++ t ++ bits 1 (toc / 4)) (bits-same 4 (toc / 4 / 2) (toc / 8 % 16) kind)
     ∙ ap (λ t. bits 1 0 ++ bits 4 (toc / 8 % 16) ++ t) (bits-same 1 (toc / 4) (toc / 4 % 2) quality)
 
--- the front of a head and the bits behind it
+-- the front of a head and the bits after it
 take_head : (head xs : List ℕ) (h n : ℕ) → length head ≡ h → take (h + n) (head ++ xs) ≡ head ++ take n xs
 take_head head xs h n e = ap (λ t. take (t + n) (head ++ xs)) (sym e) ∙ take-append-add head xs n
 

@@ -45,13 +45,13 @@ entry f = bits 1 0 ++ bits 4 f.kind ++ bits 1 f.quality
 abbrev pub canonical : Frame → List ℕ
 canonical f = padded (entry f ++ bits 2 0 ++ f.speech)
 
--- the payload of a frame: mode request 15, the entry, the speech bits; octet-aligned it has 4 bits behind the request and 2
--- behind the entry
+-- the payload of a frame: mode request 15, the entry, the speech bits; octet-aligned it has 4 bits after the request and 2
+-- after the entry
 abbrev pub payload : Bool → Frame → List ℕ
 payload false f = padded (bits 4 15 ++ entry f ++ f.speech)
 payload true f = padded (bits 4 15 ++ bits 4 0 ++ entry f ++ bits 2 0 ++ f.speech)
 
--- the frame of a first byte and the bytes behind it, of which n bits are speech
+-- the frame of a first byte and the bytes after it, of which n bits are speech
 abbrev pub frame_from : ℕ → ℕ → List ℕ → Frame
 frame_from first n rest = record { kind = first / 8 % 16; quality = first / 4 % 2; speech = take n (bits_of rest) }
 

@@ -5,17 +5,17 @@ use Rattle.codec_payload_base.specs.Bits.{bits, bits_of}
 use Rattle.codec_payload_audio.specs.AmrWb.{Frame, IsFrame, canonical, gap, payload}
 use Rattle.codec_payload_audio.specs.AmrWbReceived.{received}
 
--- the mode request in four bits; octet-aligned, four bits of any value stand behind it
+-- the mode request in four bits; octet-aligned, four bits of any value are after it
 abbrev pub request_size : Bool → ℕ
 request_size false = 4
 request_size true = 8
 
--- how many bits of any value stand behind an entry
+-- how many bits of any value are after an entry
 abbrev pub entry_fill : Bool → ℕ
 entry_fill false = 0
 entry_fill true = 2
 
--- and behind speech of so many bits: octet-aligned, up to a byte
+-- and after speech of that many bits: octet-aligned, up to a byte
 abbrev pub speech_fill : Bool → ℕ → ℕ
 speech_fill octet n = if octet then gap n else 0
 
@@ -61,6 +61,6 @@ ReceivedIsSpelled =
     (octet : Bool) (payload frames : List ℕ) → received octet (bits_of payload) ≡ Ok frames
     → ((payload ≡ []) × (frames ≡ [])) ⊎ ((fs : List Frame) × IsAmrWb octet (bits_of payload) fs × (frames ≡ canonicals fs))
 
--- what is sent of a frame is spelled so
+-- the payloads sent for a frame are spelled so
 abbrev pub SentIsSpelled : Type 0
 SentIsSpelled = (octet : Bool) (f : Frame) → IsFrame f → IsAmrWb octet (payload octet f) (f ∷ [])

@@ -5,7 +5,7 @@ use Rattle.codec_payload_base.specs.declared.interface.CodecExtra.{CodecExtra}
 use Rattle.codec_payload_base.specs.declared.error.PacketError.{PacketError}
 use Rattle.codec_payload_base.specs.declared.error.PacketError.TheVariants as faults
 
--- the payload is appended, and the extra stays; want of memory changes nothing
+-- the payload is appended, and the extra stays; out of memory changes nothing
 abbrev pub Appends : List ℕ → List ℕ → CodecExtra → Result ⊤ PacketError → List ℕ → CodecExtra → Type 0
 Appends payload out extra (Ok _) out' extra' = (out' ≡ out ++ payload) × (extra' ≡ extra)
 Appends payload out extra (Err fault) out' extra' = (fault ≡ faults.OutOfMemory) × (out' ≡ out) × (extra' ≡ extra)

@@ -23,8 +23,8 @@ pub fn defaults_of_amr_wb() -> (AmrWbPacketizer, AmrWbDepacketizer)
     (AmrWbPacketizer::default(), AmrWbDepacketizer::default())
 }
 
-/// How many speech bits a frame type has; `None` for a reserved one. Types 14 and 15 stand for a lost frame and for a
-/// frame without data (3GPP TS 26.201, table 1a).
+/// How many speech bits a frame type has; `None` for a reserved one. Types 14 and 15 represent a lost frame and for a frame
+/// without data (3GPP TS 26.201, table 1a).
 fn speech_bits(frame_type: u8) -> Option<usize>
     requires { frame_type < 16 }
     ensures { result ≡ speech_size frame_type }

@@ -163,7 +163,7 @@ count_read [] (p ∷ ps) r = absurd r
 count_read (bytes ∷ others) [] r = absurd r
 count_read (bytes ∷ others) (p ∷ ps) r = ap suc (count_read others ps r.1)
 
--- No list of payloads of at most mtu bytes that stands for the strings is shorter than the one that is sent.
+-- No list of payloads of at most mtu bytes that represents the strings is shorter than the one that is sent.
 pub fewest : (mtu : ℕ) (starts : Bool) (strings : List (List ℕ)) (ps : List Payload) (others : List (List ℕ)) → Sent mtu starts strings ps → Packs mtu others strings → length ps ≤ length others
 fewest mtu starts strings ps others sent packs =
     let same : join (segments ps) ≡ join (segments packs.payloads) = all_marks [] ps strings sent.stands ∙ sym (all_marks [] packs.payloads strings packs.stands) in

@@ -1,4 +1,4 @@
--- What holds of the packets of a frame.
+-- What holds for the packets of a frame.
 use Rattle.std.proofs.Common.{◌≡◌, ℕ, ◌≤◌, ◌<◌, ◌^◌, Bool, true, false, leb, map, Option, List, [], ◌∷◌, length, take, Some, None, Ok, Err, refl, sym, ap, ◌∙◌, arith}
 use Rattle.std.specs.Option.{option_map}
 use Rattle.std.specs.Prelude.{◌||◌}
@@ -64,7 +64,7 @@ pub none_kept_sent : (mtu : ℕ) (ks : List Obu) → length ks ≡ 0 → AreSent
 none_kept_sent mtu [] none = none_sent mtu
 none_kept_sent mtu (o ∷ os) none = absurd (omega (arith, none))
 
--- the laws of the packets that are sent
+-- the theorems about the packets that are sent
 module _ (bytes : List ℕ) (fits : IsBytes bytes) (short : length bytes < 2 ^ 64) (mtu : ℕ) (small : mtu < 2 ^ 64) (os : List Obu) (seq : IsSequence os bytes) (packets : List (List ℕ))
     (sent : AreSent mtu (starts_sequence (kept os)) (strings_of os) packets) where
   back : ComesBack os packets

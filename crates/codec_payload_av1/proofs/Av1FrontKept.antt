@@ -1,4 +1,4 @@
--- What stood in a list before still stands at its front.
+-- What was in a list before still is at its front.
 use Rattle.std.proofs.Common.{◌≡◌, ℕ, ◌≤◌, List, ◌++◌, length, take, sym, ap, ◌∙◌, arith}
 use Rattle.std.proofs.lemmas.List.{take-append-le, length-take, take-take, take_all}
 

@@ -12,7 +12,7 @@ use Rattle.codec_payload_av1.proofs.Av1PayloadLengths.{bind_some, some_is, chose
 use Rattle.codec_payload_av1.proofs.Av1ReadBack.{and_true, at_each, extension_again, IsGood, sized}
 use Rattle.codec_payload_av1.proofs.Av1RoundTrip.{AllKept, kept_all}
 
--- ---- what is read is in the grammar
+-- ---- a read value is in the grammar
 
 abbrev ext_pair : List ℕ → List ℕ → List ℕ × List ℕ
 ext_pair a b = (a, b)
@@ -24,7 +24,7 @@ extension_split true [] ext rest e = absurd cc
 extension_split true (x ∷ bytes) ext rest e = let same : ext_pair (x ∷ []) bytes ≡ ext_pair ext rest = some_is _ _ e in
     (ap (λ (y : List ℕ × List ℕ). length y.0) (sym same), ap (λ (y : List ℕ × List ℕ). y.0 ++ y.1) same)
 
--- one OBU with its size stands before the rest, or one without it takes all
+-- one OBU with its size is before the rest, or one without it takes all
 abbrev pub Parts : Obu → List ℕ → List ℕ → Type 0
 Parts o bytes rest = IsObu o ×
     (((has_size o.header ≡ true) × ((size : List ℕ) × IsLeb128 size (length o.payload) × (bytes ≡ o.header ∷ (o.extension ++ (size ++ (o.payload ++ rest))))))

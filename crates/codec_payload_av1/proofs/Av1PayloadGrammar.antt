@@ -50,7 +50,7 @@ element_joined bytes e rest h =
       drop_at e rest (length e) refl,
     ) refl
 
--- ---- each behind its length
+-- ---- each after its length
 
 each_sound : (k : ℕ) (bytes : List ℕ) (es : List (List ℕ)) → each_at k bytes ≡ Some es → AreEach es bytes
 unfolding each_at

@@ -219,7 +219,7 @@ read_back begun (p ∷ ps) strings h good =
 pub sent_are_read : (mtu : ℕ) (starts : Bool) (strings : List (List ℕ)) (ps : List Payload) → mtu < 2 ^ 64 → Sent mtu starts strings ps → AreRead (map written ps) ps
 sent_are_read mtu starts strings ps lt sent = read_back [] ps strings sent.stands (sound mtu lt starts strings ps sent)
 
--- the payload of a packet, among those before and behind it
+-- the payload of a packet, among those before and after it
 same_before : (p : Payload) (xs ys : List Payload) → xs ≡ ys → p ∷ xs ≡ p ∷ ys
 same_before p xs ys e = cc
 

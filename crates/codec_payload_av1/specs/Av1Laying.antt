@@ -5,7 +5,7 @@ use Rattle.codec_payload_av1.specs.Av1Payload.{Payload, written}
 use Rattle.codec_payload_av1.specs.Av1Packing.{ended, left_open, is_begun, IsElement, IsFull, HasElement, StartsFirst}
 use Rattle.codec_payload_av1.specs.Av1Size.{Opened, packet_size, leb_len, lengths}
 
--- after what came of the first string, the payloads stand for the strings, and this is left opened
+-- after the result of the first string, the payloads represent the strings, and this is left opened
 abbrev pub Laid : List ℕ → List Payload → List (List ℕ) → List ℕ → Type 0
 Laid begun [] strings left = (strings ≡ []) × (begun ≡ left)
 Laid begun (p ∷ ps) strings left = (p.continues ≡ is_begun begun) × AllByRecursion IsElement p.elements

@@ -39,7 +39,7 @@ IsSequence (o ∷ os) bytes = IsObu o ×
     (((has_size o.header ≡ true) × ((size : List ℕ) × (rest : List ℕ) × IsLeb128 size (length o.payload) × (bytes ≡ o.header ∷ (o.extension ++ (size ++ (o.payload ++ rest)))) × IsSequence os rest))
     ⊎ ((has_size o.header ≡ false) × (os ≡ []) × (bytes ≡ o.header ∷ (o.extension ++ o.payload))))
 
--- ---- what is sent of an OBU, and what a receiver makes of it
+-- ---- the payloads sent for an OBU, and what a receiver makes of it
 
 -- The bytes that packets carry: no size, and its bit cleared.
 unfoldable pub string : Obu → List ℕ
@@ -80,7 +80,7 @@ sized_at header extension bytes = leb_at bytes >>= λ n.
     if nat_lt (length n.1) n.0 then None
     else Some (record { header = header; extension = extension; payload = take n.0 n.1 }, drop n.0 n.1)
 
--- one OBU, and what follows it
+-- one OBU, and the bytes after it
 unfoldable pub obu_at : List ℕ → Option (Obu × List ℕ)
 obu_at [] = None
 obu_at (header ∷ bytes) = extension_at (has_extension header) bytes >>= λ x.
@@ -106,7 +106,7 @@ obus_within k [] = Some []
 obus_within zero (b ∷ bytes) = None
 obus_within (suc k) (b ∷ bytes) = obu_at (b ∷ bytes) >>= λ o. obus_within k o.1 >>= λ os. Some (o.0 ∷ os)
 
--- the OBUs of a frame, None where it is no sequence
+-- the OBUs of a frame, None where it is not a sequence
 unfoldable pub obus_of : List ℕ → Option (List Obu)
 obus_of bytes = obus_within (length bytes) bytes
 

@@ -29,7 +29,7 @@ unfoldable pub units_of : List (List ℕ) → Option (List ℕ)
 units_of [] = Some []
 units_of (e ∷ es) = unit_of e >>= λ u. units_of es >>= λ us. Some (u ++ us)
 
--- what these elements add to the output, and what is pending then; None is a fault
+-- what these elements add to the output, and the pending bytes then; None is a fault
 unfoldable pub taken : Bool → List ℕ → List (List ℕ) → Option (List ℕ × List ℕ)
 taken goes_on begun es = units_of (ended goes_on begun es) >>= λ units. Some (units, left_open goes_on begun es)
 
@@ -37,12 +37,12 @@ taken goes_on begun es = units_of (ended goes_on begun es) >>= λ units. Some (u
 unfoldable pub received : List ℕ → List ℕ → Option (List ℕ × List ℕ)
 received pending packet = payload_at packet >>= λ p. taken p.goes_on (still_pending p pending) (usable p (still_pending p pending))
 
--- what of the pending bytes goes on in the payload of this aggregation header
+-- what of the pending bytes go on in the payload of this aggregation header
 abbrev pub begun_at : ℕ → List ℕ → List ℕ
 begun_at header pending = if has_bit 128 header && not (has_bit 8 header) then pending else []
 
--- whether an element can be taken behind what was begun and before these bytes: it is dropped, it goes on in the next packet,
--- or it ends one OBU
+-- whether an element can be taken after what was begun and before these bytes: it is dropped, it goes on in the next packet, or
+-- it ends one OBU
 abbrev pub can_take : Bool → Bool → ℕ → List ℕ → List ℕ → List ℕ → Bool
 can_take orphan may_go_on w begun element rest = orphan || (may_go_on && nat_lt w 2 && not (is_begun rest)) || is_one (begun ++ element)
 

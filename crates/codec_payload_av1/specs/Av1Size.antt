@@ -30,7 +30,7 @@ deferred cost (a ∷ b ∷ []) = cost b
 deferred cost (a ∷ b ∷ c ∷ []) = cost c
 deferred cost (a ∷ b ∷ c ∷ d ∷ es) = 0
 
--- what the length of an element behind these takes
+-- what the length of an element after these takes
 abbrev pub own : (ℕ → ℕ) → List ℕ → ℕ → ℕ
 own cost es n = if nat_lt 2 (length es) then cost n else 0
 

@@ -1,4 +1,4 @@
--- What is written of a number in LEB128 says it in as few bytes as can be, and reading finds what texts say.
+-- The bytes written for a number in LEB128 says it in as few bytes as can be, and reading finds what texts say.
 use Rattle.std.proofs.Common.{◌≡◌, ℕ, zero, suc, ◌+◌, ◌*◌, ◌/◌, ◌%◌, ◌^◌, ◌<◌, ◌≤◌, List, [], ◌∷◌, ◌++◌, length, Option, Some, None, refl, sym, ap, ◌∙◌, inl, inr, arith}
 use Rattle.std.specs.Option.{option_map}
 use Rattle.std.proofs.Math.Nat.{mod-eq_of_lt, mod-le}

@@ -18,8 +18,7 @@ some_byte (suc k) n =
       | inr large ↦ rw (le-ltb n 128 large) (omega arith)
     ]
 
--- before this place stand the first bytes of a number, behind it what stood there at the start; the rest is still to be
--- written
+-- before this place stand the first bytes of a number, after it what was there at the start; the rest is still to be written
 pub record WrittenTo (value : ℕ) (start buf : List ℕ) (place rest : ℕ) : Type 0 where
   pub written : take place buf ++ leb_within (9 - place) rest ≡ leb value
   pub behind : drop place buf ≡ drop place start

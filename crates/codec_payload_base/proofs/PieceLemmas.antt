@@ -55,7 +55,7 @@ one_piece size rest more some left are = record {
 pub no_pieces : (size : ℕ) (frame : List ℕ) → frame ≡ [] → ArePieces size frame []
 no_pieces size frame nothing = record { join = sym nothing; sizes = tt }
 
--- pieces are told by their number
+-- pieces are determined by their number
 told_by_count : (size : ℕ) (pieces : List (List ℕ)) → AreOfSize size pieces → pieces ≡ pieces_from (length pieces) size (joined pieces)
 told_by_count size [] sizes = refl
 told_by_count size (piece ∷ []) sizes = ap (λ p. p ∷ []) (sym (ap (take size) (append-nil piece) ∙ take_all size piece sizes.1))

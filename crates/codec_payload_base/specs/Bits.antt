@@ -52,7 +52,8 @@ pub record Passes (text : List ℕ) (old new : Reader) : Type 0 where
   pub front : left old ≡ bits_of text ++ left new
   pub place : new ≡ moved old (8 * length text)
 
--- What is read is the value of a text. Nothing where ten bytes go on, or fewer that go on and then no whole byte; they are passed too.
+-- A read value is the value of a text. Nothing where ten bytes go on, or fewer that go on and then no whole byte; they are
+-- passed too.
 abbrev pub ReadsLeb128 : Reader → Reader → Option ℕ → Type 0
 ReadsLeb128 old new None = (text : List ℕ) × AllGoOn text × Passes text old new × ((length text ≡ 10) ⊎ ((length text < 10) × (length (left new) < 8)))
 ReadsLeb128 old new (Some v) = (text : List ℕ) × IsLeb128 text v × Passes text old new
@@ -62,7 +63,7 @@ abbrev pub IsFront : Option ℕ → Option (ℕ × List ℕ) → List ℕ → Ty
 IsFront None read rest = read ≡ None
 IsFront (Some n) read rest = read ≡ Some (n, rest)
 
--- At a whole byte a read of a LEB128 text answers the number at the front of the bytes there, and leaves what follows it.
+-- At a whole byte a read of a LEB128 text answers the number at the front of the bytes there, and leaves the bytes after it.
 abbrev pub ReadsLebAtFront : Type 0
 ReadsLebAtFront = (old new : Reader) (i : ℕ) (answer : Option ℕ) → old.place ≡ 8 * i → AllByRecursion (λ b. b < 256) old.bytes → ReadsLeb128 old new answer
     → IsFront answer (leb_at (here old)) (here new)
@@ -72,7 +73,7 @@ abbrev pub number_of : List ℕ → ℕ
 number_of [] = 0
 number_of (b ∷ bs) = b * 2 ^ length bs + number_of bs
 
--- a list of bits as bytes; what is left over of a last byte is not counted
+-- a list of bits as bytes; the rest over of a last byte is not counted
 unfoldable pub bytes_of : List ℕ → List ℕ
 bytes_of (a ∷ b ∷ c ∷ d ∷ e ∷ f ∷ g ∷ h ∷ rest) = number_of (a ∷ b ∷ c ∷ d ∷ e ∷ f ∷ g ∷ h ∷ []) ∷ bytes_of rest
 bytes_of bs = []

@@ -6,7 +6,7 @@ use Rattle.std.proofs.Common.{lit<, lit≤}
 use Rattle.codec_payload_base.specs.declared.error.PacketError.{PacketError}
 use Rattle.codec_payload_base.specs.Answers.{AnswersBy, is_empty}
 
--- byte strings, one behind the other
+-- byte strings, one after another
 abbrev pub joined : List (List ℕ) → List ℕ
 joined pieces = flat_map (λ piece. piece) pieces
 

@@ -13,11 +13,11 @@ nanoseconds_of units rate = (units * 1000000000 + rate / 2) / rate
 abbrev pub units_of : ℕ → ℕ → ℕ
 units_of nanoseconds rate = (nanoseconds * rate + 500000000) / 1000000000
 
--- the report of four bytes: the event, a byte with E, R and the volume, and the duration in units
+-- the reported value of four bytes: the event, a byte with E, R and the volume, and the duration in units
 abbrev pub report : ℕ → ℕ → ℕ → ℕ → ℕ → TelephoneEvent
 report rate event flags high low = record { event = event; end = nat_le 128 flags; volume = flags % 64; duration = nanoseconds_of (high * 256 + low) rate }
 
--- the report of the first four bytes, if they are there
+-- the reported value of the first four bytes, if they are there
 abbrev pub report_of : List ℕ → ℕ → Option TelephoneEvent
 report_of (event ∷ flags ∷ high ∷ low ∷ rest) rate = Some (report rate event flags high low)
 report_of bytes rate = None
@@ -47,12 +47,12 @@ abbrev pub without_reserved : List ℕ → List ℕ
 without_reserved (event ∷ flags ∷ high ∷ low ∷ rest) = event ∷ bit_and flags 0xbf ∷ high ∷ low ∷ []
 without_reserved bytes = []
 
--- the fault of a payload that is no reports
+-- the fault of a payload that is not a reports
 abbrev pub IsNoReports : PacketError → Type 0
 IsNoReports (faults.InvalidTelephoneEvent reason) = reason.now ≡ codes "payload must contain one or more complete 4-byte reports"
 IsNoReports fault = ⊥
 
--- the bytes of the first report are appended, and the extra tells it
+-- the bytes of the first report are appended, and the extra reports it
 abbrev pub TakesFirst : ℕ → List ℕ → List ℕ → List ℕ → CodecExtra → Type 0
 TakesFirst rate (event ∷ flags ∷ high ∷ low ∷ rest) out out' extra' =
     (out' ≡ out ++ event ∷ flags ∷ high ∷ low ∷ []) × (extra' ≡ extras.Tele (report rate event flags high low))

@@ -7,8 +7,8 @@ ghost use Rattle.codec_payload_base.specs.Bits.{Reader, ReadsBits, ReadsLeb128, 
 pub use crate::theorems::leb128_says_numbers;
 use std::marker::Model;
 
-/// Reads the bits of a payload in order, the highest of each byte first. What a call lends lives as long as the payload,
-/// so reading can go on while it is held. `None` leaves the place, but for [`BitRead::get_leb128`].
+/// Reads the bits of a payload in order, the highest of each byte first. What a call lends lives as long as the payload, so
+/// reading can go on while it is held. `None` leaves the place, except [`BitRead::get_leb128`].
 pub trait BitRead<'a> {
     /// The payload, and the place among its bits.
     ghost reader: { Self → Reader };
@@ -48,8 +48,8 @@ pub trait BitRead<'a> {
     fn get_bytes(&mut self, count: usize) -> Option<&'a [u8]>
         ensures { LendsBytes count (reader self.old) (reader self.new) (option_map (λ s. s.now) result) };
 
-    /// A LEB128 number of at most ten bytes, low groups first, modulo 2^64. `None` where the tenth byte goes on too, or
-    /// the bytes end before the last; the place is then behind the bytes that were read.
+    /// A LEB128 number of at most ten bytes, low groups first, modulo 2^64. `None` where the tenth byte goes on too, or the
+    /// bytes end before the last; the place is then after the bytes that were read.
     fn get_leb128(&mut self) -> Option<u64>
         ensures { ReadsLeb128 (reader self.old) (reader self.new) result };
 
@@ -123,7 +123,7 @@ impl<'a> BitReader<'a> {
         &self.source[self.byte..]
     }
 
-    /// Moves the place on by `count` bits where as many are left, and tells whether they were. Else it stays.
+    /// Moves the place on by `count` bits where as many are left, and reports whether they were. Else it stays.
     #[tactic(auto, using(crate::proofs::BitLemmas::length_left))]
     pub fn skip_bits(&mut self, count: usize) -> bool
         ensures skipped { result ≡ true → (count ≤ length (left self.old)) × (self.new ≡ moved self.old count) }
@@ -181,7 +181,7 @@ impl<'a> BitRead<'a> for BitReader<'a> {
 
     fn get_bits(&mut self, count: usize) -> Option<u8> {
         let bytes = self.source.len() - self.byte;
-        // Two bytes hold what is asked for, wherever the place stands in the first of them.
+        // Two bytes hold what is asked for, wherever the place is in the first of them.
         if count > 8 || (bytes < 2 && self.bit + count > 8 * bytes) {
             return None;
         }

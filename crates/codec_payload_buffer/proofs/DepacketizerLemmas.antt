@@ -126,7 +126,7 @@ unpacked_same u v a b = ap (λ (n : List ℕ). unpacked n u.extra) a ∙ ap (λ 
     unpacked : List ℕ → CodecExtra → Unpacked
     unpacked n x = record { bytes = n; extra = x }
 
--- what is put together from payloads of a codec is fixed
+-- what is reassembled from payloads of a codec is fixed
 pub unpacks_same : (d : DepacketizerState) (ps : List Held) (u n m : Unpacked) (e f : DepacketizerState) → is_built_in_depacketizer d ≡ true
     → Unpacks d ps u (Ok n) e → Unpacks d ps u (Ok m) f → (n ≡ m) × (e ≡ f)
 unpacks_same d [] u n m e f built_in x y = let i : n ≡ u = cc in let j : m ≡ u = cc in (i ∙ sym j, x.1 ∙ sym y.1)

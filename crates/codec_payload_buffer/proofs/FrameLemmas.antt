@@ -33,7 +33,7 @@ not_first : (p : Held) (es : List Held) (q : Held) → IsIn q (p ∷ es) → q.m
 not_first p es q (inl e) l = absurd (omega (arith, l, ap (λ (h : Held). h.meta.seq_no.0) e))
 not_first p es q (inr h) l = h
 
--- A row and a head in another list, where that has the same packets up to the end of the row
+-- A range and a head in another list, where that has the same packets up to the end of the range
 row_into : (xs ys : List Held) (p : Held) (n : ℕ) → ((q : Held) → IsIn q xs → q.meta.seq_no.0 ≤ p.meta.seq_no.0 → IsIn q ys) → IsRow xs n p → IsRow ys n p
 row_into xs ys p n into row = record {
   to_end = row.to_end;
@@ -45,14 +45,14 @@ row_into xs ys p n into row = record {
 head_into : (xs ys : List Held) (top n : ℕ) → ((q : Held) → IsIn q xs → q.meta.seq_no.0 ≤ top → IsIn q ys) → n ≤ top → IsHeadAt xs n → IsHeadAt ys n
 head_into xs ys top n into le head = (head.0, contains_in head.0 ys (into head.0 (in_contains head.0 xs head.1) (omega (arith, head.2))), head.2, head.3)
 
--- a row of one packet
+-- a range of one packet
 row_here : (p : Held) (es : List Held) → IsRow (p ∷ es) p.meta.seq_no.0 p
 row_here p es = record {
   to_end = omega arith;
   each = λ m low high. (p, contains_in p (p ∷ es) (inl refl), omega arith, refl, λ l. absurd (omega arith));
 }
 
--- a row that goes on by one packet
+-- a range that goes on by one packet
 row_more : (e p : Held) (es : List Held) (n : ℕ) → leads_to e p ≡ true → IsRow (e ∷ es) n e → IsRow (p ∷ e ∷ es) n p
 row_more e p es n leads row =
     let parts = leads_parts e p leads in
@@ -78,7 +78,7 @@ before_first q e p es f h number time no_tail =
     leads : (e : Held) → q ≡ e → leads_to e p ≡ true
     leads e is = rw (← is) (leads_from q p number time no_tail)
 
--- a row of more than one packet, without the last
+-- a range of more than one packet, without the last
 row_less : (e p : Held) (es : List Held) (n : ℕ) → Falls (p ∷ e ∷ es) → IsRow (p ∷ e ∷ es) n p → n < p.meta.seq_no.0 → (leads_to e p ≡ true) × IsRow (e ∷ es) n e
 row_less e p es n f row l =
     let r = row.each (p.meta.seq_no.0 - 1) (omega arith) (omega arith) in
@@ -93,7 +93,7 @@ row_less e p es n f row l =
           (q.0, contains_in q.0 (e ∷ es) (not_first p (e ∷ es) q.0 (in_contains q.0 (p ∷ e ∷ es) q.1) (omega (arith, q.2, number))), q.2, q.3 ∙ sym time, λ k. q.4 (omega (arith, number)));
     }
 
--- the lowest head from which a row goes to p
+-- the lowest head from which a range goes to p
 record IsLowest (xs : List Held) (p : Held) (n : ℕ) : Type 0 where
   row : IsRow xs n p
   head : IsHeadAt xs n
@@ -103,7 +103,7 @@ abbrev AnswersLowest : List Held → Held → Option ℕ → Type 0
 AnswersLowest xs p None = (m : ℕ) → IsRow xs m p → IsHeadAt xs m → ⊥
 AnswersLowest xs p (Some n) = IsLowest xs p n
 
--- where no row with a head begins below p
+-- where no range with a head begins below p
 lowest_here : (p : Held) (es : List Held) → Falls (p ∷ es) → ((m : ℕ) → IsRow (p ∷ es) m p → IsHeadAt (p ∷ es) m → m < p.meta.seq_no.0 → ⊥) → AnswersLowest (p ∷ es) p (start_or_here None p)
 lowest_here p es f none =
     by_test p.head (λ b. AnswersLowest (p ∷ es) p (cond b (Some p.meta.seq_no.0) None))

@@ -1,4 +1,4 @@
--- Where a whole unit stands first, the lowest frame is that unit.
+-- If a whole unit stands first, the lowest frame is that unit.
 use Rattle.std.proofs.Common.{◌≡◌, ◌∙◌, refl, sym, ap, ℕ, subst, List, [], Option, Some, None, Bool, true, false, cond, ◌++◌, ◌+◌, ◌∷◌}
 use Rattle.codec_payload_base.specs.Time.{Time}
 use Rattle.codec_payload_buffer.proofs.FrameParts.{IsRun, BeginsWithHead}
@@ -9,7 +9,7 @@ use Rattle.codec_payload_buffer.specs.Scan.{first_of, open_start}
 use Rattle.codec_payload_buffer.specs.Steps.{State, due_of, due_among, starts_right_after}
 use Rattle.codec_payload_buffer.specs.declared.buffer.frames.CompleteFrame.{CompleteFrame}
 
--- the row of the packet before goes on
+-- the range of the packet before goes on
 goes_back : (q : Held) (qs : List Held) (p : Held) (n : ℕ) → leads_to q p ≡ true → open_start (q ∷ qs) ≡ Some n → lowest_head (p ∷ row_before p (q ∷ qs)) ≡ Some n
 goes_back q qs p n on start = at (leads_to q p) on
   where
@@ -27,7 +27,7 @@ pub goes_on : (b : Bool) (o later : List CompleteFrame) → b ≡ false → firs
 goes_on true o later f = absurd (cc)
 goes_on false o later f = refl
 
--- a row that is under way goes on to its tail
+-- a range that is under way goes on to its tail
 pub walk : (qs : List Held) (q : Held) (ps rest : List Held) (n last : ℕ) (time : Time) → open_start (q ∷ qs) ≡ Some n → q.tail ≡ false → q.meta.time ≡ time
     → IsRun (q.meta.seq_no.0 + 1) last time ps → first_of (frames_after (q ∷ qs) (ps ++ rest)) ≡ Some (record { first = n; last = last })
 walk qs q [] rest n last time start inner same run = absurd run

@@ -1,4 +1,4 @@
--- The rows and the frames of packets, with one packet more, without the lowest, and without those up to a frame's end.
+-- The ranges and the frames of packets, with one packet more, without the lowest, and without those up to a frame's end.
 use Rattle.std.proofs.Common.{◌≡◌, ◌≢◌, ℕ, ◌<◌, ◌≤◌, ◌+◌, [], ◌∷◌, List, length, drop, refl, ap, sym, ◌∙◌, arith, Bool, true, false, cond, Option, Some, None, ltb, eqb, inl, inr, ◌⊎◌, add-one}
 use Rattle.std.specs.Prelude.{IfSome}
 use Rattle.std.proofs.lemmas.Bool.Decides.{nat_tests}
@@ -29,7 +29,7 @@ none_up_to : (n : ℕ) (ps : List Held) → AllAbove n ps → next_head n ps ≡
 none_up_to n [] a = refl
 none_up_to n (p ∷ ps) a = let t : ltb n p.meta.seq_no.0 ≡ true = grind (arith, nat_tests, a.0) in rw t refl
 
--- the head of the first row is the lowest up to its end
+-- the head of the first range is the lowest up to its end
 abbrev HeadIs : List Row → List Held → Type 0
 HeadIs [] ps = Unit {0}
 HeadIs (r ∷ rs) ps = next_head r.last ps ≡ r.head
@@ -53,7 +53,7 @@ head_is : (ps : List Held) → Rises ps → HeadIs (rows ps) ps
 head_is [] r = tt
 head_is (p ∷ ps) r = head_before p ps (rows ps) r.0 (rows_above p.meta.seq_no.0 ps r.0 r.1) (head_is ps r.1)
 
--- the first row of a packet and the rows after it, without that packet
+-- the first range of a packet and the ranges after it, without that packet
 short_before : (p : Held) (ps : List Held) (rs : List Row) → RowsAbove p.meta.seq_no.0 rs → HeadIs rs ps → IsFirstShort (put_before (row_of p) rs) ps
 short_before p ps [] up is = (omega arith, λ head other. absurd (other refl))
 short_before p ps (r ∷ rs) up is =
@@ -68,7 +68,7 @@ short_before p ps (r ∷ rs) up is =
 pub first_is_short : (p : Held) (ps : List Held) → Rises (p ∷ ps) → IsFirstShort (rows (p ∷ ps)) ps
 first_is_short p ps r = short_before p ps (rows ps) (rows_above p.meta.seq_no.0 ps r.0 r.1) (head_is ps r.1)
 
--- what is left of the first row, with the rows after it
+-- the rest of the first range, with the ranges after it
 left_before : (p : Held) (ps : List Held) (rs : List Row) (before after : Option CompleteFrame) (new : List Row) → RowsAbove p.meta.seq_no.0 rs → HeadIs rs ps
     → IsShortened (put_before (row_of p) rs) ps before after new
     → (new ≡ rs) × (first_mended before after (row_frames (put_before (row_of p) rs)) ≡ row_frames rs)
@@ -96,7 +96,7 @@ left_before p ps (r ∷ rs) before after new up is left =
         let other : eqb p.meta.seq_no.0 r.last ≡ false = grind (arith, nat_tests, up.0, up.1) in
         rw (other, next, is) refl
 
-    -- with p in front the row has a frame at least where it has one without
+    -- with p in front the range has a frame at least where it has one without
     shorter : (tail : Bool) (head : Option ℕ) (fs : List CompleteFrame)
         → first_mended (frame_in tail (or_else (start_or_here None p) head) r.last) (frame_in tail head r.last)
         (with_frame (frame_in tail (or_else (start_or_here None p) head) r.last) fs) ≡ with_frame (frame_in tail head r.last) fs
@@ -120,7 +120,7 @@ without_lowest_index p ps before after new r left =
 
 -- Without the packets up to a frame's end
 
--- a row ends there
+-- a range ends there
 abbrev EndsAt : ℕ → List Row → Type 0
 EndsAt last [] = ⊥
 EndsAt last (r ∷ rs) = (r.last ≡ last) ⊎ EndsAt last rs
@@ -175,7 +175,7 @@ rows_left last (p ∷ ps) r ends =
     same [] l a = tt
     same (q ∷ qs) l a = (omega (arith, a.0, l), same qs l a.1)
 
--- the row of the first frame
+-- the range of the first frame
 first_ends : (rs : List Row) (f : CompleteFrame) → first_of (row_frames rs) ≡ Some f → EndsAt f.last rs
 first_ends [] f h = absurd (cc)
 first_ends (r ∷ rs) f h =
@@ -224,7 +224,7 @@ pub evict_short : (hs new : List Held) (n : ℕ) (rs : List Row) → Rises hs �
 evict_short [] new n rs r takes rows_are = absurd takes
 evict_short (p ∷ ps) new n rs r takes rows_are = rw (rows_are, takes.1) (first_is_short p ps r)
 
--- where the first row has a frame there are frames
+-- where the first range has a frame there are frames
 frames_some : (rs : List Row) (left : List Held) (before after : Option CompleteFrame) (new : List Row) → IsShortened rs left before after new → IfSome before (λ _. 0 < length (row_frames rs))
 frames_some [] left before after new is = absurd is
 frames_some (r ∷ rs) left before after new is = rw is.0 (by_frame (frame_of_row r) (λ o. IfSome o (λ _. 0 < length (with_frame o (row_frames rs)))) (λ e. tt) (λ f e. omega arith))

@@ -1,4 +1,4 @@
--- Places of rows and of frames, found by binary searches, and what is written there.
+-- Places of ranges and of frames, found by binary searches, and what is written there.
 use Rattle.std.proofs.Common.{◌≡◌, ℕ, zero, suc, ◌<◌, ◌≤◌, ◌+◌, ◌-◌, [], ◌∷◌, List, length, get_or, drop, refl, ap, sym, ◌∙◌, arith, true, false, cond, ltb, eqb}
 use Rattle.std.specs.Prelude.{slice_set}
 use Rattle.std.specs.List.{insert, remove}
@@ -11,7 +11,7 @@ use Rattle.codec_payload_buffer.specs.declared.buffer.rows.Row.{Row}
 use Rattle.codec_payload_codec.proofs.CaseLemmas.{by_test}
 use Rattle.codec_payload_buffer.proofs.RowListLemmas.{no_meet_before}
 
--- Rows in order, as a binary search asks it
+-- Ranges in order, as a binary search asks it
 
 above_at : (n : ℕ) (rs : List Row) → RowsAbove n rs → (k : ℕ) (d : Row) → k < length rs → n < (get_or rs k d).first
 above_at n [] a k d l = absurd (omega arith)
@@ -43,26 +43,26 @@ row_place_within n (r ∷ rs) = grind (arith, nat_tests, row_place_within n rs)
 
 -- What is written at a place
 
--- the row there meets p
+-- the range there meets p
 pub put_over : (k : ℕ) (p x : Row) (rs : List Row) → k < length rs → x ≡ get_or rs k x → meet p x ≡ true → slice_set rs k (joined p x) ≡ put_at k p rs
 put_over k p x [] l is e = absurd (omega arith)
 put_over zero p x (r ∷ rs) l is e = rw (← is, e) refl
 put_over (suc k) p x (r ∷ rs) l is e = ap (λ (zs : List Row). r ∷ zs) (put_over k p x rs (omega arith) is e)
 
--- the row there does not meet p
+-- the range there does not meet p
 pub put_between : (k : ℕ) (p x : Row) (rs : List Row) → k < length rs → x ≡ get_or rs k x → meet p x ≡ false → (insert rs k p ≡ put_at k p rs) × (p ≡ with_next p (drop k rs))
 put_between k p x [] l is e = absurd (omega arith)
 put_between zero p x (r ∷ rs) l is e = (rw (← is, e) refl, rw (← is, e) refl)
 put_between (suc k) p x (r ∷ rs) l is e = let rest = put_between k p x rs (omega arith) is e in (ap (λ (zs : List Row). r ∷ zs) rest.0, rest.1)
 
--- there is no row there
+-- there is no range there
 pub put_behind : (k : ℕ) (p : Row) (rs : List Row) → k ≡ length rs → (insert rs k p ≡ put_at k p rs) × (p ≡ with_next p (drop k rs))
 put_behind zero p [] is = (refl, refl)
 put_behind (suc k) p [] is = absurd (omega arith)
 put_behind zero p (r ∷ rs) is = absurd (omega arith)
 put_behind (suc k) p (r ∷ rs) is = let rest = put_behind k p rs (omega arith) in (ap (λ (zs : List Row). r ∷ zs) rest.0, rest.1)
 
--- a row and the one after it
+-- a range and the one after it
 pub join_over : (k : ℕ) (a b : Row) (rs : List Row) → suc k < length rs → a ≡ get_or rs k a → b ≡ get_or rs (suc k) b → meet a b ≡ true → slice_set (remove rs (suc k)) k (joined a b) ≡ join_at k rs
 join_over k a b [] l at next e = absurd (omega arith)
 join_over zero a b (r ∷ []) l at next e = absurd (omega arith)
@@ -96,7 +96,7 @@ put_there zero p d (r ∷ rs) le = by_test (meet p r) (λ b. cond b (joined p r)
 put_there (suc k) p d [] le = absurd (omega arith)
 put_there (suc k) p d (r ∷ rs) le = put_there k p d rs (omega arith)
 
--- what stands before it stays
+-- the bytes before it stay
 pub put_other : (k : ℕ) (p d : Row) (rs : List Row) → suc k ≤ length rs → get_or (put_at (suc k) p rs) k d ≡ get_or rs k d
 put_other k p d [] le = absurd (omega arith)
 put_other zero p d (r ∷ rs) le = refl
@@ -108,7 +108,7 @@ placed_first p (r ∷ rs) at =
     by_test (ltb r.first p.first) (λ b. cond b (row_place p.first rs + 1) 0 ≡ 0 → put_before p (r ∷ rs) ≡ cond b (put_before r (row_placed p rs)) (put_before p (r ∷ rs)))
     (λ e at. absurd (omega arith)) (λ e at. refl) at
 
--- a place that is not the first: the first row begins below p
+-- a place that is not the first: the first range begins below p
 place_more : (k : ℕ) (p r : Row) (rs : List Row) → row_place p.first (r ∷ rs) ≡ suc k → (ltb r.first p.first ≡ true) × (row_place p.first rs ≡ k)
 place_more k p r rs at =
     by_test (ltb r.first p.first) (λ b. cond b (row_place p.first rs + 1) 0 ≡ suc k → (b ≡ true) × (row_place p.first rs ≡ k))
@@ -201,7 +201,7 @@ note_new (suc k) f (g ∷ gs) at other =
     (λ e at. ap (λ (zs : List CompleteFrame). g ∷ zs) (note_new k f gs (omega (arith, at)) (λ l. other (omega arith))))
     (λ e at. absurd (omega (arith, at))) at
 
--- a row among rows, from the two steps of the code
+-- a range among ranges, from the two steps of the code
 pub added : (place : ℕ) (p row : Row) (rs new : List Row) → place ≡ row_place p.first rs → AreLongest rs → 0 < place → new ≡ put_at place p rs → row ≡ with_next p (drop place rs)
     → record {
       all : join_at (place - 1) new ≡ row_placed p rs;

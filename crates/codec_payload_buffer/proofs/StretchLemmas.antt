@@ -142,7 +142,7 @@ gathered_is s ps low count r within =
     test : ℕ → Bool
     test n = has_number n s.held || (not (is_at_most s.cutoff n) && has_number n ps)
 
--- What is left depends on the numbers alone
+-- The rest depends on the numbers alone
 last_is : (hs : List Held) (c : Option ℕ) → last_number hs c ≡ last_or (map number_of hs) c
 last_is [] c = refl
 last_is (p ∷ ps) c = last_is ps (Some p.meta.seq_no.0)

@@ -21,7 +21,7 @@ state_of b = record {
   limit = b.limit;
 }
 
--- what every buffer keeps: it is sound, its limit is in range, and its lists of rows and of frames are those of its packets
+-- what every buffer keeps: it is sound, its limit is in range, and its lists of ranges and of frames are those of its packets
 pub record IsIndexed (s : State) (row_list : List Row) (complete_frames : List CompleteFrame) : Type 0 where
   pub sound : IsSound s
   pub least : 1 ≤ s.limit

@@ -28,7 +28,7 @@ packet_at number time head tail = record { meta = meta_at number time; bytes = [
 abbrev frame_of : ℕ → ℕ → CompleteFrame
 frame_of first last = record { first = first; last = last }
 
--- Frames: 1 to 3 from its only head; none to 4, whose row has no head; 6 to 8 from the lower of two heads; none to 10, since
+-- Frames: 1 to 3 from its only head; none to 4, whose range has no head; 6 to 8 from the lower of two heads; none to 10, since
 -- 9 has another time; and 11 and 12 apart, though of one time, since 11 is a tail.
 pub frames-some : frames (
     packet_at 1 10 true false ∷ packet_at 2 10 false false ∷ packet_at 3 10 false true ∷ packet_at 4 10 false true
@@ -38,7 +38,7 @@ pub frames-some : frames (
     ≡ frame_of 1 3 ∷ frame_of 6 8 ∷ frame_of 11 11 ∷ frame_of 12 12 ∷ []
 frames-some = refl
 
--- a gap ends a row, so the frame begins behind it
+-- a gap ends a range, so the frame begins after it
 pub frames-gap : frames (packet_at 1 10 true false ∷ packet_at 3 10 true false ∷ packet_at 4 10 false true ∷ []) ≡ frame_of 3 4 ∷ []
 frames-gap = refl
 

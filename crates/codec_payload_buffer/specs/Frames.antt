@@ -12,7 +12,7 @@ is_same_time s t = (s.numer == t.numer) && (s.rate == t.rate)
 abbrev pub leads_to : Held → Held → Bool
 leads_to q p = (number_of q + 1 == number_of p) && is_same_time q.meta.time p.meta.time && not q.tail
 
--- the longest row that ends right before p, latest first; `earlier` has the packets before p, latest first
+-- the longest range that ends right before p, latest first; `earlier` has the packets before p, latest first
 abbrev pub row_before : Held → List Held → List Held
 row_before p [] = []
 row_before p (q ∷ qs) = if leads_to q p then q ∷ row_before q qs else []
@@ -22,7 +22,7 @@ abbrev pub start_or_here : Option ℕ → Held → Option ℕ
 start_or_here (Some n) p = Some n
 start_or_here None p = if p.head then Some (number_of p) else None
 
--- the number of the lowest head of a row that is given latest first
+-- the number of the lowest head of a range that is given latest first
 abbrev pub lowest_head : List Held → Option ℕ
 lowest_head [] = None
 lowest_head (p ∷ ps) = start_or_here (lowest_head ps) p
@@ -32,7 +32,7 @@ abbrev pub ended_at : Held → Option ℕ → List CompleteFrame
 ended_at b None = []
 ended_at b (Some first) = record { first = first; last = number_of b } ∷ []
 
--- the frame that ends at b, if b is a tail and its row has a head
+-- the frame that ends at b, if b is a tail and its range has a head
 abbrev pub frame_at : Held → List Held → List CompleteFrame
 frame_at b earlier = if b.tail then ended_at b (lowest_head (b ∷ row_before b earlier)) else []
 
@@ -56,7 +56,7 @@ pub record IsRow (held : List Held) (first : ℕ) (b : Held) : Type 0 where
 abbrev pub IsHeadAt : List Held → ℕ → Type 0
 IsHeadAt held n = (p : Held) × Contains held p × (number_of p ≡ n) × (p.head ≡ true)
 
--- a complete frame: from the lowest head of all rows that end at the tail
+-- a complete frame: from the lowest head of all ranges that end at the tail
 pub record IsFrame (held : List Held) (frame : CompleteFrame) : Type 0 where
   pub end : Held
   pub held_end : Contains held end

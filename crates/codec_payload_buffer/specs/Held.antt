@@ -3,7 +3,7 @@ use Rattle.std.specs.Prelude.{◌≡◌, ℕ, ◌<◌, ◌||◌, Bool, false, Li
 use Rattle.codec_payload_buffer.specs.declared.buffer.unit.RtpMeta.{RtpMeta}
 use Rattle.codec_payload_buffer.specs.declared.buffer.held_packet.HeldPacket.{HeldPacket}
 
--- a held packet: what is known of it, its payload, and whether it begins and ends a unit
+-- a held packet: the facts about it, its payload, and whether it begins and ends a unit
 pub record Held : Type 0 where
   pub meta : RtpMeta
   pub bytes : List ℕ

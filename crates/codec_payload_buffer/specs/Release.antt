@@ -1,4 +1,4 @@
--- A unit that was released, and what its packets tell of it.
+-- A unit that was released, and what its packets report it.
 use Rattle.std.specs.Prelude.{◌≡◌, ℕ, ◌-◌, ◌%◌, ◌^◌, ◌<◌, ◌≤◌, List, Bool, false, None, Some, All, length, take, slice_get}
 use Rattle.std.specs.Option.{option_or}
 use Rattle.codec_payload_base.specs.Extensions.{no_values}
@@ -7,7 +7,7 @@ use Rattle.codec_payload_base.specs.declared.interface.CodecExtra.{CodecExtra}
 use Rattle.codec_payload_base.specs.declared.wire.extension.ExtensionValues.{ExtensionValues}
 use Rattle.codec_payload_buffer.specs.declared.buffer.unit.RtpMeta.{RtpMeta}
 
--- what is known of a packet of which only these are known: its number, its time, its payload type and when it was received
+-- the facts about a packet of which only these are known: its number, its time, its payload type and when it was received
 abbrev pub meta_of : ℕ → Time → ℕ → ℕ → RtpMeta
 meta_of number time payload_type received = record {
   received = record { 0 = received };
@@ -24,8 +24,8 @@ meta_of number time payload_type received = record {
   last_sender_info = None;
 }
 
--- the time of its packets, whether it follows the unit released before it, its bytes, what its payloads told besides,
--- and what is known of each of its packets, in order
+-- the time of its packets, whether it follows the unit released before it, its bytes, the codec-specific data, and the facts
+-- about each of its packets, in order
 pub record Release : Type 0 where
   pub time : Time
   pub contiguous : Bool

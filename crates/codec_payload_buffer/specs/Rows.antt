@@ -1,11 +1,11 @@
--- The rows of held packets, which a push, an eviction and a pop mend, and the complete frames in them.
+-- The ranges of held packets, which a push, an eviction and a pop mend, and the complete frames in them.
 use Rattle.std.specs.Prelude.{◌≡◌, ◌≢◌, ℕ, zero, suc, ◌+◌, ◌<◌, ◌≤◌, ◌&&◌, not, Bool, true, false, List, [], ◌∷◌, nat_lt, ◌==◌, if◌then◌else◌, Option, Some, None, drop}
 use Rattle.codec_payload_buffer.specs.Held.{Held, number_of}
 use Rattle.codec_payload_buffer.specs.Frames.{is_same_time, start_or_here}
 use Rattle.codec_payload_buffer.specs.declared.buffer.frames.CompleteFrame.{CompleteFrame}
 use Rattle.codec_payload_buffer.specs.declared.buffer.rows.Row.{Row}
 
--- one packet as a row
+-- one packet as a range
 abbrev pub row_of : Held → Row
 row_of p = record { first = number_of p; last = number_of p; time = p.meta.time; head = start_or_here None p; tail = p.tail }
 
@@ -18,7 +18,7 @@ abbrev pub or_else : Option ℕ → Option ℕ → Option ℕ
 or_else (Some n) o = Some n
 or_else None o = o
 
--- two rows that meet, as one
+-- two ranges that meet, as one
 abbrev pub joined : Row → Row → Row
 joined q r = record { first = q.first; last = r.last; time = r.time; head = or_else q.head r.head; tail = r.tail }
 
@@ -26,19 +26,19 @@ joined q r = record { first = q.first; last = r.last; time = r.time; head = or_e
 abbrev pub join_if : Row → Row → Row
 join_if q r = if meet q r then joined q r else r
 
--- q in front of the rows, one with the first of them where they meet
+-- q in front of the ranges, one with the first of them where they meet
 abbrev pub put_before : Row → List Row → List Row
 put_before q [] = q ∷ []
 put_before q (r ∷ rs) = if meet q r then joined q r ∷ rs else q ∷ r ∷ rs
 
--- the longest rows of the packets, in order
+-- the longest ranges of the packets, in order
 abbrev pub rows : List Held → List Row
 rows [] = []
 rows (p ∷ ps) = put_before (row_of p) (rows ps)
 
 -- The frames
 
--- the frame of a row: from its lowest head to its tail, where it has both
+-- the frame of a range: from its lowest head to its tail, where it has both
 abbrev pub frame_in : Bool → Option ℕ → ℕ → Option CompleteFrame
 frame_in true (Some first) last = Some (record { first = first; last = last })
 frame_in true None last = None
@@ -52,34 +52,34 @@ abbrev pub with_frame : Option CompleteFrame → List CompleteFrame → List Com
 with_frame None fs = fs
 with_frame (Some f) fs = f ∷ fs
 
--- the frames of rows, in order
+-- the frames of ranges, in order
 abbrev pub row_frames : List Row → List CompleteFrame
 row_frames [] = []
 row_frames (r ∷ rs) = with_frame (frame_of_row r) (row_frames rs)
 
 -- Mending, as the code does it
 
--- how many rows begin below n
+-- how many ranges begin below n
 abbrev pub row_place : ℕ → List Row → ℕ
 row_place n [] = 0
 row_place n (r ∷ rs) = if nat_lt r.first n then row_place n rs + 1 else 0
 
--- how many rows begin up to n
+-- how many ranges begin up to n
 abbrev pub row_end : ℕ → List Row → ℕ
 row_end n [] = 0
 row_end n (r ∷ rs) = if nat_lt n r.first then 0 else row_end n rs + 1
 
--- p among the rows, one with those that it meets
+-- p among the ranges, one with those that it meets
 abbrev pub row_placed : Row → List Row → List Row
 row_placed p [] = p ∷ []
 row_placed p (r ∷ rs) = if nat_lt r.first p.first then put_before r (row_placed p rs) else put_before p (r ∷ rs)
 
--- p with the row after it, where they meet
+-- p with the range after it, where they meet
 abbrev pub with_next : Row → List Row → Row
 with_next p [] = p
 with_next p (r ∷ rs) = if meet p r then joined p r else p
 
--- the row that has p once it is among the rows; r is the row before
+-- the range that has p once it is among the ranges; r is the range before
 abbrev pub merged_after : Row → Row → List Row → Row
 merged_after r p [] = join_if r p
 merged_after r p (s ∷ rs) = if nat_lt s.first p.first then merged_after s p rs else join_if r (with_next p (s ∷ rs))
@@ -88,19 +88,19 @@ abbrev pub merged : Row → List Row → Row
 merged p [] = p
 merged p (r ∷ rs) = if nat_lt r.first p.first then merged_after r p rs else with_next p (r ∷ rs)
 
--- p put before the rows from a place on
+-- p put before the ranges from a place on
 abbrev pub put_at : ℕ → Row → List Row → List Row
 put_at zero p rs = put_before p rs
 put_at (suc k) p [] = []
 put_at (suc k) p (r ∷ rs) = r ∷ put_at k p rs
 
--- the row at a place and the one after it as one, where they meet
+-- the range at a place and the one after it as one, where they meet
 abbrev pub join_at : ℕ → List Row → List Row
 join_at k [] = []
 join_at zero (r ∷ rs) = put_before r rs
 join_at (suc k) (r ∷ rs) = r ∷ join_at k rs
 
--- the frame in its place by its end, in the stead of one with the same end
+-- the frame in its place by its end, instead of one with the same end
 abbrev pub noted : CompleteFrame → List CompleteFrame → List CompleteFrame
 noted f [] = f ∷ []
 noted f (g ∷ gs) = if nat_lt g.last f.last then g ∷ noted f gs else (if g.last == f.last then f ∷ gs else f ∷ g ∷ gs)
@@ -119,11 +119,11 @@ abbrev pub next_head : ℕ → List Held → Option ℕ
 next_head last [] = None
 next_head last (p ∷ ps) = if nat_lt last (number_of p) then None else (if p.head then Some (number_of p) else next_head last ps)
 
--- what is left of the first row without its first packet; `left` has the packets that are left
+-- the rest of the first range without its first packet; `left` has the packets that are left
 abbrev pub shortened : Row → List Held → Option Row
 shortened r left = if r.first == r.last then None else Some (record r { first = r.first + 1; head = next_head r.last left })
 
--- a row, if there is one, in front of others
+-- a range, if there is one, in front of others
 abbrev pub with_row : Option Row → List Row → List Row
 with_row None rs = rs
 with_row (Some r) rs = r ∷ rs
@@ -138,19 +138,19 @@ abbrev pub first_mended : Option CompleteFrame → Option CompleteFrame → List
 first_mended None new fs = fs
 first_mended (Some f) new fs = with_frame new (drop 1 fs)
 
--- What rows and frames keep
+-- What ranges and frames keep
 
--- each row begins above n, and above the end of the one before
+-- each range begins above n, and above the end of the one before
 abbrev pub RowsAbove : ℕ → List Row → Type 0
 RowsAbove n [] = Unit {0}
 RowsAbove n (r ∷ rs) = (n < r.first) × (r.first ≤ r.last) × RowsAbove r.last rs
 
--- the rows stand in order, apart
+-- the ranges are in order, apart
 abbrev pub RowsRise : List Row → Type 0
 RowsRise [] = Unit {0}
 RowsRise (r ∷ rs) = (r.first ≤ r.last) × RowsAbove r.last rs
 
--- no row meets the next
+-- no range meets the next
 abbrev pub AreLongest : List Row → Type 0
 AreLongest [] = Unit {0}
 AreLongest (r ∷ []) = Unit {0}
@@ -169,12 +169,12 @@ EndsRise (f ∷ fs) = EndsAbove f.last fs
 abbrev pub IsHeadKept : Row → List Held → Type 0
 IsHeadKept r left = r.head ≢ Some r.first → r.first ≢ r.last → r.head ≡ next_head r.last left
 
--- there is a first row, and it can be shortened
+-- there is a first range, and it can be shortened
 abbrev pub IsFirstShort : List Row → List Held → Type 0
 IsFirstShort [] left = ⊥
 IsFirstShort (r ∷ rs) left = (r.first ≤ r.last) × IsHeadKept r left
 
--- the frames that the first row had and has, and the rows then
+-- the frames that the first range had and has, and the ranges then
 abbrev pub IsShortened : List Row → List Held → Option CompleteFrame → Option CompleteFrame → List Row → Type 0
 IsShortened [] left before after new = ⊥
 IsShortened (r ∷ rs) left before after new = (before ≡ frame_of_row r) × (after ≡ frame_of_rest (shortened r left)) × (new ≡ with_row (shortened r left) rs)

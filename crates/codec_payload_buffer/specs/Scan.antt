@@ -19,7 +19,7 @@ abbrev pub first_of : List CompleteFrame → Option CompleteFrame
 first_of [] = None
 first_of (f ∷ fs) = Some f
 
--- where the row that reaches the latest packet has its lowest head
+-- where the range that reaches the latest packet has its lowest head
 abbrev pub open_start : List Held → Option ℕ
 open_start [] = None
 open_start (q ∷ qs) = lowest_head (q ∷ row_before q qs)

@@ -56,7 +56,7 @@ IsInRange s ps low count = (n : ℕ) → counts s ps n ≡ true → (low ≤ n) 
 abbrev pub LeavesNumbers : Type 0
 LeavesNumbers = (s : State) (ps : List Held) (low count : ℕ) → IsSound s → IsInRange s ps low count → IsLeft s (stretch_numbers s ps low count) (after_pushes s ps)
 
--- the same but for which packet of a number is held
+-- the same except which packet of a number is held
 pub record HaveSameNumbers (t u : State) : Type 0 where
   pub held : map number_of t.held ≡ map number_of u.held
   pub cutoff : t.cutoff ≡ u.cutoff

@@ -1,4 +1,4 @@
-//! VP8 and VP9: whether a frame may go out, and whether it follows the frame before it, by picture ids (docs/FORMATS.md,
+//! VP8 and VP9: whether a frame may be released, and whether it follows the frame before it, by picture ids (docs/FORMATS.md,
 //! "Contiguity").
 
 ghost use Rattle.std.specs.Prelude.{◌≡◌};
@@ -13,7 +13,7 @@ use std::marker::Model;
 pub enum Contiguity {
     Vp8(Vp8Contiguity),
     Vp9(Vp9Contiguity),
-    /// The codec tells no picture ids: sequence numbers alone count.
+    /// The codec reports no picture ids: sequence numbers alone count.
     None,
 }
 
@@ -29,7 +29,7 @@ impl Contiguity {
         }
     }
 
-    /// Whether a frame may go out, and whether it follows the one before it. `contiguous_seq` says whether its sequence
+    /// Whether a frame may be released, and whether it follows the one before it. `contiguous_seq` says whether its sequence
     /// numbers follow; where the extra is not of the codec, that is the answer.
     pub fn check(&mut self, next: &CodecExtra, contiguous_seq: bool) -> (bool, bool)
         ensures { checked self.old next.now contiguous_seq ≡ (result.0, result.1, self.new) }
@@ -73,7 +73,7 @@ impl Vp8Contiguity {
         }
     }
 
-    /// Whether the frame may go out, and whether it follows.
+    /// Whether the frame may be released, and whether it follows.
     pub fn check(&mut self, next: &Vp8CodecExtra, contiguous_seq: bool) -> (bool, bool)
         ensures { vp8_verdict self.old next.now contiguous_seq ≡ (result.0, result.1, self.new) }
     {
@@ -122,7 +122,7 @@ impl Vp9Contiguity {
         }
     }
 
-    /// Whether the frame may go out, and whether it follows.
+    /// Whether the frame may be released, and whether it follows.
     pub fn check(&mut self, next: &Vp9CodecExtra, contiguous_seq: bool) -> (bool, bool)
         ensures { vp9_verdict self.old next.now contiguous_seq ≡ (result.0, result.1, self.new) }
     {
@@ -156,10 +156,10 @@ pub struct FrameContiguityState {
 }
 
 impl FrameContiguityState {
-    /// Whether a frame may go out, and whether it follows the one before it. One that lacks an id is told by its sequence
-    /// numbers alone. After the first with both, an older one may not go out, but for a keyframe, which starts again; one of
-    /// the base layer follows where its base is the next; one of another layer must be the very next picture on the same
-    /// base.
+    /// Whether a frame may be released, and whether it follows the one before it. One that lacks an id is determined by its
+    /// sequence numbers alone. After the first with both, an older one may not be released, except a keyframe, which starts
+    /// again; one of the base layer follows where its base is the next; one of another layer must be the very next picture on
+    /// the same base.
     pub fn next_frame(
         &mut self,
         picture_id: Option<u64>,

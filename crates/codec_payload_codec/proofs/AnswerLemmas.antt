@@ -1,7 +1,7 @@
 -- What follows from facts of answers.
 use Rattle.std.proofs.Common.{Result, Ok, Err, OnOk, OnErr, IfErr}
 
--- what holds anyway holds of an Err
+-- what holds anyway holds for an Err
 pub on_err : {T E P : Type 0} (r : Result T E) → P → OnErr r P
 on_err (Ok x) p = tt
 on_err (Err e) p = p

@@ -126,11 +126,11 @@ marker_of Av1Packetizing last = last
 marker_of (AmrWbPacketizing octet) last = false
 marker_of BoxedPacketizing last = false
 
--- the same as a step, which leaves the packetizer as it is; it looks at neither packet
+-- the same as a step, which leaves the packetizer as it is; it reads neither packet
 abbrev pub MarkerStep : PacketizerState → List ℕ → Option (List ℕ) → Bool → Bool → List ℕ → Type 0
 MarkerStep packetizer packet previous last answer after = (answer ≡ marker_of packetizer last) × (after ≡ numbers_of_packetizer packetizer)
 
--- whether the marker tells where a talk spurt starts
+-- whether the marker reports where a talk spurt starts
 abbrev pub talk_spurt_of : PacketizerState → Bool
 talk_spurt_of G711Packetizing = true
 talk_spurt_of G722Packetizing = true

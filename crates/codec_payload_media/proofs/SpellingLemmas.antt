@@ -1,4 +1,4 @@
--- Items one after another: what is spelled is read, and what is read is spelled.
+-- Items one after another: a spelled value is read, and a read value is spelled.
 use Rattle.std.proofs.Common.{◌≡◌, ℕ, ◌<◌, List, [], ◌∷◌, length, Result, Ok, Err, refl, sym, ap, ◌∙◌, arith}
 use Rattle.codec_payload_base.specs.Flags.{AreBytes}
 use Rattle.codec_payload_vpx.specs.declared.error.MediaError.{MediaError}

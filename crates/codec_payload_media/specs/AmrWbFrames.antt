@@ -39,7 +39,7 @@ pub record IsAmrWbFrame (bytes : List ℕ) (f : Frame) (rest : List ℕ) : Type 
 
 -- ---- how it is read
 
--- the frame of that first byte, with so much speech
+-- the frame of that first byte, with that much speech
 abbrev pub with_speech : ℕ → Option ℕ → List ℕ → Result (Frame × List ℕ) MediaError
 with_speech byte None bytes = Err errors.ReservedValue
 with_speech byte (Some n) bytes =

@@ -21,7 +21,7 @@ use Rattle.codec_payload_media.specs.Av1TemporalUnits.{is_shown_keyframe, unit_a
 use Rattle.codec_payload_media.specs.OpusPackets.{opus_at}
 use Rattle.codec_payload_vpx.specs.Vp8Frames.{vp8_frame_at}
 
--- nothing is told
+-- nothing is reported
 abbrev pub nothing : FrameInfo
 nothing = record { keyframe = None; size = None; duration = None }
 

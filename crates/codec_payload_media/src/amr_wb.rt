@@ -48,8 +48,8 @@ fn speech_length(frame_type: u8) -> Option<usize>
     }
 }
 
-/// The frame at the front, and what is behind it. A fault is that of [`AmrWbFrames`]; of no bytes it is `MissingBytes`. It takes
-/// no memory.
+/// The frame at the front, and the bytes after it. A fault is that of [`AmrWbFrames`]; of no bytes it is `MissingBytes`. It
+/// takes no memory.
 pub fn front_frame(bytes: &[u8]) -> Result<(AmrWbFrame<'_>, &[u8]), MediaError>
     ensures { told (λ x. (frame_of x.0, x.1.now)) result ≡ frame_at bytes.now }
 {

@@ -18,19 +18,19 @@ pub struct PictureSize {
     pub height: u32,
 }
 
-/// What a frame says of itself; `None` for what it does not tell.
+/// What a frame says of itself; `None` for what it does not report.
 #[derive(Clone, Copy, Debug, PartialEq, Eq)]
 pub struct FrameInfo {
     /// Whether it is a keyframe, of video.
     pub keyframe: Option<bool>,
-    /// The size of the picture, of video where the frame tells it; of AV1 the largest of the sequence header.
+    /// The size of the picture, of video where the frame reports it; of AV1 the largest of the sequence header.
     pub size: Option<PictureSize>,
     /// How long it lasts, of audio, in ticks of the RTP clock.
     pub duration: Option<u64>,
 }
 
 impl FrameInfo {
-    /// Of a frame that tells nothing.
+    /// Of a frame that reports nothing.
     fn nothing() -> FrameInfo
         ensures { result ≡ nothing }
     {
@@ -41,7 +41,7 @@ impl FrameInfo {
         }
     }
 
-    /// Of a frame that lasts so many ticks.
+    /// Of a frame that lasts that many ticks.
     fn lasting(ticks: u64) -> FrameInfo
         ensures { result ≡ lasts ticks }
     {
@@ -107,9 +107,10 @@ impl FrameInfo {
     }
 }
 
-/// What a frame of a codec says: of VP8, VP9 and AV1 whether it is a keyframe, and the size where it is told, of a VP9
+/// What a frame of a codec says: of VP8, VP9 and AV1 whether it is a keyframe, and the size where it is reported, of a VP9
 /// superframe what its first frame says, of an AV1 temporal unit what it says up to its first frame header; of Opus, AMR-WB (in
-/// storage form), G.711 and G.722 how long it lasts. Of the other formats, and of what is no frame of media, nothing is told.
+/// storage form), G.711 and G.722 how long it lasts. Of the other formats, and of what is not a frame of media, nothing is
+/// reported.
 ///
 /// G.711 and G.722 have a byte for each tick of their RTP clock of 8 kHz, so bytes are never malformed. A fault is that of
 /// [`Vp8FrameHeader::parse`], [`Vp9FrameHeader::parse`], [`Av1TemporalUnit::parse`], [`OpusPacket::parse`] or [`amr_wb_ticks`].

@@ -94,7 +94,7 @@ fn ticks_of(config: u8) -> u16
     }
 }
 
-/// So many frames of one length, which together have that size.
+/// That many frames of one length, which together have that size.
 fn frames_alike(count: u8, size: usize) -> Result<u8, MediaError>
     requires { 1 ≤ count }
     ensures { result ≡ alike count size }
@@ -107,7 +107,7 @@ fn frames_alike(count: u8, size: usize) -> Result<u8, MediaError>
     }
 }
 
-/// The length of a frame at the front (RFC 6716, section 3.2.1), and what is behind it.
+/// The length of a frame at the front (RFC 6716, section 3.2.1), and the bytes after it.
 fn read_length(bytes: &[u8]) -> Result<(usize, &[u8]), MediaError>
     ensures value { told (λ x. (x.0, x.1.now)) result ≡ length_at bytes.now }
     ensures most { IfOk result (λ x. x.0 ≤ 1275) }
@@ -124,7 +124,7 @@ fn read_length(bytes: &[u8]) -> Result<(usize, &[u8]), MediaError>
     Ok((usize::from(*low) + 4 * usize::from(*high), rest))
 }
 
-/// The sum of the lengths of so many frames, and what is behind them.
+/// The sum of the lengths of that many frames, and the bytes after them.
 #[tactic(auto, unfolding(crate::specs::OpusPackets::lengths_at))]
 fn read_lengths(count: u8, bytes: &[u8]) -> Result<(usize, &[u8]), MediaError>
     ensures { told (λ x. (x.0, x.1.now)) result ≡ lengths_at count 0 bytes.now }
@@ -139,7 +139,7 @@ fn read_lengths(count: u8, bytes: &[u8]) -> Result<(usize, &[u8]), MediaError>
     Ok((sum, rest))
 }
 
-/// So many frames, with a length before them for each but the last.
+/// That many frames, with a length before them for each but the last.
 fn frames_apart(count: u8, bytes: &[u8]) -> Result<u8, MediaError>
     requires { 1 ≤ count }
     ensures { result ≡ apart count bytes.now }
@@ -173,7 +173,7 @@ fn remove_padding(bytes: &[u8]) -> Result<&[u8], MediaError>
     Err(MediaError::MissingBytes)
 }
 
-/// What is left of the bytes without their padding, if there is any.
+/// The rest of the bytes without their padding, if there is any.
 fn remove_padding_if(padded: bool, bytes: &[u8]) -> Result<&[u8], MediaError>
     ensures { told (λ x. x.now) result ≡ unpadded_if padded bytes.now }
 {
@@ -184,7 +184,7 @@ fn remove_padding_if(padded: bool, bytes: &[u8]) -> Result<&[u8], MediaError>
     }
 }
 
-/// The frames of a packet that says their number, each of so many ticks.
+/// The frames of a packet that says their number, each of that many ticks.
 fn frames_counted(ticks: u16, bytes: &[u8]) -> Result<u8, MediaError>
     requires { ticks ≤ 2880 }
     ensures { result ≡ counted_at ticks bytes.now }
@@ -209,9 +209,9 @@ impl OpusPacket {
     /// lengths of frames and the size of the padding, and takes no memory.
     ///
     /// A fault is the first one from left to right: `MissingBytes` where there are no bytes, or the number of frames, the
-    /// length of one or the size of the padding is cut off (rules R1, R4, R6, R7); `ReservedValue` where there are no frames
-    /// or more than 120 ms (R5); `SizesDoNotFit` where a frame is longer than 1,275 bytes (R2), frames of one length do not
-    /// fill the packet (R3, R6), or what is told is longer than what is there (R4, R6, R7).
+    /// length of one or the size of the padding is cut off (rules R1, R4, R6, R7); `ReservedValue` where there are no frames or
+    /// more than 120 ms (R5); `SizesDoNotFit` where a frame is longer than 1,275 bytes (R2), frames of one length do not fill
+    /// the packet (R3, R6), or what is reported is longer than what is there (R4, R6, R7).
     pub fn parse(packet: &[u8]) -> Result<OpusPacket, MediaError>
         ensures exact { result ≡ opus_at packet.now }
         ensures some { IfOk result (λ p. 1 ≤ p.frames) }

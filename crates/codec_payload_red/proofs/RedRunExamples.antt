@@ -30,7 +30,7 @@ sent_is_recoverable = record {
   each_fits = (omega arith, (omega arith, (omega arith, (omega arith, tt))));
 }
 
--- and the first payload stands in a kept level of the fourth packet
+-- and the first payload is in a kept level of the fourth packet
 pub first_stands_in_fourth : IsKeptIn sender 1200 sent 0 3
 unfolding levels within
 first_stands_in_fourth = record {

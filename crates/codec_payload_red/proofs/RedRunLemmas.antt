@@ -1,4 +1,4 @@
--- A row of packets from one sender without history: what each payload carries is what was sent before it.
+-- A row of packets from one sender without history: what each payload carries is the earlier sent packets it.
 use Rattle.std.proofs.Common.{◌≡◌, ℕ, zero, suc, ◌+◌, ◌-◌, ◌*◌, ◌/◌, ◌%◌, ◌^◌, ◌<◌, ◌≤◌, ◌⊎◌, inl, inr, List, [], ◌∷◌, ◌++◌, length, take, map, reverse, Option, Some, None, true, false, ltb, leb, ◌&&◌, ◌==◌, refl, sym, ap, ◌∙◌, subst, arith, append_assoc}
 use Rattle.std.specs.Prelude.{slice_get, Contains}
 use Rattle.std.proofs.lemmas.Option.{slice_get_within}
@@ -64,7 +64,7 @@ slice_take (suc n) [] i x h = absurd (cc)
 slice_take (suc n) (y ∷ xs) zero x h = h
 slice_take (suc n) (y ∷ xs) (suc i) x h = slice_take n xs i x h
 
--- what the history has i back of the newest was wrapped so many before the last, or was there before
+-- what the history has i back of the newest was wrapped that many before the last, or was there before
 entry_back : (s : Sender) (es : List Entry) (i : ℕ) (e : Entry) → slice_get (sender_after s es).history i ≡ Some e
     → ((j : ℕ) × (j + i + 1 ≡ length es) × (slice_get es j ≡ Some e)) ⊎ ((m : ℕ) × (i ≡ m + length es) × (slice_get s.history m ≡ Some e))
 entry_back s [] i e h = inr (i, omega arith, h)
@@ -108,7 +108,7 @@ time_at step time (x ∷ xs) (suc i) e low apart h =
     sum : time + step + i * step ≡ time + suc i * step
     sum = omega arith
 
--- the offset of a packet so many ticks before
+-- the offset of a packet that many ticks before
 offset_is : (a b now then : ℕ) → b < 2 ^ 32 → now ≡ (a + b) % 2 ^ 32 → then ≡ a % 2 ^ 32 → offset_of now then ≡ b
 offset_is a b now then small e f = rw (e, f) (omega (arith, small))
 
@@ -153,7 +153,7 @@ in_reverse x (y ∷ ys) (inr h) = rw (reverse_onto ys y []) (in_left x (reverse 
 
 -- ---- levels
 
--- what is known of a level: the payload so many back, as a block that fits
+-- the facts about a level: the payload that many back, as a block that fits
 record IsLevel (pt now : ℕ) (o : Option Entry) (b : Redundant) : Type 0 where
   entry : Entry
   is : o ≡ Some entry
@@ -215,7 +215,7 @@ all_reverse : {X : Type 0} (P : X → Type 0) (xs : List X) → AllByRecursion P
 all_reverse P [] all = tt
 all_reverse P (x ∷ xs) all = rw (reverse_onto xs x []) (all_append P (reverse xs) (x ∷ []) (all_reverse P xs all.1) (all.0, tt))
 
--- what holds of each block holds of each kept one
+-- what holds for each block holds for each kept one
 within_each : (P : Redundant → Type 0) (room : ℕ) (bs : List Redundant) → AllByRecursion P bs → AllByRecursion P (within room bs)
 unfolding within
 within_each P room [] all = tt
@@ -226,7 +226,7 @@ within_each P room (b ∷ bs) all = elim (cases_lt room (cost b)) [
 
 -- ---- what a receiver makes of a block
 
--- a block so many whole steps back is a packet
+-- a block that many whole steps back is a packet
 recover_older : (r : Receiver) (seq_no time d : ℕ) (b : Redundant) → 0 < r.step → b.pt ≡ r.primary_pt → b.offset ≡ d * r.step → 0 < d → d ≤ 8 → d ≤ seq_no
     → recovered_from r seq_no time (older b) ≡ Some (record { seq_no = seq_no - d; time = (time + (2 ^ 32 - b.offset)) % 2 ^ 32; bytes = b.bytes; is_primary = false })
 recover_older r seq_no time d b some pt offset back few there =
@@ -385,7 +385,7 @@ module _ (s : Sender) (r : Receiver) (budget first time : ℕ) (sent : List Entr
         primary_is_at k e here,
       )
 
-  -- what stands in a kept level is recovered
+  -- the contents of a kept level is recovered
   recovered_kept : (j k : ℕ) (e : Entry) → slice_get sent k ≡ Some e → IsKeptIn s budget sent j k
       → (x : RecoveredPacket) × Contains (recovered r (first + k) e.time (wrapped (now k) e.bytes e.time budget)) x × IsPacketAt first sent x j
   unfolding older_of_level
@@ -411,7 +411,7 @@ module _ (s : Sender) (r : Receiver) (budget first time : ℕ) (sent : List Entr
           → (older_of_level k e b d here one_of h is_kept).distance ≡ d
       same_distance k e b d here one_of h is_kept = refl
 
--- what goes out is read again as what was wrapped
+-- the sent payload is read again as what was wrapped
 pub output_reads : (s : Sender) (payload : List ℕ) (time budget : ℕ) → is_accepted s.distances ≡ true → length payload < budget → red_at (output s payload time budget) ≡ Some (wrapped s payload time budget)
 output_reads s payload time budget ok room = reads_spelled (output s payload time budget) (wrapped s payload time budget) (output_is_red s payload time budget (output s payload time budget) ok refl room)
 

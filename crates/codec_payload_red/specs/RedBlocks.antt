@@ -40,7 +40,7 @@ abbrev pub part_of : BlockPart → Redundant → List ℕ
 part_of parts.Header b = header b
 part_of parts.Bytes b = b.bytes
 
--- The fault of the bytes comes where reading finds nothing, and want of memory only where it finds something.
+-- The fault of the bytes comes where reading finds nothing, and out of memory only where it finds something.
 abbrev pub Fails : PacketError → Option Red → Type 0
 Fails faults.OutOfMemory read = is_some read ≡ true
 Fails faults.ErrRedCorruptedPacket read = read ≡ None

@@ -33,7 +33,7 @@ deepest (d ∷ e ∷ ds) = deepest (e ∷ ds)
 
 -- ---- levels
 
--- the payload that was sent so many before
+-- the payload that was sent that many before
 abbrev pub back : List Entry → ℕ → Option Entry
 back history zero = None
 back history (suc d) = slice_get history d
@@ -78,7 +78,7 @@ kept s len time budget = within (room_of len budget) (levels_of s time)
 abbrev pub wrapped : Sender → List ℕ → ℕ → ℕ → Red
 wrapped s payload time budget = record { redundant = reverse (kept s (length payload) time budget); pt = s.primary_pt % 128; primary = payload }
 
--- what goes out: the payload as it is where not even its header fits
+-- the sent payload: the payload as it is where not even its header fits
 abbrev pub output : Sender → List ℕ → ℕ → ℕ → List ℕ
 output s payload time budget = if nat_lt (length payload) budget then spelling (wrapped s payload time budget) else payload
 

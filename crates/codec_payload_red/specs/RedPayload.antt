@@ -1,4 +1,4 @@
--- RED payloads (RFC 2198, section 3): a row of headers, and behind them the bytes of the blocks.
+-- RED payloads (RFC 2198, section 3): a row of headers, and after them the bytes of the blocks.
 use Rattle.std.specs.Prelude.{◌≡◌, ℕ, ◌+◌, ◌*◌, ◌/◌, ◌%◌, ◌<◌, ◌≤◌, List, [], ◌∷◌, ◌++◌, length, map, filter, take, Bool, ◌&&◌, nat_le}
 use Rattle.std.specs.List.{flat_map, AllByRecursion}
 
@@ -8,7 +8,7 @@ pub record Redundant : Type 0 where
   pub offset : ℕ
   pub bytes : List ℕ
 
--- what a payload stands for: older blocks, and the primary one
+-- what a payload represents: older blocks, and the primary one
 pub record Red : Type 0 where
   pub redundant : List Redundant
   pub pt : ℕ
@@ -31,7 +31,7 @@ pub record HasHeader (b : Redundant) : Type 0 where
   pub offset : b.offset ≤ 16383
   pub bytes : length b.bytes ≤ 1023
 
--- The bytes are a RED payload that stands for r.
+-- The bytes are a RED payload that represents r.
 pub record IsRed (bytes : List ℕ) (r : Red) : Type 0 where
   pub each : AllByRecursion HasHeader r.redundant
   pub few : length r.redundant ≤ 32

@@ -20,7 +20,8 @@ abbrev pub AreStepApart : ℕ → ℕ → List Entry → Type 0
 AreStepApart step time [] = Unit {0}
 AreStepApart step time (e ∷ es) = (e.time ≡ time) × AreStepApart step ((time + step) % 2 ^ 32) es
 
--- What recovery asks: a sender without history and a receiver of its type; packets as many ticks apart as the receiver's step, which an offset can tell; and room for each payload with its header.
+-- What recovery asks: a sender without history and a receiver of its type; packets as many ticks apart as the receiver's step,
+-- which an offset can report; and room for each payload with its header.
 pub record IsRecoverable (s : Sender) (r : Receiver) (budget : ℕ) (sent : List Entry) : Type 0 where
   pub fresh : s.history ≡ []
   pub accepted : is_accepted s.distances ≡ true
@@ -40,7 +41,7 @@ pub record IsPacketAt (first : ℕ) (sent : List Entry) (x : RecoveredPacket) (j
   pub time : x.time ≡ entry.time
   pub bytes : x.bytes ≡ entry.bytes
 
--- the payload of index j stands in a level that the budget leaves to the packet of index k
+-- the payload of index j is in a level that the budget leaves to the packet of index k
 pub record IsKeptIn (s : Sender) (budget : ℕ) (sent : List Entry) (j k : ℕ) : Type 0 where
   pub distance : ℕ
   pub of_sender : Contains s.distances distance
@@ -51,7 +52,7 @@ pub record IsKeptIn (s : Sender) (budget : ℕ) (sent : List Entry) (j k : ℕ) 
   pub is_level : level ((sender_at s sent k).primary_pt % 128) entry.time (sender_at s sent k).history distance ≡ Some block
   pub is_kept : Contains (kept (sender_at s sent k) (length entry.bytes) entry.time budget) block
 
--- the packet was sent: it is the packet of index k, as the primary, or an earlier one that stands in a kept level of that
+-- the packet was sent: it is the packet of index k, as the primary, or an earlier one that is in a kept level of that
 pub record IsCarried (s : Sender) (budget first : ℕ) (sent : List Entry) (k : ℕ) (x : RecoveredPacket) : Type 0 where
   pub index : ℕ
   pub is_at : IsPacketAt first sent x index
@@ -59,7 +60,8 @@ pub record IsCarried (s : Sender) (budget first : ℕ) (sent : List Entry) (k : 
   pub carried : (index ≡ k) ⊎ IsKeptIn s budget sent index k
   pub primary : x.is_primary ≡ (index == k)
 
--- What is recovered from the packet of index k: the packet itself, last, and exactly those earlier ones that stand in its kept levels.
+-- A recovered packet from the packet of index k: the packet itself, last, and exactly those earlier ones that are in its kept
+-- levels.
 pub record AreOfSent (s : Sender) (budget first : ℕ) (sent : List Entry) (k : ℕ) (packets : List RecoveredPacket) : Type 0 where
   pub were_sent : AllByRecursion (IsCarried s budget first sent k) packets
   pub itself : (others : List RecoveredPacket) × (x : RecoveredPacket) × (packets ≡ others ++ x ∷ []) × IsPacketAt first sent x k

@@ -31,7 +31,7 @@ level_byte voice (pos zero) = Some (bit_if voice 128)
 level_byte voice (pos (suc n)) = None
 level_byte voice (negsuc n) = if nat_lt n 127 then Some (bit_if voice 128 + (n + 1)) else None
 
--- where nothing is told of speech, there is none
+-- where nothing is reported of speech, there is none
 abbrev pub is_speech : Option Bool → Bool
 is_speech None = false
 is_speech (Some voice) = voice
@@ -103,7 +103,7 @@ are_ids (id ∷ others) = id_fits id && (is_apart_from id others && are_ids othe
 abbrev pub ids_fit : ExtensionIds → Bool
 ids_fit ids = are_ids (ids.abs_capture_time ∷ ids.video_orientation ∷ ids.video_content_type ∷ ids.video_timing ∷ ids.layers_allocation ∷ ids.audio_level ∷ [])
 
--- ---- what is read of what was written
+-- ---- the value read from what was written
 
 -- a value comes back where its extension has an id
 abbrev pub kept_by : {A : Type 0} → Option ℕ → Option A → Option A

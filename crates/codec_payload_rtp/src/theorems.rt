@@ -1,4 +1,4 @@
-//! What holds of values that are written and read. The function exists for what it proves, and does nothing.
+//! Theorems about values that are written and read. The function exists for what it proves, and does nothing.
 
 ghost use Rattle.codec_payload_rtp.specs.ExtensionWriting.{ValuesComeBack};
 

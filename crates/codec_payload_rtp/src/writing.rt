@@ -108,7 +108,7 @@ fn layers_of(values: &ExtensionValues) -> Option<&[u8]>
     }
 }
 
-/// The byte of the level of the audio and of speech, where the level is told and has one.
+/// The byte of the level of the audio and of speech, where the level is reported and has one.
 fn audio_byte_of(values: &ExtensionValues) -> Option<u8>
     ensures { result ≡ audio_byte values.now }
 {
@@ -119,7 +119,7 @@ fn audio_byte_of(values: &ExtensionValues) -> Option<u8>
     }
 }
 
-/// Puts the element of a row, if it has one, behind the first so many, and answers how many there are then.
+/// Puts the element of a row, if it has one, after the first that many, and answers how many there are then.
 fn put<'a>(elements: &mut [Element<'a>; KINDS], count: usize, row: Row<'a>) -> usize
     requires { count < 6 }
     ensures few { result ≤ count + 1 }
@@ -132,7 +132,7 @@ fn put<'a>(elements: &mut [Element<'a>; KINDS], count: usize, row: Row<'a>) -> u
     count + 1
 }
 
-/// The elements of these rows: the first so many.
+/// The elements of these rows: the first that many.
 fn gather<'a>(rows: &[Row<'a>; KINDS]) -> ([Element<'a>; KINDS], usize)
     ensures few { result.1 ≤ 6 }
     ensures elements { map element_of (take result.1 result.0) ≡ rows_elements (map row_of rows.now) }
@@ -235,7 +235,7 @@ impl ExtensionIds {
         ensures none { IfOk result (λ profile. profile ≡ None → out.new.items ≡ []) }
         // They are whole words, which an extension asks for.
         ensures words { OnOk result (IfSome (extension_for (elements_for self.now values.now)) (λ e. (length e.bytes % 4 ≡ 0) × (length e.bytes ≤ 300))) }
-        // What was written is read back.
+        // A written value is read back.
         ensures comes_back { OnOk result (elements_of (extension_for (elements_for self.now values.now)) ≡ elements_for self.now values.now) }
     {
         let capture = capture_array(values.abs_capture_time);

@@ -40,7 +40,7 @@ module _ (c : Setting) where
   abbrev Known : ℕ → Packet → RtpMeta → Type 0
   Known = c.known
 
-  -- an event tells what is known of the packet that it brings
+  -- an event reports the facts about the packet that it brings
   abbrev pub AllKnown : List Event → Type 0
   AllKnown events = (k : ℕ) (meta : RtpMeta) → IsIn (Arrives k meta) events → (q : Packet) → Tells c.clock_rate q meta → c.known k q meta
 

@@ -1,5 +1,5 @@
--- Where the first unit comes first and whole, nothing is evicted and no pop is made too early, the released units are a
--- beginning of those that were sent.
+-- If the first unit comes first and whole, nothing is evicted and no pop is made too early, the released units are a beginning
+-- of those that were sent.
 use Rattle.std.proofs.Common.{◌≡◌, ◌∙◌, refl, sym, ap, ℕ, zero, suc, subst, List, [], Option, Some, None, Ok, Err}
 use Rattle.std.proofs.Common.{true, false, cond, ◌++◌, ◌+◌, ◌∷◌, ◌<◌, ◌≤◌, ◌⊎◌, ◌||◌, arith, length, map, inl, inr, ltb}
 use Rattle.std.specs.Prelude.{slice_get}

@@ -1,4 +1,4 @@
--- A run over a packetizer and a depacketizer that are built in: what each step does is told exactly.
+-- A run over a packetizer and a depacketizer that are built in: what each step does is reported exactly.
 use Rattle.std.proofs.Common.{inl, inr, ◌≡◌, ◌≢◌, ◌<◌, ◌^◌, ◌⊎◌, ◌∙◌, ap, refl, subst, ℕ, ◌+◌, List, [], ◌∷◌, ◌++◌, Bool, true, Option, Some, None, Result, Ok, Err, length, cond}
 use Rattle.std.specs.Prelude.{MatchOption, MatchResult, slice_get, nat_lt, ⊤}
 use Rattle.codec_payload_base.specs.declared.error.PacketError.{PacketError}
@@ -196,7 +196,7 @@ pop_exactly samples place s t sends pops packetizer depacketizer step = (
   ap (λ (x : RunState). is_built_in_depacketizer x.buffer.depacketizer) step.6 ∙ (pops_stay s.buffer step.2 step.1 step.5 ∙ depacketizer),
 )
 
--- so the steps of such a run are told exactly
+-- so the steps of such a run are reported exactly
 pub runs_exactly : (samples : List Sample) (place : ℕ) (later : List Step) (s : RunState) (sends : List Sent) (pops : List Answer) (t : RunState)
     → is_built_in s.payloading.packetizer ≡ true → IsOfCodec s.buffer → any.Runs samples place later s sends pops t → Runs plainly samples place later s sends pops t
 runs_exactly samples place [] s sends pops t packetizer depacketizer run = run

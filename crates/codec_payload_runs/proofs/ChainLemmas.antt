@@ -1,4 +1,4 @@
--- Where all is pushed before the first pop of a chain, its pops answer each unit in turn, whole, and then None for ever.
+-- If all is pushed before the first pop of a chain, its pops answer each unit in turn, whole, and then None for ever.
 use Rattle.std.proofs.Common.{◌≡◌, ◌≢◌, ◌∙◌, refl, sym, ap, ℕ, subst, List, [], Some, None, Ok, Err, true, ◌++◌, ◌+◌, ◌∷◌, ◌<◌, ◌≤◌, ◌⊎◌, inl, inr, eqb, arith, drop}
 use Rattle.std.specs.Prelude.{slice_get}
 use Rattle.std.proofs.lemmas.Bool.{cases_lt}
@@ -116,7 +116,7 @@ module _ (c : Setting) where
         still = λ n h. rest.still n (one.still n h);
       }
 
-  -- the row is full at the first pop
+  -- the range is full at the first pop
   pub full_at_pop : (start s : State) → Filling start s → MayGo c.units start.depacketizer start.contiguity → ((k : ℕ) → k < count c → has_number (c.first + k) s.held ≡ true) → Exactly 0 c.units s
   full_at_pop start s filling may there = record {
     row = full_row c.known c.clock_rate c.first c.kind c.faithful c.splits c.units c.lawful c.numbered start s filling there;

@@ -1,5 +1,5 @@
--- A frame whose pieces are sent behind headers is one lawful unit: all of its packets, from the one that begins it to the
--- one with the marker.
+-- A frame whose pieces are sent after headers is one lawful unit: all of its packets, from the one that begins it to the one
+-- with the marker.
 use Rattle.std.proofs.Common.{◌≡◌, ◌∙◌, sym, ap, refl, subst, ℕ, ◌+◌, ◌-◌, ◌<◌, ◌%◌, ◌^◌, ◌||◌, List, [], ◌∷◌, ◌++◌, length, length-append, arith, Bool, true, false, Option, None, Ok, leb}
 use Rattle.std.proofs.lemmas.List.{append-nil}
 use Rattle.std.proofs.lemmas.Bool.Decides.{nat_tests}
@@ -43,7 +43,7 @@ skipped_by (b ∷ bs) small is = is
 abbrev pub cut : (Bool → Bool → List ℕ) → PacketizerState → Sample → ℕ → Bool → ℕ → ℕ → List (List ℕ) → List Packet
 cut header after sample rtp_time first number place pieces = packets_from after sample rtp_time number place (described header first pieces)
 
--- each tells what each piece behind its header tells
+-- each reports what each piece after its header reports
 pub all_silent : (kind : DepacketizerKind) (header : Bool → Bool → List ℕ) → ((first last : Bool) (piece : List ℕ) → IsSilent kind (header first last ++ piece))
     → (after : PacketizerState) (sample : Sample) (rtp_time : ℕ) (first : Bool) (number place : ℕ) (pieces : List (List ℕ))
     → AllSilent kind (payloads_sent (cut header after sample rtp_time first number place pieces))

@@ -130,7 +130,7 @@ plain_one place clock_rate (Some p) s all =
 pub plain_earlier : PushesEarlier plainly
 plain_earlier place k s all = plain_one place s.payloading.clock_rate (slice_get s.sink.packets k) s.buffer all
 
--- what is recovered from a packet
+-- a recovered packet from a packet
 recovered_earlier : (place clock_rate pt : ℕ) (carrier : Packet) (d : DepacketizerState) (xs : List RecoveredPacket)
     → AllEarlier (place + 1) (map (λ (x : RecoveredPacket). arrived d (meta_of_recovered place clock_rate pt carrier x) x.bytes) xs)
 recovered_earlier place clock_rate pt carrier d [] = tt

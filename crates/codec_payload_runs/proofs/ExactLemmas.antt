@@ -1,4 +1,4 @@
--- Where everything was pushed before the first pop, the pops answer each unit in turn, whole, and then None for ever.
+-- If everything was pushed before the first pop, the pops answer each unit in turn, whole, and then None for ever.
 use Rattle.std.proofs.Common.{◌≡◌, ◌≢◌, ◌∙◌, refl, sym, ap, ℕ, suc, ◌^◌, subst, List, [], Option, Some, None, Result, Ok, Err, Bool, true, false, ◌+◌, ◌∷◌, ◌<◌, ◌≤◌, inl, inr, arith, length, ◌||◌}
 use Rattle.std.specs.Prelude.{MatchResult}
 use Rattle.std.proofs.lemmas.Bool.{cases_lt}
@@ -38,7 +38,7 @@ use Rattle.codec_payload_buffer.specs.declared.buffer.unit.RtpMeta.{RtpMeta}
 use Rattle.codec_payload_buffer.specs.declared.contiguity.Contiguity.{Contiguity}
 use Rattle.codec_payload_runs.specs.Units.{payloads_by}
 
--- taken whole and in order from there, each unit may go out
+-- taken whole and in order from there, each unit may be released
 abbrev pub MayGo : List SentUnit → DepacketizerState → Contiguity → Type 0
 MayGo [] d c = Unit {0}
 MayGo (u ∷ us) d c =
@@ -62,7 +62,7 @@ begins_in : (mode : Vp9PacketizerMode) (id : ℕ) (read : Option ReadId) (c : Co
 begins_in NonFlexible id read c none kept = (none, kept)
 begins_in Flexible id read c none kept = tt
 
--- an unused buffer stands before the first unit
+-- an unused buffer is before the first unit
 pub begins : (packetizer : PacketizerState) (read : Option ReadId) (c : Contiguity) → read ≡ None → c ≡ contiguity_for (payloads_by packetizer) → Follows (next_id packetizer) 0 read c
 begins (Vp9Packetizing sender) read c none kept = begins_in sender.mode sender.picture_id read c none kept
 begins packetizer read c none kept = tt
@@ -101,7 +101,7 @@ module _ (known : ℕ → Packet → RtpMeta → Type 0) (clock_rate first : ℕ
   below_cutoff None n k e l = absurd (omega (arith, e, l))
   below_cutoff (Some c) n k e l = grind (arith, nat_tests, e, l)
 
-  -- each number of the row is held
+  -- each number of the range is held
   row_has : (k j : ℕ) (rest : List Packet) (ps : List Held) → AreNumbered (first + k) rest → Exact known clock_rate kind faithful k rest ps → k ≤ j
       → j < k + length rest → has_number (first + j) ps ≡ true
   row_has k j [] [] numbers row le l = absurd (omega (arith, le, l))
@@ -149,7 +149,7 @@ module _ (known : ℕ → Packet → RtpMeta → Type 0) (clock_rate first : ℕ
         | inr refusal ↦ absurd (not_due refusal.frame pop.1.0 (none_passed s pop.1.0 pop.0 never pop.1.1) refusal.is_due)
       ]
 
-  -- the next unit stands first in the row
+  -- the next unit stands first in the range
   pub record IsFront (k : ℕ) (u : SentUnit) (us : List SentUnit) (s : State) : Type 0 where
     pub frame : CompleteFrame
     pub is_due : due_of s ≡ Some frame

@@ -1,4 +1,4 @@
--- Where everything is pushed into an unused buffer with room for it, exactly the packets that were sent are held.
+-- If everything is pushed into an unused buffer with room for it, exactly the packets that were sent are held.
 use Rattle.std.proofs.Common.{◌≡◌, ◌∙◌, refl, ap, ℕ, subst, List, [], Option, Some, None, Bool, true, false, cond, ◌+◌, ◌-◌, ◌∷◌, ◌<◌, ◌≤◌, inl, inr, arith, length, drop, ltb, ◌||◌}
 use Rattle.std.specs.Prelude.{slice_get}
 use Rattle.std.proofs.lemmas.Bool.{cases_lt}
@@ -27,7 +27,7 @@ from_above : (n m : ℕ) (hs : List Held) → m ≡ n + 1 → AllAbove n hs → 
 from_above n m [] e a = tt
 from_above n m (p ∷ ps) e a = (omega (arith, a.0, e), from_above n m ps e a.1)
 
--- the number of a packet that goes in is held from then on
+-- the number of a packet that is stored is held from then on
 has_here : (p : Held) (hs : List Held) → has_number p.meta.seq_no.0 (placed p hs) ≡ true
 has_here p hs = has_placed p.meta.seq_no.0 p hs ∙ grind (arith, nat_tests)
 

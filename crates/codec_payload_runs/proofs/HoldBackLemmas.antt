@@ -1,4 +1,4 @@
--- What is promised of runs does not rest on how many complete frames wait.
+-- The guarantees on runs do not rest on how many complete frames wait.
 use Rattle.std.proofs.Common.{ℕ}
 use Rattle.codec_payload_buffer.specs.Steps.{State}
 use Rattle.codec_payload_runs.proofs.TurnLemmas.{Setting, Beyond, IsReady}

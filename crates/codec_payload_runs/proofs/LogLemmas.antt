@@ -103,7 +103,7 @@ pub record Logs (named : ℕ → ℕ → DepacketizerState → List Held) (place
   pub answers : map (λ (turn : Turn). turn.answer) turns ≡ pops
   pub left : end.now ≡ after
 
--- where the sink holds what was sent before the step, pushing what it names does what the step does
+-- where the sink holds the earlier sent packets the step, pushing what it names does what the step does
 abbrev pub DoesAsNamed : Pushing → (ℕ → ℕ → DepacketizerState → List Held) → List Packet → ℕ → List Sent → Type 0
 DoesAsNamed pushing named packets clock_rate all =
     (place k : ℕ) (s : RunState) → take (sent_before place all) packets ≡ s.sink.packets → s.payloading.clock_rate ≡ clock_rate
@@ -111,7 +111,7 @@ DoesAsNamed pushing named packets clock_rate all =
 
 module _ (pushing : Pushing) (named : ℕ → ℕ → DepacketizerState → List Held) (packets : List Packet) (clock_rate : ℕ) (all : List Sent) (samples : List Sample)
     (does : DoesAsNamed pushing named packets clock_rate all) where
-  -- what was sent before a place is what the sink holds there
+  -- the earlier sent packets a place is what the sink holds there
   sent_by : (place : ℕ) (later : List Step) (s t : RunState) (sends before : List Sent) (pops : List Answer) → Runs pushing samples place later s sends pops t
       → t.sink.packets ≡ packets → all ≡ before ++ sends
       → ((n : ℕ) → place ≤ n → sent_before n before ≡ length s.sink.packets) → take (sent_before place all) packets ≡ s.sink.packets

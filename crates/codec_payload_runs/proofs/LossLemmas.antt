@@ -114,7 +114,7 @@ module _ (c : Setting) where
   passed_more : (place : ℕ) (f : CompleteFrame) (over : List CompleteFrame) → IsAmong c.first c.units place over → IsAmong c.first c.units place (f ∷ over)
   passed_more place f over is = (is.0, (suc is.1.0, omega (arith, is.1.1), is.1.2), is.2, is.3)
 
-  -- frames are passed over
+  -- frames are skipped
   pass_keeps : (from : ℕ) (s t : State) (over : List CompleteFrame) (place : ℕ) (u : SentUnit) → Beyond c from s → Passes s over t → slice_get c.units place ≡ Some u → Whole place s
       → IsAmong c.first c.units place over ⊎ Whole place t
   pass_keeps from s t over place u beyond none at whole = inr whole
@@ -168,7 +168,7 @@ module _ (c : Setting) where
         | inr out ↦ inr (out.0, record { from = out.1; to = out.2 }, out.3)
       ]
 
-  -- what becomes of a unit that is held whole after a pop
+  -- the outcome of a unit that is held whole after a pop
   abbrev FateIn : ℕ → List Turn → List Turn → Stretch → Type 0
   FateIn place turns later end = Fate c.known c.first c.splits c.units place turns later end
 

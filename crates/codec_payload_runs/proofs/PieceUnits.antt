@@ -16,9 +16,9 @@ use Rattle.codec_payload_runs.specs.SentStream.{SentUnit, EndsWithTail, IsReleas
 use Rattle.codec_payload_buffer.specs.Steps.{Unpacked, Unpacks, nothing_unpacked}
 use Rattle.codec_payload_runs.specs.ReportedIds.{Tells, read_by}
 
--- `Keeps` says what holds of the bytes and the extra between the packets of a unit
+-- `Keeps` says what holds for the bytes and the extra between the packets of a unit
 module _ (kind : DepacketizerKind) (Keeps : List ℕ → CodecExtra → Type 0) where
-  -- a depacketizer of the kind, whatever it holds, appends the piece, and refuses nothing but for want of memory
+  -- a depacketizer of the kind, whatever it holds, appends the piece, and refuses only because memory ran out
   abbrev pub IsPiece : List ℕ → List ℕ → Type 0
   IsPiece payload piece =
       (d : DepacketizerState) (out : List ℕ) (extra : CodecExtra) (one : Result (Unit {0}) PacketError) (e : DepacketizerState) (out' : List ℕ) (extra' : CodecExtra)
@@ -64,7 +64,7 @@ module _ (kind : DepacketizerKind) (Keeps : List ℕ → CodecExtra → Type 0) 
   all_given [] (piece ∷ pieces) hs d u answer e carry is keeps same gives = absurd carry
   all_given (p ∷ ps) [] hs d u answer e carry is keeps same gives = absurd carry
 
-  -- what each packet tells: the picture of that id, or none of a base layer
+  -- what each packet reports: the picture of that id, or none of a base layer
   abbrev pub TellAll : Option ℕ → List Packet → Type 0
   TellAll None packets = AllSilent kind (payloads_sent packets)
   TellAll (Some id) packets = (id < 32768) × AllTold kind id (payloads_sent packets)

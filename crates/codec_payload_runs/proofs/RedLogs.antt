@@ -1,4 +1,4 @@
--- What is promised of whole runs with RED, from their logs.
+-- The guarantees on whole runs with RED, from their logs.
 use Rattle.std.specs.Prelude.{slice_get, option_map}
 use Rattle.std.specs.List.{AllByRecursion}
 use Rattle.std.proofs.Common.{◌≡◌, ◌∙◌, refl, sym, ap, subst, List, [], Option, None, Some, Bool, false, true, ℕ, zero, suc, ◌+◌, ◌==◌, ◌++◌, ◌∷◌, ◌<◌, inl, inr, arith, length, map, take}
@@ -71,7 +71,7 @@ no_ids : (packetizer : PacketizerState) → is_video packetizer ≡ false → ne
 no_ids (Vp9Packetizing sender) none = absurd (cc)
 no_ids packetizer none = refl
 
--- a packet that was recovered has what is known of the packet that was sent: of the primary block marker and values too
+-- a packet that was recovered has the facts about the packet that was sent: of the primary block marker and values too
 meta_is : (place clock_rate pt : ℕ) (carrier q : Packet) (x : RecoveredPacket) (b : Bool) → x.is_primary ≡ b → x.seq_no ≡ q.number → x.time ≡ q.rtp_time
     → (b ≡ true → (carrier.marker ≡ q.marker) × (carrier.ext_vals ≡ q.ext_vals))
     → meta_of_recovered place clock_rate pt carrier x ≡ meta_of_block place clock_rate pt b q
@@ -142,7 +142,7 @@ module _ (r : RedRan) (run : RunsAsRedSteps r) (is : IsRedFresh r) where
   number_is : (k : ℕ) (q : Packet) → slice_get sent k ≡ Some q → q.number ≡ s.sink.first + k
   number_is k q there = number_at (packets_of stream.units) s.sink.first k q all.numbered (subst (λ (ps : List Packet). slice_get ps k ≡ Some q) all.whole there)
 
-  -- ---- what is recovered
+  -- ---- a recovered packet
 
   image_of : (k : ℕ) (p : Packet) → slice_get r.after.images k ≡ Some p → IsImage red r.with.budget sent k p
   image_of k p there = image_at red r.with.budget sent k p (subst (λ (ps : List Packet). slice_get ps k ≡ Some p) runs.1.images there)
@@ -364,7 +364,7 @@ module _ (r : RedRan) (run : RunsAsRedSteps r) (is : IsRedFresh r) where
         (begins_from log_setting s.buffer log.turns log.end log_ready
         (nothing r.samples r.steps s t stream is.unused is.readable (IsRedPushOf r) faithful log.released.units log.lawful log.released.packets) log_chain first_whole none_evicted patient)
 
--- what is promised of a run with RED follows from its steps alone
+-- the guarantees on a run with RED follows from its steps alone
 pub red_promises : (r : RedRan) → RunsAsRedSteps r → KeepsRedPromises r
 red_promises r run = record {
   run_as_steps = run;

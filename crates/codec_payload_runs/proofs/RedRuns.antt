@@ -1,4 +1,4 @@
--- A run with RED over unused parts is one without it, but for what its steps push.
+-- A run with RED over unused parts is one without it, except what its steps push.
 use Rattle.std.proofs.Common.{◌≡◌, ◌∙◌, refl, sym, ap, subst, ℕ, zero, suc, ◌+◌, List, [], ◌∷◌, ◌++◌, length, take, map, Option, Some, None, true}
 use Rattle.std.specs.Prelude.{slice_get}
 use Rattle.std.proofs.lemmas.List.{map-append}
@@ -21,7 +21,7 @@ use Rattle.codec_payload_red.specs.RedLevels.{Entry, Sender, recorded}
 use Rattle.codec_payload_red.specs.RedRecovery.{Receiver, RecoveredPacket}
 use Rattle.codec_payload_red.specs.RedRun.{sender_after, sender_at}
 
--- ---- what the sink holds in truth
+-- ---- what the sink holds truly
 
 pub after_append : (s : Sender) (xs ys : List Entry) → sender_after s (xs ++ ys) ≡ sender_after (sender_after s xs) ys
 after_append s [] ys = refl

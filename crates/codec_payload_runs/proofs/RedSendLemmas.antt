@@ -263,7 +263,7 @@ stopped_in_red mtu sample p p' b before after sent long clock (inr beginning) =
       );
     }
 
--- the same, told of what the sink borrows
+-- the same, reported of what the sink borrows
 pub sent_as : (place mtu : ℕ) (sample : Sample) (p p' : Payloading) (b : State) (before after : RedSink SentPackets) (sink sink' : SentPackets)
     (sender sender' : Sender) (budget : ℕ) (sent : List Packet) (count : ℕ) (fault : Option PacketError) (entry : Sent)
     → stream_of before ≡ sink → sender_of before ≡ sender → budget_of before ≡ budget → stream_of after ≡ sink' → sender_of after ≡ sender'

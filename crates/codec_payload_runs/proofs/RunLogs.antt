@@ -1,4 +1,4 @@
--- What is promised of whole runs, from their logs.
+-- The guarantees on whole runs, from their logs.
 use Rattle.std.specs.Prelude.{slice_get}
 use Rattle.std.proofs.Common.{◌≡◌, ◌∙◌, refl, sym, ap, subst, List, [], Option, None, Some, true, false, ℕ, zero, suc, ◌+◌, ◌++◌, ◌∷◌, ◌<◌, inl, arith, length, map, take, drop}
 use Rattle.std.proofs.lemmas.Bool.Decides.{nat_tests}
@@ -50,7 +50,7 @@ use Rattle.codec_payload_runs.specs.declared.run.Step.TheVariants as steps
 pub slice_taken : (packets : List Packet) (n k : ℕ) (q : Packet) → slice_get (take n packets) k ≡ Some q → slice_get packets k ≡ Some q
 slice_taken packets n k q h = subst (λ (ps : List Packet). slice_get ps k ≡ Some q) (take-append-drop n packets) (slice_append (take n packets) (drop n packets) k q h)
 
--- and what was sent by then is among so many
+-- and what was sent by then is among that many
 pub taken_within : (packets : List Packet) (n k : ℕ) (q : Packet) → slice_get (take n packets) k ≡ Some q → k < n
 taken_within packets zero k q h = absurd (cc)
 taken_within [] (suc n) k q h = absurd (cc)
@@ -94,7 +94,7 @@ plain_chain c all_steps sends turns end s beyond log = chain_of (by_steps c all_
 
 module _ (samples : List Sample) (all_steps : List Step) (s t : RunState) (sends : List Sent) (pops : List Answer)
     (run : Runs plainly samples 0 all_steps s sends pops t) (unused : IsUnused s) (readable : AreReadable s.payloading.packetizer samples) where
-  -- what is known of pushes, and what a step pushes
+  -- the facts about pushes, and what a step pushes
   abbrev Known : ℕ → Packet → RtpMeta → Type 0
   Known = IsPushOf all_steps sends s.payloading.clock_rate
 
@@ -183,7 +183,7 @@ module _ (samples : List Sample) (all_steps : List Step) (s t : RunState) (sends
     left = found.left;
   }
 
-  -- of video, a whole release tells the values of its sample
+  -- of video, a whole release reports the values of its sample
   pub has_values : (released : ReleasesInOrder samples all_steps s sends pops t) → HaveValuesOfSamples released
   has_values released video place r whole =
       let sent = sends_all samples all_steps s t unused stream in
@@ -257,7 +257,7 @@ only_sets_count samples all_steps other_steps s t u sends other_sends pops other
     (log_chain samples all_steps s t sends pops exactly unused readable log) other_chain same
     ∙ ap (map (answer_with bare_meta)) other.answers
 
--- what is promised of a run follows from its steps alone
+-- the guarantees on a run follow from its steps alone
 pub promises : (r : Ran) → RunsAsSteps r → KeepsPromises r
 promises r run =
     let exactly : IsFresh r → Runs plainly r.samples 0 r.steps r.before r.sends r.pops r.after = λ is. unused_exactly r.samples r.steps r.before r.sends r.pops r.after is.0 run in

@@ -89,8 +89,8 @@ module _ (known : ℕ → Packet → RtpMeta → Type 0) (clock_rate first : ℕ
   AllSent [] = Unit {0}
   AllSent (p ∷ ps) = IsSent p × AllSent ps
 
-  -- what holds of the buffer between the steps: it holds pushes of sent packets alone, and the units before `from` are
-  -- done with
+  -- what holds for the buffer between the steps: it holds pushes of sent packets alone, and the units before `from` are done
+  -- with
   pub record IsBeyond (from : ℕ) (s : State) : Type 0 where
     pub rises : Rises s.held
     pub beyond : IsAboveCutoff s.cutoff s.held
@@ -113,7 +113,7 @@ module _ (known : ℕ → Packet → RtpMeta → Type 0) (clock_rate first : ℕ
   pub number_of_sent : (p : Held) (s : IsSent p) → p.meta.seq_no.0 ≡ first + s.0
   number_of_sent p s = faithful.number s.0 s.1 p.meta s.3 ∙ number_at (packets_of all) first s.0 s.1 numbered s.2
 
-  -- a run of sent packets is a row of them
+  -- a run of sent packets are a range of them
   row_of_run : (k last : ℕ) (time : Time) (ps : List Held) → IsRun (first + k) last time ps → AllSent ps → RowOf known clock_rate kind faithful k (drop k (packets_of all)) ps
   row_of_run k last time [] run sent = absurd run
   row_of_run k last time (p ∷ []) run sent =
@@ -127,7 +127,7 @@ module _ (known : ℕ → Packet → RtpMeta → Type 0) (clock_rate first : ℕ
       let rest = row_of_run (k + 1) last time (r ∷ rs) (rw next at run.3) sent.1 in
       rw (drop_at (packets_of all) k i.1 (rw same at i.2)) (rw same at i.3, i.4, rest)
 
-  -- what is known of the packets of the frame that is due
+  -- the facts about the packets of the frame that is due
   pub record IsFrameOf (from : ℕ) (s : State) (f : CompleteFrame) : Type 0 where
     pub packets : List Held
     pub after : List Held
@@ -235,7 +235,7 @@ module _ (known : ℕ → Packet → RtpMeta → Type 0) (clock_rate first : ℕ
       (λ e. sound)
       (λ e. beyond_kept from (record s { held = placed p s.held }) (beyond_placed from s p i (grind (arith, e)) (grind (arith, e)) sound))
 
-  -- the frame that is due has left: what is held lies beyond its unit
+  -- the frame that is due has left: the held packets lie beyond its unit
   pub beyond_without : (from : ℕ) (s : State) (f : CompleteFrame) (sound : IsBeyond from s) (due : due_of s ≡ Some f) (n : ℕ) → first + packets_before n all ≤ f.last + 1
       → (d : DepacketizerState) → kind_of_depacketizer d ≡ kind → (c : Contiguity) (mark : Bool) → IsBeyond n (without s f d c mark)
   beyond_without from s f sound due n floor d reads c mark =
@@ -291,7 +291,7 @@ module _ (known : ℕ → Packet → RtpMeta → Type 0) (clock_rate first : ℕ
       let is = released_at from s t r sound out in
       (frame.place, frame.not_before, is.0, is.2)
 
-  -- and no fault but for memory is answered
+  -- and no fault except memory is answered
   pub not_refused : (from : ℕ) (s t : State) (fault : PacketError) → IsBeyond from s → Refuses s fault t → ⊥
   not_refused from s t fault sound refusal =
       refusal.not_memory (given from s refusal.frame sound refusal.is_due (Err fault) refusal.depacketizer refusal.gives).1

@@ -30,7 +30,7 @@ next_number s = s.first + length s.packets
 abbrev pub kept_packets : SentPackets → List Packet
 kept_packets s = s.packets
 
--- a sink in memory refuses for want of memory alone, and stays as it was
+-- a sink in memory refuses only if memory runs out, and stays as it was
 abbrev pub Stays : SentPackets → Packet → PacketError → SentPackets → Type 0
 Stays before packet fault after = (fault ≡ faults.OutOfMemory) × (after ≡ before)
 

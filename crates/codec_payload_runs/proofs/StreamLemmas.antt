@@ -153,7 +153,7 @@ one_sends packetizer after mtu sample rtp_time number payloads whole no_id none_
   goes_on = goes_on;
 }
 
--- a packetizer of pieces refuses nothing but for want of memory
+-- a packetizer of pieces refuses only because memory ran out
 pieces_fault : (mtu : ℕ) (frame : List ℕ) (fault : PacketError) → AnswersPieces mtu frame (Err fault) → ◌≡◌ {A = Result (List (List ℕ)) PacketError} (Err fault) (Err faults.OutOfMemory)
 pieces_fault mtu frame fault answer = by_skip (pieces_are_skipped mtu frame) answer
   where

@@ -82,7 +82,7 @@ abbrev pub payloading_for : Stream → Option Payloading
 payloading_for stream = option_map (λ packetizer. record { packetizer = configured stream.spec.octet_align packetizer; clock_rate = stream.spec.clock_rate })
     (packetizer_state_for stream.mode stream.first_id stream.spec.codec)
 
--- what is kept under a premise is kept under one from which that follows
+-- the kept value under a premise is kept under one from which that follows
 kept_if : {P Q : Type 0} (r : Ran) → (Q → P) → KeepsPromisesIf P r → KeepsPromisesIf Q r
 kept_if r so kept = record {
   run_as_steps = kept.run_as_steps;

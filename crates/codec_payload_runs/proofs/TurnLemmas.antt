@@ -31,7 +31,7 @@ use Rattle.codec_payload_runs.specs.declared.run.Sent.{Sent}
 use Rattle.codec_payload_runs.specs.declared.run.Step.{Step}
 use Rattle.codec_payload_runs.specs.declared.run.Step.TheVariants as steps
 
--- what a run sends, and what is known of its pushes; `start` is the picture id of the first unit, where units carry them
+-- what a run sends, and the facts about its pushes; `start` is the picture id of the first unit, where units carry them
 pub record Setting : Type 1 where
   pub known : ℕ → Packet → RtpMeta → Type 0
   pub clock_rate : ℕ
@@ -179,7 +179,7 @@ module _ (c : Setting) where
           chain_of later (place + 1) (begun turn.after) turns end next.1 after.0 after.1 (record { sent = tt; now = refl }) log.3,
         )
 
-  -- what holds of the buffer between two steps
+  -- what holds for the buffer between two steps
   pub record IsReady (from : ℕ) (s : State) : Type 0 where
     pub beyond : Beyond from s
     pub few : length s.held ≤ s.limit

@@ -94,7 +94,7 @@ carried_at [] (x ∷ us) place u carry is = absurd carry
 carried_at (v ∷ vs) (x ∷ us) zero u carry is = let same : x ≡ u = cc in (v, refl, subst (CarriesValues v) same carry.0)
 carried_at (v ∷ vs) (x ∷ us) (suc place) u carry is = carried_at vs us place u carry.1 is
 
--- the values of the first and the last of all packets, put together, are those of the sample
+-- the values of the first and the last of all packets, reassembled, are those of the sample
 or_kept : {A : Type 0} (b : Bool) (o : Option A) → option_or o (kept_if b o) ≡ o
 or_kept b None = by_test b (λ c. kept_if c None ≡ None) (λ _. refl) (λ _. refl)
 or_kept b (Some x) = refl
@@ -131,7 +131,7 @@ module _ (all_steps : List Step) (sends : List Sent) (clock_rate : ℕ) (values 
       let e : i + 1 + length qs ≡ i + length (q ∷ qs) = omega arith in
       (rest.0, ap (slice_get (m ∷ l ∷ ms)) (sym at) ∙ rest.1, rest.2 ∙ ap (λ (j : ℕ). stripped values j n) e)
 
-  -- what is known of one push each of all these packets tells the values
+  -- the facts about one push each of all these packets reports the values
   pub told_by_all : (k : ℕ) (p : Packet) (ps : List Packet) (metas : List RtpMeta) → ArePushesBy (IsPushOf all_steps sends clock_rate) k (p ∷ ps) metas
       → AreStripped values 0 (length (p ∷ ps)) (p ∷ ps) → AreValues metas values
   told_by_all k p ps [] pushes carry = absurd pushes

@@ -13,8 +13,8 @@ use Rattle.codec_payload_runs.specs.Units.{payloads_by, may_split}
 use Rattle.codec_payload_runs.specs.declared.run.Sent.{Sent}
 use Rattle.codec_payload_runs.specs.declared.run.Step.{Step}
 
--- what comes to a buffer: a push of the packet of that index, of which this is known; or a pop, at which so many complete frames
--- wait for what is missing before them, or which is not made
+-- what comes to a buffer: a push of the packet of that index, of which this is known; or a pop, at which that many complete
+-- frames wait for the missing packets before them, or which is not made
 pub data Event : Type 0 where
   Arrives : ℕ → RtpMeta → Event
   Asked : Option ℕ → Event
@@ -24,7 +24,7 @@ abbrev pub PopsWaiting : Option ℕ → State → Answer → State → Type 0
 PopsWaiting None s answer t = (answer ≡ None) × (t ≡ s)
 PopsWaiting (Some hold_back) s answer t = (answer ≢ Some (Err faults.OutOfMemory)) × Pops (record s { hold_back = hold_back }) answer t
 
--- what is known of a push of a packet tells its number, its time and its marker
+-- the facts about a push of a packet reports its number, its time and its marker
 pub record Tells (clock_rate : ℕ) (q : Packet) (meta : RtpMeta) : Type 0 where
   pub number : meta.seq_no.0 ≡ q.number
   pub time : meta.time ≡ record { numer = q.rtp_time; rate = clock_rate }
@@ -80,7 +80,7 @@ pub record ReleasesArrivals (samples : List Sample) (all_steps : List Step) (s t
   pub in_order : InOrder (IsMet s.payloading.clock_rate events) (may_split s.payloading.packetizer) units 0 answers
   pub exactly : AllArriveFirst s.buffer.limit t.sink.packets events → AnswersAll (IsMet s.payloading.clock_rate events) 0 units answers
 
--- this holds of what any run of unused parts sends, whatever of it comes to the buffer
+-- this holds for what any run of unused parts sends, whatever of it comes to the buffer
 abbrev pub ReleaseInOrder : Type 0
 ReleaseInOrder =
     (samples : List Sample) (all_steps : List Step) (s t : RunState) (sends : List Sent) (pops : List Answer) → Runs samples 0 all_steps s sends pops t → IsUnused s

@@ -1,4 +1,4 @@
--- Where everything was pushed before the first pop, a buffer releases exactly the units of a run.
+-- If everything was pushed before the first pop, a buffer releases exactly the units of a run.
 use Rattle.std.specs.Prelude.{◌≡◌, ◌≢◌, ℕ, ◌+◌, ◌<◌, ◌≤◌, List, [], ◌∷◌, Some, None, Ok, Contains, length, slice_get}
 use Rattle.codec_payload_base.specs.Pieces.{joined}
 use Rattle.codec_payload_runs.specs.Headline.{IsPushOf, ArePushesBy, ReleasesInOrder}
@@ -12,8 +12,8 @@ use Rattle.codec_payload_runs.specs.declared.run.Sent.{Sent}
 use Rattle.codec_payload_runs.specs.declared.run.Step.{Step}
 use Rattle.codec_payload_runs.specs.declared.run.Step.TheVariants as steps
 
--- a step before the first pop pushes the packet of index k, and the sink holds that packet by then: an earlier step
--- sent it, whose entry tells so
+-- a step before the first pop pushes the packet of index k, and the sink holds that packet by then: an earlier step sent it,
+-- whose entry reports so
 pub record IsPushedFirst (all_steps : List Step) (sends : List Sent) (k : ℕ) : Type 0 where
   pub place : ℕ
   pub pushes : slice_get all_steps place ≡ Some (steps.Push k)
@@ -28,8 +28,8 @@ pub record IsAllPushed (all_steps : List Step) (sends : List Sent) (s t : RunSta
   pub few : length t.sink.packets ≤ s.buffer.limit
   pub pushed : (k : ℕ) → k < length t.sink.packets → IsPushedFirst all_steps sends k
 
--- the release is this unit with nothing missing: the bytes of all its parts, and what is known of one push each of
--- exactly its packets, whose indices go from k on
+-- the release is this unit with nothing missing: the bytes of all its parts, and the facts about one push each of exactly its
+-- packets, whose indices go from k on
 pub record IsWhole (known : ℕ → Packet → RtpMeta → Type 0) (k : ℕ) (u : SentUnit) (r : Release) : Type 0 where
   pub bytes : r.bytes ≡ joined u.parts
   pub metas : ArePushesBy known k u.packets r.metas

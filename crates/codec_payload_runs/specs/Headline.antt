@@ -16,12 +16,12 @@ use Rattle.codec_payload_runs.specs.declared.run.Sent.{Sent}
 use Rattle.codec_payload_runs.specs.declared.run.Step.{Step}
 use Rattle.codec_payload_runs.specs.declared.run.Step.TheVariants as steps
 
--- what is known of one push of that packet, whose index is k: a step pushed it, by which it was sent
+-- the facts about one push of that packet, whose index is k: a step pushed it, by which it was sent
 abbrev pub IsPushOf : List Step → List Sent → ℕ → ℕ → Packet → RtpMeta → Type 0
 IsPushOf all_steps sends clock_rate k p meta =
     (place : ℕ) × (slice_get all_steps place ≡ Some (steps.Push k)) × (k < sent_before place sends) × (meta ≡ meta_of_push place clock_rate p)
 
--- steps before that place pushed all of these: `received` tells the step
+-- steps before that place pushed all of these: `received` reports the step
 abbrev pub ArePushedBefore : ℕ → List RtpMeta → Type 0
 ArePushedBefore place [] = Unit {0}
 ArePushedBefore place (m ∷ ms) = (m.received.0 < place) × ArePushedBefore place ms
@@ -40,8 +40,8 @@ AreOfEarlier place (steps.Push k ∷ later) answers = AreOfEarlier (place + 1) l
 AreOfEarlier place (steps.Pop ∷ later) [] = ⊥
 AreOfEarlier place (steps.Pop ∷ later) (answer ∷ answers) = IsOfEarlier place answer × AreOfEarlier (place + 1) later answers
 
--- what is known of one push each of exactly these packets, in order, from index k on; `known` says what may be known of a
--- push of the packet of an index
+-- the facts about one push each of exactly these packets, in order, from index k on; `known` says what may be known of a push
+-- of the packet of an index
 abbrev pub ArePushesBy : (ℕ → Packet → RtpMeta → Type 0) → ℕ → List Packet → List RtpMeta → Type 0
 ArePushesBy known k [] [] = Unit {0}
 ArePushesBy known k (p ∷ ps) (m ∷ ms) = known k p m × ArePushesBy known (k + 1) ps ms
@@ -52,8 +52,8 @@ ArePushesBy known k (p ∷ ps) [] = ⊥
 abbrev pub packets_before : ℕ → List SentUnit → ℕ
 packets_before n units = length (packets_of (take n units))
 
--- the release is that of the unit at a place: whole, or, where units may be split and packets are missing, its last
--- parts; and what is known of its packets is what is known of one push each of exactly those packets
+-- the release is that of the unit at a place: whole, or, where units may be split and packets are missing, its last parts; and
+-- the facts about its packets are the facts about one push each of exactly those packets
 pub record IsUnitAt (known : ℕ → Packet → RtpMeta → Type 0) (splits : Bool) (units : List SentUnit) (place : ℕ) (r : Release) : Type 0 where
   pub sent : SentUnit
   pub at_place : slice_get units place ≡ Some sent

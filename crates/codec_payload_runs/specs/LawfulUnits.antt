@@ -20,9 +20,9 @@ payloads_held ps = map (λ (p : Held). p.bytes) ps
 abbrev pub payloads_sent : List Packet → List (List ℕ)
 payloads_sent ps = map (λ (p : Packet). p.payload) ps
 
--- what a codec owes for each unit that it sends: it ends with its only tail and begins with a head; and from its first
--- packet, or from a later one that is a head, to its last, a depacketizer of the kind, whatever it holds, gives the unit
--- or its last parts, and refuses nothing but for want of memory; and it tells the picture id that the packets carry
+-- what a codec owes for each unit that it sends: it ends with its only tail and begins with a head; and from its first packet,
+-- or from a later one that is a head, to its last, a depacketizer of the kind, whatever it holds, gives the unit or its last
+-- parts, and refuses only because memory ran out; and it reports the picture id that the packets carry
 pub record IsLawful (kind : DepacketizerKind) (splits : Bool) (u : SentUnit) : Type 0 where
   pub ends : EndsWithTail kind u.packets
   pub starts : StartsWithHead kind u.packets

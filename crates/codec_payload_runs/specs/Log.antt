@@ -1,4 +1,4 @@
--- A run told pop by pop: what was pushed before each, what it answered, and what the buffer was.
+-- A run described pop by pop: what was pushed before each, what it answered, and what the buffer was.
 use Rattle.std.specs.Prelude.{◌≡◌, ◌≢◌, ℕ, ◌+◌, List, [], ◌∷◌, ◌++◌, Option, Some, None, Err, map, take, slice_get}
 use Rattle.codec_payload_base.specs.declared.error.PacketError.TheVariants as faults
 use Rattle.codec_payload_codec.specs.Depacketizers.{DepacketizerState}
@@ -24,8 +24,7 @@ pub record Stretch : Type 0 where
   pub pushes : List Held
   pub now : State
 
--- a pop: the stretch that ends with it, the frames that it passed over, latest first, its answer, and the buffer
--- afterwards
+-- a pop: the stretch that ends with it, the frames that it skipped, latest first, its answer, and the buffer afterwards
 pub record Turn : Type 0 where
   pub stretch : Stretch
   pub passed : List CompleteFrame
@@ -49,8 +48,8 @@ abbrev pub held_of : ℕ → ℕ → Option Packet → DepacketizerState → Lis
 held_of place clock_rate None depacketizer = []
 held_of place clock_rate (Some p) depacketizer = arrived depacketizer (meta_of_push place clock_rate p) p.payload ∷ []
 
--- the steps from place `place` on, with the stretch so far: each pop has its turn, and what comes after the last of them
--- is the stretch at the end; `named` says what a step pushes, by its place, the index that it names, and the depacketizer
+-- the steps from place `place` on, with the stretch so far: each pop is due, and what comes after the last of them is the
+-- stretch at the end; `named` says what a step pushes, by its place, the index that it names, and the depacketizer
 abbrev pub IsLogBy : (ℕ → ℕ → DepacketizerState → List Held) → ℕ → List Step → Stretch → List Turn → Stretch → Type 0
 IsLogBy named place [] w [] end = end ≡ w
 IsLogBy named place [] w (turn ∷ turns) end = ⊥
@@ -65,7 +64,8 @@ IsLogBy named place (steps.Pop ∷ later) w (turn ∷ turns) end =
 abbrev pub IsLog : List Packet → ℕ → List Sent → ℕ → List Step → Stretch → List Turn → Stretch → Type 0
 IsLog packets clock_rate sends = IsLogBy (λ place k. held_of place clock_rate (packet_named packets sends place k))
 
--- a run told pop by pop, with the units that it sends, for each of which the codec keeps what it owes; `end` is what comes after the last pop
+-- a run described pop by pop, with the units that it sends, for each of which the codec keeps what it owes; `end` is what comes
+-- after the last pop
 pub record RunLog (samples : List Sample) (all_steps : List Step) (s : RunState) (sends : List Sent) (pops : List Answer) (t : RunState) : Type 0 where
   pub released : ReleasesInOrder samples all_steps s sends pops t
   pub lawful : AllLawful (payloads_by s.payloading.packetizer) (may_split s.payloading.packetizer) released.units

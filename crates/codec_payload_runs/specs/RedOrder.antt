@@ -10,7 +10,7 @@ use Rattle.codec_payload_send.specs.Sending.{Sample}
 use Rattle.codec_payload_runs.specs.declared.run.Sent.{Sent}
 use Rattle.codec_payload_runs.specs.declared.run.Step.{Step}
 
--- all but when a packet was received, and what is not known of one that was recovered: its marker and its values
+-- all except when a packet was received, and what is not known of one that was recovered: its marker and its values
 abbrev pub bare_block : RtpMeta → RtpMeta
 bare_block m = record m { received = record { 0 = 0 }; header = record m.header { marker = false; ext_vals = no_values } }
 
@@ -19,7 +19,7 @@ abbrev pub ran_from : Protection → List Sample → RedState → List Step → 
 ran_from with samples before steps sends pops after = record { with = with; samples = samples; steps = steps; before = before; sends = sends; pops = pops; after = after }
 
 -- two runs that sent the same packets, and push the same ones before each pop, be it as themselves or recovered from others,
--- are answered the same, all but when each packet was received, and its marker and its values
+-- are answered the same, all except when each packet was received, and its marker and its values
 abbrev pub OnlySetsCountInRed : Type 0
 OnlySetsCountInRed = (with : Protection) (samples : List Sample) (before : RedState) (all_steps other_steps : List Step) (sends other_sends : List Sent)
     (pops other_pops : List Answer) (after other_after : RedState)

@@ -1,4 +1,4 @@
--- What is promised of a whole run with RED.
+-- The guarantees on a whole run with RED.
 use Rattle.std.specs.Prelude.{◌≡◌, ◌⊎◌, ℕ, ◌<◌, ◌≤◌, ◌==◌, false, Option, List, [], Some, None, length, map, slice_get}
 use Rattle.std.specs.Borrow.{MutBor}
 use Rattle.std.specs.List.{AllByRecursion}
@@ -31,8 +31,8 @@ use Rattle.codec_payload_red.specs.RedLevels.{Sender}
 use Rattle.codec_payload_red.specs.RedRecovery.{Receiver, RecoveredPacket}
 use Rattle.codec_payload_red.specs.RedRun.{IsRecoverable, IsKeptIn}
 
--- a run with RED: budget and receiver, the samples, the steps, and how things stood before; the entries of the sends, the
--- answers of the pops, and how things stand afterwards
+-- a run with RED: budget and receiver, the samples, the steps, and how things was before; the entries of the sends, the answers
+-- of the pops, and how things stand afterwards
 pub record RedRan : Type 0 where
   pub with : Protection
   pub samples : List Sample
@@ -45,12 +45,12 @@ pub record RedRan : Type 0 where
 abbrev pub ran_in_red : Protection → List ToPayload → List Step → RedState → Run → RedState → RedRan
 ran_in_red with samples steps before run after = record { with = with; samples = map sample_of samples; steps = steps; before = before; sends = run.sends.items; pops = run.pops.items; after = after }
 
--- what a run is told of RED, besides the sender
+-- what a run is reported of RED, besides the sender
 abbrev pub protection_of : RedRun → Protection
 protection_of red = record { budget = red.budget; receiver = red.receiver.now }
 
--- How a run leaves the sender that it was lent. What a value that holds a reference leaves behind it is told by the layout of
--- the value: of an `Option` the second case is `Some`, and the sender is the first field of a `RedRun`.
+-- How a run leaves the sender that it was lent. What a value that holds a reference leaves after it is determined by the layout
+-- of the value: of an `Option` the second case is `Some`, and the sender is the first field of a `RedRun`.
 abbrev pub LeavesSender : {Rest : Type 0} → Unit {0} ⊎ (((MutBor Sender × Rest) × Unit {0}) ⊎ ⊥) → Sender → Type 0
 LeavesSender (inl none) sender = ⊥
 LeavesSender (inr (inl red)) sender = sender ≡ red.0.0.now
@@ -69,11 +69,11 @@ pub record IsRedFresh (r : RedRan) : Type 0 where
   pub no_video : is_video r.before.plain.payloading.packetizer ≡ false
   pub recoverable : IsRecoverable r.before.sender r.with.receiver r.with.budget (all_remembered (sent_in r))
 
--- the packet of index k is that of index `carrier` or stands in a kept level of it
+-- the packet of index k is that of index `carrier` or is in a kept level of it
 abbrev pub IsIn : RedRan → ℕ → ℕ → Type 0
 IsIn r k carrier = (k ≡ carrier) ⊎ IsKeptIn r.before.sender r.with.budget (all_remembered (sent_in r)) k carrier
 
--- what is known of one push of the packet of index k: a step pushed what a packet holds that it is in, by which that was sent
+-- the facts about one push of the packet of index k: a step pushed what a packet holds that it is in, by which that was sent
 pub record IsRedPushOf (r : RedRan) (k : ℕ) (p : Packet) (meta : RtpMeta) : Type 0 where
   pub place : ℕ
   pub carrier : ℕ
@@ -123,7 +123,7 @@ recovered_held place clock_rate receiver (Some p) depacketizer = map
 abbrev pub pushes_of : RedRan → ℕ → ℕ → DepacketizerState → List Held
 pushes_of r place k = recovered_held place r.before.plain.payloading.clock_rate r.with.receiver (packet_named r.after.images r.sends place k)
 
--- the run told pop by pop, with the units that it sends
+-- the run described pop by pop, with the units that it sends
 pub record RedLog (r : RedRan) : Type 0 where
   pub released : ReleasesRecovered r
   pub lawful : AllLawful (payloads_by r.before.plain.payloading.packetizer) (may_split r.before.plain.payloading.packetizer) released.units
@@ -133,7 +133,7 @@ pub record RedLog (r : RedRan) : Type 0 where
   pub answers : map (λ (turn : Turn). turn.answer) turns ≡ r.pops
   pub left : end.now ≡ r.after.plain.buffer
 
--- this holds of each log of a run that keeps the premises
+-- this holds for each log of a run that keeps the premises
 abbrev pub OfEachRedLog : (r : RedRan) → (RedLog r → Type 0) → Type 0
 OfEachRedLog r P = IsRedFresh r → (log : RedLog r) → P log
 
@@ -150,11 +150,11 @@ CountsRedSteps r = IsCounted r.samples r.steps r.before.plain r.sends r.pops r.a
 abbrev pub RecoversWhatWasSent : RedRan → Type 0
 RecoversWhatWasSent r = IsRedFresh r → (k : ℕ) (p : Packet) → slice_get r.after.images k ≡ Some p → AllByRecursion (WasSent r k) (recovered_in r.with.receiver p)
 
--- The safety half, with what is recovered as further pushes.
+-- The safety half, with a recovered packet as further pushes.
 abbrev pub IsSafeInRed : RedRan → Type 0
 IsSafeInRed r = IsRedFresh r → ReleasesRecovered r
 
--- The exact half: a packet counts as pushed where it stands in a kept level of one that was.
+-- The exact half: a packet counts as pushed where it is in a kept level of one that was.
 abbrev pub IsExactInRed : RedRan → Type 0
 IsExactInRed r = IsRedFresh r → RecoversUnits r
 

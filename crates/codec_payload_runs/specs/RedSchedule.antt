@@ -1,4 +1,4 @@
--- What the steps of a run with RED do: samples go out in RED, and a push pushes what a receiver recovers from a packet.
+-- What the steps of a run with RED do: samples are released in RED, and a push pushes what a receiver recovers from a packet.
 use Rattle.std.specs.Prelude.{◌≡◌, ◌⊎◌, ℕ, ◌+◌, ◌%◌, ◌^◌, ◌&&◌, if◌then◌else◌, Bool, true, false, List, [], ◌∷◌, ◌++◌, Option, Some, None, Ok, Err, map, slice_get, refl}
 use Rattle.codec_payload_base.specs.Extensions.{no_values}
 use Rattle.codec_payload_base.specs.declared.error.PacketError.TheVariants as faults
@@ -38,8 +38,8 @@ pub record Protection : Type 0 where
   pub budget : ℕ
   pub receiver : Receiver
 
--- A run with RED: its payloader, its buffer, and a sink of the packets as they were before they were put in RED; what the
--- sink holds in truth; and the sender.
+-- A run with RED: its payloader, its buffer, and a sink of the packets as they were before they were put in RED; what the sink
+-- holds truly; and the sender.
 pub record RedState : Type 0 where
   pub plain : RunState
   pub images : List Packet
@@ -49,16 +49,16 @@ pub record RedState : Type 0 where
 abbrev pub red_state : Payloading → State → SentPackets → List Packet → Sender → RedState
 red_state payloading buffer sink sent sender = record { plain = run_state payloading buffer (record sink { packets = sent }); images = sink.packets; sender = sender }
 
--- what the sink gained without RED went out in RED
+-- what the sink gained without RED was released in RED
 pub record SendsInRed (budget : ℕ) (s t : RedState) : Type 0 where
   pub packets : List Packet
   pub gained : t.plain.sink.packets ≡ s.plain.sink.packets ++ packets
   pub images : t.images ≡ s.images ++ all_in_red s.sender budget packets
   pub sender : t.sender ≡ sender_after s.sender (all_remembered packets)
 
--- ---- pushing what is recovered
+-- ---- pushing a recovered packet
 
--- what is known of a block that step `place` pushes as this packet: marker and values of the primary block alone
+-- the facts about a block that step `place` pushes as this packet: marker and values of the primary block alone
 abbrev pub meta_of_block : ℕ → ℕ → ℕ → Bool → Packet → RtpMeta
 meta_of_block place clock_rate pt is_primary p = record {
   received = record { 0 = place };
@@ -75,11 +75,11 @@ meta_of_block place clock_rate pt is_primary p = record {
   last_sender_info = None;
 }
 
--- what is known of a packet that was recovered from this one: its own number and RTP time
+-- the facts about a packet that was recovered from this one: its own number and RTP time
 abbrev pub meta_of_recovered : ℕ → ℕ → ℕ → Packet → RecoveredPacket → RtpMeta
 meta_of_recovered place clock_rate pt carrier x = meta_of_block place clock_rate pt x.is_primary (record carrier { number = x.seq_no; rtp_time = x.time })
 
--- what a receiver recovers from a packet: nothing from what is no RED payload
+-- what a receiver recovers from a packet: nothing from what is not a RED payload
 abbrev pub recovered_of : Receiver → Packet → Option Red → List RecoveredPacket
 recovered_of receiver p None = []
 recovered_of receiver p (Some red) = recovered receiver p.number p.rtp_time red
@@ -98,7 +98,7 @@ abbrev pub StopsAmong : ℕ → ℕ → ℕ → Packet → List RecoveredPacket 
 StopsAmong place clock_rate pt carrier xs s t =
     (begun : List RecoveredPacket) × (refused : RecoveredPacket) × (left : List RecoveredPacket) × (xs ≡ begun ++ refused ∷ left) × PushesAll place clock_rate pt carrier begun s t
 
--- what is recovered from that packet, if there is one
+-- a recovered packet from that packet, if there is one
 abbrev pub RedPushes : ℕ → ℕ → Receiver → Option Packet → State → State → Type 0
 RedPushes place clock_rate receiver None s t = t ≡ s
 RedPushes place clock_rate receiver (Some p) s t = PushesAll place clock_rate receiver.primary_pt p (recovered_in receiver p) s t

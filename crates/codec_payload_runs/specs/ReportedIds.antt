@@ -34,13 +34,13 @@ abbrev pub is_absent : Option ℕ → Bool
 is_absent None = true
 is_absent (Some n) = false
 
--- the id of the base layer was not told
+-- the id of the base layer was not reported
 abbrev pub lacks_base : CodecExtra → Bool
 lacks_base (extras.Vp8 extra) = is_absent extra.tl0_picture_id
 lacks_base (extras.Vp9 extra) = is_absent extra.tl0_picture_id
 lacks_base extra = true
 
--- a VP9 frame of the base layer, whose packets carry that picture id, was put together: both ids were told. What was read
+-- a VP9 frame of the base layer, whose packets carry that picture id, was reassembled: both ids were reported. What was read
 -- before, the extra, and what is read last then
 pub record TellsPicture (id : ℕ) (before : Option ReadId) (extra : CodecExtra) (after : Option ReadId) : Type 0 where
   pub told : Vp9CodecExtra
@@ -53,7 +53,7 @@ pub record TellsPicture (id : ℕ) (before : Option ReadId) (extra : CodecExtra)
   pub next : IsNextId before id picture
   pub read : after ≡ Some (record { raw = id; extended = picture })
 
--- the same of any unit: one whose packets do not carry both ids tells none of the base layer
+-- the same of any unit: one whose packets do not carry both ids reports none of the base layer
 abbrev pub Tells : Option ℕ → Option ReadId → CodecExtra → Option ReadId → Type 0
 Tells None before extra after = lacks_base extra ≡ true
 Tells (Some id) before extra after = TellsPicture id before extra after

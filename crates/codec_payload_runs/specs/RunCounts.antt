@@ -29,13 +29,13 @@ abbrev pub packets_counted : List Sent → ℕ
 packets_counted [] = 0
 packets_counted (entry ∷ sends) = entry.count + packets_counted sends
 
--- how many packets were sent before step `place`, as the entries tell
+-- how many packets were sent before step `place`, as the entries report
 abbrev pub sent_before : ℕ → List Sent → ℕ
 sent_before place [] = 0
 sent_before place (entry ∷ sends) = (if nat_lt entry.step place then entry.count else 0) + sent_before place sends
 
--- one entry for each `Send` that names a sample and one answer for each `Pop`; and the sink gained the packets that the
--- entries count, behind those that it had
+-- one entry for each `Send` that names a sample and one answer for each `Pop`; and the sink gained the packets that the entries
+-- count, after those that it had
 pub record IsCounted (samples : List Sample) (all_steps : List Step) (s : RunState) (sends : List Sent) (pops : List Answer) (t : RunState) : Type 0 where
   pub entries : length sends ≡ sends_in samples all_steps
   pub answers : length pops ≡ pops_in all_steps

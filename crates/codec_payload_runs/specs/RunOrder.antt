@@ -90,11 +90,11 @@ abbrev pub IsContiguousAsSaid : {samples : List Sample} {all_steps : List Step} 
     → RunLog samples all_steps s sends pops t → Type 0
 IsContiguousAsSaid {s = s} {t = t} log = next_id s.payloading.packetizer ≡ None → AllFollowAsSaid s.sink.first (length t.sink.packets) None false log.turns
 
--- all but when a packet was received
+-- all except when a packet was received
 abbrev pub bare_meta : RtpMeta → RtpMeta
 bare_meta m = record m { received = record { 0 = 0 } }
 
--- a unit, and an answer, of whose packets less is told
+-- a unit, and an answer, of whose packets less is reported
 abbrev pub release_with : (RtpMeta → RtpMeta) → Release → Release
 release_with less r = record r { metas = map less r.metas }
 
@@ -110,8 +110,8 @@ PushTheSame [] (other ∷ others) = ⊥
 PushTheSame (turn ∷ turns) [] = ⊥
 PushTheSame (turn ∷ turns) (other ∷ others) = ((n : ℕ) → has_number n turn.stretch.pushes ≡ has_number n other.stretch.pushes) × PushTheSame turns others
 
--- two runs over the same packets that push the same ones before each pop are answered the same, all but when each packet
--- was received
+-- two runs over the same packets that push the same ones before each pop are answered the same, all except when each packet was
+-- received
 abbrev pub OnlySetsCount : Type 0
 OnlySetsCount = (samples : List Sample) (all_steps other_steps : List Step) (s t u : RunState) (sends other_sends : List Sent) (pops other_pops : List Answer)
     → Runs samples 0 all_steps s sends pops t → Runs samples 0 other_steps s other_sends other_pops u → t.sink.packets ≡ u.sink.packets

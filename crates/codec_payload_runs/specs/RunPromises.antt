@@ -1,4 +1,4 @@
--- What is promised of a whole run.
+-- The guarantees on a whole run.
 use Rattle.std.specs.Prelude.{List, map}
 use Rattle.codec_payload_base.specs.declared.wire.ToPayload.{ToPayload}
 use Rattle.codec_payload_runs.specs.Exact.{ReleasesUnits}
@@ -28,16 +28,16 @@ pub record Ran : Type 0 where
 abbrev pub ran : List ToPayload → List Step → RunState → Run → RunState → Ran
 ran samples steps before run after = record { samples = map sample_of samples; steps = steps; before = before; sends = run.sends.items; pops = run.pops.items; after = after }
 
--- the premises: the packetizer is that of a codec, the sink and the buffer are unused, the buffer reads what the payloader makes, and what is sent of the
--- samples can be read again
+-- the premises: the packetizer is that of a codec, the sink and the buffer are unused, the buffer reads what the payloader
+-- makes, and the payloads sent for the samples can be read again
 abbrev pub IsFresh : Ran → Type 0
 IsFresh r = IsUnused r.before × AreReadable r.before.payloading.packetizer r.samples
 
--- a log tells the run pop by pop
+-- a log reports the run pop by pop
 abbrev pub LogOf : Ran → Type 0
 LogOf r = RunLog r.samples r.steps r.before r.sends r.pops r.after
 
--- this holds of each log of a run that keeps the premise
+-- this holds for each log of a run that keeps the premise
 abbrev pub OfEachLog : Type 0 → (r : Ran) → (LogOf r → Type 0) → Type 0
 OfEachLog premise r P = premise → (log : LogOf r) → P log
 
@@ -45,8 +45,8 @@ OfEachLog premise r P = premise → (log : LogOf r) → P log
 abbrev pub RunsAsSteps : Ran → Type 0
 RunsAsSteps r = Runs r.samples 0 r.steps r.before r.sends r.pops r.after
 
--- Counts: one entry for each `Send` that names a sample, one answer for each `Pop`, and the sink gains what the entries
--- count. This and the run as steps hold of every codec, also of a caller's own.
+-- Counts: one entry for each `Send` that names a sample, one answer for each `Pop`, and the sink gains what the entries count.
+-- This and the run as steps hold for every codec, also of a caller's own.
 abbrev pub CountsSteps : Ran → Type 0
 CountsSteps r = IsCounted r.samples r.steps r.before r.sends r.pops r.after
 
@@ -59,7 +59,7 @@ IsSafe premise r = premise → ReleasesInOrder r.samples r.steps r.before r.send
 abbrev pub IsExact : Type 0 → Ran → Type 0
 IsExact premise r = premise → ReleasesUnits r.samples r.steps r.before r.sends r.pops r.after
 
--- Every run can be told pop by pop: what was pushed since the pop before, the answer, and the buffer.
+-- Every run can be described pop by pop: what was pushed since the pop before, the answer, and the buffer.
 abbrev pub IsLogged : Type 0 → Ran → Type 0
 IsLogged premise r = premise → LogOf r
 
@@ -67,8 +67,8 @@ IsLogged premise r = premise → LogOf r
 abbrev pub IsFreeOfOrder : Type 0 → Ran → Type 0
 IsFreeOfOrder premise r = OfEachLog premise r IsOrderFree
 
--- Contiguous: where not both picture id and TL0PICIDX are sent, a unit is told contiguous exactly where its first number follows the last of
--- the release before, or it is the first and no packet was evicted before it.
+-- Contiguous: where not both picture id and TL0PICIDX are sent, a unit is reported contiguous exactly where its first number
+-- follows the last of the release before, or it is the first and no packet was evicted before it.
 abbrev pub TellsContiguous : Type 0 → Ran → Type 0
 TellsContiguous premise r = OfEachLog premise r IsContiguousAsSaid
 
@@ -77,11 +77,11 @@ TellsContiguous premise r = OfEachLog premise r IsContiguousAsSaid
 abbrev pub LosesNothingSilently : Type 0 → Ran → Type 0
 LosesNothingSilently premise r = OfEachLog premise r LosesNoneSilently
 
--- Where not both picture id and TL0PICIDX are sent, no pop passes a unit over.
+-- If not both picture id and TL0PICIDX are sent, no pop passes a unit over.
 abbrev pub PassesNothingOver : Type 0 → Ran → Type 0
 PassesNothingOver premise r = OfEachLog premise r PassesNoneOver
 
--- Where both are, a unit is passed over only behind 16,384 units in a row of which no pop took one.
+-- If both are, a unit is skipped only after 16,384 units in a range of which no pop took one.
 abbrev pub PassesOverPastGaps : Type 0 → Ran → Type 0
 PassesOverPastGaps premise r = OfEachLog premise r PassesOnlyPastGap
 

@@ -1,4 +1,4 @@
--- What becomes of units that are held whole, and when the released units are a beginning of those that were sent.
+-- The outcome of units that are held whole, and when the released units are a beginning of those that were sent.
 use Rattle.std.specs.Prelude.{◌≡◌, ℕ, ◌+◌, ◌<◌, ◌≤◌, ◌⊎◌, Bool, true, List, [], ◌∷◌, Some, None, Ok, Err, Contains, length, slice_get}
 use Rattle.codec_payload_buffer.specs.Frames.{frames}
 use Rattle.codec_payload_runs.specs.Headline.{IsPushOf, packets_before, IsUnitAt}
@@ -101,7 +101,7 @@ AnswerEnds P None = Unit {0}
 AnswerEnds P (Some (Err fault)) = Unit {0}
 AnswerEnds P (Some (Ok r)) = P (last_number 0 r.metas)
 
--- all units that these pops take, be they released or passed over, end at such numbers
+-- all units that these pops take, be they released or skipped, end at such numbers
 abbrev pub AllTakenEnd : (ℕ → Type 0) → List Turn → Type 0
 AllTakenEnd P [] = Unit {0}
 AllTakenEnd P (turn ∷ turns) = AllEnd P turn.passed × AnswerEnds P turn.answer × AllTakenEnd P turns
@@ -115,18 +115,18 @@ abbrev pub AllStartFrom : ℕ → List CompleteFrame → Type 0
 AllStartFrom n [] = Unit {0}
 AllStartFrom n (f ∷ fs) = (n ≤ f.first) × AllStartFrom n fs
 
--- and so do all that these pops pass over
+-- and so do all that these pops skip
 abbrev pub AllPassedFrom : ℕ → List Turn → Type 0
 AllPassedFrom n [] = Unit {0}
 AllPassedFrom n (turn ∷ turns) = AllStartFrom n turn.passed × AllPassedFrom n turns
 
--- there are 16,384 units in a row of which these pops take none, and what they pass over comes after them
+-- there are 16,384 units in a range of which these pops take none, and what they skip comes after them
 pub record IsGap (first : ℕ) (units : List SentUnit) (turns : List Turn) : Type 0 where
   pub place : ℕ
   pub none_taken : AllTakenEnd (EndsOutside first units place) turns
   pub later : AllPassedFrom (first + packets_before (place + 16384) units) turns
 
--- No silent loss, of what is passed over: nothing is, or so many units in a row were not taken before
+-- No silent loss, of what is skipped: nothing is, or that many units in a range were not taken before
 abbrev pub PassesOnlyPastGap : {samples : List Sample} {all_steps : List Step} {s : RunState} {sends : List Sent} {pops : List Answer} {t : RunState} → RunLog samples all_steps s sends pops t → Type 0
 PassesOnlyPastGap {s = s} log = NonePassedOver log.turns ⊎ IsGap s.sink.first log.released.units log.turns
 

@@ -25,7 +25,7 @@ abbrev pub values_of_sample : PacketizerState → ℕ → Option Sample → List
 values_of_sample packetizer mtu None = []
 values_of_sample packetizer mtu (Some sample) = map (λ (unit : List (List ℕ)). sample.ext_vals) (canonical_units packetizer mtu sample.bytes)
 
--- for each unit that the steps of a run send, in order, the values of its sample: told by the samples and the steps alone
+-- for each unit that the steps of a run send, in order, the values of its sample: determined by the samples and the steps alone
 abbrev pub values_of_run : PacketizerState → List Sample → List Step → List ExtensionValues
 values_of_run packetizer samples [] = []
 values_of_run packetizer samples (steps.Send i mtu ∷ later) =

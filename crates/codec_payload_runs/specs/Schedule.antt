@@ -55,7 +55,7 @@ pub record SendsIt (place mtu : ℕ) (sample : Sample) (s : RunState) (entry : S
   pub few : length t.sink.packets < 2 ^ 63
   pub left : t ≡ after_send s packetizer packets
 
--- what is known of a packet that step `place` pushes
+-- the facts about a packet that step `place` pushes
 abbrev pub meta_of_push : ℕ → ℕ → Packet → RtpMeta
 meta_of_push place clock_rate p = record {
   received = record { 0 = place };

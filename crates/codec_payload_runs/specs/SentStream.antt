@@ -19,7 +19,7 @@ abbrev pub packetizer_after_sample : PacketizerState → ℕ → Option Sample �
 packetizer_after_sample packetizer mtu None = packetizer
 packetizer_after_sample packetizer mtu (Some sample) = packetizer_after packetizer mtu sample.bytes
 
--- the units that the steps of a run send, in order: told by the samples and the steps alone
+-- the units that the steps of a run send, in order: determined by the samples and the steps alone
 abbrev pub units_of_run : PacketizerState → List Sample → List Step → List (List (List ℕ))
 units_of_run packetizer samples [] = []
 units_of_run packetizer samples (steps.Send i mtu ∷ later) =
@@ -27,7 +27,7 @@ units_of_run packetizer samples (steps.Send i mtu ∷ later) =
 units_of_run packetizer samples (steps.Push k ∷ later) = units_of_run packetizer samples later
 units_of_run packetizer samples (steps.Pop ∷ later) = units_of_run packetizer samples later
 
--- what is sent of these samples can be read again
+-- the payloads sent for these samples can be read again
 abbrev pub AreReadable : PacketizerState → List Sample → Type 0
 AreReadable packetizer [] = Unit {0}
 AreReadable packetizer (sample ∷ samples) = (is_readable packetizer sample.bytes ≡ true) × AreReadable packetizer samples

@@ -31,7 +31,7 @@ is_skipped Av1Packetizing mtu frame = av1_is_skipped mtu frame
 is_skipped (AmrWbPacketizing octet) mtu frame = amr_wb_is_skipped frame
 is_skipped BoxedPacketizing mtu frame = false
 
--- the fault with which a frame that is not skipped is refused, if it is; want of memory is no such fault
+-- the fault with which a frame that is not skipped is refused, if it is; out of memory is none such fault
 abbrev pub refusal_of : PacketizerState → ℕ → List ℕ → Option PacketError
 refusal_of G711Packetizing mtu frame = None
 refusal_of G722Packetizing mtu frame = None
@@ -124,7 +124,7 @@ may_split Av1Packetizing = true
 may_split (AmrWbPacketizing octet) = false
 may_split BoxedPacketizing = false
 
--- whether what is sent of a frame can be read again: of telephone events whole reports, and all of any other codec
+-- whether the payloads sent for a frame can be read again: of telephone events whole reports, and all of any other codec
 abbrev pub is_readable : PacketizerState → List ℕ → Bool
 is_readable TelePacketizing frame = is_empty frame || are_reports frame
 is_readable packetizer frame = true

@@ -38,7 +38,7 @@ pub still_own_cut : {B : Type 0} (p q : CodecPacketizer B) (b : B) (mtu : ℕ) (
 still_own_cut {B} p q b mtu frame answer is step = own_packetizer q
     (ap is_built_in (subst (λ (x : CodecPacketizer B). PacketizerStep (packetizer_state_of x) mtu frame answer (packetizer_state_of q)) is step))
 
--- what follows from what holds of an answer
+-- what follows from what holds for an answer
 pub both_ways : {T E P P' : Type 0} {Q Q' : E → Type 0} (r : Result T E) → (P → P') → ((e : E) → Q e → Q' e) → OnOk r P → IfErr r Q → MatchResult r (λ _. P') Q'
 both_ways (Ok x) f h p q = f p
 both_ways (Err e) f h p q = h e q

@@ -46,7 +46,7 @@ as_many b (p ∷ ps) (q ∷ qs) are = ap suc (as_many b ps qs are.1)
 as_many b [] (q ∷ qs) are = absurd are
 as_many b (p ∷ ps) [] are = absurd are
 
--- one packet, of which this packetizer told the marker, and whether it may be asked for again
+-- one packet, of which this packetizer reported the marker, and whether it may be asked for again
 pub as_for : (p : PacketizerState) (sample : Sample) (rtp_time n number : ℕ) (values : ExtensionValues) (last marker nackable : Bool) (payload : List ℕ) → number ≡ n
     → (is_built_in p ≡ true → marker ≡ (marker_of p last || (talk_spurt_of p && sample.start_of_talk_spurt))) → (is_built_in p ≡ true → nackable ≡ nackable_of p)
     → IsAs (is_built_in p) (record {
@@ -91,7 +91,7 @@ module _ (b : Bool) {S : Type 0} (accepts : S → Packet → Packet → S → Ty
     pub goes_on : next now ≡ number_after (next before) images
     pub whole : AreAs b (begun ++ rest) all
 
-  -- one packet more behind those that were taken
+  -- one packet more after those that were taken
   pub sends_one : (before : S) (begun images : List Packet) (mid : S) (packet image : Packet) (after : S)
       → Sends accepts before begun images mid → accepts mid packet image after
       → Sends accepts before (begun ++ packet ∷ []) (images ++ image ∷ []) after

@@ -1,4 +1,4 @@
--- How a sample is sent through a packetizer that a caller brings: what it is asked, and what comes of its answers.
+-- How a sample is sent through a packetizer that a caller brings: what it is asked, and the result of its answers.
 use Rattle.std.specs.Prelude.{◌≡◌, ℕ, ◌+◌, ◌&&◌, ◌||◌, ◌⊎◌, Bool, false, List, [], ◌∷◌, Option, Some, None, Result, Ok, Err, MatchResult, length, ⊤}
 use Rattle.codec_payload_base.specs.declared.error.PacketError.{PacketError}
 use Rattle.codec_payload_base.specs.declared.wire.extension.ExtensionValues.{ExtensionValues}

@@ -64,8 +64,8 @@ packets_from packetizer sample rtp_time number place (payload ∷ payloads) =
 abbrev pub packets_for : PacketizerState → Sample → ℕ → ℕ → List (List ℕ) → List Packet
 packets_for packetizer sample rtp_time number payloads = packets_from packetizer sample rtp_time number 0 payloads
 
--- the packet is q where the packetizer is built in; one that a caller brings tells the marker, and whether the packet may be asked for
--- again, as it likes
+-- the packet is q where the packetizer is built in; one that a caller brings reports the marker, and whether the packet may be
+-- asked for again, as it likes
 abbrev pub IsAs : Bool → Packet → Packet → Type 0
 IsAs true p q = p ≡ q
 IsAs false p q = p ≡ record q { marker = p.marker; nackable = p.nackable }

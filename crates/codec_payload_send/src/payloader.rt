@@ -64,9 +64,9 @@ impl<B: Packetizer> Payloader<B> {
     }
 
     /// Sends the packets of a sample, cut for an MTU in bytes, in order. Of its extension values, capture time and layers
-    /// allocation go on the first packet alone, orientation, content type and timing on the last alone, and all others on
-    /// each. A fault of the packetizer sends nothing. Where the sink refuses a packet, those before it are sent, and the
-    /// packetizer has gone on.
+    /// allocation go on the first packet alone, orientation, content type and timing on the last alone, and all others on each.
+    /// A fault of the packetizer sends nothing. If the sink refuses a packet, those before it are sent, and the packetizer has
+    /// gone on.
     ///
     /// Each payload byte is copied once, from the sample into its packet.
     pub fn push_sample<S: PacketSink>(

@@ -13,13 +13,13 @@ use codec_payload_red::red::RedSender;
 /// Hands packets on to another sink in RED: each with its payload wrapped by a sender, under the sender's payload type,
 /// and with number, RTP time, marker and all else as they are.
 ///
-/// **A packet whose payload has `budget` bytes or more goes out with its payload as it is, yet under the payload type of
-/// RED**, and a receiver may read those bytes as RED. So packetize for an MTU of `budget - 1`, as the `mtu` of
-/// [`Payloader::push_sample`](crate::payloader::Payloader::push_sample): then each payload finds room behind the one byte
-/// of its header. See [`RedSender::wrap`].
+/// **A packet whose payload has `budget` bytes or more is sent with its payload as it is, yet under the payload type of RED**,
+/// and a receiver may read those bytes as RED. So packetize for an MTU of `budget - 1`, as the `mtu` of
+/// [`Payloader::push_sample`](crate::payloader::Payloader::push_sample): then each payload finds room after the one byte of its
+/// header. See [`RedSender::wrap`].
 ///
-/// Where the sender finds no memory, sink and sender stay as they were. Where the other sink refuses the packet, the
-/// sender has remembered the payload already, as if it had been sent.
+/// If the sender finds no memory, sink and sender stay as they were. If the other sink refuses the packet, the sender has
+/// remembered the payload already, as if it had been sent.
 #[derive(Drop)]
 pub struct RedSink<'a, S> {
     stream: &'a mut S,

@@ -61,6 +61,6 @@ pub trait PacketSink {
     /// A sink that stays as it is keeps what it borrows.
     ghost keeps_same: { (x : Self) → keeps x x };
 
-    /// What is kept from one sink to the next, and from that one to a third, is kept from the first to the third.
+    /// The kept value from one sink to the next, and from that one to a third, is kept from the first to the third.
     ghost keeps_on: { (x y z : Self) → keeps x y → keeps y z → keeps x z };
 }

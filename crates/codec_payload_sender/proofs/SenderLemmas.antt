@@ -25,7 +25,7 @@ joined_at (h ∷ hs) (p ∷ ps) (suc i) l = joined_at hs ps i (omega (arith, l))
 pub on_ok_at : {X E : Type 0} (result : Result X E) (x : X) (P : Type 0) → result ≡ Ok x → OnOk result P → P
 on_ok_at {X} {E} result x P e holds = subst (λ (r : Result X E). OnOk r P) e holds
 
--- payloads behind their headers are datagrams
+-- payloads after their headers are datagrams
 pub sent_all : (stream : Stream) (packetizer : PacketizerState) (sample : Sample) (headers payloads : List (List ℕ))
     → ((place : ℕ) → place < length payloads → IsHeadedAt stream packetizer sample (length payloads) place (get_or headers place []))
     → AreSent stream packetizer sample payloads (joined headers payloads)

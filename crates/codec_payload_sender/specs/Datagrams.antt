@@ -41,11 +41,12 @@ header_with stream fields values = record {
 abbrev pub fields_at : Stream → Sample → ℕ → Bool → Fields
 fields_at stream sample place marker = record { marker = marker; number = (stream.number + place) % 2 ^ 16; time = time_of stream sample }
 
--- its header, of so many packets of the sample
+-- its header, of that many packets of the sample
 abbrev pub header_at : Stream → Sample → ℕ → ℕ → Bool → Header
 header_at stream sample place count marker = header_with stream (fields_at stream sample place marker) (stripped sample.ext_vals place count)
 
--- the marker of a packetizer that is built in, for the packet at a place of so many; one that a caller brings marks as it likes
+-- the marker of a packetizer that is built in, for the packet at a place of that many; one that a caller brings marks as it
+-- likes
 abbrev pub IsMarker : PacketizerState → Sample → ℕ → ℕ → Bool → Type 0
 IsMarker packetizer sample place count marker =
     is_built_in packetizer ≡ true → marker ≡ (marker_of packetizer (place + 1 == count) || (talk_spurt_of packetizer && sample.start_of_talk_spurt))

@@ -11,8 +11,8 @@ use Rattle.codec_payload_sender.specs.declared.sender.SenderError.{SenderError}
 use Rattle.codec_payload_sender.specs.declared.sender.SenderError.TheVariants as errors
 use Rattle.codec_payload_sender.specs.declared.sender.Stream.{Stream}
 
--- a sender, as contracts see it: its packetizer, the most bytes of a payload, what its packets share and the number of the next,
--- the bytes that are free behind each datagram, what reports count, and the datagrams of the sample that was sent last
+-- a sender, as contracts see it: its packetizer, the most bytes of a payload, what its packets share and the number of the
+-- next, the bytes that are free after each datagram, what reports count, and the datagrams of the sample that was sent last
 pub record Sending : Type 0 where
   pub packetizer : PacketizerState
   pub mtu : ℕ
@@ -66,7 +66,7 @@ pub record Sends (s : Sending) (sample : Sample) (t : Sending) : Type 0 where
     datagrams = t.datagrams;
   }
 
--- nothing was sent: the packetizer answered with the fault, or it gave payloads and memory was wanting for them or their headers
+-- nothing was sent: the packetizer answered with the fault, or it gave payloads and memory ran out for them or their headers
 pub record Refuses (s : Sending) (sample : Sample) (fault : PacketError) (t : Sending) : Type 0 where
   pub packetized : is_built_in s.packetizer ≡ true → (answer : Result (List (List ℕ)) PacketError) × PacketizerStep s.packetizer s.mtu sample.bytes answer t.packetizer × Lands answer (Err fault) []
   pub left : t ≡ record s { packetizer = t.packetizer; datagrams = [] }

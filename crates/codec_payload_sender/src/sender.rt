@@ -37,7 +37,7 @@ pub struct SenderSettings {
     /// The most bytes of a payload, as packetizers have it. The header, of 12 bytes and at most 304 of an extension, and the tag
     /// come on top.
     pub mtu: usize,
-    /// How many bytes are kept free behind each datagram, for a tag (RFC 3711, section 3.1): 0 to 65,535.
+    /// How many bytes are kept free after each datagram, for a tag (RFC 3711, section 3.1): 0 to 65,535.
     pub tailroom: usize,
     /// The ids of header extensions. Values without an id are not sent.
     pub extension_ids: ExtensionIds,
@@ -49,13 +49,13 @@ pub enum SenderError {
     /// The payload type is above 127.
     #[error("the payload type is above 127")]
     PayloadType,
-    /// More than 65,535 bytes are to be free behind each datagram.
+    /// More than 65,535 bytes are to be free after each datagram.
     #[error("tailroom exceeds 65535 bytes")]
     Tailroom,
     /// An id of a header extension is 0, or two are the same.
     #[error("header extension id is 0 or used twice")]
     ExtensionIds,
-    /// Memory is wanting.
+    /// Out of memory.
     #[error("out of memory")]
     OutOfMemory,
 }
@@ -72,7 +72,7 @@ pub struct Sample<'a> {
     pub ext_vals: ExtensionValues,
 }
 
-/// What sender reports tell (RFC 3550, section 6.4.1).
+/// What sender reports report (RFC 3550, section 6.4.1).
 #[derive(Clone, Copy, Debug, PartialEq, Eq)]
 pub struct Counts {
     /// How many packets were sent, modulo 2^32.
@@ -93,7 +93,7 @@ pub(crate) struct Stream {
     number: u16,
 }
 
-/// What each packet has of its own.
+/// The fields of each packet.
 #[derive(Clone, Copy, Debug)]
 pub(crate) struct Fields {
     marker: bool,
@@ -109,8 +109,8 @@ struct Packets {
     extension: Vec<u8>,
 }
 
-/// Sends the samples of one stream: a sample goes in, and its datagrams stand in memory that is used again, until the next
-/// sample goes in.
+/// Sends the samples of one stream: a sample is stored, and its datagrams are in memory that is used again, until the next
+/// sample is stored.
 ///
 /// Each is a packet of RFC 3550, without CSRCs and padding, its header written in front of its payload, in place. Once the
 /// memory has grown to the largest sample, no call takes any. It opens no socket and reads no clock.
@@ -302,7 +302,7 @@ impl<B: Packetizer> Sender<B> {
         ensures ok { IfOk result (λ s. s ≡ sender_by settings (packetizer_state_of packetizer)) }
         // Which setting is out of range.
         ensures refused { IfSome (refusal_of settings) (λ e. result ≡ Err e) }
-        // Where none is, it is made, if there is memory.
+        // If none is, it is made, if there is memory.
         ensures made { refusal_of settings ≡ Option.None → IfErr result (λ e. e ≡ refusals.OutOfMemory) }
     {
         if settings.payload_type > 127 {
@@ -330,7 +330,7 @@ impl<B: Packetizer> Sender<B> {
     /// Cuts a sample into packets. Its datagrams take the place of those of the sample before: see [`Sender::datagram`].
     ///
     /// A sample that the packetizer skips has none. After a fault there are none, and the sequence number and the counts are as
-    /// before. Where memory was wanting, the packetizer may have gone on.
+    /// before. If memory ran out, the packetizer may have gone on.
     pub fn send(&mut self, sample: &Sample<'_>) -> Result<(), PacketError>
         ensures ok { OnOk result (Sends self.old (sample_of sample.now) self.new) }
         ensures err { IfErr result (λ fault. Refuses self.old (sample_of sample.now) fault self.new) }
@@ -372,7 +372,7 @@ impl<B: Packetizer> Sender<B> {
         self.packets.out.packet(place)
     }
 
-    /// How many bytes are free behind each datagram.
+    /// How many bytes are free after each datagram.
     pub fn tailroom(&self) -> usize
         ensures { result ≡ self.now.tailroom }
     {
@@ -386,7 +386,7 @@ impl<B: Packetizer> Sender<B> {
         self.stream.number
     }
 
-    /// What sender reports tell.
+    /// What sender reports report.
     pub fn counts(&self) -> Counts
         ensures { result ≡ self.now.counts }
     {
@@ -418,7 +418,7 @@ fn no_counts() -> Counts
     }
 }
 
-/// No packets, with room for the longest header, and so many bytes free behind each packet that comes.
+/// No packets, with room for the longest header, and that many bytes free after each packet that comes.
 fn empty_packets(alloc: Global, tailroom: usize) -> Result<Packets, PacketError>
     requires { tailroom ≤ 65535 }
     ensures { IfOk result (λ p. p.out ≡ record { headroom = 316; tailroom = tailroom; headers = []; payloads = []; begun = [] }) }

@@ -1,4 +1,4 @@
--- No descriptor names want of memory as its fault.
+-- No descriptor names out of memory as its fault.
 use Rattle.std.proofs.Common.{◌≡◌, ◌∙◌, sym, ap, refl, ℕ, zero, suc, ◌+◌, List, [], ◌∷◌, Bool, true, false, ◌&&◌, Option, Some, None, Result, Ok, Err, length, take, drop, ◌<◌, arith}
 use Rattle.std.specs.Prelude.{nat_lt, if◌then◌else◌}
 use Rattle.codec_payload_base.specs.Flags.{has_bit}
@@ -138,7 +138,7 @@ all_named d bytes = let r = read_before d bytes in if_before_named r.fields r.re
 pub names_no_memory : (d : Fields) (bytes : List ℕ) → (all_groups d bytes).rest ≡ Err faults.OutOfMemory → ⊥
 names_no_memory d bytes is = let never = sym (ap is_no_memory is) ∙ all_named d bytes in cc
 
--- The structure but for its groups, and then these.
+-- The structure except its groups, and then these.
 
 then_v : (r : Result (List ℕ) PacketError) (d : Fields) (v : Bool) (next : Fields → List ℕ → Reading) → d.v ≡ v → ((e : Fields) (bytes : List ℕ) → (next e bytes).fields.v ≡ e.v)
     → (next_from d r next).fields.v ≡ v

@@ -1,4 +1,4 @@
--- What is read is spelled so.
+-- A read value is spelled so.
 use Rattle.std.proofs.Common.{◌≡◌, ◌∙◌, sym, ap, refl, ℕ, zero, suc, ◌+◌, ◌*◌, ◌/◌, ◌%◌, ◌<◌, ◌≤◌, List, [], ◌∷◌, ◌++◌, length, take, drop, Bool, true, false, ◌&&◌, Option, Some}
 use Rattle.std.proofs.Common.{None, Result, Ok, Err, append_assoc, arith, subst, ltb-false}
 use Rattle.std.proofs.lemmas.List.{length-take, take-append-drop}
@@ -297,7 +297,7 @@ groups_read : (v : Bool) (d : Fields) (bytes rest : List ℕ) → AreBytes bytes
 groups_read true d bytes rest are h = structure_there d bytes rest are h
 groups_read false d bytes rest are h = let e : bytes ≡ rest = cc in (None, e, refl)
 
--- the parts are joined in whichever order
+-- the parts are joined in any order
 four_joined : (a b c d rest : List ℕ) → a ++ (b ++ (c ++ (d ++ rest))) ≡ (a ++ (b ++ (c ++ d))) ++ rest
 four_joined a b c d rest = simp append_assoc refl
 

@@ -16,7 +16,7 @@ abbrev pub with_layers_if : Fields → Option ℕ → Fields
 with_layers_if d None = d
 with_layers_if d (Some octet) = with_layers d octet
 
--- TL0PICIDX likewise
+-- TL0PICIDX in the same way
 abbrev pub with_index : Fields → Option ℕ → Fields
 with_index d None = d
 with_index d (Some index) = record d { tl0picidx = index; extended_tl0picidx = Some (extended 256 d.extended_tl0picidx index) }
@@ -39,7 +39,7 @@ abbrev pub with_count : Fields → Option ℕ → Fields
 with_count d None = d
 with_count d (Some count) = record d { ng = count }
 
--- the structure but for its groups
+-- the structure except its groups
 abbrev pub with_scalability : Fields → Option Structure → Fields
 with_scalability d None = d
 with_scalability d (Some s) = with_count (with_sizes 0 (with_structure d s.head) s.sizes) s.count
@@ -52,7 +52,7 @@ with_front d read = with_differences 0 (with_index (with_layers_if (with_picture
 abbrev pub with_descriptor : Fields → Descriptor → Fields
 with_descriptor d read = with_scalability (with_front d read) read.structure
 
--- groups behind others
+-- groups after others
 abbrev pub with_groups : Groups → List Group → Groups
 with_groups groups [] = groups
 with_groups groups (group ∷ all) = with_groups (with_group groups group.head group.differences) all

@@ -42,7 +42,7 @@ pub record FitsKeyframe (k : Vp8Keyframe) : Type 0 where
   pub height : k.height < 16384
   pub vertical_scale : k.vertical_scale < 4
 
--- The bytes are a frame with that header, behind which the first partition has room.
+-- The bytes are a frame with that header, after which the first partition has room.
 pub record IsVp8Frame (frame : List ℕ) (h : Vp8FrameHeader) : Type 0 where
   pub version : h.version < 8
   pub size : h.first_partition_size < 524288

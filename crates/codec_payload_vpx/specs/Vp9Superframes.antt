@@ -13,7 +13,7 @@ le_number (b ∷ bs) = b + 256 * le_number bs
 
 -- ---- how a superframe is spelled
 
--- a size in so many bytes
+-- a size in that many bytes
 pub record IsSize (width : ℕ) (text frame : List ℕ) : Type 0 where
   pub wide : length text ≡ width
   pub says : le_number text ≡ length frame
@@ -73,7 +73,7 @@ pub record Left : Type 0 where
 abbrev pub next_size : ℕ → List ℕ → ℕ
 next_size width sizes = le_number (take width sizes)
 
--- so many frames at the front, each of the next size
+-- that many frames at the front, each of the next size
 unfoldable pub frames_in : ℕ → ℕ → List ℕ → List ℕ → List (List ℕ)
 frames_in zero width sizes bytes = []
 frames_in (suc n) width sizes bytes = take (next_size width sizes) bytes ∷ frames_in n width (drop width sizes) (drop (next_size width sizes) bytes)
@@ -85,7 +85,7 @@ with_alone (Some frame) frames = frame ∷ frames
 abbrev pub frames_left : Left → List (List ℕ)
 frames_left s = with_alone s.alone (frames_in s.count s.width s.sizes s.bytes)
 
--- what so many frames have together
+-- what that many frames have together
 unfoldable pub size_sum : ℕ → ℕ → List ℕ → ℕ
 size_sum zero width sizes = 0
 size_sum (suc n) width sizes = next_size width sizes + size_sum n width (drop width sizes)
@@ -103,7 +103,7 @@ abbrev pub unit_frames : List ℕ → Result (List (List ℕ)) MediaError
 unit_frames [] = Err errors.MissingBytes
 unit_frames (b ∷ bytes) = if has_index (b ∷ bytes) then indexed (last_byte (b ∷ bytes)) (b ∷ bytes) else Ok ((b ∷ bytes) ∷ [])
 
--- the frame of that number, from 0, behind all bytes of those before it, if there are more than so many
+-- the frame of that number, from 0, after all bytes of those before it, if there are more than that many
 abbrev pub placed_in : ℕ → List (List ℕ) → Option (ℕ × List ℕ)
 placed_in i frames = if nat_lt i (length frames) then Some (length (concat (take i frames)), get_or frames i []) else None
 

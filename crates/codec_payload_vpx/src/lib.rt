@@ -1,4 +1,4 @@
-//! What frames of VP8 and VP9 say of themselves, and how fields of so many bits are read.
+//! What frames of VP8 and VP9 say of themselves, and how fields of that many bits are read.
 #![tactic(auto)]
 
 pub mod error;

@@ -1,4 +1,4 @@
-//! A reader of fields of so many bits, the highest of each byte first.
+//! A reader of fields of that many bits, the highest of each byte first.
 
 ghost use Rattle.std.specs.Prelude.{◌≡◌, ◌*◌, ◌<◌, ◌≤◌, ◌^◌, ◌++◌, [], length, take, drop, true, false, IfOk};
 ghost use Rattle.codec_payload_base.specs.Bits.{bits, bits_of};
@@ -33,7 +33,7 @@ fn front_number(bytes: &[u8]) -> u32
     be_number(bytes)
 }
 
-/// Four bytes from the front, or all where there are fewer, and what is behind them.
+/// Four bytes from the front, or all where there are fewer, and the bytes after them.
 #[inline(always)]
 fn cut_four(bytes: &[u8]) -> (&[u8], &[u8])
     ensures front { result.0.now ≡ take 4 bytes.now }
@@ -52,7 +52,7 @@ pub struct FieldReader<'a> {
     window: u64,
     /// How many these are.
     held: usize,
-    /// The bytes behind them.
+    /// The bytes after them.
     behind: &'a [u8],
 }
 
@@ -97,7 +97,7 @@ impl<'a> FieldReader<'a> {
         self.behind = rest;
     }
 
-    /// Whether there are so many bits, which are then held.
+    /// Whether there are that many bits, which are then held.
     #[inline(always)]
     fn hold(&mut self, count: usize) -> bool
         requires { count ≤ 16 }
@@ -138,7 +138,7 @@ impl<'a> FieldReader<'a> {
         }
     }
 
-    /// So many bits are passed over.
+    /// That many bits are skipped.
     #[inline(always)]
     pub fn skip_bits(&mut self, count: usize) -> Result<u8, MediaError>
         ensures { paired result (left self.new) ≡ read (skips count) (left self.old) }
@@ -157,7 +157,7 @@ impl<'a> FieldReader<'a> {
     }
 }
 
-/// A reader behind so many bits.
+/// A reader after that many bits.
 fn behind_bits(count: usize, bytes: &[u8]) -> Result<FieldReader<'_>, MediaError>
     ensures { passed result ≡ read (skips count) (bits_of bytes.now) }
 {

@@ -15,11 +15,11 @@ pub struct Vp8Keyframe {
     pub horizontal_scale: u8,
     /// The height in pixels, 0 to 16,383.
     pub height: u16,
-    /// How far the picture is to be scaled in height, likewise.
+    /// How far the picture is to be scaled in height, in the same way.
     pub vertical_scale: u8,
 }
 
-/// The header of a frame, which stands before its partitions.
+/// The header of a frame, which is before its partitions.
 #[derive(Clone, Copy, Debug, PartialEq, Eq)]
 pub struct Vp8FrameHeader {
     /// Which filters the decoder takes, 0 to 7, of which 4 to 7 are reserved.
@@ -28,11 +28,11 @@ pub struct Vp8FrameHeader {
     pub shown: bool,
     /// The size of the first partition in bytes, at most 524,287.
     pub first_partition_size: u32,
-    /// What is told of a keyframe; `None` for a frame that needs earlier ones.
+    /// What is reported of a keyframe; `None` for a frame that needs earlier ones.
     pub keyframe: Option<Vp8Keyframe>,
 }
 
-/// What stands behind the tag of a keyframe, and what is behind that.
+/// The bytes after the tag of a keyframe, and the bytes after that.
 #[tactic(auto, unfolding(crate::specs::Vp8Frames::keyframe_at))]
 fn read_keyframe(bytes: &[u8]) -> Result<(Vp8Keyframe, &[u8]), MediaError>
     ensures { told (λ x. (x.0, x.1.now)) result ≡ keyframe_at bytes.now }
@@ -54,7 +54,7 @@ fn read_keyframe(bytes: &[u8]) -> Result<(Vp8Keyframe, &[u8]), MediaError>
     Ok((keyframe, rest))
 }
 
-/// What stands behind the tag of a frame, of a keyframe or not, and what is behind that.
+/// The bytes after the tag of a frame, of a keyframe or not, and the bytes after that.
 fn read_behind_tag(
     is_keyframe: bool,
     bytes: &[u8],
@@ -94,12 +94,12 @@ impl Vp8FrameHeader {
     /// The header of a whole frame. It reads 3 bytes, of a keyframe 10, and takes no memory.
     ///
     /// A fault is the first one from left to right: `MissingBytes` where the header is cut off, `WrongMarker` where the start
-    /// code of a keyframe is not `9d 01 2a`, and `SizesDoNotFit` where the first partition is longer than what is behind the
+    /// code of a keyframe is not `9d 01 2a`, and `SizesDoNotFit` where the first partition is longer than the bytes after the
     /// header.
     pub fn parse(frame: &[u8]) -> Result<Vp8FrameHeader, MediaError>
-        // What is read is spelled so.
+        // A read value is spelled so.
         ensures spelled { IfOk result (λ h. IsVp8Frame frame.now h) }
-        // What is spelled so is read.
+        // A value spelled so is read.
         ensures accepted { (h : Vp8FrameHeader) → IsVp8Frame frame.now h → result ≡ Ok h }
         // Which fault comes first.
         ensures exact { result ≡ vp8_frame_at frame.now }

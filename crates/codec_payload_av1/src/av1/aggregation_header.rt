@@ -13,7 +13,7 @@ const GOES_ON: u8 = 0x40;
 /// The two bits of W.
 const COUNT: u8 = 0x30;
 
-/// What a W of one stands for.
+/// What a W of one represents.
 const ONE: u8 = 0x10;
 
 /// The bit N: a coded video sequence starts.
@@ -26,7 +26,7 @@ pub struct AggregationHeader {
 }
 
 impl AggregationHeader {
-    /// The header of a payload of so many elements. W is their number up to three, and 0 above.
+    /// The header of a payload of that many elements. W is their number up to three, and 0 above.
     pub fn new(continues: bool, goes_on: bool, elements: usize, starts: bool) -> Self
         ensures { result.byte ≡ header_byte continues goes_on (count_of elements) starts }
     {
@@ -62,7 +62,7 @@ impl AggregationHeader {
         self.byte & CONTINUES != 0
     }
 
-    /// Y: whether the last element goes on in the next payload. Where W names more elements than came, it does not count.
+    /// Y: whether the last element goes on in the next payload. If W names more elements than came, it does not count.
     pub fn goes_on(self) -> bool
         ensures { result ≡ has_bit 64 self.byte }
     {
@@ -83,7 +83,7 @@ impl AggregationHeader {
         self.byte & STARTS != 0
     }
 
-    /// Whether what is pending goes on in the payload: Z is set, and N is clear.
+    /// Whether the pending bytes go on in the payload: Z is set, and N is clear.
     pub fn continues_pending(self) -> bool
         ensures { result ≡ (has_bit 128 self.byte && not (has_bit 8 self.byte)) }
     {

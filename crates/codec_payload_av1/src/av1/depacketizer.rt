@@ -1,4 +1,4 @@
-//! AV1: payloads put together to frames (docs/FORMATS.md, "AV1").
+//! AV1: payloads reassembled to frames (docs/FORMATS.md, "AV1").
 
 ghost use Rattle.std.specs.Prelude.{◌≡◌, ◌∷◌, List, [], Some, length, take, true, nat_lt, ◌&&◌, ℕ, is_some, not, ◌++◌, OnOk, if◌then◌else◌};
 ghost use Rattle.codec_payload_av1.specs.Av1Obu.{canonical, has_bit, is_kept_type};
@@ -42,7 +42,7 @@ impl Av1Depacketizer {
         }
     }
 
-    /// Takes the payload of an aggregation header and the bytes behind it. After a refusal anything may be pending.
+    /// Takes the payload of an aggregation header and the bytes after it. After a refusal anything may be pending.
     fn take_payload(
         &mut self,
         header: AggregationHeader,
@@ -62,7 +62,7 @@ impl Av1Depacketizer {
         self.take_elements_of(header, bytes, out)
     }
 
-    /// The same, where want of memory comes of any payload.
+    /// The same, where memory may run out for any payload.
     fn take_elements_of(
         &mut self,
         header: AggregationHeader,
@@ -78,7 +78,7 @@ impl Av1Depacketizer {
     }
 }
 
-/// What the payload tells, after what `before` told of the frame.
+/// What the payload reports, after what `before` reported of the frame.
 fn extra(packet: &[u8], before: &CodecExtra) -> CodecExtra
     ensures { result ≡ extra_of packet.now before.now }
 {
@@ -106,8 +106,8 @@ impl Depacketizer for Av1Depacketizer {
         Some(packets_size)
     }
 
-    /// Appends the kept OBUs that end in the payload, each with its size, and tells of the frame in the extra. A frame
-    /// that was told to be a keyframe stays one. The beginning of an OBU that goes on in the next payload stays pending.
+    /// Appends the kept OBUs that end in the payload, each with its size, and reports the frame in the extra. A frame that was
+    /// reported to be a keyframe stays one. The beginning of an OBU that goes on in the next payload stays pending.
     ///
     /// `ErrShortPacket` for the empty payload; `ErrAv1CorruptedPacket` where the length of an element is unreadable, 0 or
     /// past the end, or where an element is not exactly one OBU, which is found before any memory is asked for. After a
@@ -140,7 +140,7 @@ impl Depacketizer for Av1Depacketizer {
         }
     }
 
-    /// Whether the Z bit is clear, so that the payload does not begin inside an OBU. An empty payload is no head.
+    /// Whether the Z bit is clear, so that the payload does not begin inside an OBU. An empty payload is not a head.
     fn is_partition_head(&self, packet: &[u8]) -> bool {
         match packet.first() {
             Some(header) => !AggregationHeader { byte: *header }.continues(),
@@ -153,7 +153,7 @@ impl Depacketizer for Av1Depacketizer {
     }
 }
 
-/// What of the pending bytes goes on in the payload of this aggregation header.
+/// What of the pending bytes go on in the payload of this aggregation header.
 fn begun_of(header: AggregationHeader, pending: &[u8]) -> &[u8]
     ensures { result.now ≡ begun_at header.byte pending.now }
 {
@@ -164,7 +164,7 @@ fn begun_of(header: AggregationHeader, pending: &[u8]) -> &[u8]
     }
 }
 
-/// Makes room for what a payload of so many bytes adds to a unit that has just begun: no more than these and one size.
+/// Makes room for what a payload of that many bytes adds to a unit that has just begun: no more than these and one size.
 /// Packets can be shorter than the unit that they give, and room for twice as much is not asked for then.
 fn reserve_for_first(out: &mut Vec<u8>, count: usize) -> Result<(), AllocError>
     ensures { out.new.items ≡ out.old.items }
@@ -175,7 +175,7 @@ fn reserve_for_first(out: &mut Vec<u8>, count: usize) -> Result<(), AllocError>
     Ok(())
 }
 
-/// Lets go of what is pending where it does not go on in the payload of this aggregation header.
+/// Lets go of the pending bytes where it does not go on in the payload of this aggregation header.
 fn keep_begun(pending: &mut Pending, header: AggregationHeader)
     ensures { pending.new ≡ begun_at header.byte pending.old }
 {
@@ -191,8 +191,8 @@ fn has_orphan(header: AggregationHeader, begun: &[u8]) -> bool
     header.continues() && begun.is_empty()
 }
 
-/// Whether an element under a W of `w` can be taken behind what was begun and before these bytes: it is dropped, it goes on
-/// in the next packet, or it ends one OBU.
+/// Whether an element under a W of `w` can be taken after what was begun and before these bytes: it is dropped, it goes on in
+/// the next packet, or it ends one OBU.
 fn can_be_taken(
     is_orphan: bool,
     may_go_on: bool,
@@ -206,8 +206,8 @@ fn can_be_taken(
     is_orphan || (may_go_on && w < 2 && rest.is_empty()) || is_one_obu(begun, element)
 }
 
-/// Whether a depacketizer that holds these bytes can take the payload of an aggregation header and the bytes behind it. It
-/// takes no memory.
+/// Whether a depacketizer that holds these bytes can take the payload of an aggregation header and the bytes after it. It takes
+/// no memory.
 fn is_readable(pending: &[u8], header: AggregationHeader, bytes: &[u8]) -> bool
     ensures { result ≡ is_some (received pending.now (header.byte ∷ bytes.now)) }
 {
@@ -253,8 +253,8 @@ fn append_unit(out: &mut Vec<u8>, element: &[u8]) -> Result<(), PacketError>
     Ok(())
 }
 
-/// Adds what the pending bytes and an element behind them give, which have to be exactly one OBU. Nothing is pending then.
-/// The element is copied once, but for an OBU with a size of its own.
+/// Adds what the pending bytes and an element after them give, which have to be exactly one OBU. Nothing is pending then. The
+/// element is copied once, except an OBU with its own size.
 fn append_joined(
     pending: &mut Pending,
     out: &mut Vec<u8>,
@@ -276,7 +276,7 @@ fn append_joined(
     Ok(())
 }
 
-/// Takes an element that ends here: joins it to what is pending, and adds what both give, or drops it where it goes on from
+/// Takes an element that ends here: joins it to the pending bytes, and adds what both give, or drops it where it goes on from
 /// bytes that never came. Nothing is pending then.
 fn take_element(
     pending: &mut Pending,
@@ -302,8 +302,8 @@ fn stays_open(is_orphan: bool, may_go_on: bool, w: u8, rest: &[u8]) -> bool
     !is_orphan && may_go_on && w < 2 && rest.is_empty()
 }
 
-/// Takes the elements behind an aggregation header one after another, as they are read; the last one of a packet that goes
-/// on stays pending.
+/// Takes the elements after an aggregation header one after another, as they are read; the last one of a packet that goes on
+/// stays pending.
 fn take_elements(
     pending: &mut Pending,
     out: &mut Vec<u8>,

@@ -1,4 +1,4 @@
-//! AV1: how what is sent is received (docs/FORMATS.md, "AV1").
+//! AV1: how a sent payload is received (docs/FORMATS.md, "AV1").
 
 ghost use Rattle.std.specs.Prelude.{◌≡◌, ◌<◌, ◌^◌, ◌++◌, ◌∷◌, ℕ, Bool, true, List, Some, length, slice_index};
 ghost use Rattle.std.specs.List.{flat_map};

@@ -10,7 +10,7 @@ use std::marker::Model;
 /// The length of a report in bytes (RFC 4733, section 2.3).
 pub const REPORT_SIZE: usize = 4;
 
-/// The duration of so many units of a clock of that rate, in nanoseconds, to the nearest.
+/// The duration of that many units of a clock of that rate, in nanoseconds, to the nearest.
 pub fn duration_from_units(units: u16, rate: Frequency) -> u64
     ensures value { result ≡ nanoseconds_of units rate }
     ensures rated { 0 < rate }
@@ -19,7 +19,7 @@ pub fn duration_from_units(units: u16, rate: Frequency) -> u64
     (u64::from(units) * 1_000_000_000 + rate / 2) / rate
 }
 
-/// The units of a clock that so many nanoseconds are, to the nearest, where they fit sixteen bits.
+/// Returns the units of a clock that the nanoseconds are, to the nearest, or `None` if they exceed sixteen bits.
 fn units_from_duration(nanoseconds: u64, rate: Frequency) -> Option<u16>
     ensures { SomeIff result (units_of nanoseconds rate < 65536) (units_of nanoseconds rate) }
 {
@@ -28,7 +28,7 @@ fn units_from_duration(nanoseconds: u64, rate: Frequency) -> Option<u16>
 }
 
 impl TelephoneEvent {
-    /// The report of the first four bytes, or `None` where there are fewer. What follows them is not looked at. The
+    /// The reported value of the first four bytes, or `None` where there are fewer. The bytes after them are ignored. The
     /// reserved bit may have any value.
     ///
     /// Written again at the same rate, a report gives its bytes back, the reserved bit clear, where the rate is below

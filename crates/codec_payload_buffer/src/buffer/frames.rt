@@ -15,7 +15,7 @@ pub struct CompleteFrame {
     pub last: u64,
 }
 
-/// The frame of a row: from its lowest head to its tail, where it has both.
+/// The frame of a range: from its lowest head to its tail, where it has both.
 pub(super) fn frame_of(row: &Row) -> Option<CompleteFrame>
     ensures { result ≡ frame_of_row row.now }
 {
@@ -36,7 +36,7 @@ fn find_end(complete_frames: &VecDeque<CompleteFrame>, last: u64) -> usize
     place_of_number(complete_frames, last)
 }
 
-/// Takes a frame into the list, in the stead of the one with the same end, if there is one. The room was found before.
+/// Takes a frame into the list, instead of the one with the same end, if there is one. The room was found before.
 pub(super) fn note(complete_frames: &mut VecDeque<CompleteFrame>, frame: Option<CompleteFrame>)
     requires rises { EndsRise complete_frames.old.items }
     requires room { deque_len complete_frames.old < deque_capacity complete_frames.old }

@@ -14,9 +14,9 @@ use std::mem::size_of;
 /// A packet that is held. Whether it begins and ends a unit was asked of the depacketizer when it came.
 #[derive(Debug, Drop)]
 pub(super) struct HeldPacket {
-    /// Its sequence number, here too, so that a search looks at entries alone.
+    /// Its sequence number, here too, so that a search reads entries alone.
     pub(super) number: u64,
-    /// What is known of it, behind a pointer, so that an entry has 48 bytes however much that is.
+    /// The facts about it, after a pointer, so that an entry has 48 bytes however much that is.
     pub(super) meta: Box<Known>,
     pub(super) bytes: Vec<u8>,
     pub(super) head: bool,
@@ -24,7 +24,7 @@ pub(super) struct HeldPacket {
     ghost numbered: { number ≡ meta.value.seq_no.0 },
 }
 
-/// What tells something of itself, made anew each time.
+/// What reports something of itself, made again each time.
 pub(super) trait Tells<T> {
     ghost told: { Self → T };
 
@@ -32,7 +32,7 @@ pub(super) trait Tells<T> {
         ensures { result ≡ told self.now };
 }
 
-/// What is known of it, as users are told it.
+/// The facts about it, as users are reported it.
 impl Tells<RtpMeta> for HeldPacket {
     ghost told = { λ packet. packet.meta.value };
 
@@ -44,7 +44,7 @@ impl Tells<RtpMeta> for HeldPacket {
 /// A push that is far from both ends moves as many entries as half of the packets that are held.
 const _: () = prove!(size_of::<HeldPacket>() <= 48);
 
-/// What is known of a packet. A layers allocation, which few packets have, stands apart: it takes more than all the rest.
+/// The facts about a packet. A layers allocation, which few packets have, stands apart: it takes more than all the rest.
 #[derive(Debug, Drop)]
 pub(super) struct Known {
     received: Ticks,
@@ -65,7 +65,7 @@ pub(super) struct Known {
     last_sender_info: Option<SenderInfo>,
 }
 
-/// What a held packet takes besides its payload and its entry.
+/// The memory of a held packet in addition to its payload and its entry.
 const _: () = prove!(size_of::<Known>() <= 176);
 
 impl Model for Known {
@@ -99,7 +99,7 @@ impl Model for Known {
 }
 
 impl Known {
-    /// What is known of a packet, as it is kept. Takes memory for a layers allocation alone.
+    /// The facts about a packet, as it is kept. Takes memory for a layers allocation alone.
     pub(super) fn of(alloc: Global, meta: RtpMeta) -> Result<Self, AllocError>
         ensures { IfOk result (λ known. known ≡ meta) }
     {
@@ -143,7 +143,7 @@ impl Known {
         self.received
     }
 
-    /// What is known of the packet, as users are told it.
+    /// The facts about the packet, as users are reported it.
     pub(super) fn meta(&self) -> RtpMeta
         ensures { result ≡ self.now }
     {

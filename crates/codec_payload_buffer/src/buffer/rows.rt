@@ -1,4 +1,4 @@
-//! The rows of held packets: where packets stand together, and from where a frame can begin.
+//! The ranges of held packets: where packets stand together, and from where a frame can begin.
 
 ghost use Rattle.std.specs.Prelude.{◌≡◌, ◌<◌, ◌≤◌, ◌+◌, map, drop, slice_index_or, slice_set};
 ghost use Rattle.std.specs.VecDeque.{deque_len, deque_capacity};
@@ -23,7 +23,7 @@ pub(super) struct Row {
     pub(super) tail: bool,
 }
 
-/// One packet as a row.
+/// One packet as a range.
 pub(super) fn row_of_packet(packet: &HeldPacket) -> Row
     ensures { result ≡ row_of (held_of packet.now) }
 {
@@ -37,7 +37,7 @@ pub(super) fn row_of_packet(packet: &HeldPacket) -> Row
     }
 }
 
-/// Whether the later row goes on where the earlier ends: the next number, the same time, and no tail before.
+/// Whether the later range goes on where the earlier ends: the next number, the same time, and no tail before.
 fn meets(earlier: &Row, later: &Row) -> bool
     ensures { result ≡ meet earlier.now later.now }
 {
@@ -47,7 +47,7 @@ fn meets(earlier: &Row, later: &Row) -> bool
         && !earlier.tail
 }
 
-/// Two rows that meet, as one.
+/// Two ranges that meet, as one.
 fn join(earlier: Row, later: Row) -> Row
     ensures { result ≡ joined earlier later }
 {
@@ -60,7 +60,7 @@ fn join(earlier: Row, later: Row) -> Row
     }
 }
 
-/// How many rows begin below that number.
+/// How many ranges begin below that number.
 fn find_row(rows: &VecDeque<Row>, number: u64) -> usize
     requires { RowsRise rows.now.items }
     ensures { result ≡ row_place number rows.now.items }
@@ -68,7 +68,7 @@ fn find_row(rows: &VecDeque<Row>, number: u64) -> usize
     place_of_number(rows, number)
 }
 
-/// Another row at a place.
+/// Another range at a place.
 fn set_row(rows: &mut VecDeque<Row>, place: usize, row: Row)
     requires { place < deque_len rows.old }
     ensures items { rows.new.items ≡ slice_set rows.old.items place row }
@@ -77,8 +77,8 @@ fn set_row(rows: &mut VecDeque<Row>, place: usize, row: Row)
     rows[place] = row;
 }
 
-/// Puts a row before those from a place on, one with the first of them where they meet, and says which row it is then.
-/// The room was found before.
+/// Puts a range before those from a place on, one with the first of them where they meet, and says which range it is then. The
+/// room was found before.
 fn put_in(rows: &mut VecDeque<Row>, place: usize, row: Row) -> Row
     requires within { place ≤ deque_len rows.old }
     requires room { deque_len rows.old < deque_capacity rows.old }
@@ -96,7 +96,7 @@ fn put_in(rows: &mut VecDeque<Row>, place: usize, row: Row) -> Row
     row
 }
 
-/// Makes the row after a place one with the row there, where they meet, and says which row it is then.
+/// Makes the range after a place one with the range there, where they meet, and says which range it is then.
 fn join_back(rows: &mut VecDeque<Row>, place: usize, row: Row) -> Row
     requires within { place + 1 < deque_len rows.old }
     requires there { row ≡ slice_index_or rows.old.items (place + 1) row }
@@ -112,7 +112,7 @@ fn join_back(rows: &mut VecDeque<Row>, place: usize, row: Row) -> Row
     join(earlier, row)
 }
 
-/// Takes a row in, one with those that it meets, and says which row it is then. The room was found before.
+/// Takes a range in, one with those that it meets, and says which range it is then. The room was found before.
 pub(super) fn add_row(rows: &mut VecDeque<Row>, row: Row) -> Row
     requires normal { AreLongest rows.old.items }
     requires rises { RowsRise rows.old.items }
@@ -144,8 +144,8 @@ fn find_head(packets: &VecDeque<HeldPacket>, last: u64) -> Option<u64>
     None
 }
 
-/// What is left of a row once its first packet has left; `packets` are those that are left. Looks for the next packet
-/// that begins a unit only where the one that has left did.
+/// The rest of a range once its first packet has left; `packets` are those that are left. Searches for the next packet that
+/// begins a unit only where the one that has left did.
 fn shorten(row: &Row, packets: &VecDeque<HeldPacket>) -> Option<Row>
     requires ends { row.now.first ≤ row.now.last }
     requires head { IsHeadKept row.now (map held_of packets.now.items) }
@@ -168,7 +168,7 @@ fn shorten(row: &Row, packets: &VecDeque<HeldPacket>) -> Option<Row>
     })
 }
 
-/// The first row becomes this one, or leaves.
+/// The first range becomes this one, or leaves.
 fn replace_first(rows: &mut VecDeque<Row>, rest: Option<Row>)
     requires { 0 < deque_len rows.old }
     ensures { rows.new.items ≡ with_row rest (drop 1 rows.old.items) }
@@ -181,7 +181,7 @@ fn replace_first(rows: &mut VecDeque<Row>, rest: Option<Row>)
     }
 }
 
-/// The frame of what is left of a row.
+/// The frame of the rest of a range.
 fn frame_of_left(rest: &Option<Row>) -> Option<CompleteFrame>
     ensures { result ≡ frame_of_rest rest.now }
 {
@@ -191,7 +191,7 @@ fn frame_of_left(rest: &Option<Row>) -> Option<CompleteFrame>
     }
 }
 
-/// The first packet of the first row has left; `packets` are those that are left. Says which frame the row had before and
+/// The first packet of the first range has left; `packets` are those that are left. Says which frame the range had before and
 /// which it has after.
 pub(super) fn shorten_first(
     rows: &mut VecDeque<Row>,
@@ -207,7 +207,7 @@ pub(super) fn shorten_first(
     frames
 }
 
-/// The rows that begin up to that number leave.
+/// The ranges that begin up to that number leave.
 pub(super) fn remove_rows(rows: &mut VecDeque<Row>, last: u64)
     ensures { rows.new.items ≡ drop (row_end last rows.old.items) rows.old.items }
 {

@@ -10,7 +10,7 @@ use super::held_packet::HeldPacket;
 use super::rows::Row;
 use std::collections::VecDeque;
 
-/// What stands in a queue in rising order of a number.
+/// The contents of a queue in rising order of a number.
 pub(super) trait Numbered {
     ghost number_of: { Self → ℕ };
 
@@ -44,8 +44,8 @@ impl Numbered for CompleteFrame {
     }
 }
 
-/// How many items have a lower number. Looks at the first item, and then back from the last one in steps that double, so the
-/// cost grows with the logarithm of how far from the end the place is, and not with the length of the queue.
+/// How many items have a lower number. Reads the first item, and then back from the last one in steps that double, so the cost
+/// grows with the logarithm of how far from the end the place is, and not with the length of the queue.
 pub(super) fn place_of_number<T: Numbered>(items: &VecDeque<T>, number: u64) -> usize
     requires { IsNonDecreasingBy T.number_of items.now.items }
     ensures bound { result ≤ deque_len items.now }

@@ -1,4 +1,4 @@
-//! What is known of a received packet, and units with what is known of their packets.
+//! The facts about a received packet, and units with the facts about their packets.
 
 ghost use Rattle.std.specs.Prelude.{◌≡◌, ◌<◌, length, false};
 ghost use Rattle.std.specs.Range.{range_inclusive_start, range_inclusive_end, range_inclusive_exhausted};
@@ -12,7 +12,7 @@ use codec_payload_base::wire::{
 use std::marker::Model;
 use std::ops::RangeInclusive;
 
-/// What is known of a received packet besides its payload.
+/// The facts about a received packet, without its payload.
 #[derive(Clone, Debug, PartialEq, Eq, Drop)]
 pub struct RtpMeta {
     /// When it was received, by the caller's clock.
@@ -25,7 +25,7 @@ pub struct RtpMeta {
 }
 
 impl RtpMeta {
-    /// What is known of a packet of which only its number, its time, its payload type and when it was received are known. Its
+    /// The facts about a packet of which only its number, its time, its payload type and when it was received are known. Its
     /// header has the low 16 bits of the number and the low 32 of the time's ticks, no marker, the SSRC 0 and no values of
     /// header extensions; no sender report came before it. All fields are public, so a caller who knows more sets it.
     pub fn of(seq_no: SeqNo, time: MediaTime, payload_type: Pt, received: Ticks) -> Self
@@ -48,28 +48,28 @@ impl RtpMeta {
     }
 }
 
-/// What is told of a unit whose bytes, and what is known of whose packets, lie in memory of the caller's.
+/// A unit whose bytes and meta data are in the caller's memory.
 #[derive(Clone, Copy, Debug, PartialEq, Eq)]
 pub struct UnitInfo {
     /// The one time of its packets.
     pub time: MediaTime,
-    /// Whether it follows the unit that was released before it, as [`Depacketized`] tells it.
+    /// Whether it follows the unit that was released before it, as [`Depacketized`] reports it.
     pub contiguous: bool,
-    /// What its payloads told besides its bytes.
+    /// The codec-specific data.
     pub codec_extra: CodecExtra,
 }
 
-/// A unit that was put together from the payloads of one packet or more.
+/// A unit that was reassembled from the payloads of one packet or more.
 #[derive(Debug, Drop)]
 pub struct Depacketized {
     /// The one time of its packets.
     pub time: MediaTime,
-    /// Whether it follows the unit that was released before it: by its sequence numbers, or by its picture ids where VP8 or
-    /// VP9 told both. It is so of the first unit, unless its numbers tell it and a packet was evicted before.
+    /// Whether it follows the unit that was released before it: by its sequence numbers, or by its picture ids where VP8 or VP9
+    /// reported both. It is so of the first unit, unless its numbers report it and a packet was evicted before.
     pub contiguous: bool,
     /// The unit itself.
     pub bytes: Vec<u8>,
-    /// What its payloads told besides.
+    /// The codec-specific data.
     pub codec_extra: CodecExtra,
     metas: Vec<RtpMeta>,
 }
@@ -117,7 +117,7 @@ impl Depacketized {
         }
     }
 
-    /// What is known of its packets, in order of their sequence numbers. There is at least one.
+    /// The facts about its packets, in order of their sequence numbers. There is at least one.
     pub fn meta(&self) -> &[RtpMeta]
         ensures value { result.now ≡ self.now.metas }
         ensures some { 0 < length result.now }

@@ -54,7 +54,7 @@ impl<B> fmt::Debug for CodecDepacketizer<B> {
 }
 
 impl CodecDepacketizer {
-    /// The depacketizer of a codec, or `None` where the codec has none. G.722 is put together as G.711 is.
+    /// The depacketizer of a codec, or `None` where the codec has none. G.722 is reassembled as G.711 is.
     pub fn from_codec(alloc: Global, codec: Codec) -> Option<Self>
         ensures { option_map depacketizer_state_of result ≡ depacketizer_state_for codec }
     {

@@ -16,13 +16,13 @@ pub struct Av1OperatingPoint {
     /// A bit for each temporal layer in the low eight, and one for each spatial layer in the four above; 0 where there are no
     /// layers.
     pub idc: u16,
-    /// The level, 0 to 31: 31 stands for no limits.
+    /// The level, 0 to 31: 31 represents no limits.
     pub level: u8,
     /// Whether the tier is High, and not Main.
     pub high_tier: bool,
 }
 
-/// Where colors stand, by the numbers of ISO/IEC 23091-2; each is 2 where it is not told.
+/// The color description, by the numbers of ISO/IEC 23091-2; each is 2 if it is absent.
 #[derive(Clone, Copy, Debug, PartialEq, Eq)]
 pub struct Av1ColorDescription {
     /// The color primaries.
@@ -33,7 +33,7 @@ pub struct Av1ColorDescription {
     pub matrix: u8,
 }
 
-/// How the colors of pictures are told.
+/// How the colors of pictures are reported.
 #[derive(Clone, Copy, Debug, PartialEq, Eq)]
 pub struct Av1Color {
     /// 8, 10 or 12 bits.
@@ -51,7 +51,7 @@ pub struct Av1Color {
     pub chroma_sample_position: u8,
 }
 
-/// What a sequence header tells.
+/// What a sequence header reports.
 #[derive(Clone, Copy, Debug, PartialEq, Eq)]
 pub struct Av1SequenceHeader {
     /// 0 Main, 1 High, 2 Professional.
@@ -60,7 +60,7 @@ pub struct Av1SequenceHeader {
     pub still_picture: bool,
     /// Whether the header is of the short form for one picture.
     pub reduced: bool,
-    /// The first operating point, which a decoder takes that is not told another.
+    /// The first operating point, which a decoder takes that is not reported another.
     pub operating_point: Av1OperatingPoint,
     /// How many operating points there are, 1 to 32.
     pub operating_points: u8,
@@ -69,11 +69,11 @@ pub struct Av1SequenceHeader {
     /// The largest height of a frame in pixels, 1 to 65,536.
     pub max_height: u32,
     pub color: Av1Color,
-    /// Whether frames may tell film grain.
+    /// Whether frames may report film grain.
     pub film_grain: bool,
 }
 
-/// A number of unknown length behind so many zeros.
+/// A number of unknown length after that many zeros.
 fn skip_uvlc(reader: &mut FieldReader<'_>, most: u8, zeros: usize) -> Result<u8, MediaError>
     requires { most + zeros ≤ 32 }
     ensures { paired result (left reader.new) ≡ read (uvlc_from most zeros) (left reader.old) }
@@ -87,7 +87,7 @@ fn skip_uvlc(reader: &mut FieldReader<'_>, most: u8, zeros: usize) -> Result<u8,
     skip_uvlc(reader, most - 1, zeros + 1)
 }
 
-/// Bits that are passed over, if they are there.
+/// Bits that are skipped, if they are there.
 fn skip_if(reader: &mut FieldReader<'_>, there: bool, bits: usize) -> Result<u8, MediaError>
     ensures { paired result (left reader.new) ≡ read (branch there (skips bits) (tells 0)) (left reader.old) }
 {
@@ -105,7 +105,7 @@ fn read_flag_if(reader: &mut FieldReader<'_>, there: bool) -> Result<bool, Media
     if there { read_flag(reader) } else { Ok(false) }
 }
 
-/// The decoder model, of which the length of delays is told.
+/// The decoder model, of which the length of delays is reported.
 fn read_decoder_model(reader: &mut FieldReader<'_>) -> Result<u8, MediaError>
     ensures value { paired result (left reader.new) ≡ read decoder_model (left reader.old) }
     ensures most { IfOk result (λ n. n ≤ 32) }
@@ -170,7 +170,7 @@ fn skip_parameters_if(reader: &mut FieldReader<'_>, delay: u8) -> Result<u8, Med
     skip_if(reader, there, 2 * usize::from(delay) + 1)
 }
 
-/// The delay of an operating point, if delays are told.
+/// The delay of an operating point, if delays are reported.
 fn skip_display_delay_if(reader: &mut FieldReader<'_>, told: bool) -> Result<u8, MediaError>
     ensures { paired result (left reader.new) ≡ read (branch told display_delay (tells 0)) (left reader.old) }
 {
@@ -203,7 +203,7 @@ pub(crate) fn read_operating_point(
     })
 }
 
-/// So many operating points are passed over.
+/// That many operating points are skipped.
 pub(crate) fn skip_operating_points(
     reader: &mut FieldReader<'_>,
     count: u8,
@@ -272,7 +272,7 @@ fn skip_frame_ids(reader: &mut FieldReader<'_>, reduced: bool) -> Result<u8, Med
     skip_if(reader, there, 7)
 }
 
-/// Whether motion vectors are whole, if it is told.
+/// Whether motion vectors are whole, if it is reported.
 fn skip_integer_vectors_if(reader: &mut FieldReader<'_>, there: bool) -> Result<u8, MediaError>
     ensures { paired result (left reader.new) ≡ read (branch there integer_vectors (tells 0)) (left reader.old) }
 {
@@ -459,7 +459,7 @@ fn read_color(reader: &mut FieldReader<'_>, profile: u8) -> Result<Av1Color, Med
     }
 }
 
-/// What the front of a header tells.
+/// What the front of a header reports.
 #[derive(Clone, Copy)]
 pub(crate) struct Front {
     pub(crate) profile: u8,
@@ -499,7 +499,7 @@ fn read_points(
 }
 
 impl Av1SequenceHeader {
-    /// What stands behind the operating points.
+    /// The bytes after the operating points.
     fn read_behind(
         reader: &mut FieldReader<'_>,
         fields: Front,
@@ -545,14 +545,14 @@ impl Av1SequenceHeader {
         Av1SequenceHeader::read_fields(&mut reader)
     }
 
-    /// What the payload of a sequence header OBU tells. What stands behind it is not looked at. It takes no memory.
+    /// What the payload of a sequence header OBU reports. The bytes after it are ignored. It takes no memory.
     ///
     /// A fault is the first one from left to right: `MissingBytes` where the header is cut off, and `ReservedValue` where the
     /// profile is above 2, or the number of ticks for a picture has 32 zeros at its front.
     pub fn parse(payload: &[u8]) -> Result<Av1SequenceHeader, MediaError>
-        // What is read is spelled so.
+        // A read value is spelled so.
         ensures spelled { IfOk result (λ h. IsSpelled sequence_header (bits_of payload.now) h) }
-        // What is spelled so is read.
+        // A value spelled so is read.
         ensures accepted { (h : Av1SequenceHeader) → IsSpelled sequence_header (bits_of payload.now) h → result ≡ Ok h }
         // Which fault comes first.
         ensures exact { result ≡ told_by sequence_header (bits_of payload.now) }

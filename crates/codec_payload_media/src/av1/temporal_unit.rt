@@ -1,5 +1,5 @@
-//! AV1: what a temporal unit tells up to its first frame header (sections 5.3, 5.9.2 and 7.5; docs/FORMATS.md, "What a
-//! frame says").
+//! AV1: what a temporal unit reports up to its first frame header (sections 5.3, 5.9.2 and 7.5; docs/FORMATS.md, "What a frame
+//! says").
 
 ghost use Rattle.std.specs.Prelude.{◌≡◌};
 ghost use Rattle.codec_payload_base.specs.Bits.{bits_of};
@@ -23,13 +23,13 @@ pub const OBU_FRAME: u8 = 6;
 /// How a frame header begins.
 #[derive(Clone, Copy, Debug, PartialEq, Eq)]
 pub struct Av1FrameStart {
-    /// Whether it shows a frame that was decoded before. Of which kind that is, it does not tell.
+    /// Whether it shows a frame that was decoded before. Of which kind that is, it does not report.
     pub existing: bool,
     /// Whether it is a new keyframe.
     pub keyframe: bool,
     /// Whether the frame is shown, now and not later by another header.
     pub shown: bool,
-    /// The temporal layer, 0 to 7; 0 where the OBU does not tell.
+    /// The temporal layer, 0 to 7; 0 where the OBU does not report.
     pub temporal_id: u8,
 }
 
@@ -101,7 +101,7 @@ impl Av1FrameStart {
     }
 }
 
-/// The temporal layer that an extension tells.
+/// The temporal layer that an extension reports.
 fn temporal_layer(extension: Option<Av1Extension>) -> u8
     ensures { result ≡ temporal_layer extension }
 {
@@ -111,7 +111,7 @@ fn temporal_layer(extension: Option<Av1Extension>) -> u8
     }
 }
 
-/// What a temporal unit tells up to its first frame header.
+/// What a temporal unit reports up to its first frame header.
 #[derive(Clone, Copy, Debug, PartialEq, Eq)]
 pub struct Av1TemporalUnit {
     /// The last sequence header before the first frame header, if there is one.
@@ -141,7 +141,7 @@ impl Av1TemporalUnit {
         }
     }
 
-    /// What it tells with one OBU more.
+    /// What it reports with one OBU more.
     fn with(self, obu: &Av1Obu<'_>) -> Result<Av1TemporalUnit, MediaError>
         ensures { result ≡ with_obu self (obu_of obu.now) }
     {
@@ -163,9 +163,9 @@ impl Av1TemporalUnit {
         })
     }
 
-    /// What a temporal unit tells, or the first fault up to its first frame header: that of [`Av1Obus`] or of
-    /// [`Av1SequenceHeader::parse`], or `MissingBytes` where a frame header is empty. What stands behind the front of the first
-    /// frame header is not looked at. It takes no memory.
+    /// What a temporal unit reports, or the first fault up to its first frame header: that of [`Av1Obus`] or of
+    /// [`Av1SequenceHeader::parse`], or `MissingBytes` where a frame header is empty. The bytes after the front of the first
+    /// frame header is ignored. It takes no memory.
     ///
     /// [`Av1Obus`]: crate::av1::obu::Av1Obus
     pub fn parse(unit: &[u8]) -> Result<Av1TemporalUnit, MediaError>
@@ -184,7 +184,7 @@ impl Av1TemporalUnit {
         Ok(told)
     }
 
-    /// Whether a coded video sequence starts with it (section 7.5), so that decoding can start here: a sequence header stands
+    /// Whether a coded video sequence starts with it (section 7.5), so that decoding can start here: a sequence header is
     /// before its first frame header, which is that of a keyframe of temporal layer 0 that is shown at once.
     pub fn begins_sequence(&self) -> bool
         ensures { result ≡ begins_sequence self.now.sequence_header self.now.frame }

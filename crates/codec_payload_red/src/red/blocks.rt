@@ -70,8 +70,8 @@ pub struct RedBlock<'a> {
     pub is_primary: bool,
 }
 
-/// How many redundant headers stand before the primary one, or `None` where the bytes end inside the headers or there
-/// are more than `most`.
+/// How many redundant headers are before the primary one, or `None` where the bytes end inside the headers or there are more
+/// than `most`.
 #[tactic(auto, unfolding(crate::specs::RedReading::count_at))]
 fn count_of(most: u32, bytes: &[u8]) -> Option<usize>
     ensures found { result ≡ count_at most bytes.now }
@@ -90,7 +90,7 @@ fn count_of(most: u32, bytes: &[u8]) -> Option<usize>
     Some(count + 1)
 }
 
-/// The block whose header stands first in `headers`, taken from the front of `bodies`, and what stands behind it there.
+/// The block whose header stands first in `headers`, taken from the front of `bodies`, and the bytes after it there.
 #[tactic(auto, unfolding(crate::specs::RedReading::block_at))]
 fn block_of_header<'a>(headers: &[u8], bodies: &'a [u8]) -> Option<(RedBlock<'a>, &'a [u8])>
     requires { 4 ≤ length headers.now }
@@ -162,7 +162,7 @@ fn blocks_from<'a>(
     Ok(found)
 }
 
-/// What is written of a block: a payload has the headers of all blocks before the bytes of all.
+/// The bytes written for a block: a payload has the headers of all blocks before the bytes of all.
 #[derive(Clone, Copy, Debug)]
 pub(crate) enum BlockPart {
     Header,
@@ -284,10 +284,10 @@ impl RedDecoder {
     /// The blocks of a payload in the order of their headers, so the primary one is last. Each borrows its bytes from
     /// the payload; nothing is copied (RFC 2198, section 3).
     ///
-    /// Fault 14, `ErrRedCorruptedPacket`, comes for all that is no RED payload: where the bytes end inside the headers,
-    /// where more than 32 redundant blocks are announced, and where a redundant block goes past the end; no memory is
-    /// asked for then. Any other bytes are a RED payload, whatever was meant by them. Fault 17, `OutOfMemory`, comes
-    /// where the list of blocks of such a payload finds no memory.
+    /// Fault 14, `ErrRedCorruptedPacket`, comes for all that is not a RED payload: where the bytes end inside the headers,
+    /// where more than 32 redundant blocks are announced, and where a redundant block goes past the end; no memory is asked for
+    /// then. Any other bytes are a RED payload, whatever was meant by them. Fault 17, `OutOfMemory`, comes where the list of
+    /// blocks of such a payload finds no memory.
     pub fn decode<'a>(alloc: Global, payload: &'a [u8]) -> Result<Vec<RedBlock<'a>>, PacketError>
         // The blocks are those of the payload, and encoding them gives its bytes.
         ensures payload { IfOk result (λ v. (r : Red) × IsRed payload.now r × (blocks_of v.items ≡ blocks_in r) × (encoded r.pt r.primary r.redundant ≡ payload.now)) }

@@ -31,9 +31,9 @@ pub struct Recovered<'a> {
 
 /// Finds the packets that a RED payload holds, of a stream whose packets are a fixed step of RTP time apart.
 ///
-/// A redundant block says how many ticks of the RTP clock older it is, and not which number it had (RFC 2198, section 3),
-/// so the number is told by the step: a receiver whose step is another than the sender's gives wrong numbers, or none.
-/// With 48 kHz and packets of 20 milliseconds the step is 960.
+/// A redundant block says how many ticks of the RTP clock older it is, and not which number it had (RFC 2198, section 3), so
+/// the number is determined by the step: a receiver whose step is another than the sender's gives wrong numbers, or none. With
+/// 48 kHz and packets of 20 milliseconds the step is 960.
 #[derive(Clone, Copy, Debug, PartialEq, Eq)]
 pub struct RedReceiver {
     primary_pt: u8,
@@ -133,14 +133,14 @@ impl RedReceiver {
     /// itself is last. Each borrows its bytes from the payload; nothing is copied, and the receiver remembers nothing: a
     /// packet that came already, or was recovered before, is answered again (RFC 2198, section 3).
     ///
-    /// A redundant block of the receiver's payload type is the packet as many numbers back as its timestamp offset has
-    /// steps, with an RTP time by the offset less, modulo 2^32. It is passed over where the offset is 0 or no multiple of
-    /// the step, where it goes back more than [`MAX_RED_RECOVERY_DEPTH`] steps, and where it goes below number 0. The
-    /// primary block is the packet itself, where it has the type. So the answer has at most 33 packets, and may be empty.
+    /// A redundant block of the receiver's payload type is the packet as many numbers back as its timestamp offset has steps,
+    /// with an RTP time by the offset less, modulo 2^32. It is skipped where the offset is 0 or no multiple of the step, where
+    /// it goes back more than [`MAX_RED_RECOVERY_DEPTH`] steps, and where it goes below number 0. The primary block is the
+    /// packet itself, where it has the type. So the answer has at most 33 packets, and may be empty.
     ///
-    /// Fault 14, `ErrRedCorruptedPacket`, comes where the payload is no RED payload, exactly as for
-    /// [`RedDecoder::decode`], and no memory is asked for then. Fault 17, `OutOfMemory`, comes where the list of blocks
-    /// or the list of packets of a RED payload finds no memory.
+    /// Fault 14, `ErrRedCorruptedPacket`, comes where the payload is not a RED payload, exactly as for [`RedDecoder::decode`],
+    /// and no memory is asked for then. Fault 17, `OutOfMemory`, comes where the list of blocks or the list of packets of a RED
+    /// payload finds no memory.
     pub fn recover<'a>(
         &self,
         alloc: Global,

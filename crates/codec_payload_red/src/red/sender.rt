@@ -17,7 +17,7 @@ use std::collections::VecDeque;
 use std::marker::Model;
 use std::mem;
 
-/// How many packets back a receiver looks for what a redundant block carries, and so the greatest distance of a sender.
+/// How many packets back a receiver searches for what a redundant block carries, and so the greatest distance of a sender.
 pub const MAX_RED_RECOVERY_DEPTH: u64 = 8;
 
 /// The greatest distance of a sender is 8.
@@ -33,7 +33,7 @@ struct SentPayload {
     time: u32,
 }
 
-/// The payload that was sent so many before.
+/// The payload that was sent that many before.
 fn back_of(history: &VecDeque<SentPayload>, distance: u32) -> Option<&SentPayload>
     ensures { Finds (λ x. entry_of x.now) result (back (entries_of history.now.items) distance) }
 {
@@ -52,7 +52,7 @@ fn as_block_of(sent: &SentPayload, pt: u8, time: u32) -> Option<(u32, &[u8])>
     Some((offset, sent.bytes.as_slice()))
 }
 
-/// The level of a distance: the payload that was sent so many before, as a block's offset and bytes.
+/// The level of a distance: the payload that was sent that many before, as a block's offset and bytes.
 fn level_of(
     history: &VecDeque<SentPayload>,
     pt: u8,
@@ -67,7 +67,7 @@ fn level_of(
     as_block_of(sent, pt, time)
 }
 
-/// The distances whose levels are sent: the first so many, shallowest first.
+/// The distances whose levels are sent: the first of them, shallowest first.
 #[derive(Clone, Copy)]
 struct Chosen {
     count: usize,
@@ -129,7 +129,7 @@ fn put_levels(
     Ok(())
 }
 
-/// Puts behind what is there the levels that the budget has room for, deepest first, and the payload behind them.
+/// Puts after what is there the levels that the budget has room for, deepest first, and the payload after them.
 #[tactic(auto, using(crate::proofs::SenderOutputLemmas::appended_in_order))]
 fn put_wrapped(
     out: &mut Vec<u8>,
@@ -204,7 +204,7 @@ fn depth_of(distances: &[u32]) -> usize
     }
 }
 
-/// Takes out the oldest payload where the history holds one more than so many, and gives its memory.
+/// Takes out the oldest payload where the history holds one more than that many, and gives its memory.
 #[tactic(auto, using(crate::proofs::SenderHistoryLemmas::all_within, crate::proofs::SenderHistoryLemmas::one_past))]
 fn take_past(history: &mut VecDeque<SentPayload>, depth: usize) -> Vec<u8>
     requires { length history.old.items ≤ depth + 1 }
@@ -263,8 +263,8 @@ impl RedSender {
     /// A sender that has sent nothing. `red_pt` is the payload type of the packets, `primary_pt` that of the blocks, of
     /// which 7 bits are written. It takes no memory; `alloc` is where the history will grow.
     ///
-    /// It asks for distances that [`RedSender::accepts`] takes: strictly rising, each from 1 to 8, or none at all.
-    /// Where they come from outside, ask that call first.
+    /// It asks for distances that [`RedSender::accepts`] takes: strictly rising, each from 1 to 8, or none at all. If they come
+    /// from outside, ask that call first.
     pub fn new(alloc: Global, red_pt: Pt, primary_pt: Pt, distances: &[u32]) -> Self
         requires { IsTrue (is_accepted distances.now) }
         ensures { result ≡ record { red_pt = red_pt; primary_pt = primary_pt; distances = distances.now; history = [] } }
@@ -300,7 +300,7 @@ impl RedSender {
         self.red_pt
     }
 
-    /// Puts behind what is there what goes out for a payload.
+    /// Puts after what is there the sent payload for a payload.
     fn put_output(
         &self,
         payload: &[u8],
@@ -326,7 +326,7 @@ impl RedSender {
         }
     }
 
-    /// What goes out for a payload.
+    /// The sent payload for a payload.
     #[tactic(auto, using(crate::proofs::SenderOutputLemmas::output_is_red))]
     fn output(&self, payload: &[u8], time: u32, budget: usize) -> Result<Vec<u8>, AllocError>
         ensures written { IfOk result (λ v. v.items ≡ output self.now payload.now time budget) }
@@ -357,9 +357,9 @@ impl RedSender {
     /// its header of 4 bytes finds room. They are written deepest first. The payload is then remembered.
     ///
     /// **A payload of `budget` bytes or more comes back as it is**, without the one byte of RED's last header, and is
-    /// remembered all the same. Sent under the RED payload type, as [`RedSender::red_pt`] has it, such bytes are no RED
-    /// to a receiver, or worse: by chance they read as RED, as blocks that nobody sent. So cut media for one byte less
-    /// than the budget: where samples are packetized, let the MTU be `budget - 1`.
+    /// remembered all the same. Sent under the RED payload type, as [`RedSender::red_pt`] has it, a receiver refuses such
+    /// bytes, or misreads them as blocks that nobody sent. So cut media for one byte less than the budget: where samples are
+    /// packetized, let the MTU be `budget - 1`.
     ///
     /// The only fault is 17, `OutOfMemory`, which leaves the sender as it was; the payload is then gone. The payload
     /// moves into the history and is copied once, into the answer, and so is each payload that is repeated.
@@ -399,7 +399,7 @@ impl RedSender {
         Ok(())
     }
 
-    /// Puts what goes out behind what is there, and remembers the payload.
+    /// Puts the sent payload after what is there, and remembers the payload.
     fn put_and_remember(
         &mut self,
         payload: &[u8],
@@ -416,7 +416,7 @@ impl RedSender {
         self.remember(payload, time)
     }
 
-    /// The same as [`RedSender::wrap`] over memory that is used again: what goes out is put into `out`, which is begun anew
+    /// The same as [`RedSender::wrap`] over memory that is used again: the sent payload is put into `out`, which is begun again
     /// and keeps its memory, and the payload is copied into the history, into the memory of the one that leaves it. It takes
     /// memory only where `out`, or what left the history, is too short, and until the history is full.
     ///

@@ -49,7 +49,7 @@ const SIZES_PRESENT: u8 = 0x10;
 /// G of a structure: groups of pictures are there.
 const GROUPS_PRESENT: u8 = 0x08;
 
-/// A number of 16 bits at the front, and what is behind it.
+/// A number of 16 bits at the front, and the bytes after it.
 fn u16_of(bytes: &[u8]) -> Result<(u16, &[u8]), PacketError>
     ensures { seen (λ x. (x.0, x.1.now)) result ≡ number_at bytes.now }
 {
@@ -74,7 +74,7 @@ impl Vp9Depacketizer {
         self.z = flags & NO_UPPER_REFERENCE != 0;
     }
 
-    /// Reads the picture id, if it is there, and answers what is behind it.
+    /// Reads the picture id, if it is there, and answers the bytes after it.
     fn read_id<'a>(&mut self, bytes: &'a [u8]) -> Result<&'a [u8], PacketError>
         ensures fields { fields_of self.new ≡ (read_id (fields_of self.old) bytes.now).fields }
         ensures rest { seen (λ r. r.now) result ≡ (read_id (fields_of self.old) bytes.now).rest }
@@ -205,7 +205,7 @@ impl Vp9Depacketizer {
         Ok(rest)
     }
 
-    /// Reads a scalability structure but for its groups.
+    /// Reads a scalability structure except its groups.
     fn read_head<'a>(&mut self, bytes: &'a [u8]) -> Result<&'a [u8], PacketError>
         ensures fields { fields_of self.new ≡ (head_at (fields_of self.old) bytes.now).fields }
         ensures rest { seen (λ r. r.now) result ≡ (head_at (fields_of self.old) bytes.now).rest }
@@ -231,7 +231,7 @@ impl Vp9Depacketizer {
         self.pgpdiff.clear();
     }
 
-    /// Reads a scalability structure, if it is there, but for its groups. Those of an earlier one are gone once its first byte
+    /// Reads a scalability structure, if it is there, except its groups. Those of an earlier one are gone once its first byte
     /// was read.
     fn read_structure<'a>(&mut self, bytes: &'a [u8]) -> Result<&'a [u8], PacketError>
         ensures kept { SameButGroups (fields_of self.new) (read_head (fields_of self.old) bytes.now).fields }
@@ -248,7 +248,7 @@ impl Vp9Depacketizer {
         read
     }
 
-    /// Reads what is behind the first byte but for the groups, and answers what is behind: the groups, and the rest.
+    /// Reads the bytes after the first byte except the groups, and answers the bytes after: the groups, and the rest.
     pub(crate) fn read_fields<'a>(&mut self, bytes: &'a [u8]) -> Result<&'a [u8], PacketError>
         ensures kept { SameButGroups (fields_of self.new) (read_all (fields_of self.old) bytes.now).fields }
         ensures groups { all_groups (fields_of self.old) bytes.now ≡ groups_from (groups_of (fields_of self.new)) (read_all (fields_of self.old) bytes.now).rest (groups_at (group_count (fields_of self.new))) }
@@ -265,7 +265,7 @@ impl Vp9Depacketizer {
         if self.v { self.ng } else { 0 }
     }
 
-    /// Reads a group. Where memory is refused, nothing has changed.
+    /// Reads a group. If memory is refused, nothing has changed.
     fn read_group<'a>(&mut self, bytes: &'a [u8]) -> Result<&'a [u8], PacketError>
         ensures kept { SameButGroups (fields_of self.new) (fields_of self.old) }
         ensures groups { is_no_memory result ≡ false → groups_of (fields_of self.new) ≡ (group_at (groups_of (fields_of self.old)) bytes.now).groups }
@@ -290,7 +290,7 @@ impl Vp9Depacketizer {
         Ok(others)
     }
 
-    /// Reads so many groups. Where memory is refused, those before are there.
+    /// Reads that many groups. If memory is refused, those before are there.
     pub(crate) fn read_groups<'a>(
         &mut self,
         count: u8,
@@ -310,7 +310,7 @@ impl Vp9Depacketizer {
     }
 }
 
-/// What is behind a group.
+/// The bytes after a group.
 fn behind_group(bytes: &[u8]) -> Result<&[u8], PacketError>
     ensures { (groups : Groups) → seen (λ r. r.now) result ≡ (group_at groups bytes.now).rest }
 {
@@ -325,7 +325,7 @@ fn behind_group(bytes: &[u8]) -> Result<&[u8], PacketError>
     Ok(others)
 }
 
-/// What is behind so many groups.
+/// The bytes after that many groups.
 pub(crate) fn behind_groups(count: u8, bytes: &[u8]) -> Result<&[u8], PacketError>
     ensures { (groups : Groups) → seen (λ r. r.now) result ≡ (groups_at count groups bytes.now).rest }
 {

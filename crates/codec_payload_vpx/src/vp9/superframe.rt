@@ -1,4 +1,4 @@
-//! VP9: superframes, units that hold several frames, of which all but the last are not shown (Annex B; docs/FORMATS.md,
+//! VP9: superframes, units that hold several frames, of which all except the last are not shown (Annex B; docs/FORMATS.md,
 //! "What a frame says").
 
 ghost use Rattle.std.specs.Prelude.{◌≡◌, ◌<◌, ◌≤◌, ◌∷◌, [], length, option_map, take, drop};
@@ -55,7 +55,7 @@ fn has_index(unit: &[u8]) -> bool
     byte / 32 == 6 && length <= unit.len() && unit[unit.len() - length] == byte
 }
 
-/// So many bytes from the front, or all where there are fewer, and what is behind them.
+/// That many bytes from the front, or all where there are fewer, and the bytes after them.
 fn cut_front(count: usize, bytes: &[u8]) -> (&[u8], &[u8])
     ensures front { result.0.now ≡ take count bytes.now }
     ensures rest { result.1.now ≡ drop count bytes.now }
@@ -66,7 +66,7 @@ fn cut_front(count: usize, bytes: &[u8]) -> (&[u8], &[u8])
     bytes.split_at(count)
 }
 
-/// The size at the front of an index, and what is behind it.
+/// The size at the front of an index, and the bytes after it.
 fn front_size(width: usize, sizes: &[u8]) -> (u32, &[u8])
     requires { width ≤ 4 }
     ensures size { result.0 ≡ next_size width sizes.now }
@@ -77,7 +77,7 @@ fn front_size(width: usize, sizes: &[u8]) -> (u32, &[u8])
     (le_number(size), rest)
 }
 
-/// What so many frames have together, by their sizes.
+/// What that many frames have together, by their sizes.
 fn size_sum(count: usize, width: usize, sizes: &[u8]) -> u64
     requires count { count ≤ 8 }
     requires width { width ≤ 4 }
@@ -96,7 +96,7 @@ fn size_sum(count: usize, width: usize, sizes: &[u8]) -> u64
 /// A frame of a unit, and where it lies.
 #[derive(Clone, Copy, Debug, PartialEq, Eq)]
 pub struct Vp9FrameAt<'a> {
-    /// How many bytes of the unit stand before it.
+    /// How many bytes of the unit are before it.
     pub start: usize,
     pub frame: &'a [u8],
 }
@@ -162,9 +162,9 @@ impl<'a> Vp9Frames<'a> {
 
     /// The frames of a unit. It reads the index at the end, if there is one, and takes no memory.
     ///
-    /// An index stands there where the last byte is `110` in its high bits and stands at the front of the index too. Behind
-    /// the frames, and before the index, bytes that belong to none may stand. A fault is `MissingBytes` of no bytes, and
-    /// `SizesDoNotFit` where the frames have more bytes together than stand before the index.
+    /// An index is there where the last byte is `110` in its high bits and is at the front of the index too. After the frames,
+    /// and before the index, bytes that belong to none may stand. A fault is `MissingBytes` of no bytes, and `SizesDoNotFit`
+    /// where the frames have more bytes together than are before the index.
     pub fn parse(unit: &'a [u8]) -> Result<Vp9Frames<'a>, MediaError>
         ensures { told frames_left result ≡ unit_frames unit.now }
     {
@@ -177,7 +177,7 @@ impl<'a> Vp9Frames<'a> {
         Ok(Vp9Frames::alone(unit))
     }
 
-    /// The frame of that number among those that are left, behind the bytes of the ones before it.
+    /// The frame of that number among those that are left, after the bytes of the ones before it.
     fn placed(&self, number: usize) -> Option<Vp9FrameAt<'a>>
         ensures { option_map (λ f. (f.start, f.frame.now)) result ≡ placed_in number (frames_left self.now) }
     {

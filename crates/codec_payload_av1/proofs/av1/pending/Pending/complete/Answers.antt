@@ -25,7 +25,7 @@ pub overflow_add-begun : goal.overflow_add-begun
 overflow_add-begun c =
     omega (arith, payload_within (goal.at.overflow_add-begun c).Then-is_kept, c.self.inside.bytes.ok.0, c.self.inside.bytes.ok.1, c.self.inside.bytes.small)
 
--- where what is pending becomes the unit
+-- where the pending bytes become the unit
 placed : (out bytes end : List ℕ) (o : Obu) (room : ℕ) (front extended new : List ℕ) → drop room bytes ≡ (o.header ∷ o.extension) ++ o.payload → front ≡ out
     ++ (bit_or o.header 2 ∷ (o.extension ++ leb (length o.payload + length end)))
     → length o.payload + length front ≡ length bytes → extended ≡ bytes ++ end → new ≡ front ++ drop (length front) extended → new ≡ out ++ canonical (going_on o end)
