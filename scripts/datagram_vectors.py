@@ -107,9 +107,14 @@ OUTCOMES = [
         "counters received 11 rtcp 1 malformed 1 other 2 duplicates 1 late 1 suspect 1 evicted 1 held 2 released 1 units 1\n",
     ),
     Row(
-        "strays with neighbouring numbers do not restart a stream",
-        WAITS + "receive\n" + "".join(came(0, n, "00") for n in (10, 40_000, 11, 40_001, 20_000, 40_002, 12)) + "counters\n",
+        "strays whose numbers do not follow one another do not restart a stream",
+        WAITS + "receive\n" + "".join(came(0, n, "00") for n in (10, 40_000, 11, 40_002, 20_000, 40_003, 12)) + "counters\n",
         "held\nsuspect\nheld\nsuspect\nsuspect\nsuspect\nheld\ncounters received 7 suspect 4 held 3\n",
+    ),
+    Row(  # RFC 3550, appendix A.1: a packet within the windows does not clear bad_seq
+        "a suspect packet stays over a packet within the windows",
+        WAITS + "receive\n" + "".join(came(0, n, "00") for n in (10, 40_000, 11, 40_001)) + "counters\n",
+        "held\nsuspect\nheld\nrestarted\ncounters received 4 held 4 restarts 1\n",
     ),
     Row(
         "a restart that the caller tells, with another SSRC",

@@ -79,6 +79,10 @@ pub trait TryVec<T>: Sized {
     fn try_from_slice(items: &[T]) -> Result<Self, AllocError>
     where
         T: Copy;
+    /// Makes a vector of `count` copies of the value.
+    fn try_filled(value: T, count: usize) -> Result<Self, AllocError>
+    where
+        T: Copy;
     /// Appends a value.
     fn try_push(&mut self, value: T) -> Result<(), AllocError>;
     /// Inserts a value at a place.
@@ -124,6 +128,16 @@ impl<T> TryVec<T> for Vec<T> {
     {
         let mut made = Self::try_of_capacity(items.len())?;
         made.extend_from_slice(items);
+        Ok(made)
+    }
+
+    #[inline]
+    fn try_filled(value: T, count: usize) -> Result<Self, AllocError>
+    where
+        T: Copy,
+    {
+        let mut made = Self::try_of_capacity(count)?;
+        made.resize(count, value);
         Ok(made)
     }
 

@@ -2,7 +2,7 @@
 import re
 
 from source import without_doc
-from tokens import OPEN, Refused, close, elements, plain
+from tokens import OPEN, Refused, Token, close, elements, plain
 
 RUNTIMES = ("HostRuntime", "& HostRuntime", "& impl Abort", "& impl Clock", "& R")
 ALLOC_VALUES = ("alloc", "_alloc", "self . alloc", "rt . alloc ( )", "rt", "& rt", "self . rt", "* alloc")
@@ -94,10 +94,29 @@ def drop_from_macros(f):
                     if head.startswith("in ") or t.text in ("println", "eprintln", "print"):
                         if f.ts[end + 1].text != "?":
                             f.refuse(t, f"{t.text}! whose answer is not asked with ?")
-                        del f.ts[end + 1]
+                        if t.text == "vec" and is_of_library(f):
+                            fill(f, i, end)
+                        else:
+                            del f.ts[end + 1]
                 else:
                     f.refuse(t, f"a macro with {head!r} before ;")
         i += 1
+
+
+def is_of_library(f):
+    return f.path.startswith("crates/codec_payload_")
+
+
+def fill(f, i, end):
+    """`vec![x; n]?` of the library becomes a call that reports out of memory. A list of items is refused: it has no such call."""
+    semi = next((j for j in range(i + 3, end) if f.ts[j].text == ";" and f.ts[j].kind == "p"), None)
+    if semi is None:
+        f.refuse(f.ts[i], "vec! of items in the library")
+    line = f.ts[i].line
+    f.ts[semi].text, f.ts[end].text = ",", ")"
+    f.ts[i].text = "Vec"
+    f.ts[i + 1:i + 3] = [Token("", "::", "p", line), Token("", "try_filled", "word", line), Token("", "(", "p", line)]
+    f.needs.add("TryVec")
 
 
 def drop_from_lists(f):

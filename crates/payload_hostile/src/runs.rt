@@ -31,17 +31,12 @@ fn put_all_popped(text: &mut String, buffer: &mut DepacketizingBuffer) -> Result
     Ok(())
 }
 
-/// A payloader of Opus at 8 kHz, and an empty buffer.
-fn sides(alloc: Global) -> Option<(Payloader, DepacketizingBuffer)> {
-    let spec = CodecSpec {
-        codec: Codec::Opus,
-        clock_rate: Frequency::EIGHT_KHZ,
-        octet_align: false,
-    };
-    let payloader = Payloader::new(spec, Vp9PacketizerMode::NonFlexible, 0)?;
-    let depacketizer = CodecDepacketizer::from_codec(alloc, spec.codec)?;
-    Some((payloader, DepacketizingBuffer::new(alloc, depacketizer, 0)))
-}
+/// Opus at 8 kHz.
+const OPUS: CodecSpec = CodecSpec {
+    codec: Codec::Opus,
+    clock_rate: Frequency::EIGHT_KHZ,
+    octet_align: false,
+};
 
 /// The units that a run popped, or its fault; the packets that the sink holds, and what the buffer holds.
 fn put_run(
@@ -79,9 +74,13 @@ const ALL_OF_ONE: [Step; 6] = [
 
 /// Runs one sample of Opus through all, and then pops what is left.
 pub fn runs(alloc: Global, text: &mut String) -> Result<(), PacketError> {
-    let Some((mut payloader, mut buffer)) = sides(alloc) else {
+    let Some(mut payloader) = Payloader::new(OPUS, Vp9PacketizerMode::NonFlexible, 0) else {
         return Ok(());
     };
+    let Some(depacketizer) = CodecDepacketizer::from_codec(alloc, OPUS.codec) else {
+        return Ok(());
+    };
+    let mut buffer = DepacketizingBuffer::new(alloc, depacketizer, 0);
     let mut sink = MemorySink::new(alloc, 10);
     let mut samples = Vec::new(alloc);
     samples.push(sample(alloc, 960, &[0x90, 0x90, 0x91])?)?;
@@ -115,12 +114,16 @@ const SECOND_OF_TWO: [Step; 4] = [
 /// Runs two samples of Opus in RED. Then the next payload is wrapped, which shows what the sender has remembered, and the buffer
 /// gives what is left.
 pub fn runs_in_red(alloc: Global, text: &mut String) -> Result<(), PacketError> {
-    let (Some((mut payloader, mut buffer)), Some(receiver)) = (
-        sides(alloc),
-        RedReceiver::new(96, 160),
-    ) else {
+    let Some(mut payloader) = Payloader::new(OPUS, Vp9PacketizerMode::NonFlexible, 0) else {
         return Ok(());
     };
+    let Some(depacketizer) = CodecDepacketizer::from_codec(alloc, OPUS.codec) else {
+        return Ok(());
+    };
+    let Some(receiver) = RedReceiver::new(96, 160) else {
+        return Ok(());
+    };
+    let mut buffer = DepacketizingBuffer::new(alloc, depacketizer, 0);
     let mut sender = RedSender::new(alloc, Pt::new_with_value(63), Pt::new_with_value(96), &[1]);
     let mut sink = MemorySink::new(alloc, 10);
     let mut samples = Vec::new(alloc);

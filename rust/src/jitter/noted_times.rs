@@ -2,9 +2,8 @@
 
 //! The RTP times of the latest numbers. A number that comes with another time tells that the sender has restarted.
 
-use crate::memory::AllocError;
+use crate::memory::{AllocError, TryVec};
 use crate::wire::{Frequency, RtpHeader};
-use alloc::vec;
 use alloc::vec::Vec;
 
 /// The backward window of audio: up to this one, every fourth number is noted.
@@ -49,7 +48,7 @@ impl NotedTimes {
         if !self.places.is_empty() || !is_noted(backward, packet.number) {
             return Ok(Vec::new());
         }
-        let places = vec![packet; places_for(backward)];
+        let places = Vec::try_filled(packet, places_for(backward))?;
         Ok(places)
     }
 
