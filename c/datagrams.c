@@ -376,6 +376,7 @@ static void choice(void) {
     cpay_receiver_settings settings = settings_of(opus());
     settings.has_ssrc = false;
     settings.tick_rate = 1000;
+    settings.hold_back = 1; /* numbers after a restart stand behind a gap */
     cpay_receiver receiver = receiver_of(&settings);
     CHECK(came_of(&receiver, 0, 1, 500) == CPAY_UNDECIDED && came_of(&receiver, 5, 2, 11) == CPAY_UNDECIDED);
     CHECK(counts_of(&receiver).undecided == 2 && counts_of(&receiver).received == 2 && !counts_of(&receiver).has_ssrc);
@@ -402,6 +403,7 @@ static void told_as(void) {
     settings.has_rtx = true;
     settings.rtx_ssrc = 2;
     settings.rtx_payload_type = 112;
+    settings.hold_back = 1; /* of two frames behind the gap of a restart the first is released */
     cpay_receiver receiver = receiver_of(&settings);
     uint8_t bytes[20];
     uint32_t outcome = 99;

@@ -60,6 +60,8 @@ static cpay_receiver receiver_of(uint32_t codec, uint32_t rate, cpay_extension_i
     settings.spec.rate = rate;
     settings.payload_type = TYPE;
     settings.extension_ids = under;
+    settings.ssrc = SSRC;
+    settings.has_ssrc = true;
     CHECK(cpay_receiver_new(&receiver, &settings, NULL, 0) == CPAY_OK);
     return receiver;
 }
