@@ -164,7 +164,7 @@ fi
 step scripts/abi.sh
 abi=$(tail -n 1 "$work/log")
 step scripts/install_test.sh
-installed=$(tail -n 1 "$work/log")
+installed=$(tail -n 1 "$work/log" | sed "s/: all passed$//")
 
 echo "C: $assembly; the headers, the tests with and without sanitizers, over $allocators; $proved; $arm; $abi; $twin; $installed:" \
     "all passed"
