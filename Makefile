@@ -1,4 +1,4 @@
-# Builds, tests and installs the library for C, from c/generated, the assembly of the proved library, and two short files of C.
+# Builds, tests and installs the library for C, from c/generated, the assembly of the proved library, and three files of C.
 # A C compiler and make do; on x86-64 and AArch64 Linux.
 #
 #   make                                  the archive and the shared library, in c/out
@@ -48,7 +48,7 @@ pictures = $(wildcard docs/pictures/*.svg)
 manual = $(out)/man/man3
 recorder = tools/rtp_record
 vectors = crates/payload_vectors
-shipped = Makefile include packaging $(documents) $(pages) $(pictures) $(wildcard c/*.c c/*.cpp c/*.h c/*.sh c/*.txt c/generated/*.S) \
+shipped = Makefile include packaging $(documents) $(pages) $(pictures) $(wildcard c/*.c c/*.cpp c/*.h c/*.sh c/*.txt c/sdp/* c/generated/*.S) \
     $(vectors)/stdin $(vectors)/stdout \
     $(addprefix $(recorder)/,Makefile README.md rtp_record.1 completion.bash) $(wildcard $(recorder)/*.c $(recorder)/*.h)
 # Without libpcap and libavformat the packages are made without the recorder.
@@ -85,7 +85,7 @@ $(out)/%.o: c/%.c $(headers) | $(out)
 	$(compile) -c $< -o $@
 
 # One object, whose names for others are the calls of the header alone.
-$(out)/codec_payload.o: $(addprefix $(out)/,proved.o memory.o calls.o)
+$(out)/codec_payload.o: $(addprefix $(out)/,proved.o memory.o calls.o sdp.o)
 	$(CC) -r -nostdlib -o $(out)/all.o $^
 	$(OBJCOPY) --wildcard --keep-global-symbol='cpay_*' $(out)/all.o $@
 
@@ -98,7 +98,7 @@ $(shared): $(out)/codec_payload.o packaging/codec_payload.map
 	    $(CFLAGS) $(LDFLAGS) $< -o $@
 
 # The tests: each is a program over the archive. `strict=-Werror` is how the repository builds them.
-programs = $(addprefix $(tests)/,example checks datagrams packets values loopback vectors frames oom)
+programs = $(addprefix $(tests)/,example checks datagrams packets values loopback vectors frames oom descriptions)
 
 $(tests)/%: c/%.c $(wildcard c/*.h) $(headers) $(LIBRARY)
 	@mkdir -p $(tests)
@@ -132,11 +132,11 @@ example loopback: %: $(tests)/%
 
 man: $(manual)/codec_payload.h.3
 
-$(manual)/codec_payload.h.3: include/codec_payload.h include/codec_payload_media.h packaging/Doxyfile
+$(manual)/codec_payload.h.3: include/codec_payload.h include/codec_payload_media.h include/codec_payload_sdp.h packaging/Doxyfile
 	rm -rf $(out)/man $(out)/html
 	mkdir -p $(out)
 	(cat packaging/Doxyfile && echo OUTPUT_DIRECTORY = $(out)) | doxygen -
-	find $(manual) ! -type d ! -name 'cpay_*' ! -name codec_payload.h.3 ! -name codec_payload_media.h.3 -delete
+	find $(manual) ! -type d ! -name 'cpay_*' ! -name codec_payload.h.3 ! -name codec_payload_media.h.3 ! -name codec_payload_sdp.h.3 -delete
 
 install: all
 	$(INSTALL) -d $(DESTDIR)$(INCLUDEDIR) $(DESTDIR)$(LIBDIR)/pkgconfig $(DESTDIR)$(cmake) $(DESTDIR)$(DOCDIR)
@@ -163,7 +163,7 @@ uninstall:
 	    $(DESTDIR)$(LIBDIR)/$(soname) $(DESTDIR)$(LIBDIR)/$(notdir $(shared)) $(DESTDIR)$(LIBDIR)/pkgconfig/codec-payload.pc
 	rm -rf $(DESTDIR)$(cmake) $(DESTDIR)$(DOCDIR)
 	rm -f $(DESTDIR)$(MANDIR)/man3/cpay_* $(DESTDIR)$(MANDIR)/man3/codec_payload.h.3 \
-	    $(DESTDIR)$(MANDIR)/man3/codec_payload_media.h.3
+	    $(DESTDIR)$(MANDIR)/man3/codec_payload_media.h.3 $(DESTDIR)$(MANDIR)/man3/codec_payload_sdp.h.3
 
 dist: | $(out)
 	tar -czf $(out)/$(name).tar.gz --transform 's|^|$(name)/|' $(shipped)

@@ -1,4 +1,4 @@
-/* For tests: memory of any kind, since a struct of one kind may reach a call of another behind a cast. */
+/* For tests: memory for a handle of any type, since after a cast a handle of one type may reach a call of another. */
 #ifndef ANY_H
 #define ANY_H
 

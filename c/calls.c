@@ -1,5 +1,5 @@
-/* The calls of codec_payload.h over those that are proved, which take a handle of any kind and no NULL: here NULL with a length
- * of 0 becomes a pointer to something, and with another length it is refused. Written by scripts/check_header.py --calls. */
+/* The calls of codec_payload.h over the proved calls, which accept a handle of any type and no NULL. Here NULL with a length of 0
+ * becomes a valid pointer; NULL with another length is refused. Written by scripts/check_header.py --calls. */
 #include "codec_payload.h"
 
 typedef char status_is_four_bytes[sizeof(cpay_status) == 4 ? 1 : -1];
@@ -188,6 +188,11 @@ cpay_status cpay_receiver_pop(cpay_receiver *receiver, uint64_t now, cpay_unit *
 cpay_status proved_cpay_receiver_values(cpay_handle *receiver, cpay_extension_values *values);
 cpay_status cpay_receiver_values(cpay_receiver *receiver, cpay_extension_values *values) {
     return proved_cpay_receiver_values(&receiver->handle, values);
+}
+
+cpay_status proved_cpay_receiver_wants_keyframe(cpay_handle *receiver, bool *wants);
+cpay_status cpay_receiver_wants_keyframe(cpay_receiver *receiver, bool *wants) {
+    return proved_cpay_receiver_wants_keyframe(&receiver->handle, wants);
 }
 
 cpay_status proved_cpay_receiver_next_deadline(cpay_handle *receiver, uint64_t *at);

@@ -1,4 +1,4 @@
-/* For tests: what holds is counted, and what does not is printed with its place. */
+/* For tests: counts checks that hold, and prints the others with their place. */
 #ifndef CHECK_H
 #define CHECK_H
 

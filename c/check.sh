@@ -1,11 +1,13 @@
 #!/bin/sh
 # Runs the C tests that `make check` built, and compares what they print.
 #
-#   c/check.sh FOLDER COMMAND..    the programs stand in FOLDER, and COMMAND, if there is one, runs each
+#   c/check.sh FOLDER COMMAND..    the programs are in FOLDER; COMMAND, if given, runs each of them
 #
-# What each call answers: checks, datagrams, values, packets. A stream over UDP on loopback: loopback. The stored script of the
-# program payload_vectors: vectors. What frames say that other readers told of, and hostile ones: frames, frames.txt. Allocations
-# less frees after each kind of use, and each allocation of a session refused in turn: oom. The status is 0 where all passed.
+# The result of each call: checks, datagrams, values, packets. A stream over UDP on loopback: loopback. The stored script of the
+# program payload_vectors: vectors. Headers of frames, compared with other readers, and hostile frames: frames, frames.txt.
+# Allocations less frees after each type of use, and each allocation of a session refused in turn: oom. Session descriptions in
+# c/sdp: descriptions. Each is read as NAME.txt says, which was written by hand after the RFCs; the faults are in faults.txt;
+# and changed copies are read within bounds. The status is 0 if all passed.
 set -eu
 folder=$1
 shift
@@ -35,7 +37,14 @@ says example 2 "packets 65536 to 65538: a frame of 3000 bytes"
 says loopback '$' "1278000 bytes of frames, 64 gaps"
 "$@" "$folder/vectors" <"$vectors/stdin" >"$work/vectors" || fail "c/vectors.c failed"
 cmp -s "$work/vectors" "$vectors/stdout" || fail "c/vectors.c answers other lines than the program payload_vectors"
-cut -d' ' -f1,2 "$root/c/frames.txt" | "$@" "$folder/frames" tell | cut -d' ' -f1-4 >"$work/told"
-cut -d' ' -f3- "$root/c/frames.txt" | cmp -s - "$work/told" || fail "c/frames.c tells other than c/frames.txt"
+cut -d' ' -f1,2 "$root/c/frames.txt" | "$@" "$folder/frames" report | cut -d' ' -f1-4 >"$work/reported"
+cut -d' ' -f3- "$root/c/frames.txt" | cmp -s - "$work/reported" || fail "c/frames.c and c/frames.txt differ"
 cut -d' ' -f1,2 "$root/c/frames.txt" | "$@" "$folder/frames" hostile >"$work/hostile" || fail "c/frames.c failed"
+for given in "$root"/c/sdp/*.sdp; do
+    "$@" "$folder/descriptions" <"$given" >"$work/read" || fail "c/descriptions.c failed for $given"
+    cmp "$work/read" "${given%.sdp}.txt" || fail "c/descriptions.c reads something else of $given"
+    "$@" "$folder/descriptions" fuzz <"$given" >"$work/fuzzed" || fail "c/descriptions.c failed for a changed $given"
+done
+"$@" "$folder/descriptions" faults <"$root/c/sdp/faults.txt" >"$work/faults" || fail "c/descriptions.c failed for c/sdp/faults.txt"
+echo "descriptions: $(cat "$work/faults")"
 echo "check: $(ls "$folder" | wc -l) programs, all passed"

@@ -1,4 +1,4 @@
-/* What each call answers: statuses, what waits, and what is told. Expected bytes are written out by the RFCs named. */
+/* The result of each call: statuses, waiting packets and units, and outputs. Expected bytes follow the RFCs named here. */
 #include "any.h"
 #include "check.h"
 #include "codec_payload.h"
@@ -8,7 +8,7 @@ static cpay_spec spec_of(uint32_t codec, uint32_t rate) {
     return spec;
 }
 
-/* Every call on a struct that is empty or of another kind. */
+/* Every call on a handle that is empty or of another type. */
 static void refusals(any *it, cpay_status packets, cpay_status units, cpay_status red, cpay_status pieces) {
     uint8_t bytes[4] = {7, 7, 7, 7};
     size_t count = 7;
@@ -46,7 +46,7 @@ static void texts(void) {
         uint32_t status;
         const char *text;
     } rows[] = {
-        {0, "done"},
+        {0, "success"},
         {1, "the packet is too short"},
         {2, "the payload exceeds the MTU"},
         {3, "too many spatial layers"},
@@ -55,19 +55,19 @@ static void texts(void) {
         {12, "the VP9 packet is corrupted"},
         {13, "the AV1 packet or frame is corrupted"},
         {14, "the RED packet is corrupted"},
-        {15, "the payload is not whole telephone reports"},
+        {15, "invalid telephone-event payload"},
         {16, "the AMR-WB packet or frame is corrupted"},
         {17, "out of memory"},
-        {32, "there is none"},
-        {33, "the caller's bytes are too few"},
-        {34, "nothing was made in it"},
-        {35, "it holds something of another kind"},
-        {36, "it is full already"},
-        {37, "an argument is none that the call takes"},
-        {38, "the frame ends too early"},
-        {39, "the frame has a wrong marker"},
-        {40, "the frame has a reserved value"},
-        {41, "the frame has sizes that do not fit"},
+        {32, "nothing available"},
+        {33, "output buffer too small"},
+        {34, "handle not initialised"},
+        {35, "handle of another type"},
+        {36, "handle already in use"},
+        {37, "invalid argument"},
+        {38, "frame truncated"},
+        {39, "wrong start code or marker in frame"},
+        {40, "reserved value in frame"},
+        {41, "inconsistent sizes in frame"},
         {5, "unknown status"},
         {18, "unknown status"},
         {42, "the RTP packet is shorter than its fixed header"},
@@ -75,8 +75,8 @@ static void texts(void) {
         {44, "the RTP packet ends inside its CSRCs"},
         {45, "the RTP packet ends inside the header of its extension"},
         {46, "the RTP packet ends inside its extension"},
-        {47, "the RTP padding has no bytes"},
-        {48, "the RTP padding is longer than what is left"},
+        {47, "RTP padding length is 0"},
+        {48, "RTP padding exceeds the payload"},
         {49, "the retransmission has no original sequence number"},
         {50, "unknown status"},
     };
@@ -124,7 +124,7 @@ static void arguments(void) {
         cpay_buffer_free(&it.buffer);
         CHECK(cpay_packetizer_new(&it.packetizer, &stopped) == CPAY_INVALID);
         CHECK(cpay_packetizer_new(&it.packetizer, &ids) == CPAY_INVALID);
-        /* What only receives does not look at the picture id. */
+        /* A depacketizer ignores the picture id. */
         CHECK(cpay_depacketizer_new(&it.depacketizer, &ids) == (there ? CPAY_OK : CPAY_INVALID));
         cpay_buffer_free(&it.buffer);
         CHECK(cpay_buffer_new(&it.buffer, &ids, 0, 1) == (there ? CPAY_OK : CPAY_INVALID));
@@ -205,7 +205,7 @@ static void descriptors(void) {
     CHECK(cpay_vp8_patch(one, 3, &values) == CPAY_SHORT_PACKET);
     values = (cpay_vp8_fields_info){.has_tl0_pic_idx = true};
     CHECK(cpay_vp8_patch(two, 5, &values) == CPAY_NONE);
-    /* X S, L T K, TL0PICIDX, TID Y KEYIDX, and bytes behind */
+    /* X S, L T K, TL0PICIDX, TID Y KEYIDX, and bytes after them */
     uint8_t layered[9] = {0x90, 0x70, 5, 0x61, 0x91, 6, 7, 8, 9};
     values = (cpay_vp8_fields_info){.tl0_pic_idx = 200, .key_idx = 31, .has_tl0_pic_idx = true, .has_key_idx = true};
     CHECK(cpay_vp8_patch(layered, 9, &values) == CPAY_OK && same(layered, "\x90\x70\xc8\x7f\x91\6\7\x8\x9", 9));
@@ -299,7 +299,7 @@ static void looks(void) {
     CHECK(cpay_extend_number(65536, true, 32769) == 32769);
 }
 
-/* Payloads of VP9 (RFC 9628, section 4.2) and of telephone events through a depacketizer alone. */
+/* Payloads of VP9 (RFC 9628, section 4.2) and of telephone events through a depacketizer. */
 static void pieces(void) {
     cpay_depacketizer depacketizer = CPAY_INIT;
     cpay_spec vp9 = spec_of(CPAY_VP9, 90000), tele = spec_of(CPAY_TELE, 8000);
@@ -307,7 +307,7 @@ static void pieces(void) {
     uint8_t bytes[8] = {0};
     size_t size = 9;
     CHECK(cpay_depacketizer_new(&depacketizer, &vp9) == CPAY_OK);
-    /* I L B, a 15-bit id, layers 0, TL0PICIDX 7; and then I L E and the same */
+    /* I L B, a 15-bit id, layers 0, TL0PICIDX 7; then I L E and the same */
     CHECK(cpay_depacketize(&depacketizer, (const uint8_t *)"\xa8\x92\x34\x00\x07\x82\x49", 7) == CPAY_OK);
     CHECK(cpay_depacketize(&depacketizer, (const uint8_t *)"\xa4\x92\x34\x00\x07\x83", 6) == CPAY_OK);
     CHECK(cpay_depacketized(&depacketizer, &size, &extra, bytes, 2) == CPAY_TOO_SMALL && size == 3);
@@ -345,7 +345,7 @@ static void audio(void) {
     CHECK(cpay_packetize(&sender, 2, true, (const uint8_t *)"\4\5\6", 3, &count) == CPAY_PAYLOAD_TOO_LARGE);
     CHECK(cpay_packet(&sender, &packet, bytes, 4) == CPAY_OK && !packet.marker && same(bytes, "\1\2\3", 3));
     cpay_packetizer_free(&sender);
-    /* Payloads that carry whatever they are given look at no MTU and at no talk spurt, and an empty frame is one of them. */
+    /* CPAY_NULL ignores the MTU and talk spurts, and accepts an empty frame. */
     CHECK(cpay_packetizer_new(&sender, &null) == CPAY_OK);
     CHECK(cpay_packetize(&sender, 2, true, (const uint8_t *)"\1\2\3", 3, &count) == CPAY_OK && count == 1);
     CHECK(cpay_packet(&sender, &packet, bytes, 4) == CPAY_OK && !packet.marker && packet.bytes == 3 && same(bytes, "\1\2\3", 3));
@@ -354,7 +354,7 @@ static void audio(void) {
     cpay_packetizer_free(&sender);
 }
 
-/* NULL goes with a length of 0, and with no other. */
+/* NULL is allowed with a length of 0 only. */
 static void nulls(void) {
     cpay_packetizer sender = CPAY_INIT;
     cpay_buffer buffer = CPAY_INIT;
@@ -391,7 +391,7 @@ static void nulls(void) {
     cpay_red_sender_free(NULL);
 }
 
-/* What frames say: headers that libvpx and libaom wrote, and the bytes of RFC 6716, RFC 7845 and RFC 4867. */
+/* Headers of frames: bytes that libvpx and libaom wrote, and the bytes of RFC 6716, RFC 7845 and RFC 4867. */
 static void frames(void) {
     static const uint8_t vp8[] = {0x10, 0x00, 0x00, 0x9d, 0x01, 0x2a, 0x40, 0x00, 0x30, 0x00};
     static const uint8_t unit[] = {0x12, 0x00, 0x0a, 0x0a, 0x00, 0x00, 0x00, 0x02, 0xaf,
@@ -428,7 +428,7 @@ static void frames(void) {
     CHECK(cpay_amr_wb_frame(sound, sizeof sound, 7, &frame) == CPAY_NONE);
     CHECK(cpay_amr_wb_frame(sound, 6, 1, &frame) == CPAY_FRAME_TOO_SHORT && frame.bytes == 5);
 
-    /* A superframe of two frames, whose sizes have two bytes, and a byte that belongs to none. */
+    /* A superframe of two frames, whose sizes have two bytes, and a byte of no frame. */
     static const uint8_t two[] = {0x84, 7, 0x86, 9, 0xc9, 2, 0, 1, 0, 0xc9};
     cpay_vp9_frame_info place = {0};
     CHECK(cpay_vp9_frame(two, sizeof two, 0, &place) == CPAY_OK && place.start == 0 && place.bytes == 2);

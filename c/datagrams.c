@@ -1,5 +1,5 @@
-/* Datagrams: RTP packets by RFC 3550, a sender, and a receiver on the streams that break receivers: numbers that wrap, begin
- * anew or carry no media, and the end of a stream. Expected bytes are written out by the RFCs named. */
+/* Datagrams: RTP packets by RFC 3550, a sender, and a receiver on streams that break receivers: numbers that wrap, restart or
+ * carry no media, and the end of a stream. Expected bytes follow the RFCs named here. */
 #include "any.h"
 #include "check.h"
 #include "codec_payload.h"
@@ -28,7 +28,7 @@ static cpay_receiver receiver_of(const cpay_receiver_settings *settings) {
     return receiver;
 }
 
-/* An RTP packet of 12 bytes of header and `size` of payload, each the low byte of its number. */
+/* An RTP packet with a header of 12 bytes and `size` bytes of payload; each payload byte is the low byte of its number. */
 static size_t packet(uint8_t *out, uint8_t type, uint16_t number, uint32_t time, size_t size) {
     const uint8_t header[12] = {0x80, type, (uint8_t)(number >> 8), (uint8_t)number, (uint8_t)(time >> 24), (uint8_t)(time >> 16),
                                 (uint8_t)(time >> 8), (uint8_t)time, SSRC >> 24, SSRC >> 16 & 255, SSRC >> 8 & 255, SSRC & 255};
@@ -37,7 +37,7 @@ static size_t packet(uint8_t *out, uint8_t type, uint16_t number, uint32_t time,
     return 12 + size;
 }
 
-/* What became of a packet of that type and number, whose time is 960 a number. */
+/* The outcome of a packet with this type and number; its RTP time is 960 times the number. */
 static uint32_t came(cpay_receiver *receiver, uint64_t now, uint8_t type, uint16_t number) {
     uint8_t bytes[16];
     uint32_t outcome = 99;
@@ -46,7 +46,7 @@ static uint32_t came(cpay_receiver *receiver, uint64_t now, uint8_t type, uint16
     return outcome;
 }
 
-/* The number of the next unit, modulo 65536; or -1 where there is none. */
+/* The number of the next unit, modulo 65536; -1 if there is none. */
 static long next(cpay_receiver *receiver, uint64_t now) {
     uint8_t bytes[8];
     cpay_unit unit = {0};
@@ -107,7 +107,7 @@ static void packets(void) {
     CHECK(!cpay_is_rtcp((const uint8_t *)"\x80\xbf", 2) && !cpay_is_rtcp((const uint8_t *)"\xc8", 1) && !cpay_is_rtcp(NULL, 0));
 }
 
-/* Settings out of range, and calls on what is empty or of another kind. */
+/* Settings out of range, and calls on handles that are empty or of another type. */
 static void settings(void) {
     any it = ANY_INIT;
     cpay_receiver_settings right = settings_of(opus()), wrong;
@@ -121,6 +121,7 @@ static void settings(void) {
     uint32_t outcome = 7;
     uint64_t at = 7;
     size_t count = 7;
+    bool wants = true;
 #define REFUSED(field, value) \
     wrong = right; \
     wrong.field = (value); \
@@ -132,6 +133,7 @@ static void settings(void) {
     REFUSED(forward, 32769);
     REFUSED(backward, 12000);
     REFUSED(tick_rate, 0);
+    REFUSED(from_keyframe, 3);
     REFUSED(spec.rate, 0);
     REFUSED(spec.codec, 6);
     right.has_red = right.has_rtx = true;
@@ -150,6 +152,7 @@ static void settings(void) {
         CHECK(cpay_receiver_receive(&it.receiver, 0, bytes, 4, &outcome) == status);
         CHECK(cpay_receiver_pop(&it.receiver, 0, &unit, bytes, 4) == status);
         CHECK(cpay_receiver_next_deadline(&it.receiver, &at) == status);
+        CHECK(cpay_receiver_wants_keyframe(&it.receiver, &wants) == status && wants);
         CHECK(cpay_receiver_set_wait_limits(&it.receiver, &wait_limits) == status);
         CHECK(cpay_receiver_finish(&it.receiver) == status);
         CHECK(cpay_receiver_restart(&it.receiver) == status);
@@ -212,7 +215,7 @@ static void first_numbers_swapped(void) {
     cpay_receiver_free(&receiver);
 }
 
-/* The sender begins anew at 30000 behind 50000: one packet is suspect, and the next confirms it. */
+/* The sender restarts at 30000 after 50000: one packet is suspect, and the next confirms the restart. */
 static void restarts(void) {
     cpay_receiver_settings settings = settings_of(opus());
     settings.hold_back = 0;
@@ -251,7 +254,7 @@ static void without_media(void) {
     cpay_receiver_free(&receiver);
 }
 
-/* A gap at the end of a stream: what is behind it waits, comes at its deadline, or when the stream has ended. */
+/* A gap at the end of a stream: the frame after it waits, and is released at its deadline or when the stream ends. */
 static void ends(void) {
     cpay_receiver_settings settings = settings_of(opus());
     settings.has_max_wait = true;
@@ -270,7 +273,7 @@ static void ends(void) {
     cpay_receiver_free(&receiver);
 }
 
-/* Other wait limits: what is held stays, and the next pop and the next deadline go by it. */
+/* Other wait limits: held packets stay, and the next pop and the next deadline use the new limits. */
 static void other_wait_limits(void) {
     cpay_receiver_settings settings = settings_of(opus());
     cpay_wait_limits none = {0}, until = {.max_wait = 50, .hold_back = 30, .has_max_wait = true};
@@ -281,11 +284,11 @@ static void other_wait_limits(void) {
     CHECK(came(&receiver, 10, TYPE, 7) == CPAY_HELD && next(&receiver, 10) == -1);
     CHECK(cpay_receiver_set_wait_limits(&receiver, &none) == CPAY_OK);
     CHECK(next(&receiver, 10) == 7);
-    /* a gap at 8: with two complete frames behind it, one comes where more than one are wanted */
+    /* a gap at 8 with two complete frames after it: one is released if the limit is one */
     CHECK(cpay_receiver_set_wait_limits(&receiver, &one) == CPAY_OK);
     CHECK(came(&receiver, 20, TYPE, 9) == CPAY_HELD && next(&receiver, 20) == -1);
     CHECK(came(&receiver, 20, TYPE, 11) == CPAY_HELD && next(&receiver, 20) == 9 && next(&receiver, 20) == -1);
-    /* and with a longest wait of 50 after 20, which becomes one of 100, and of 50 again */
+    /* and with a longest wait of 50 instead of 20, then 100, and 50 again */
     CHECK(cpay_receiver_next_deadline(&receiver, &at) == CPAY_NONE);
     CHECK(cpay_receiver_set_wait_limits(&receiver, &until) == CPAY_OK);
     CHECK(cpay_receiver_next_deadline(&receiver, &at) == CPAY_OK && at == 70 && next(&receiver, 69) == -1);
@@ -296,7 +299,7 @@ static void other_wait_limits(void) {
     cpay_receiver_free(&receiver);
 }
 
-/* What is not of the stream is told and counted, and changes nothing. */
+/* Packets of other streams are reported and counted, and change nothing. */
 static void others(void) {
     cpay_receiver_settings settings = settings_of(opus());
     cpay_receiver receiver = receiver_of(&settings);
@@ -320,7 +323,7 @@ static void others(void) {
     cpay_receiver_free(&receiver);
 }
 
-/* A unit waits for enough of the caller's bytes, and is told meanwhile. */
+/* A unit waits for a larger output buffer, and is reported meanwhile. */
 static void small_room(void) {
     cpay_receiver_settings settings = settings_of(opus());
     cpay_receiver receiver = receiver_of(&settings);
@@ -335,7 +338,7 @@ static void small_room(void) {
     cpay_receiver_free(&receiver);
 }
 
-/* AMR-WB with 23 frames a packet, one of ten packets lost: with a longest wait of a second no unit waits longer. */
+/* AMR-WB with 23 frames per packet, one of ten packets lost: with a longest wait of a second no unit waits longer. */
 static void amr_wb(void) {
     cpay_spec spec = {.codec = CPAY_AMR_WB, .rate = 16000, .octet_align = true};
     cpay_receiver_settings settings = settings_of(spec);
@@ -348,7 +351,7 @@ static void amr_wb(void) {
     int units = 0;
     for (uint16_t number = 0; number < 10; number++) {
         size_t size = packet(bytes, TYPE, number, (uint32_t)number * 23 * 320, 1 + 23 + 23 * 17);
-        bytes[12] = 0xf0; /* no mode is asked for; then the table of contents: 6.6 kbit/s, undamaged, the last without F */
+        bytes[12] = 0xf0; /* no mode request; then the table of contents: 6.6 kbit/s, undamaged, the last without F */
         for (int frame = 0; frame < 23; frame++) bytes[13 + frame] = frame < 22 ? 0x84 : 0x04;
         uint64_t now = (uint64_t)number * 460;
         if (number != 4) CHECK(cpay_receiver_receive(&receiver, now, bytes, size, &outcome) == CPAY_OK && outcome == CPAY_HELD);
@@ -361,7 +364,7 @@ static void amr_wb(void) {
     cpay_receiver_free(&receiver);
 }
 
-/* What becomes of a packet of that SSRC and number. */
+/* The outcome of a packet with this SSRC and number. */
 static uint32_t came_of(cpay_receiver *receiver, uint64_t now, uint32_t ssrc, uint16_t number) {
     uint8_t bytes[16];
     uint32_t outcome = 99;
@@ -371,7 +374,8 @@ static uint32_t came_of(cpay_receiver *receiver, uint64_t now, uint32_t ssrc, ui
     return outcome;
 }
 
-/* No SSRC is named: a stray packet comes first, and two packets of one SSRC choose the stream; both go in, with their own times. */
+/* No SSRC in the settings: a stray packet comes first, and two packets of one SSRC choose the stream; both are stored, with
+ * their own times. */
 static void choice(void) {
     cpay_receiver_settings settings = settings_of(opus());
     settings.has_ssrc = false;
@@ -389,17 +393,17 @@ static void choice(void) {
     /* the stream is silent for two seconds, and two packets of another choose again */
     CHECK(came_of(&receiver, 2006, 3, 900) == CPAY_OTHER_STREAM && came_of(&receiver, 2007, 3, 901) == CPAY_UNDECIDED);
     CHECK(came_of(&receiver, 2027, 3, 902) == CPAY_HELD && counts_of(&receiver).ssrc == 3 && counts_of(&receiver).restarts == 1);
-    /* after a restart the first frame waits as one after a gap does */
+    /* after a restart the first frame waits like a frame after a gap */
     CHECK(next(&receiver, 2056) == -1 && next(&receiver, 2057) == 901 && next(&receiver, 2057) == 902);
     cpay_receiver_free(&receiver);
-    /* of packets that wait the first comes out at the end */
+    /* of the waiting packets the first is released at the end */
     receiver = receiver_of(&settings);
     CHECK(came_of(&receiver, 0, 2, 10) == CPAY_UNDECIDED && came_of(&receiver, 0, 1, 500) == CPAY_UNDECIDED);
     CHECK(cpay_receiver_finish(&receiver) == CPAY_OK && next(&receiver, 0) == 10 && counts_of(&receiver).other_streams == 1);
     cpay_receiver_free(&receiver);
 }
 
-/* A new SSRC is told, and that of retransmissions: those of the streams before are of another stream. */
+/* A new SSRC is set, and a new one for retransmissions: packets of the previous ones belong to another stream. */
 static void told_as(void) {
     cpay_receiver_settings settings = settings_of(opus());
     settings.has_rtx = true;
@@ -425,7 +429,7 @@ static void told_as(void) {
     cpay_receiver_free(&receiver);
 }
 
-/* After the end of a stream the next one begins by a call, under another SSRC and from any number. */
+/* After the end of a stream a call starts the next one, with another SSRC and any number. */
 static void told_anew(void) {
     cpay_receiver_settings settings = settings_of(opus());
     cpay_receiver receiver = receiver_of(&settings);
@@ -441,7 +445,7 @@ static void told_anew(void) {
     cpay_receiver_free(&receiver);
 }
 
-/* RFC 2198: of three packets, each of which repeats the one before, the second is lost and recovered from the third. */
+/* RFC 2198: each of three packets repeats the previous one; the second is lost and recovered from the third. */
 static void red(void) {
     cpay_receiver_settings settings = settings_of(opus());
     cpay_red_sender sender = CPAY_INIT;
@@ -463,14 +467,49 @@ static void red(void) {
     }
     CHECK(next(&receiver, 0) == 10 && next(&receiver, 0) == 11 && next(&receiver, 0) == 12);
     CHECK(counts_of(&receiver).recovered == 1 && counts_of(&receiver).received == 2);
-    size = packet(bytes, 63, 13, 0, 1); /* the header of an older block, of which three bytes are missing */
+    size = packet(bytes, 63, 13, 0, 1); /* the header of an older block; three bytes of the block are missing */
     bytes[12] = 0x80 | TYPE;
     CHECK(cpay_receiver_receive(&receiver, 0, bytes, size, &outcome) == CPAY_RED_CORRUPTED && counts_of(&receiver).malformed == 1);
     cpay_red_sender_free(&sender);
     cpay_receiver_free(&receiver);
 }
 
-/* RFC 4588, section 4: the original number of two bytes stands before the payload, under another SSRC and payload type. */
+/* The windows by rate are those of audio and video for their rates, and a receiver takes all of them. */
+static void windows_by_rate(void) {
+    const cpay_receiver_settings audio = CPAY_LIVE_AUDIO, video = CPAY_LIVE_VIDEO;
+    CHECK(CPAY_FORWARD_FOR(0) == audio.forward && CPAY_BACKWARD_FOR(0) == audio.backward);
+    CHECK(CPAY_FORWARD_FOR(200u) == audio.forward && CPAY_BACKWARD_FOR(200u) == audio.backward);
+    CHECK(CPAY_FORWARD_FOR(1000) == video.forward && CPAY_BACKWARD_FOR(1000) == video.backward);
+    CHECK(CPAY_FORWARD_FOR(UINT32_MAX) == 32760 && CPAY_BACKWARD_FOR(UINT32_MAX) == 13650);
+    for (uint32_t rate = 0; rate < 3000; rate += 7) {
+        cpay_receiver_settings settings = settings_of(opus());
+        settings.forward = CPAY_FORWARD_FOR(rate);
+        settings.backward = CPAY_BACKWARD_FOR(rate);
+        cpay_receiver receiver = receiver_of(&settings);
+        CHECK(2 * settings.backward < settings.forward);
+        cpay_receiver_free(&receiver);
+    }
+}
+
+/* Number 11 is padding that is lost: the block of number 12 has the time of number 10, which came, and is not stored again. */
+static void red_once(void) {
+    cpay_receiver_settings settings = settings_of(opus());
+    uint8_t bytes[64] = {0};
+    uint32_t outcome = 99;
+    settings.has_red = true;
+    settings.red_payload_type = 63;
+    settings.red_step = 960;
+    cpay_receiver receiver = receiver_of(&settings);
+    CHECK(came(&receiver, 0, TYPE, 10) == CPAY_HELD);
+    size_t size = packet(bytes, 63, 12, 11 * 960, 8);
+    memcpy(bytes + 12, "\xef\x0f\0\x02\x6f\x0a\x0a\x0c", 8); /* an offset of 960, two bytes; then the packet's own byte */
+    CHECK(cpay_receiver_receive(&receiver, 0, bytes, size, &outcome) == CPAY_OK && outcome == CPAY_HELD);
+    CHECK(next(&receiver, 0) == 10 && next(&receiver, 0) == -1);
+    CHECK(counts_of(&receiver).recovered == 0 && counts_of(&receiver).held == 1);
+    cpay_receiver_free(&receiver);
+}
+
+/* RFC 4588, section 4: the original number of two bytes precedes the payload, under another SSRC and payload type. */
 static void sent_again(void) {
     cpay_receiver_settings settings = settings_of(opus());
     uint8_t bytes[20];
@@ -491,7 +530,7 @@ static void sent_again(void) {
     cpay_receiver_free(&receiver);
 }
 
-/* Times of units go on over the wrap of 32 bits. */
+/* Times of units continue when 32 bits wrap. */
 static void times(void) {
     cpay_receiver_settings settings = settings_of(opus());
     cpay_receiver receiver = receiver_of(&settings);
@@ -508,7 +547,7 @@ static void times(void) {
     cpay_receiver_free(&receiver);
 }
 
-/* RFC 3550, appendix A.3: of numbers 50000 to 50003 one did not come; then one of four. */
+/* RFC 3550, appendix A.3: one of the numbers 50000 to 50003 is lost; then one of four. */
 static void reports(void) {
     cpay_receiver_settings settings = settings_of(opus());
     cpay_receiver receiver = receiver_of(&settings);
@@ -524,7 +563,7 @@ static void reports(void) {
     cpay_receiver_free(&receiver);
 }
 
-/* Of the numbers 65534 to 4 over their wrap, 65535, 1 and 3 do not come, and 1 comes at last. */
+/* Of the numbers 65534 to 4 over their wrap, 65535, 1 and 3 are lost, and 1 arrives at last. */
 static void missing(void) {
     cpay_receiver_settings settings = settings_of(opus());
     cpay_receiver receiver = CPAY_INIT;
@@ -553,6 +592,38 @@ static void missing(void) {
     cpay_sender_free(&it.sender);
 }
 
+/* Frames of VP8 (RFC 6386, section 9.1; RFC 7741, section 4.2), in one packet each: packet 3 is lost, 1 and 6 are keyframes. */
+static void keyframes(uint8_t from_keyframe, const char *marks, const char *decodable, const char *keyframe, uint64_t undecodable) {
+    static const uint8_t key[] = {0x10, 0x10, 0, 0, 0x9d, 0x01, 0x2a, 0x10, 0, 0x10, 0}, delta[] = {0x10, 0x11, 0, 0};
+    cpay_spec spec = {.codec = CPAY_VP8, .rate = 90000};
+    cpay_receiver_settings settings = settings_of(spec);
+    settings.from_keyframe = from_keyframe;
+    cpay_receiver receiver = receiver_of(&settings);
+    cpay_unit unit = {0};
+    uint8_t bytes[24], taken[16];
+    uint32_t outcome = 99;
+    bool wants = true;
+    CHECK(cpay_receiver_wants_keyframe(&receiver, &wants) == CPAY_OK && !wants);
+    for (uint16_t number = 1; number <= 7; number++) {
+        bool is_key = number == 1 || number == 6;
+        packet(bytes, 0x80 | TYPE, number, (uint32_t)number * 3000, 0);
+        memcpy(bytes + 12, is_key ? key : delta, is_key ? sizeof key : sizeof delta);
+        size_t size = 12 + (is_key ? sizeof key : sizeof delta);
+        if (number != 3) CHECK(cpay_receiver_receive(&receiver, 0, bytes, size, &outcome) == CPAY_OK && outcome == CPAY_HELD);
+    }
+    CHECK(cpay_receiver_finish(&receiver) == CPAY_OK);
+    for (; *marks; marks++, decodable++, keyframe++) {
+        CHECK(cpay_receiver_pop(&receiver, 0, &unit, taken, sizeof taken) == CPAY_OK && unit.first % 65536 == (uint64_t)(*marks - '0'));
+        CHECK(unit.decodable == (*decodable == 'd') && unit.keyframe == (*keyframe == 'k'));
+        CHECK(cpay_receiver_wants_keyframe(&receiver, &wants) == CPAY_OK && wants == !unit.decodable);
+    }
+    CHECK(cpay_receiver_pop(&receiver, 0, &unit, taken, sizeof taken) == CPAY_NONE);
+    CHECK(counts_of(&receiver).undecodable == undecodable && counts_of(&receiver).units == 6);
+    CHECK(cpay_receiver_restart(&receiver) == CPAY_OK && cpay_receiver_wants_keyframe(&receiver, &wants) == CPAY_OK);
+    CHECK(wants == (from_keyframe != CPAY_KEYFRAME_OFF));
+    cpay_receiver_free(&receiver);
+}
+
 int main(void) {
     packets();
     settings();
@@ -569,9 +640,14 @@ int main(void) {
     told_as();
     told_anew();
     red();
+    red_once();
+    windows_by_rate();
     sent_again();
     times();
     reports();
     missing();
+    keyframes(CPAY_KEYFRAME_MARK, "124567", "dd--dd", "k---k-", 2);
+    keyframes(CPAY_KEYFRAME_DROP, "1267", "dddd", "k-k-", 2);
+    keyframes(CPAY_KEYFRAME_OFF, "124567", "dddddd", "------", 0);
     return checked();
 }

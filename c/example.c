@@ -1,12 +1,12 @@
 #include "codec_payload.h"
 #include <stdio.h>
 
-/* A datagram that came from a socket at that time goes in. What is no RTP packet is counted, and the stream goes on. */
+/* Passes a datagram that came from a socket at time `now`. A datagram that is not an RTP packet is counted and skipped. */
 static cpay_status take(cpay_receiver *receiver, uint64_t now, const uint8_t *datagram, size_t size) {
     uint32_t outcome = 0;
     cpay_status status = cpay_receiver_receive(receiver, now, datagram, size, &outcome);
     if (status == CPAY_OK || status == CPAY_OUT_OF_MEMORY) return status;
-    printf("passed over: %s\n", cpay_status_text(status));
+    printf("skipped: %s\n", cpay_status_text(status));
     return CPAY_OK;
 }
 

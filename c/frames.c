@@ -1,13 +1,13 @@
-/* What the library tells of frames that it is given: a line a frame, `CODEC HEX`, with the codec's number.
+/* Facts that the library reads from frames. Input: one frame per line, `CODEC HEX`, with the codec's number.
  *
- *   frames tell      prints a line for each: info=STATUS key=0|1|- size=WIDTHxHEIGHT|- duration=TICKS|-, then its parts (OBUs,
- *                    frames of a superframe, frames of AMR-WB), and end=STATUS, which ended them
- *   frames hostile   asks for each beginning of each frame, for each frame with each byte changed to all others, and for all
- *                    strings of one and two bytes. What is answered has to be one of the statuses of the header, with
- *                    nothing told beside a fault, and parts lie in the frame, one behind the other
- *   frames times     prints the nanoseconds of one cpay_frame_info for each, the least of many rounds
+ *   frames report    prints a line for each: info=STATUS key=0|1|- size=WIDTHxHEIGHT|- duration=TICKS|-, then its parts (OBUs,
+ *                    frames of a superframe, frames of AMR-WB), and end=STATUS, the status that ended them
+ *   frames hostile   makes the queries for each beginning of each frame, for each frame with each byte changed to all others, and
+ *                    for all strings of one and two bytes. Each status must be one of the header's, an error must leave the
+ *                    outputs unchanged, and parts must lie in the frame, one after another
+ *   frames times     prints the nanoseconds of one cpay_frame_info for each, the minimum of many rounds
  *
- * scripts/media_peers.py compares what it tells with other readers. */
+ * scripts/media_peers.py compares the output with other readers. */
 #define _POSIX_C_SOURCE 199309L
 #include "codec_payload.h"
 
@@ -23,7 +23,7 @@ enum { ROUNDS = 3000, CALLS = 200, UNTOLD = 0xa5 };
 /* A part of a unit: an OBU, a frame of a superframe, a frame of AMR-WB. */
 typedef struct {
     size_t start, bytes;
-    unsigned a, b, c; /* what else is told of it */
+    unsigned a, b, c; /* its other fields */
 } part;
 
 static uint32_t codecs[] = {CPAY_VP8, CPAY_VP9, CPAY_AV1, CPAY_OPUS, CPAY_AMR_WB, CPAY_PCMU, CPAY_G722};
@@ -35,7 +35,7 @@ static void stop(const char *message) {
 
 static bool is_fault(cpay_status status) { return status >= CPAY_FRAME_TOO_SHORT && status <= CPAY_FRAME_SIZES; }
 
-/* The part behind the one that is given, of which there were `index` so far; where there is none of a codec, CPAY_NONE. */
+/* The part after the given one, with `index` parts before it; CPAY_NONE for a codec without parts. */
 static cpay_status next_part(uint32_t codec, const uint8_t *unit, size_t len, size_t index, part *found) {
     size_t offset = found->start + found->bytes;
     cpay_status status = CPAY_NONE;
@@ -69,7 +69,7 @@ static void print_facts(uint32_t codec, const uint8_t *frame, size_t len) {
         fputs(" duration=-", stdout);
 }
 
-/* The av1C record of a sequence header OBU, which begins where the part before it ended. */
+/* The av1C record of a sequence header OBU, which begins where the previous part ended. */
 static void print_record(const uint8_t *obu, size_t len) {
     static uint8_t bytes[4096];
     size_t size = 0;
@@ -78,7 +78,7 @@ static void print_record(const uint8_t *obu, size_t len) {
     for (size_t at = 0; status == CPAY_OK && at < size; at++) printf("%02x", bytes[at]);
 }
 
-static void tell(uint32_t codec, const uint8_t *frame, size_t len) {
+static void report(uint32_t codec, const uint8_t *frame, size_t len) {
     part found = {0};
     cpay_status status;
     print_facts(codec, frame, len);
@@ -95,7 +95,7 @@ static void tell(uint32_t codec, const uint8_t *frame, size_t len) {
     printf(" end=%" PRIu32 "\n", status);
 }
 
-/* Asks for all that is told of bytes, which are copied to memory of their length: a sanitizer sees a read behind them. */
+/* Makes all queries about bytes, which are copied to memory of their length, so that a sanitizer detects a read past them. */
 static void ask(uint32_t codec, const uint8_t *frame, size_t len) {
     cpay_frame_facts facts, before;
     uint8_t *copy = malloc(len + !len);
@@ -166,7 +166,7 @@ static void measure(uint32_t codec, const uint8_t *frame, size_t len) {
     printf("codec %" PRIu32 " of %zu bytes: status %" PRIu32 ", %.1f ns\n", codec, len, status, least);
 }
 
-/* The bytes of hexadecimal digits, in place. */
+/* Decodes hexadecimal digits in place. */
 static size_t from_hex(char *text) {
     static const char digits[] = "0123456789abcdef";
     size_t len = 0;
@@ -182,8 +182,8 @@ int main(int argc, char **argv) {
     static char line[1 << 20];
     size_t asked = 0;
     const char *what = argc == 2 ? argv[1] : "";
-    bool tells = !strcmp(what, "tell"), tries = !strcmp(what, "hostile"), times = !strcmp(what, "times");
-    if (!tells && !tries && !times) stop("usage: frames tell|hostile|times");
+    bool reports = !strcmp(what, "report"), tries = !strcmp(what, "hostile"), times = !strcmp(what, "times");
+    if (!reports && !tries && !times) stop("usage: frames report|hostile|times");
     if (tries) asked = ask_short();
     while (fgets(line, sizeof line, stdin)) {
         char *hex = NULL;
@@ -191,8 +191,8 @@ int main(int argc, char **argv) {
         if (*hex++ != ' ') stop("a line is CODEC HEX");
         size_t len = from_hex(hex);
         uint8_t *frame = (uint8_t *)hex;
-        if (tells)
-            tell(codec, frame, len);
+        if (reports)
+            report(codec, frame, len);
         else if (times)
             measure(codec, frame, len);
         else

@@ -1,6 +1,6 @@
-/* Pushes and pops at so many held packets, for a count of instructions: held ORDER HELD. In order: behind a gap, a packet comes and
- * the oldest unit goes. Scattered: a window of packets comes in a mixed order, and then all units go. scripts/instructions.sh runs
- * it under callgrind, which counts inside `measured` alone. */
+/* Pushes and pops with a given number of held packets, for a count of instructions: held ORDER HELD. In order: after a gap, a
+ * packet arrives and the oldest unit is released. Scattered: a window of packets arrives in a mixed order, and then all units
+ * are released. scripts/instructions.sh runs it under callgrind, which counts only inside `measured`. */
 #include "codec_payload.h"
 
 #include <stdio.h>
@@ -30,7 +30,7 @@ static void pop(uint64_t number) {
     if (unit.first != number) exit(EXIT_FAILURE);
 }
 
-/* The first number is taken at once, the second is missing, and `held` wait behind it. */
+/* The first number is released at once, the second is missing, and `held` packets wait after it. */
 static uint64_t fill(uint64_t held) {
     push(0);
     pop(0);
@@ -58,7 +58,7 @@ int main(int count, char **words) {
     uint64_t held = count == 3 ? strtoull(words[2], NULL, 10) : 0;
     if (held == 0 || held > 32768) return 2;
     bool in_order = strcmp(words[1], "in-order") == 0;
-    /* scattered: nothing is held between two windows, and frames come by their order alone */
+    /* scattered: nothing is held between two windows, and only the order decides the release of frames */
     check(cpay_buffer_new(&buffer, &spec, in_order ? held : 0, 65536));
     if (!in_order) push(0), pop(0);
     measured(in_order, in_order ? fill(held) : 1, held);

@@ -1,10 +1,10 @@
 #!/usr/bin/env python3
-"""Writes scripts for the program payload_vectors into a folder, one a file.
+"""Writes scripts for the program payload_vectors into a folder, one per file.
 
   c/inputs.py FOLDER
 
-They are its stored input, those of scripts/program_vectors.py, and two hundred that a fixed generator makes: of each codec, with
-lost, repeated and late packets. The generator's numbers are its own, so they are the same wherever it runs.
+They are its stored input, the inputs of scripts/program_vectors.py, and two hundred that a fixed generator makes for all codecs,
+with lost, repeated and late packets. The generator is part of this script, so its numbers are the same everywhere.
 """
 import os
 import sys
@@ -22,7 +22,7 @@ SPEECH = {0: 17, 1: 23, 2: 32, 3: 36, 4: 40, 5: 46, 6: 50, 7: 58, 8: 60, 9: 5, 1
 
 
 def stored():
-    """The program's stored input, and those of its rows."""
+    """The program's stored input, and the inputs of its test vectors."""
     with open(f"{VECTORS}/stdin", encoding="utf-8") as it:
         yield it.read()
     for row in ROWS:
@@ -30,7 +30,7 @@ def stored():
 
 
 class Numbers:
-    """A linear congruential generator of 64 bits, of which the high ones are taken."""
+    """A linear congruential generator of 64 bits, of which the high bits are used."""
 
     def __init__(self, seed):
         self.state = seed
@@ -86,7 +86,7 @@ def generated(seed):
     for place in range(len(rest) - 1, 0, -1):
         other = place - numbers.below(min(place + 1, 1 + numbers.below(20)))
         rest[place], rest[other] = rest[other], rest[place]
-    # Sends stand before, and some among the pushes.
+    # Sends come before the pushes, and some among them.
     early = numbers.below(count + 1)
     for send in sends[early:]:
         rest.insert(numbers.below(len(rest)), send)

@@ -1,5 +1,5 @@
-/* Sends 500 frames of VP8 over UDP on loopback, of whose datagrams one in twenty is lost and one in twenty comes twice, and prints
- * what came of them:
+/* Sends 500 frames of VP8 over UDP on loopback. One datagram in twenty is lost, and one in twenty is duplicated. Prints the
+ * outcome:
  *
  *     cc loopback.c $(pkg-config --cflags --libs codec-payload) && ./a.out */
 #define _POSIX_C_SOURCE 200809L
@@ -74,7 +74,7 @@ static void begin(call *it) {
     check(cpay_receiver_new(&it->receiver, &receives, NULL, 0), "receiver");
 }
 
-/* Sends a frame, and says how many datagrams will come. */
+/* Sends a frame, and returns the number of datagrams that will arrive. */
 static size_t send_frame(call *it, uint64_t frame) {
     static uint8_t bytes[FRAME];
     uint8_t datagram[1500];
@@ -95,7 +95,7 @@ static void receive(call *it) {
     uint32_t outcome = 0;
     ssize_t size = recv(it->to, datagram, sizeof datagram, 0);
     require(size >= 0, "recv");
-    /* What is no packet is counted, and the stream goes on. */
+    /* A datagram that is not a packet is counted, and the stream continues. */
     cpay_status status = cpay_receiver_receive(&it->receiver, now(), datagram, (size_t)size, &outcome);
     if (status) fprintf(stderr, "%s\n", cpay_status_text(status));
 }

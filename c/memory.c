@@ -1,4 +1,5 @@
-/* What the proved code asks of memory, over the C library: whether it was found, and where. It asks for no alignment above 8. */
+/* The memory functions of the proved code, over the C library: each returns whether memory was found, and where. No alignment
+ * above 8 is requested. */
 #include <stdint.h>
 #include <stdlib.h>
 
@@ -11,7 +12,7 @@ memory rattle_alloc(size_t size, size_t align);
 memory rattle_realloc(void *old, size_t old_size, size_t size, size_t align);
 void rattle_dealloc(void *old);
 
-static uint64_t none; /* where nothing was found, a pointer is wanted all the same */
+static uint64_t none; /* if no memory was found, the pointer still needs a value */
 
 static memory told(void *at) { return (memory){at != NULL, at ? at : &none}; }
 

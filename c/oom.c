@@ -1,8 +1,8 @@
-/* Counts of memory. First something of each kind is made, used and freed, with packets, units and bytes left in it: what it took
- * and did not give back is counted, before it is freed and afterwards, and so is what each other call keeps. Then
- * one session, of each kind, again and again, and each time one allocation more gets its memory: the next one is
- * refused. The call that asked for it answers 17 and nothing else, is made once more, and the session then ends as it does
- * with all memory, and has given all of it back. Linked with -Wl,--wrap=malloc,--wrap=realloc,--wrap=free. */
+/* Counts allocations. First, an object of each type is made, used and freed, with packets, units and bytes left in it. Memory
+ * that was not released is counted before and after the free, and for each other call. Then one session of each type runs again
+ * and again; each time one more allocation succeeds, and the next one fails. The call that asked for it must return 17 and
+ * change no output. It is made once more, and the session must then end as with all memory, with all memory released. Linked
+ * with -Wl,--wrap=malloc,--wrap=realloc,--wrap=free. */
 #include "any.h"
 #include "codec_payload.h"
 
@@ -43,7 +43,7 @@ void __wrap_free(void *at) {
     __real_free(at);
 }
 
-/* The status of a call; where it is 17, that of the same call once more. */
+/* The status of a call; if it is 17, the status of the same call made again. */
 #define AGAIN(status, call) \
     do { \
         refused = false; \
@@ -58,7 +58,7 @@ void __wrap_free(void *at) {
 
 enum { FRAMES = 4, FRAME = 300, MTU = 100 };
 
-/* 0 where all came as it should; *met counts the answers of 17. */
+/* 0 if all results are right; *met counts the results of 17. */
 static int video(uint32_t codec, int *met) {
     long before = kept;
     cpay_packetizer sender = CPAY_INIT;
@@ -92,7 +92,7 @@ static int video(uint32_t codec, int *met) {
             refused = false;
             status = cpay_depacketize(&pieces, bytes, packet.bytes);
             if (status == CPAY_OUT_OF_MEMORY) {
-                /* What was read of a frame may be gone, so this one is given up. */
+                /* The parts of a frame that were read may be lost, so this frame is discarded. */
                 (*met)++;
                 if (!refused) return 8;
                 cpay_depacketizer_free(&pieces);
@@ -115,7 +115,7 @@ static int video(uint32_t codec, int *met) {
     return kept == before ? 0 : 16;
 }
 
-/* Frames in one call. Once the memory has grown to the largest frame, no call takes any. */
+/* Frames in one call. Once the memory has grown to the largest frame, no call allocates. */
 static int whole_frames(uint32_t codec, int *met) {
     long before = kept;
     cpay_packetizer sender = CPAY_INIT;
@@ -136,9 +136,9 @@ static int whole_frames(uint32_t codec, int *met) {
         AGAIN(status, cpay_packetize_into(&sender, &cut, frame, FRAME, bytes, room.bytes, packets, 8, &room));
         if (status || packets[0].offset != 12) return 3;
         if (codec != CPAY_AV1 && codec != CPAY_NULL && packets[0].bytes > MTU) return 4;
-        /* the third picture id of VP8 is longer than those before it */
+        /* the third picture id of VP8 is longer than the ones before it */
         if (i > 2 && asked != taken) return 5;
-        /* the picture id is that of the frame, whatever memory was wanting before it */
+        /* the picture id is that of the frame, also after allocations failed */
         if (codec == CPAY_VP8 && bytes[14] != (i < 2 ? 126 + i : 0x80)) return 6;
     }
     cpay_packetizer_free(&sender);
@@ -181,7 +181,7 @@ static int red(int *met) {
     return kept == before ? 0 : 7;
 }
 
-/* A stream of datagrams: frames in four packets, each second one with values of header extensions, and a sender that begins anew. */
+/* A stream of datagrams: frames in four packets, each second one with values of header extensions, and a sender that restarts. */
 static int datagrams(int *met) {
     long before = kept;
     cpay_spec spec = {.codec = CPAY_VP8, .rate = 90000};
@@ -227,7 +227,7 @@ static int datagrams(int *met) {
             if (cpay_sender_datagram(&sender, k, bytes, FRAME, &size)) return 4;
             AGAIN(status, cpay_receiver_receive(&receiver, i, bytes, size, &outcome));
             if (status) return 5;
-            /* A suspect packet for which memory was wanting once it could go in is given up, and that is told. */
+            /* A suspect packet for which memory ran out when it could be stored is discarded, and the outcome says so. */
             if (outcome == CPAY_RESTARTED_ALONE) whole = !refused, (*met)++;
         }
         AGAIN(status, cpay_receiver_pop(&receiver, i, &unit, bytes, 1));
@@ -251,8 +251,8 @@ static size_t packet(uint8_t *out, uint8_t type, uint8_t ssrc, uint8_t number, c
     return 12 + size;
 }
 
-/* Of four packets the second comes in RED with the third (RFC 2198), and the last is sent again (RFC 4588). Padding comes alone. No
- * SSRC is named, so that the first packet waits for the next one. */
+/* Of four packets the second arrives in RED with the third (RFC 2198), and the last is retransmitted (RFC 4588). A packet of
+ * padding only arrives too. The settings name no SSRC, so the first packet waits for the next one. */
 static int recovery(int *met) {
     long before = kept;
     cpay_receiver_settings receives = CPAY_FILE;
@@ -281,7 +281,7 @@ static int recovery(int *met) {
     COMES(CPAY_UNDECIDED, 63, 7, 10, "\x6f\x0a", 2);
     size_t size = packet(bytes, 63, 7, 12, "\xef\0\x04\x01\x6f\x0b\x0c", 7);
     AGAIN(status, cpay_receiver_receive(&receiver, 0, bytes, size, &outcome));
-    /* If memory ran out for what it repeats, the packet itself was received, and is a duplicate when it is given again. */
+    /* If memory ran out for a redundant block, the packet itself was stored, and is a duplicate when passed again. */
     if (!status && outcome == CPAY_DUPLICATE && refused) received++;
     else if (status || outcome != CPAY_HELD) return 3;
     COMES(CPAY_HELD, 112, 9, 2, "\0\x0d\x0d", 3);
@@ -300,14 +300,15 @@ static int recovery(int *met) {
     return kept == before ? 0 : 9;
 }
 
-/* Frees what is made in a struct of any kind, and tells whether that took memory, and all it took since `before` came back. */
+/* Frees the object in a handle of any type. Returns whether it held memory, and all memory allocated since `before` was
+ * released. */
 static bool gives_back(any *it, long before) {
     bool took = kept > before;
     cpay_buffer_free(&it->buffer);
     return took && kept == before;
 }
 
-/* Each kind is freed with something left in it. 0 where all memory came back. */
+/* An object of each type is freed with something left in it. 0 if all memory was released. */
 static int left_behind(uint32_t codec) {
     long before = kept;
     any it = ANY_INIT;
@@ -318,7 +319,7 @@ static int left_behind(uint32_t codec) {
     cpay_packet_info packet = {0};
     cpay_unit unit = {0};
     cpay_extra extra = {0};
-    /* packets that were not taken */
+    /* packets that were not fetched */
     if (cpay_packetizer_new(&it.packetizer, &spec)) return 1;
     if (cpay_packetize(&it.packetizer, 20, false, (const uint8_t *)"\x32\x1e 12345678901234567890123456789", 32, &count)) return 2;
     if (!count || cpay_packet(&it.packetizer, &packet, payload, 64)) return 3;
@@ -331,7 +332,7 @@ static int left_behind(uint32_t codec) {
     if (cpay_buffer_push(&it.buffer, &received, payload, packet.bytes)) return 9;
     if (codec != CPAY_AV1 && cpay_buffer_pop(&it.buffer, &unit, &byte, 0) != CPAY_TOO_SMALL) return 10;
     if (!gives_back(&it, before)) return 11;
-    /* bytes that were not taken, and that wait */
+    /* bytes that were not fetched, and that wait */
     if (cpay_depacketizer_new(&it.depacketizer, &spec)) return 12;
     if (cpay_depacketize(&it.depacketizer, payload, packet.bytes)) return 13;
     if (codec != CPAY_AV1 && cpay_depacketized(&it.depacketizer, &size, &extra, &byte, 0) != CPAY_TOO_SMALL) return 14;
@@ -339,7 +340,7 @@ static int left_behind(uint32_t codec) {
     return 0;
 }
 
-/* A sender of RED is freed with a history, and calls without such a struct keep nothing. */
+/* A sender of RED is freed with a history, and calls without a handle keep nothing. */
 static int left_in_red(void) {
     long before = kept;
     any it = ANY_INIT;
@@ -363,7 +364,7 @@ static int left_in_red(void) {
     return 0;
 }
 
-/* How many kinds of use kept memory, or failed. */
+/* The number of uses that kept memory, or failed. */
 static int leaks(void) {
     static const uint32_t codecs[4] = {CPAY_VP8, CPAY_VP9, CPAY_AV1, CPAY_NULL};
     int bad = 0, ended;

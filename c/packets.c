@@ -1,5 +1,5 @@
-/* Whole frames, and whole RED payloads, in one call: all packets in the caller's bytes, with room round each; and elements of
- * header extensions. Expected bytes are written out by the RFCs named. */
+/* Whole frames, and whole RED payloads, in one call: all packets in the caller's buffer, with room around each; and elements of
+ * header extensions. Expected bytes follow the RFCs named here. */
 #include "any.h"
 #include "check.h"
 #include "codec_payload.h"
@@ -23,7 +23,7 @@ static void vp8_into(cpay_packetizer *sender, uint8_t id) {
     cpay_frame_room room = {0};
     memset(bytes, UNTOUCHED, sizeof bytes);
     packets[0].offset = packets[2].offset = 7;
-    /* one byte too few, one packet too few, and none: what is needed is told, and nothing has changed */
+    /* one byte too few, one packet too few, and none: the required size is reported, and nothing has changed */
     CHECK(cpay_packetize_into(sender, &five, frame, 3, bytes, 14, packets, 3, &room) == CPAY_TOO_SMALL);
     CHECK(room.bytes == 15 && room.count == 2);
     room = (cpay_frame_room){0};
@@ -33,7 +33,7 @@ static void vp8_into(cpay_packetizer *sender, uint8_t id) {
     CHECK(cpay_packetize_into(sender, &five, frame, 3, NULL, 0, NULL, 0, &room) == CPAY_TOO_SMALL);
     CHECK(room.bytes == 15 && room.count == 2);
     CHECK(all_are(bytes, 16, UNTOUCHED) && packets[0].offset == 7 && packets[1].offset == 0);
-    /* just enough */
+    /* exactly enough */
     room = (cpay_frame_room){0};
     CHECK(cpay_packetize_into(sender, &five, frame, 3, bytes, 15, packets, 2, &room) == CPAY_OK);
     CHECK(room.bytes == 15 && room.count == 2);
@@ -44,7 +44,7 @@ static void vp8_into(cpay_packetizer *sender, uint8_t id) {
     CHECK(all_are(bytes, 2, UNTOUCHED) && all_are(bytes + 7, 3, UNTOUCHED) && all_are(bytes + 14, 2, UNTOUCHED));
 }
 
-/* What one call cuts does not touch what the other one cut. */
+/* The packets of one call do not affect the packets of the other. */
 static void vp8(void) {
     cpay_packetizer sender = CPAY_INIT;
     cpay_spec spec = {.codec = CPAY_VP8, .rate = 90000, .first_id = 32, .vp8_ids = true};
@@ -62,7 +62,7 @@ static void vp8(void) {
     cpay_packetizer_free(&sender);
 }
 
-/* Faults, ends of ranges, and structs that hold nothing or something else. */
+/* Faults, ends of ranges, and handles that are empty or of another type. */
 static void refusals(void) {
     any it = ANY_INIT;
     cpay_spec noise = {.codec = CPAY_CN, .rate = 8000}, opus = {.codec = CPAY_OPUS, .rate = 48000};
@@ -89,10 +89,10 @@ static void refusals(void) {
     wide.headroom = 0;
     CHECK(cpay_packetize_into(&it.packetizer, &wide, frame, 4, bytes, 8, packets, 2, &room) == CPAY_TOO_SMALL);
     CHECK(room.bytes == SIZE_MAX && all_are(bytes, 8, UNTOUCHED));
-    /* an empty frame has no packets, and takes nothing */
+    /* an empty frame has no packets, and needs no room */
     CHECK(cpay_packetize_into(&it.packetizer, &wide, NULL, 0, NULL, 0, NULL, 0, &room) == CPAY_OK);
     CHECK(room.bytes == 0 && room.count == 0);
-    /* a talk spurt marks each packet of audio, and none of it is asked for again */
+    /* a talk spurt marks each packet of audio, and none of them may be retransmitted */
     wide.tailroom = 0;
     CHECK(cpay_packetize_into(&it.packetizer, &wide, frame, 4, bytes, 4, packets, 2, &room) == CPAY_OK && room.count == 2);
     CHECK(packets[0].marker && packets[1].marker && !packets[0].nackable && packets[1].offset == 3 && packets[1].bytes == 1);
@@ -100,7 +100,7 @@ static void refusals(void) {
     cpay_packetizer_free(&it.packetizer);
 }
 
-/* Frames of a codec, once by each of the two calls: the same packets. */
+/* Frames of a codec, through each of the two calls: the same packets. */
 static void both(uint32_t codec, size_t mtu, size_t headroom, size_t tailroom) {
     enum { FRAMES = 6, LONGEST = 700 };
     static uint8_t frame[LONGEST], bytes[64 * LONGEST], one[LONGEST];
@@ -136,7 +136,7 @@ static void both(uint32_t codec, size_t mtu, size_t headroom, size_t tailroom) {
     cpay_packetizer_free(&single);
 }
 
-/* RFC 2198, section 3: of each older block F and the type, 14 bits of offset, 10 of length; F clear and the type; the bytes. */
+/* RFC 2198, section 3: for each older block F and the type, 14 bits of offset, 10 of length; F clear and the type; the bytes. */
 static void red(void) {
     static const uint8_t payload[15] = {0xef, 0x1e, 0x00, 0x02, 0xee, 0x0f, 0x00, 0x01, 0x6f, 1, 2, 3, 4, 5, 6};
     cpay_red_block_place blocks[4];
@@ -157,10 +157,10 @@ static void red(void) {
     CHECK(blocks[1].start == 11 && blocks[1].bytes == 1 && blocks[1].offset == 960 && blocks[1].payload_type == 110);
     CHECK(blocks[2].start == 12 && blocks[2].bytes == 3 && blocks[2].offset == 0 && blocks[2].payload_type == 111);
     CHECK(!blocks[0].is_primary && !blocks[1].is_primary && blocks[2].is_primary);
-    /* the primary block alone, without a byte */
+    /* only the primary block, without a byte */
     CHECK(cpay_red_blocks((const uint8_t *)"\x6f", 1, blocks, 1, &count) == CPAY_OK && count == 1);
     CHECK(blocks[0].start == 1 && blocks[0].bytes == 0 && blocks[0].is_primary);
-    /* 32 older ones are the most */
+    /* 32 older blocks are the maximum */
     uint8_t many[33 * 4 + 1];
     cpay_red_block_place all[33];
     for (size_t i = 0; i < sizeof many; i++) many[i] = i % 4 ? 0 : 0x80;
@@ -170,7 +170,7 @@ static void red(void) {
     CHECK(cpay_red_blocks(many, 33 * 4 + 1, all, 33, &count) == CPAY_RED_CORRUPTED);
 }
 
-/* RFC 8285, sections 4.2 and 4.3, behind a header of RFC 3550 with the X bit: the profile, the length in words, the elements. */
+/* RFC 8285, sections 4.2 and 4.3, after a header of RFC 3550 with the X bit: the profile, the length in words, the elements. */
 static void elements(void) {
     static const uint8_t one[24] = {0x90, 96, 0, 1, 0, 0, 0, 0, 0, 0, 0, 7,
                                     0xbe, 0xde, 0, 2, 0x10, 0x85, 0, 0x31, 1, 2, 0x30, 9};

@@ -1,5 +1,5 @@
-/* codec_payload.hpp, as C++17 and as C++20: frames go through each class and come back, an object that was moved from is empty, and
- * what holds is counted. */
+/* codec_payload.hpp, as C++17 and as C++20: frames pass through each class and return unchanged, a moved-from object is empty,
+ * and checks are counted. */
 #include "codec_payload.hpp"
 #include "check.h"
 

@@ -1,5 +1,5 @@
-/* Values of header extensions: what a sender is given stands in its datagrams, and comes out of a receiver with the unit. Expected
- * bytes are written out by RFC 8285, sections 4.2 and 4.3, RFC 6464, section 3, and the formats that docs/DATAGRAMS.md names. */
+/* Values of header extensions: values passed to a sender are in its datagrams, and a receiver returns them with the unit.
+ * Expected bytes follow RFC 8285, sections 4.2 and 4.3, RFC 6464, section 3, and the formats that docs/DATAGRAMS.md names. */
 #include "any.h"
 #include "check.h"
 #include "codec_payload.h"
@@ -9,7 +9,7 @@ enum { TYPE = 111, SSRC = 0x01020304 };
 static const cpay_extension_ids ids = {.abs_capture_time = 1, .video_orientation = 2, .video_content_type = 3,
                                        .video_timing = 4, .layers_allocation = 5, .audio_level = 6};
 
-/* Values of every kind, without an offset of the clock. */
+/* Values of every extension, without an offset of the clock. */
 static cpay_extension_values all_values(void) {
     cpay_extension_values values = {.abs_capture_time = 0x0102030405060708, .has_abs_capture_time = true,
                                     .video_orientation = 0x0b, .has_video_orientation = true,
@@ -27,7 +27,7 @@ static bool same_timing(const cpay_video_timing *a, const cpay_video_timing *b) 
            && a->network_1 == b->network_1 && a->network_2 == b->network_2;
 }
 
-/* Every field, those that are not there too. */
+/* Compares every field, absent ones included. */
 static bool same_values(const cpay_extension_values *a, const cpay_extension_values *b) {
     return a->abs_capture_time == b->abs_capture_time && a->has_abs_capture_time == b->has_abs_capture_time
            && a->clock_offset == b->clock_offset && a->has_clock_offset == b->has_clock_offset
@@ -66,7 +66,7 @@ static cpay_receiver receiver_of(uint32_t codec, uint32_t rate, cpay_extension_i
     return receiver;
 }
 
-/* The datagram at a place is these bytes, and goes to the receiver. */
+/* Checks that the datagram at a place is these bytes, and passes it to the receiver. */
 static void sent(cpay_sender *sender, size_t place, const uint8_t *wanted, size_t size, cpay_receiver *receiver) {
     uint8_t bytes[512];
     size_t found = 0;
@@ -76,7 +76,7 @@ static void sent(cpay_sender *sender, size_t place, const uint8_t *wanted, size_
     CHECK(cpay_receiver_receive(receiver, 0, bytes, found, &outcome) == CPAY_OK && outcome == CPAY_HELD);
 }
 
-/* The values of the unit that was given last. */
+/* Checks the values of the unit that was returned last. */
 static bool tells(cpay_receiver *receiver, const cpay_extension_values *wanted) {
     cpay_extension_values found = {.clock_offset = 7, .layers_allocation = {8}};
     return cpay_receiver_values(receiver, &found) == CPAY_OK && same_values(&found, wanted);
@@ -87,7 +87,7 @@ static bool tells_none(cpay_receiver *receiver) {
     return cpay_receiver_values(receiver, &found) == CPAY_OK && has_none(&found);
 }
 
-/* A frame of VP8 in two packets: each value stands on the packet that it goes on, in the form of one byte. */
+/* A frame of VP8 in two packets: each value is on its packet, in the one-byte form. */
 static void video(void) {
     static const uint8_t first[] = {0x90, TYPE, 0xff, 0xff, 0, 0, 0, 5, 1, 2, 3, 4, 0xbe, 0xde, 0, 4,
                                     0x17, 1, 2, 3, 4, 5, 6, 7, 8, 0x52, 'x', 'y', 'z', 0x60, 0x85, 0, 0x10, 'a', 'b', 'c'};
@@ -108,18 +108,18 @@ static void video(void) {
     sent(&sender, 0, first, sizeof first, &receiver);
     sent(&sender, 1, second, sizeof second, &receiver);
     CHECK(cpay_receiver_pop(&receiver, 0, &unit, bytes, 4) == CPAY_TOO_SMALL);
-    /* no unit was given yet */
+    /* no unit was returned yet */
     CHECK(cpay_receiver_values(&receiver, &part) == CPAY_NONE && part.clock_offset == 7);
     memset(&unit, 0, sizeof unit);
     CHECK(cpay_receiver_pop(&receiver, 0, &unit, bytes, 8) == CPAY_OK && unit.bytes == 5 && same(bytes, "abcde", 5));
     CHECK(tells(&receiver, &wanted));
-    /* they stay until the next unit is given */
+    /* they stay until the next unit is returned */
     CHECK(cpay_receiver_pop(&receiver, 0, &unit, bytes, 8) == CPAY_NONE && tells(&receiver, &wanted));
-    /* a receiver that knows no ids reads no values */
+    /* a receiver without ids reads no values */
     CHECK(cpay_receiver_receive(&deaf, 0, first, sizeof first, &outcome) == CPAY_OK);
     CHECK(cpay_receiver_receive(&deaf, 0, second, sizeof second, &outcome) == CPAY_OK);
     CHECK(cpay_receiver_pop(&deaf, 0, &unit, bytes, 8) == CPAY_OK && unit.bytes == 5 && tells_none(&deaf));
-    /* one datagram alone has a part of them */
+    /* a single datagram has only some of them */
     CHECK(cpay_extension_values_of(first, sizeof first, &ids, &part) == CPAY_OK);
     CHECK(part.has_abs_capture_time && part.abs_capture_time == wanted.abs_capture_time && !part.has_clock_offset);
     CHECK(part.has_layers_allocation && part.layers_allocation_len == 3 && same(part.layers_allocation, "xyz\0", 4));
@@ -139,7 +139,7 @@ static void video(void) {
     cpay_sender_free(&sender);
 }
 
-/* The one byte of the extension of a packet of audio with these values, or -1 where it has none. */
+/* The one byte of the extension of an audio packet with these values; -1 if it has none. */
 static int level_byte(cpay_sender *sender, const cpay_extension_values *values) {
     static const uint8_t front[4] = {0xbe, 0xde, 0, 1};
     cpay_sample sample = {.values = *values};
@@ -177,7 +177,7 @@ static void levels(void) {
     cpay_sender_free(&sender);
 }
 
-/* 16 bytes with the offset of the clock, an id above 14, and 17 bytes of layers: the form of two bytes. */
+/* 16 bytes with the offset of the clock, an id above 14, and 17 bytes of layers: the two-byte form. */
 static void two_bytes(void) {
     static const uint8_t wanted[] = {0x90, 0x80 | TYPE, 0xff, 0xff, 0, 0, 0, 9, 1, 2, 3, 4, 0x10, 0, 0, 10,
                                      1, 16, 0, 0, 0, 0, 0, 0, 0, 7, 0xff, 0xff, 0xff, 0xff, 0xff, 0xff, 0xff, 0xfe,
@@ -196,7 +196,7 @@ static void two_bytes(void) {
     sent(&sender, 0, wanted, sizeof wanted, &receiver);
     CHECK(cpay_receiver_pop(&receiver, 0, &unit, bytes, 8) == CPAY_OK && unit.starts_talk_spurt);
     CHECK(tells(&receiver, &sample.values));
-    /* bytes behind the length, and an offset without a time, are not looked at */
+    /* bytes after the length, and an offset without a time, are ignored */
     sample.values.layers_allocation_len = 0;
     sample.values.has_abs_capture_time = false;
     sample.rtp_time = 10;
@@ -212,7 +212,7 @@ static void two_bytes(void) {
     cpay_receiver_free(&receiver);
 }
 
-/* The longest allocation: 255 bytes, behind an id and a length, and three bytes of padding. */
+/* The longest allocation: 255 bytes, after an id and a length, and three bytes of padding. */
 static void longest(void) {
     cpay_extension_ids under = {.layers_allocation = 5};
     cpay_sender sender = sender_of(CPAY_OPUS, 48000, under);
@@ -230,7 +230,7 @@ static void longest(void) {
     cpay_receiver_free(&receiver);
 }
 
-/* Values of another length than their format's, faults, and ids that are the same or not there. */
+/* Values whose length differs from their format's, faults, and ids that are equal or absent. */
 static void looks(void) {
     static const uint8_t odd[24] = {0x90, 96, 0, 1, 0, 0, 0, 0, 0, 0, 0, 7,
                                     0xbe, 0xde, 0, 2, 0x21, 1, 2, 0x60, 0x03, 0x60, 0x04, 0};
@@ -252,7 +252,7 @@ static void looks(void) {
     CHECK(values.has_video_orientation && values.video_orientation == 3 && values.video_content_type == 3);
 }
 
-/* Ids that are the same, and structs that are empty or hold something else. */
+/* Equal ids, and handles that are empty or of another type. */
 static void refusals(void) {
     any it = ANY_INIT;
     cpay_sender_settings settings = {.spec = {.codec = CPAY_OPUS, .rate = 48000}, .mtu = 100, .payload_type = TYPE,
@@ -266,7 +266,7 @@ static void refusals(void) {
     CHECK(cpay_sender_new(&it.sender, &settings) == CPAY_INVALID);
     CHECK(cpay_sender_send_sample(&it.sender, &sample, (const uint8_t *)"o", 1, &count) == CPAY_EMPTY);
     CHECK(cpay_receiver_set_wait_limits(&it.receiver, &wait_limits) == CPAY_EMPTY);
-    /* a receiver takes them, and reads one element for both */
+    /* a receiver accepts them, and reads one element for both */
     CHECK(cpay_receiver_new(&it.receiver, &receives, NULL, 0) == CPAY_OK);
     CHECK(cpay_receiver_set_wait_limits(&it.receiver, &wait_limits) == CPAY_OK);
     CHECK(cpay_sender_send_sample(&it.sender, &sample, (const uint8_t *)"o", 1, &count) == CPAY_OTHER_KIND);
@@ -278,7 +278,7 @@ static void refusals(void) {
     CHECK(count == 7);
     CHECK(cpay_sender_send_sample(&it.sender, &sample, NULL, 0, &count) == CPAY_OK && count == 0);
     cpay_sender_free(&it.sender);
-    /* a frame that is refused has no datagrams, whatever its values */
+    /* a refused frame has no datagrams, whatever its values */
     settings.spec.codec = CPAY_CN;
     settings.spec.rate = 8000;
     settings.mtu = 1;

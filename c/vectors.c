@@ -1,5 +1,5 @@
-/* Runs the scripts of the program payload_vectors through the library, and prints what the program prints, with the same
- * status. docs/FORMATS.md, "The program's lines", has both. Each packet and each unit is first asked for with no room. */
+/* Runs the scripts of the program payload_vectors through the library, and prints what the program prints, with the same status.
+ * docs/FORMATS.md, "The program's lines", describes both. Each packet and each unit is first requested with an empty buffer. */
 #include "codec_payload.h"
 
 #include <inttypes.h>
@@ -245,7 +245,7 @@ static void check(cpay_status status) {
     }
 }
 
-/* Puts a packet in RED. A payload never gets longer than by all that can be repeated, so a greater budget is no other. */
+/* Wraps a packet in RED. A payload grows at most by all blocks that can be repeated, so a larger budget changes nothing. */
 static void protect(cpay_red_sender *red, packet *p) {
     size_t most = p->size + 1 + MOST_DISTANCES * (4 + MOST_REPEATED), size = 0;
     size_t budget = run.red_budget < most ? (size_t)run.red_budget : most;
@@ -288,7 +288,7 @@ static void send(cpay_packetizer *sender, cpay_red_sender *red, const step *by, 
     for (size_t i = 0; i < count; i++) take_packet(sender, red, from, to);
 }
 
-/* Pushes a packet, or, in RED, all that it holds. What is no RED payload is passed over. */
+/* Pushes a packet, or, in RED, all packets in its payload. An invalid RED payload is skipped. */
 static void push(cpay_buffer *buffer, const packet *p) {
     if (!run.has_red) {
         check(cpay_buffer_push(buffer, &p->head, p->bytes, p->size));

@@ -1,14 +1,13 @@
 /** @file
  * codec_payload: RTP payloads of media frames, and the datagrams that carry them, for C and C++.
  *
- * A sender cuts the frames of one stream into datagrams, and a receiver takes the datagrams of a socket, in any order and with
- * whatever else comes, and gives whole frames back, in order. Below them stand a packetizer and a buffer for callers that write
- * and read RTP headers themselves, depacketizers alone, and RED. Sockets, clocks and threads are the caller's. The library is
- * proved: on any bytes it neither crashes nor reads out of bounds. docs/FORMATS.md has the formats and the buffer's rules,
- * docs/C.md how it is used.
+ * A sender cuts the frames of one stream into datagrams. A receiver accepts the datagrams of a socket, in any order and among any
+ * other bytes, and returns units in order. For callers that handle RTP headers themselves there are a packetizer, a buffer,
+ * depacketizers and RED. Sockets, clocks and threads stay with you. The library is proved: no input makes it crash or read out of
+ * bounds. docs/FORMATS.md has the formats and the rules of the buffer, docs/C.md a guide.
  *
- * FRAMES. What a frame, and a unit, is for each codec, the rate of its RTP clock, and what becomes of one that is longer than the
- * MTU:
+ * FRAMES. For each codec: the rate of its RTP clock in hertz, the frame that you send and the unit that you receive, and what
+ * happens to a frame that is longer than the MTU:
  *
  *   CPAY_OPUS              48000  a packet of Opus (RFC 6716)                                 pieces
  *   CPAY_PCMU, CPAY_PCMA    8000  samples of a byte each, any number (RFC 3551)               pieces
@@ -19,52 +18,53 @@
  *   CPAY_VP8               90000  a frame (RFC 6386)                                          pieces
  *   CPAY_VP9               90000  a frame or a superframe (VP9 bitstream, Annex B)            pieces
  *   CPAY_AV1               90000  a temporal unit: OBUs with their sizes (AV1, section 5.2)   pieces
- *   CPAY_NULL                any  any bytes                                                   one payload, as long as it is
+ *   CPAY_NULL                any  any bytes                                                   one payload of any length
  *
- * STATUSES. A call answers a status, but for the few that answer a bool or a number. 0 is success, 1 to 17 are faults of
- * payloads and of memory, 32 to 41 are the library's own; the enum below has them all, with names. On every status but 0 the
- * caller's bytes stay as they are; and on every status but 0 and CPAY_TOO_SMALL so does all else that a call tells: structs,
- * sizes, counts and bools.
+ * After loss, a unit can lack its first bytes and still be released: AV1, VP9 with spatial layers, and VP8 from senders that mark
+ * each partition as a start. docs/LIMITS.md has the details.
  *
- * KINDS. A packetizer, a depacketizer, a buffer, a RED sender, a sender and a receiver each live in a struct of their kind,
- * which is the caller's own memory: begin with CPAY_INIT, make something in it by the call named *_new, and end with the one
- * named *_free, which empties it. To free an empty one does nothing, so freeing twice is no error; another call on an empty
- * one is CPAY_EMPTY, and one on a struct that holds something of another kind, as behind a cast, is CPAY_OTHER_KIND. Never
- * write into one, and never copy one that is full: of two copies neither the library nor anybody can tell that the other was
- * freed. It may be moved in memory, as long as one of the two places is forgotten.
+ * STATUSES. A call returns a status; a few return a bool or a number. 0 is success, 1 to 17 are errors of payloads and of memory,
+ * 32 to 41 are the library's own, and 42 to 49 say why a datagram is not accepted. The enum below names them. If a call fails, its
+ * output buffer and its other output arguments are unchanged. Exception: with CPAY_TOO_SMALL it writes the required size, and the
+ * other outputs except the bytes.
  *
- * MEMORY. The library takes memory by the program's malloc and realloc and gives it back by free, and only in calls marked [m].
- * These must come from one allocator. Each block must be aligned for the type stored in it, at most 8 bytes, as glibc, musl,
- * jemalloc and mimalloc do. Where memory is refused a call answers
- * CPAY_OUT_OF_MEMORY and leaves things as they were, but for what its comment says, so it can be made again. No call keeps a
- * pointer that it was given: frames and payloads are copied.
+ * HANDLES. A packetizer, a depacketizer, a buffer, a RED sender, a sender and a receiver each live in a handle: a struct of that
+ * type in your own memory. Initialise it with CPAY_INIT, create the object by the call named *_new, and end with the call named
+ * *_free, which leaves the handle empty. You may free an empty handle. Other calls on an empty handle return CPAY_EMPTY; calls on a
+ * handle of another type, as after a cast, return CPAY_OTHER_KIND. Never write into a handle. Never copy a handle in use: the
+ * library cannot detect that another copy was freed. You may move it in memory if you forget the old place.
  *
- * BYTES FOR THE CALLER. Where a call gives bytes, they are written to the front of the caller's, and their number to a `bytes`
- * field or to *size. Where the caller's are too few the call answers CPAY_TOO_SMALL, tells the number, and nothing is lost: the
- * packet or unit waits for the next call of the same kind. So a first call may have a length of 0.
+ * MEMORY. The library allocates with the program's malloc and realloc and releases with free, only in calls marked [m]. These
+ * functions must belong to one allocator. Each block must be aligned for the type stored in it, at most 8 bytes, as in glibc, musl,
+ * jemalloc and mimalloc. If an allocation fails, the call returns CPAY_OUT_OF_MEMORY and changes nothing, unless its comment says
+ * otherwise; you may call again. No call keeps a pointer that you pass: frames and payloads are copied.
  *
- * POINTERS. NULL goes with a length of 0; with another length it is CPAY_INVALID, or false of a call that answers a bool. No
- * other pointer is NULL, but for that of a *_free. Two arguments of a call that are written overlap with no other argument.
- * What a pointer points to has a value before the call, also where it is written: begin structs with {0}. Bytes of media that a
- * call only writes need none. A bool is true or false, never another byte.
+ * OUTPUT BUFFERS. A call that returns bytes writes them to the front of your buffer, and their number to a `bytes` field or to
+ * *size. If the buffer is too small, the call returns CPAY_TOO_SMALL, reports the required size, and nothing is lost: the packet or
+ * unit waits for the next call of the same name. So a first call may pass a length of 0.
  *
- * THREADS. One call at a time uses such a struct. It may go from thread to thread, where what one did comes before what the
- * next does, as by a mutex or by a thread's start or end. Different ones share nothing. No call is made from a signal handler,
- * or in the forked child of a process with threads. No call blocks, prints, ends the process or reads a clock.
+ * POINTERS. NULL is allowed with a length of 0; with another length the call returns CPAY_INVALID (false, if it returns a bool).
+ * All other pointers must be valid, except the argument of *_free. An argument that a call writes must not overlap any other
+ * argument. Structs must be initialised before the call, also if the call only writes them: start from {0}. Output buffers for
+ * bytes need no initial values. A bool must be true or false, never another byte.
  *
- * FILES. What payloads and frames say is in codec_payload_media.h, which this file includes.
+ * THREADS. Use a handle from one thread at a time. You may pass it to another thread if a mutex, or the start or end of a thread,
+ * orders the calls. Different handles share nothing. Make no call from a signal handler, or in the forked child of a process with
+ * threads. No call blocks, prints, ends the process or reads a clock.
  *
- * AN EXAMPLE, which is c/example.c, in full: */
+ * FILES. codec_payload_media.h, which this file includes, has calls that read payloads and frames.
+ *
+ * AN EXAMPLE: c/example.c, in full. */
 #if 0
 #include "codec_payload.h"
 #include <stdio.h>
 
-/* A datagram that came from a socket at that time goes in. What is no RTP packet is counted, and the stream goes on. */
+/* Passes a datagram that came from a socket at time `now`. A datagram that is not an RTP packet is counted and skipped. */
 static cpay_status take(cpay_receiver *receiver, uint64_t now, const uint8_t *datagram, size_t size) {
     uint32_t outcome = 0;
     cpay_status status = cpay_receiver_receive(receiver, now, datagram, size, &outcome);
     if (status == CPAY_OK || status == CPAY_OUT_OF_MEMORY) return status;
-    printf("passed over: %s\n", cpay_status_text(status));
+    printf("skipped: %s\n", cpay_status_text(status));
     return CPAY_OK;
 }
 
@@ -109,7 +109,7 @@ int main(void) {
 #define CPAY_VERSION_PATCH 0
 #define CPAY_VERSION (CPAY_VERSION_MAJOR * 10000 + CPAY_VERSION_MINOR * 100 + CPAY_VERSION_PATCH)
 
-/** A compiler that can warns where a status is not looked at. */
+/** Lets compilers that can do so warn if a status is ignored. */
 #if defined(__cplusplus) && __cplusplus >= 201703L
 #define CPAY_CHECKED [[nodiscard]]
 #elif defined(__GNUC__)
@@ -122,40 +122,40 @@ int main(void) {
 extern "C" {
 #endif
 
-/** The version of the library that is linked, as CPAY_VERSION has it. */
+/** Returns the version of the linked library, in the form of CPAY_VERSION. */
 uint32_t cpay_version(void);
 
 typedef enum {
     CPAY_OK = 0,
-    CPAY_SHORT_PACKET = 1,      /**< a payload ends before all is there that its format asks for */
-    CPAY_PAYLOAD_TOO_LARGE = 2, /**< a frame that goes into one packet is longer than the MTU */
-    CPAY_TOO_MANY_LAYERS = 3,   /**< a VP9 payload tells of too many spatial layers */
+    CPAY_SHORT_PACKET = 1,      /**< a payload ends before its format allows */
+    CPAY_PAYLOAD_TOO_LARGE = 2, /**< a frame that must fit one packet is longer than the MTU */
+    CPAY_TOO_MANY_LAYERS = 3,   /**< a VP9 payload announces more than three spatial layers */
     CPAY_TOO_MANY_P_DIFF = 4,   /**< a VP9 payload refers to too many frames */
-    CPAY_VP8_CORRUPTED = 11,    /**< 5 to 10 are kept for H.26x, which is not there */
+    CPAY_VP8_CORRUPTED = 11,    /**< 5 to 10 are reserved for H.26x, which is unsupported */
     CPAY_VP9_CORRUPTED = 12,
-    CPAY_AV1_CORRUPTED = 13,  /**< a frame is no sequence of OBUs, or a payload no elements */
-    CPAY_RED_CORRUPTED = 14,  /**< the bytes are no RED payload */
-    CPAY_TELE_INVALID = 15,   /**< the payload is not one or more whole reports */
+    CPAY_AV1_CORRUPTED = 13,  /**< a frame is not a sequence of OBUs, or a payload does not consist of elements */
+    CPAY_RED_CORRUPTED = 14,  /**< the bytes are not a RED payload */
+    CPAY_TELE_INVALID = 15,   /**< the payload does not consist of one or more whole reports */
     CPAY_AMR_WB_CORRUPTED = 16,
     CPAY_OUT_OF_MEMORY = 17,
-    CPAY_NONE = 32,       /**< there is none: no unit has its turn, no packet is left, no block, report or field is there */
-    CPAY_TOO_SMALL = 33,  /**< the caller's bytes are too few: the number that is needed was told, and nothing is lost */
-    CPAY_EMPTY = 34,      /**< nothing was made in it */
-    CPAY_OTHER_KIND = 35, /**< it holds something of another kind */
-    CPAY_FULL = 36,       /**< it is full already, and stays as it is */
-    CPAY_INVALID = 37,    /**< an argument is none that the call takes; its comment says which are */
-    CPAY_FRAME_TOO_SHORT = 38, /**< a frame ends before what its format says */
-    CPAY_FRAME_MARKER = 39,    /**< a marker, a sync code or a start code of a frame is another than the standard's */
+    CPAY_NONE = 32,       /**< no unit is due, no packet is left, or the block, report or field does not exist */
+    CPAY_TOO_SMALL = 33,  /**< the output buffer is too small: the required size was written, and nothing is lost */
+    CPAY_EMPTY = 34,      /**< the handle is not initialised */
+    CPAY_OTHER_KIND = 35, /**< the handle is of another type */
+    CPAY_FULL = 36,       /**< the handle is already in use, and is unchanged */
+    CPAY_INVALID = 37,    /**< an argument is invalid; the comment of the call says which are */
+    CPAY_FRAME_TOO_SHORT = 38, /**< a frame ends before its format allows */
+    CPAY_FRAME_MARKER = 39,    /**< a marker, a sync code or a start code of a frame differs from the standard's */
     CPAY_FRAME_RESERVED = 40,  /**< a field of a frame has a value that the standard reserves or forbids */
-    CPAY_FRAME_SIZES = 41,     /**< a size in a frame does not fit to the bytes that are there */
-    CPAY_RTP_HEADER_TOO_SHORT = 42, /**< of 42 to 48, why a datagram is no RTP packet: it has fewer than 12 bytes */
-    CPAY_RTP_VERSION = 43,          /**< its version is another than 2 */
+    CPAY_FRAME_SIZES = 41,     /**< a size in a frame does not match the bytes of the frame */
+    CPAY_RTP_HEADER_TOO_SHORT = 42, /**< 42 to 48 say why a datagram is not an RTP packet: it has fewer than 12 bytes */
+    CPAY_RTP_VERSION = 43,          /**< its version is not 2 */
     CPAY_RTP_CSRCS_TOO_SHORT = 44,  /**< it ends inside the contributing sources */
     CPAY_RTP_EXTENSION_HEADER_TOO_SHORT = 45, /**< it ends inside the four bytes that announce its header extension */
     CPAY_RTP_EXTENSION_TOO_SHORT = 46,        /**< it ends inside its header extension */
-    CPAY_RTP_PADDING_OF_ZERO = 47,            /**< it is padded by 0 bytes */
-    CPAY_RTP_PADDING_TOO_LONG = 48,           /**< there is more padding than bytes are left behind the header */
-    CPAY_RTX_TOO_SHORT = 49 /**< a packet that was sent again ends inside the number that it had first (RFC 4588) */
+    CPAY_RTP_PADDING_OF_ZERO = 47,            /**< its padding has 0 bytes */
+    CPAY_RTP_PADDING_TOO_LONG = 48,           /**< its padding is longer than the bytes after the header */
+    CPAY_RTX_TOO_SHORT = 49 /**< a retransmission ends inside its original sequence number (RFC 4588) */
 } cpay_status;
 
 /** Codecs. */
@@ -169,15 +169,15 @@ enum {
     CPAY_VP8 = 9,
     CPAY_VP9 = 10,
     CPAY_AV1 = 11,
-    CPAY_NULL = 12, /**< payloads that carry whatever they are given */
+    CPAY_NULL = 12, /**< payloads that carry any bytes */
     CPAY_TELE = 13  /**< telephone events (RFC 4733) */
 };
 
-/** What payloads told besides bytes: the field `kind` of a cpay_extra. */
+/** Which codec-specific data a unit has: the field `kind` of a cpay_extra. */
 enum { CPAY_EXTRA_NONE = 0, CPAY_EXTRA_VP8 = 1, CPAY_EXTRA_VP9 = 2, CPAY_EXTRA_AV1 = 3, CPAY_EXTRA_TELE = 4 };
 
-/** What the library makes lives in the caller's memory, in a struct of its kind. All zeros are an empty one: begin with
- * CPAY_INIT. The fields are the library's. */
+/** A handle: the caller's memory for an object of the library. All zeros are an empty handle: initialise it with CPAY_INIT. Its
+ * fields belong to the library. */
 typedef struct {
     void *at;
 } cpay_place;
@@ -213,7 +213,7 @@ typedef struct {
 
 #define CPAY_INIT { { false, { NULL } } }
 
-/** Empties it, and gives back what it held. NULL and an empty one are let be. */
+/** Frees the object, and leaves the handle empty. NULL and an empty handle are ignored. */
 void cpay_packetizer_free(cpay_packetizer *packetizer);
 void cpay_buffer_free(cpay_buffer *buffer);
 void cpay_depacketizer_free(cpay_depacketizer *depacketizer);
@@ -221,81 +221,82 @@ void cpay_red_sender_free(cpay_red_sender *sender);
 void cpay_sender_free(cpay_sender *sender);
 void cpay_receiver_free(cpay_receiver *receiver);
 
-/** A codec with its settings. What the codec does not have is not looked at, but `rate`, always, and `first_id`, by
- * cpay_packetizer_new of every codec. A buffer and a depacketizer do not look at `first_id`. */
+/** A codec with its settings. Settings of other codecs are ignored, with two exceptions: `rate` is always checked, and
+ * cpay_packetizer_new checks `first_id` for every codec. Buffers and depacketizers ignore `first_id`. */
 typedef struct {
     uint32_t codec;    /**< CPAY_OPUS and so on */
-    uint32_t rate;     /**< of the RTP clock, in hertz, above 0: 48000 for Opus, 90000 for video, 8000 for G.711 and G.722 */
-    uint16_t first_id; /**< the first picture id that is sent, at most 32767: of VP9, and of VP8 with vp8_ids */
+    uint32_t rate;     /**< rate of the RTP clock in hertz, above 0: 48000 for Opus, 90000 for video, 8000 for G.711 and G.722 */
+    uint16_t first_id; /**< first picture id to send, 0 to 32767: for VP9, and for VP8 with vp8_ids */
     bool octet_align;  /**< AMR-WB payloads are octet-aligned (RFC 4867, section 4.4) */
-    bool vp8_ids;      /**< VP8 is sent with picture ids */
-    bool vp9_flexible; /**< VP9 is sent in the flexible mode */
+    bool vp8_ids;      /**< send VP8 with picture ids */
+    bool vp9_flexible; /**< send VP9 in flexible mode */
 } cpay_spec;
 
-/* ---- Sending: a frame goes in, its packets come out one by one ---- */
+/* ---- Sending: a frame in, its packets out one by one ---- */
 
-/** A packetizer, in an empty struct. CPAY_INVALID for a codec that is not there, a rate of 0 or a first_id above 32767. [m] */
+/** Creates a packetizer in an empty handle. CPAY_INVALID: unsupported codec, `rate` 0, or `first_id` above 32767. [m] */
 CPAY_CHECKED cpay_status cpay_packetizer_new(cpay_packetizer *packetizer, const cpay_spec *spec);
 
-/** Cuts a frame into payloads of at most `mtu` bytes, and tells how many there are: none for an empty frame. CPAY_NULL alone
- * looks at no MTU: a frame is one payload, as long as it is, also an empty one. Those of the frame before that were not taken
- * are given up. Opus, G.711, G.722, AMR-WB and telephone events mark all packets of a frame that starts a talk spurt; comfort
- * noise, video and CPAY_NULL do not look at `starts_talk_spurt`. A fault leaves the packets of the frame before. [m] */
+/** Cuts a frame into payloads of at most `mtu` bytes, and reports their number: 0 for an empty frame. CPAY_NULL ignores `mtu`: a
+ * frame of any length, including 0, is one payload. Packets of the previous frame that were not fetched are discarded. If
+ * `starts_talk_spurt` is true, Opus, G.711, G.722, AMR-WB and telephone events mark all packets of the frame; comfort noise,
+ * video and CPAY_NULL ignore it. If the call fails, the packets of the previous frame stay. [m] */
 CPAY_CHECKED cpay_status cpay_packetize(cpay_packetizer *packetizer, size_t mtu, bool starts_talk_spurt, const uint8_t *frame,
                                         size_t frame_len, size_t *count);
 
 typedef struct {
-    size_t bytes;  /**< how many bytes the packet's payload has */
-    bool marker;   /**< the marker of its RTP header */
-    bool nackable; /**< a receiver may ask for it again (RFC 4585, section 6.2.1) */
+    size_t bytes;  /**< size of the packet's payload */
+    bool marker;   /**< marker bit of its RTP header */
+    bool nackable; /**< a receiver may request a retransmission (RFC 4585, section 6.2.1) */
 } cpay_packet_info;
 
-/** The next packet of the frame. CPAY_NONE once all were taken. */
+/** Returns the next packet of the frame. CPAY_NONE: all packets were fetched. */
 CPAY_CHECKED cpay_status cpay_packet(cpay_packetizer *packetizer, cpay_packet_info *info, uint8_t *bytes, size_t bytes_len);
 
-/** How cpay_packetize_into cuts a frame, and what room each of its packets gets. */
+/** How cpay_packetize_into cuts a frame, and the room around each packet. */
 typedef struct {
-    size_t mtu;             /**< the most bytes of a payload */
-    size_t headroom;        /**< how many bytes stay free before each payload: for an RTP header, 12 or more */
-    size_t tailroom;        /**< how many bytes stay free behind each payload: for an authentication tag */
+    size_t mtu;             /**< maximum size of a payload */
+    size_t headroom;        /**< bytes left free in front of each payload: for an RTP header, 12 or more */
+    size_t tailroom;        /**< bytes left free after each payload: for an authentication tag */
     bool starts_talk_spurt; /**< see cpay_packetize */
 } cpay_frame_cut;
 
 typedef struct {
-    size_t offset; /**< where the packet's payload begins in the caller's bytes; its headroom stands right before it */
-    size_t bytes;  /**< how many bytes the payload has */
-    bool marker;   /**< the marker of its RTP header */
-    bool nackable; /**< a receiver may ask for it again (RFC 4585, section 6.2.1) */
+    size_t offset; /**< start of the packet's payload in the output buffer; its headroom is right in front of it */
+    size_t bytes;  /**< size of the payload */
+    bool marker;   /**< marker bit of its RTP header */
+    bool nackable; /**< a receiver may request a retransmission (RFC 4585, section 6.2.1) */
 } cpay_placed_packet;
 
 typedef struct {
-    size_t bytes; /**< how many bytes the packets take, with headroom and tailroom; SIZE_MAX where they are more */
-    size_t count; /**< how many packets there are */
+    size_t bytes; /**< size of all packets, with headroom and tailroom; SIZE_MAX if it is larger */
+    size_t count; /**< number of packets */
 } cpay_frame_room;
 
-/** Cuts a frame as cpay_packetize does, and writes all its packets to the front of `bytes`, one behind the other: headroom,
- * payload, tailroom. Headroom and tailroom stay as they were, and so do the bytes behind the last packet. Of each packet one
- * element of `packets` is told, in order. *room is told on CPAY_OK and on CPAY_TOO_SMALL, which comes where `bytes` or `packets`
- * are too few. On every status but CPAY_OK the packetizer is as it was, picture ids too, and so are `bytes` and `packets`: the
- * same frame can be given again. What cpay_packetize cut stays to be taken. Each byte is copied twice. Memory is taken where a
- * frame is larger than all before it, and then used again, so a steady stream takes none. [m] */
+/** Cuts a frame as cpay_packetize does, and writes all its packets to the front of `bytes`, one after another: headroom,
+ * payload, tailroom. Headroom, tailroom and the bytes after the last packet are unchanged. Each packet gets one element of
+ * `packets`, in order. *room is written with CPAY_OK and CPAY_TOO_SMALL.
+ * CPAY_TOO_SMALL: `bytes` or `packets` is too short. If the call fails, the packetizer (with its picture ids), `bytes` and
+ * `packets` are unchanged: you may pass the same frame again. Packets of an earlier cpay_packetize can still be fetched. Each
+ * byte is copied twice. The call allocates only if a frame is larger than all before it, so a steady stream allocates nothing.
+ * [m] */
 CPAY_CHECKED cpay_status cpay_packetize_into(cpay_packetizer *packetizer, const cpay_frame_cut *cut, const uint8_t *frame,
                                              size_t frame_len, uint8_t *bytes, size_t bytes_len, cpay_placed_packet *packets,
                                              size_t packets_len, cpay_frame_room *room);
 
-/* ---- What payloads tell besides bytes ---- */
+/* ---- Codec-specific data from payloads ---- */
 
 /** A report on a telephone event (RFC 4733, section 2.3). */
 typedef struct {
-    uint64_t duration; /**< how long the event has lasted so far, in nanoseconds */
+    uint64_t duration; /**< duration of the event so far, in nanoseconds */
     uint8_t event;     /**< 0 to 9 are the digits of a keypad */
-    uint8_t volume;    /**< the power of the tone in dBm0, without its sign: 0 to 63 */
+    uint8_t volume;    /**< power of the tone in dBm0, without its sign: 0 to 63 */
     bool end;          /**< the event has ended */
 } cpay_tele_event;
 
 /** A spatial layer of VP9. */
 typedef struct {
-    size_t end; /**< where its bytes end in the unit's */
+    size_t end; /**< end of its bytes in the unit */
     uint16_t width;
     uint16_t height;
     bool has_end; /**< the layer was seen */
@@ -303,44 +304,44 @@ typedef struct {
     bool has_height;
 } cpay_vp9_layer;
 
-/** Fields that a kind does not have are 0. */
+/** Codec-specific data of a unit. Fields of other codecs are 0. */
 typedef struct {
-    uint64_t picture_id;     /**< VP8, VP9: extended beyond the bits that were sent */
-    uint64_t tl0_picture_id; /**< VP8, VP9: of the base layer, extended likewise */
+    uint64_t picture_id;     /**< VP8, VP9: extended beyond the bits of the payload */
+    uint64_t tl0_picture_id; /**< VP8, VP9: id of the base layer, extended in the same way */
     uint32_t kind;           /**< CPAY_EXTRA_NONE and so on */
     bool has_picture_id;
     bool has_tl0_picture_id;
-    bool has_temporal_layer; /**< of VP8 always set */
+    bool has_temporal_layer; /**< VP8: always true */
     uint8_t temporal_layer;  /**< VP8, VP9 */
-    bool is_keyframe;        /**< VP8: it can be decoded without any other; VP9: so it is told by the P bit of descriptors, which
-                                  some senders never set; AV1: by the N bit that a coded video sequence starts here.
-                                  cpay_frame_info tells what a frame itself is */
+    bool is_keyframe;        /**< VP8: it can be decoded without any other frame. VP9: from the P bit of descriptors, which some
+                                  senders never set. AV1: from the N bit, a coded video sequence starts here. cpay_frame_info
+                                  examines the frame itself */
     bool discardable;        /**< VP8: no other frame depends on this one */
-    bool sync;               /**< VP8: this frame depends on frames of the base layer alone */
+    bool sync;               /**< VP8: this frame depends only on frames of the base layer */
     cpay_tele_event event;    /**< telephone events */
     cpay_vp9_layer layers[3]; /**< VP9 */
 } cpay_extra;
 
-/* ---- Receiving: packets in any order in, whole units in order out ---- */
+/* ---- Receiving: packets in any order in, whole units out in order ---- */
 
-/** A buffer, in an empty struct. It holds at most `limit` packets, 1 to 65536; one more, and the lowest is evicted. A frame
- * behind missing packets waits until more than `hold_back` complete frames are there: 0 waits for nothing. CPAY_INVALID for a
- * codec that is not there, a rate of 0 or another limit. [m] */
+/** Creates a buffer in an empty handle. It holds at most `limit` packets, 1 to 65536; one more evicts the packet with the lowest
+ * number. A complete frame after missing packets waits until more than `hold_back` complete frames are held; with 0 it never
+ * waits. CPAY_INVALID: unsupported codec, `rate` 0, or `limit` out of range. [m] */
 CPAY_CHECKED cpay_status cpay_buffer_new(cpay_buffer *buffer, const cpay_spec *spec, size_t hold_back, size_t limit);
 
-/** A received packet. Values of header extensions and sender reports are not passed on. */
+/** A received packet. The buffer does not handle header extensions and sender reports. */
 typedef struct {
-    uint64_t number;   /**< the sequence number without wrapping (cpay_extend_number); its low 16 bits are the header's */
-    uint64_t received; /**< when it was received, by a clock of the caller's */
-    uint64_t rtp_time; /**< the timestamp of its header, or one that does not wrap. Packets of one frame have one */
+    uint64_t number;   /**< extended sequence number (cpay_extend_number); its low 16 bits are those of the RTP header */
+    uint64_t received; /**< receive time, by your clock */
+    uint64_t rtp_time; /**< timestamp of its RTP header, extended or not. All packets of a frame have the same */
     bool marker;
 } cpay_received;
 
-/** Puts a packet in. One that is held already, or comes too late, is dropped with CPAY_OK. [m] */
+/** Stores a packet. A packet that is already held, or that arrives too late, is dropped with CPAY_OK. [m] */
 CPAY_CHECKED cpay_status cpay_buffer_push(cpay_buffer *buffer, const cpay_received *packet, const uint8_t *payload,
                                           size_t payload_len);
 
-/** When a frame passed the stages of its sender (video-timing), in milliseconds since it was captured. */
+/** When a frame passed the stages of its sender (video-timing), in milliseconds since its capture. */
 typedef struct {
     uint16_t encode_start;
     uint16_t encode_finish;
@@ -348,432 +349,471 @@ typedef struct {
     uint16_t last_left_pacer;
     uint16_t network_1;
     uint16_t network_2;
-    uint8_t flags; /**< why the times are there: 1 for a timer, 2 for a frame of unusual size */
+    uint8_t flags; /**< why the times were sent: 1 for a timer, 2 for a frame of unusual size */
 } cpay_video_timing;
 
-/** The values of header extensions (RFC 8285) that go with a frame, each where its flag is true: {0} has none. Fields that are
- * not there are 0 where the library tells them, and not looked at where it is given them. docs/DATAGRAMS.md has their bytes. */
+/** Values of header extensions (RFC 8285) of a frame, each with a flag that it is present: {0} has none. An absent field is
+ * written as 0, and ignored if you pass it. docs/DATAGRAMS.md has the bytes of each extension. */
 typedef struct {
-    uint64_t abs_capture_time;          /**< when it was captured: seconds since 1900, and in the low 32 bits their fraction */
-    int64_t clock_offset;               /**< with has_clock_offset: what is to be added to get the sender's clock, likewise */
-    cpay_video_timing video_timing;     /**< when it passed the stages of its sender */
-    uint8_t video_orientation;          /**< camera, flip and rotation, as the byte of 3GPP TS 26.114, section 7.4.5 */
-    uint8_t video_content_type;         /**< 0 of a camera, 1 of a screen */
-    int8_t audio_level;                 /**< in dBov, 0 to -127 (RFC 6464). Another one is not sent */
-    uint8_t layers_allocation_len;      /**< how many bytes of `layers_allocation` are in use */
-    uint8_t layers_allocation[255];     /**< video-layers-allocation, as its bytes are: they are not looked into */
+    uint64_t abs_capture_time;          /**< capture time: seconds since 1900, with their fraction in the low 32 bits */
+    int64_t clock_offset;               /**< with has_clock_offset: offset to add to get the sender's clock, in the same unit */
+    cpay_video_timing video_timing;     /**< when the frame passed the stages of its sender */
+    uint8_t video_orientation;          /**< camera, flip and rotation, as in the byte of 3GPP TS 26.114, section 7.4.5 */
+    uint8_t video_content_type;         /**< 0 for a camera, 1 for a screen */
+    int8_t audio_level;                 /**< in dBov, 0 to -127 (RFC 6464). Other levels are not sent */
+    uint8_t layers_allocation_len;      /**< number of bytes used in `layers_allocation` */
+    uint8_t layers_allocation[255];     /**< bytes of video-layers-allocation, not interpreted */
     bool has_abs_capture_time;
-    bool has_clock_offset;              /**< beside has_abs_capture_time, without which it says nothing */
+    bool has_clock_offset;              /**< ignored without has_abs_capture_time */
     bool has_video_timing;
     bool has_video_orientation;
     bool has_video_content_type;
     bool has_audio_level;
     bool has_layers_allocation;
-    bool has_voice_activity;            /**< goes along with has_audio_level, without which it is not sent */
-    bool voice_activity;                /**< there is speech (RFC 6464) */
+    bool has_voice_activity;            /**< sent only with has_audio_level */
+    bool voice_activity;                /**< the packet has speech (RFC 6464) */
 } cpay_extension_values;
 
-/** What is known of a unit: of a frame, or of what the codec's payloads carry. */
+/** A unit: a video frame, for AV1 a temporal unit, or for audio the media of one packet. */
 typedef struct {
-    uint64_t first;         /**< the number of its first packet */
-    uint64_t last;          /**< the number of its last packet */
-    uint64_t rtp_time;      /**< of its packets, as it was pushed */
-    uint64_t received;      /**< when the first of its packets to come was received */
-    size_t bytes;           /**< how many bytes it has */
-    bool contiguous;        /**< it follows the unit before it, by its numbers or its picture ids */
-    bool starts_talk_spurt; /**< its first packet has the marker, which audio sets where a talk spurt starts */
+    uint64_t first;         /**< extended sequence number of its first packet */
+    uint64_t last;          /**< extended sequence number of its last packet */
+    uint64_t rtp_time;      /**< RTP time of its packets, as pushed */
+    uint64_t received;      /**< receive time of its first packet to arrive */
+    size_t bytes;           /**< size of the unit */
+    bool contiguous;        /**< it directly follows the previous unit, by its sequence numbers or its picture ids */
+    bool starts_talk_spurt; /**< marker bit of its first packet, which audio sets at the start of a talk spurt */
+    bool decodable;         /**< of cpay_receiver_pop: a decoder can show it; see `from_keyframe`. cpay_buffer_pop: true */
+    bool keyframe;          /**< of cpay_receiver_pop: its frame header says so; false with CPAY_KEYFRAME_OFF and for audio.
+                                 cpay_buffer_pop: false */
     cpay_extra extra;
 } cpay_unit;
 
-/** The next unit whose turn has come, or CPAY_NONE. With CPAY_TOO_SMALL *unit is told, and the unit waits for the next call. A
- * fault from 1 to 16 is the depacketizer's: its frame has left, and the next call goes on. With CPAY_OUT_OF_MEMORY the frame
- * stays, and the next call tries it again. [m] */
+/** Returns the next unit that is due. CPAY_NONE: no unit is due. CPAY_TOO_SMALL: *unit is written, and the unit waits for the
+ * next call. 1 to 16: the depacketizer refused a frame; that frame is discarded, and the next call continues after it.
+ * CPAY_OUT_OF_MEMORY: the frame stays, and the next call tries it again. [m] */
 CPAY_CHECKED cpay_status cpay_buffer_pop(cpay_buffer *buffer, cpay_unit *unit, uint8_t *bytes, size_t bytes_len);
 
 typedef struct {
-    size_t held;  /**< how many packets are held */
-    size_t ready; /**< how many complete frames are held, whether they may be taken yet or not */
-    size_t limit; /**< how many packets are held at most */
-    bool waiting; /**< a unit waits for enough of the caller's bytes */
+    size_t held;  /**< packets held */
+    size_t ready; /**< complete frames held, due or not */
+    size_t limit; /**< maximum number of packets held */
+    bool waiting; /**< a unit waits for a larger output buffer */
 } cpay_buffer_counts_info;
 
 CPAY_CHECKED cpay_status cpay_buffer_counts(cpay_buffer *buffer, cpay_buffer_counts_info *counts);
 
-/** From now on a frame behind missing packets waits until more than `hold_back` complete frames are there. Where a stream ends,
- * set it to 0 and take units until there is none: frames behind a gap come too, and what is then held is of frames that lack
- * packets. */
+/** Changes `hold_back` of a running buffer: a complete frame after missing packets waits until more than `hold_back` complete
+ * frames are held. At the end of a stream set it to 0 and pop until CPAY_NONE: frames after gaps are released too. Packets held
+ * after that belong to incomplete frames. */
 CPAY_CHECKED cpay_status cpay_buffer_set_hold_back(cpay_buffer *buffer, size_t hold_back);
 
-/** The packet of that number came and carries no media, as one of padding alone: where all before it have left, it is not
- * waited for, and else nothing happens. */
+/** Reports that the packet with this number arrived and carries no media, such as padding only. If all packets before it were
+ * released or discarded, the buffer does not wait for it. Otherwise nothing changes. */
 CPAY_CHECKED cpay_status cpay_buffer_skip_number(cpay_buffer *buffer, uint64_t number);
 
 /* ---- Datagrams: RTP packets (RFC 3550, section 5.1) ---- */
 
-/** Whether a datagram on a port for both is RTCP, by its second byte: 192 to 223 (RFC 5761, section 4). */
+/** Returns whether a datagram on a port shared by RTP and RTCP is RTCP. Its second byte decides: 192 to 223 (RFC 5761, section
+ * 4). */
 bool cpay_is_rtcp(const uint8_t *datagram, size_t datagram_len);
 
-/** An RTP packet, by places in the bytes of the datagram. */
+/** An RTP packet, by offsets into the datagram. */
 typedef struct {
-    size_t extension_at;  /**< where the bytes of the header extension begin, behind its profile and its length */
-    size_t extension_len; /**< how many there are: a multiple of 4 */
-    size_t payload_at;    /**< where the payload begins */
-    size_t payload_len;   /**< how many bytes it has, without padding */
+    size_t extension_at;  /**< start of the header extension, after its profile and length */
+    size_t extension_len; /**< size of the header extension: a multiple of 4 */
+    size_t payload_at;    /**< start of the payload */
+    size_t payload_len;   /**< size of the payload, without padding */
     uint32_t timestamp;
     uint32_t ssrc;
     uint16_t sequence_number;
-    uint16_t extension_profile; /**< 0xBEDE, or 0x1000 to 0x100F: elements by RFC 8285, in its form of one or of two bytes */
+    uint16_t extension_profile; /**< 0xBEDE, or 0x1000 to 0x100F: elements by RFC 8285, in the one-byte or the two-byte form */
     uint8_t payload_type;       /**< 0 to 127 */
-    uint8_t csrc_count;         /**< 0 to 15 contributing sources, of four bytes each, from byte 12 */
-    uint8_t padding;            /**< how many bytes of padding stand behind the payload */
+    uint8_t csrc_count;         /**< 0 to 15 contributing sources, of four bytes each, from byte 12 on */
+    uint8_t padding;            /**< number of padding bytes after the payload */
     bool marker;
     bool has_extension;
 } cpay_rtp_info;
 
-/** Reads a datagram as an RTP packet. CPAY_RTP_HEADER_TOO_SHORT to CPAY_RTP_PADDING_TOO_LONG where it is none: the first fault
- * from left to right. Takes no memory. */
+/** Parses a datagram as an RTP packet. CPAY_RTP_HEADER_TOO_SHORT to CPAY_RTP_PADDING_TOO_LONG: not an RTP packet; the status is
+ * the first fault from left to right. Does not allocate. */
 CPAY_CHECKED cpay_status cpay_rtp_read(const uint8_t *datagram, size_t datagram_len, cpay_rtp_info *packet);
 
-/** The value of the first element of that id in the header extension of a datagram (RFC 8285, in both forms): 1 to 16 bytes, or
- * 0 to 255 in the form of two bytes. CPAY_NONE where there is no such element, no extension, or one of another profile; where
- * the datagram is no RTP packet, what cpay_rtp_read answers. Elements behind one that passes the end, or in the form of one byte
- * behind one of id 0 or 15, are not there. Takes no memory. */
+/** Reads the value of the first element with this id in the header extension of a datagram (RFC 8285, both forms): 1 to 16
+ * bytes, or 0 to 255 in the two-byte form. CPAY_NONE: no such element, no extension, or an extension of another profile. If the
+ * datagram is not an RTP packet, the status is that of cpay_rtp_read. Elements after one that extends beyond the end are
+ * ignored; in the one-byte form, elements after an id of 0 or 15 too. Does not allocate. */
 CPAY_CHECKED cpay_status cpay_extension(const uint8_t *datagram, size_t datagram_len, uint8_t id, uint8_t *bytes,
                                         size_t bytes_len, size_t *size);
 
-/** The ids that signalling gave to header extensions (RFC 8285, section 5), 1 to 255; 0 for one that was not agreed on. */
+/** Ids of header extensions from signalling (RFC 8285, section 5), 1 to 255; 0 means not negotiated. */
 typedef struct {
-    uint8_t abs_capture_time;   /**< of 8 bytes, or of 16 with the offset of the clock */
-    uint8_t video_orientation;  /**< of 1 byte */
-    uint8_t video_content_type; /**< of 1 byte */
-    uint8_t video_timing;       /**< of 13 bytes */
-    uint8_t layers_allocation;  /**< of 0 to 255 bytes */
-    uint8_t audio_level;        /**< of 1 byte, with the voice activity (RFC 6464) */
+    uint8_t abs_capture_time;   /**< 8 bytes, or 16 with the offset of the clock */
+    uint8_t video_orientation;  /**< 1 byte */
+    uint8_t video_content_type; /**< 1 byte */
+    uint8_t video_timing;       /**< 13 bytes */
+    uint8_t layers_allocation;  /**< 0 to 255 bytes */
+    uint8_t audio_level;        /**< 1 byte, with the voice activity (RFC 6464) */
 } cpay_extension_ids;
 
-/** The values that the header extension of a datagram has under these ids: of each the first element, if it has the length that
- * its format has. A value that is not there is told as not there, with CPAY_OK too; where the datagram is no RTP packet, what
- * cpay_rtp_read answers, and *values stays as it is. Elements are found as cpay_extension finds them. Takes no memory. */
+/** Reads the values in the header extension of a datagram under these ids: for each, the first element with the id, if its
+ * length matches its format. Missing values are reported as absent, with CPAY_OK. If the datagram is not an RTP packet, the
+ * status is that of cpay_rtp_read, and *values is unchanged. Elements are found as in cpay_extension. Does not allocate. */
 CPAY_CHECKED cpay_status cpay_extension_values_of(const uint8_t *datagram, size_t datagram_len, const cpay_extension_ids *ids,
                                                   cpay_extension_values *values);
 
-/* ---- A sender: frames go in, the datagrams of one stream come out ---- */
+/* ---- A sender: frames in, the datagrams of one stream out ---- */
 
 typedef struct {
     cpay_spec spec;
-    size_t mtu;            /**< the most bytes of a payload; a header of 12 bytes, and 304 of values at most, come on top */
-    uint32_t ssrc;         /**< any number, chosen at random (RFC 3550, section 8) */
-    uint16_t first_number; /**< the sequence number of the first packet, at random too */
+    size_t mtu;            /**< maximum size of a payload; the RTP header adds 12 bytes, and header extensions up to 304 */
+    uint32_t ssrc;         /**< choose it at random (RFC 3550, section 8) */
+    uint16_t first_number; /**< sequence number of the first packet; choose it at random too */
     uint8_t payload_type;  /**< 0 to 127 */
-    cpay_extension_ids extension_ids; /**< values without an id are not sent; no two ids are the same */
+    cpay_extension_ids extension_ids; /**< values without an id are not sent; ids must differ */
 } cpay_sender_settings;
 
-/** A sender, in an empty struct. CPAY_INVALID where cpay_packetizer_new says so, for a payload type above 127, and where two
- * header extensions have the same id. [m] */
+/** Creates a sender in an empty handle. CPAY_INVALID: as for cpay_packetizer_new, `payload_type` above 127, or two header
+ * extensions with the same id. [m] */
 CPAY_CHECKED cpay_status cpay_sender_new(cpay_sender *sender, const cpay_sender_settings *settings);
 
-/** Cuts a frame into packets, and tells how many datagrams it has: see cpay_packetize. They take the place of those of the
- * frame before, and use its memory. `rtp_time` is in ticks of the RTP clock; its low 32 bits are sent. After a fault there are
- * no datagrams, and the sequence number is as before. [m] */
+/** Cuts a frame into packets, and reports the number of datagrams: see cpay_packetize. They replace the datagrams of the
+ * previous frame, and reuse its memory. `rtp_time` is in ticks of the RTP clock; its low 32 bits are sent. If the call fails,
+ * there are no datagrams, and the next sequence number is unchanged. [m] */
 CPAY_CHECKED cpay_status cpay_sender_send(cpay_sender *sender, uint64_t rtp_time, bool starts_talk_spurt, const uint8_t *frame,
                                           size_t frame_len, size_t *count);
 
-/** What goes with a frame that is sent. */
+/** The data sent with a frame. */
 typedef struct {
     uint64_t rtp_time;            /**< in ticks of the RTP clock; its low 32 bits are sent */
-    bool starts_talk_spurt;       /**< it is the first after a silence */
+    bool starts_talk_spurt;       /**< the first frame after a silence */
     cpay_extension_values values; /**< {0} sends none */
 } cpay_sample;
 
-/** The same as cpay_sender_send, with values of header extensions: each value that has an id goes along, capture time and
- * layers allocation on the frame's first packet alone, orientation, content type and timing on the last alone, level and voice
- * activity on each. A level above 0 or below -127 dBov is not sent, nor is voice activity without a level. [m] */
+/** Does the same as cpay_sender_send, and sends values of header extensions that have an id. Capture time and layers allocation
+ * go only on the frame's first packet; orientation, content type and timing only on the last; level and voice activity on each.
+ * A level above 0 or below -127 dBov is not sent; voice activity is sent only with a level. [m] */
 CPAY_CHECKED cpay_status cpay_sender_send_sample(cpay_sender *sender, const cpay_sample *sample, const uint8_t *frame,
                                                  size_t frame_len, size_t *count);
 
-/** The datagram at a place, from 0, of the frame that was sent last. CPAY_NONE past the last. Each can be asked for again until
- * the next frame is sent. */
+/** Copies datagram `place`, from 0, of the last frame. CPAY_NONE: `place` is past the last datagram. You may fetch each one
+ * again until the next frame is sent. */
 CPAY_CHECKED cpay_status cpay_sender_datagram(cpay_sender *sender, size_t place, uint8_t *bytes, size_t bytes_len, size_t *size);
 
-/** What sender reports tell (RFC 3550, section 6.4.1). */
+/** The fields for sender reports (RFC 3550, section 6.4.1). */
 typedef struct {
-    uint32_t packets;     /**< how many packets were sent, modulo 2^32 */
-    uint32_t octets;      /**< how many bytes of payload, modulo 2^32 */
-    uint32_t rtp_time;    /**< of the frame that was sent last */
+    uint32_t packets;     /**< packets sent, modulo 2^32 */
+    uint32_t octets;      /**< payload bytes sent, modulo 2^32 */
+    uint32_t rtp_time;    /**< RTP time of the last frame */
     uint16_t next_number; /**< the sequence number of the next packet */
-    bool has_rtp_time;    /**< a frame was sent */
+    bool has_rtp_time;    /**< at least one frame was sent */
 } cpay_sender_counts_info;
 
 CPAY_CHECKED cpay_status cpay_sender_counts(cpay_sender *sender, cpay_sender_counts_info *counts);
 
-/* ---- A receiver: datagrams of a socket go in, whole units of one stream come out in order ---- */
+/* ---- A receiver: datagrams of a socket in, whole units of one stream out in order ---- */
 
 /** For a receiver: no frame is released by count alone. */
 #define CPAY_NO_HOLD_BACK SIZE_MAX
+
+/** What a receiver of video does with units that a decoder cannot show. A decoder can show a keyframe, and a contiguous unit after
+ * a unit that it can show. A unit is a keyframe by its frame header. Audio and custom codecs are never inspected. */
+enum {
+    CPAY_KEYFRAME_OFF = 0,  /**< units are not inspected: `decodable` is true, `keyframe` is false */
+    CPAY_KEYFRAME_MARK = 1, /**< each unit is released, and `decodable` says whether a decoder can show it; all initialisers set
+                                 this */
+    CPAY_KEYFRAME_DROP = 2  /**< a unit that a decoder cannot show is counted as `undecodable` and dropped */
+};
 
 /** Begin with CPAY_LIVE_AUDIO, CPAY_LIVE_VIDEO, one of the two with _WITH_NACK, or CPAY_FILE, and set at least `spec` and
  * `payload_type`. */
 typedef struct {
     cpay_spec spec;
-    size_t hold_back;         /**< a complete frame behind a gap is released once more complete frames than this are held;
-                                   CPAY_NO_HOLD_BACK: no frame is released by count alone */
-    size_t start;             /**< the first frame is released once more complete frames than this are held */
-    size_t limit;             /**< how many packets are held at most, 1 to 65536; while less than an eighth of these places is
-                                   free, no frame waits */
+    size_t hold_back;         /**< reordering depth: a complete frame after a gap is released once more than this many complete
+                                   frames are held. CPAY_NO_HOLD_BACK: no frame is released by count alone */
+    size_t start;             /**< the first frame is released once more than this many complete frames are held */
+    size_t limit;             /**< maximum number of packets held, 1 to 65536; while less than an eighth of these places is free,
+                                   no frame waits */
     uint64_t max_wait;        /**< with has_max_wait: a complete frame is released once this number of ticks of your clock has
                                    passed since its last packet was received */
-    uint32_t ssrc;            /**< with has_ssrc: the SSRC of the stream; else two packets choose it: see cpay_receiver_receive */
-    uint32_t tick_rate;       /**< how many ticks of the caller's clock a second has, above 0: for the jitter of reports alone */
-    uint32_t red_step;        /**< with has_red: how many ticks of the RTP clock packets are apart, 1 to 16383 */
-    uint32_t rtx_ssrc;        /**< with has_rtx: the SSRC under which packets are sent again */
-    uint16_t forward;         /**< how far ahead of the greatest number a packet may be: less than this, 1 to 32768 */
-    uint16_t backward;        /**< how far behind it: at most this, and less than `forward` */
+    uint32_t ssrc;            /**< with has_ssrc: SSRC of the stream; otherwise two packets choose it: see cpay_receiver_receive */
+    uint32_t tick_rate;       /**< ticks per second of your clock, above 0; used for the jitter in reports, and for two seconds
+                                   without packets */
+    uint32_t red_step;        /**< with has_red: RTP timestamp increment per packet, 1 to 16383; 960 is 20 ms at 48 kHz */
+    uint32_t rtx_ssrc;        /**< with has_rtx: SSRC of the retransmission stream */
+    uint16_t forward;         /**< accepted distance ahead of the highest sequence number, exclusive: 1 to 32768 */
+    uint16_t backward;        /**< accepted distance below it, inclusive; must be less than `forward` */
     uint8_t payload_type;     /**< 0 to 127 */
-    uint8_t red_payload_type; /**< with has_red: that of RED, another than `payload_type`, which its blocks have */
-    uint8_t rtx_payload_type; /**< with has_rtx: that of packets that are sent again */
+    uint8_t red_payload_type; /**< with has_red: payload type of RED; must differ from `payload_type`, which the blocks have */
+    uint8_t rtx_payload_type; /**< with has_rtx: payload type of retransmissions */
+    uint8_t from_keyframe;    /**< what happens to video units that a decoder cannot show: CPAY_KEYFRAME_OFF, CPAY_KEYFRAME_MARK
+                                   or CPAY_KEYFRAME_DROP */
     bool has_max_wait;
     bool has_ssrc;
-    bool has_red; /**< the stream is sent in RED (RFC 2198): what its packets repeat goes in where it is missing */
-    bool has_rtx; /**< packets are sent again in a stream of their own (RFC 4588) */
-    cpay_extension_ids extension_ids; /**< for cpay_receiver_values; two ids that are the same read one element */
+    bool has_red; /**< the stream is sent in RED (RFC 2198): redundant blocks fill in missing packets. Each packet must have an RTP
+                       time of its own, as audio has: no time of the latest 64 is stored twice */
+    bool has_rtx; /**< retransmissions arrive in a separate stream (RFC 4588) */
+    cpay_extension_ids extension_ids; /**< for cpay_receiver_values; two equal ids read the same element */
 } cpay_receiver_settings;
 
-/** Settings by purpose. All have no codec yet, at most 4096 packets held, a clock of milliseconds, no ids of header extensions, and
- * no bound by count. The windows of audio are 3000 numbers ahead (MAX_DROPOUT of RFC 3550, appendix A.1) and 1000 behind; those of
+/** Settings by purpose. All have no codec yet, at most 4096 packets held, a clock of milliseconds, no ids of header extensions,
+ * CPAY_KEYFRAME_MARK, and no bound by count. The windows of audio are 3000 numbers ahead (MAX_DROPOUT of RFC 3550, appendix A.1) and 1000 behind; those of
  * video, 12000 and 5000, are five seconds of 1000 packets a second. */
 #define CPAY_SETTINGS_THAT_WAIT(start, max_wait, has_max_wait, forward, backward) \
     { { 0, 0, 0, false, false, false }, CPAY_NO_HOLD_BACK, start, 4096, max_wait, 0, 1000, 0, 0, forward, backward, 0, 0, 0, \
-      has_max_wait, false, false, false, { 0, 0, 0, 0, 0, 0 } }
+      CPAY_KEYFRAME_MARK, has_max_wait, false, false, false, { 0, 0, 0, 0, 0, 0 } }
 
 /** Live audio or video without retransmission: a lost packet delays frames by at most 100 ms. */
 #define CPAY_LIVE_AUDIO CPAY_SETTINGS_THAT_WAIT(1, 100, true, 3000, 1000)
 #define CPAY_LIVE_VIDEO CPAY_SETTINGS_THAT_WAIT(1, 100, true, 12000, 5000)
 
-/** Live audio or video with retransmission (RFC 4585): at most 200 ms. For a known round trip time, set `max_wait` to twice that
- * time and 100 ms more. */
+/** Live audio or video with retransmission (RFC 4585): a lost packet delays frames by at most 200 ms. For a known round-trip
+ * time, set `max_wait` to twice that time plus 100 ms. */
 #define CPAY_LIVE_AUDIO_WITH_NACK CPAY_SETTINGS_THAT_WAIT(1, 200, true, 3000, 1000)
 #define CPAY_LIVE_VIDEO_WITH_NACK CPAY_SETTINGS_THAT_WAIT(2, 200, true, 12000, 5000)
 
-/** Packets from a file, audio or video: a frame behind a gap waits for the missing packets, until cpay_receiver_finish, or until the
- * receiver has little room left. */
+/** Packets from a file, audio or video: a frame after a gap waits for the missing packets until cpay_receiver_finish, or until
+ * the receiver has little room left. */
 #define CPAY_FILE CPAY_SETTINGS_THAT_WAIT(0, 0, false, 12000, 5000)
 
-/** Settings for live media if you do not know which: those of CPAY_LIVE_AUDIO. */
+/** Settings for live media of unknown type: those of CPAY_LIVE_AUDIO. */
 #define CPAY_RECEIVER_SETTINGS CPAY_LIVE_AUDIO
+
+/** The settings `forward` and `backward` for a stream of at most `rate` packets per second: the packets of 12 s ahead and of 5 s
+ * below, at least 3000 and 1000, at most 32760 and 13650 (2730 packets per second). A burst that is late by more packets than
+ * `backward` is reported as a restart, so use the highest rate of the stream. */
+#define CPAY_FORWARD_FOR(rate) ((uint16_t)((rate) >= 2730 ? 32760 : (rate) > 250 ? 12 * (rate) : 3000))
+#define CPAY_BACKWARD_FOR(rate) ((uint16_t)((rate) >= 2730 ? 13650 : (rate) > 200 ? 5 * (rate) : 1000))
 
 /** A receiver, in an empty struct. `no_media` are payload types that come under the stream's SSRC and numbers and carry no
  * media of it: telephone events beside audio, comfort noise, forward error correction. CPAY_INVALID for a codec that is not
- * there, a rate of 0, and a payload type, limit, step or window out of range. [m] */
+ * there, a rate of 0, and a payload type, limit, step, window or `from_keyframe` out of range. [m] */
 CPAY_CHECKED cpay_status cpay_receiver_new(cpay_receiver *receiver, const cpay_receiver_settings *settings,
                                            const uint8_t *no_media, size_t no_media_len);
 
-/** What became of a datagram. */
+/** The outcome of a datagram. */
 enum {
-    CPAY_HELD = 0,             /**< it is held */
-    CPAY_HELD_AND_EVICTED = 1, /**< there was no room: the lowest packet was evicted, which can be this one */
-    CPAY_DUPLICATE = 2,        /**< a packet of its number is held already; it was dropped */
-    CPAY_LATE = 3,             /**< all up to its number is done; it was dropped */
-    CPAY_SUSPECT = 4,          /**< its number is far from all others; it is kept until another suspect packet or a restart */
-    CPAY_RESTARTED = 5,        /**< the sender has restarted: it went in, and the suspect packet before it too */
-    CPAY_RESTARTED_ALONE = 6,  /**< the same, and no other packet: the suspect one had no media, memory was wanting for it, or
-                                    there was none, since cpay_receiver_restart told of the restart */
-    CPAY_NO_MEDIA = 7,         /**< padding alone, or a payload type without media; no frame waits for its number */
-    CPAY_OTHER_STREAM = 8,     /**< another SSRC or payload type */
-    CPAY_RTCP = 9,             /**< RTCP on the same port */
-    CPAY_UNDECIDED = 10        /**< the stream is not chosen so far: the datagram is kept until it is */
+    CPAY_HELD = 0,             /**< stored */
+    CPAY_HELD_AND_EVICTED = 1, /**< stored, but there was no room: the packet with the lowest number was evicted, which can be
+                                    this one */
+    CPAY_DUPLICATE = 2,        /**< dropped: a packet with this number is already held */
+    CPAY_LATE = 3,             /**< dropped: its number was already released, discarded or evicted */
+    CPAY_SUSPECT = 4,          /**< its number is far from all others; it is kept aside until another suspect packet or a restart */
+    CPAY_RESTARTED = 5,        /**< the sender has restarted: this packet and the suspect packet before it were stored */
+    CPAY_RESTARTED_ALONE = 6,  /**< the sender has restarted, and only this packet was stored: the suspect packet had no media,
+                                    memory ran out for it, or you called cpay_receiver_restart */
+    CPAY_NO_MEDIA = 7,         /**< padding alone, a payload type without media, or a packet whose RTP time a stored block of RED has;
+                                    no frame waits for its number */
+    CPAY_OTHER_STREAM = 8,     /**< another SSRC or payload type; ignored */
+    CPAY_RTCP = 9,             /**< RTCP on the same port; ignored */
+    CPAY_UNDECIDED = 10        /**< the stream is not chosen yet: the datagram is kept until it is */
 };
 
-/** Takes a datagram in, at that time in ticks of a clock of the caller's, and tells what became of it: CPAY_HELD and so on. Any
- * bytes may be given. CPAY_RTP_HEADER_TOO_SHORT to CPAY_RTP_PADDING_TOO_LONG where they are no RTP packet: it is counted as
- * malformed, and *outcome is not told; likewise CPAY_RED_CORRUPTED and CPAY_RTX_TOO_SHORT. Of a packet in RED the outcome is
- * that of its primary block.
+/** Processes one datagram received at time `now`, in ticks of your clock, and reports its outcome: CPAY_HELD and so on. Any
+ * bytes are accepted.
+ * CPAY_RTP_HEADER_TOO_SHORT to CPAY_RTP_PADDING_TOO_LONG: not an RTP packet. CPAY_RED_CORRUPTED: invalid RED.
+ * CPAY_RTX_TOO_SHORT: a retransmission without its original number. In these cases the datagram is counted as malformed,
+ * *outcome is unchanged, and the stream continues. For a packet in RED the outcome is that of its primary block.
  *
- * If the settings name no SSRC, the first packet of each of up to four SSRCs waits (CPAY_UNDECIDED). The stream is that of the first
- * two packets of one SSRC whose numbers are 1 to 100 apart, either way. The packet that waits is received first, at the time at
- * which it came, and then this one; the others that wait are of other streams. If no packet of the stream came for two seconds (by
- * `tick_rate`), packets of other SSRCs wait again, and two of them choose anew, as after cpay_receiver_restart.
+ * If the settings name no SSRC, the first packet of each of up to four SSRCs waits (CPAY_UNDECIDED). The stream is the one of
+ * the first two packets of one SSRC whose numbers are 1 to 100 apart, in either direction. The waiting packet is then received
+ * first, with its own receive time, and then this one; the other waiting packets count as other streams. If no packet of the
+ * stream arrives for two seconds (by `tick_rate`), packets of other SSRCs wait again, and two of them choose again, as after
+ * cpay_receiver_restart.
  *
- * After CPAY_OUT_OF_MEMORY the datagram can be given again: nothing of it has changed anything, but for a packet in RED that was
- * received itself while memory ran out for what it repeats. Such a packet is a duplicate then, and what it repeats goes in. [m] */
+ * CPAY_OUT_OF_MEMORY: nothing changed, and you may pass the same datagram again. Exception: a packet in RED was stored, but
+ * memory ran out for a redundant block. Passed again, it is a duplicate, and its redundant blocks are stored. [m] */
 CPAY_CHECKED cpay_status cpay_receiver_receive(cpay_receiver *receiver, uint64_t now, const uint8_t *datagram,
                                                size_t datagram_len, uint32_t *outcome);
 
-/** The next unit, if its turn has come at that time: see cpay_buffer_pop. Its rtp_time does not wrap: that of the first unit is
- * the timestamp of its packets plus 2^32, and each later one the nearest to that of the unit before with its timestamp. [m] */
+/** Returns the next unit that is due at time `now`: see cpay_buffer_pop. Its `rtp_time` is extended to 64 bits: the first unit
+ * has the timestamp of its packets plus 2^32, and each later unit the value nearest to the previous one that has its timestamp.
+ * With CPAY_KEYFRAME_DROP the call continues after a unit that a decoder cannot show. [m] */
 CPAY_CHECKED cpay_status cpay_receiver_pop(cpay_receiver *receiver, uint64_t now, cpay_unit *unit, uint8_t *bytes,
                                            size_t bytes_len);
 
-/** The values of header extensions of the unit that cpay_receiver_pop gave last with CPAY_OK: those of its last packet, but the capture
- * time and the layers allocation of its first packet if that has them. CPAY_NONE if no unit was given yet. Takes no memory. */
+/** Reports the header extension values of the unit that cpay_receiver_pop returned last with CPAY_OK. They come from its last
+ * packet, except capture time and layers allocation, which come from its first packet if it has them. CPAY_NONE: no unit was
+ * returned yet. Does not allocate. */
 CPAY_CHECKED cpay_status cpay_receiver_values(cpay_receiver *receiver, cpay_extension_values *values);
 
-/** When a pop may give a unit without a datagram coming. CPAY_NONE where only a datagram can help. */
+/** Reports whether to request a keyframe (by PLI, RFC 4585, section 6.3.1, or FIR, RFC 5104, section 4.3.1). True from the first
+ * pop that needs one until a pop returns a keyframe. A pop needs one if it came upon a unit that a decoder cannot show, or
+ * returned 1 to 16 (a refused frame), or returned CPAY_NONE and discarded complete frames, as after a backward jump of picture
+ * ids. cpay_receiver_restart needs one too. False for audio, and with CPAY_KEYFRAME_OFF. Does not allocate. */
+CPAY_CHECKED cpay_status cpay_receiver_wants_keyframe(cpay_receiver *receiver, bool *wants);
+
+/** Reports the time at which a pop may return a unit although no datagram arrives. CPAY_NONE: only a datagram can help. */
 CPAY_CHECKED cpay_status cpay_receiver_next_deadline(cpay_receiver *receiver, uint64_t *at);
 
-/** How long to wait for packets that are missing. */
+/** How long frames wait for missing packets. */
 typedef struct {
     uint64_t max_wait; /**< with has_max_wait: a complete frame is released once this number of ticks of your clock has passed
                             since its last packet was received */
-    size_t hold_back;  /**< a complete frame behind a gap is released once more complete frames than this are held;
+    size_t hold_back;  /**< a complete frame after a gap is released once more than this many complete frames are held.
                             CPAY_NO_HOLD_BACK: no frame is released by count alone */
-    size_t start;      /**< the first frame is released once more complete frames than this are held */
+    size_t start;      /**< the first frame is released once more than this many complete frames are held */
     bool has_max_wait;
 } cpay_wait_limits;
 
-/** From now on frames wait by these values, in place of those of the settings. What is held stays, and nothing comes out by this
- * call: the next pop, and the next deadline, go by the new values. So a shorter wait may let frames out at once, and a longer
- * one holds back frames that were due. Once a unit has come out, `start` matters no more. */
+/** Replaces the wait limits of a running receiver. Held packets stay, and this call releases nothing: the next pop and the next
+ * deadline use the new limits. Shorter waits can make frames due at once; longer waits can delay frames that were due. After the
+ * first unit, `start` has no effect. */
 CPAY_CHECKED cpay_status cpay_receiver_set_wait_limits(cpay_receiver *receiver, const cpay_wait_limits *wait_limits);
 
-/** The stream has ended: from now on pops wait for nothing, and give all complete frames. Packets within the windows still go
- * in; no restart is found until cpay_receiver_restart. If no SSRC was chosen so far, the first of the packets that wait chooses it;
- * without memory for it, they still wait, and the call can be made again. [m] */
+/** Ends the stream: from now on pops wait for nothing, and return all complete frames. Packets within the windows are still
+ * accepted; restarts are not detected until cpay_receiver_restart. If no SSRC was chosen yet, the first waiting packet chooses
+ * it. CPAY_OUT_OF_MEMORY: the packets still wait; call again. [m] */
 CPAY_CHECKED cpay_status cpay_receiver_finish(cpay_receiver *receiver);
 
-/** The sender begins anew, as signalling or a new SSRC tells: the next packet of the stream gets a number above all others, and
- * pops wait again. If the settings name no SSRC, two packets choose it again; those that wait are of other streams. */
+/** Announces that the sender has restarted, as signalling or a new SSRC shows. The next packet of the stream gets a number above
+ * all others, pops wait again, and a keyframe is needed. If the settings name no SSRC, two packets choose it again; waiting packets count as other
+ * streams. */
 CPAY_CHECKED cpay_status cpay_receiver_restart(cpay_receiver *receiver);
 
-/** The same if you know the new SSRC, which is named from then on: packets of the SSRC before are of another stream. `rtx_ssrc` is the
- * SSRC under which packets are sent again from now on; without has_rtx in the settings it is not looked at. */
+/** Does the same if you know the new SSRC, which the receiver accepts from then on: packets of the previous SSRC belong to
+ * another stream. `rtx_ssrc` is the new SSRC of retransmissions; without has_rtx in the settings it is ignored. */
 CPAY_CHECKED cpay_status cpay_receiver_restart_as(cpay_receiver *receiver, uint32_t ssrc, uint32_t rtx_ssrc);
 
-/** The numbers that are missing, in rising order, as many as there is room for, into `numbers`, and how many they are into `count`:
- * those above the last that went out, and above the least since the stream began or began anew, up to the greatest, that are
- * neither held nor known to carry no media. Numbers do not wrap; their low 16 bits are what a negative acknowledgement asks for
- * (RFC 4585, section 6.2.1). The rest of `numbers` stays as it is. */
+/** Reports the missing sequence numbers. Writes as many as fit to `numbers`, lowest first, and their total number to *count. The
+ * rest of `numbers` is unchanged.
+ * The missing numbers are above the last one released, discarded or evicted, above the lowest one received since the start or
+ * restart, and below the highest one received. Held packets, and packets known to carry no media, are not missing. The numbers
+ * are extended; their low 16 bits go into a generic NACK (RFC 4585, section 6.2.1). */
 CPAY_CHECKED cpay_status cpay_receiver_missing(cpay_receiver *receiver, uint64_t *numbers, size_t numbers_len, size_t *count);
 
-/** What a receiver report tells (RFC 3550, section 6.4.1 and appendix A). */
+/** The fields of a receiver report (RFC 3550, section 6.4.1 and appendix A). */
 typedef struct {
-    int32_t cumulative_lost; /**< packets that did not come, less those that came more than once: 24 bits with a sign */
-    uint32_t highest;        /**< the greatest sequence number, and above its 16 bits how often numbers have wrapped */
-    uint32_t jitter;         /**< in ticks of the RTP clock */
-    uint8_t fraction_lost;   /**< of the packets since the report before, in 256ths */
+    int32_t cumulative_lost; /**< packets expected minus packets received, duplicates included: a signed 24-bit value */
+    uint32_t highest;        /**< highest sequence number in the low 16 bits, and the number of wraps above them */
+    uint32_t jitter;         /**< interarrival jitter, in ticks of the RTP clock */
+    uint8_t fraction_lost;   /**< fraction of packets lost since the previous report, in 1/256 */
 } cpay_report_info;
 
-/** A report on the packets of the stream's sender as they came. CPAY_NONE where none came. The next one begins its fraction
- * here. */
+/** Reports on the packets of the stream's sender as they arrived, and starts the next interval of `fraction_lost`. CPAY_NONE: no
+ * packet arrived yet. */
 CPAY_CHECKED cpay_status cpay_receiver_report(cpay_receiver *receiver, cpay_report_info *report);
 
-/** How many datagrams came to what, modulo 2^64: `received` and `recovered` together are the sum of rtcp, malformed,
+/** Counters of datagrams by outcome, modulo 2^64. `received` plus `recovered` is always the sum of rtcp, malformed,
  * other_streams, undecided, no_media, duplicates, late, suspect, evicted, held, released and left. */
 typedef struct {
     uint64_t received;
     uint64_t rtcp;
-    uint64_t malformed; /**< neither RTCP nor RTP */
-    uint64_t other_streams; /**< another SSRC or payload type, and packets that waited and are not of the stream that was chosen */
-    uint64_t undecided;     /**< packets that wait for the stream to be chosen: at most 4 */
+    uint64_t malformed; /**< neither RTCP nor RTP, or an invalid RED payload or retransmission */
+    uint64_t other_streams; /**< another SSRC or payload type, and waiting packets that are not of the chosen stream */
+    uint64_t undecided;     /**< packets that wait for the choice of the stream: at most 4 */
     uint64_t no_media;
     uint64_t duplicates;
     uint64_t late;
     uint64_t suspect;
     uint64_t evicted;
-    uint64_t released; /**< packets that went out in a unit */
-    uint64_t left;     /**< packets that left with a frame, and not in a unit: it was never complete, passed over, or refused */
-    uint64_t restarts; /**< how many times the sender has restarted */
-    uint64_t retransmitted; /**< packets that were missing and came again */
-    uint64_t recovered;     /**< packets that were missing and that others in RED carried; they are on the left of the sum */
+    uint64_t released; /**< packets released in a unit */
+    uint64_t left;     /**< packets discarded with a frame that was incomplete, skipped or refused */
+    uint64_t restarts; /**< restarts of the sender */
+    uint64_t retransmitted; /**< missing packets filled in by retransmissions */
+    uint64_t recovered;     /**< missing packets filled in by redundant blocks of RED; they are not in `received` */
     uint64_t units;
-    size_t held;   /**< how many packets are held */
-    uint32_t ssrc; /**< with has_ssrc: the SSRC of the stream */
+    uint64_t undecodable; /**< units of video that a decoder cannot show; they are in `units`, also if they were dropped */
+    size_t held;   /**< packets held now */
+    uint32_t ssrc; /**< with has_ssrc: SSRC of the stream */
     bool has_ssrc;
-    bool waiting; /**< a unit waits for enough of the caller's bytes; its packets are in `released` */
+    bool waiting; /**< a unit waits for a larger output buffer; its packets are in `released` */
 } cpay_receiver_counts_info;
 
 CPAY_CHECKED cpay_status cpay_receiver_counts(cpay_receiver *receiver, cpay_receiver_counts_info *counts);
 
 /* ---- A depacketizer alone, for callers that order packets themselves ---- */
 
-/** CPAY_INVALID for a codec that is not there or a rate of 0. [m] */
+/** Creates a depacketizer in an empty handle. CPAY_INVALID: unsupported codec, or `rate` 0. [m] */
 CPAY_CHECKED cpay_status cpay_depacketizer_new(cpay_depacketizer *depacketizer, const cpay_spec *spec);
 
-/** Reads a payload, and appends what it carries. What a fault leaves stands in docs/FORMATS.md for each codec. [m] */
+/** Reads a payload, and appends its media bytes. docs/FORMATS.md says for each codec what an error leaves. [m] */
 CPAY_CHECKED cpay_status cpay_depacketize(cpay_depacketizer *depacketizer, const uint8_t *payload, size_t payload_len);
 
-/** Takes what the payloads since the last such call gave, and begins anew: call it once a frame is whole. */
+/** Returns the bytes and the codec-specific data of the payloads since the previous such call, and starts again: call it once a
+ * frame is complete. */
 CPAY_CHECKED cpay_status cpay_depacketized(cpay_depacketizer *depacketizer, size_t *size, cpay_extra *extra, uint8_t *bytes,
                                            size_t bytes_len);
 
 /* ---- RED (RFC 2198) ---- */
 
-/** A sender that repeats earlier payloads, in an empty struct: `red_pt` is the payload type of its packets, `primary_pt` that
- * of the media. A distance is how many payloads back to repeat: they rise strictly, from 1 to 8, or there is none; else the
- * answer is CPAY_INVALID. [m] */
+/** Creates a sender that repeats earlier payloads, in an empty handle. `red_pt` is the payload type of its packets, `primary_pt`
+ * the payload type of the media. A distance is how many payloads back to repeat. Distances rise strictly, from 1 to 8; an empty
+ * list is allowed. CPAY_INVALID: other distances. [m] */
 CPAY_CHECKED cpay_status cpay_red_sender_new(cpay_red_sender *sender, uint8_t red_pt, uint8_t primary_pt,
                                              const uint32_t *distances, size_t distances_len);
 
-/** Takes over new types and distances, as above. */
+/** Sets new payload types and distances, with the same rules. */
 CPAY_CHECKED cpay_status cpay_red_sync(cpay_red_sender *sender, uint8_t red_pt, uint8_t primary_pt, const uint32_t *distances,
                                        size_t distances_len);
 
-/** The RED payload of a media payload, in at most `budget` bytes; the payload is then remembered. One of `budget` bytes or
- * more comes back as it is, and is no RED. CPAY_TOO_SMALL where the caller's bytes are fewer than `budget` or than the
- * payload, and then nothing was done, so call again with the same payload. [m] */
+/** Returns the RED payload for a media payload, in at most `budget` bytes; the payload is then remembered. A payload of `budget`
+ * bytes or more is returned unchanged, and is not a RED payload. CPAY_TOO_SMALL: the output buffer is smaller than `budget` or
+ * than the payload; nothing changed, so call again with the same payload. [m] */
 CPAY_CHECKED cpay_status cpay_red_wrap(cpay_red_sender *sender, uint32_t rtp_time, size_t budget, const uint8_t *payload,
                                        size_t payload_len, uint8_t *bytes, size_t bytes_len, size_t *size);
 
-/** An older block, whose bytes stand in the caller's media. */
+/** An older block, whose bytes are in the caller's `media`. */
 typedef struct {
-    size_t start;    /**< where its bytes begin in the media */
-    size_t bytes;    /**< how many it has; blocks of more than 1023 are left out */
-    uint32_t offset; /**< how much older than the primary block it is, in ticks; blocks of more than 16383 are left out */
+    size_t start;    /**< start of its bytes in `media` */
+    size_t bytes;    /**< size of the block; larger blocks than 1023 bytes are left out */
+    uint32_t offset; /**< its age relative to the primary block, in ticks; blocks above 16383 are left out */
     uint8_t payload_type;
 } cpay_red_older;
 
-/** A RED payload of the first 32 older blocks that fit, and of the primary one. CPAY_INVALID where a block reaches past the
- * media. Nothing is remembered. [m] */
+/** Encodes a RED payload of the first 32 older blocks that fit, and of the primary block. Remembers nothing. CPAY_INVALID: a
+ * block extends beyond `media`. [m] */
 CPAY_CHECKED cpay_status cpay_red_encode(uint8_t primary_pt, const uint8_t *primary, size_t primary_len,
                                          const cpay_red_older *older, size_t older_len, const uint8_t *media, size_t media_len,
                                          uint8_t *bytes, size_t bytes_len, size_t *size);
 
 typedef struct {
-    size_t bytes;    /**< how many bytes the block has */
-    uint32_t offset; /**< how much older than the primary block it is, in ticks; 0 of the primary one */
+    size_t bytes;    /**< size of the block */
+    uint32_t offset; /**< its age relative to the primary block, in ticks; 0 for the primary block */
     uint8_t payload_type;
     bool is_primary; /**< this is the packet's own media */
 } cpay_red_block_info;
 
-/** The block of an index from 0 of a RED payload; the primary one is the last. CPAY_NONE past it. [m] */
+/** Copies block `index`, from 0, of a RED payload; the primary block is the last. CPAY_NONE: `index` is past the last block. [m] */
 CPAY_CHECKED cpay_status cpay_red_block(const uint8_t *payload, size_t payload_len, size_t index, cpay_red_block_info *info,
                                         uint8_t *bytes, size_t bytes_len);
 
-/** A block by its place in the payload, where it can be read without a copy. */
+/** A block by its place in the payload, for reading without a copy. */
 typedef struct {
-    size_t start;    /**< where its bytes begin in the payload */
-    size_t bytes;    /**< how many it has */
-    uint32_t offset; /**< how much older than the primary block it is, in ticks; 0 of the primary one */
+    size_t start;    /**< start of its bytes in the payload */
+    size_t bytes;    /**< size of the block */
+    uint32_t offset; /**< its age relative to the primary block, in ticks; 0 for the primary block */
     uint8_t payload_type;
     bool is_primary; /**< this is the packet's own media */
 } cpay_red_block_place;
 
-/** The places of all blocks of a RED payload, in its order, to the front of `blocks`; the primary one is the last, and there
- * are at most 33. *count tells how many they are, also with CPAY_TOO_SMALL, where `blocks` are too few. CPAY_RED_CORRUPTED
- * where the bytes are no RED payload. [m] */
+/** Writes the places of all blocks of a RED payload to `blocks`, in their order; the primary block is the last, and there are at
+ * most 33. *count is their number, also with CPAY_TOO_SMALL. CPAY_TOO_SMALL: `blocks` is too short. CPAY_RED_CORRUPTED: the
+ * bytes are not a RED payload. [m] */
 CPAY_CHECKED cpay_status cpay_red_blocks(const uint8_t *payload, size_t payload_len, cpay_red_block_place *blocks,
                                          size_t blocks_len, size_t *count);
 
 typedef struct {
-    uint64_t number;   /**< of the packet */
-    size_t bytes;      /**< how many bytes its media has */
-    uint32_t rtp_time; /**< of the packet */
-    bool is_primary;   /**< this is the packet itself whose payload was read */
+    uint64_t number;   /**< extended sequence number of the packet */
+    size_t bytes;      /**< size of its media */
+    uint32_t rtp_time; /**< RTP time of the packet */
+    bool is_primary;   /**< it is the packet whose payload was read */
 } cpay_recovered_info;
 
-/** The packets that the payload of the packet with this number and time holds, by an index from 0 in the order of its
- * blocks; CPAY_NONE comes past them. Packets of the stream are `step` ticks apart, 1 to 16383; CPAY_INVALID for another
- * step. Only blocks whose payload type is `primary_pt`, of which the low 7 bits count, are packets of the stream. The
- * primary block is the packet itself, and then the last; where it has another type, the packet itself is not told. An older
- * block is passed over besides where its offset is 0 or no multiple of `step`, and where it goes back more than 8 steps or
- * below number 0. Push all that are told: the buffer drops those that it has. [m] */
+/** Copies packet `index`, from 0, of the packets in the RED payload of the packet with this number and time, in the order of its
+ * blocks. CPAY_NONE: `index` is past the last packet. CPAY_INVALID: `step` out of range. [m]
+ * `step` is the distance of the stream's packets in ticks, 1 to 16383. Only blocks with the payload type `primary_pt` (low 7
+ * bits) are packets of the stream. The primary block is the packet itself, and comes last; it is not reported if it has another
+ * type. An older block is skipped if its offset is 0 or not a multiple of `step`, or if it goes back more than 8 steps or below
+ * number 0. Push all reported packets: the buffer drops duplicates. */
 CPAY_CHECKED cpay_status cpay_red_recover(uint8_t primary_pt, uint32_t step, uint64_t number, uint32_t rtp_time,
                                           const uint8_t *payload, size_t payload_len, size_t index, cpay_recovered_info *info,
                                           uint8_t *bytes, size_t bytes_len);
 
-/** A text for each status, in English. */
+/** Returns an English text for each status. */
 static inline const char *cpay_status_text(cpay_status status) {
     switch (status) {
-    case CPAY_OK: return "done";
+    case CPAY_OK: return "success";
     case CPAY_SHORT_PACKET: return "the packet is too short";
     case CPAY_PAYLOAD_TOO_LARGE: return "the payload exceeds the MTU";
     case CPAY_TOO_MANY_LAYERS: return "too many spatial layers";
@@ -782,26 +822,26 @@ static inline const char *cpay_status_text(cpay_status status) {
     case CPAY_VP9_CORRUPTED: return "the VP9 packet is corrupted";
     case CPAY_AV1_CORRUPTED: return "the AV1 packet or frame is corrupted";
     case CPAY_RED_CORRUPTED: return "the RED packet is corrupted";
-    case CPAY_TELE_INVALID: return "the payload is not whole telephone reports";
+    case CPAY_TELE_INVALID: return "invalid telephone-event payload";
     case CPAY_AMR_WB_CORRUPTED: return "the AMR-WB packet or frame is corrupted";
     case CPAY_OUT_OF_MEMORY: return "out of memory";
-    case CPAY_NONE: return "there is none";
-    case CPAY_TOO_SMALL: return "the caller's bytes are too few";
-    case CPAY_EMPTY: return "nothing was made in it";
-    case CPAY_OTHER_KIND: return "it holds something of another kind";
-    case CPAY_FULL: return "it is full already";
-    case CPAY_INVALID: return "an argument is none that the call takes";
-    case CPAY_FRAME_TOO_SHORT: return "the frame ends too early";
-    case CPAY_FRAME_MARKER: return "the frame has a wrong marker";
-    case CPAY_FRAME_RESERVED: return "the frame has a reserved value";
-    case CPAY_FRAME_SIZES: return "the frame has sizes that do not fit";
+    case CPAY_NONE: return "nothing available";
+    case CPAY_TOO_SMALL: return "output buffer too small";
+    case CPAY_EMPTY: return "handle not initialised";
+    case CPAY_OTHER_KIND: return "handle of another type";
+    case CPAY_FULL: return "handle already in use";
+    case CPAY_INVALID: return "invalid argument";
+    case CPAY_FRAME_TOO_SHORT: return "frame truncated";
+    case CPAY_FRAME_MARKER: return "wrong start code or marker in frame";
+    case CPAY_FRAME_RESERVED: return "reserved value in frame";
+    case CPAY_FRAME_SIZES: return "inconsistent sizes in frame";
     case CPAY_RTP_HEADER_TOO_SHORT: return "the RTP packet is shorter than its fixed header";
     case CPAY_RTP_VERSION: return "the RTP version is not 2";
     case CPAY_RTP_CSRCS_TOO_SHORT: return "the RTP packet ends inside its CSRCs";
     case CPAY_RTP_EXTENSION_HEADER_TOO_SHORT: return "the RTP packet ends inside the header of its extension";
     case CPAY_RTP_EXTENSION_TOO_SHORT: return "the RTP packet ends inside its extension";
-    case CPAY_RTP_PADDING_OF_ZERO: return "the RTP padding has no bytes";
-    case CPAY_RTP_PADDING_TOO_LONG: return "the RTP padding is longer than what is left";
+    case CPAY_RTP_PADDING_OF_ZERO: return "RTP padding length is 0";
+    case CPAY_RTP_PADDING_TOO_LONG: return "RTP padding exceeds the payload";
     case CPAY_RTX_TOO_SHORT: return "the retransmission has no original sequence number";
     default: return "unknown status";
     }

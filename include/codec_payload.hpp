@@ -1,10 +1,10 @@
 /** @file
- * codec_payload.h for C++17 and later: kinds that free themselves, and bytes by one argument.
+ * codec_payload.h for C++17 and later: handles that free themselves, and bytes by one argument.
  *
- * Each class below holds one kind of codec_payload.h in the object itself. It can be moved and not copied, and its end frees what it
- * holds. `make` is the call named *_new, and each other method the call of its name there, with the same statuses: nothing here
- * throws, but for a std::vector that grows. Containers with data() and size() go as bytes: std::vector, std::array, std::span.
- * What has no method is called with get(). */
+ * Each class below holds one handle of codec_payload.h in the object itself. Objects can be moved and not copied; the destructor
+ * frees the handle. `make` is the call named *_new, and each other method the call with its name there, with the same statuses.
+ * Nothing here throws, except a std::vector that grows. Bytes are passed as containers with data() and size(): std::vector,
+ * std::array, std::span. For calls without a method, use get(). */
 #ifndef CODEC_PAYLOAD_HPP
 #define CODEC_PAYLOAD_HPP
 
@@ -18,7 +18,7 @@
 
 namespace cpay {
 
-/** Items that stand one behind the other and belong to somebody else, as in std::span of C++20, from and to which it converts. */
+/** Consecutive items that belong to somebody else, like std::span of C++20, from and to which it converts. */
 template <class Item> class view {
 public:
     constexpr view() noexcept = default;
@@ -46,7 +46,7 @@ private:
 using bytes = view<const std::uint8_t>;
 using room = view<std::uint8_t>;
 
-/** What all kinds have. */
+/** The common base of all handle classes. */
 template <class Kind, void (*Free)(Kind *)> class handle {
 public:
     handle() noexcept = default;
@@ -62,16 +62,16 @@ public:
     handle &operator=(const handle &) = delete;
     ~handle() { Free(&kind_); }
 
-    /** For calls of codec_payload.h. What it points to must not be copied. */
+    /** For calls of codec_payload.h. Do not copy the handle that it points to. */
     Kind *get() noexcept { return &kind_; }
-    /** Frees what it holds; `make` can then be called again. */
+    /** Frees the object; you may then call `make` again. */
     void clear() noexcept { Free(&kind_); }
 
 private:
     Kind kind_ = {};
 };
 
-/** Bytes that a call tells the number of: once with the room that is there, and once more if it was too little. */
+/** Calls with the present room, and once more if it was too small. */
 template <class Call> [[nodiscard]] cpay_status into(std::vector<std::uint8_t> &bytes, std::size_t &size, Call call) {
     bytes.resize(bytes.capacity());
     cpay_status status = call(room(bytes));
@@ -83,7 +83,7 @@ template <class Call> [[nodiscard]] cpay_status into(std::vector<std::uint8_t> &
     return status;
 }
 
-/** Frames go in, the datagrams of one stream come out. */
+/** Frames in, the datagrams of one stream out. */
 class sender : public handle<cpay_sender, cpay_sender_free> {
 public:
     [[nodiscard]] cpay_status make(const cpay_sender_settings &settings) noexcept { return cpay_sender_new(get(), &settings); }
@@ -96,7 +96,7 @@ public:
     [[nodiscard]] cpay_status datagram(std::size_t place, room datagram, std::size_t &size) noexcept {
         return cpay_sender_datagram(get(), place, datagram.data(), datagram.size(), &size);
     }
-    /** The same into a vector, which grows as is needed, and is empty on each status but CPAY_OK. */
+    /** The same into a vector, which grows as needed, and is empty on each status except CPAY_OK. */
     [[nodiscard]] cpay_status datagram(std::size_t place, std::vector<std::uint8_t> &to) {
         std::size_t size = 0;
         return into(to, size, [&](room it) { return datagram(place, it, size); });
@@ -104,7 +104,7 @@ public:
     [[nodiscard]] cpay_status counts(cpay_sender_counts_info &counts) noexcept { return cpay_sender_counts(get(), &counts); }
 };
 
-/** Datagrams of a socket go in, whole units of one stream come out in order. */
+/** Datagrams of a socket in, whole units of one stream out in order. */
 class receiver : public handle<cpay_receiver, cpay_receiver_free> {
 public:
     [[nodiscard]] cpay_status make(const cpay_receiver_settings &settings, bytes no_media = {}) noexcept {
@@ -116,11 +116,12 @@ public:
     [[nodiscard]] cpay_status pop(std::uint64_t now, cpay_unit &unit, room to) noexcept {
         return cpay_receiver_pop(get(), now, &unit, to.data(), to.size());
     }
-    /** The same into a vector, which grows as is needed, and is empty on each status but CPAY_OK. */
+    /** The same into a vector, which grows as needed, and is empty on each status except CPAY_OK. */
     [[nodiscard]] cpay_status pop(std::uint64_t now, cpay_unit &unit, std::vector<std::uint8_t> &to) {
         return into(to, unit.bytes, [&](room it) { return pop(now, unit, it); });
     }
     [[nodiscard]] cpay_status values(cpay_extension_values &values) noexcept { return cpay_receiver_values(get(), &values); }
+    [[nodiscard]] cpay_status wants_keyframe(bool &wants) noexcept { return cpay_receiver_wants_keyframe(get(), &wants); }
     [[nodiscard]] cpay_status next_deadline(std::uint64_t &at) noexcept { return cpay_receiver_next_deadline(get(), &at); }
     [[nodiscard]] cpay_status set_wait_limits(const cpay_wait_limits &limits) noexcept {
         return cpay_receiver_set_wait_limits(get(), &limits);
@@ -137,7 +138,7 @@ public:
     [[nodiscard]] cpay_status counts(cpay_receiver_counts_info &counts) noexcept { return cpay_receiver_counts(get(), &counts); }
 };
 
-/** A frame goes in, its payloads come out. */
+/** A frame in, its payloads out. */
 class packetizer : public handle<cpay_packetizer, cpay_packetizer_free> {
 public:
     [[nodiscard]] cpay_status make(const cpay_spec &spec) noexcept { return cpay_packetizer_new(get(), &spec); }
@@ -147,7 +148,7 @@ public:
     [[nodiscard]] cpay_status packet(cpay_packet_info &info, room payload) noexcept {
         return cpay_packet(get(), &info, payload.data(), payload.size());
     }
-    /** The same into a vector, which grows as is needed, and is empty on each status but CPAY_OK. */
+    /** The same into a vector, which grows as needed, and is empty on each status except CPAY_OK. */
     [[nodiscard]] cpay_status packet(cpay_packet_info &info, std::vector<std::uint8_t> &to) {
         return into(to, info.bytes, [&](room it) { return packet(info, it); });
     }
@@ -158,7 +159,7 @@ public:
     }
 };
 
-/** Payloads in any order go in, whole units come out in order. */
+/** Payloads in any order in, whole units out in order. */
 class buffer : public handle<cpay_buffer, cpay_buffer_free> {
 public:
     [[nodiscard]] cpay_status make(const cpay_spec &spec, std::size_t hold_back, std::size_t limit) noexcept {
@@ -170,7 +171,7 @@ public:
     [[nodiscard]] cpay_status pop(cpay_unit &unit, room to) noexcept {
         return cpay_buffer_pop(get(), &unit, to.data(), to.size());
     }
-    /** The same into a vector, which grows as is needed, and is empty on each status but CPAY_OK. */
+    /** The same into a vector, which grows as needed, and is empty on each status except CPAY_OK. */
     [[nodiscard]] cpay_status pop(cpay_unit &unit, std::vector<std::uint8_t> &to) {
         return into(to, unit.bytes, [&](room it) { return pop(unit, it); });
     }
@@ -179,7 +180,7 @@ public:
     [[nodiscard]] cpay_status skip_number(std::uint64_t number) noexcept { return cpay_buffer_skip_number(get(), number); }
 };
 
-/** Payloads of one frame, in order, go in; what they carry comes out. */
+/** Payloads of one frame, in order, in; their media bytes out. */
 class depacketizer : public handle<cpay_depacketizer, cpay_depacketizer_free> {
 public:
     [[nodiscard]] cpay_status make(const cpay_spec &spec) noexcept { return cpay_depacketizer_new(get(), &spec); }
@@ -189,14 +190,14 @@ public:
     [[nodiscard]] cpay_status depacketized(std::size_t &size, cpay_extra &extra, room to) noexcept {
         return cpay_depacketized(get(), &size, &extra, to.data(), to.size());
     }
-    /** The same into a vector, which grows as is needed, and is empty on each status but CPAY_OK. */
+    /** The same into a vector, which grows as needed, and is empty on each status except CPAY_OK. */
     [[nodiscard]] cpay_status depacketized(cpay_extra &extra, std::vector<std::uint8_t> &to) {
         std::size_t size = 0;
         return into(to, size, [&](room it) { return depacketized(size, extra, it); });
     }
 };
 
-/** Payloads go in, RED payloads that repeat earlier ones come out (RFC 2198). */
+/** Payloads in, RED payloads that repeat earlier ones out (RFC 2198). */
 class red_sender : public handle<cpay_red_sender, cpay_red_sender_free> {
 public:
     [[nodiscard]] cpay_status make(std::uint8_t red_pt, std::uint8_t primary_pt, view<const std::uint32_t> distances) noexcept {

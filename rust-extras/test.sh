@@ -1,6 +1,6 @@
 #!/bin/sh
-# Tests rust-extras with Debian's packages of crates: librust-bytes-dev, librust-criterion-dev, librust-proptest-dev. If they are not
-# installed, says so and ends well. REGISTRY is where they are, /usr/share/cargo/registry by default.
+# Tests rust-extras with Debian's packages of crates: librust-bytes-dev, librust-criterion-dev, librust-proptest-dev. If they
+# are not installed, the script says so, with status 0. REGISTRY is their folder, /usr/share/cargo/registry by default.
 set -eu
 
 cd "$(dirname "$0")"

@@ -1,5 +1,5 @@
 #!/bin/sh
-# Compares the ABI of the shared library with the one that packaging/codec_payload.abi describes: that of the last release.
+# Compares the ABI of the shared library with packaging/codec_payload.abi, the description of the last release's ABI.
 #
 #   scripts/abi.sh         a call, a struct or a number that is gone or changed fails; new calls, structs and numbers do not
 #   scripts/abi.sh dump    writes packaging/codec_payload.abi, with a release that has another soname, or the first of its soname
@@ -35,7 +35,7 @@ described() {
         --type-id-style hash --out-file "$2" "$work/out"/libcodec_payload.so.*
 }
 
-# same FILE: nothing that stands in the dump of the last release is gone or changed
+# same FILE: the dump of the last release has no item that is now missing or changed
 same() {
     abidiff --no-added-syms "$kept" "$1"
 }

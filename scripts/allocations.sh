@@ -1,16 +1,16 @@
 #!/bin/bash
-# Counts what the calls of tools/bench ask of memory, over the proved library for C. It prints a table of allocations a frame, and
-# one of the bytes that a receiving stream keeps, and fails if `cpay_packetize_into`, a sender of datagrams or a reader of RTP
-# packets allocates in steady state. Of `packetize_into`, `wrap_into`, `pop_into` and calls that ask alone,
-# rust/tests/steady_state.rs shows the same.
+# Counts the allocations of the calls of tools/bench, over the proved library for C. Prints a table of allocations per frame,
+# and one of the bytes that a receiving stream keeps. Fails if `cpay_packetize_into`, a sender of datagrams or a reader of RTP
+# packets allocates in steady state. rust/tests/steady_state.rs shows the same for `packetize_into`, `wrap_into`, `pop_into` and
+# queries.
 #
 #   scripts/allocations.sh           builds tools/bench and counts in all its cases
 #   scripts/allocations.sh WORD      only in those with WORD in their names
 #
-# A shim counts calls of malloc, calloc, realloc and the like. A case is run with 100 frames a repeat and with 300, so what the
-# program itself takes falls out of the difference. Where a case tells of the memory that stays, the bytes that are asked for
-# and not given back are read as the clock is, behind the work, less those of a case without a stream. It needs make and a C
-# compiler, $CC or cc, for a C library that takes LD_PRELOAD, and some two minutes.
+# A shim counts calls of malloc, calloc, realloc and similar functions. A case runs with 100 frames per repeat and with 300, and
+# the difference excludes the allocations of the program. For memory that stays, the bytes allocated and not released are read
+# where the clock is read, after the work, less those of a case without a stream. Needs make and a C compiler, $CC or cc, for a
+# C library that supports LD_PRELOAD, and about two minutes.
 set -eu
 root=$(cd "$(dirname "$0")/.." && pwd)
 mtu=${MTU:-1200} word=${1:-}
@@ -96,13 +96,13 @@ __attribute__((destructor)) static void tell(void) {
 END
 "${CC:-cc}" -O2 -shared -fPIC -o "$work/count.so" "$work/count.c" -ldl
 
-# counted CASE TIMES: the allocations, and the bytes that stay, of one repeat and one that goes before it.
+# counted CASE TIMES: the allocations, and the bytes that stay, of one repeat and of one before it.
 counted() {
     LD_PRELOAD=$work/count.so "$bench" "$1" "$2" 1 "$mtu" 9> "$work/counts" > /dev/null
     cat "$work/counts"
 }
 
-# So few calls that a case takes a second at most.
+# Few enough calls that a case takes at most a second.
 few_of() {
     case $1 in
         buffer-4096/reverse | buffer-65536/reverse) echo 1 ;;

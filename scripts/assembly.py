@@ -1,18 +1,18 @@
 #!/usr/bin/env python3
 """Makes c/generated/x86_64-linux.S and c/generated/aarch64-linux.S, the library for C as assembly, from the proved crates.
 
-  scripts/assembly.py          proves what is not proved yet, and writes both files
-  scripts/assembly.py check    fails where the sources changed since the files were made; then makes them anew and compares each
-                               byte, where the kit is the one that made them, and says so where it is another or there is none
+  scripts/assembly.py          proves the crates that are not proved yet, and writes both files
+  scripts/assembly.py check    fails if the sources changed since the files were made; then, with the kit that made them, makes them
+                               again and compares each byte. With another kit, or without one, it says that it did not
 
-The kit's compiler gives its clang one module of LLVM's for codec_payload_c with all crates below it, once the prover has said
-`logic=proved`; a crate that is not proved gives none. Of that module the kit's clang makes the assembly, with the words by which
+The kit's compiler passes its clang one LLVM module for codec_payload_c with all crates below it, once the prover has said
+`logic=proved`; an unproved crate gives no module. The kit's clang makes the assembly from that module, with the options by which
 it makes the proved archive. Three things are added to the module's text: exports are called proved_cpay_* and are hidden, indirect
 branches are protected (CET and BTI with signed return addresses), and so are the notes that say it. The code runs on every
-processor of its architecture: no other is asked for.
+processor of its architecture.
 
 The head of each file names the kit and has a checksum of the sources, without their comments: of codec_payload_c and all crates
-below it. Needs the kit but for the first step of `check`, and about a minute for each file over crates that are proved.
+below it. Needs the kit, except for the first step of `check`, and about a minute for each file over proved crates.
 """
 import hashlib
 import os
@@ -25,7 +25,7 @@ import tempfile
 ROOT = os.path.dirname(os.path.dirname(os.path.realpath(__file__)))
 TOP = "codec_payload_c"
 FOLDER = "c/generated"
-# What stands on a processor's side: its target, its processor's name, the flags of the module, and the attributes of functions.
+# For each processor: its target, its name, the flags of the module, and the attributes of functions.
 ARCHITECTURES = {
     "x86_64-linux": ("x86_64-unknown-linux-gnu", "x86-64", {"cf-protection-branch": 1, "cf-protection-return": 1}, ""),
     "aarch64-linux": (
@@ -35,7 +35,7 @@ ARCHITECTURES = {
         '"branch-target-enforcement" "sign-return-address"="non-leaf" "sign-return-address-key"="a_key" ',
     ),
 }
-# Comments, and before them what may hold two slashes and is none.
+# Comments; before them, text that may contain two slashes and is not a comment.
 COMMENT = re.compile(r'("(?:[^"\\]|\\.)*"|\'(?:[^\'\\\n]|\\.)\')|//[^\n]*')
 # What the assembler of binutils does not know, or did not until lately: hints to LLVM's linker, and the notes' values once more.
 UNKNOWN = ("\t.addrsig", "\t.aeabi_")
@@ -93,7 +93,7 @@ def sum_of_sources():
 
 
 def ran(words, folder, why):
-    """What a command printed, where its status was 0."""
+    """The output of a command whose status was 0."""
     done = subprocess.run(words, cwd=folder, stdout=subprocess.PIPE, stderr=subprocess.STDOUT, text=True, errors="replace")
     if done.returncode:
         stop(f"{why}\n{done.stdout[-4000:]}")
@@ -101,7 +101,7 @@ def ran(words, folder, why):
 
 
 def kit():
-    """The folder and the name of the kit; nothing where there is none."""
+    """The folder and the name of the kit; None without a kit."""
     if not shutil.which("rt"):
         return None, None
     page = ran(["rt", "doc"], ROOT, "rt says no first page").strip()
@@ -173,7 +173,7 @@ def assembly(name, folder, version, total):
 
 
 def check(total, folder, version):
-    """Whether the files are those of the sources; the last line says how that was told."""
+    """Checks that the files belong to the sources; returns how that was decided."""
     made_by = set()
     for name in ARCHITECTURES:
         head = read(f"{ROOT}/{FOLDER}/{name}.S")[:600]
@@ -195,6 +195,8 @@ def main():
     if folder is None and sys.argv[1:] != ["check"]:
         stop("rt is not there")
     if folder is not None:
+        if subprocess.run([f"{ROOT}/scripts/rt_free.py"], check=False).returncode != 0:
+            stop("another rt works in this copy")
         for name in crates()[TOP]:
             ran(["rt", "lib"], f"{ROOT}/crates/{name}", f"{name} is not proved")
     if sys.argv[1:] == ["check"]:

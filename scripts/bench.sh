@@ -1,14 +1,13 @@
 #!/bin/bash
 # Times the library's calls beside copying the same payloads into fresh Vecs, and prints tables of nanoseconds and ratios.
 #
-#   scripts/bench.sh                 builds tools/bench over the proved library for C and runs all its cases
-#   scripts/bench.sh OTHER [WORD]    beside another build of that program, as one of an older state; WORD: only the cases with it
-#                                    in their names
+#   scripts/bench.sh                 Builds tools/bench over the proved library for C and runs all its cases.
+#   scripts/bench.sh OTHER [WORD]    Compares with another build of tools/bench, such as an older one. WORD selects cases by name.
 #
-# Each number is the least of ROUNDS rounds of REPEATS repeats; both builds take turns. A ratio to a copy says how much more
-# a call takes than asking for the memory of the payloads and copying their bytes; a ratio to the buffer how much more a receiver
-# takes than a push and a pop of its buffer. It needs make, a C compiler, $CC or cc, and some five minutes. Figures up to 2026-11-24
-# are of a program in Rattle, without the boundary to C.
+# Each number is the minimum of ROUNDS rounds of REPEATS repeats; both builds take turns. A ratio to a copy compares a call with
+# allocating the memory of the payloads and copying their bytes. A ratio to the buffer compares a receiver with a push and a pop
+# of its buffer. Needs make, a C compiler, $CC or cc, and about five minutes. Figures up to 2026-11-24 come from a program in
+# Rattle, without the boundary to C.
 set -eu
 root=$(cd "$(dirname "$0")/.." && pwd)
 rounds=${ROUNDS:-5} repeats=${REPEATS:-20} mtu=${MTU:-1200}
@@ -22,7 +21,7 @@ make -s -C "$root" >/dev/null
 library=$root/c/out/libcodec_payload.a
 "${CC:-cc}" -std=c99 -O2 -I"$root/include" "$root/tools/bench/bench.c" "$library" -o "$bench"
 
-# So many calls that a repeat takes about a millisecond or more.
+# Enough calls that a repeat takes about a millisecond or more.
 times_of() {
     case $1 in
         buffer-64/reverse) echo 20 ;;

@@ -1,20 +1,21 @@
 #!/bin/sh
-# Tests the library for C: that of c/generated, as `make` builds it, and the archive that rt proves and builds, side by side.
+# Tests the library for C: the one from c/generated, as `make` builds it, and the archive that rt proves and builds, side by
+# side.
 #
 #   scripts/bindings.sh            all that stands below
 #   scripts/bindings.sh proved     proves the library, builds c/out/proved/libcodec_payload.a, and prints that folder
 #
-# The tests: the assembly is of these sources, and made anew it is the same (scripts/assembly.py check); the header against the
-# library; the header as C99 and C11 and, where there is a C++ compiler, as C++11 and C++20; that the compiler tells one kind of
-# struct from another, and a status that is not looked at; `make check` (c/check.sh says what runs) over both archives, and over that
-# of the assembly also with the address and undefined-behaviour sanitizers, over jemalloc and mimalloc, and for AArch64 by qemu;
-# scripts of payload_vectors through each, compared byte for byte with the program (c/vectors.c, c/inputs.py); the header for C++
-# (c/plus.cpp); the ABI (scripts/abi.sh); the calls beside those of the generated Rust crate (tools/twin), if there is cargo; and what
-# is installed (install_test.sh).
+# The tests. The assembly belongs to these sources, and a new run of the script makes the same (scripts/assembly.py check). The
+# header agrees with the library; it compiles as C99 and C11 and, if there is a C++ compiler, as C++11 and C++20; the compiler
+# detects a struct of the wrong type, and an ignored status. `make check` (c/check.sh says what runs) over both archives; over
+# the assembly also with the address and undefined-behaviour sanitizers, over jemalloc and mimalloc, and for AArch64 by qemu.
+# Scripts of payload_vectors through each, compared byte for byte with the program (c/vectors.c, c/inputs.py). The header for
+# C++ (c/plus.cpp). The ABI (scripts/abi.sh). If there is cargo, the calls beside those of the generated Rust crate
+# (tools/twin), and changed session descriptions read by c/sdp.c and by the crate. The installed files (install_test.sh).
 #
-# Needs a C compiler ($CC or cc) with its sanitizers, make, binutils and Python 3; for tools/twin cargo; for what is installed
-# pkg-config and a C++ compiler; for AArch64 gcc-aarch64-linux-gnu and qemu-user. No network. Without rt the archive that rt builds,
-# and the program, are left out, and the last line says so. That line says what passed; the status is 0 where all did.
+# Needs a C compiler ($CC or cc) with its sanitizers, make, binutils and Python 3; for tools/twin cargo; for the installed files
+# pkg-config and a C++ compiler; for AArch64 gcc-aarch64-linux-gnu and qemu-user. No network. Without rt the archive from rt,
+# and the program, are left out, and the last line says so. That line says what passed; the status is 0 if all did.
 set -eu
 
 root=$(cd "$(dirname "$0")/.." && pwd)
@@ -38,21 +39,22 @@ step() {
     }
 }
 
-# One archive of the library as rt builds it, of c/calls.c over it, and of the kit's three functions by which it calls malloc,
-# realloc and free. The calls of the header are the only names that it gives to others: those that are proved are called proved_* and
-# become local.
+# One archive of the library as rt builds it, of c/calls.c over it, of c/sdp.c, and of the kit's three functions that call
+# malloc, realloc and free. It exports only the calls of the header: the proved calls are named proved_* and become local.
 build_proved() {
     kit=$(dirname "$(rt doc)")
+    "$root/scripts/rt_free.py" || fail "another rt works in this copy"
     (cd "$root/crates/codec_payload_c" && rt lib) >"$work/lib.log" 2>&1 || {
         cat "$work/lib.log" >&2
         fail "the library is not proved"
     }
     rm -f "$out/proved/libcodec_payload.a"
     "$compiler" -std=c99 $warnings -O2 -fPIC -I"$root/include" -c "$root/c/calls.c" -o "$work/calls.o" &&
+        "$compiler" -std=c99 $warnings -O2 -fPIC -I"$root/include" -c "$root/c/sdp.c" -o "$work/sdp.o" &&
         (cd "$work" && cp "$root/crates/codec_payload_c/out/libcodec_payload_c.a" "$kit/c/liblibc_c.a" . &&
             nm --defined-only --extern-only libcodec_payload_c.a | sed -n 's/.* \(cpay_[a-z0-9_]*\)$/\1 proved_\1/p' >names &&
             objcopy --redefine-syms=names libcodec_payload_c.a &&
-            printf 'CREATE all.a\nADDLIB libcodec_payload_c.a\nADDLIB liblibc_c.a\nADDMOD calls.o\nSAVE\nEND\n' | ar -M &&
+            printf 'CREATE all.a\nADDLIB libcodec_payload_c.a\nADDLIB liblibc_c.a\nADDMOD calls.o\nADDMOD sdp.o\nSAVE\nEND\n' | ar -M &&
             ld -r --whole-archive all.a -o all.o && objcopy --wildcard --keep-global-symbol='cpay_*' all.o codec_payload.o &&
             ar rcs "$out/proved/libcodec_payload.a" codec_payload.o) || fail "the archive is not made"
 }
@@ -75,7 +77,7 @@ compare_scripts() {
     done
 }
 
-# refuses WORDS: the compiler tells that mistake in one call
+# refuses WORDS: the compiler reports that mistake in one call
 refuses() {
     printf '#include "codec_payload.h"\nvoid mistake(cpay_packetizer *packetizer, cpay_buffer *buffer, cpay_unit *unit);\n%s%s%s' \
         'void mistake(cpay_packetizer *packetizer, cpay_buffer *buffer, cpay_unit *unit) { (void)packetizer; (void)buffer; ' \
@@ -160,6 +162,12 @@ if command -v cargo >/dev/null; then
         fail "the library and the generated Rust crate differ"
     }
     twin=$(tail -n 1 "$work/twin")
+    for given in c/sdp/*.sdp; do
+        "$out/tests/descriptions" changed 3000 <"$given" >"$work/wanted"
+        (cd tools/twin && cargo run --offline --quiet --release -- changed 3000) <"$given" >"$work/found"
+        cmp "$work/wanted" "$work/found" || fail "C and Rust read a changed copy of $given differently"
+    done
+    twin="$twin; session descriptions in C and Rust"
 fi
 step scripts/abi.sh
 abi=$(tail -n 1 "$work/log")

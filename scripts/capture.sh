@@ -1,6 +1,6 @@
 #!/bin/sh
-# Makes scripts/captured_packets.txt: the first packets that GStreamer, ffmpeg and Chromium send over loopback, each with what
-# tshark tells of it, as the program payload_datagrams prints the parts of a packet.
+# Makes scripts/captured_packets.txt: the first packets that GStreamer, ffmpeg and Chromium send over loopback. Each has the
+# fields that tshark reads from it, in the form in which the program payload_datagrams prints the parts of a packet.
 #
 # Needs gst-launch-1.0 (gstreamer1.0-tools and the plugins base, good and bad), python3-gi and gir1.2-gstreamer-1.0, ffmpeg,
 # chromium and tshark, and the right to capture on the loopback interface. The numbers, times and SSRCs of most senders are others
@@ -14,8 +14,8 @@ port=15004
 out=$here/captured_packets.txt
 : >"$out"
 
-# Each of the first lines of tshark's fields becomes the datagram and what is told of it, separated by tabs. The data of an extension, which
-# tshark gives element by element, is taken out of the datagram by the count of CSRCs and the length in words (RFC 3550,
+# Turns each of the first lines of tshark's fields into the datagram and its parts, separated by tabs. tshark gives the data of
+# an extension element by element, so it is taken out of the datagram by the count of CSRCs and the length in words (RFC 3550,
 # section 5.3.1).
 cat >"$work/told.py" <<'END'
 import itertools
@@ -79,7 +79,7 @@ cat >"$work/page.html" <<'END'
 </script>
 END
 
-# sends COUNT NAME COMMAND..: so many packets of a sender
+# sends COUNT NAME COMMAND..: COUNT packets of a sender
 sends() {
     packets=$1
     name=$2

@@ -1,12 +1,12 @@
 #!/usr/bin/env python3
 """Compares the header, include/codec_payload.h with codec_payload_media.h, with the exports of codec_payload_c.
 
-The header is written by hand. This reads both and compares every function: its name, its answer, and of each parameter
-the name and the type; every struct that crosses: its fields in order with their types; and the numbers of the statuses and of
-the codecs. A handle of the library is in C a struct of its kind, so that the compiler tells one kind from another. The
-example in the header, and in docs/C.md, is the text of c/example.c. The last line says how many functions and structs are the same; the status is 0 where all are.
+The header is written by hand. This script reads both and compares every function: its name, its result, and the name and type of
+each parameter; every struct that crosses: its fields in order with their types; and the numbers of the statuses and of the codecs.
+In C each type has its own struct around a handle, so that the compiler distinguishes them. The example in the header, and in
+docs/C.md, is the text of c/example.c. The last line says how many functions and structs are the same; the status is 0 if all are.
 
-c/calls.c, which lets NULL go with a length of 0, is what `check_header.py --calls` prints, and that is compared too.
+c/calls.c, which accepts NULL with a length of 0, is the output of `check_header.py --calls`, and is compared too.
 """
 import os
 import re
@@ -20,9 +20,9 @@ NUMBERS = {
     "usize": "size_t",
     "bool": "bool",
 }
-# The one pointer that stands in a struct, which C sees as one to nothing that it knows.
+# The one pointer in a struct, which C sees as a pointer to an unknown type.
 FLAT = {"*mut u8": "void *"}
-# What a handle of the library is in the header, by what lives in it. Each has a call of its own to free it.
+# The struct of the header for each type that a handle of the library can hold. Each has its own call to free it.
 KINDS = ["cpay_packetizer", "cpay_buffer", "cpay_depacketizer", "cpay_red_sender", "cpay_sender", "cpay_receiver"]
 HANDLE = [("cpay_handle", "handle")]
 VERSION = "cpay_version"
@@ -32,8 +32,8 @@ EXPORT = re.compile(
 
 
 CALLS_BEGIN = """\
-/* The calls of codec_payload.h over those that are proved, which take a handle of any kind and no NULL: here NULL with a length
- * of 0 becomes a pointer to something, and with another length it is refused. Written by scripts/check_header.py --calls. */
+/* The calls of codec_payload.h over the proved calls, which accept a handle of any type and no NULL. Here NULL with a length of 0
+ * becomes a valid pointer; NULL with another length is refused. Written by scripts/check_header.py --calls. */
 #include "codec_payload.h"
 
 typedef char status_is_four_bytes[sizeof(cpay_status) == 4 ? 1 : -1];
@@ -53,7 +53,7 @@ def read(path):
 
 
 def split(text):
-    """The parts between commas that stand in no brackets."""
+    """The parts between commas outside of brackets."""
     parts, depth, last = [], 0, 0
     for at, one in enumerate(text):
         depth += (one in "<([{") - (one in ">)]}")
@@ -140,7 +140,7 @@ def header():
 
 
 def plain(functions, structs):
-    """The header's functions and structs with handles and numbers in place of its kinds and its statuses."""
+    """The header's functions and structs with handles and numbers instead of its types and statuses."""
     frees = {f"{kind}_free" for kind in KINDS}
     plain_functions = {"cpay_free": ("void", [("cpay_handle *", "handle")])} if frees <= functions.keys() else {}
     for name, (answer, params) in functions.items():

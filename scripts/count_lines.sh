@@ -1,8 +1,32 @@
 #!/bin/sh
-# Prints the lines of code, definitions and proofs of the library's crates, without comments and empty lines.
+# Prints how much there is to read: lines without comments and empty lines. First code, definitions and proofs of the library's
+# crates; then the files that a user trusts in addition to the proof, in plain Rust and in C; last the lines of the assembly.
 set -eu
 cd "$(dirname "$0")/.."
+
+# lines NAME COMMENT FILE..: prints the name and the lines of the files; COMMENT is a pattern of comment lines
+lines() {
+    name=$1 comment=$2
+    shift 2
+    printf '%s: %s\n' "$name" "$(cat "$@" | grep -vcE "^[[:space:]]*($comment|\$)")"
+}
+
 for part in src:rt specs:antt proofs:antt; do
-    lines=$(git ls-files "crates/codec_payload_*/${part%:*}/*.${part#*:}" | xargs cat | grep -vcE '^[[:space:]]*(//|--|$)')
-    echo "${part%:*}: $lines"
+    # shellcheck disable=SC2046
+    lines "${part%:*}" '//|--' $(git ls-files "crates/codec_payload_*/${part%:*}/*.${part#*:}")
 done
+clauses=$(git ls-files 'crates/codec_payload_*/src/*.rt' | xargs cat | grep -cE '^[[:space:]]*(requires|ensures|ghost)\b')
+printf 'contracts and ghost items in src: %s\n' "$clauses"
+# shellcheck disable=SC2046
+{
+    lines 'Rust: eraser' '#' $(git ls-files 'tools/eraser/*.py')
+    lines 'Rust: lib.rs and memory.rs' '//' rust/src/lib.rs rust/src/memory.rs
+    lines 'Rust: ext' '//' $(git ls-files 'rust/src/ext*')
+    lines 'Rust: sdp' '//' $(git ls-files 'rust/src/sdp*')
+    lines 'C: calls.c' '/?[*]' c/calls.c
+    lines 'C: memory.c' '/?[*]' c/memory.c
+    lines 'C: sdp.c' '/?[*]' c/sdp.c
+    lines 'C: assembly.py' '#' scripts/assembly.py
+    lines 'assembly: x86_64' '#' c/generated/x86_64-linux.S
+    lines 'assembly: aarch64' '//' c/generated/aarch64-linux.S
+}

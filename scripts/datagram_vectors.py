@@ -1,4 +1,4 @@
-"""Inputs of the program payload_datagrams, each with what it prints and how it ends.
+"""Inputs of the program payload_datagrams, each with its output and status.
 
 The outputs are worked out by RFC 3550, RFC 2198, RFC 4588 and the rules in docs/DATAGRAMS.md, by hand or by the few lines of Python
 here that follow the RFCs. scripts/process.py runs them through the program.
@@ -12,6 +12,8 @@ OPUS = "stream opus 48000 96\n"
 OPEN = f"{OPUS}wait 1000 0 50\n"
 WAITS = f"{OPEN}ssrc 7\n"
 FIRST = 65_536
+# After a restart numbers begin at the second multiple of 65,536 above the highest.
+RESTARTED = 3 * FIRST
 
 
 def rtp(number, payload="", kind=96, time=0, ssrc=7, marker=0, padding=0, csrcs=(), extension=None):
@@ -51,8 +53,8 @@ DEATHS = [
         "50000, and then 30000 and on",
         WAITS + "receive\n" + came(0, 50_000, "00") + "pop 0\n" + came(1, 30_000, "01") + came(2, 30_001, "02") + came(3, 30_002, "03")
         + "pop 51\n" * 3 + "deadline\npop 52\npop 53\ncounters\n",
-        "held\n" + unit(FIRST + 50_000, "00") + "suspect\nrestarted\nheld\n" + unit(2 * FIRST + 30_000, "01", 0)
-        + unit(2 * FIRST + 30_001, "02") + unit(2 * FIRST + 30_002, "03") + "deadline -\nnone\nnone\n"
+        "held\n" + unit(FIRST + 50_000, "00") + "suspect\nrestarted\nheld\n" + unit(RESTARTED + 30_000, "01", 0)
+        + unit(RESTARTED + 30_001, "02") + unit(RESTARTED + 30_002, "03") + "deadline -\nnone\nnone\n"
         "counters received 4 released 4 restarts 1 units 4\n",
     ),
     Row(
@@ -78,7 +80,7 @@ DEATHS = [
         WAITS + "receive\n" + came(0, 10, "00") + "pop 0\n" + came(0, 12, "02") + came(0, 14, "04") + "pop 0\nfinish\n" + "pop 0\n" * 3,
         "held\n" + unit(FIRST + 10, "00") + "held\nheld\nnone\n" + unit(FIRST + 12, "02", 0) + unit(FIRST + 14, "04", 0) + "none\n",
     ),
-    # Of 16 places 2 are kept free: with 15 packets held the frame behind the gap is due, though it waits by number alone.
+    # Of 16 places 2 are kept free: with 15 packets held the frame after the gap is due, though it waits by number alone.
     Row(
         "a gap never outlives the buffer",
         f"{OPUS}wait - 0 -\nlimit 16\nssrc 7\nreceive\n" + came(0, 10, "00") + "pop 0\n"
@@ -120,8 +122,8 @@ OUTCOMES = [
         "a restart that the caller tells, with another SSRC",
         OPEN + "receive\n" + came(0, 10, "00") + "finish\npop 0\n" + came(0, 11, "01", ssrc=8) + "restart\n" + came(0, 5, "02", ssrc=8)
         + came(0, 11, "03") + came(0, 6, "04", ssrc=8) + "pop 0\npop 50\npop 50\ncounters\n",
-        "undecided\n" + unit(FIRST + 10, "00") + "other stream\nundecided\nundecided\nheld\nnone\n" + unit(2 * FIRST + 5, "02", 0)
-        + unit(2 * FIRST + 6, "04") + "counters received 5 other 2 released 3 restarts 1 units 3\n",
+        "undecided\n" + unit(FIRST + 10, "00") + "other stream\nundecided\nundecided\nheld\nnone\n" + unit(RESTARTED + 5, "02", 0)
+        + unit(RESTARTED + 6, "04") + "counters received 5 other 2 released 3 restarts 1 units 3\n",
     ),
     Row(
         "packets that wait are counted, and the first of them comes out at the end",
@@ -161,7 +163,7 @@ MISSING = [
 
 
 def sent_again(now, number, payload, **named):
-    """A packet that is sent again: in front of its payload is the number that it had first (RFC 4588, section 4)."""
+    """A retransmission: its original number precedes its payload (RFC 4588, section 4)."""
     return came(now, named.pop("own", 500), f"{number:04x}{payload}", kind=97, ssrc=9, **named)
 
 
@@ -245,6 +247,27 @@ REDS = [
         RED + in_red(0, 10, red("00"), 0) + in_red(0, 11, "", 960, padding=7) + came(0, 12, "02", time=1_920) + "pop 0\npop 0\n",
         "held\nno media\nheld\n" + unit(FIRST + 10, "00") + unit(FIRST + 12, "02", time=1_920),
     ),
+    # Number 11 is padding that is lost, so the block of 12 seems to be of number 11. Its time came with number 10.
+    Row(
+        "padding is lost: a block of a time that came is not stored under the number of the padding",
+        RED + in_red(0, 10, red("00"), 0) + in_red(0, 12, red("01", (96, 960, "00")), 960) + "pop 0\n" * 2 + "pop 50\n" * 2 + "counters\n",
+        "held\nheld\n" + unit(FIRST + 10, "00") + "none\n" + unit(FIRST + 12, "01", 0, 960) + "none\ncounters received 2 released 2 units 2\n",
+    ),
+    # The same, and number 11 is late: its block is stored under 12, and the packet itself repeats it.
+    Row(
+        "padding is lost: a late packet does not repeat the block that was stored for it, and is not waited for",
+        RED + in_red(0, 10, red("00"), 0) + in_red(0, 13, red("02", (96, 960, "01")), 1_920)
+        + in_red(0, 11, red("01", (96, 960, "00")), 960) * 2 + "pop 0\n" * 4 + "counters\n",
+        "held\nheld\nno media\nno media\n" + unit(FIRST + 10, "00") + unit(FIRST + 12, "01", time=960)
+        + unit(FIRST + 13, "02", time=1_920) + "none\ncounters received 4 recovered 1 no_media 2 released 3 units 3\n",
+    ),
+    Row(
+        "the packet of a recovered block is a duplicate where it has the block's number",
+        RED + in_red(0, 10, red("00"), 0) + in_red(0, 12, red("02", (96, 960, "01")), 1_920) + in_red(0, 11, red("01", (96, 960, "00")), 960)
+        + "pop 0\n" * 4 + "counters\n",
+        "held\nheld\nduplicate\n" + unit(FIRST + 10, "00") + unit(FIRST + 11, "01", time=960) + unit(FIRST + 12, "02", time=1_920)
+        + "none\ncounters received 3 recovered 1 duplicates 1 released 3 units 3\n",
+    ),
     Row(
         "a number without media takes no block: the frame before the padding is not released again",
         RED + in_red(0, 10, red("00"), 0) + in_red(0, 11, "", 0, padding=7) + in_red(0, 12, red("01", (96, 960, "00")), 960) + "pop 0\n" * 3
@@ -256,8 +279,8 @@ REDS = [
         "a suspect packet carries nothing; the one that confirms a restart does",
         RED + in_red(0, 10, red("00"), 0) + in_red(0, 30_000, red("05", (96, 960, "04")), 960_000)
         + in_red(0, 30_001, red("06", (96, 1_920, "04"), (96, 960, "05")), 960_960) + "finish\n" + "pop 0\n" * 5 + "counters\n",
-        "held\nsuspect\nrestarted\n" + unit(FIRST + 10, "00") + unit(2 * FIRST + 29_999, "04", 0, time=959_040)
-        + unit(2 * FIRST + 30_000, "05", time=960_000) + unit(2 * FIRST + 30_001, "06", time=960_960) + "none\n"
+        "held\nsuspect\nrestarted\n" + unit(FIRST + 10, "00") + unit(RESTARTED + 29_999, "04", 0, time=959_040)
+        + unit(RESTARTED + 30_000, "05", time=960_000) + unit(RESTARTED + 30_001, "06", time=960_960) + "none\n"
         "counters received 3 recovered 1 released 4 restarts 1 units 4\n",
     ),
 ]
@@ -291,7 +314,7 @@ class Reported:
 
 
 def reported(name, packets, every):
-    """A row of packets, as numbers that do not wrap and arrivals in milliseconds, with a report behind each so many."""
+    """A test vector of packets, as extended numbers and arrivals in milliseconds, with a report after each `each`."""
     source, given, output = Reported(), WAITS + "limit 65536\nreceive\nreport\n", "report -\n"
     for place, (number, now) in enumerate(packets):
         time = number * 960
@@ -319,7 +342,7 @@ REPORTS = [
 
 
 def fault_of(packet):
-    """Why bytes are no RTP packet, in reading order, or None (RFC 3550, section 5.1)."""
+    """Why bytes are not an RTP packet, in reading order, or None (RFC 3550, section 5.1)."""
     if len(packet) < 12:
         return "RTP packet is shorter than its fixed header"
     if packet[0] >> 6 != 2:
@@ -335,9 +358,9 @@ def fault_of(packet):
             return "RTP packet ends inside its extension"
     if packet[0] & 0x20:
         if end == len(packet) or packet[-1] > len(packet) - end:
-            return "RTP padding is longer than what is left"
+            return "RTP padding exceeds the payload"
         if packet[-1] == 0:
-            return "RTP padding has no bytes"
+            return "RTP padding length is 0"
     return None
 
 
@@ -358,7 +381,7 @@ def elements_of(profile, data):
 
 
 def told(packet):
-    """What is printed of a packet: its fault, or its parts. Its elements are whole, and none has the id 15."""
+    """The printed form of a packet: its fault, or its parts. Its elements are whole, and none has the id 15."""
     fault = fault_of(packet)
     if fault:
         return f"malformed: {fault}\n"

@@ -2,26 +2,27 @@
 """Tests the documents of the repository.
 
   scripts/documents.py                 all checks
-  scripts/documents.py --quick         those that run no program: all but the blocks of code and the commands
-  scripts/documents.py --wrap FILE..   wraps anew each paragraph of these pages, or of all, that has a line of more than 128
+  scripts/documents.py --quick         the checks that run no program: all except blocks in C and Rust, and the commands
+  scripts/documents.py --wrap FILE..   wraps each paragraph of these pages, or of all pages, that has a line of more than 128
                                        characters
 
-Each relative link, each anchor and each named page is there; README.md has at most 170 lines; no line outside of code and
-tables is longer than 128 characters; the crates that docs/ARCHITECTURE.md lists are those of crates.txt; the version is the
-same wherever it stands; toolchain.txt has the line of `rt version`, and no page names a kit; each row of figures in
-README.md is one of docs/PERFORMANCE.md; each picture is shown by a page, is light, and is of today's data; docs/DIFFERENCES.md
-names each law of the ported crates. Each block of code has a language, by which it is tested:
+Each relative link, each anchor and each named page exists; README.md has at most 170 lines; no line outside of code and
+tables is longer than 128 characters; docs/ARCHITECTURE.md lists the crates of crates.txt; the version is the
+same everywhere; toolchain.txt has the line of `rt version`, and no page names a kit; each line of figures in
+README.md is in docs/PERFORMANCE.md; each picture is shown by a page, is light, and is of today's data; docs/DIFFERENCES.md
+names each theorem of the ported crates; each name in docs/GLOSSARY.md is in a source; docs/VERIFICATION.md has the lemma of
+each guarantee and the numbers of scripts/count_lines.sh. Each block of code has a language, which decides its test:
 
-  c        compiled, and linked and run where the library is built (`make`)
+  c        compiled; linked and run if the library is built (`make`)
   rust     built by cargo over rust/, and run
-  rattle   stands, word for word, in a crate that the gate proves
-  antt     stands, word for word, in the definitions of a crate
-  text     is an input or an output of a program, which its own tests run; or a picture of names that stand in the sources;
+  rattle   is, word for word, in a crate that CI proves
+  antt     is, word for word, in the definitions of a crate
+  text     is an input or an output of a program, which its own tests run; or a picture of names in the sources;
            or lines of fields, whose bits are whole bytes
   sh       each command is run here, or by the script of scripts/test.sh that is listed below beside it
 
-Needs a C compiler, $CC or cc; cargo of 1.88 or later for what is Rust; rt for how a crate is begun. The last line says what
-passed; the status is 0 where all did.
+Needs a C compiler, $CC or cc; cargo of 1.88 or later for blocks in Rust; rt to start a crate. The last line says what
+passed; the status is 0 if all did.
 """
 import glob
 import os
@@ -42,9 +43,9 @@ WIDTH = 128
 README_LINES = 170
 PICTURE_BYTES = 80_000
 FENCE = re.compile(r"^( *)```(.*)$")
-# Commands of the documents that are run here, in the root of the repository: none needs what is built, and each is quick.
+# Commands of the documents that this script runs, in the root of the repository: they need nothing built, and are quick.
 RUN_HERE = ["scripts/mutants.py --stale", "scripts/check_header.py", "scripts/count_lines.sh", "scripts/documents.py"]
-# All others: how a command begins, and the file that runs it, with the words by which it does.
+# All other commands: how a command begins, and the file that runs it, with the words in that file.
 RUN_ELSEWHERE = {
     "scripts/test.sh": ("scripts/test.sh", "scripts/test.sh --no-proofs"),
     "rt ci": ("scripts/test.sh", "rt ci"),
@@ -107,7 +108,7 @@ def read(path):
 
 
 def files(*endings):
-    """The files of the repository with these endings, without what was built."""
+    """The files of the repository with these endings, without built files."""
     found = []
     for folder, below, names in os.walk(ROOT):
         below[:] = sorted(it for it in below if it not in ("out", "target", ".git", "__pycache__", "recorded"))
@@ -200,7 +201,7 @@ def crate_table():
     for crate in sorted({*listed, *named}):
         if listed.count(crate) != 1 or named.count(crate) != 1:
             times = f"{listed.count(crate)} times in crates.txt, {named.count(crate)} times"
-            yield f"docs/ARCHITECTURE.md: {crate} stands {times} in the table"
+            yield f"docs/ARCHITECTURE.md: {crate} is {times} in the table"
 
 
 def toolchain():
@@ -227,7 +228,7 @@ def versions():
 
 
 def additions():
-    """The laws of the ported crates, which are public functions without a parameter, stand among what is added."""
+    """DIFFERENCES names the theorems of the ported crates, which are public functions without a parameter."""
     ported = "base audio vp8 vp9 av1 red buffer core".split()
     page = read("docs/DIFFERENCES.md")
     for path in files(".rt"):
@@ -259,8 +260,46 @@ def pictures(pages):
             yield f"docs/pictures/{name} is not of today's data: call scripts/pictures.py"
 
 
+def glossary():
+    """Each term of docs/GLOSSARY.md in code type is a name of the library."""
+    sources = "\n".join(read(it) for it in files(".rt", ".h"))
+    for row in re.findall(r"^\| (.*?) \| ", read("docs/GLOSSARY.md"), re.M):
+        for term in re.findall(r"`(\w+)`", row):
+            if not re.search(rf"\b{term}\b", sources):
+                yield f"docs/GLOSSARY.md: no source has {term}"
+
+
+def lemmas():
+    """docs/VERIFICATION.md has each field of KeepsPromises with its lemma, and the files exist."""
+    crate = "crates/codec_payload_runs"
+    fields = re.search(r"record KeepsPromisesIf .*?\n\n", read(f"{crate}/specs/RunPromises.antt"), re.S)[0]
+    proof, page = read(f"{crate}/proofs/RunLogs.antt"), read("docs/VERIFICATION.md")
+    for field in re.findall(r"^  pub (\w+) :", fields, re.M):
+        row = re.search(rf"^\| `{field}` \| (.*) \| `(.*)` \|$", page, re.M)
+        if not row:
+            yield f"docs/VERIFICATION.md has no lemma of {field}"
+        elif not os.path.exists(f"{ROOT}/{crate}/proofs/{row[2].removeprefix('proofs/')}"):
+            yield f"docs/VERIFICATION.md: {row[2]} does not exist"
+        for lemma in re.findall(r"`(\w+)`", row[1] if row else ""):
+            if lemma != "run_schedule" and not re.search(rf"^      {field} = .*\b{lemma}\b", proof, re.M):
+                yield f"docs/VERIFICATION.md: RunLogs.antt does not prove {field} by {lemma}"
+
+
+def counted_lines():
+    """docs/VERIFICATION.md has the numbers that scripts/count_lines.sh prints, to a fifth."""
+    page = read("docs/VERIFICATION.md")
+    page = page[page.index("## How much there is"):page.index("## What it rests on")]
+    numbers = [int(it.replace(",", "")) for it in re.findall(r"\b\d+(?:,\d{3})*\b", page)]
+    printed = subprocess.run([f"{ROOT}/scripts/count_lines.sh"], capture_output=True, text=True, check=True).stdout
+    found = {name: int(lines) for name, lines in re.findall(r"^(.*): (\d+)$", printed, re.M)}
+    found["C: calls.c"] += found.pop("C: memory.c")
+    for name, count in found.items():
+        if not any(abs(it - count) * 5 <= count for it in numbers):
+            yield f"docs/VERIFICATION.md has no number near {count} ({name} of scripts/count_lines.sh)"
+
+
 def ran(words, **named):
-    """Nothing where a command ends well, else what it said."""
+    """None if a command succeeds, else its messages."""
     done = subprocess.run(words, stdout=subprocess.PIPE, stderr=subprocess.STDOUT, check=False, **named)
     return "" if done.returncode == 0 else done.stdout.decode(errors="replace") or f"status {done.returncode}"
 
@@ -295,7 +334,7 @@ def checked_rust(block, work):
 
 
 def stands_in(block, paths):
-    """Whether the block stands in one of these files, whatever its indentation is. Of `use` lines each name is used there."""
+    """Whether the block is in one of these files, with any indentation. Each name in `use` lines is used there."""
     texts = [read(it) for it in paths]
     if any(block.text in it or textwrap.dedent(block.text) in textwrap.dedent(it) for it in texts):
         return True
@@ -362,7 +401,8 @@ def tested_sh(block):
     return ""
 
 
-def blocks(pages):
+def blocks(pages, quick):
+    runs = ("c", "rust")
     tests = {
         "c": compiled_c,
         "rust": checked_rust,
@@ -373,6 +413,8 @@ def blocks(pages):
     }
     with tempfile.TemporaryDirectory() as work:
         for block in (it for page in pages for it in blocks_and_rest(page)[0]):
+            if quick and block.language in runs:
+                continue
             if block.language not in tests:
                 yield f"{block}: no test for a block of {block.language or 'no language'}"
             elif block.language == "rust" and not shutil.which("cargo"):
@@ -409,7 +451,7 @@ def commands(pages):
 
 
 def wrap(page):
-    """The text of a page with each paragraph wrapped anew that has a line which is too long."""
+    """The text of a page, with each paragraph that has too long a line wrapped again."""
     text, paragraph, code = [], [], False
 
     def flush():
@@ -448,11 +490,11 @@ def main(words):
     pages = files(".md")
     wrong = [
         *links(pages), *named_pages(), *lines(pages), *crate_table(), *versions(), *toolchain(), *additions(), *figures(),
-        *pictures(pages),
+        *pictures(pages), *glossary(), *lemmas(), *counted_lines(), *blocks(pages, quick),
     ]
     if not quick:
-        wrong += [*blocks(pages), *begun_crate(), *commands(pages)]
-    count = 0 if quick else sum(len(blocks_and_rest(it)[0]) for it in pages)
+        wrong += [*begun_crate(), *commands(pages)]
+    count = sum(len(blocks_and_rest(it)[0]) for it in pages)
     verdict = f"{len(wrong)} faults" if wrong else "all passed"
     print("\n".join([*wrong, f"documents: {len(pages)} pages with {count} blocks of code: {verdict}"]))
     return 1 if wrong else 0

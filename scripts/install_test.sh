@@ -1,15 +1,15 @@
 #!/bin/sh
-# Installs the library for C into a fresh folder, and builds against what is there, as its users would.
+# Installs the library for C into a fresh folder, and builds against the installed files, as users would.
 #
-# The archive and the shared library export the calls of the header alone. The example is built by pkg-config, as C and as C++,
-# against the shared library and against the archive, and by CMake where there is cmake; each prints what it should. The same by
-# the tarball of `make dist`, unpacked elsewhere and without rt, where `make check` passes. In the end all is uninstalled, and nothing
-# is left. Both libraries ask for no executable stack and say that branches are protected. Manual pages are made and installed where
-# there is doxygen, and Debian packages where there are debhelper and doxygen, for arm64 too with its cross compiler: lintian finds no
-# error in them, and hardening-check and blhc no flag that is missing; they go into a fresh root, the example is built against what is
-# there, and the recorder, where libpcap and libavformat are there, lists and writes a capture of the repository.
+# The archive and the shared library export only the calls of the header. The example is built by pkg-config, as C and as C++,
+# against the shared library and against the archive, and by CMake if there is cmake; each prints the expected output. The same
+# for the tarball of `make dist`, unpacked elsewhere and without rt, where `make check` passes. In the end all is uninstalled,
+# and nothing is left. Both libraries request no executable stack and mark branches as protected. Manual pages are made and
+# installed if there is doxygen. Debian packages are made if there are debhelper and doxygen, for arm64 too with its cross
+# compiler: lintian finds no error in them, and hardening-check and blhc find no missing flag. They go into a fresh root, where
+# the example is built; if there are libpcap and libavformat, the recorder lists and writes a capture of the repository.
 #
-# Needs make, a C and a C++ compiler, nm, readelf and pkg-config. The last line says what passed; the status is 0 where all did.
+# Needs make, a C and a C++ compiler, nm, readelf and pkg-config. The last line says what passed; the status is 0 if all did.
 set -eu
 
 root=$(cd "$(dirname "$0")/.." && pwd)
@@ -27,10 +27,11 @@ for tool in make nm readelf pkg-config "$compiler" "$plus"; do
     command -v "$tool" >/dev/null || fail "$tool is not there"
 done
 
-# exports NM-FLAGS FILE: the names that a library defines for others, which have to be those of the header
+# exports NM-FLAGS FILE: the names that a library exports, which must be the names of the header
 exports() {
     sed -n 's/^[A-Za-z0-9_ ]*[ *]\(cpay_[a-z0-9_]*\)(.*/\1/p' "$root/include/codec_payload.h" \
-        "$root/include/codec_payload_media.h" | grep -v -x cpay_status_text | sort -u >"$work/wanted"
+        "$root/include/codec_payload_media.h" "$root/include/codec_payload_sdp.h" |
+        grep -v -x -e cpay_status_text -e cpay_sdp_error_text | sort -u >"$work/wanted"
     nm --defined-only --extern-only $1 "$2" | sed -n 's/.* [A-Z] \([^@]*\).*/\1/p' | grep -v -x CODEC_PAYLOAD_0 |
         sort -u >"$work/found"
     cmp -s "$work/wanted" "$work/found" || {
@@ -107,14 +108,14 @@ packages() {
     [ -f "$work/$2/usr/share/man/man3/cpay_buffer_pop.3.gz" ] || fail "the manual pages are not packed"
 }
 
-# packs FOLDER: Debian packages of it, and the example against what is in them
+# packs FOLDER: Debian packages of it, and the example against their files
 packs() {
     command -v dh >/dev/null && command -v doxygen >/dev/null && command -v dpkg-buildpackage >/dev/null || return 0
     packages "$1" deb c/out
     folder=$(dirname "$(find "$work/deb" -name libcodec_payload.so.0)")
     if command -v hardening-check >/dev/null; then
-        # The proved code has no arrays on its stack whose bounds a canary would guard, and no calls that are fortified. The notes of
-        # CET are looked for in the archive above: the shared library loses them to the start files of Debian 12, which have none.
+        # The proved code has no arrays on its stack whose bounds a canary would guard, and no fortified calls. The notes of CET
+        # are checked in the archive above: the shared library loses them to the start files of Debian 12, which have none.
         hardening-check --nopie --nostackprotector --nofortify --nocfprotection "$folder/libcodec_payload.so.0" >"$work/hardening" || {
             cat "$work/hardening" >&2
             fail "the shared library is not hardened as Debian asks"

@@ -1,12 +1,12 @@
 #!/bin/sh
-# Counts the instructions of a push and a pop while 64 and 4,096 packets are held, and fails where they grow as if each call went
-# over all that is held.
+# Counts the instructions of a push and a pop while 64 and 4,096 packets are held. Fails if they grow as if each call visited
+# all held packets.
 #
 #   scripts/instructions.sh    over the library as `make` builds it
 #
-# In order a push and a pop take the same at any number held. In a mixed order what lies above a packet moves up, 8 or 16 bytes a
-# packet, as by memmove; a search that went over all would take some four instructions a packet more. Needs valgrind and a C
-# compiler, $CC or cc. The last line says what passed.
+# In order a push and a pop take the same at any number held. In a mixed order the packets above a new one move up, 8 or 16
+# bytes per packet, as by memmove; a search through all packets would take about four more instructions per packet. Needs
+# valgrind and a C compiler, $CC or cc. The last line says what passed.
 set -eu
 root=$(cd "$(dirname "$0")/.." && pwd)
 library=$root/c/out/libcodec_payload.a
@@ -24,7 +24,7 @@ instructions() {
     sed -n 's/.*Collected : //p' "$work/count" | awk '{ print int($1 / 4096) }'
 }
 
-# bound ORDER TENTHS: at 4,096 held at most so many tenths of what it is at 64
+# bound ORDER TENTHS: at 4,096 held at most this many tenths of the count at 64
 bound() {
     few=$(instructions "$1" 64)
     many=$(instructions "$1" 4096)

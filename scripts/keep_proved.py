@@ -1,11 +1,11 @@
 #!/usr/bin/env python3
-"""Has rt take the libraries and programs that `rt ci` has just proved and built, and not prove each of them once more.
+"""Lets rt use the libraries and programs that `rt ci` has just proved and built, instead of proving them once more.
 
-`rt ci` proves every crate from nothing and leaves what it built in crates/*/out, without the marks by which `rt lib` and `rt run`
-tell that a library or a program is built. This writes the marks, which are sums over the sources of a crate and of all below it,
-so that a crate is made anew as soon as one of these changes. Run it right after an `rt ci` that passed, and never otherwise.
+`rt ci` leaves the built files in crates/*/out, without the marks by which `rt lib` and `rt run` recognise a built library or
+program. This script writes the marks, which are sums over the sources of a crate and of all crates below it, so a crate is built
+again as soon as one of these changes. Run it right after an `rt ci` that passed, and never otherwise.
 
-Where the toolchain keeps its marks in another way, nothing is written, and rt proves what it needs. The status is 0 either way.
+If the toolchain keeps its marks in another way, nothing is written, and rt proves the crates again. The status is 0 either way.
 """
 import os
 import subprocess
@@ -27,7 +27,7 @@ def toolchain():
 
 
 def mark_of(crate, rtlib):
-    """Where the mark of a crate that is built stands, and what it says; nothing where the crate is not built."""
+    """The place of the mark of a built crate, and its text; None if the crate is not built."""
     out = os.path.join(crate.folder, "out")
     if crate.is_program:
         program = os.path.join(out, crate.name)

@@ -1,7 +1,7 @@
 #!/bin/sh
-# Makes frames by encoders in the folder that is given: the files, each frame as a line of hexadecimal digits beside its file, and
-# what other tools tell of them in traces.txt and opus.txt. From them are the frames in the tests of codec_payload_media, and
-# scripts/media_peers.py reads them.
+# Makes frames by encoders in the given folder: the files; each frame as a line of hexadecimal digits beside its file; and the
+# facts that other tools read from them, in traces.txt and opus.txt. The frames in the tests of codec_payload_media come from
+# these files, and scripts/media_peers.py reads them.
 #
 #     scripts/media_frames.sh FOLDER
 set -eu

@@ -2,7 +2,7 @@
 
 
 class Bits:
-    """Fields of so many bits, the highest first."""
+    """Bit fields, the highest bit first."""
 
     def __init__(self, random):
         self.random = random
@@ -47,7 +47,7 @@ def frame_sizes(bits):
 
 
 def vp9_frame(random):
-    """A frame, of which about a third are intra-only, and some have a wrong marker or end in their header."""
+    """A frame. About a third are intra-only, and some have a wrong marker or end in their header."""
     bits = Bits(random)
     bits.mostly(2, 2)  # frame_marker
     profile = bits.any(1) + 2 * bits.any(1)

@@ -1,14 +1,14 @@
 #!/usr/bin/env python3
-"""Compares what the library for C tells of frames with what other readers tell of them.
+"""Compares the facts that the library for C reads from frames with those of other readers.
 
-    scripts/media_peers.py             all of it; the last line counts what was compared
-    scripts/media_peers.py rows        writes some of what those tell to c/frames.txt too, which c/check.sh reads
-    scripts/media_peers.py times       the nanoseconds of one cpay_frame_info for each kind of frame
+    scripts/media_peers.py             all comparisons; the last line counts them
+    scripts/media_peers.py rows        also writes some of the other readers' facts to c/frames.txt, which c/check.sh reads
+    scripts/media_peers.py times       the nanoseconds of one cpay_frame_info for each type of frame
 
-The frames are those of encoders (scripts/media_frames.sh), headers of VP9 and AV1 made field by field at random, and hostile
-ones: beginnings, all bytes of one and two, and frames with a byte changed. The readers are ffmpeg's bitstream filter
-`trace_headers` (VP9, AV1), ffprobe, ffmpeg's muxer of MP4 (av1C), libvpx (VP8) and libopus. Where one of them refuses what the
-standard lets pass, it is not asked. c/frames.c asks the library, with and without the sanitizers.
+The frames come from encoders (scripts/media_frames.sh); headers of VP9 and AV1 are made field by field at random; and there are
+hostile ones: beginnings, all strings of one and two bytes, and frames with a byte changed. The readers are ffmpeg's bitstream filter
+`trace_headers` (VP9, AV1), ffprobe, ffmpeg's muxer of MP4 (av1C), libvpx (VP8) and libopus. If one of them refuses a frame that
+the standard allows, it is left out. c/frames.c queries the library, with and without the sanitizers.
 
 Needs the library (`make`), a C compiler, and ffmpeg with libvpx, libaom and libopus.
 """
@@ -42,12 +42,12 @@ def fail(message):
 def compare(what, frame, found, wanted):
     counts[what] += 1
     if found != wanted:
-        fail(f"{what}: of {frame[:60].hex()} ({len(frame)} bytes) {found} is told, and {wanted} wanted")
+        fail(f"{what}: of {frame[:60].hex()} ({len(frame)} bytes): found {found}, expected {wanted}")
 
 
-def compare_facts(what, codec, frame, told, status, key=None, size=None, duration=None):
-    """Compares what cpay_frame_info tells, and keeps it as a row."""
-    compare(what, frame, told[:4], (status, key, size, duration))
+def compare_facts(what, codec, frame, found, status, key=None, size=None, duration=None):
+    """Compares the result of cpay_frame_info, and keeps it as a test vector."""
+    compare(what, frame, found[:4], (status, key, size, duration))
     size = "-" if size is None else "%dx%d" % size
     key = "-" if key is None else int(key)
     duration = "-" if duration is None else duration
@@ -55,7 +55,7 @@ def compare_facts(what, codec, frame, told, status, key=None, size=None, duratio
 
 
 def write_rows(path):
-    """A few for each codec and kind of answer, of more than two bytes and of no more than some three hundred."""
+    """A few for each codec and type of answer, of more than two bytes and at most about three hundred."""
     with open(path, "w") as file:
         for kind in sorted(rows, key=str):
             lines = sorted(line for line in set(rows[kind]) if 45 < len(line) < 700) or [min(rows[kind], key=len)]
@@ -78,8 +78,8 @@ def facts(text):
     )
 
 
-def told_of(line):
-    """What a line of the program says. A part is its start, its size, what else is told, and of VP9 the facts of the frame."""
+def line_facts(line):
+    """The meaning of a line of the program. A part is its start, its size, its other fields, and for VP9 the facts of the frame."""
     front = re.match(r"info=\S+ key=\S+ size=\S+ duration=\S+", line).group()
     parts = []
     for start, size, rest, inner in re.findall(r"part=(\d+)\+(\d+):(\S+?)(?: record=\S+)?(?:\[(.*?)\])?(?= |$)", line):
@@ -96,8 +96,8 @@ def ask(program, mode, frames):
     return done.stdout.splitlines()
 
 
-def tell(program, codec, frames):
-    return [told_of(line) for line in ask(program, "tell", [(codec, frame) for frame in frames])]
+def facts_from(program, codec, frames):
+    return [line_facts(line) for line in ask(program, "report", [(codec, frame) for frame in frames])]
 
 
 def build(folder, name, flags):
@@ -133,7 +133,7 @@ class Packet:
 
 
 def trace(fourcc, frames, folder, reset):
-    """What trace_headers tells of each frame. Good frames stand before them, by which ffmpeg opens the file."""
+    """The fields that trace_headers prints for each frame. Good frames precede them, so that ffmpeg opens the file."""
     path = folder / "traced.ivf"
     frames = [reset] * LEAD + frames
     with open(path, "wb") as file:
@@ -154,7 +154,7 @@ def trace(fourcc, frames, folder, reset):
         else:
             packet.take(line)
     if len(packets) != len(frames):
-        fail(f"trace_headers told of {len(packets)} of {len(frames)} frames")
+        fail(f"trace_headers reads {len(packets)} of {len(frames)} frames")
     return [packets[number] for number in range(LEAD, len(frames))]
 
 
@@ -202,36 +202,36 @@ def vp9_wanted(section, error):
 
 
 def compare_vp9(what, program, frames, folder, reset):
-    for frame, packet, told in zip(frames, trace(b"VP90", frames, folder, reset), tell(program, VP9, frames)):
+    for frame, packet, found in zip(frames, trace(b"VP90", frames, folder, reset), facts_from(program, VP9, frames)):
         coded = [section for section in packet.sections if section.name == "Frame"]
         index = next((section.fields for section in packet.sections if section.name == "Superframe Index"), None)
         if not coded or index and [field.value for field in index[:3]] != [field.value for field in index[-3:]]:
-            # It tells nothing of a superframe whose sizes do not fit, and takes an index whose ends differ for one.
-            counts["not told by trace_headers"] += 1
+            # It ignores a superframe whose sizes do not fit, and accepts an index whose ends differ.
+            counts["not read by trace_headers"] += 1
             continue
         wanted = vp9_wanted(coded[0], packet.error if len(coded) == 1 else None)
-        compare_facts(what, VP9, frame, told, *wanted)
+        compare_facts(what, VP9, frame, found, *wanted)
         if not index:
-            compare(what + ", one frame", frame, told.parts, [(0, len(frame), (0, 0, 0), told[:4])])
+            compare(what + ", one frame", frame, found.parts, [(0, len(frame), (0, 0, 0), found[:4])])
             continue
         sizes = [field.value for field in index if field.name.startswith("frame_sizes")]
         starts = [sum(sizes[:place]) for place in range(len(sizes))]
-        compare(what + ", superframe", frame, [part[:2] for part in told.parts], list(zip(starts, sizes)))
+        compare(what + ", superframe", frame, [part[:2] for part in found.parts], list(zip(starts, sizes)))
         for place, section in enumerate(coded):
             wanted = vp9_wanted(section, packet.error if place == len(coded) - 1 else None)
-            compare(what + ", frame of a superframe", frame, told.parts[place][3][:3], wanted)
+            compare(what + ", frame of a superframe", frame, found.parts[place][3][:3], wanted)
 
 
 # ---- AV1 ----
 
-# Those that trace_headers tells of.
+# The fields that trace_headers prints.
 OBU_TYPES = (1, 2, 3, 4, 5, 6, 7, 8, 15)
 # What trace_headers asks for beyond what a reader needs: values for which decoders are not made.
 STRICTER = "(num_units_in_display_tick|time_scale|num_units_in_decoding_tick|chroma_sample_position) out of range"
 
 
 def av1_wanted(packet):
-    """Keyframe and size up to the first frame header, or a fault; None where trace_headers does not tell."""
+    """Keyframe and size up to the first frame header, or a fault; None if trace_headers does not print them."""
     size, reduced = None, False
     for place, section in enumerate(packet.sections):
         error = packet.error if place == len(packet.sections) - 1 else None
@@ -255,7 +255,7 @@ def av1_wanted(packet):
 
 
 def record_wanted(fields):
-    """The first four bytes of av1C (AV1 codec ISO media file format binding, 2.3.3) by what trace_headers tells."""
+    """The first four bytes of av1C (AV1 codec ISO media file format binding, 2.3.3) from the fields of trace_headers."""
     get = lambda name: dict(fields).get(name, 0)
     gray, profile = get("mono_chrome"), get("seq_profile")
     twelve = get("twelve_bit")
@@ -272,24 +272,24 @@ def compare_av1(what, program, frames, folder, reset):
     """Between two of them stands a good unit, since trace_headers keeps the last sequence header."""
     doubled = [unit for frame in frames for unit in (reset, frame)]
     packets = trace(b"AV01", doubled, folder, reset)[1::2]
-    for frame, packet, told in zip(frames, packets, tell(program, AV1, frames)):
+    for frame, packet, found in zip(frames, packets, facts_from(program, AV1, frames)):
         wanted = av1_wanted(packet)
         if wanted is None:
-            counts["not told by trace_headers"] += 1
+            counts["not read by trace_headers"] += 1
             continue
-        compare_facts(what, AV1, frame, told, *wanted)
+        compare_facts(what, AV1, frame, found, *wanted)
         header = next((section.fields for section in packet.sections if section.name == "Sequence Header"), [])
-        if told.records and "film_grain_params_present" in dict(header):
-            status, record = told.records[0]
+        if found.records and "film_grain_params_present" in dict(header):
+            status, record = found.records[0]
             compare(what + ", av1C", frame, (int(status), bytes.fromhex(record)[:4]), (OK, record_wanted(header)))
         headers = [dict(section.fields) for section in packet.sections if section.name == "OBU header"]
         if not packet.error and all(header["obu_has_size_field"] for header in headers):
             types = [header["obu_type"] for header in headers]
-            known = [part[2][0] for part in told.parts if part[2][0] in OBU_TYPES]
-            # An OBU without a size ends what is told here, and one of another type is not told there.
-            behind = frame[sum(told.parts[-1][:2]) :]
+            known = [part[2][0] for part in found.parts if part[2][0] in OBU_TYPES]
+            # An OBU without a size ends the output here, and one of another type is not printed.
+            behind = frame[sum(found.parts[-1][:2]) :]
             end = NONE if not behind or behind[0] & 2 else RESERVED
-            compare(what + ", types of OBUs", frame, (known, told.end), (types, end))
+            compare(what + ", types of OBUs", frame, (known, found.end), (types, end))
 
 
 def compare_record(program, ivf, units, folder):
@@ -299,7 +299,7 @@ def compare_record(program, ivf, units, folder):
     data = path.read_bytes()
     place = data.index(b"av1C")
     size = struct.unpack_from(">I", data, place - 4)[0]
-    record = tell(program, AV1, units[:1])[0].records[0]
+    record = facts_from(program, AV1, units[:1])[0].records[0]
     compare("av1C in MP4", units[0], record, ("0", data[place + 4 : place - 4 + size].hex()))
 
 
@@ -316,13 +316,13 @@ def load(name):
 
 
 def compare_vp8(what, program, frames):
-    """libvpx tells of keyframes with all of their header, and neither of size 0 nor whether the first partition fits."""
+    """libvpx reads keyframes with a complete header; it checks neither a size of 0 nor whether the first partition fits."""
     vpx = load("vpx")
     vpx.vpx_codec_vp8_dx.restype = ctypes.c_void_p
     decoder = ctypes.c_void_p(vpx.vpx_codec_vp8_dx())
-    for frame, told in zip(frames, tell(program, VP8, frames)):
+    for frame, found in zip(frames, facts_from(program, VP8, frames)):
         if len(frame) < 3 or not frame[0] & 1 and len(frame) < 10:
-            compare_facts(what + ", cut", VP8, frame, told, TOO_SHORT)
+            compare_facts(what + ", cut", VP8, frame, found, TOO_SHORT)
             continue
         info = StreamInfo(ctypes.sizeof(StreamInfo))
         answer = vpx.vpx_codec_peek_stream_info(decoder, frame, len(frame), ctypes.byref(info))
@@ -335,20 +335,20 @@ def compare_vp8(what, program, frames):
             continue  # it has a width or a height of 0
         else:
             wanted = (OK, bool(info.is_kf), (info.w, info.h) if info.is_kf else None)
-        compare_facts(what, VP8, frame, told, *wanted)
+        compare_facts(what, VP8, frame, found, *wanted)
 
 
 def compare_opus(what, program, packets):
     opus = load("opus")
     sizes, toc, offset = (ctypes.c_int16 * 48)(), ctypes.c_ubyte(), ctypes.c_int()
     starts = (ctypes.c_void_p * 48)()
-    for packet, told in zip(packets, tell(program, OPUS, packets)):
+    for packet, found in zip(packets, facts_from(program, OPUS, packets)):
         count = opus.opus_packet_parse(packet, len(packet), ctypes.byref(toc), starts, sizes, ctypes.byref(offset))
         if count > 0:
             ticks = opus.opus_packet_get_nb_samples(packet, len(packet), 48000)
-            compare_facts(what, OPUS, packet, told, OK, duration=ticks)
+            compare_facts(what, OPUS, packet, found, OK, duration=ticks)
         else:
-            compare(what + ", refused", packet, (told.status in FAULTS, told.duration), (True, None))
+            compare(what + ", refused", packet, (found.status in FAULTS, found.duration), (True, None))
 
 
 def compare_amr_wb(program, folder):
@@ -361,9 +361,9 @@ def compare_amr_wb(program, folder):
     path.write_bytes(b"#!AMR-WB\n" + b"".join(frames))
     command = ["ffprobe", "-loglevel", "error", "-show_entries", "packet=size", "-of", "csv=p=0", path]
     sizes = [int(line.strip(",")) for line in subprocess.run(command, capture_output=True, text=True).stdout.split()]
-    told = tell(program, AMR_WB, [b"".join(frames)])[0]
-    compare("AMR-WB", b"".join(frames), [part[1] + 1 for part in told.parts], sizes)
-    compare("AMR-WB", b"".join(frames), (told.duration, told.end), (320 * len(sizes), NONE))
+    found = facts_from(program, AMR_WB, [b"".join(frames)])[0]
+    compare("AMR-WB", b"".join(frames), [part[1] + 1 for part in found.parts], sizes)
+    compare("AMR-WB", b"".join(frames), (found.duration, found.end), (320 * len(sizes), NONE))
 
 
 # ---- frames ----
@@ -388,9 +388,9 @@ def compare_real(program, folder):
         for path in sorted(folder.glob(f"{kind}*.ivf")):
             frames = read_hex(folder, path.stem)
             size, packets = probe(path)
-            for frame, told, (length, key) in zip(frames, tell(program, codec, frames), packets, strict=True):
+            for frame, found, (length, key) in zip(frames, facts_from(program, codec, frames), packets, strict=True):
                 compare("ffprobe, size of packets", frame, len(frame), length)
-                compare_facts("ffprobe", codec, frame, told, OK, key, size if key else None)
+                compare_facts("ffprobe", codec, frame, found, OK, key, size if key else None)
 
 
 def hostile(frame, reach):
@@ -421,7 +421,7 @@ def opus_packets():
 def times(program, folder):
     vp8, vp9 = read_hex(folder, "vp8"), read_hex(folder, "vp9")
     av1, opus = read_hex(folder, "av1"), read_hex(folder, "opus_120")
-    header = next(part for part in tell(program, AV1, av1[:1])[0].parts if part[2][0] == 1)
+    header = next(part for part in facts_from(program, AV1, av1[:1])[0].parts if part[2][0] == 1)
     cases = [
         ("VP8 keyframe", VP8, vp8[0]), ("VP8 interframe", VP8, vp8[1]),
         ("VP9 keyframe", VP9, vp9[0]), ("VP9 keyframe", VP9, vp9[0][:200]), ("VP9 keyframe", VP9, vp9[0] + bytes(199000)),

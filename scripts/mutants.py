@@ -1,21 +1,21 @@
 #!/usr/bin/env python3
-"""Tries wrong bodies: each has to be refused by the prover, by the contract of the function that it edits.
+"""Tries mutants: the prover must refuse each, by the contract of the function that it edits.
 
   scripts/mutants.py                     all edits of must-fail/ and mutants/, of every crate
-  scripts/mutants.py CRATE [NAME..]      those of one crate, or those of its edits that are named
+  scripts/mutants.py CRATE [NAME..]      the edits of one crate, or the named ones
   scripts/mutants.py CRATE FILE.edit..   edits from anywhere, applied to that crate
-  scripts/mutants.py --high-impact [CRATE]   those of mutants/high_impact.txt, which would hurt most
+  scripts/mutants.py --high-impact [CRATE]   the edits of mutants/high_impact.txt, the most harmful ones
   scripts/mutants.py --stale             the edits of all crates that cannot be applied, without the prover
 
-An edit is a file with a line 'file: src/x.rt' and pairs of lines 'old: TEXT' and 'new: TEXT'; each old text stands once in
-that file. It is applied to a scratch copy of the crate, over what `rt check` has proved, and the function in which its first
-old text stands is checked, with what that calls. One line is printed for each edit, and the last line has the counts:
+An edit is a file with a line 'file: src/x.rt' and pairs of lines 'old: TEXT' and 'new: TEXT'; each old text occurs once in
+that file. It is applied to a scratch copy of the crate, over the results of `rt check`. The function with its first old text is
+checked, with the functions that it calls. One line is printed for each edit, and the last line has the counts:
 
   refused     a clause was not proved
-  PROVED      the wrong body meets the contract: the contract is too weak
+  PROVED      the mutant meets the contract: the contract is too weak
   BAD EDIT    it cannot be applied, or the edited text does not compile, so no contract was tried
 
-The status is 0 where all were refused. Needs rt, and takes 5 to 20 seconds an edit, and the check of each crate before.
+The status is 0 if all were refused. Needs rt, and takes 5 to 20 seconds per edit, after the check of each crate.
 """
 import glob
 import os
@@ -32,7 +32,7 @@ NAMES_ONLY = re.compile(r"(\./)?proofs/.*(has no field|is not in scope|has no `|
 
 
 def crates():
-    """Each crate of the repository with those that it names in crates.txt."""
+    """Each crate of the repository with the crates that it names in crates.txt."""
     found = {}
     with open(f"{ROOT}/crates.txt", encoding="utf-8") as lines:
         for line in lines:
@@ -67,7 +67,7 @@ def read_edit(path):
 
 
 def function_at(file, text, place):
-    """The path of the function that stands at a place of a file, or of the module where none does."""
+    """The path of the function at a place of a file, or of the module if there is none."""
     module = re.sub(r"^src/|(/lib|/main)?\.rt$", "", file).replace("/", "::")
     module = "" if module in ("lib", "main") else module
     before = text[:place]
@@ -117,7 +117,7 @@ def check(folder, function):
 
 
 def judge(folder, function):
-    """What came of a check of the edited crate: one of the three words, and the first thing that was said."""
+    """The outcome of a check of the edited crate: one of the three words, and the first message."""
     status, said = check(folder, function)
     if function and re.search(r"fits (nothing|no function|several)|has no function", said):
         status, said = check(folder, "")
@@ -186,7 +186,7 @@ def print_stale():
         missing = set(telling(crate)) - {os.path.basename(it).removesuffix(".edit") for it in edits_of(crate)}
         for name in sorted(missing):
             count += 1
-            print(f"mutants/high_impact.txt: there is no {crate}/{name}")
+            print(f"mutants/high_impact.txt: {crate}/{name} does not exist")
         for edit in edits_of(crate):
             texts, why = apply(read_edit(edit), f"{ROOT}/crates/{crate}")
             if texts is None:

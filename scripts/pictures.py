@@ -8,12 +8,14 @@
                      runs through the program payload_vectors
   crates             the crates, and which names which, by crates.txt
   over_a_copy        time over that of a copy, a dot a case, by the tables of docs/PERFORMANCE.md
+  beside             time over that of str0m, by a table of docs/PERFORMANCE.md, and the recorder beside GStreamer, by its README
+  receiver_life      a receiver from its first packet to its end: what arrives, what it reports, what the caller does
   copies             where the bytes of a frame are copied
   descriptors        the bytes in front of a frame's: VP8, VP9, AV1 and RED, by their RFCs
 
 Needs matplotlib and graphviz: apt-get install python3-matplotlib graphviz. The same sources give the same bytes, on one version
-of both. Strokes and letters are of a tone that reads on white and on black. Each file tells of what it was made, by a digest of
-its data and of this script, which scripts/documents.py compares.
+of both. Each file has two sets of colours, for light and for dark pages; the reader's browser chooses. The last line of a file is
+a digest of its data and of this script, which scripts/documents.py compares.
 """
 import hashlib
 import io
@@ -26,8 +28,9 @@ import program_vectors
 
 ROOT = os.path.dirname(os.path.dirname(os.path.realpath(__file__)))
 FOLDER = f"{ROOT}/docs/pictures"
-# Tones with a contrast of about 4 to both white and black.
-INK, FAINT, BLUE, ORANGE, GREEN, RED = "#767676", "#8f8f8f", "#2f7fc1", "#b8660b", "#3c8a3c", "#d0453e"
+# The colours on a light page, and for each the one on a dark page.
+INK, FAINT, BLUE, ORANGE, GREEN, RED = "#3a3f45", "#6e757d", "#1f6fb2", "#a85a00", "#2c7a2c", "#c0342c"
+DARK = {INK: "#d5dae0", FAINT: "#9aa2ab", BLUE: "#6cb2f0", ORANGE: "#f0a44e", GREEN: "#74c774", RED: "#ff8079"}
 
 
 def read(path):
@@ -41,12 +44,29 @@ def rows_of_figures():
     return re.findall(r"^\| `([\w-]+)` \| [\d.]+ \| ([\d.]+) \| [\d.]+ \| ([\d.]+) \|$", "\n".join(tables), re.M)
 
 
+def rows_beside():
+    """Each case of docs/PERFORMANCE.md with the ratios of its calls to those of str0m."""
+    return re.findall(r"^\| (\w[\w. ]*, [\d,]+ bytes) \|(?: [\d,.]+ \|){2} ([\d.]+) \|(?: [\d,.]+ \|){2} ([\d.]+) \|$",
+                      read("docs/PERFORMANCE.md"), re.M)
+
+
+def rows_of_recorder():
+    """Programs over one capture, each with its packets a second of processor time, by the recorder's README."""
+    return re.findall(r"^\| ([^|]+) \| ([\d,]+) \| [\d.]+ s \| [\d.]+ s \|$", read("tools/rtp_record/README.md"), re.M)
+
+
+def rows_into():
+    """Each case of docs/PERFORMANCE.md with the ratio of packetize_into to a plain memcpy."""
+    return dict(re.findall(r"^\| `([\w-]+)` \| [\d.]+ \| [\d.]+ \| ([\d.]+) \| [\d.]+ \|$", read("docs/PERFORMANCE.md"), re.M))
+
+
 def made_of(name):
-    """The line at the end of a picture that tells of what it was made."""
+    """The last line of a picture: a digest of its data and of this script."""
     data = {
         "units_under_loss": lambda: repr(program_vectors.UNDER_LOSS),
         "crates": lambda: read("crates.txt"),
-        "over_a_copy": lambda: repr(rows_of_figures()),
+        "over_a_copy": lambda: repr((rows_of_figures(), rows_into())),
+        "beside": lambda: repr((rows_beside(), rows_of_recorder())),
     }.get(name, lambda: "")()
     digest = hashlib.sha256(f"{read('scripts/pictures.py')}{data}".encode()).hexdigest()[:16]
     return f"<!-- made of {digest} by scripts/pictures.py -->\n"
@@ -66,7 +86,18 @@ def plotting():
     return pyplot
 
 
+def themed(text):
+    """A picture with a style sheet that replaces each colour on a dark page."""
+    rules = []
+    for light, dark in DARK.items():
+        for what in ("fill", "stroke"):
+            rules.append(f'[{what}="{light}"], [style*="{what}: {light}"] {{ {what}: {dark} !important }}')
+    style = "<style>@media (prefers-color-scheme: dark) {\n" + "\n".join(rules) + "\n}</style>\n"
+    return re.sub(r"(<svg\b[^>]*>\n)", lambda found: found[1] + style, text, count=1)
+
+
 def write(name, text):
+    text = themed(text)
     with open(f"{FOLDER}/{name}.svg", "w", encoding="utf-8") as it:
         it.write(text + made_of(name))
     print(f"docs/pictures/{name}.svg: {len(text)} bytes")
@@ -122,7 +153,7 @@ def played():
 def units_under_loss():
     pyplot = plotting()
     sent, steps, lost = played()
-    figure, axes = bare(pyplot, 92, 11 + 4.4 * len(steps))
+    figure, axes = bare(pyplot, 92, 16 + 4.4 * len(steps))
     colors, unit = {}, 0
     for words in sent:
         colors[int(words[1])] = (BLUE, ORANGE, GREEN)[unit]
@@ -134,7 +165,7 @@ def units_under_loss():
         if number in lost:
             axes.plot([left, left + 5], [0.6, 3.8], color=RED, linewidth=2)
             axes.plot([left, left + 5], [3.8, 0.6], color=RED, linewidth=2)
-    axes.text(53, 2.2, f"three units of two packets; {lost[0]} is lost", va="center")
+    axes.text(53, 2.2, f"three units of two packets; {lost[0]} is lost; hold_back 0", va="center")
     axes.plot([1, 91], [6, 6], color=FAINT, linewidth=0.8)
     for left, title in ((1, "step"), (18, "held afterwards"), (53, "the pop answers")):
         axes.text(left, 8, title, va="center", weight="bold")
@@ -150,6 +181,9 @@ def units_under_loss():
             axes.text(68, top + 1.6, "contiguous" if answer[3] == "1" else "not contiguous", va="center")
         elif answer:
             axes.text(53, top + 1.6, "None", va="center", color=FAINT)
+    axes.text(1, 12.4 + 4.4 * len(steps), "hold_back 0: a complete frame after a gap is due at once. With hold_back n it is due once more than n complete\n"
+              "frames are held, and until then a pop answers None, so a late packet still finds its frame.", va="center", color=FAINT,
+              fontsize=9.5)
     keep("units_under_loss", figure)
 
 
@@ -182,18 +216,21 @@ def over_a_copy():
     axes.axvline(1, color=FAINT, linewidth=1)
     for column, color, marker, name in ((1, BLUE, "o", "packetize, RED wrap"), (2, ORANGE, "D", "depacketize, RED decode")):
         axes.scatter([float(it[column]) for it in rows], places, color=color, marker=marker, s=34, label=name, zorder=3)
+    into = [(float(rows_into()[it[0]]), place) for place, it in enumerate(rows) if it[0] in rows_into()]
+    axes.scatter([it[0] for it in into], [it[1] for it in into], color=GREEN, marker="|", s=60, label="packetize_into, over memcpy", zorder=3)
     axes.set_yticks(list(places), [it[0] for it in rows], family="monospace", fontsize=9)
     axes.invert_yaxis()
     axes.set_xscale("log", base=2)
-    axes.set_xticks([0.5, 1, 2, 4], ["0.5", "1: a copy of the payloads", "2", "4"])
-    axes.set_xlim(0.45, 6.2)
+    axes.set_xticks([0.5, 1, 2, 4, 8, 16], ["0.5", "1: a copy", "2", "4", "8", "16"])
+    axes.set_xlim(0.45, 22)
     axes.grid(axis="y", color=FAINT, alpha=0.35, linewidth=0.6)
     axes.set_axisbelow(True)
     for side in ("top", "right", "left"):
         axes.spines[side].set_visible(False)
     axes.tick_params(axis="y", length=0)
-    axes.set_title("time of a call over that of a copy: Intel Xeon, 2026-11-24, commit 2bbb441", fontsize=10)
-    axes.legend(loc="center right", frameon=False, fontsize=10)
+    axes.set_title("time of a call over that of a copy, which allocates the payloads and copies them, or of memcpy alone\n"
+                   "Intel Xeon, 2026-11-24, commit 2bbb441", fontsize=10)
+    axes.legend(loc="lower right", frameon=False, fontsize=10)
     keep("over_a_copy", figure)
 
 
@@ -207,8 +244,8 @@ def copies():
     figure, axes = bare(pyplot, 104, 42)
     copy, lent = ORANGE, FAINT
     for top, title, parts in (
-        (3, "sending", (("sample", "a slice of the caller's"),
-                        ("payloads", "a Vec each, or of packetize_into\none memory that is used again"),
+        (3, "sending", (("sample", "a slice of the caller"),
+                        ("payloads", "a Vec each; packetize_into uses\none memory again and again"),
                         ("packet", "the sink takes the Vec by value,\na sender writes its header in place"))),
         (17, "receiving", (("payload", "push takes it by value"), ("held packet", "stays where it is"),
                            ("unit", "one Vec, with room\nfor all payloads"))),
@@ -222,17 +259,18 @@ def copies():
     arrow(axes, 62.3, 78.7, 7.5, lent, "not copied")
     arrow(axes, 23.3, 39.7, 21.5, lent, "not copied")
     arrow(axes, 62.3, 78.7, 21.5, copy, "copied once", 1.3)
-    axes.text(1, 30, "besides", weight="bold", va="center")
+    axes.text(1, 30, "also", weight="bold", va="center")
     for place, said in enumerate((
-        "RED: wrap copies the payload into what is sent, with each older payload that is repeated there",
-        "AV1: what goes on in the next packet is copied once more, but for its last piece",
-        "the library for C copies once more on each way: a payload into a buffer, a packet or a unit to the caller",
+        "RED: wrap copies the payload into the packet, and each older payload that the packet repeats",
+        "AV1: an element that continues in the next packet is copied once more, except its last fragment",
+        "the library for C copies once more in each direction: a payload into a buffer, a packet or a unit to the caller",
     )):
         axes.text(2.5, 33 + 2.8 * place, f"· {said}", va="center", fontsize=10)
     keep("copies", figure)
 
 
-# Rows of bytes: each byte is a list of fields from the highest bit on, with the number of their bits.
+# Rows of bytes: each byte is a list of fields from the highest bit on, each with its number of bits. Then the condition of each
+# byte, and the meaning of the letters.
 DESCRIPTORS = (
     ("VP8 (RFC 7741, section 4.2)", (
         [("X", 1), ("R", 1), ("N", 1), ("S", 1), ("R", 1), ("PID", 3)],
@@ -241,7 +279,11 @@ DESCRIPTORS = (
         [("picture id, low", 8)],
         [("TL0PICIDX", 8)],
         [("TID", 2), ("Y", 1), ("KEYIDX", 5)],
-    ), ("always", "if X", "if I", "if M", "if L", "if T or K")),
+    ), ("always", "if X", "if I", "if M", "if L", "if T or K"), (
+        "X the second byte follows; N no frame refers to this one; S a partition starts",
+        "PID partition; I, L, T, K: picture id, TL0PICIDX, TID, KEYIDX follow; M 15-bit id",
+        "TID temporal layer; Y refers to the base layer only; KEYIDX latest keyframe; R, RSV 0",
+    )),
     ("VP9 (RFC 9628, section 4.2)", (
         [("I", 1), ("P", 1), ("L", 1), ("F", 1), ("B", 1), ("E", 1), ("V", 1), ("Z", 1)],
         [("M", 1), ("picture id", 7)],
@@ -250,28 +292,38 @@ DESCRIPTORS = (
         [("TL0PICIDX", 8)],
         [("P_DIFF", 7), ("N", 1)],
         [("scalability structure", 8)],
-    ), ("always", "if I", "if M", "if L", "if L, not F", "if F and P: 1 to 3", "if V")),
+    ), ("always", "if I", "if M", "if L", "if L, not F", "if F and P: 1 to 3", "if V"), (
+        "I picture id; P refers to other pictures; L layer indices; F flexible mode; B, E first,",
+        "last packet of a layer frame; V structure; Z upper layers do not need it; M 15-bit id; TID,",
+        "SID temporal, spatial layer; U may switch up; D needs the layer below; N another P_DIFF",
+    )),
     ("AV1 (aggregation header)", (
         [("Z", 1), ("Y", 1), ("W", 2), ("N", 1), ("–", 3)],
         [("length, 7 bits a byte (LEB128)", 8)],
-        [("OBU, or a part of one", 8)],
-    ), ("always", "of each, but the last if W", "for each element")),
+        [("OBU, or a fragment of one", 8)],
+    ), ("always", "of each, but the last if W", "for each element"), (
+        "Z the first element continues an OBU; Y the last one continues in the next packet",
+        "W number of elements, 0 for any; N a coded video sequence starts",
+    )),
     ("RED (RFC 2198, section 3)", (
-        [("1", 1), ("payload type", 7)],
+        [("F=1", 1), ("payload type", 7)],
         [("offset, high 8 of 14 bits", 8)],
         [("offset, low", 6), ("length", 2)],
         [("length, low 8 of 10 bits", 8)],
-        [("0", 1), ("payload type", 7)],
+        [("F=0", 1), ("payload type", 7)],
         [("older blocks, then the primary", 8)],
-    ), ("for each older block", "", "", "", "of the primary block", "")),
+    ), ("for each older block", "", "", "", "of the primary block", ""), (
+        "F 1: another header follows; 0: this is the last one; offset: how much older the block",
+        "is, in ticks of the RTP clock; length: bytes of the block",
+    )),
 )
 
 
 def descriptors():
     pyplot = plotting()
-    figure, axes = bare(pyplot, 104, 56)
-    for number, (title, rows, when) in enumerate(DESCRIPTORS):
-        left, top = 1 + 53 * (number % 2), 2 + 30 * (number // 2)
+    figure, axes = bare(pyplot, 112, 76)
+    for number, (title, rows, when, words) in enumerate(DESCRIPTORS):
+        left, top = 1 + 57 * (number % 2), 2 + 39 * (number // 2)
         axes.text(left, top, title, weight="bold", va="center", fontsize=11)
         for bit in range(8):
             axes.text(left + 1.75 + 3.5 * bit, top + 2.6, str(bit), ha="center", va="center", fontsize=8, color=FAINT)
@@ -283,10 +335,74 @@ def descriptors():
                 axes.text(at + 1.75 * bits, row + 1.6, name, ha="center", va="center", color=color, fontsize=9.5)
                 at += 3.5 * bits
             axes.text(left + 29, row + 1.6, when[place], va="center", fontsize=9, color=FAINT)
+        for place, line in enumerate(words):
+            axes.text(left, top + 6 + 3.2 * len(rows) + 2.2 * place, line, va="center", fontsize=8.5)
     keep("descriptors", figure)
 
 
-PICTURES = {it.__name__: it for it in (units_under_loss, crates, over_a_copy, copies, descriptors)}
+def beside():
+    pyplot = plotting()
+    rows, programs = rows_beside(), rows_of_recorder()
+    figure, (above, below) = pyplot.subplots(2, 1, figsize=(8.4, 5.6), height_ratios=(len(rows), len(programs) + 1))
+    places = range(len(rows))
+    above.axvline(1, color=FAINT, linewidth=1)
+    for column, color, marker, name in ((1, BLUE, "o", "packetize"), (2, ORANGE, "D", "depacketize")):
+        above.scatter([float(it[column]) for it in rows], places, color=color, marker=marker, s=34, label=name, zorder=3)
+    above.set_yticks(list(places), [it[0] for it in rows], fontsize=9)
+    above.invert_yaxis()
+    above.set_xlim(0, 1.4)
+    above.set_xticks([0, 0.25, 0.5, 0.75, 1, 1.25], ["0", "0.25", "0.5", "0.75", "1: str0m", "1.25"])
+    above.grid(axis="y", color=FAINT, alpha=0.35, linewidth=0.6)
+    above.set_title("time of a call over that of str0m 0.25.0 (to the left: faster)", fontsize=10)
+    above.legend(loc="upper left", frameon=False, fontsize=10)
+    counts = [int(it[1].replace(",", "")) / 1000 for it in programs]
+    below.barh([it[0].replace("`", "") for it in programs], counts, color=[FAINT, BLUE, BLUE, ORANGE][: len(counts)], height=0.6)
+    for place, count in enumerate(counts):
+        below.text(count + 15, place, f"{count:,.0f}", va="center", fontsize=9)
+    below.invert_yaxis()
+    below.tick_params(axis="y", length=0, labelsize=9)
+    below.set_title("thousands of packets a second of processor time, a capture of VP8 (to the right: faster)", fontsize=10)
+    for axes in (above, below):
+        axes.set_axisbelow(True)
+        axes.tick_params(axis="y", length=0)
+        for side in ("top", "right", "left"):
+            axes.spines[side].set_visible(False)
+    figure.tight_layout(h_pad=2)
+    keep("beside", figure)
+
+
+# The phases of a receiver's life: the name, the packets with their colours, the outcome, the units, and the caller's part.
+PHASES = (
+    ("start", (("7", FAINT), ("8", BLUE)), "Undecided for 7,\nHeld once 8 follows", "the first one, once a\nsecond frame is complete", "settings without\nan SSRC"),
+    ("running", (("9", BLUE), ("10", BLUE), ("11", BLUE)), "Held", "each complete frame,\ncontiguous", "receive, then pop\nuntil no unit is due"),
+    ("loss", (("12", RED), ("13", ORANGE), ("14", ORANGE)), "Held for 13 and 14", "waits for 12, at most\nmax_wait (100 ms)", "NACK by `missing`,\nor RED brings 12"),
+    ("after a gap", (("15", ORANGE), ("16", ORANGE)), "Held", "not contiguous:\na keyframe is needed", "PLI; drop frames\nuntil a keyframe"),
+    ("restart", (("40500", GREEN), ("40501", GREEN)), "Suspect for 40500,\nRestarted for 40501", "frames of both\nsequences, in order", "nothing: the receiver\nfinds it"),
+    ("end", (("40502", GREEN),), "Held", "all complete frames,\nwithout waiting", "finish, then pop\nuntil None"),
+)
+
+
+def receiver_life():
+    pyplot = plotting()
+    figure, axes = bare(pyplot, 121, 27)
+    for top, title in ((2.4, ""), (8, "arrives"), (13.4, "outcome"), (18.4, "units"), (23.4, "you")):
+        axes.text(1, top, title, va="center", weight="bold")
+    for place, (name, packets, outcome, units, calls) in enumerate(PHASES):
+        left = 11 + 18.4 * place
+        box(axes, left, 0.8, 15.4, 3.2, name, weight="bold")
+        if place + 1 < len(PHASES):
+            arrow(axes, left + 15.7, left + 18.1, 2.4)
+        for number, (packet, color) in enumerate(packets):
+            box(axes, left + 5.2 * number, 6.4, 4.6, 3.2, packet, color=color, fontsize=9 if len(packet) > 3 else 11)
+            if color == RED:
+                axes.plot([left + 5.2 * number, left + 5.2 * number + 4.6], [6.4, 9.6], color=RED, linewidth=2)
+        for top, text in ((13.4, outcome), (18.4, units), (23.4, calls.replace("`", ""))):
+            axes.text(left, top, text, va="center", fontsize=9)
+    axes.plot([1, 120], [11.2, 11.2], color=FAINT, linewidth=0.8)
+    keep("receiver_life", figure)
+
+
+PICTURES = {it.__name__: it for it in (units_under_loss, crates, over_a_copy, beside, receiver_life, copies, descriptors)}
 
 
 def main(words):

@@ -1,9 +1,9 @@
 #!/usr/bin/env python3
-"""Runs payload_vectors and payload_datagrams as processes: every row of program_vectors.py and datagram_vectors.py on a stack of 64
-kilobytes, and of the first streams that fail.
+"""Runs payload_vectors and payload_datagrams as processes: every test vector of program_vectors.py and datagram_vectors.py on a stack of
+64 kilobytes, and for payload_vectors streams that fail.
 
-Needs rt, which proves and builds the programs first. The last line says how many runs went as promised; the status is 0 where all
-did.
+Needs rt, which proves and builds the programs first. The last line says how many runs were right; the status is 0 if all
+were.
 """
 import os
 import resource
@@ -32,6 +32,8 @@ FAILED = b"input or output failed\n"
 
 def build(name):
     crate = os.path.join(CRATES, name)
+    if subprocess.run([os.path.join(os.path.dirname(CRATES), "scripts", "rt_free.py")], check=False).returncode != 0:
+        sys.exit("another rt works in this copy")
     with open(f"{crate}/stdin", "rb") as given:
         ran = subprocess.run(["rt", "run"], cwd=crate, stdin=given, stdout=subprocess.PIPE, stderr=subprocess.STDOUT, check=False)
     if ran.returncode != 0:
@@ -43,13 +45,13 @@ def small_stack():
 
 
 def short_files():
-    """Files end after eight bytes, and a write behind that is an error and no signal."""
+    """Files end after eight bytes, and a write after that is an error and not a signal."""
     signal.signal(signal.SIGXFSZ, signal.SIG_IGN)
     resource.setrlimit(resource.RLIMIT_FSIZE, (8, 8))
 
 
 def rows(name):
-    """What each row of a program should be, and what it is."""
+    """Compares the expected and the actual result of each test vector of a program."""
     for row in ROWS[name]:
         given = row.given.encode() if isinstance(row.given, str) else row.given
         ran = subprocess.run([built(name)], input=given, capture_output=True, preexec_fn=small_stack, check=False)
@@ -58,7 +60,7 @@ def rows(name):
 
 
 def fails_at_a_read(text):
-    """The standard input gives a text, and the read behind it fails: the peer was closed with something unread."""
+    """The standard input gives a text, and the read after it fails: the peer was closed with unread bytes."""
     near, far = socket.socketpair()
     far.send(b"?")
     near.sendall(text)

@@ -1,4 +1,4 @@
-"""Inputs of the program payload_vectors, each with what it prints and how it ends.
+"""Inputs of the program payload_vectors, each with its output and status.
 
 The outputs are worked out by the RFCs of the formats and the rules of the buffer in docs/FORMATS.md. scripts/process.py runs them
 through the program, and c/inputs.py gives the same inputs to the library for C.
@@ -21,7 +21,7 @@ class Row(NamedTuple):
 
 
 def bad(name, given, line):
-    """An input that ends with a bad line of that number and prints nothing else."""
+    """An input that ends with a bad line with that number and prints nothing else."""
     return Row(name, given, "", 2, f"bad line {line}\n")
 
 
@@ -38,7 +38,8 @@ RUNS = [
         "codec tele 8000 0 1 0\nsample 0 0 058a032006\nsend 0 1200\npush 0\npop\npop\n",
         "sent 1\npacket 1 0 058a032006\nfault 15\nnone\n",
     ),
-    # At an MTU below 9 the second frame is skipped. It has used a TL0PICIDX, so the unit behind it does not follow the first.
+    # At an MTU below 9 the second frame is skipped. It has used a TL0PICIDX, so the unit after it is not contiguous with the
+    # first.
     Row(
         "VP9: a frame that is skipped",
         "codec vp9 90000 0 1 0\nsample 0 0 824983\nsample 3000 0 8600\nsend 0 1200\nsend 1 8\nsend 1 1200\npush 0\npush 1\n"
@@ -132,7 +133,7 @@ LIMITS = [
     ]
 ]
 
-# Three units of two packets each, of which packet 11 comes behind 12, and 13 does not come. docs/PROGRAM.md has it, and
+# Three units of two packets each; packet 11 arrives after 12, and packet 13 is lost. docs/PROGRAM.md has it, and
 # scripts/pictures.py draws it.
 UNDER_LOSS = Row(
     "three units, a packet lost and one late",
@@ -142,8 +143,8 @@ UNDER_LOSS = Row(
     "sent 2\npacket 14 0 109292\npacket 15 1 0092\nnone\nnone\nunit 10 11 1 909090\nnone\nunit 14 15 0 929292\nnone\n",
 )
 
-# Two packets of three and two bytes, 960 ticks apart, of which the second comes: with the first in it, it has 10 bytes. The
-# number of the first is told by the step.
+# Two packets of three and two bytes, 960 ticks apart; the second arrives. With the first inside, it has 10 bytes. The step
+# gives the number of the first.
 FIRST_ALONE = "sent 1\npacket 7 0 60010203\nsent 1\npacket 8 0 600405\n"
 WITH_FIRST = "sent 1\npacket 7 0 60010203\nsent 1\npacket 8 0 e00f0003600102030405\n"
 REDS = [
@@ -217,7 +218,7 @@ BAD_SETUPS = [
     "codec vp9-flex 90000 0 10 32768\n",
 ]
 
-# Behind the line with the codec; without a newline at its end a line is bad as well.
+# After the line with the codec; a line without a newline at its end is bad as well.
 BAD_SECOND_LINES = [
     "codec opus 48000 0 10 0\n",
     "pop",

@@ -1,7 +1,7 @@
 #!/bin/sh
 # Refuses each allocation of the library's calls in turn, and checks what then comes. Three programs are run:
 #
-# - `payload_vectors`, on its stored input, on one input of each other codec, and on one with RED: it gives the whole output
+# - `payload_vectors`, on its stored input, on one input of each other codec, and on one with RED: it prints the whole output
 #   with status 0, or only the line `out of memory` on standard error, with status 1.
 # - `tools/refused` over the proved library for C, and `payload_hostile` for sinks, payloaders and runs, which C does not have,
 #   once for each call that allocates: it prints the full right answer, or fault 17, and how things are after it; the tables
@@ -19,6 +19,7 @@ hostile=$root/crates/payload_hostile
 work=$(mktemp -d)
 trap 'rm -rf "$work"' EXIT
 
+"$root/scripts/rt_free.py" || exit 1
 for crate in "$vectors" "$hostile"; do
     (cd "$crate" && rt run <stdin >"$work/built" 2>"$work/messages") || {
         cat "$work/messages" >&2
@@ -109,7 +110,7 @@ other_than_promised() {
     cat "$work/output" "$work/errors"
 }
 
-# Whether no refusal of $1 was told, which cannot be.
+# Whether no refusal of $1 was reported, which cannot be.
 none_told() {
     [ "$told" -gt 0 ] || {
         echo "$1: no refused allocation was told"
@@ -143,9 +144,9 @@ refuse_each() {
     echo "$3: $((number - 1)) allocations refused"
 }
 
-# Refuses each allocation of the call $1, which prints $2 with all memory, and one of the lines of $3, which are joined by
-# `|`, where it answers fault 17; there is none where the call takes no memory. With all memory the program makes at most $4 allocations: those of the call, and those by
-# which it prepares the call and prints what is right, which stay the same.
+# Refuses each allocation of the call $1, which prints $2 with all memory. After fault 17 it prints one of the lines of $3,
+# which are joined by `|`; $3 is empty if the call does not allocate. With all memory the program makes at most $4 allocations:
+# those of the call, and a constant number that prepare the call and print the result.
 refuse_call() {
     number=1
     told=0
@@ -214,7 +215,7 @@ refuse_codec vp9-flex 824983 5 1
 refuse_codec av1 12000a01aa3202bbcc 3 2
 refuse_codec null 909090 0 0
 
-# Two packets of Opus in RED, of which only the second comes, which repeats the first.
+# Two packets of Opus in RED; only the second arrives, and it repeats the first.
 cat >"$work/input" <<'END'
 codec opus 8000 0 1 0
 red 160 1200 1
@@ -233,9 +234,9 @@ grep -q '^unit 1 1 1 9090$' "$work/whole" || {
 }
 refuse_each "$work/input" "$work/whole" "opus in RED"
 
-# Each call of the library for C, how many allocations there are at most, what it prints with all memory, and what it may print
-# after fault 17. `packetize` cuts a frame twice, and `depacketize` reads a payload after those before it, and after a fault once
-# more; each of the others is told in tools/refused. What is after "then" is made with all memory.
+# Each call of the library for C, the most allocations that it makes, its output with all memory, and its possible outputs after
+# fault 17. `packetize` cuts a frame twice, and `depacketize` reads a payload after the earlier ones, and after a fault once
+# more; tools/refused describes the others. The part after "then" runs with all memory.
 program=$work/calls
 input=$work/nothing
 while IFS='|' read -r name most whole after; do

@@ -8,7 +8,8 @@
 # - rustfmt, clippy and rustdoc have nothing to say, and all tests pass, with and without the feature `fallible`; the crate builds
 #   without `std`.
 # - The eraser refuses each plant of tools/eraser/plants.py.
-# - The package builds by itself, and each example ends well; docs/LIMITS.md has the table that examples/waiting.rs prints.
+# - The package builds by itself, and each example ends well; docs/LIMITS.md has the tables that examples/waiting.rs and restarts.rs
+#   print.
 # - The erased programs answer each test vector of the proved programs (scripts/rust_programs.py 0; scripts/test.sh compares random
 #   scripts once the programs are proved).
 #
@@ -45,14 +46,16 @@ RUSTDOCFLAGS="-D warnings" step cargo doc --quiet --no-deps
 for example in examples/*.rs; do
     step cargo run --quiet --example "$(basename "$example" .rs)"
 done
-# The table of docs/LIMITS.md is what the example prints.
-step cargo run --quiet --example waiting
-while read -r row; do
-    grep -qxF -- "$row" "$root/docs/LIMITS.md" || {
-        echo "rust: docs/LIMITS.md lacks this row of examples/waiting.rs: $row"
-        exit 1
-    }
-done <"$work/log"
+# The tables of docs/LIMITS.md are what the examples print.
+for example in waiting restarts; do
+    step cargo run --quiet --example $example
+    while read -r row; do
+        grep -qxF -- "$row" "$root/docs/LIMITS.md" || {
+            echo "rust: docs/LIMITS.md lacks this row of examples/$example.rs: $row"
+            exit 1
+        }
+    done <"$work/log"
+done
 step "$root/scripts/rust_programs.py" 0
 programs=$(tail -n 1 "$work/log")
 if [ "${1:-}" != quick ]; then

@@ -16,7 +16,7 @@ ROOT = os.path.dirname(os.path.dirname(os.path.realpath(__file__)))
 SPEED = f"{ROOT}/tools/speed"
 CASES = [("opus", 120), ("VP8", 1_000), ("VP8", 20_000), ("VP9", 1_000), ("VP9", 20_000), ("AV1", 1_000), ("AV1", 20_000)]
 CALLS = ["packetize", "packetize_into", "depacketize"]
-# The rounds of tools/speed, each of as many calls.
+# The rounds of tools/speed, each with this many calls.
 ROUNDS = 12
 
 

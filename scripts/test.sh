@@ -1,15 +1,16 @@
 #!/bin/sh
-# The test command: the proofs with all that rt runs beside them, and then each script that tests what they build.
+# The test command: the proofs with everything that rt runs beside them, and then each script that tests the results.
 #
 #   scripts/test.sh              all of it
 #   scripts/test.sh --no-proofs  the scripts alone, over what was proved before
 #
-# Needs rt, a C and a C++ compiler, make, binutils, pkg-config, Python 3, cargo and valgrind; what is missing of Debian's packages is
-# installed where that may be done, and else named before anything starts. debhelper, lintian and doxygen are looked for
-# in the same way; without them no Debian packages and manual pages are made. So are gcc-aarch64-linux-gnu with qemu-user, without
-# which the library for C is tested natively alone, and abigail-tools, without which its ABI is not compared. Without libpcap, libavformat and ffmpeg the recorder
-# is not tested; without ffmpeg what frames say is not compared with other readers; without Debian's packages of crates and the
-# runtime of libFuzzer rust-extras and tools/fuzz are not. The last line is `N passed, N failed`; the status is 0 if nothing failed.
+# Needs rt, a C and a C++ compiler, make, binutils, pkg-config, Python 3, cargo and valgrind. Missing Debian packages are
+# installed if that is allowed, and otherwise named before anything starts. The same applies to debhelper, lintian and doxygen;
+# without them no Debian packages and manual pages are made. Without gcc-aarch64-linux-gnu and qemu-user the library for C is
+# only tested natively; without abigail-tools its ABI is not compared; without libpcap, libavformat and ffmpeg the recorder is
+# not tested. Without ffmpeg the headers of frames are not compared with other readers; without Debian's packages of crates and
+# the runtime of libFuzzer, rust-extras and tools/fuzz are not tested. The last line is `N passed, N failed`; the status is 0 if
+# nothing failed.
 set -u
 
 root=$(cd "$(dirname "$0")/.." && pwd)
@@ -19,7 +20,7 @@ trap 'rm -rf "$work"' EXIT
 passed=0
 failed=0
 
-# wants PACKAGE COMMAND..: installs the package where a command is missing
+# wants PACKAGE COMMAND..: installs the package if a command is missing
 wants() {
     package=$1
     shift
@@ -91,9 +92,11 @@ runs scripts/mutants.py --stale
 runs scripts/documents.py --quick
 runs scripts/check_header.py
 runs scripts/rust.sh
+runs scripts/toy_codec.sh
 early_passed=$passed
 early_failed=$failed
 if [ "${1:-}" != --no-proofs ]; then
+    scripts/rt_free.py || exit 1
     rt ci 2>&1 | tee "$work/proofs"
     counts=$(tail -n 1 "$work/proofs")
     set -- $(printf '%s\n' "$counts" | sed -n 's/^\([0-9]*\) passed, \([0-9]*\) failed.*/\1 \2/p') '' ''

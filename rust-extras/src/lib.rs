@@ -9,7 +9,7 @@ use codec_payload::{
 ///
 /// # Errors
 ///
-/// Those of [`Packetizer::packetize`].
+/// The errors of [`Packetizer::packetize`].
 pub fn packetize(
     packetizer: &mut dyn Packetizer,
     mtu: usize,
@@ -26,7 +26,7 @@ pub fn packetize(
 ///
 /// # Errors
 ///
-/// Those of [`DepacketizingBuffer::push`].
+/// The errors of [`DepacketizingBuffer::push`].
 pub fn push<B: Depacketizer>(
     buffer: &mut DepacketizingBuffer<B>,
     meta: RtpMeta,

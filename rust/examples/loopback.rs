@@ -1,5 +1,5 @@
 //! Sends 500 frames of VP8 over UDP on the loopback interface. One datagram in twenty is lost, and one in twenty arrives twice.
-//! Prints what was received:
+//! Prints the received frames:
 //!
 //! ```sh
 //! cargo run --example loopback
@@ -28,7 +28,7 @@ impl Chance {
     }
 }
 
-/// What was received.
+/// The received frames.
 #[derive(Default)]
 struct Received {
     frames: u64,

@@ -1,63 +1,73 @@
-//! NACK loop: requests missing packets and stores the retransmissions (RFC 4585, section 6.2.1), over a simulated network that loses
-//! 10 % and takes 20 ms each way. It fails unless every frame arrives:
+//! NACK loop: the receiver requests missing packets and stores the retransmissions (RFC 4585, section 6.2.1), and the sender resends
+//! them from its history, over a simulated network that loses 10 % and takes 20 ms each way. It fails unless every frame arrives:
 //!
 //! ```sh
 //! cargo run --example nack
 //! ```
 //!
-//! - Request each missing number once per round-trip time, at most `TRIES` times.
+//! - Request each missing number once per round-trip time, at most `TRIES` times (`NackSchedule`).
 //! - Set `max_wait` to twice the round-trip time and 100 ms more (`WaitLimits::for_round_trip`). If it is below the round-trip time,
 //!   frames are released without the packets that were requested.
 //! - Stop at the cutoff: `missing` no longer reports numbers whose frames were released or discarded.
 //! - A retransmission under its own SSRC and payload type (RFC 4588) needs `ReceiverSettings::retransmission`. One under the stream's
 //!   own SSRC needs nothing.
 
+use codec_payload::history::{History, HistorySettings, Request, Resent, read_requests};
 use codec_payload::jitter::WaitLimits;
-use codec_payload::rtcp::{Nack, pack_numbers};
+use codec_payload::requests::{NackSchedule, NackSettings};
+use codec_payload::rtcp::{CompoundRule, Nack, pack_numbers};
 use codec_payload::sender::{Sample, Sender, SenderSettings};
 use codec_payload::stream::{Receiver, ReceiverSettings};
 use codec_payload::{
     Codec, CodecDepacketizer, CodecPacketizer, ExtensionValues, Frequency, MediaTime, Ticks,
 };
-use std::collections::{BTreeMap, HashMap};
 use std::error::Error;
 
+const SSRC: u32 = 7;
 const FRAMES: u64 = 600;
 const INTERVAL: u64 = 33;
 const ONE_WAY: u64 = 20;
 const TRIES: u32 = 5;
 
-/// When each missing number was last requested, and how often.
-#[derive(Default)]
+/// What the NACK loop keeps between two calls.
 struct NackLoop {
-    requests: HashMap<u64, (u64, u32)>,
+    schedule: NackSchedule,
+    missing: Vec<u64>,
+    numbers: Vec<u16>,
 }
 
 impl NackLoop {
-    /// Returns the numbers to request now.
-    fn due(&mut self, receiver: &Receiver, now: u64, round_trip: u64) -> Vec<u64> {
-        let missing: Vec<u64> = receiver.missing(512).collect();
-        let lowest = missing.first().copied().unwrap_or(u64::MAX);
-        self.requests.retain(|number, _| *number >= lowest);
-        missing
-            .into_iter()
-            .filter(|number| {
-                let (asked_at, tries) = self.requests.entry(*number).or_default();
-                let is_due = *tries == 0 || (*tries < TRIES && now - *asked_at >= round_trip);
-                if is_due {
-                    (*asked_at, *tries) = (now, *tries + 1);
-                }
-                is_due
-            })
-            .collect()
+    fn new(round_trip: u64) -> NackLoop {
+        NackLoop {
+            schedule: NackSchedule::new(NackSettings {
+                first_wait: 0,
+                retry: round_trip,
+                tries: TRIES,
+                ..NackSettings::live()
+            }),
+            missing: Vec::new(),
+            numbers: Vec::new(),
+        }
+    }
+
+    /// Returns the NACK that is due now, if one is.
+    fn due(&mut self, receiver: &Receiver, now: u64) -> Result<Option<Vec<u8>>, Box<dyn Error>> {
+        self.missing.clear();
+        self.missing.extend(receiver.missing(512));
+        self.schedule.refresh(Ticks(now), &self.missing)?;
+        self.numbers.clear();
+        self.schedule.take_due(Ticks(now), &mut self.numbers)?;
+        if self.numbers.is_empty() {
+            return Ok(None);
+        }
+        nack(8, SSRC, &self.numbers).map(Some)
     }
 }
 
-/// A generic NACK for rising numbers. Its pairs of PID and BLP have the low 16 bits of the numbers.
-fn nack(own_ssrc: u32, media_ssrc: u32, numbers: &[u64]) -> Result<Vec<u8>, Box<dyn Error>> {
-    let numbers: Vec<u16> = numbers.iter().map(|number| *number as u16).collect();
+/// A generic NACK for rising numbers.
+fn nack(own_ssrc: u32, media_ssrc: u32, numbers: &[u16]) -> Result<Vec<u8>, Box<dyn Error>> {
     let (mut pairs, mut packet) = (Vec::new(), Vec::new());
-    pack_numbers(&numbers, &mut pairs)?;
+    pack_numbers(numbers, &mut pairs)?;
     Nack {
         sender_ssrc: own_ssrc,
         media_ssrc,
@@ -67,11 +77,10 @@ fn nack(own_ssrc: u32, media_ssrc: u32, numbers: &[u64]) -> Result<Vec<u8>, Box<
     Ok(packet)
 }
 
-/// The simulated sender keeps the packets that it sent, with the time of each one's arrival.
-#[derive(Default)]
+/// The simulated network: the datagrams on their way, with the time of each one's arrival.
 struct Network {
     chance: u32,
-    history: BTreeMap<u16, (Vec<u8>, Option<u64>)>,
+    on_the_way: Vec<(u64, Vec<u8>)>,
 }
 
 impl Network {
@@ -83,47 +92,60 @@ impl Network {
         (self.chance >> 16).is_multiple_of(10)
     }
 
-    /// Retransmits what a NACK asks for.
-    fn answer(&mut self, nack: &[u8], now: u64) {
-        for pair in nack[12..].chunks_exact(4) {
-            let first = u16::from_be_bytes([pair[0], pair[1]]);
-            let mask = u16::from_be_bytes([pair[2], pair[3]]);
-            for place in 0..=16_u16 {
-                if (place == 0 || mask >> (place - 1) & 1 == 1)
-                    && !self.loses()
-                    && let Some((_, arrives)) = self.history.get_mut(&first.wrapping_add(place))
-                {
-                    *arrives = Some(now + 2 * ONE_WAY);
-                }
-            }
-        }
-    }
-
     fn deliver(&mut self, receiver: &mut Receiver, now: u64) -> Result<(), Box<dyn Error>> {
-        for (datagram, arrives) in self.history.values_mut() {
-            if arrives.is_some_and(|at| at <= now) {
-                receiver.receive(Ticks(now), datagram)?;
-                *arrives = None;
-            }
+        for (_, datagram) in self
+            .on_the_way
+            .extract_if(.., |(arrives, _)| *arrives <= now)
+        {
+            receiver.receive(Ticks(now), &datagram)?;
         }
         Ok(())
     }
+}
 
+/// The sending side: a history keeps what was sent.
+struct SendingSide {
+    sender: Sender,
+    history: History,
+    again: Vec<u8>,
+}
+
+impl SendingSide {
     /// Sends the datagrams of a frame. The first frame arrives.
-    fn send(&mut self, sender: &mut Sender, now: u64) -> Result<(), Box<dyn Error>> {
-        let first = sender.next_number();
-        sender.send(&Sample {
+    fn send(&mut self, network: &mut Network, now: u64) -> Result<(), Box<dyn Error>> {
+        self.sender.send(&Sample {
             rtp_time: MediaTime::from_90khz(now * 90),
             bytes: &[0; 3_000],
             start_of_talk_spurt: false,
             ext_vals: ExtensionValues::default(),
         })?;
-        for (number, datagram) in (first..).zip(sender.datagrams()) {
-            let lost = self.loses() && now > 0;
-            self.history.insert(
-                number,
-                (datagram.to_vec(), (!lost).then_some(now + ONE_WAY)),
-            );
+        for datagram in self.sender.datagrams() {
+            self.history.keep(datagram)?;
+            if !network.loses() || now == 0 {
+                network.on_the_way.push((now + ONE_WAY, datagram.to_vec()));
+            }
+        }
+        Ok(())
+    }
+
+    /// Resends what the feedback requests. A request and its answer take a round trip.
+    fn answer(
+        &mut self,
+        network: &mut Network,
+        feedback: &[u8],
+        now: u64,
+    ) -> Result<(), Box<dyn Error>> {
+        for request in read_requests(CompoundRule::ReducedSize, SSRC, feedback)? {
+            // A request for a keyframe would go to the encoder.
+            let Request::Packet(number) = request else {
+                continue;
+            };
+            let resent = self.history.resend(Ticks(now), number, &mut self.again)?;
+            if !network.loses() && resent == Resent::Written {
+                network
+                    .on_the_way
+                    .push((now + 2 * ONE_WAY, self.again.clone()));
+            }
         }
         Ok(())
     }
@@ -131,29 +153,36 @@ impl Network {
 
 fn main() -> Result<(), Box<dyn Error>> {
     let packetizer = CodecPacketizer::from_codec(Codec::Vp8).ok_or("VP8 is supported")?;
-    let mut sender = Sender::new(
-        packetizer,
-        SenderSettings::for_stream(96, 7, Frequency::NINETY_KHZ),
-    )?;
+    let mut sending = SendingSide {
+        sender: Sender::new(
+            packetizer,
+            SenderSettings::for_stream(96, SSRC, Frequency::NINETY_KHZ),
+        )?,
+        history: History::new(HistorySettings {
+            limit: 512,
+            interval: 0,
+            stream: None,
+        })?,
+        again: Vec::new(),
+    };
     let depacketizer = CodecDepacketizer::from_codec(Codec::Vp8).ok_or("VP8 is supported")?;
     let mut settings = ReceiverSettings::for_stream(96, Frequency::NINETY_KHZ);
-    settings.ssrc = Some(7);
+    settings.ssrc = Some(SSRC);
     settings.wait_limits = WaitLimits::for_round_trip(2 * ONE_WAY);
     let mut receiver = Receiver::new(depacketizer, settings)?;
     let mut network = Network {
         chance: 1,
-        ..Network::default()
+        on_the_way: Vec::new(),
     };
-    let mut requests = NackLoop::default();
+    let mut requests = NackLoop::new(2 * ONE_WAY);
     let (mut frames, mut gaps, mut nacks) = (0, 0, 0);
     for now in 0..(FRAMES + 30) * INTERVAL {
         if now % INTERVAL == 0 && now / INTERVAL < FRAMES {
-            network.send(&mut sender, now)?;
+            sending.send(&mut network, now)?;
         }
         network.deliver(&mut receiver, now)?;
-        let due = requests.due(&receiver, now, 2 * ONE_WAY);
-        if !due.is_empty() {
-            network.answer(&nack(8, 7, &due)?, now);
+        if let Some(nack) = requests.due(&receiver, now)? {
+            sending.answer(&mut network, &nack, now)?;
             nacks += 1;
         }
         for unit in receiver.units(Ticks(now)) {

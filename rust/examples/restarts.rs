@@ -1,16 +1,16 @@
 //! Senders that restart on their SSRC within or near the windows, and hostile networks in which none does. It prints two tables of
-//! docs/LIMITS.md, and fails if a restart takes longer to find than documented, or if one is reported of a sender that does not
-//! restart:
+//! docs/LIMITS.md, and fails if a restart takes longer to find than documented, or if a restart is reported although the sender
+//! did not restart:
 //!
 //! ```sh
 //! cargo run --release --example restarts
 //! ```
 //!
 //! The clock is simulated, one millisecond a step. The network takes 20 ms. The receiver has the settings for live media, the
-//! windows of audio or video, and is told the SSRC. The caller pops until there is no unit, in each millisecond.
+//! windows of audio or video, and the SSRC. The caller pops until no unit is due, in each millisecond.
 
 use codec_payload::sender::{Sample, Sender, SenderSettings};
-use codec_payload::stream::{Receiver, ReceiverSettings};
+use codec_payload::stream::{Receiver, ReceiverSettings, Windows};
 use codec_payload::{
     Codec, CodecDepacketizer, CodecPacketizer, ExtensionValues, Frequency, MediaTime, Ticks,
 };
@@ -21,18 +21,21 @@ type Fault = Box<dyn Error>;
 
 /// How long a packet takes, in milliseconds.
 const NETWORK: u64 = 20;
-/// The bytes of a payload.
+/// The most bytes of a payload, and of these at most for the payload descriptor.
 const PAYLOAD: usize = 100;
+const DESCRIPTOR: usize = 4;
 /// The longest time between two units at a restart, in milliseconds; of slow streams it is five frame intervals.
 const LONGEST: u64 = 300;
 /// The same while packets of the former sender still arrive.
 const LONGEST_BESIDE: u64 = 2_000;
-/// How far behind the greatest number the second sender begins.
-const DISTANCES: [u16; 6] = [1, 360, 900, 1_000, 1_001, 1_100];
+/// How far behind the greatest number the second sender begins: within the windows, at their ends, and outside.
+const DISTANCES: [u16; 12] = [
+    1, 2, 16, 100, 360, 900, 1_000, 1_001, 1_100, 2_500, 5_000, 5_001,
+];
 /// Runs of each network.
 const RUNS: usize = 3;
 
-/// What is sent.
+/// The stream that is sent.
 #[derive(Clone, Copy)]
 struct Stream {
     name: &'static str,
@@ -42,8 +45,7 @@ struct Stream {
     interval: u64,
     /// Packets in a frame.
     packets: usize,
-    forward: u16,
-    backward: u16,
+    windows: Windows,
 }
 
 const STREAMS: [Stream; 4] = [
@@ -60,8 +62,10 @@ const fn audio(name: &'static str, interval: u64) -> Stream {
         clock_rate: 48_000,
         interval,
         packets: 1,
-        forward: 3_000,
-        backward: 1_000,
+        windows: Windows {
+            forward: 3_000,
+            backward: 1_000,
+        },
     }
 }
 
@@ -72,8 +76,10 @@ const fn video(name: &'static str, packets: usize) -> Stream {
         clock_rate: 90_000,
         interval: 33,
         packets,
-        forward: 12_000,
-        backward: 5_000,
+        windows: Windows {
+            forward: 12_000,
+            backward: 5_000,
+        },
     }
 }
 
@@ -113,15 +119,15 @@ impl Stream {
     fn receiver(self) -> Result<Receiver, Fault> {
         let mut settings = ReceiverSettings::for_stream(96, self.rate()?);
         settings.ssrc = Some(7);
-        settings.forward = self.forward;
-        settings.backward = self.backward;
+        settings.forward = self.windows.forward;
+        settings.backward = self.windows.backward;
         let depacketizer = CodecDepacketizer::from_codec(self.codec).ok_or("no depacketizer")?;
         Ok(Receiver::new(depacketizer, settings)?)
     }
 
     /// The datagrams of a frame.
     fn frame(self, sender: &mut Sender, rtp_time: u64, at: u64) -> Result<Vec<Sent>, Fault> {
-        let bytes = vec![0; (PAYLOAD - 10) * self.packets];
+        let bytes = vec![0; (PAYLOAD - DESCRIPTOR) * self.packets];
         sender.send(&Sample {
             rtp_time: MediaTime::new(rtp_time, self.rate()?),
             bytes: &bytes,
@@ -143,7 +149,7 @@ impl Stream {
     }
 }
 
-/// What came of a run.
+/// The result of a run.
 #[derive(Default)]
 struct Outcome {
     /// The RTP times of the units.
@@ -177,8 +183,8 @@ fn put(arriving: &mut BTreeMap<u64, Vec<Vec<u8>>>, at: u64, datagram: &[u8]) {
     arriving.entry(at).or_default().push(datagram.to_vec());
 }
 
-/// How a sender restarts: so many numbers behind the greatest, with another RTP offset or times that go on, and beside
-/// retransmissions of the former sender or not.
+/// How a sender restarts: `distance` numbers below the highest one, with another RTP offset or with times that continue, and with or
+/// without retransmissions of the former sender.
 #[derive(Clone, Copy)]
 struct Restart {
     distance: u16,
@@ -186,10 +192,12 @@ struct Restart {
     beside_former: bool,
 }
 
-/// Runs a sender for 1,200 packets at least, and another for three seconds. Returns how many frames of the second were not released.
+/// Runs a sender for 1,200 packets at least, and for more than the distance, and another sender for three seconds. Returns how many
+/// frames of the second were not released.
 fn restart(stream: Stream, how: Restart) -> Result<(Outcome, usize), Fault> {
     let mut arriving = BTreeMap::new();
-    let frames = 1_200 / stream.packets as u64 + 1;
+    let packets = 1_200.max(u64::from(how.distance) + 100);
+    let frames = packets / stream.packets as u64 + 1;
     let mut former = Vec::new();
     let mut sender = stream.sender(30_000)?;
     for frame in 0..frames {
@@ -314,7 +322,7 @@ fn hostile(
         }
         if network == Network::SentAgain && at >= storm {
             storm += random.within(3_000, 8_000);
-            let most = history.len().min(usize::from(stream.backward) / 2);
+            let most = history.len().min(usize::from(stream.windows.backward) / 2);
             for _ in 0..random.within(50, 500) {
                 let old = history.len() - 1 - random.within(0, most as u64 - 1) as usize;
                 put(&mut arriving, at + NETWORK, &history[old]);
@@ -333,7 +341,7 @@ fn hostile(
     Ok(arriving)
 }
 
-/// Prints a row of restarts. Returns how many were not found in time.
+/// Prints a table row of restarts. Returns the number of restarts that were not found in time.
 fn print_restarts(distance: u16, beside_former: bool) -> Result<u32, Fault> {
     let mut wrong = 0;
     let beside = if beside_former {
@@ -359,15 +367,15 @@ fn print_restarts(distance: u16, beside_former: bool) -> Result<u32, Fault> {
         // Times that go on make no difference.
         let (going_on, _) = restart(stream, Restart { offset: 0, ..how })?;
         wrong += u32::from(going_on.longest_pause > longest);
-        // One number behind, the second sender passes the first before a restart is found.
-        let expected = 2 * u64::from(distance > 1);
+        // One or two numbers behind, the second sender passes the first before a restart is found.
+        let expected = 2 * u64::from(distance > 2);
         wrong += u32::from(!beside_former && outcome.restarts + going_on.restarts != expected);
     }
     println!();
     Ok(wrong)
 }
 
-/// Prints a row of restarts that are reported, and returns how many.
+/// Prints a table row of the restarts that a receiver reports. Returns their number.
 fn print_network(network: Network, name: &str) -> Result<u32, Fault> {
     let mut all = 0;
     print!("| {name} |");

@@ -5,8 +5,8 @@
 //! cargo run --release --example waiting
 //! ```
 //!
-//! The clock is simulated, one millisecond a step. The network takes 20 ms. The receiver has the settings for live media and is told
-//! the SSRC. The caller pops until there is no unit, in each millisecond.
+//! The clock is simulated, one millisecond a step. The network takes 20 ms. The receiver has the settings for live media and the
+//! SSRC. The caller pops until no unit is due, in each millisecond.
 
 use codec_payload::sender::{Sample, Sender, SenderSettings};
 use codec_payload::stream::{Receiver, ReceiverSettings};
@@ -26,7 +26,7 @@ const MAX_WAIT: u64 = 100;
 /// How many packets a receiver holds by default.
 const LIMIT: usize = 4_096;
 
-/// What is sent.
+/// The stream that is sent.
 #[derive(Clone, Copy)]
 struct Stream {
     name: &'static str,
@@ -61,12 +61,12 @@ const fn audio(name: &'static str, interval: u64, frames: u64) -> Stream {
     }
 }
 
-/// What the network does to the packet of that number, the first being 0.
+/// What the network does to packets; the first packet has number 0.
 #[derive(Clone, Copy)]
 enum Harm {
     Nothing,
     LosesOne(u64),
-    /// So many of 1,000, chosen by a seed.
+    /// Loses a number of 1,000 packets, chosen by a seed.
     Loses(u32, u32),
     /// The first packet arrives 40 ms late.
     DelaysFirst,
@@ -92,10 +92,10 @@ fn chance(number: u64, seed: u32) -> u32 {
     ((bits ^ bits >> 33) % 1_000) as u32
 }
 
-/// What came of a case.
+/// The result of a case.
 #[derive(Default)]
 struct Outcome {
-    /// Frames of which every packet arrived.
+    /// Frames whose packets all arrived.
     whole: u64,
     /// Units that were released.
     units: u64,

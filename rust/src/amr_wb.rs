@@ -2,8 +2,8 @@
 
 //! AMR-WB (RFC 4867), one channel, in both layouts, without CRC, interleaving and robust sorting (docs/FORMATS.md, "AMR-WB").
 //!
-//! A frame is handed in and given in its storage form (RFC 4867, section 5.3): a byte with the frame type and the quality
-//! bit, then the speech bits, with zeros up to a byte.
+//! Frames are taken and returned in storage form (RFC 4867, section 5.3): a byte with the frame type and the quality bit, then the
+//! speech bits, padded with zeros to a byte.
 
 mod receive;
 mod send;
@@ -13,8 +13,8 @@ mod toc;
 pub use receive::AmrWbDepacketizer;
 pub use send::AmrWbPacketizer;
 
-/// How many speech bits a frame type has; `None` for a reserved one. Types 14 and 15 stand for a lost frame and for a
-/// frame without data (3GPP TS 26.201, table 1a).
+/// The number of speech bits of a frame type; `None` for a reserved type. Types 14 and 15 mark a lost frame and a frame without
+/// data (3GPP TS 26.201, table 1a).
 fn speech_bits(frame_type: u8) -> Option<usize> {
     let bits = match frame_type {
         0 => 132,

@@ -2,10 +2,10 @@
 
 //! A reader of bits, the highest of each byte first, and of LEB128 numbers.
 
-/// Reads the bits of a payload in order, the highest of each byte first. What a call lends lives as long as the payload,
-/// so reading can go on while it is held. `None` leaves the place, but for [`BitRead::get_leb128`].
+/// Reads the bits of a payload in order, the highest bit of each byte first. Lent bytes live as long as the payload, so reading can
+/// continue while they are held. `None` leaves the place unchanged, except from [`BitRead::get_leb128`].
 pub trait BitRead<'a> {
-    /// How many bits are left, or `usize::MAX` where they are more.
+    /// The number of remaining bits; `usize::MAX` if there are more.
     fn remaining_bits(&self) -> usize;
 
     /// How many whole bytes are left.
@@ -20,25 +20,24 @@ pub trait BitRead<'a> {
     /// The next sixteen bits, the high byte first.
     fn get_u16(&mut self) -> Option<u16>;
 
-    /// The next `count` bits as a number, where `count` is at most 8 and as many are left; 0 bits are the number 0.
+    /// The next `count` bits as a number; `None` if `count` is above 8 or fewer bits remain. For 0 bits the number is 0.
     fn get_bits(&mut self, count: usize) -> Option<u8>;
 
     /// All bytes from that one on in which the place stands. The place is then the end.
     fn get_remaining(&mut self) -> &'a [u8];
 
-    /// `count` bytes from that one on in which the place stands, where eight times as many bits are left. The place
-    /// moves on by as many bytes.
+    /// `count` bytes from the current byte on, if eight times as many bits remain. The place moves on by as many bytes.
     fn get_bytes(&mut self, count: usize) -> Option<&'a [u8]>;
 
-    /// A LEB128 number of at most ten bytes, low groups first, modulo 2^64. `None` where the tenth byte goes on too, or
-    /// the bytes end before the last; the place is then behind the bytes that were read.
+    /// A LEB128 number of at most ten bytes, low groups first, modulo 2^64. `None` if the tenth byte has the continuation bit too,
+    /// or the bytes end before the last; the place is then after the bytes that were read.
     fn get_leb128(&mut self) -> Option<u64>;
 
-    /// Moves the place on by `count` bytes, or not at all where fewer bits are left.
+    /// Moves the place on by `count` bytes; unchanged if fewer bits remain.
     fn skip_bytes(&mut self, count: usize);
 }
 
-/// Reads the bits of a byte string that it borrows. It takes no memory.
+/// Reads the bits of a borrowed byte string. Does not allocate.
 #[derive(Debug)]
 pub struct BitReader<'a> {
     source: &'a [u8],
@@ -87,7 +86,7 @@ impl<'a> BitReader<'a> {
         &self.source[self.byte..]
     }
 
-    /// Moves the place on by `count` bits where as many are left, and tells whether they were. Else it stays.
+    /// Moves the place on by `count` bits if that many remain, and returns whether they did. Otherwise the place is unchanged.
     pub fn skip_bits(&mut self, count: usize) -> bool {
         let place = self.bit + count % 8;
         let there = count / 8 + place.div_ceil(8) <= self.source.len() - self.byte;
@@ -98,7 +97,7 @@ impl<'a> BitReader<'a> {
         there
     }
 
-    /// How many bits lie between the start of that byte in which the place stands and the place, from 0 to 7.
+    /// The number of bits between the start of the current byte and the place, 0 to 7.
     pub fn bits_behind_byte(&self) -> usize {
         self.bit
     }
@@ -136,7 +135,7 @@ impl<'a> BitRead<'a> for BitReader<'a> {
 
     fn get_bits(&mut self, count: usize) -> Option<u8> {
         let bytes = self.source.len() - self.byte;
-        // Two bytes hold what is asked for, wherever the place stands in the first of them.
+        // Two bytes hold the requested bits, at any place within the first byte.
         if count > 8 || (bytes < 2 && self.bit + count > 8 * bytes) {
             return None;
         }

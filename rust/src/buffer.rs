@@ -2,11 +2,13 @@
 
 //! Puts received packets in order and their payloads together, in a buffer of bounded size.
 
-use crate::memory::TryQueue;
+use crate::memory::{One, TryQueue};
 use alloc::vec::Vec;
 
+mod ends;
 pub mod frames;
 mod held_packet;
+mod known;
 mod packets;
 mod placed;
 mod rows;
@@ -19,15 +21,16 @@ use crate::error::PacketError;
 use crate::interface::CodecExtra;
 use crate::wire::{SeqNo, Ticks};
 use alloc::collections::VecDeque;
+use ends::{evict, place_at, row_with};
 use frames::{CompleteFrame, frame_of, mend_first, note};
-use held_packet::HeldPacket;
+use held_packet::{HeldPacket, Packet};
 use packets::{
     copy_metas, drop_front, find_place, frame_range, give_back, hold, is_at, is_too_late,
-    make_room, place_at, received_at, starts_next, take_lowest, unpack,
+    make_room, received_at, starts_next, unpack,
 };
 pub use placed::Placed;
 use placed::placed_among;
-use rows::{Row, add_row, remove_rows, row_of_packet, shorten_first};
+use rows::row_of_packet;
 pub use unit::{Depacketized, RtpMeta, UnitInfo};
 
 /// How many packets a buffer from [`DepacketizingBuffer::new`] holds.
@@ -40,8 +43,8 @@ const HELD_LIMIT: usize = 4_096;
 #[derive(Debug)]
 pub struct DepacketizingBuffer<B = NoBox> {
     packets: VecDeque<HeldPacket>,
-    /// The rows in which the packets stand together.
-    rows: VecDeque<Row>,
+    /// Memory blocks of packets that have left, for packets to come.
+    spare: Vec<One<Packet>>,
     /// The complete frames, in order.
     complete_frames: VecDeque<CompleteFrame>,
     /// The number up to which packets come too late.
@@ -64,7 +67,8 @@ impl<B: Depacketizer> DepacketizingBuffer<B> {
 
     /// The same with room for `limit` packets, 1 to 65,536. Takes no memory, whatever the limit is: the memory that a buffer
     /// has grows with what it holds, and a buffer that empties gives it back: queues that are at most a quarter full shrink to
-    /// twice what they hold, or to 64 entries.
+    /// twice what they hold, or to 64 entries. Of packets that have left at most 16 blocks of 128 bytes are kept, without their
+    /// payloads.
     ///
     /// A sender chooses the numbers of its packets, and one that comes far from both ends of what is held moves up to half of
     /// the entries ([`DepacketizingBuffer::push`]): with a large limit choose it no larger than reordering needs.
@@ -76,7 +80,7 @@ impl<B: Depacketizer> DepacketizingBuffer<B> {
         assert!((1..=65_536).contains(&limit));
         DepacketizingBuffer {
             packets: VecDeque::new(),
-            rows: VecDeque::new(),
+            spare: Vec::new(),
             complete_frames: VecDeque::new(),
             cutoff: None,
             evicted: false,
@@ -90,10 +94,11 @@ impl<B: Depacketizer> DepacketizingBuffer<B> {
     /// Takes a packet in. One whose number is at or below the cutoff, or is held already, is dropped, which takes no
     /// memory. Where more packets than the limit are held then, the lowest is evicted. The only fault is want of memory.
     ///
-    /// Takes memory for what is known of the packet, one block of at most 176 bytes and one more for a layers allocation, and
-    /// at times for more entries, each time for twice as many. So on average the cost does not grow with the packets that are
-    /// held, where packets come in order, in reverse, or near the end of what is held. Far from both ends the entries of the
-    /// shorter side move, up to half of all: 48 bytes for each packet, and at most 72 more where each is a frame by itself.
+    /// Takes memory for the packet, one block of at most 128 bytes where no block of a packet that has left is kept for it, one
+    /// more for what few packets have (a capture time, a timing, what a sender report said), one more for a layers allocation,
+    /// and at times for more entries, each time for twice as many. So on average the cost does not grow with the packets that
+    /// are held, where packets come in order, in reverse, or near the end of what is held. Far from both ends the entries of the
+    /// shorter side move, up to half of all: 16 bytes for each packet, and at most 16 more where each is a frame by itself.
     /// Payloads stay where they are, and no packets are walked, neither for one that ends a frame nor for one that comes
     /// between others. An eviction looks for the next packet that begins a unit, where the one that leaves did: each packet is
     /// looked at so twice at most.
@@ -117,17 +122,17 @@ impl<B: Depacketizer> DepacketizingBuffer<B> {
         let tail = self
             .depacketizer
             .is_partition_tail(meta.header.marker, &data);
-        let packet = hold(meta, data, head, tail)?;
-        let row = row_of_packet(&packet);
-        self.rows.try_room(1)?;
+        self.packets.try_room(1)?;
         self.complete_frames.try_room(1)?;
-        place_at(&mut self.packets, place, packet)?;
-        let row = add_row(&mut self.rows, row);
+        let packet = Packet::of(meta, data, head, tail)?;
+        let entry = hold(&mut self.spare, packet)?;
+        let row = row_with(&self.packets, place, row_of_packet(&entry));
+        place_at(&mut self.packets, place, entry, row);
         note(&mut self.complete_frames, frame_of(&row));
         if self.packets.len() > self.limit {
-            self.cutoff = Some(take_lowest(&mut self.packets));
-            let (before, after) = shorten_first(&mut self.rows, &self.packets);
+            let (number, before, after) = evict(&mut self.packets, &mut self.spare);
             mend_first(&mut self.complete_frames, before, after);
+            self.cutoff = Some(number);
             self.evicted = true;
         }
         Ok(placed)
@@ -276,11 +281,9 @@ impl<B: Depacketizer> DepacketizingBuffer<B> {
 
     /// The frame that is due and all packets below it leave, the first `count` of all.
     fn leave(&mut self, frame: CompleteFrame, count: usize) {
-        drop_front(&mut self.packets, count);
-        remove_rows(&mut self.rows, frame.last);
+        drop_front(&mut self.packets, &mut self.spare, count);
         self.complete_frames.pop_front();
         give_back(&mut self.packets);
-        give_back(&mut self.rows);
         give_back(&mut self.complete_frames);
         self.cutoff = Some(frame.last);
     }

@@ -8,42 +8,43 @@ use core::fmt;
 /// Why a packet could not be made or read.
 #[derive(Debug, PartialEq, Eq, Clone, Copy)]
 pub enum PacketError {
-    /// A payload ends before all is there that its format asks for. `depacketize` of comfort noise, AMR-WB, VP8, VP9
-    /// and AV1 answers it.
+    /// A payload ends before its format allows. Returned by `depacketize` of comfort noise, AMR-WB, VP8, VP9 and AV1.
     ErrShortPacket,
-    /// A frame that goes into one packet is longer than the MTU. `packetize` of comfort noise, telephone events and AMR-WB
-    /// answers it.
+    /// A frame that must fit one packet is longer than the MTU. Returned by `packetize` of comfort noise, telephone events and
+    /// AMR-WB.
     ErrPayloadTooLarge,
-    /// A VP9 payload tells of more spatial layers than there may be. `depacketize` of VP9 answers it.
+    /// A VP9 payload announces more than three spatial layers. Returned by `depacketize` of VP9.
     ErrTooManySpatialLayers,
-    /// A VP9 payload refers to more frames than it may. `depacketize` of VP9 answers it.
+    /// A VP9 payload refers to more frames than allowed. Returned by `depacketize` of VP9.
     ErrTooManyPDiff,
-    /// An H.265 payload is malformed. No call answers it.
+    /// An H.265 payload is malformed. No call returns it.
     ErrH265CorruptedPacket,
-    /// An H.266 payload is malformed. No call answers it.
+    /// An H.266 payload is malformed. No call returns it.
     ErrH266CorruptedPacket,
-    /// An H.265 payload has a type that does not fit. No call answers it.
+    /// An H.265 payload has a type that does not fit. No call returns it.
     ErrInvalidH265PacketType,
-    /// A field of an H.265 payload is too long. No call answers it.
+    /// A field of an H.265 payload is too long. No call returns it.
     ErrH265PACIPHESTooLong,
-    /// An aggregated H.264 unit is longer than what is left: the one length, then the other, in bytes. No call answers it.
+    /// An aggregated H.264 unit is longer than the rest of the payload: its length, then the rest, in bytes. No call returns it.
     StapASizeLargerThanBuffer(usize, usize),
-    /// An H.264 unit has a type that is not read, whose number is given. No call answers it.
+    /// An H.264 unit has an unsupported type, whose number is given. No call returns it.
     NaluTypeIsNotHandled(u8),
-    /// A VP8 payload is malformed. `depacketize` of VP8 answers it.
+    /// A VP8 payload is malformed. Returned by `depacketize` of VP8.
     ErrVP8CorruptedPacket,
-    /// A VP9 payload is malformed. `depacketize` of VP9 answers it.
+    /// A VP9 payload is malformed. Returned by `depacketize` of VP9.
     ErrVP9CorruptedPacket,
-    /// A frame is no sequence of OBUs, or a payload no elements. `packetize` and `depacketize` of AV1 answer it.
+    /// A frame is not a sequence of OBUs, or a payload does not consist of elements. Returned by `packetize` and `depacketize` of
+    /// AV1.
     ErrAv1CorruptedPacket,
-    /// Bytes are no RED payload. `RedDecoder::decode` answers it.
+    /// The bytes are not a RED payload. Returned by `RedDecoder::decode`.
     ErrRedCorruptedPacket,
-    /// A payload is not one or more whole reports, for the reason given. `depacketize` of telephone events answers it.
+    /// A payload does not consist of one or more whole reports, for the given reason. Returned by `depacketize` of telephone
+    /// events.
     InvalidTelephoneEvent(&'static str),
-    /// A frame or a payload has a reserved type, or not the length that its types ask for. `packetize` and `depacketize` of
-    /// AMR-WB answer it.
+    /// A frame or a payload has a reserved type, or a length that does not match its types. Returned by `packetize` and
+    /// `depacketize` of AMR-WB.
     ErrAmrWbCorruptedPacket,
-    /// The allocator refused memory. Every call that takes memory answers it, and what state it leaves stands there.
+    /// An allocation failed. Every call that allocates can return it; the comment of the call says what state it leaves.
     OutOfMemory,
 }
 

@@ -4,6 +4,11 @@
 
 #[doc(hidden)]
 pub mod gate;
+#[doc(hidden)]
+pub mod unit_gate;
 
 #[doc(inline)]
 pub use gate::{KeyframeGate, is_keyframe, is_video};
+
+#[doc(inline)]
+pub use unit_gate::{FromKeyframe, UnitGate};

@@ -40,9 +40,14 @@
 //! |---|---|
 //! | the root | the names of `str0m`'s `src/packet`: [`CodecPacketizer`], [`CodecDepacketizer`], [`DepacketizingBuffer`], codecs, errors, and numbers and times |
 //! | [`sender`], [`stream`] | one stream between frames and a socket: `Sender` and `Receiver` |
+//! | [`session`] | all streams of one port: units, and when streams begin and end |
 //! | [`jitter`] | the jitter buffer of a receiver, for callers who read RTP headers themselves |
 //! | [`rtp`], [`rtcp`] | RTP packets, header extensions and their values; RTCP packets |
+//! | [`history`] | retransmission: sent packets that are resent on request, and the requests in RTCP feedback |
+//! | [`red_writer`] | puts the datagrams of a sender in RED |
+//! | [`sdp`] | from a session description to the settings of receivers |
 //! | [`keyframes`] | which units of video a decoder can show, and when to request a keyframe |
+//! | [`requests`] | when to request missing packets by NACK, and keyframes |
 //! | [`media`] | what frames say: keyframe, size, duration; OBUs, superframes, `av1C`, the Opus header |
 //! | [`red`], [`vp8`], [`vp9`], [`av1`], [`amr_wb`], [`tele`], [`plain`] | one format each |
 //! | [`payload`], [`payloads`] | samples become packets, in fresh memory or in memory that is used again |
@@ -56,8 +61,8 @@
 //! under "Panics".
 //!
 //! The proof covers the sources, and not this text. You trust in addition the program that removes the contracts, the private part
-//! of the module [`memory`] (a page), the hand-written conveniences (iterators, conversions, [`Clock`], `for_stream`), rustc and
-//! `alloc`.
+//! of the module [`memory`] (a page), the hand-written conveniences (iterators, conversions, [`Clock`], `for_stream`), the module
+//! [`sdp`], rustc and `alloc`.
 //!
 //! # Features
 //!
@@ -75,12 +80,14 @@
     clippy::manual_find,
     clippy::manual_range_contains,
     clippy::mem_replace_with_default,
+    clippy::needless_question_mark,
     clippy::needless_range_loop,
     clippy::too_many_arguments,
     clippy::ptr_arg,
     clippy::boxed_local,
     clippy::default_constructed_unit_structs,
     clippy::single_match,
+    clippy::while_let_on_iterator,
     clippy::len_without_is_empty
 )]
 
@@ -101,6 +108,7 @@ pub mod contiguity;
 #[doc(hidden)]
 pub mod described;
 pub mod error;
+pub mod history;
 pub mod interface;
 pub mod jitter;
 pub mod keyframes;
@@ -111,10 +119,14 @@ pub mod payloads;
 pub mod picture_id;
 pub mod plain;
 pub mod red;
+pub mod red_writer;
+pub mod requests;
 pub mod rtcp;
 pub mod rtp;
 pub mod schedule;
+pub mod sdp;
 pub mod sender;
+pub mod session;
 pub mod stream;
 pub mod tele;
 pub mod vp8;

@@ -17,7 +17,7 @@ pub enum PictureId {
 }
 
 impl PictureId {
-    /// The id at the front of `bytes` and what is behind it, or `None` where a byte is missing.
+    /// The id at the front of `bytes` and the bytes after it; `None` if a byte is missing.
     pub fn take(bytes: &[u8]) -> Option<(PictureId, &[u8])> {
         let (&first, rest) = bytes.split_first()?;
         if first & 0x80 == 0 {
@@ -46,8 +46,8 @@ impl PictureId {
         }
     }
 
-    /// The id extended beyond its bits, where `extended` is the extended id before it, if there was one, and `last` the
-    /// one that was sent before it.
+    /// Extends the id beyond its bits. `extended` is the previous extended id, if there was one, and `last` the id that was sent
+    /// before this one.
     pub fn extend(self, extended: Option<u64>, last: u16) -> u64 {
         let Some(before) = extended else {
             return u64::from(self.value());

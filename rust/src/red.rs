@@ -2,11 +2,10 @@
 
 //! RED: payloads that carry older media beside the media of the packet itself (RFC 2198).
 //!
-//! A payload is a row of headers with the blocks behind it, in the order of their headers. The primary block is the
-//! packet's own media and comes last; the others are redundant, each as many ticks of the RTP clock older as its
-//! timestamp offset says. [`RedEncoder`] writes such payloads and [`RedDecoder`] reads them; [`RedSender`] remembers
-//! what was sent and wraps each new payload with some of it. [`RedReceiver`] finds the packets that a payload holds, so
-//! also those that were lost and stand in the payload of a later one.
+//! A payload is a list of headers, then the blocks in the same order. The primary block is the packet's own media and comes last;
+//! the others are redundant, and their timestamp offset says how many ticks of the RTP clock older they are. [`RedEncoder`] writes
+//! such payloads and [`RedDecoder`] reads them. [`RedSender`] remembers sent payloads and wraps each new payload with some of them.
+//! [`RedReceiver`] finds the packets in a payload, including lost packets that a later payload repeats.
 
 mod blocks;
 mod receiver;

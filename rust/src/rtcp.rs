@@ -33,7 +33,7 @@ pub use packet::{
 };
 
 #[doc(inline)]
-pub use sdes::{CNAME, SdesChunk, SdesChunks, SdesItem, SdesItems};
+pub use sdes::{CNAME, SdesChunk, SdesChunks, SdesItem, SdesItems, write_chunk};
 
 #[doc(inline)]
-pub use writing::write_cname;
+pub use writing::{padding_fits, write_cname, write_padded};

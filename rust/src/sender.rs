@@ -53,12 +53,8 @@ impl fmt::Display for SenderError {
     fn fmt(&self, f: &mut fmt::Formatter<'_>) -> fmt::Result {
         match self {
             SenderError::PayloadType => f.write_str("the payload type is above 127"),
-            SenderError::Tailroom => {
-                f.write_str("more than 65535 bytes are to be free behind a datagram")
-            }
-            SenderError::ExtensionIds => {
-                f.write_str("an id of a header extension is 0, or two are the same")
-            }
+            SenderError::Tailroom => f.write_str("tailroom exceeds 65535 bytes"),
+            SenderError::ExtensionIds => f.write_str("header extension id is 0 or used twice"),
             SenderError::OutOfMemory => f.write_str("out of memory"),
         }
     }
@@ -87,6 +83,19 @@ pub struct Counts {
     pub octets: u32,
     /// The RTP time of the sample that was sent last.
     pub rtp_time: Option<u32>,
+}
+
+/// The fields of a sender report (RFC 3550, section 6.4.1), except its NTP time, which the caller's clock has.
+#[derive(Clone, Copy, Debug, PartialEq, Eq)]
+pub struct Report {
+    /// The SSRC of the sender.
+    pub ssrc: u32,
+    /// The RTP time of the moment that was given.
+    pub rtp_time: u32,
+    /// The sender's packet count, modulo 2^32.
+    pub packets: u32,
+    /// The sender's octet count: bytes of payload, modulo 2^32.
+    pub octets: u32,
 }
 
 /// What the packets of a stream share, and the number of the next.
@@ -169,9 +178,27 @@ fn write_header(
     Ok(())
 }
 
+/// A time by the RTP clock of the stream, modulo 2^32.
+fn rtp_time_at(stream: &Stream, time: MediaTime) -> u32 {
+    (time.rebase(stream.clock_rate).numer() % (1 << 32)) as u32
+}
+
 /// The RTP time of a sample.
 fn time_of(stream: &Stream, sample: &Sample<'_>) -> u32 {
-    (sample.rtp_time.rebase(stream.clock_rate).numer() % (1 << 32)) as u32
+    rtp_time_at(stream, sample.rtp_time)
+}
+
+/// Packetizes a frame into reused memory. A custom packetizer stays custom.
+fn packetize_sample<B: Packetizer>(
+    packetizer: &mut CodecPacketizer<B>,
+    mtu: usize,
+    bytes: &[u8],
+    out: &mut Payloads,
+) -> Result<(), PacketError> {
+    if let CodecPacketizer::Boxed(own) = packetizer {
+        return own.packetize_into(mtu, bytes, out);
+    }
+    packetizer.packetize_into(mtu, bytes, out)
 }
 
 /// Whether the packet at a place is marked.
@@ -239,6 +266,12 @@ fn octets_in(out: &Payloads) -> u32 {
     octets
 }
 
+/// Lends the region from `front` on.
+fn lend<R, F: FnOnce(&mut [u8]) -> R>(region: &mut [u8], front: usize, change: F) -> R {
+    let from = front.min(region.len());
+    change(&mut region[from..])
+}
+
 impl<B: Packetizer> Sender<B> {
     /// A sender over that packetizer, by settings that are looked at in their order. It takes memory for the longest header.
     pub fn new(
@@ -271,8 +304,12 @@ impl<B: Packetizer> Sender<B> {
     /// A sample that the packetizer skips has none. After a fault there are none, and the sequence number and the counts are as
     /// before. Where memory was wanting, the packetizer may have gone on.
     pub fn send(&mut self, sample: &Sample<'_>) -> Result<(), PacketError> {
-        self.packetizer
-            .packetize_into(self.mtu, sample.bytes, &mut self.packets.out)?;
+        packetize_sample(
+            &mut self.packetizer,
+            self.mtu,
+            sample.bytes,
+            &mut self.packets.out,
+        )?;
         let answer = put_headers(
             &mut self.packetizer,
             &self.stream,
@@ -307,6 +344,23 @@ impl<B: Packetizer> Sender<B> {
         self.packets.out.packet(place)
     }
 
+    /// Lends the datagram at a place with the [`tailroom`](Self::tailroom) after it to `change`, and returns the result of `change`.
+    ///
+    /// SRTP encrypts the payload in place and writes its tag after it (RFC 3711, section 3.1). Send the datagram and its tag from
+    /// within `change`: the bytes in the tailroom are not kept. The datagram is then the bytes that `change` left in front of the
+    /// tailroom; everything else is unchanged. Copies nothing, and does not allocate.
+    ///
+    /// # Panics
+    ///
+    /// Unless `place < self.len()`.
+    pub fn with_datagram<R, F: FnOnce(&mut [u8]) -> R>(&mut self, place: usize, change: F) -> R {
+        // Headers fit into the headroom, and the lent region begins with it.
+        let front = HEADROOM.saturating_sub(self.packets.out.header(place).len());
+        self.packets
+            .out
+            .with_packet(place, |region| lend(region, front, change))
+    }
+
     /// How many bytes are free behind each datagram.
     pub fn tailroom(&self) -> usize {
         self.packets.out.tailroom()
@@ -315,6 +369,43 @@ impl<B: Packetizer> Sender<B> {
     /// The sequence number of the next packet.
     pub fn next_number(&self) -> u16 {
         self.stream.number
+    }
+
+    /// Continues the stream in another format: with this packetizer, payload type (0 to 127) and rate of the RTP clock. Sequence
+    /// numbers, SSRC, counts, MTU and extension ids go on, and the datagrams of the previous sample stay.
+    ///
+    /// RTP times are the times of the samples by the new rate. With the same rate they go on. With another rate receivers of the
+    /// stream lose its clock, so RFC 7160, section 4.1, wants another SSRC: make another sender.
+    ///
+    /// # Errors
+    ///
+    /// `PayloadType`: the payload type is above 127. The sender is unchanged.
+    pub fn set_format(
+        &mut self,
+        packetizer: CodecPacketizer<B>,
+        payload_type: u8,
+        clock_rate: Frequency,
+    ) -> Result<(), SenderError> {
+        if payload_type > 127 {
+            return Err(SenderError::PayloadType);
+        }
+        self.packetizer = packetizer;
+        self.stream.payload_type = payload_type;
+        self.stream.clock_rate = clock_rate;
+        Ok(())
+    }
+
+    /// Returns the fields of a sender report for the moment `now` on the time line of the samples.
+    ///
+    /// RFC 3550, section 6.4.1: the RTP time of the report is of the same moment as its NTP time, which the caller's clock has. It
+    /// may lie before or after the last sample.
+    pub fn report(&self, now: MediaTime) -> Report {
+        Report {
+            ssrc: self.stream.ssrc,
+            rtp_time: rtp_time_at(&self.stream, now),
+            packets: self.counts.packets,
+            octets: self.counts.octets,
+        }
     }
 
     /// What sender reports tell.

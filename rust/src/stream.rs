@@ -7,10 +7,14 @@ mod blocks;
 mod choice;
 mod datagram;
 mod defaults;
+mod gated;
 #[doc(hidden)]
 pub mod receiver;
 #[doc(hidden)]
 pub mod reports;
+mod seen_times;
+#[doc(hidden)]
+pub mod windows;
 
 #[doc(inline)]
 pub use receiver::{
@@ -19,3 +23,6 @@ pub use receiver::{
 
 #[doc(inline)]
 pub use reports::{ReceptionReport, ReceptionStatistics};
+
+#[doc(inline)]
+pub use windows::Windows;

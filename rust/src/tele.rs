@@ -24,8 +24,8 @@ fn first_report(payload: &[u8], rate: Frequency) -> Option<TelephoneEvent> {
 pub struct TelephoneEventPacketizer;
 
 impl Packetizer for TelephoneEventPacketizer {
-    /// The frame in one packet; its bytes are not looked at. An empty one gives no packets; one longer than `mtu` bytes
-    /// is refused with `ErrPayloadTooLarge`. Each byte is copied once.
+    /// The frame in one packet; its bytes are not interpreted. An empty frame gives no packets. `ErrPayloadTooLarge`: the frame is
+    /// longer than `mtu` bytes. Each byte is copied once.
     fn packetize(&mut self, mtu: usize, b: &[u8]) -> Result<Vec<Vec<u8>>, PacketError> {
         send_whole(mtu, b)
     }
@@ -62,7 +62,7 @@ pub struct TelephoneEventDepacketizer {
 }
 
 impl TelephoneEventDepacketizer {
-    /// A depacketizer of reports whose durations count units of a clock of that rate.
+    /// A depacketizer of reports whose durations count ticks of a clock of this rate.
     pub fn new(rate: Frequency) -> Self {
         TelephoneEventDepacketizer { rate }
     }
@@ -80,9 +80,9 @@ impl Depacketizer for TelephoneEventDepacketizer {
         Some(packets_size.min(REPORT_SIZE))
     }
 
-    /// Appends the four bytes of the first report as they are, and tells it in the extra. Further reports of the payload
-    /// are not given: [`TelephoneEvent::parse_all`] reads them. A payload that is not one or more whole reports is
-    /// refused with `InvalidTelephoneEvent`.
+    /// Appends the four bytes of the first report unchanged, and reports it in the codec-specific data. Further reports of the
+    /// payload are ignored: [`TelephoneEvent::parse_all`] reads them. `InvalidTelephoneEvent`: the payload is empty or does not
+    /// consist of whole reports.
     fn depacketize(
         &mut self,
         packet: &[u8],

@@ -7,7 +7,7 @@ use crate::memory::TryVec;
 use crate::payloads::PayloadWriter;
 use alloc::vec::Vec;
 
-/// A frame that goes into one packet, or is refused where it is longer than `mtu` bytes. Each byte is copied once.
+/// The frame in one packet, or `ErrPayloadTooLarge` if it is longer than `mtu` bytes. Each byte is copied once.
 pub(crate) fn send_whole(mtu: usize, frame: &[u8]) -> Result<Vec<Vec<u8>>, PacketError> {
     if frame.is_empty() {
         return Ok(Vec::new());
@@ -20,7 +20,7 @@ pub(crate) fn send_whole(mtu: usize, frame: &[u8]) -> Result<Vec<Vec<u8>>, Packe
     Ok(packets)
 }
 
-/// Writes a frame that goes into one packet, or is refused where it is longer than `mtu` bytes. Each byte is copied once.
+/// Writes the frame as one packet, or returns `ErrPayloadTooLarge` if it is longer than `mtu` bytes. Each byte is copied once.
 pub(crate) fn write_whole<W: PayloadWriter>(
     mtu: usize,
     frame: &[u8],

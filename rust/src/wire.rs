@@ -32,7 +32,7 @@ impl Pt {
 #[derive(Clone, Copy, Debug, PartialEq, Eq, PartialOrd, Ord)]
 pub struct SeqNo(pub u64);
 
-/// A moment of the caller's clock, in ticks that the caller chooses. Nothing here reads a clock.
+/// A time by the caller's clock, in ticks of any length. The library never reads a clock.
 #[derive(Clone, Copy, Debug, PartialEq, Eq, PartialOrd, Ord)]
 pub struct Ticks(pub u64);
 
@@ -53,7 +53,7 @@ impl Frequency {
     /// 90,000 Hz: the RTP clock of video (RFC 3551, section 5).
     pub const NINETY_KHZ: Frequency = Frequency { hertz: 90_000 };
 
-    /// The rate of that many hertz, or `None` for 0.
+    /// A rate in hertz; `None` for 0.
     pub fn make(hertz: u32) -> Option<Frequency> {
         if hertz == 0 {
             None
@@ -68,8 +68,8 @@ impl Frequency {
     }
 }
 
-/// A time as a number of ticks of a clock. Two times are equal where both the number and the rate are,
-/// so one second at 8 kHz and one second at 48 kHz differ.
+/// A time as a number of ticks of a clock. Two times are equal only if number and rate are both equal: one second at 8 kHz differs
+/// from one second at 48 kHz.
 #[derive(Clone, Copy, Debug, PartialEq, Eq)]
 pub struct MediaTime {
     numer: u64,
@@ -77,7 +77,7 @@ pub struct MediaTime {
 }
 
 impl MediaTime {
-    /// `numer` ticks of a clock of that rate.
+    /// `numer` ticks of a clock of this rate.
     pub fn new(numer: u64, rate: Frequency) -> MediaTime {
         MediaTime {
             numer,
@@ -169,7 +169,7 @@ pub struct CodecSpec {
     pub codec: Codec,
     /// The rate of the RTP clock.
     pub clock_rate: Frequency,
-    /// Whether AMR-WB payloads are octet-aligned (RFC 4867, section 4.4). Others do not look at it.
+    /// Whether AMR-WB payloads are octet-aligned (RFC 4867, section 4.4). Other codecs ignore it.
     pub octet_align: bool,
 }
 
@@ -187,9 +187,9 @@ pub struct ToPayload {
     pub ext_vals: ExtensionValues,
 }
 
-/// Writes a number at the front of `buf` as the shortest LEB128 (AV1 bitstream specification, section 4.10.5), leaves
-/// the rest, and answers how many bytes it took: 1 to 9. It asks for a value below 2^63, and for a `buf` with room for its
-/// bytes, as one of 9 has for any.
+/// Writes a number at the front of `buf` as the shortest LEB128 (AV1 bitstream specification, section 4.10.5), leaves the rest
+/// unchanged, and returns the number of bytes written: 1 to 9. Requires a value below 2^63, and a `buf` with room for its bytes; 9
+/// bytes are always enough.
 ///
 /// # Panics
 ///
@@ -209,8 +209,8 @@ pub fn encode_leb_u63(value: u64, buf: &mut [u8]) -> usize {
     9
 }
 
-/// The number nearest to `previous` whose low bits are those of `id`, for a range of 2 to the power of their number;
-/// of two equally near ones the greater.
+/// The number nearest to `previous` whose low bits equal `id`, for a range of 2 to the power of the number of bits; of two equally
+/// near numbers the greater.
 fn nearest_of(previous: u64, id: u64, range: u64) -> u64 {
     let ahead = (id + range - previous % range) % range;
     if ahead <= range / 2 {
@@ -229,7 +229,7 @@ pub fn extend_u7(previous: Option<u64>, id: u8) -> u64 {
     }
 }
 
-/// An id of 8 bits extended likewise.
+/// Extends an id of 8 bits in the same way.
 pub fn extend_u8(previous: Option<u64>, id: u8) -> u64 {
     match previous {
         Some(previous) => nearest_of(previous, u64::from(id), 256),
@@ -237,7 +237,7 @@ pub fn extend_u8(previous: Option<u64>, id: u8) -> u64 {
     }
 }
 
-/// An id of 15 bits extended likewise.
+/// Extends an id of 15 bits in the same way.
 pub fn extend_u15(previous: Option<u64>, id: u16) -> u64 {
     match previous {
         Some(previous) => nearest_of(previous, u64::from(id), 32_768),
@@ -245,7 +245,7 @@ pub fn extend_u15(previous: Option<u64>, id: u16) -> u64 {
     }
 }
 
-/// A number of 32 bits, such as an RTP time, extended likewise.
+/// Extends a number of 32 bits, such as an RTP time, in the same way.
 pub fn extend_u32(previous: Option<u64>, number: u32) -> u64 {
     match previous {
         Some(previous) => nearest_of(previous, u64::from(number), 1 << 32),

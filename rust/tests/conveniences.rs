@@ -3,7 +3,7 @@
 use codec_payload::media::av1::Av1Obus;
 use codec_payload::rtp::{HeaderExtension, RtpError, RtpPacket, is_rtcp};
 use codec_payload::sender::{Sample, Sender, SenderSettings};
-use codec_payload::stream::{ReceiveError, Receiver, ReceiverSettings};
+use codec_payload::stream::{ReceiveError, Receiver, ReceiverSettings, Windows};
 use codec_payload::*;
 use std::error::Error;
 use std::time::Duration;
@@ -81,6 +81,34 @@ fn whole_frames_come_in_order() -> Result<(), Box<dyn Error>> {
     );
     assert_eq!(counters.packets.released, 3 * wanted.len() as u64);
     assert_eq!((receiver.ssrc(), sender.counts().packets), (Some(7), 600));
+    Ok(())
+}
+
+/// The windows by rate are those of audio and video for their rates, and a receiver takes all of them.
+#[test]
+fn windows_by_rate() -> Result<(), Box<dyn Error>> {
+    let of = |rate| {
+        let Windows { forward, backward } = Windows::for_rate(rate);
+        (forward, backward)
+    };
+    assert_eq!((of(0), of(200)), ((3_000, 1_000), (3_000, 1_000)));
+    assert_eq!(
+        (of(1_000), of(u32::MAX)),
+        ((12_000, 5_000), (32_760, 13_650))
+    );
+    let rate = Frequency::NINETY_KHZ;
+    let video = ReceiverSettings::live_video(96, rate);
+    assert_eq!((video.forward, video.backward), of(1_000));
+    for packets_per_second in 0..3_000 {
+        let (forward, backward) = of(packets_per_second);
+        let settings = ReceiverSettings {
+            forward,
+            backward,
+            ..ReceiverSettings::live_video(96, rate)
+        };
+        let depacketizer = CodecDepacketizer::from_codec(Codec::Vp8).ok_or("no depacketizer")?;
+        let _: Receiver = Receiver::new(depacketizer, settings)?;
+    }
     Ok(())
 }
 
@@ -322,4 +350,35 @@ fn premises_panic() {
         panics(|| ExtensionValues::default().for_packet(1, 1)),
     ];
     assert_eq!(asked, [true; 10]);
+}
+
+/// The receiver releases 65,500, and `restart` is called; the new sender's second packet by number, 5, arrives first.
+#[test]
+fn packets_sent_before_the_first_after_a_restart_are_not_late() {
+    let mut receiver = receiver(Codec::Opus);
+    let packet = |number: u16, time: u32| {
+        let mut datagram = vec![0x80, 96];
+        datagram.extend(number.to_be_bytes());
+        datagram.extend(time.to_be_bytes());
+        datagram.extend(7_u32.to_be_bytes());
+        datagram.push(number as u8);
+        datagram
+    };
+    receiver.receive(Ticks(0), &packet(65_500, 0)).unwrap();
+    receiver.finish();
+    assert_eq!(receiver.pop(Ticks(0)).unwrap().unwrap().bytes, [0xdc]);
+    receiver.restart();
+    assert_eq!(
+        receiver.receive(Ticks(1), &packet(5, 9_000)).unwrap(),
+        codec_payload::jitter::Outcome::Restarted(false)
+    );
+    assert_eq!(
+        receiver.receive(Ticks(1), &packet(65_490, 5_000)).unwrap(),
+        codec_payload::jitter::Outcome::Held
+    );
+    receiver.finish();
+    let units: Vec<u8> = std::iter::from_fn(|| receiver.pop(Ticks(1)))
+        .map(|unit| unit.unwrap().bytes[0])
+        .collect();
+    assert_eq!(units, [0xd2, 5]);
 }

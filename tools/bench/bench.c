@@ -42,7 +42,7 @@ static size_t put_leb(uint8_t *out, size_t number) {
     return size;
 }
 
-/* Adds an OBU of that header with so many bytes to the frame. */
+/* Adds an OBU with this header and `count` bytes to the frame. */
 static void put_obu(uint8_t header, size_t count) {
     frame[frame_len++] = header;
     frame_len += put_leb(frame + frame_len, count);
@@ -65,7 +65,7 @@ static void make_av1(size_t size, bool tiles) {
     }
 }
 
-/* A kind of frames: the settings of its codec, and the byte that its frames begin with, if that matters. */
+/* A type of frames: the settings of its codec, and the first byte of its frames, if it matters. */
 typedef struct {
     const char *name;
     cpay_spec spec;
@@ -113,7 +113,7 @@ static cpay_spec make_frame(const char *family) {
     return KINDS[0].spec;
 }
 
-/* ---- What is timed ---- */
+/* ---- The timed work ---- */
 
 static cpay_packetizer packetizer = CPAY_INIT;
 static cpay_depacketizer depacketizer = CPAY_INIT;
@@ -153,7 +153,7 @@ static void depacketize(void) {
     check(cpay_depacketized(&depacketizer, &size, &extra, space, sizeof space));
 }
 
-/* Copies each packet into memory of its own. */
+/* Copies each packet into separate memory. */
 static void copy(void) {
     uint8_t **all = malloc((packet_count + 1) * sizeof *all);
     for (size_t i = 0; all && i < packet_count; i++)
@@ -181,7 +181,7 @@ static void decode(void) {
     check(cpay_red_blocks(packets, starts[1], places, 33, &count));
 }
 
-/* The number of the k-th packet, where each row of 32 comes in another order. */
+/* The number of the k-th packet: each 32 consecutive packets arrive in another order. */
 static uint64_t number_of(uint64_t k) {
     return has_jitter ? k / 32 * 32 + k % 32 * 13 % 32 : k;
 }
@@ -226,7 +226,7 @@ static void in_turn(void) {
     next++;
 }
 
-/* A new buffer in a state, which is kept: so many packets came, and so many units went. */
+/* The numbers of packets pushed and of units popped so far by a new buffer. */
 static uint64_t kept_pushed, kept_popped;
 
 static void keep_buffer(void) {
@@ -276,7 +276,7 @@ static void receive_and_pop(void) {
     if (status != CPAY_NONE) check(status);
 }
 
-/* A receiver that waits for nothing but what is missing. */
+/* A receiver that waits only for missing packets. */
 static void new_receiver(void) {
     cpay_receiver_settings settings = {.spec = {.codec = CPAY_OPUS, .rate = 48000}, .limit = 65536, .max_wait = 1 << 20,
                                        .tick_rate = 48000, .forward = 3000, .backward = 1000, .payload_type = 96,
@@ -319,7 +319,7 @@ static work *frames_case(const char *family, const char *call) {
     return send_frame;
 }
 
-/* Payloads of 120 bytes in RED; the distances at which they are repeated stand in the name as digits. */
+/* Payloads of 120 bytes in RED; the digits of the name are the distances at which they are repeated. */
 static work *red_case(const char *family, const char *call) {
     uint32_t distances[8];
     size_t count = 0;

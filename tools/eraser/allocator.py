@@ -16,7 +16,9 @@ def drop_bounds(f):
             t = f.ts[i]
             if t.kind == "word" and t.text == bound:
                 a, b = f.ts[i - 1], f.ts[i + 1]
-                if a.text == "+":
+                if a.text == "::" or a.text in ("{", ",") and b.text in (",", "}"):
+                    i += 1  # a variant of an enum
+                elif a.text == "+":
                     del f.ts[i - 1:i + 1]
                 elif b.text == "+":
                     f.ts[i + 2].pre = t.pre

@@ -5,12 +5,8 @@ from known import COLLECTIONS
 from source import base, enclosing, item_end
 from tokens import Token, angles, close, opens, plain
 
-# Receivers whose types the eraser does not find by itself.
-HINTS = {
-    ("payload_codec_tests/src/av1/plain_packer.rt", "element"): "Vec",
-    ("payload_codec_tests/src/base/wire/media.rt", "names"): "HashMap",
-}
-
+# Receivers whose types the eraser does not find by itself: file below `crates`, and text, to the name of the type.
+HINTS = {}
 
 FALLIBLE = {"push": "try_push", "push_front": "try_push_front", "push_back": "try_push_back", "extend_from_slice": "try_extend",
             "resize": "try_resize", "insert": "try_insert", "reserve": "try_room", "reserve_exact": "try_exact",
@@ -148,7 +144,7 @@ def rename_fallible(f, i):
     own = f.known.methods.get(t.text, set())
     end = close(f.ts, i + 1)
     hint = HINTS.get((f.path.split("crates/")[-1], plain(f.ts[first:i - 1]).replace(" ", "")))
-    # Other types have no such method. rustc refuses a wrong choice: there is no `try_push`, or no result, then.
+    # Other types have no such method. rustc refuses a wrong choice: `try_push` or the result does not exist then.
     types = {hint} if hint else types
     types = {x for x in types if x in STD or x in own or x in ("String", "HashMap")}
     if types in ({"String"}, {"HashMap"}):

@@ -10,7 +10,6 @@ Needs Python 3.11 and rustfmt. docs/PLAIN_RUST.md says what it does. It refuses,
 """
 import argparse
 import os
-import re
 import sys
 
 import output
@@ -18,7 +17,7 @@ import programs
 from erasing import drop_theorems, erase
 from heads import drop_passed_on, flatten, head_files, passed_on_modules, root_modules
 from known import Known
-from layout import FACADE, FLAT, LIBRARY, NOT_HERE, PLACES, PROGRAMS, PROGRAMS_LIBRARY, RENAMED_MODULES, TESTS
+from layout import FACADE, FLAT, LIBRARY, NOT_HERE, PLACES, PROGRAMS, PROGRAMS_LIBRARY, RENAMED_MODULES
 from source import File
 from tokens import Refused, joined
 
@@ -40,13 +39,13 @@ def read_crate(repository, crate, known):
 
 
 def read_all(repository, known):
-    """The sources of the library, and those of programs and tests, by crate and path."""
+    """The sources of the library, and those of programs, by crate and path."""
     there = {it[len(PREFIX):] for it in os.listdir(os.path.join(repository, "crates")) if it.startswith(PREFIX)}
     wanted = {*LIBRARY, FACADE, *NOT_HERE}
     if there != wanted:
         raise Refused(f"layout.py and crates/ differ: {', '.join(sorted(there ^ wanted))}")
     library = {(crate, rel): f for crate in [*LIBRARY, FACADE] for rel, f in read_crate(repository, PREFIX + crate, known).items()}
-    others = {(crate, rel): f for crate in [*TESTS, *PROGRAMS, PROGRAMS_LIBRARY]
+    others = {(crate, rel): f for crate in [*PROGRAMS, PROGRAMS_LIBRARY]
               for rel, f in read_crate(repository, crate, known).items()}
     return library, others
 
@@ -66,25 +65,6 @@ def library_files(library, passed_on):
     yield from head_files(library, passed_on)
 
 
-def test_files(others, passed_on):
-    """Path below `rust/tests`, source and text of each file of the tests."""
-    for (crate, rel), f in others.items():
-        if crate not in TESTS:
-            continue
-        erase(f, None, None, passed_on)
-        text = joined(f.ts)
-        if rel == "lib.rt":
-            rel = "main.rt"
-            text = with_allowed(text) + "\n/// Why a test fails.\npub type Fail = Box<dyn std::error::Error>;\n"
-        yield f"{TESTS[crate]}/{rel[:-3]}.rs", f.path, text
-
-
-def with_allowed(text):
-    """A root file of tests that allows what the prover needs and clippy would write in another way."""
-    end = max((m.end() for m in re.finditer(r"^//![^\n]*\n", text, re.M)), default=0)
-    return f"{text[:end]}#![allow(unused_imports, clippy::all)]\n{text[end:]}"
-
-
 def run(repository, words):
     """Does what the command line asks for; returns the status."""
     known = Known()
@@ -99,9 +79,8 @@ def run(repository, words):
         known.read(f)
     crate = os.path.join(repository, "rust")
     generated = output.Output(crate)
-    for folder, files in (("src", library_files(library, passed_on)), ("tests", test_files(others, passed_on))):
-        for path, source, text in files:
-            generated.add(f"{folder}/{path}", source, text)
+    for path, source, text in library_files(library, passed_on):
+        generated.add(f"src/{path}", source, text)
     output.check_root(os.path.join(crate, "src/lib.rs"), root_modules(library))
     if words.programs:
         programs.write(words.programs, crate, others, passed_on)

@@ -10,7 +10,7 @@ from tokens import joined, plain, tokens
 
 
 def erase(f, crate, module, passed_on):
-    """Makes a file of the library (or, if `crate` is None, of a program or of tests) a file of Rust."""
+    """Makes a file of the library (or, if `crate` is None, of a program) a file of Rust."""
     in_library = crate is not None
     f.shows = in_library
     contracts.drop_clauses(f)
@@ -48,12 +48,10 @@ def write_errors(f):
 
 def import_needs(f, root):
     """Imports the traits by which calls may fail to allocate."""
-    needs = sorted(f.needs - {"Fail"})
+    needs = sorted(f.needs)
     if needs:
         names = "{" + ", ".join(needs) + "}" if len(needs) > 1 else needs[0]
         paths.import_line(f, f"use {root}::memory::{names};\n")
-    if "Fail" in f.needs:
-        paths.import_line(f, "use crate::Fail;\n")
 
 
 def drop_theorems(sources):

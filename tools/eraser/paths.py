@@ -18,7 +18,7 @@ def path_tokens(path, line):
 
 
 def move_paths(f, crate, root, passed_on):
-    """Makes `codec_payload_X::m` and `crate::m` paths below the one root. `crate` is None in programs and tests."""
+    """Makes `codec_payload_X::m` and `crate::m` paths below the one root. `crate` is None in programs."""
     i = 0
     while i < len(f.ts):
         t = f.ts[i]
@@ -97,15 +97,13 @@ def std_paths(f, bare):
             start = item_start(f, i)
             end = next(j for j in range(i, len(f.ts)) if f.ts[j].text == ";")
             path = plain(f.ts[i + 3:end]).replace(" ", "")
-            if path.startswith(("alloc::", "marker::Model", "process::Abort", "test::Fail", "time::Clock")):
+            if path.startswith(("alloc::", "marker::Model", "process::Abort", "time::Clock")):
                 names = re.findall(r"\w+", path.split("::", 1)[1])
-                bad = set(names) - {"AllocError", "AllocFailed", "Global", "Model", "Abort", "Fail", "Clock", "Instant"}
+                bad = set(names) - {"AllocError", "AllocFailed", "Global", "Model", "Abort", "Clock", "Instant"}
                 if bad:
                     f.refuse(t, f"import of {bad}")
                 if "AllocError" in names:
                     f.needs.add("AllocError")
-                if "Fail" in names:
-                    f.needs.add("Fail")
                 pre = f.ts[start].pre
                 del f.ts[start:end + 1]
                 f.ts[start].pre = merged(pre, f.ts[start].pre) if "//" not in pre else pre.rstrip() + "\n\n" + f.ts[start].pre.lstrip("\n")
@@ -142,9 +140,9 @@ def import_line(f, line):
 def bare_imports(f):
     """Imports what `no_std` lacks: `Vec`, `Box`, `String`, `vec!` and `format!`."""
     words = {t.text for t in f.ts if t.kind == "word"}
-    imported = joined(f.ts)
+    imported = " ".join(t.text for t in f.ts)  # without comments
     for name, path in (("Vec", "alloc::vec::Vec"), ("Box", "alloc::boxed::Box"), ("String", "alloc::string::String")):
-        if name in words and not re.search(r"use [^;]*\b%s\b[^;]*;" % name, imported):
+        if name in words and not re.search(r"\buse [^;]*\b%s\b[^;]*;" % name, imported):
             import_line(f, f"use {path};\n")
     for mac in ("vec", "format"):
         if any(t.text == mac and f.ts[i + 1].text == "!" for i, t in enumerate(f.ts)):

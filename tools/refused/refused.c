@@ -104,7 +104,7 @@ static void packetizes(const example *it) {
     put_packets();
 }
 
-/* Reads the last payload after those before it. After a fault it is read again, which shows what was left of the bytes. */
+/* Reads the last payload after the others. After a fault it is read again, which shows which bytes the fault left. */
 static void depacketizes(const example *it) {
     size_t last = count_of(it) - 1, size;
     cpay_extra extra;
@@ -248,7 +248,7 @@ static cpay_status wrap(uint32_t time, uint8_t byte, size_t *size) {
     return cpay_red_wrap(&red, time, 200, &byte, 1, space, sizeof space, size);
 }
 
-/* Wraps a payload after so many others, and then another, which shows what is remembered. */
+/* Wraps a payload after `before` others, and then one more, which shows the remembered payloads. */
 static void wraps(uint8_t before) {
     static const uint32_t distances[2] = {1, 3};
     size_t size = 0;

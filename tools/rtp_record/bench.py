@@ -1,11 +1,11 @@
 #!/usr/bin/env python3
-"""How many packets a second the recorder takes, and how much memory, of VP8 at 1,200 bytes a packet.
+"""Measures how many packets of VP8 the recorder takes in a second, at 1,200 bytes a packet, and how much memory.
 
-  ./bench.py [MEGABYTES [FOLDER]]      1000 where nothing is said; the folder is a temporary one
+  ./bench.py [MEGABYTES [FOLDER]]      by default 1000 megabytes in a temporary folder
 
-The frames are those of captures/vp8.pcap, put together and cut anew: each takes a payload descriptor and 1,199 bytes a packet
-(RFC 7741), ten packets a frame, at 30 frames a second, until the capture is so large. It is listed and written five times each; the
-least time counts, as user and system time of the process and as wall time. Status 1 where the memory is above 100 MB."""
+The capture has the frames of captures/vp8.pcap, fragmented into packets of a payload descriptor and 1,199 bytes (RFC 7741): ten
+packets a frame, 30 frames a second. It is copied by cp, which shows the share of the file system, listed and written, five times
+each in turn. The least time counts, as user and system time of the process and as wall time. Status 1: more than 100 MB of memory."""
 
 import json
 import os
@@ -25,7 +25,7 @@ SSRC = 0x1234ABCD
 
 
 def frames():
-    """VP8 frames of ten packets each: those of the capture, filled up with zeros, which decoders of VP8 do not mind."""
+    """VP8 frames of ten packets each: those of the capture, filled up with zeros, which VP8 decoders ignore."""
     packets = capture.media_of(capture.read(f"{HERE}/captures/vp8.pcap"))
     for places in capture.frames_of(packets):
         media = b"".join(packets[place].media[4:] for place in places)  # ffmpeg's descriptor: 15 bits of PictureID
@@ -33,7 +33,7 @@ def frames():
 
 
 def write(path, megabytes):
-    """A capture of that size: how many packets it has."""
+    """Writes a capture of about this size. Returns the number of its packets."""
     given, count = list(frames()), 0
     packet = capture.media_of(capture.read(f"{HERE}/captures/vp8.pcap"))[0]
     headers = bytearray(packet.headers)
@@ -54,16 +54,18 @@ def write(path, megabytes):
     return count
 
 
-def measured(*words):
-    """What was told, the least user and system time, the least wall time, and the most memory in megabytes, of some runs."""
-    processor, wall = [], []
-    for _ in range(RUNS):
-        before, began = resource.getrusage(resource.RUSAGE_CHILDREN), time.monotonic()
-        told = json.loads(subprocess.run(words, check=True, stdout=subprocess.PIPE).stdout)["streams"][0]
-        wall.append(time.monotonic() - began)
-        after = resource.getrusage(resource.RUSAGE_CHILDREN)
-        processor.append(after.ru_utime + after.ru_stime - before.ru_utime - before.ru_stime)
-    return told, min(processor), min(wall), resource.getrusage(resource.RUSAGE_CHILDREN).ru_maxrss / 1000
+def measured(words):
+    """Runs a command. Returns its output, its user time, system time and wall time in seconds."""
+    before, began = resource.getrusage(resource.RUSAGE_CHILDREN), time.monotonic()
+    output = subprocess.run(words, check=True, stdout=subprocess.PIPE).stdout
+    wall = time.monotonic() - began
+    after = resource.getrusage(resource.RUSAGE_CHILDREN)
+    return output, (after.ru_utime - before.ru_utime, after.ru_stime - before.ru_stime, wall)
+
+
+def check(output, count, written):
+    found = json.loads(output)["streams"][0]
+    assert found["packets"] == count and found.get("frames", 0) * PACKETS_A_FRAME == (count if written else 0), found
 
 
 def main():
@@ -72,14 +74,23 @@ def main():
         path = f"{folder}/vp8.pcap"
         count = write(path, megabytes)
         print(f"{count} packets, {os.path.getsize(path) / 1e6:.0f} MB")
-        most = 0
-        for what, words in {"listed": [], "written": ["-o", f"{folder}/out.webm"]}.items():
-            told, processor, wall, memory = measured(f"{HERE}/rtp_record", "--json", "--map", "96=VP8/90000", path, *words)
-            most = max(most, memory)
-            assert told["packets"] == count and told.get("frames", 0) * PACKETS_A_FRAME == (count if words else 0), told
-            print(f"{what}: {count / processor:,.0f} packets a second of processor time ({processor:.2f} s), "
-                  f"{count / wall:,.0f} of wall time ({wall:.2f} s), {memory:.0f} MB of memory")
-    return 1 if most > MOST_MEMORY else 0
+        recorder = [f"{HERE}/rtp_record", "--json", "--map", "96=VP8/90000", path]
+        commands = {"copied": ["cp", path, f"{folder}/copy.pcap"], "listed": recorder, "written": [*recorder, "-o", f"{folder}/out.webm"]}
+        times = {what: [] for what in commands}
+        for _ in range(RUNS):
+            for what, words in commands.items():
+                output, taken = measured(words)
+                times[what].append(taken)
+                if what != "copied":
+                    check(output, count, what == "written")
+        for what, taken in times.items():
+            user, system, _ = min(taken, key=lambda it: it[0] + it[1])
+            wall = min(it[2] for it in taken)
+            print(f"{what}: {count / (user + system):,.0f} packets a second of processor time ({user:.2f} s of the program, {system:.2f} s "
+                  f"of the system), {count / wall:,.0f} of wall time ({wall:.2f} s)")
+        memory = resource.getrusage(resource.RUSAGE_CHILDREN).ru_maxrss / 1000
+        print(f"{memory:.0f} MB of memory")
+    return 1 if memory > MOST_MEMORY else 0
 
 
 if __name__ == "__main__":

@@ -27,7 +27,7 @@ struct capture {
 static volatile sig_atomic_t stopped;
 static pcap_t *volatile running; /* the capture that is open */
 
-/* An interface on which nothing comes is waited for until libpcap is told to stop; pcap_breakloop is for signal handlers too. */
+/* On a silent interface libpcap waits until this call stops it. A signal handler may call pcap_breakloop. */
 void capture_stop(void) {
     stopped = 1;
     if (running) pcap_breakloop(running);
@@ -65,7 +65,7 @@ static pcap_t *open_live(const char *name, char *error) {
 
 /* A file is opened here and not by libpcap, which would read it in pieces of 4 KiB. One is open at a time. */
 static pcap_t *open_file(const char *name, char *error) {
-    static char buffer[AT_ONCE]; /* where it is NULL, glibc does not look at the size */
+    static char buffer[AT_ONCE]; /* with NULL glibc would ignore the size */
     int is_input = strcmp(name, "-") == 0;
     FILE *file = is_input ? stdin : fopen(name, "rb");
     if (!file) {

@@ -27,18 +27,6 @@ static const codec codecs[] = {
 static const codec unsupported = {"", CODEC_UNSUPPORTED, CPAY_NULL, AV_CODEC_ID_NONE, 90000, 0, NULL};
 static const codec unknown = {"?", CODEC_UNKNOWN, CPAY_NULL, AV_CODEC_ID_NONE, 90000, 0, NULL};
 
-static const struct {
-    uint8_t payload_type;
-    const char *name;
-    uint32_t rate;
-} static_types[] = {
-    {0, "PCMU", 8000},   {3, "GSM", 8000},   {4, "G723", 8000},   {5, "DVI4", 8000},   {6, "DVI4", 16000},
-    {7, "LPC", 8000},    {8, "PCMA", 8000},  {9, "G722", 8000},   {10, "L16", 44100},  {11, "L16", 44100},
-    {12, "QCELP", 8000}, {13, "CN", 8000},   {14, "MPA", 90000},  {15, "G728", 8000},  {16, "DVI4", 11025},
-    {17, "DVI4", 22050}, {18, "G729", 8000}, {25, "CelB", 90000}, {26, "JPEG", 90000}, {28, "nv", 90000},
-    {31, "H261", 90000}, {32, "MPV", 90000}, {33, "MP2T", 90000}, {34, "H263", 90000},
-};
-
 static const codec *codec_named(const char *name) {
     for (size_t i = 0; i < sizeof codecs / sizeof *codecs; i++)
         if (!strcasecmp(codecs[i].name, name)) return &codecs[i];
@@ -59,20 +47,6 @@ codec_use codec_use_of(const char *name, uint32_t rate, int channels) {
 
 codec_use codec_use_unknown(void) { return use_of(&unknown, unknown.name, 0, 0); }
 
-codec_use codec_use_static(uint8_t payload_type) {
-    for (size_t i = 0; i < sizeof static_types / sizeof *static_types; i++)
-        if (static_types[i].payload_type == payload_type) return codec_use_of(static_types[i].name, static_types[i].rate, 0);
-    return codec_use_unknown();
-}
-
-void codec_use_parameters(codec_use *use, const char *parameters) {
-    const char *align = strstr(parameters, "octet-align=");
-    if (use->codec->library == CPAY_AMR_WB && align) use->octet_align = align[strlen("octet-align=")] == '1';
-    if (use->codec->kind == CODEC_RED) { /* RFC 2198, section 5: the types of its blocks, with slashes between */
-        char *end = NULL;
-        unsigned long inner = strtoul(parameters, &end, 10);
-        if (end != parameters && inner < PAYLOAD_TYPES) use->inner = (uint8_t)inner;
-    }
-}
+codec_use codec_use_unsupported(const char *name) { return use_of(&unsupported, name, 0, 0); }
 
 bool codec_is_media(const codec_use *use) { return use->codec->kind == CODEC_AUDIO || use->codec->kind == CODEC_VIDEO; }

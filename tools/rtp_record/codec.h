@@ -30,7 +30,7 @@ typedef struct {
 
 enum { CODEC_NAME = 24, PAYLOAD_TYPES = 128 };
 
-/* What a payload type stands for: as an SDP or --map says it, by RFC 3551, or by a guess. */
+/* The meaning of a payload type: from an SDP, from --map, from RFC 3551, or from a guess. */
 typedef struct {
     const codec *codec;
     char name[CODEC_NAME]; /* as it was said */
@@ -44,14 +44,11 @@ typedef struct {
 /* A codec by a name in any case, with a rate of the RTP clock, or 0 for the usual one, and a number of channels, or 0. */
 codec_use codec_use_of(const char *name, uint32_t rate, int channels);
 
-/* What is not known. */
+/* An unknown codec. */
 codec_use codec_use_unknown(void);
 
-/* A static payload type (RFC 3551, section 6), or what is not known. */
-codec_use codec_use_static(uint8_t payload_type);
-
-/* Takes over parameters of a codec, as `a=fmtp:` has them behind the payload type. */
-void codec_use_parameters(codec_use *use, const char *parameters);
+/* A codec that is known by name only. */
+codec_use codec_use_unsupported(const char *name);
 
 /* Whether a stream of it becomes a file that plays. */
 bool codec_is_media(const codec_use *use);

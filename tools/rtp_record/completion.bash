@@ -6,8 +6,8 @@ _rtp_record() {
     -f | --filter | -p | --map) COMPREPLY=() ;;
     *)
         if [[ $word == -* ]]; then
-            mapfile -t COMPREPLY < <(compgen -W "--interface --filter --output --mux --sdp --map --all --clean --fill --json \
-                --quiet --help" -- "$word")
+            mapfile -t COMPREPLY < <(compgen -W "--interface --filter --output --mux --sdp --map --all --keep-undecodable --fill \
+                --json --quiet --help" -- "$word")
         else
             mapfile -t COMPREPLY < <(compgen -f -- "$word")
         fi

@@ -33,7 +33,7 @@ events *events_new(uint8_t payload_type, uint32_t rate) {
     return it;
 }
 
-/* The event of that timestamp, new where there is none among the latest. */
+/* Returns the event with this timestamp; adds it if none of the latest events has it. */
 static event *event_at(events *it, uint32_t timestamp, uint64_t now) {
     for (size_t i = it->count; i > 0 && i + 16 > it->count; i--)
         if (it->list[i - 1].timestamp == timestamp) return &it->list[i - 1];

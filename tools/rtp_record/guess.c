@@ -14,8 +14,6 @@ static bool gives_pictures(const stream *it, uint32_t number) {
     settings.spec = (cpay_spec){.codec = number, .rate = 90000};
     settings.payload_type = it->kept[0].header.payload_type;
     settings.hold_back = 0;
-    settings.forward = 3000;
-    settings.backward = 1000;
     if (cpay_receiver_new(&receiver, &settings, NULL, 0)) return false;
     for (size_t i = 0; i < it->kept_count; i++)
         if (cpay_receiver_receive(&receiver, i, it->kept[i].bytes, it->kept[i].size, &outcome)) break;

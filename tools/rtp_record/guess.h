@@ -4,8 +4,8 @@
 
 #include "streams.h"
 
-/* By the packets that were kept: a codec of video where a keyframe of it starts in one of them and says a size, Opus where times
- * go on in its steps; else what is not known. What is found is marked as guessed. */
+/* Guesses the codec from the kept packets. Video: one of the packets starts a keyframe with a picture size. Opus: the timestamps
+ * advance by the packets' durations. Otherwise the codec is unknown. A guess is marked as such. */
 codec_use guess_codec(const stream *it);
 
 #endif

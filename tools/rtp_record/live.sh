@@ -1,10 +1,10 @@
 #!/bin/sh
-# Makes the captures of captures/ on loopback: ffmpeg, GStreamer and Chromium encode and send, tcpdump captures, and what the encoder
-# gave is kept as the MD5 of each frame.
+# Makes the captures of captures/ on loopback: ffmpeg, GStreamer and Chromium encode and send, and tcpdump captures. A file with the
+# MD5 of each frame of the encoder is kept beside each capture.
 #
 #   ./live.sh [NAME..]     all captures, or those named
-#   ./live.sh interface    no capture, but a test of the recorder on the loopback interface
-#   ./live.sh gstreamer    no capture, but a comparison with what GStreamer gives of the captures
+#   ./live.sh interface    tests the recorder on the loopback interface; makes no capture
+#   ./live.sh gstreamer    compares with the frames that GStreamer reads from the captures; makes no capture
 #
 # As root. Packages of Debian: tcpdump ffmpeg chromium gstreamer1.0-tools gstreamer1.0-plugins-good gstreamer1.0-plugins-bad
 set -eu
@@ -31,7 +31,7 @@ capture() {
     wait $dump 2>/dev/null || true
 }
 
-# call NAME WANTED: a call of Chromium, of which live/chromium.html reads what is wanted
+# call NAME WANTED: a call of Chromium; live/chromium.html reads WANTED
 call() {
     echo "$1"
     python3 live/chromium.py captures "$1" "$2"
@@ -58,7 +58,7 @@ describes_red() {
     printf 'a=rtpmap:63 red/48000/2\r\na=fmtp:63 96/96\r\na=rtpmap:96 opus/48000/2\r\na=ssrc:%s cname:test\r\n' "$2" >>"captures/$1.sdp"
 }
 
-wanted=${*:-vp8 vp9 opus pcmu pcma g722 amrwb gstreamer-red chromium-vp8 chromium-vp9 chromium-av1 chromium-red chromium-keys chromium-fec chromium-change chromium-g722}
+wanted=${*:-vp8 vp9 opus pcmu pcma g722 amrwb gstreamer-red chromium-vp8 chromium-vp9 chromium-av1 chromium-red chromium-keys chromium-fec chromium-change chromium-g722 chromium-layers chromium-av1-layers}
 for name in $wanted; do
     case $name in
     interface | gstreamer) python3 "live/$name.py" ;;
@@ -86,6 +86,9 @@ for name in $wanted; do
     chromium-keys) call "$name" 'audio=opus,telephone-event&keys=1234%23&seconds=3' ;;
     chromium-fec) call "$name" 'video=VP8,rtx,red,ulpfec&seconds=3' ;;
     chromium-change) call "$name" 'video=VP8,VP9,rtx&then=VP9&seconds=3' ;;
+    chromium-layers) call "$name" 'video=VP9&layers=L3T3&width=480&seconds=4&key=1500' ;;
+    # the end of the call can cut the last picture: then its packets and its line among the frames are removed by hand
+    chromium-av1-layers) call "$name" 'video=AV1&layers=L2T2&width=480&seconds=4&key=1500' ;;
     chromium-g722) call "$name" 'audio=G722,telephone-event,CN&keys=19&seconds=3' ;;
     *)
         echo "$name: no capture of that name is made here" >&2

@@ -88,7 +88,7 @@ int main(int count, char **words) {
         struct sigaction action = {.sa_handler = stop};
         sigaction(SIGINT, &action, NULL);
         sigaction(SIGTERM, &action, NULL);
-        signal(SIGXFSZ, SIG_IGN); /* a file that may not grow is told as one that cannot be written */
+        signal(SIGXFSZ, SIG_IGN); /* a write beyond the file size limit then fails, and the failure is reported */
         av_log_set_level(AV_LOG_FATAL);
         run(&wanted);
     }

@@ -13,7 +13,7 @@
 /* Something failed: it is said, and counted. */
 void complain(const char *format, ...) PRINTF_LIKE(1, 2);
 
-/* Something is worth to be known, and is no failure. */
+/* Prints a remark: something that helps the user and is not a failure. */
 void remark(const char *format, ...) PRINTF_LIKE(1, 2);
 
 /* How many times something failed. */
@@ -22,8 +22,7 @@ unsigned long complaints(void);
 /* Whether remarks are said (the default), and progress lines, which are for terminals alone. */
 void messages_quiet(void);
 
-/* A line that says how far the reading is, in place of the one before: at most twice a second. `size` is that of the whole
- * capture, or 0. */
+/* Replaces the line that shows the progress, at most twice a second. `size` is the size of the capture, or 0 if unknown. */
 void progress(uint64_t bytes, uint64_t size, uint64_t packets);
 
 /* Clears that line. */

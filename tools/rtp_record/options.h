@@ -16,7 +16,7 @@ typedef struct {
 
 typedef enum { OPTIONS_RUN, OPTIONS_DONE, OPTIONS_WRONG } options_answer;
 
-/* Reads the words of the command line. OPTIONS_DONE: help or the version was printed; OPTIONS_WRONG: what is wrong was said. */
+/* Reads the words of the command line. OPTIONS_DONE: help or the version was printed. OPTIONS_WRONG: the error was printed. */
 options_answer options_read(options *it, int count, char **words);
 
 #endif

@@ -12,10 +12,10 @@ enum {
     TYPES = 128,
     CLOCK = 1000000000,  /* ticks of the capture's clock in a second */
     LOOK_EACH = 16,      /* packets without a marker */
-    MOST_HELD = 4 << 20, /* bytes of frames before the first keyframe, which tells the size of the picture */
+    MOST_HELD = 4 << 20, /* bytes of frames before the first keyframe, which has the size of the picture */
 };
 
-/* A frame before the first keyframe, and those behind it. */
+/* A frame before the first keyframe, in a list. */
 typedef struct held {
     struct held *next;
     int64_t time;
@@ -41,10 +41,8 @@ struct record {
     size_t room;
     int64_t last_time;
     int64_t last_duration;
-    uint64_t last_rtp; /* of the latest unit, without wrapping */
-    bool has_last;
     bool begun;
-    bool lacking; /* a frame is missing since the latest keyframe */
+    bool lacking; /* a frame is missing since the latest keyframe, so a decoder cannot show the next delta frame */
     bool failed;
 };
 
@@ -64,9 +62,11 @@ static bool receives(record *it) {
     settings.has_ssrc = true;
     settings.ssrc = it->stream.ssrc;
     settings.start = 1;
-    settings.forward = 3000;
-    settings.backward = 1000;
-    /* A capture has all that ever came: a gap is waited for by the clock, for as long as a jitter buffer might. */
+    if (use->codec->kind != CODEC_VIDEO) { /* CPAY_FILE has the windows of video */
+        settings.forward = CPAY_FORWARD_FOR(0);
+        settings.backward = CPAY_BACKWARD_FOR(0);
+    }
+    /* No packet comes after those of the capture, so wait for a gap as long as a jitter buffer might, by the capture's clock. */
     settings.has_max_wait = true;
     settings.max_wait = 2ull * CLOCK;
     settings.tick_rate = CLOCK;
@@ -99,16 +99,23 @@ record *record_open(const record_stream *stream, writer *file, size_t track, con
     return NULL;
 }
 
-/* Whether a frame is written: from the first keyframe on, and with --clean not behind a lost one. */
-static bool is_wanted(record *it, const unit_facts *facts, bool follows) {
-    if (!facts->video) return true;
+/* Whether a decoder can show a frame: a keyframe, or a frame that follows one that it can show. Also frames that lack their lower
+ * layers do not follow. */
+static bool is_decodable(record *it, const unit_facts *facts, bool follows) {
     if (facts->keyframe) it->lacking = false;
     else if (!follows || !it->begun) it->lacking = true;
-    if (!it->begun && !facts->keyframe) return false;
-    return !(it->options.clean && it->lacking);
+    return !facts->video || !it->lacking;
 }
 
-/* The track begins with this frame, which tells what it is. */
+/* Whether a frame is left out, which is counted: before the first keyframe, and if a decoder cannot show it. */
+static bool is_left_out(record *it, bool decodable) {
+    if (decodable || (it->begun && it->options.keep_undecodable)) return false;
+    it->totals.skipped++;
+    it->totals.undecodable += it->begun;
+    return true;
+}
+
+/* Begins the track with this frame; its header describes the track. */
 static bool begin(record *it, const unit_facts *facts, uint64_t received, size_t size) {
     uint8_t configuration[UNIT_CONFIGURATION];
     writer_track track = {
@@ -123,7 +130,7 @@ static bool begin(record *it, const unit_facts *facts, uint64_t received, size_t
     track.received = (int64_t)received;
     track.configuration_len = unit_configuration(&it->stream.use, it->bytes, size, configuration);
     it->begun = writer_begin(it->file, it->track, &track);
-    return it->begun || fail(it, "it does not become a track of the file");
+    return it->begun || fail(it, "the file has no track for it");
 }
 
 static bool put(record *it, int64_t time, int64_t duration, const unit_facts *facts, unit_part part) {
@@ -135,7 +142,7 @@ static bool put(record *it, int64_t time, int64_t duration, const unit_facts *fa
         .bytes = part.bytes,
         .size = part.size,
     };
-    if (!writer_write(it->file, it->track, &frame)) return fail(it, "its frames cannot be written any more");
+    if (!writer_write(it->file, it->track, &frame)) return fail(it, "the file cannot be written any more");
     it->totals.frames++;
     it->totals.damaged += frame.damaged;
     it->totals.bytes += part.size;
@@ -145,7 +152,7 @@ static bool put(record *it, int64_t time, int64_t duration, const unit_facts *fa
     return true;
 }
 
-/* A frame before the first keyframe waits for it; where too much waits, it is left out. */
+/* Keeps a frame until the first keyframe. If too many bytes wait, the frame is left out. */
 static bool hold(record *it, int64_t time, const unit_facts *facts, const cpay_unit *unit) {
     held *one = it->held_bytes + unit->bytes <= MOST_HELD ? malloc(sizeof *one + unit->bytes) : NULL;
     if (!one) {
@@ -170,7 +177,7 @@ static void drop_held(record *it) {
     it->held_bytes = 0;
 }
 
-/* The frames before the first keyframe are written: what they refer to lacks. */
+/* Writes the frames before the first keyframe, as damaged ones. */
 static bool put_held(record *it) {
     it->lacking = true;
     for (const held *one = it->first_held; one; one = one->next)
@@ -180,7 +187,7 @@ static bool put_held(record *it) {
     return true;
 }
 
-/* Frames without media in place of those that were lost, where the codec has such. */
+/* Replaces lost frames by silence, if the codec has a frame for it. */
 static bool fill_gap(record *it, int64_t until, const unit_facts *facts) {
     unit_part part;
     int64_t duration = 0;
@@ -193,22 +200,9 @@ static bool fill_gap(record *it, int64_t until, const unit_facts *facts) {
     return true;
 }
 
-/* Whether a unit came before, under another number. RED tells how much older a payload is in time alone (RFC 2198, section 3), and
- * the library reckons its number by that: where numbers without media stand between, a payload that was there comes again. */
-static bool is_repeated(record *it, const cpay_unit *unit) {
-    enum { REPEATED = 8 }; /* so many steps back at most is what RED repeats looked for */
-    bool repeated = it->stream.has_red && it->has_last && unit->rtp_time <= it->last_rtp &&
-                    it->last_rtp - unit->rtp_time <= (uint64_t)REPEATED * it->stream.red_step;
-    if (!repeated) it->last_rtp = unit->rtp_time;
-    it->has_last = true;
-    it->totals.repeated += repeated;
-    return repeated;
-}
-
 /* A unit becomes frames of the track: one, but of AMR-WB as many as it has. */
 static bool take_unit(record *it, const cpay_unit *unit) {
     unit_facts facts;
-    if (is_repeated(it, unit)) return true;
     if (!unit_look(&it->stream.use, it->bytes, unit->bytes, &facts)) {
         it->totals.refused++;
         it->lacking = true;
@@ -216,11 +210,9 @@ static bool take_unit(record *it, const cpay_unit *unit) {
     }
     bool follows = unit->contiguous && it->totals.frames + it->totals.skipped > 0;
     if (!follows && it->begun) it->totals.gaps++;
-    bool holds = it->options.all && !it->options.clean && !it->begun && facts.video && !facts.keyframe;
-    if (!holds && !is_wanted(it, &facts, follows)) {
-        it->totals.skipped++;
-        return true;
-    }
+    bool decodable = is_decodable(it, &facts, follows);
+    bool holds = it->options.all && !it->begun && !decodable;
+    if (!holds && is_left_out(it, decodable)) return true;
     int64_t time = timeline_at(&it->times, unit->rtp_time, unit->received), began;
     if (holds) return hold(it, time, &facts, unit);
     uint64_t first = it->first_held ? it->first_held->received : unit->received;
@@ -236,7 +228,7 @@ static bool take_unit(record *it, const cpay_unit *unit) {
     return true;
 }
 
-/* Takes all units whose turn has come. */
+/* Takes all units that are due. */
 static bool take_units(record *it, uint64_t now) {
     while (!it->failed) {
         cpay_unit unit = {0};
@@ -263,7 +255,7 @@ bool record_take(record *it, const record_packet *packet) {
     if (it->failed) return false;
     if (cpay_receiver_receive(&it->receiver, packet->time, packet->bytes, packet->size, &outcome) == CPAY_OUT_OF_MEMORY)
         return fail(it, "out of memory");
-    /* Frames of video mostly end with a marker: they are looked for then, and each so many packets. Audio has a unit a packet. */
+    /* Most video frames end with a marker. Pops follow each marker, and each 16 packets without one. Audio has a unit in each packet. */
     it->packets_since++;
     bool looks = packet->header.marker || it->packets_since >= LOOK_EACH || it->stream.use.codec->kind == CODEC_AUDIO;
     if (!looks) return true;
@@ -273,11 +265,10 @@ bool record_take(record *it, const record_packet *packet) {
 
 void record_sender_report(record *it, uint64_t ntp, uint32_t rtp_time) { timeline_report(&it->times, ntp, rtp_time); }
 
-/* How many packets others in RED carried, but for those that had come. */
+/* How many packets others in RED carried. */
 static uint64_t recovered(record *it) {
     cpay_receiver_counts_info counts = {0};
-    if (cpay_receiver_counts(&it->receiver, &counts) || counts.recovered < it->totals.repeated) return 0;
-    return counts.recovered - it->totals.repeated;
+    return cpay_receiver_counts(&it->receiver, &counts) ? 0 : counts.recovered;
 }
 
 bool record_close(record *it, record_totals *totals) {

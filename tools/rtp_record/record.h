@@ -11,7 +11,7 @@
 
 typedef struct {
     bool all;   /* write frames before the first keyframe too */
-    bool clean; /* leave frames out whose references may lack, up to the next keyframe */
+    bool keep_undecodable; /* write frames that a decoder cannot show too, from the first keyframe on */
     bool fill;  /* put "no data" frames of AMR-WB and silence of G.711 where packets are lost */
 } record_options;
 
@@ -35,23 +35,24 @@ typedef struct {
     size_t size;
 } record_packet;
 
-/* What was written, and what was not. */
+/* Counts of written frames, and of frames that were not written. */
 typedef struct {
     uint64_t frames;  /* written */
     uint64_t bytes;   /* of these frames */
-    uint64_t gaps;    /* frames that do not follow the one before */
-    uint64_t skipped; /* frames before the first keyframe, or left out as damaged */
-    uint64_t damaged; /* written though what they refer to may lack */
+    uint64_t gaps;    /* frames that do not follow the previous frame */
+    uint64_t skipped; /* complete frames that were left out: before the first keyframe, or undecodable */
+    uint64_t undecodable; /* of these, frames after the first keyframe that a decoder cannot show */
+    uint64_t damaged; /* frames that were written, but a decoder cannot show them */
     uint64_t refused; /* units that the codec's format refuses */
-    uint64_t filled;  /* frames that were put where packets are lost */
+    uint64_t filled;  /* frames of silence that replace lost packets */
     double seconds;   /* from the first frame to the last */
     uint64_t recovered; /* packets that others in RED carried */
-    uint64_t repeated;  /* units that RED gave though they had come */
 } record_totals;
 
 typedef struct record record;
 
-/* A stream that becomes that track of a file. NULL where the library does not take it or memory is wanting, which is said. */
+/* Begins to record a stream as a track of a file. NULL: the library does not support the stream, or out of memory; a message was
+ * printed. */
 record *record_open(const record_stream *stream, writer *file, size_t track, const record_options *options);
 
 /* A packet of the stream's SSRC, whatever its payload type. false where the file cannot be written any more. */
@@ -61,7 +62,7 @@ bool record_take(record *it, const record_packet *packet);
  * The first one puts the tracks of a file together in time. */
 void record_sender_report(record *it, uint64_t ntp, uint32_t rtp_time);
 
-/* The stream ends: what is held comes out. *totals is written; the file stays open. false where something failed. */
+/* Ends the stream: releases the held frames and writes *totals. The file stays open. false: something failed. */
 bool record_close(record *it, record_totals *totals);
 
 #endif

@@ -11,7 +11,7 @@ static double jitter(const stream *it) { return 1000.0 * it->headers.jitter / it
 
 static double seconds(const stream *it) { return (double)(it->last - it->first) / 1e9; }
 
-static const char *codec_told(const stream *it) { return it->encrypted ? "SRTP" : it->use.name; }
+static const char *codec_text(const stream *it) { return it->encrypted ? "SRTP" : it->use.name; }
 
 /* A time of the capture as RFC 3339 has it, to milliseconds, in UTC. */
 static void time_text(uint64_t time, char text[TIME_TEXT]) {
@@ -40,14 +40,16 @@ static void print_row(stream *it) {
     time_text(it->first, first);
     time_text(it->last, last);
     types_text(it, types);
-    snprintf(name, sizeof name, "%s%s", it->use.guessed ? "?" : "", codec_told(it));
+    snprintf(name, sizeof name, "%s%s", it->use.guessed ? "?" : "", codec_text(it));
     printf("%08" PRIx32 "  %-7s %-10s %8" PRIu64 " %6" PRIu64 " %5" PRIu64 " %7" PRIu64 " %5" PRIu64 " %8" PRIu64
            " %7.1fms %9.3f  %s  %s  %s > %s\n",
            it->ssrc, types, name, it->packets, statistics_lost(&it->headers), it->headers.duplicates, it->headers.reordered,
            it->headers.late, it->headers.restarts, jitter(it), seconds(it), first, last + TIME_OF_DAY, from, to);
     if (it->path && it->totals.frames > 0)
-        printf("          %s: %" PRIu64 " frames, %.3f s, %" PRIu64 " gaps, %" PRIu64 " left out, %" PRIu64 " damaged\n", it->path,
-               it->totals.frames, it->totals.seconds, it->totals.gaps, it->totals.skipped + it->totals.refused, it->totals.damaged);
+        printf("          %s: %" PRIu64 " frames, %.3f s, %" PRIu64 " gaps, %" PRIu64 " left out (%" PRIu64 " undecodable), %" PRIu64
+               " damaged\n",
+               it->path, it->totals.frames, it->totals.seconds, it->totals.gaps, it->totals.skipped + it->totals.refused,
+               it->totals.undecodable, it->totals.damaged);
 }
 
 void report_table(const streams *it) {
@@ -84,10 +86,11 @@ static void print_types(const stream *it) {
 }
 
 static void print_totals(const record_totals *totals) {
-    printf("\"frames\": %" PRIu64 ", \"frame_bytes\": %" PRIu64 ", \"gaps\": %" PRIu64 ", \"left_out\": %" PRIu64 ", \"damaged\": %" PRIu64
-           ", \"refused\": %" PRIu64 ", \"filled\": %" PRIu64 ", \"recovered\": %" PRIu64 ", \"media_seconds\": %.3f",
-           totals->frames, totals->bytes, totals->gaps, totals->skipped, totals->damaged, totals->refused, totals->filled,
-           totals->recovered, totals->seconds);
+    printf("\"frames\": %" PRIu64 ", \"frame_bytes\": %" PRIu64 ", \"gaps\": %" PRIu64 ", \"left_out\": %" PRIu64
+           ", \"undecodable\": %" PRIu64 ", \"damaged\": %" PRIu64 ", \"refused\": %" PRIu64 ", \"filled\": %" PRIu64
+           ", \"recovered\": %" PRIu64 ", \"media_seconds\": %.3f",
+           totals->frames, totals->bytes, totals->gaps, totals->skipped, totals->undecodable, totals->damaged, totals->refused,
+           totals->filled, totals->recovered, totals->seconds);
 }
 
 static void print_stream(stream *it) {
@@ -99,7 +102,7 @@ static void print_stream(stream *it) {
     printf(", ");
     print_text("to", to);
     printf(", ");
-    print_text("codec", codec_told(it));
+    print_text("codec", codec_text(it));
     printf(", \"guessed\": %s, ", it->use.guessed ? "true" : "false");
     print_types(it);
     printf(",\n     \"packets\": %" PRIu64 ", \"bytes\": %" PRIu64 ", \"lost\": %" PRIu64 ", \"duplicates\": %" PRIu64

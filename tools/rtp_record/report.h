@@ -1,4 +1,4 @@
-/* What was found and written, for people and as JSON. */
+/* Prints the streams and files, as text and as JSON. */
 #ifndef RTP_RECORD_REPORT_H
 #define RTP_RECORD_REPORT_H
 

@@ -7,58 +7,50 @@
 #include <stdlib.h>
 #include <string.h>
 
-enum { MEDIA_LIMIT = 64, LINE_LIMIT = 4096 };
+enum { MOST_BYTES = 1 << 20, MAP_LIMIT = 256 };
 
-static sdp_medium *add_medium(signalling *it) {
-    if (it->media_count == MEDIA_LIMIT) return NULL;
-    sdp_medium *media = realloc(it->media, (it->media_count + 1) * sizeof *media);
-    if (!media) return NULL;
-    it->media = media;
-    sdp_medium *medium = &media[it->media_count++];
-    memset(medium, 0, sizeof *medium);
+/* ---- Reading ---- */
+
+/* The codec of a format of an SDP. */
+static codec_use use_of(const cpay_sdp_format *format) {
+    if (!format->name[0]) return codec_use_unknown();
+    codec_use use = codec_use_of(format->name, format->clock_rate, (int)format->channels);
+    if (codec_is_media(&use) && format->role != CPAY_SDP_MEDIA) use = codec_use_unsupported(format->name);
+    if (format->role == CPAY_SDP_RED && format->has_of) use.inner = format->of;
+    use.octet_align = format->octet_align;
+    return use;
+}
+
+static void describe(sdp_medium *medium, const cpay_sdp_media *read) {
+    medium->port = read->port;
+    medium->encrypted = read->encrypted;
+    medium->source_count = read->source_count;
+    memcpy(medium->sources, read->sources, sizeof medium->sources);
     for (size_t i = 0; i < PAYLOAD_TYPES; i++) medium->uses[i] = codec_use_unknown();
-    return medium;
+    for (size_t i = 0; i < read->format_count; i++) medium->uses[read->formats[i].payload_type] = use_of(&read->formats[i]);
 }
 
-/* `m=audio 5004 RTP/AVP 0 8 101`: the payload types that need no rtpmap are those of RFC 3551. */
-static void read_medium(sdp_medium *medium, const char *line) {
-    char protocol[32] = "";
-    unsigned port = 0;
-    int end = 0;
-    if (sscanf(line, "m=%*31s %u%*[/0-9] %31s%n", &port, protocol, &end) < 2 &&
-        sscanf(line, "m=%*31s %u %31s%n", &port, protocol, &end) < 2)
-        return;
-    medium->port = port <= UINT16_MAX ? (uint16_t)port : 0;
-    medium->encrypted = strstr(protocol, "SAVP") != NULL;
-    const char *at = line + end;
-    for (;;) {
-        char *behind = NULL;
-        unsigned long payload_type = strtoul(at, &behind, 10);
-        if (behind == at) break;
-        if (payload_type < PAYLOAD_TYPES) medium->uses[payload_type] = codec_use_static((uint8_t)payload_type);
-        at = behind;
+/* Adds the sections of a text. On failure prints a message that begins with `name`. */
+static bool add_media(signalling *it, const char *name, const char *text, size_t size) {
+    cpay_sdp_fault fault = {0};
+    size_t count = 0;
+    cpay_status status = cpay_sdp_read(text, size, NULL, 0, &count, &fault);
+    if (status == CPAY_INVALID) {
+        complain("%s:%zu: %s", name, fault.line, cpay_sdp_error_text(fault.error));
+        return false;
     }
-}
-
-/* `a=rtpmap:111 opus/48000/2` */
-static void read_rtpmap(sdp_medium *medium, const char *line) {
-    char name[CODEC_NAME] = "";
-    unsigned payload_type = 0;
-    unsigned rate = 0;
-    int channels = 0;
-    if (sscanf(line, "a=rtpmap:%u %23[^/ ]/%u/%d", &payload_type, name, &rate, &channels) < 3) return;
-    if (payload_type < PAYLOAD_TYPES) medium->uses[payload_type] = codec_use_of(name, rate, channels > 0 && channels <= 8 ? channels : 0);
-}
-
-static void read_line(sdp_medium *medium, const char *line) {
-    unsigned number = 0;
-    int end = 0;
-    if (!strncmp(line, "a=rtpmap:", 9)) read_rtpmap(medium, line);
-    else if (!strncmp(line, "a=crypto:", 9) || !strncmp(line, "a=fingerprint:", 14)) medium->encrypted = true;
-    else if (sscanf(line, "a=fmtp:%u %n", &number, &end) == 1 && end && number < PAYLOAD_TYPES)
-        codec_use_parameters(&medium->uses[number], line + end);
-    else if (sscanf(line, "a=ssrc:%u", &number) == 1 && medium->ssrc_count < sizeof medium->ssrcs / sizeof *medium->ssrcs)
-        medium->ssrcs[medium->ssrc_count++] = number;
+    if (count == 0) {
+        complain("%s: no SDP, or one without media", name);
+        return false;
+    }
+    cpay_sdp_media *read = calloc(count, sizeof *read);
+    sdp_medium *media = realloc(it->media, (it->media_count + count) * sizeof *media);
+    if (media) it->media = media;
+    bool done = read && media && cpay_sdp_read(text, size, read, count, &count, &fault) == CPAY_OK;
+    if (!done) complain("%s: out of memory", name);
+    for (size_t i = 0; done && i < count; i++) describe(&it->media[it->media_count++], &read[i]);
+    free(read);
+    return done;
 }
 
 bool signalling_read_sdp(signalling *it, const char *path) {
@@ -67,52 +59,65 @@ bool signalling_read_sdp(signalling *it, const char *path) {
         complain("%s: %s", path, strerror(errno));
         return false;
     }
-    size_t before = it->media_count;
-    sdp_medium session = {0}; /* what is said ahead of the first medium */
-    sdp_medium *medium = NULL;
-    char line[LINE_LIMIT];
-    while (fgets(line, sizeof line, file)) {
-        line[strcspn(line, "\r\n")] = '\0';
-        if (!strncmp(line, "m=", 2)) {
-            medium = add_medium(it);
-            if (!medium) break;
-            read_medium(medium, line);
-            medium->encrypted = medium->encrypted || session.encrypted;
-        } else read_line(medium ? medium : &session, line);
-    }
-    bool read = !ferror(file) && it->media_count > before;
+    char *text = malloc(MOST_BYTES);
+    size_t size = text ? fread(text, 1, MOST_BYTES, file) : 0;
+    bool whole = text && !ferror(file) && size < MOST_BYTES;
+    if (!whole) complain("%s: %s", path, !text ? "out of memory" : ferror(file) ? "cannot be read" : "larger than 1 MB");
+    bool read = whole && add_media(it, path, text, size);
+    free(text);
     fclose(file);
-    if (!read) complain("%s: no SDP, or one without media", path);
     return read;
 }
 
+/* The codec of the first payload type of the text's section; unknown if the text is malformed. */
+static codec_use first_use(const char *text) {
+    static cpay_sdp_media media;
+    cpay_sdp_fault fault = {0};
+    size_t count = 0;
+    if (cpay_sdp_read(text, strlen(text), &media, 1, &count, &fault)) return codec_use_unknown();
+    return use_of(&media.formats[0]);
+}
+
+/* A payload type that needs no signalling (RFC 3551, section 6). */
+static codec_use static_use(uint8_t payload_type) {
+    char text[32];
+    snprintf(text, sizeof text, "m=- 0 RTP/AVP %u", payload_type);
+    return first_use(text);
+}
+
 bool signalling_map(signalling *it, const char *text) {
-    char name[CODEC_NAME] = "";
-    unsigned payload_type = 0;
-    unsigned rate = 0;
+    char sdp[MAP_LIMIT], name[CODEC_NAME] = "";
+    unsigned payload_type = 0, rate = 0;
     int channels = 0;
     int found = sscanf(text, "%u=%23[^/;]/%u/%d", &payload_type, name, &rate, &channels);
     if (found < 2 || payload_type >= PAYLOAD_TYPES || channels < 0 || channels > 8 || (found > 2 && !rate)) return false;
     codec_use use = codec_use_of(name, rate, channels);
-    if (use.codec->kind == CODEC_UNSUPPORTED) return false;
+    int size = snprintf(sdp, sizeof sdp, "m=- 0 RTP/AVP %u\na=rtpmap:%u %s/%u/%d", payload_type, payload_type, name,
+                        (unsigned)use.rate, use.channels);
+    const char *parameters = strchr(text, ';');
+    if (parameters) size += snprintf(sdp + size, sizeof sdp - (size_t)size, "\na=fmtp:%u %s", payload_type, parameters + 1);
+    if (size >= (int)sizeof sdp) return false;
+    use = first_use(sdp);
+    if (use.codec->kind == CODEC_UNSUPPORTED || use.codec->kind == CODEC_UNKNOWN) return false;
     if (!it->by_hand) {
         it->by_hand = calloc(PAYLOAD_TYPES, sizeof *it->by_hand);
-        if (!it->by_hand) return false;
-        for (size_t i = 0; i < PAYLOAD_TYPES; i++) it->by_hand[i] = codec_use_unknown();
+        for (size_t i = 0; it->by_hand && i < PAYLOAD_TYPES; i++) it->by_hand[i] = codec_use_unknown();
     }
-    const char *parameters = strchr(text, ';');
-    if (parameters) codec_use_parameters(&use, parameters + 1);
-    it->by_hand[payload_type] = use;
-    return true;
+    if (it->by_hand) it->by_hand[payload_type] = use;
+    return it->by_hand != NULL;
 }
 
+/* ---- Asking ---- */
+
 static bool has_ssrc(const sdp_medium *medium, uint32_t ssrc) {
-    for (size_t i = 0; i < medium->ssrc_count; i++)
-        if (medium->ssrcs[i] == ssrc) return true;
+    for (size_t i = 0; i < medium->source_count; i++) {
+        const cpay_sdp_source *source = &medium->sources[i];
+        if (source->ssrc == ssrc || (source->has_rtx && source->rtx_ssrc == ssrc)) return true;
+    }
     return false;
 }
 
-/* How well a medium fits to a stream: 0 not at all. */
+/* How well a section fits to a stream: 0 not at all. */
 static int fit(const sdp_medium *medium, const wire_flow *flow, uint32_t ssrc, uint8_t payload_type) {
     if (medium->uses[payload_type].codec->kind == CODEC_UNKNOWN) return 0;
     if (has_ssrc(medium, ssrc)) return 4;
@@ -137,7 +142,7 @@ static const sdp_medium *medium_of(const signalling *it, const wire_flow *flow, 
 codec_use signalling_use(const signalling *it, const wire_flow *flow, uint32_t ssrc, uint8_t payload_type) {
     if (it->by_hand && it->by_hand[payload_type].codec->kind != CODEC_UNKNOWN) return it->by_hand[payload_type];
     const sdp_medium *medium = medium_of(it, flow, ssrc, payload_type);
-    return medium ? medium->uses[payload_type] : codec_use_static(payload_type);
+    return medium ? medium->uses[payload_type] : static_use(payload_type);
 }
 
 bool signalling_encrypts(const signalling *it, const wire_flow *flow, uint32_t ssrc, uint8_t payload_type) {

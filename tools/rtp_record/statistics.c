@@ -13,7 +13,7 @@ static void set_seen(statistics *it, uint64_t number, bool seen) {
     *word = seen ? *word | UINT64_C(1) << number % 64 : *word & ~(UINT64_C(1) << number % 64);
 }
 
-/* The sender begins, or begins anew, with this number. */
+/* The sender begins, or restarts, with this number. */
 static void begin(statistics *it, uint16_t number) {
     it->wanted_before += it->begun ? it->greatest - it->base + 1 : 0;
     it->came_before += it->came;
@@ -44,14 +44,14 @@ static void take_time(statistics *it, uint64_t time, uint32_t rate, uint32_t tim
     it->has_transit = true;
 }
 
-/* The number of a packet without wrapping; 0 where it is far from the greatest, and so suspect. */
+/* The extended number of a packet; 0 if the number is outside the windows around the highest one (a suspect packet). */
 static uint64_t place_of(statistics *it, uint16_t number) {
     uint16_t ahead = (uint16_t)(number - it->greatest);
     if (ahead < FORWARD) return it->greatest + ahead;
     if (ahead >= (uint16_t)-BACKWARD) return it->greatest - (uint16_t)-ahead;
     if (it->has_suspect && number == it->suspect) {
         begin(it, (uint16_t)(number - 1));
-        it->came = 1; /* the one before was suspect, and belongs here */
+        it->came = 1; /* the suspect packet before this one is the first of the restarted stream */
         set_seen(it, it->greatest, true);
         it->restarts++;
         return it->greatest + 1;

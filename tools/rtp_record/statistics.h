@@ -1,4 +1,4 @@
-/* What the headers of a stream tell: what is lost, late or there twice, and the jitter. */
+/* Statistics from the headers of a stream: lost, late and duplicate packets, and the jitter. */
 #ifndef RTP_RECORD_STATISTICS_H
 #define RTP_RECORD_STATISTICS_H
 
@@ -14,9 +14,9 @@ typedef struct {
     uint64_t greatest;      /* of the numbers, without wrapping, from 65536 on */
     uint64_t base;          /* the least of them */
     uint64_t came;          /* numbers since then, each once */
-    uint64_t came_before;   /* and until then, where the sender has begun anew */
-    uint64_t wanted_before; /* out of so many */
-    uint16_t suspect;       /* the number behind one that is far from all others */
+    uint64_t came_before;   /* the same of the time before the latest restart */
+    uint64_t wanted_before; /* numbers that were sent until then */
+    uint16_t suspect;       /* the number after that of a suspect packet, which is outside the windows */
     bool has_suspect;
     bool has_transit;
     double transit; /* the latest packet's time of arrival less its timestamp, in ticks of the RTP clock */
@@ -28,8 +28,8 @@ typedef struct {
     double jitter; /* in ticks of the RTP clock (RFC 3550, section 6.4.1) */
 } statistics;
 
-/* Takes a packet's header, which came then, in nanoseconds; its clock has that rate. A number that is far from the others is the
- * beginning of others once its next one comes (RFC 3550, appendix A.1). */
+/* Adds the header of a packet that arrived at `time`, in nanoseconds. `rate` is the rate of its RTP clock. A number outside the
+ * windows begins a restart once the next number follows it (RFC 3550, appendix A.1). */
 void statistics_packet(statistics *it, uint64_t time, uint32_t rate, const cpay_rtp_info *packet);
 
 /* How many numbers did not come between the least and the greatest, over all restarts. */

@@ -52,7 +52,7 @@ static stream *add(streams *it, const wire_flow *flow, uint32_t ssrc) {
 
 /* ---- what its payload types are ---- */
 
-/* The payload type inside RED, as it was signalled; else that of the packet's own block, or PAYLOAD_TYPES. */
+/* The payload type inside RED: the signalled one, else the type of the packet's primary block, or PAYLOAD_TYPES. */
 static uint8_t type_in_red(const codec_use *red, const uint8_t *payload, size_t size) {
     static uint8_t media[UINT16_MAX];
     cpay_red_block_info block = {0};
@@ -62,7 +62,7 @@ static uint8_t type_in_red(const codec_use *red, const uint8_t *payload, size_t 
     return PAYLOAD_TYPES;
 }
 
-/* The payload type of a packet tells the codec, if anything does yet. */
+/* Settles the codec by the payload type of a packet, if it is known. */
 static void settle_by(stream *it, const signalling *known, const record_packet *packet) {
     uint8_t payload_type = packet->header.payload_type;
     codec_use use = signalling_use(known, &it->flow, it->ssrc, payload_type);
@@ -95,15 +95,15 @@ static size_t beside(const stream *it, const signalling *known, uint8_t types[PA
     return count;
 }
 
-/* Whether a stream does not take media of that type, which is another format of its sender. */
+/* Whether the payload type is another format of the sender, which this stream does not record. */
 static bool is_other_format(const stream *it, const signalling *known, uint8_t payload_type) {
     if (!it->settled || payload_type == it->payload_type || payload_type == it->red_payload_type) return false;
     codec_use use = signalling_use(known, &it->flow, it->ssrc, payload_type);
     return codec_is_media(&use);
 }
 
-/* The stream of a packet. A sender may change its format and keep its SSRC (RFC 3550, section 5.1): each format is a stream of its own,
- * and a packet goes to the stream that takes its type. NULL if there are too many, or out of memory. */
+/* The stream of a packet. A sender may change its format and keep its SSRC (RFC 3550, section 5.1). Each format is a separate stream,
+ * and a packet goes to the stream of its payload type. NULL: too many streams, or out of memory. */
 static stream *stream_of(streams *all, const signalling *known, const wire_flow *flow, const cpay_rtp_info *header) {
     stream *it = find(all, flow, header->ssrc);
     if (!it) return add(all, flow, header->ssrc);
@@ -115,8 +115,8 @@ static stream *stream_of(streams *all, const signalling *known, const wire_flow 
 
 /* ---- recording ---- */
 
-/* The step between the packet at a place and the one before it, in ticks of the RTP clock; 0 if their numbers are not consecutive,
- * or if RED cannot express the step (RFC 2198, section 3: 14 bits). */
+/* The step from the previous packet to the packet at a place, in ticks of the RTP clock. 0 if their numbers are not consecutive, or
+ * if RED cannot express the step (RFC 2198, section 3: 14 bits). */
 static uint32_t step_at(const stream *it, size_t place) {
     const cpay_rtp_info *before = &it->kept[place - 1].header, *packet = &it->kept[place].header;
     uint32_t step = packet->timestamp - before->timestamp;
@@ -124,8 +124,8 @@ static uint32_t step_at(const stream *it, size_t place) {
     return follows && step < 1 << 14 ? step : 0;
 }
 
-/* How many ticks of the RTP clock packets in RED are apart: the most frequent step between the kept packets, the smallest of equally
- * frequent ones; 20 ms if there is none. A single step says little: GStreamer's first Opus packet lasts 648 ticks, the others 960. */
+/* The step of a stream in RED, in ticks of the RTP clock: the most frequent step of the kept packets. If two are equally frequent, the
+ * smaller one; if no step is known, 20 ms. A single step says little: GStreamer's first Opus packet lasts 648 ticks, the others 960. */
 static uint32_t step_of(const stream *it) {
     uint32_t found = it->use.rate / 50;
     size_t most = 0;
@@ -141,8 +141,8 @@ static uint32_t step_of(const stream *it) {
     return found;
 }
 
-/* Where something of a stream goes: FOLDER/SSRC.ENDING, or beside the file that was named. A second flow with the same SSRC, and a
- * second stream beside a file, get a name of their own. NULL where memory is wanting. */
+/* The path of a stream's file: FOLDER/SSRC.ENDING, or a name beside the named file. A second flow with the same SSRC, and a second
+ * stream beside a file, get another name. NULL: out of memory. */
 static char *path_of(const streams *all, const stream *it, const streams_output *output, const char *ending) {
     size_t before = 0;
     char number[24] = "";
@@ -220,21 +220,21 @@ static void drop_kept(streams *all, stream *it) {
     it->kept_count = 0;
 }
 
-/* Now that the rate of its clock is known, the packets that were kept are counted by that. */
-static void count_anew(stream *it) {
+/* Counts the kept packets again, now that the rate of their clock is known. */
+static void count_again(stream *it) {
     if (it->packets != it->kept_count) return;
     it->headers = (statistics){0};
     for (size_t i = 0; i < it->kept_count; i++)
         statistics_packet(&it->headers, it->kept[i].time, it->use.rate, &it->kept[i].header);
 }
 
-/* The codec is known, or will not be: what was kept goes where it belongs. */
+/* The codec is known, or stays unknown: the kept packets go to the record and the events. */
 static void settle(streams *all, stream *it, const signalling *known, streams_output *output) {
     if (!it->settled && it->use.codec->kind == CODEC_UNKNOWN) {
         it->use = guess_codec(it);
         for (size_t i = 0; i < it->kept_count && it->payload_type == PAYLOAD_TYPES; i++)
             it->payload_type = it->kept[i].header.payload_type;
-        count_anew(it);
+        count_again(it);
     }
     it->settled = true;
     bool writes = (output->folder || output->file || output->together) && it->valid && !it->encrypted && codec_is_media(&it->use);
@@ -257,7 +257,7 @@ static bool knows_enough(const stream *it) {
     return it->settled && (it->red_payload_type == PAYLOAD_TYPES || it->kept_count >= STEPS_SEEN);
 }
 
-/* Keeps packets until the stream is valid and described; once too many are kept, it is settled with what is known. */
+/* Keeps packets until the stream is valid and its codec known. Once too many are kept, settles the stream with what is known. */
 static void keep_or_settle(streams *all, stream *it, const signalling *known, streams_output *output, const record_packet *packet) {
     keep(all, it, packet);
     bool full = it->kept_count == MOST_KEPT || all->kept_bytes > MOST_KEPT_BYTES;

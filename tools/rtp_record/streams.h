@@ -33,15 +33,15 @@ typedef struct stream {
     uint64_t of_type[PAYLOAD_TYPES];
     codec_use use;             /* of its media */
     uint8_t payload_type;      /* of its media, inside RED too */
-    uint8_t red_payload_type;  /* PAYLOAD_TYPES where there is no RED */
-    bool settled;              /* the codec is known, or given up */
+    uint8_t red_payload_type;  /* PAYLOAD_TYPES without RED */
+    bool settled;              /* the codec is known, or will stay unknown */
     statistics headers;
     record_packet kept[MOST_KEPT]; /* until it is settled; their bytes are the stream's */
     size_t kept_count;
     record *record;
     writer *file;
-    char *path;       /* of the file that is written, or that of all streams */
-    bool has_name;    /* it has the name of the output as it is */
+    char *path;       /* of the file of this stream, or of all streams */
+    bool has_name;    /* the file has exactly the name that was given for the output */
     events *events;
     record_totals totals;
 } stream;
@@ -67,7 +67,7 @@ typedef struct {
     record_options options;
 } streams_output;
 
-/* A datagram goes to its stream, which is made where there is none. */
+/* Passes a datagram to its stream; adds the stream if it is new. */
 void streams_datagram(streams *it, const signalling *known, streams_output *output, uint64_t time, const wire_datagram *datagram);
 
 /* All streams end, and their files too. */

@@ -1,6 +1,6 @@
 #!/bin/sh
-# Builds the recorder, plain and with sanitizers, and runs all its tests over the captures of the repository.
-# The last line is `N passed, N failed`; the status is 0 where nothing failed.
+# Builds the recorder, plain and with sanitizers, and runs all its tests over the captures of the repository. The last line is
+# `N passed, N failed`; the status is 0 if nothing failed.
 set -u
 cd "$(dirname "$0")" || exit 2
 passed=0

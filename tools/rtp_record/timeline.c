@@ -31,7 +31,7 @@ void timeline_report(timeline *it, uint64_t ntp, uint32_t rtp_time) {
 
 bool timeline_began(const timeline *it, int64_t *nanoseconds) {
     if (!it->begun || !it->reported) return false;
-    /* the first unit is so many ticks behind the report, or before it */
+    /* ticks from the report to the first unit; negative if the unit is earlier */
     int32_t ticks = (int32_t)((uint32_t)it->first_rtp - it->ntp_rtp);
     int64_t report = (int64_t)(it->ntp >> 32) * SECOND + (int64_t)(((it->ntp & 0xffffffff) * (uint64_t)SECOND) >> 32);
     *nanoseconds = report + (int64_t)((double)ticks * 1e9 / it->rate);

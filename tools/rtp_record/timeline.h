@@ -1,4 +1,4 @@
-/* Times of a stream: RTP times that jump, as where the sender begins anew, become times that go on as the clock does. */
+/* Times of a stream: RTP times that jump, as after a restart of the sender, become times that advance with the clock. */
 #ifndef RTP_RECORD_TIMELINE_H
 #define RTP_RECORD_TIMELINE_H
 
@@ -20,7 +20,7 @@ typedef struct {
 void timeline_begin(timeline *it, uint32_t rate);
 
 /* The time of a unit whose RTP time does not wrap and which came then, in nanoseconds: in ticks of the RTP clock from the first
- * unit on. Where the RTP time and the clock went on by more than ten seconds apart from one another, the clock is right. */
+ * unit on. If the RTP time and the clock advance by amounts that differ by more than ten seconds, the clock decides. */
 int64_t timeline_at(timeline *it, uint64_t rtp_time, uint64_t received);
 
 /* What a sender report says. The first one holds. */

@@ -6,15 +6,15 @@
 enum { PART = 20, SILENCE = 160 }; /* 20 ms of G.711 */
 
 bool unit_look(const codec_use *use, const uint8_t *bytes, size_t size, unit_facts *facts) {
-    cpay_frame_facts told = {0};
+    cpay_frame_facts found = {0};
     *facts = (unit_facts){.video = use->codec->kind == CODEC_VIDEO};
-    if (cpay_frame_info(use->codec->library, bytes, size, &told) != CPAY_OK) return false;
-    facts->keyframe = told.has_keyframe && told.keyframe;
-    if (told.has_size) {
-        facts->width = told.width;
-        facts->height = told.height;
+    if (cpay_frame_info(use->codec->library, bytes, size, &found) != CPAY_OK) return false;
+    facts->keyframe = found.has_keyframe && found.keyframe;
+    if (found.has_size) {
+        facts->width = found.width;
+        facts->height = found.height;
     }
-    facts->duration = (int64_t)told.duration;
+    facts->duration = (int64_t)found.duration;
     return true;
 }
 

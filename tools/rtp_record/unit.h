@@ -1,4 +1,4 @@
-/* What units of a codec are: keyframes, sizes, durations, the frames in them, and what containers want to know of the codec. */
+/* Facts about units of a codec: keyframes, sizes, durations, the frames in them, and the configuration for containers. */
 #ifndef RTP_RECORD_UNIT_H
 #define RTP_RECORD_UNIT_H
 
@@ -12,7 +12,7 @@ enum { UNIT_CONFIGURATION = 512 }; /* the most bytes of a configuration */
 typedef struct {
     bool video;
     bool keyframe;
-    uint32_t width; /* in pixels, 0 where they are not told */
+    uint32_t width; /* in pixels, 0 if the frame does not have them */
     uint32_t height;
     int64_t duration; /* of audio, in ticks of the RTP clock */
 } unit_facts;
@@ -31,17 +31,17 @@ typedef struct {
     int64_t duration; /* of a part, in ticks of the RTP clock */
 } unit_parts;
 
-/* What a unit says of itself. false where it is malformed. */
+/* Reads the facts of a unit. false: it is malformed. */
 bool unit_look(const codec_use *use, const uint8_t *bytes, size_t size, unit_facts *facts);
 
-/* What a container wants of the codec, by the first unit that is written: how many bytes it has, 0 for none. */
+/* Writes the codec's configuration for a container, from the first unit, and returns its size in bytes; 0: none. */
 size_t unit_configuration(const codec_use *use, const uint8_t *bytes, size_t size, uint8_t configuration[UNIT_CONFIGURATION]);
 
-/* The packets that a unit becomes in a file: one, but of AMR-WB one a frame. */
+/* The parts of a unit that a file stores as packets: the whole unit, or each frame of AMR-WB. */
 void unit_split(unit_parts *parts, const codec_use *use, const uint8_t *bytes, size_t size);
 bool unit_next(unit_parts *parts, unit_part *part);
 
-/* What stands for 20 ms without sound: a "no data" frame of AMR-WB, or silence of G.711. false of other codecs. */
+/* Gives 20 ms without sound: a "no data" frame of AMR-WB, or silence of G.711. false: another codec. */
 bool unit_silence(const codec_use *use, unit_part *part, int64_t *duration);
 
 #endif

@@ -47,7 +47,7 @@ static bool take_32(wire_bytes *bytes, uint32_t *value) {
     return true;
 }
 
-/* Takes an address of that many bytes, and fills up with zeros. */
+/* Takes an address of `count` bytes, and fills the rest with zeros. */
 static bool take_address(wire_bytes *bytes, size_t count, uint8_t address[16]) {
     wire_bytes taken;
     if (!take(bytes, count, &taken)) return false;
@@ -86,7 +86,7 @@ static uint16_t type_of_ip(wire_bytes bytes) {
     return bytes.at[0] >> 4 == 6 ? ETHERTYPE_IPV6 : 0;
 }
 
-/* Takes the link's header and VLAN tags, and tells the EtherType of what follows. */
+/* Takes the link's header and VLAN tags, and writes the EtherType of the next header. */
 static bool take_link(int link_type, wire_bytes *bytes, uint16_t *type) {
     bool taken = false;
     switch (link_type) {
@@ -110,8 +110,7 @@ static bool take_link(int link_type, wire_bytes *bytes, uint16_t *type) {
 
 /* ---- IP and UDP ---- */
 
-/* What became of an IP header: on WIRE_UDP a UDP header follows, and *missing tells how many bytes of the packet the capture
- * lacks. */
+/* Reads an IP header. WIRE_UDP: a UDP header follows, and *missing is the number of bytes that the capture cut from the packet. */
 static wire_kind take_ipv4(wire_bytes *bytes, wire_flow *flow, size_t *missing) {
     wire_bytes header = *bytes;
     uint8_t first = 0;

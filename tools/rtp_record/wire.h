@@ -1,6 +1,6 @@
-/* Bytes from the network: link, IP and UDP headers, what kind of datagram it is, and RTCP reports.
+/* Bytes from the network: link, IP and UDP headers, the type of a datagram, and RTCP reports.
  *
- * Besides the library and libpcap, wire.c alone reads untrusted bytes. All its reads go through a reader that knows where its
+ * Only the library, libpcap and wire.c read untrusted bytes. All its reads go through a reader that knows where its
  * bytes end; nothing is allocated, and each loop takes at least a byte a turn. */
 #ifndef RTP_RECORD_WIRE_H
 #define RTP_RECORD_WIRE_H
@@ -62,10 +62,10 @@ typedef struct {
     wire_bytes cname;  /* at most 255 bytes, any */
 } wire_report;
 
-/* Where the reading of a compound RTCP packet stands. */
+/* The position of the reader in a compound RTCP packet. */
 typedef struct {
-    wire_bytes rest;   /* behind the packet that is read */
-    wire_bytes packet; /* what is left of it */
+    wire_bytes rest;   /* the bytes after the current packet */
+    wire_bytes packet; /* the unread bytes of the current packet */
     uint8_t type;      /* its type, or 0 */
     uint8_t sources;   /* how many of its sources are not read yet */
 } wire_rtcp;

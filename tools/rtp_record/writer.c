@@ -15,8 +15,8 @@ enum {
     MOST_WAITING = 16 << 20, /* bytes that wait at most until it is known how tracks lie in time */
 };
 
-/* In nanoseconds: so long they wait; so far apart the clocks of two senders are two clocks; so much media is lost at most where the
- * disk is full. */
+/* In nanoseconds: the longest wait for a track; the difference from which two senders have different clocks; the most media that is
+ * lost if the disk is full. */
 static const int64_t LONGEST_WAIT = 10000000000, CLOCKS_APART = 10000000000, BETWEEN_FLUSHES = 1000000000;
 
 /* A packet that waits, and those behind it. */
@@ -92,7 +92,7 @@ writer *writer_new(const char *path, size_t tracks) {
 
 bool writer_has(const writer *file, size_t number) { return file->track[number].begun; }
 
-/* What is known of a track goes into its stream. */
+/* Copies the description of a track into its stream. */
 static bool describe(writer *file, AVStream *stream, const writer_track *info) {
     AVCodecParameters *codec = stream->codecpar;
     codec->codec_id = info->codec;
@@ -113,7 +113,7 @@ static bool describe(writer *file, AVStream *stream, const writer_track *info) {
     return true;
 }
 
-/* What was written goes to the disk, up to the end of a packet, and of Matroska a cluster. */
+/* Flushes the file to the disk, up to the end of a packet (Matroska: of a cluster). */
 static bool flush(writer *file) {
     int error = av_write_frame(file->format, NULL);
     avio_flush(file->format->pb);
@@ -176,7 +176,7 @@ static void put_together(writer *file) {
     for (size_t i = 0; i < file->tracks; i++) file->track[i].offset -= first;
 }
 
-/* Opens the file and writes its header, then what waits. Tracks that have not begun are given up. */
+/* Opens the file and writes its header, then what waits. Tracks that have not begun are left out. */
 static bool begin_file(writer *file) {
     int error;
     put_together(file);
@@ -222,7 +222,7 @@ bool writer_begin(writer *file, size_t number, const writer_track *info) {
     return true;
 }
 
-/* What a frame is besides its bytes, with its time in nanoseconds from the beginning of its track. */
+/* Fills in everything of a packet except its bytes. The frame's time is in nanoseconds from the beginning of its track. */
 static void describe_frame(AVPacket *packet, const track *of, const writer_frame *frame) {
     packet->stream_index = of->stream->index;
     packet->flags = 0;
@@ -282,7 +282,7 @@ bool writer_write(writer *file, size_t number, const writer_frame *frame) {
     return put_in;
 }
 
-/* Ends a file: all that waits is written ahead of the trailer, so that without the trailer it is there too. */
+/* Ends a file. Waiting frames are written before the trailer, so they are in the file even if the trailer fails. */
 static void end_file(writer *file) {
     int error = file->tracks > 1 ? av_interleaved_write_frame(file->format, NULL) : 0;
     if (error < 0) fail(file, "cannot be written", error);

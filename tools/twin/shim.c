@@ -55,7 +55,7 @@ uint32_t twin_depacketize(void *depacketizer, const uint8_t *payload, size_t pay
     return cpay_depacketize(depacketizer, payload, payload_len);
 }
 
-/* What the payloads gave: bytes, and of the extra its kind, its keyframe bit and its picture id (or 0). */
+/* The result of the payloads: bytes, and from the codec-specific data its type, its keyframe bit and its picture id (or 0). */
 uint32_t twin_depacketized(void *depacketizer, uint8_t *bytes, size_t bytes_len, size_t *size, uint64_t extra[3]) {
     cpay_extra told = { 0 };
     cpay_status status = cpay_depacketized(depacketizer, size, &told, bytes, bytes_len);

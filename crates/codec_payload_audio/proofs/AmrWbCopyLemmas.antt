@@ -1,4 +1,4 @@
--- Lemmas on copies of bits that are no whole bytes apart.
+-- Lemmas on copies of bits whose distance is not a multiple of a byte.
 use Rattle.std.proofs.Common.{◌≡◌, ℕ, suc, ◌+◌, ◌-◌, ◌*◌, ◌/◌, ◌%◌, ◌^◌, ◌<◌, ◌≤◌, List, [], ◌∷◌, ◌++◌, length, get_or, take, drop, set, replicate, refl, sym, ◌∙◌, ap, arith, append_assoc, append-nil, length-append}
 use Rattle.std.specs.Int.Bits.{bit_or}
 use Rattle.std.proofs.lemmas.Nat.{pow_pos, or_shifted, shr-shr}
@@ -40,7 +40,7 @@ carries_first toc small clear =
           ∙ ap (λ t. bits 4 15 ++ t) (sym six);
     }
 
--- a front that ends r bits behind whole bytes
+-- a front that ends r bits after whole bytes
 pub cut_front : (xs ys : List ℕ) (b n r s : ℕ) → s + r ≡ 8 → n ≡ 8 * length xs + r → take n (bits_of (xs ++ b ∷ ys)) ≡ bits_of xs ++ bits r (b / 2 ^ s)
 cut_front xs ys b n r s width e =
     let size : length (bits_of xs) ≡ 8 * length xs = length-bits_of xs in
@@ -67,7 +67,7 @@ cut_last xs ys b n r s whole some e =
     ∙ ap (λ t. (bits_of xs ++ bits r (b / 2 ^ s)) ++ t) (bits-zero s ∙ ap (λ t. replicate t 0) (sym (ap gap size ∙ spare)))
     ∙ sym (ap padded front)
 
--- what the code of a cut leaves, where the last byte kept is at k
+-- the result of the cut, if the last byte kept is at k
 pub cut_items : (items : List ℕ) (n m k b s : ℕ) → 0 < n → n ≤ 8 * length items → m ≡ k + 1 → 8 * k < n → n ≤ 8 * m → s ≡ (8 - n % 8) % 8 → b ≡ get_or items k 0
     → bits_of (set (take m items) k (b / 2 ^ s * 2 ^ s)) ≡ padded (take n (bits_of items))
 cut_items items n m k b s some within last above below spare is =

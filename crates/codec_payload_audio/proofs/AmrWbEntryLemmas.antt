@@ -88,7 +88,7 @@ reads_eight old new b t r f k q = (
   omega (arith, ap length r.1, length-append (bits 8 b) (left new), length-bits 8 b),
 )
 
--- the entries read so far stand before those that are left
+-- the entries read so far precede the remaining ones
 pub record SoFar (octet : Bool) (old now : List ℕ) : Type 0 where
   pub es : List Entry
   pub before : with_front es (entries_at octet now) ≡ entries_at octet old
@@ -122,7 +122,7 @@ reads_last octet old now next e s r off = (s.es ++ entry_of e ∷ [], sym s.befo
 pub reads_short : (octet : Bool) (old now next : List ℕ) → SoFar octet old now → ReadsEntry octet now next None → entries_at octet old ≡ Err faults.ErrShortPacket
 reads_short octet old now next s r = sym s.before ∙ ap (with_front s.es) r
 
--- where no entry is read, the fault is that of the entries
+-- if no entry can be read, the fault is the fault of the entries
 pub entry_missing : (octet : Bool) (old now next : List ℕ) (o : Option TocEntry) (e : PacketError) → SoFar octet old now → ReadsEntry octet now next o
     → Err e ≡ ok_or o faults.ErrShortPacket → entries_at octet old ≡ Err e
 entry_missing octet old now next None e s r is =

@@ -69,7 +69,7 @@ enough : (octet : Bool) (n g size : ℕ) → (octet ≡ true → (size + n) % 8 
 enough true n g size whole e = let all = whole refl in omega arith
 enough false n g size whole e = omega arith
 
--- what fills a byte up is there, and skipped
+-- the bits that fill up a byte are present, and skipped
 pub gap_skipped : (octet : Bool) (old new : Reader) (n g : ℕ) (o : Option ℕ) → (octet ≡ true → (length (left old) + n) % 8 ≡ 0) → g ≡ cond octet (gap n) 0
     → ReadsBits g old new o → left new ≡ drop (cond octet (gap n) 0) (left old)
 gap_skipped octet old new n g o whole e r =
@@ -79,7 +79,7 @@ rest_sum : (octet : Bool) (n : ℕ) → n + cond octet (gap n) 0 ≡ cond octet 
 rest_sum true n = refl
 rest_sum false n = add-zero n
 
--- what is left behind the speech and what fills its byte up
+-- the bits after the speech and the fill of its last byte
 pub frame_rest : (octet : Bool) (old now new : Reader) (n : ℕ) → now ≡ moved old n → left new ≡ drop (cond octet (gap n) 0) (left now) → left new ≡ drop (cond octet (n + gap n) n) (left old)
 frame_rest octet old now new n e skipped =
     skipped
@@ -87,14 +87,14 @@ frame_rest octet old now new n e skipped =
     ∙ drop-drop (cond octet (gap n) 0) n (left old)
     ∙ ap (λ t. drop t (left old)) (rest_sum octet n)
 
--- where frames begin with bytes, so does what is left
+-- if frames begin with bytes, the rest begins with a byte
 pub whole_now : (old now : Reader) (n : ℕ) → now ≡ moved old n → n ≤ length (left old) → length (left old) % 8 ≡ 0 → (length (left now) + n) % 8 ≡ 0
 whole_now old now n e within whole = omega (arith, ap length (plain_rest old now n e), length-drop n (left old))
 
 pub whole_after : (n : ℕ) (now new : List ℕ) → (length now + n) % 8 ≡ 0 → new ≡ drop (gap n) now → length new % 8 ≡ 0
 whole_after n now new whole e = omega (arith, ap length e, length-drop (gap n) now)
 
--- speech that is there, and speech that is not
+-- speech that is complete, and speech that is cut off
 pub frame_there : (octet : Bool) (e : TocEntry) (n : ℕ) (bs rest : List ℕ) → speech_size e.frame_type ≡ Some n → n ≤ length bs
     → rest ≡ drop (cond octet (n + gap n) n) bs → (frame : List ℕ) × (frame_at octet (entry_of e) bs (speech_size e.frame_type) ≡ Ok (frame, rest))
 frame_there octet e n bs rest size within skipped =

@@ -10,7 +10,7 @@ use Rattle.codec_payload_audio.specs.AmrWbEntries.{ReadsEntry, entry_of}
 use Rattle.codec_payload_audio.proofs.AmrWbEntryLemmas.{entries_more, entries_last}
 use Rattle.codec_payload_audio.proofs.AmrWbReadLemmas.{extends_same, extends_on}
 
--- the frames read so far, before those that are left, are all
+-- the frames read so far, followed by the remaining ones, are all frames
 pub record FramesSoFar (octet : Bool) (toc0 speech0 toc speech added : List ℕ) : Type 0 where
   pub table : HasEntries octet toc
   pub before : with_frame added (frames_of octet (entries_at octet toc) speech) ≡ frames_of octet (entries_at octet toc0) speech0

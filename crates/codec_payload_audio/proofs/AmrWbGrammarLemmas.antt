@@ -1,4 +1,4 @@
--- What is spelled as AMR-WB is received, and what is received was spelled so.
+-- Bytes spelled as AMR-WB are received, and received bytes were spelled so.
 use Rattle.std.proofs.Common.{◌≡◌, ℕ, zero, suc, ◌+◌, ◌-◌, ◌*◌, ◌/◌, ◌%◌, ◌<◌, ◌≤◌, inl, inr, List, [], ◌∷◌, ◌++◌, length, take, drop, map, refl, sym, ◌∙◌, ap, arith, append_assoc, length-append, length-drop, cond, eqb, Option, Some, None, Ok, Err, Result, Bool, true, false, replicate}
 use Rattle.std.specs.List.{AllByRecursion}
 use Rattle.std.proofs.lemmas.Bool.{lt-ltb, le-ltb, cases_lt, eqb-true, eqb-false, cases_Bool}
@@ -13,7 +13,7 @@ use Rattle.codec_payload_audio.specs.AmrWbPayload.{request_size, entry_fill, spe
 abbrev entry_for : Frame → Entry
 entry_for f = record { kind = f.kind; quality = f.quality }
 
--- ---- what is spelled so is received
+-- ---- spelled bytes are received
 
 one_entry : (octet : Bool) (v : ℕ) (f : Frame) (fill rest : List ℕ) → v < 2 → IsFrame f → length fill ≡ entry_fill octet
     → entries_at octet (toc_entry v f ++ (fill ++ rest)) ≡ entry_then v (entry_for f) rest (entries_at octet rest)
@@ -88,7 +88,7 @@ spelled_is_received octet bs fs p =
     ∙ ap whole (frames_spelled octet fs p.speech p.fill p.frames p.are_speech)
     ∙ rw (lt-ltb (length p.fill) 8 p.less_than_a_byte) refl
 
--- ---- what is received was spelled so
+-- ---- received bytes were spelled so
 
 ok_pair : {A B : Type 0} (a c : A) (b d : B) → ◌≡◌ {A = Result (A × B) PacketError} (Ok (a, b)) (Ok (c, d)) → (a ≡ c) × (b ≡ d)
 ok_pair {A} {B} a c b d h = let e : ◌≡◌ {A = A × B} (a, b) (c, d) = cc in (ap (λ (t : A × B). t.0) e, ap (λ (t : A × B). t.1) e)
@@ -372,7 +372,7 @@ pub received_is_spelled : ReceivedIsSpelled
 received_is_spelled octet [] frames h = inl (refl, none_received octet frames h)
 received_is_spelled octet (b ∷ bs) frames h = inr (bytes_received octet (b ∷ bs) frames (omega arith) h)
 
--- ---- what is sent is spelled so
+-- ---- sent frames are spelled so
 
 gap_below : (n : ℕ) → gap n < 8
 gap_below n = omega arith

@@ -23,7 +23,7 @@ entry_is toc n rest small =
     ∙ ap (λ t. bits 1 0 ++ t ++ bits 1 (toc / 4)) (bits-same 4 (toc / 4 / 2) (toc / 8 % 16) kind)
     ∙ ap (λ t. bits 1 0 ++ bits 4 (toc / 8 % 16) ++ t) (bits-same 1 (toc / 4) (toc / 4 % 2) quality)
 
--- the front of a head and the bits behind it
+-- the front of a head and the bits after it
 take_head : (head xs : List ℕ) (h n : ℕ) → length head ≡ h → take (h + n) (head ++ xs) ≡ head ++ take n xs
 take_head head xs h n e = ap (λ t. take (t + n) (head ++ xs)) (sym e) ∙ take-append-add head xs n
 
@@ -113,7 +113,7 @@ payload-length true first n rest within =
     ) in
     padded-length all ∙ ap (λ t. t + gap t) size
 
--- the answers of one frame, by the length of its payload in bytes
+-- the results for one frame, by the length of its payload in bytes
 module _ (octet : Bool) (mtu first n size : ℕ) (rest : List ℕ) (within : n ≤ 8 * length rest) (least : cond octet 16 10 + n ≤ 8 * size) (most : 8 * size < cond octet 16 10 + n + 8) where
   total : length (payload octet (frame_from first n rest)) ≡ 8 * size
   total = omega (arith, payload-length octet first n rest within)

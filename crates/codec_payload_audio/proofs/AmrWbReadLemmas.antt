@@ -71,7 +71,7 @@ tail_byte r t few small =
     ∙ bits-cat (8 - r) r t 0 (pow_pos (8 - r))
     ∙ ap (λ z. bits r t ++ z) (bits-zero (8 - r))
 
--- fewer bits than a byte, and zeros behind them
+-- fewer bits than a byte, and zeros after them
 pub copied_rest : (old new : Reader) (out : List ℕ) (r t : ℕ) → 0 < r → r < 8 → ReadsBits r old new (Some t) → bits_of (out ++ (t * 2 ^ (8 - r) % 256) ∷ []) ≡ bits_of out ++ padded (take r (left old))
 copied_rest old new out r t some few reads =
     let taken : take r (left old) ≡ bits r t = ap (take r) reads.1 ∙ take_at (bits r t) (left new) r (length-bits r t) in

@@ -14,7 +14,7 @@ unfolding received
 received_none octet [] h = refl
 received_none octet (b ∷ bs) h = absurd (omega arith)
 
--- the place behind the mode request is there
+-- the place after the mode request exists
 pub at_head : (octet : Bool) (size : ℕ) → 0 < size → min (cond octet 8 4) (8 * size) ≡ cond octet 8 4
 at_head true size some = omega arith
 at_head false size some = omega arith

@@ -28,7 +28,7 @@ head_size f =
     let front : List ℕ = bits 4 15 ++ bits 4 0 ++ entry f ++ bits 2 0 in
     length-append front f.speech ∙ ap (λ t. t + length f.speech) (front_size f)
 
--- one frame, and what fills its last byte up
+-- one frame, and the bits that fill up its last byte
 one_frame : (octet : Bool) (kind quality n : ℕ) (speech zeros : List ℕ) → speech_size kind ≡ Some n → length speech ≡ n → length zeros < 8
     → (octet ≡ true → length zeros ≡ gap n)
     → whole (frames_at octet (record { kind = kind; quality = quality } ∷ []) (speech ++ zeros)) ≡ Ok (canonical (record { kind = kind; quality = quality; speech = speech }))
@@ -110,7 +110,7 @@ sized_frame first rest (Some n) f size is = by_length (eqb (length rest) (div_ce
         subst IsFrame f_is (is_frame first n rest size (omega (arith, whole)))
     by_length false other = absurd (none_is_some (sym (ap (λ b. cond b (Some (frame_from first n rest)) None) other) ∙ is))
 
--- what bytes store is a frame
+-- stored bytes are a frame
 pub stored_is_frame : (bytes : List ℕ) (f : Frame) → stored bytes ≡ Some f → IsFrame f
 stored_is_frame [] f is = cc
 stored_is_frame (b ∷ bs) f is = sized_frame b bs (speech_size (b / 8 % 16)) f refl is

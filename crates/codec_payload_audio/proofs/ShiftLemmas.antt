@@ -80,7 +80,7 @@ whole_here r n whole there =
     let size : length (bits_of (take n (here r))) ≡ 8 * n = length-bits_of (take n (here r)) ∙ ap (λ t. 8 * t) (length-take-le n (here r) there) in
     sym (ap (take (8 * n)) (l ∙ parts) ∙ take_at (bits_of (take n (here r))) (bits_of (drop n (here r))) (8 * n) size)
 
--- so many bits are left where the bytes are there
+-- if the bytes are present, 8 bits for each remain
 pub there_here : (r : Reader) (n : ℕ) → 8 * n ≤ length (left r) → 8 * n ≤ 8 * length (here r) - r.place % 8
 there_here r n h = omega (arith, h, length_left r.bytes r.place, length-drop (r.place / 8) r.bytes)
 

@@ -45,13 +45,12 @@ entry f = bits 1 0 ++ bits 4 f.kind ++ bits 1 f.quality
 abbrev pub canonical : Frame → List ℕ
 canonical f = padded (entry f ++ bits 2 0 ++ f.speech)
 
--- the payload of a frame: mode request 15, the entry, the speech bits; octet-aligned it has 4 bits behind the request and 2
--- behind the entry
+-- the payload of a frame: mode request 15, the entry, the speech bits; if octet-aligned, 4 bits follow the request and 2 the entry
 abbrev pub payload : Bool → Frame → List ℕ
 payload false f = padded (bits 4 15 ++ entry f ++ f.speech)
 payload true f = padded (bits 4 15 ++ bits 4 0 ++ entry f ++ bits 2 0 ++ f.speech)
 
--- the frame of a first byte and the bytes behind it, of which n bits are speech
+-- the frame of a first byte and the bytes after it, with n bits of speech
 abbrev pub frame_from : ℕ → ℕ → List ℕ → Frame
 frame_from first n rest = record { kind = first / 8 % 16; quality = first / 4 % 2; speech = take n (bits_of rest) }
 
@@ -64,7 +63,7 @@ abbrev pub stored : List ℕ → Option Frame
 stored [] = None
 stored (b ∷ bs) = sized b bs (speech_size (b / 8 % 16))
 
--- the layout as what a packetizer or depacketizer holds
+-- the layout as the state of a packetizer or depacketizer
 abbrev pub layout : Bool → List ℕ
 layout false = 0 ∷ []
 layout true = 1 ∷ []
@@ -82,8 +81,7 @@ abbrev pub amr_wb_is_skipped : List ℕ → Bool
 amr_wb_is_skipped [] = true
 amr_wb_is_skipped (b ∷ bs) = is_without_data (stored (b ∷ bs))
 
--- the fault with which a frame with data is refused, if it is: where the bytes store none, and where its payload is longer
--- than the MTU
+-- the fault with which a frame with data is refused, if it is: the bytes store no frame, or its payload is longer than the MTU
 abbrev pub refusal_of_frame : Bool → ℕ → Option Frame → Option PacketError
 refusal_of_frame octet mtu None = Some faults.ErrAmrWbCorruptedPacket
 refusal_of_frame octet mtu (Some f) = if nat_lt (8 * mtu) (length (payload octet f)) then Some faults.ErrPayloadTooLarge else None
@@ -97,10 +95,10 @@ abbrev pub IsPacketOf : Bool → ℕ → Option Frame → List (List ℕ) → Ty
 IsPacketOf octet mtu None packets = ⊥
 IsPacketOf octet mtu (Some f) packets = (packet : List ℕ) × (packets ≡ packet ∷ []) × (bits_of packet ≡ payload octet f) × (length packet ≤ mtu)
 
--- what is answered for a frame with data
+-- the result for a frame with data
 abbrev pub AnswersFrame : Bool → ℕ → Frame → Result (List (List ℕ)) PacketError → Type 0
 AnswersFrame octet mtu f answer = AnswersBy false (refusal_of_frame octet mtu (Some f)) (λ packets. IsPacketOf octet mtu (Some f) packets) answer
 
--- what the packetizer answers
+-- the result of the packetizer
 abbrev pub AnswersAmrWb : Bool → ℕ → List ℕ → Result (List (List ℕ)) PacketError → Type 0
 AnswersAmrWb octet mtu bytes answer = AnswersBy (amr_wb_is_skipped bytes) (amr_wb_refusal octet mtu bytes) (λ packets. IsPacketOf octet mtu (stored bytes) packets) answer

@@ -8,7 +8,7 @@ use Rattle.codec_payload_audio.specs.AmrWbReceived.{Entry, entries_at, entry_the
 abbrev pub entry_of : TocEntry → Entry
 entry_of e = record { kind = e.frame_type; quality = bit_of e.quality }
 
--- what the read of an entry says of the entries
+-- what reading an entry says about the entries
 abbrev pub ReadsEntry : Bool → List ℕ → List ℕ → Option TocEntry → Type 0
 ReadsEntry octet old new None = entries_at octet old ≡ Err faults.ErrShortPacket
 ReadsEntry octet old new (Some e) = (entries_at octet old ≡ entry_then (bit_of e.follows) (entry_of e) new (entries_at octet new)) × (length new < length old)

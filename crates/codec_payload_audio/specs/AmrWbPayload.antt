@@ -5,17 +5,17 @@ use Rattle.codec_payload_base.specs.Bits.{bits, bits_of}
 use Rattle.codec_payload_audio.specs.AmrWb.{Frame, IsFrame, canonical, gap, payload}
 use Rattle.codec_payload_audio.specs.AmrWbReceived.{received}
 
--- the mode request in four bits; octet-aligned, four bits of any value stand behind it
+-- the mode request in four bits; if octet-aligned, four bits of any value follow
 abbrev pub request_size : Bool → ℕ
 request_size false = 4
 request_size true = 8
 
--- how many bits of any value stand behind an entry
+-- the number of bits of any value after an entry
 abbrev pub entry_fill : Bool → ℕ
 entry_fill false = 0
 entry_fill true = 2
 
--- and behind speech of so many bits: octet-aligned, up to a byte
+-- and after speech of n bits: if octet-aligned, up to a byte
 abbrev pub speech_fill : Bool → ℕ → ℕ
 speech_fill octet n = if octet then gap n else 0
 
@@ -23,7 +23,7 @@ speech_fill octet n = if octet then gap n else 0
 abbrev pub toc_entry : ℕ → Frame → List ℕ
 toc_entry follows f = bits 1 follows ++ bits 4 f.kind ++ bits 1 f.quality
 
--- the bits are the table of contents of the frames, one or more: an entry for each, of which the last alone says that none follows
+-- the bits are the table of contents of the frames, one or more: an entry for each; only the last says that no entry follows
 abbrev pub AreEntries : Bool → List Frame → List ℕ → Type 0
 AreEntries octet [] bs = ⊥
 AreEntries octet (f ∷ []) bs = (fill : List ℕ) × (length fill ≡ entry_fill octet) × (bs ≡ toc_entry 0 f ++ fill)
@@ -47,7 +47,7 @@ pub record IsAmrWb (octet : Bool) (bs : List ℕ) (fs : List Frame) : Type 0 whe
   pub less_than_a_byte : length fill < 8
   pub is : bs ≡ request ++ (entries ++ (speech ++ fill))
 
--- what a payload of several frames gives: the canonical form of each, in order
+-- the output of a payload of several frames: the canonical form of each, in order
 abbrev pub canonicals : List Frame → List ℕ
 canonicals fs = flat_map canonical fs
 
@@ -55,12 +55,12 @@ canonicals fs = flat_map canonical fs
 abbrev pub SpelledIsReceived : Type 0
 SpelledIsReceived = (octet : Bool) (bs : List ℕ) (fs : List Frame) → IsAmrWb octet bs fs → received octet bs ≡ Ok (canonicals fs)
 
--- what is received of bytes was spelled so; no bytes carry nothing
+-- received bytes were spelled so; an empty payload carries nothing
 abbrev pub ReceivedIsSpelled : Type 0
 ReceivedIsSpelled =
     (octet : Bool) (payload frames : List ℕ) → received octet (bits_of payload) ≡ Ok frames
     → ((payload ≡ []) × (frames ≡ [])) ⊎ ((fs : List Frame) × IsAmrWb octet (bits_of payload) fs × (frames ≡ canonicals fs))
 
--- what is sent of a frame is spelled so
+-- the payload sent for a frame is spelled so
 abbrev pub SentIsSpelled : Type 0
 SentIsSpelled = (octet : Bool) (f : Frame) → IsFrame f → IsAmrWb octet (payload octet f) (f ∷ [])

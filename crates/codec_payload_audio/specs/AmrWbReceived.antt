@@ -11,7 +11,7 @@ pub record Entry : Type 0 where
   pub kind : ℕ
   pub quality : ℕ
 
--- the entries before those that were read, or the fault that came
+-- the entries before the ones that were read, or the fault
 abbrev pub with_front : List Entry → Result (List Entry × List ℕ) PacketError → Result (List Entry × List ℕ) PacketError
 with_front es (Ok x) = Ok (es ++ x.0, x.1)
 with_front es (Err e) = Err e
@@ -19,12 +19,11 @@ with_front es (Err e) = Err e
 abbrev pub entry_from : ℕ → ℕ → ℕ → ℕ → ℕ → Entry
 entry_from a b c d q = record { kind = 8 * a + 4 * b + 2 * c + d; quality = q }
 
--- the entry alone where its first bit is 0, else it and those behind it
+-- only the entry if its first bit is 0, else it and the ones after it
 abbrev pub entry_then : ℕ → Entry → List ℕ → Result (List Entry × List ℕ) PacketError → Result (List Entry × List ℕ) PacketError
 entry_then f e rest more = if f == 0 then Ok (e ∷ [], rest) else with_front (e ∷ []) more
 
--- the entries up to the first whose first bit is 0, and the bits behind them; octet-aligned, two bits behind each are
--- skipped
+-- the entries up to the first whose first bit is 0, and the bits after them; if octet-aligned, two bits after each are skipped
 unfoldable pub entries_at : Bool → List ℕ → Result (List Entry × List ℕ) PacketError
 entries_at false (f ∷ a ∷ b ∷ c ∷ d ∷ q ∷ rest) = entry_then f (entry_from a b c d q) rest (entries_at false rest)
 entries_at true (f ∷ a ∷ b ∷ c ∷ d ∷ q ∷ r ∷ s ∷ rest) = entry_then f (entry_from a b c d q) rest (entries_at true rest)
@@ -34,7 +33,7 @@ abbrev pub with_frame : List ℕ → Result (List ℕ × List ℕ) PacketError �
 with_frame frame (Ok x) = Ok (frame ++ x.0, x.1)
 with_frame frame (Err e) = Err e
 
--- what one frame adds, and the bits behind it; octet-aligned, its rest up to a byte is skipped
+-- the output of one frame, and the bits after it; if octet-aligned, its rest up to a byte is skipped
 abbrev pub frame_at : Bool → Entry → List ℕ → Option ℕ → Result (List ℕ × List ℕ) PacketError
 frame_at octet e bs None = Err faults.ErrAmrWbCorruptedPacket
 frame_at octet e bs (Some n) =
@@ -44,7 +43,7 @@ abbrev pub then_frames : Result (List ℕ × List ℕ) PacketError → (List ℕ
 then_frames (Err e) more = Err e
 then_frames (Ok x) more = with_frame x.0 (more x.1)
 
--- the canonical form of each frame, one after another, and the bits behind them
+-- the canonical form of each frame, one after another, and the bits after them
 unfoldable pub frames_at : Bool → List Entry → List ℕ → Result (List ℕ × List ℕ) PacketError
 frames_at octet [] bs = Ok ([], bs)
 frames_at octet (e ∷ es) bs = then_frames (frame_at octet e bs (speech_size e.kind)) (λ rest. frames_at octet es rest)
@@ -58,7 +57,7 @@ abbrev pub behind_entries : Bool → Result (List Entry × List ℕ) PacketError
 behind_entries octet (Err e) = Err e
 behind_entries octet (Ok x) = whole (frames_at octet x.0 x.1)
 
--- what the bits of a payload carry, or their fault; no bits carry nothing
+-- the frames that the bits of a payload carry, or their fault; no bits carry nothing
 unfoldable pub received : Bool → List ℕ → Result (List ℕ) PacketError
 received octet [] = Ok []
 received octet (b ∷ bs) = behind_entries octet (entries_at octet (drop (if octet then 8 else 4) (b ∷ bs)))
@@ -67,12 +66,12 @@ received octet (b ∷ bs) = behind_entries octet (entries_at octet (drop (if oct
 abbrev pub HasEntries : Bool → List ℕ → Type 0
 HasEntries octet bs = (x : List Entry × List ℕ) × (entries_at octet bs ≡ Ok x)
 
--- the frames of the entries that were read, from the bits behind them
+-- the frames of the entries that were read, from the bits after them
 abbrev pub frames_of : Bool → Result (List Entry × List ℕ) PacketError → List ℕ → Result (List ℕ × List ℕ) PacketError
 frames_of octet (Err e) bs = Err e
 frames_of octet (Ok x) bs = frames_at octet x.0 bs
 
--- any fault but want of memory is the one that is read
+-- any fault except out of memory is the fault of reading
 abbrev pub FailsAs : {X : Type 0} → PacketError → Result X PacketError → Type 0
 FailsAs fault r = fault ≢ faults.OutOfMemory → r ≡ Err fault
 
@@ -80,7 +79,7 @@ FailsAs fault r = fault ≢ faults.OutOfMemory → r ≡ Err fault
 abbrev pub Extends : List ℕ → List ℕ → Type 0
 Extends old new = (more : List ℕ) × (new ≡ old ++ more)
 
--- out has gained what was read
+-- the bytes that were read are appended to out
 abbrev pub Gains : List ℕ → List ℕ → List ℕ → Result (List ℕ × List ℕ) PacketError → Type 0
 Gains old new rest (Ok x) = (bits_of new ≡ bits_of old ++ x.0) × (rest ≡ x.1)
 Gains old new rest (Err e) = ⊥
@@ -89,13 +88,13 @@ Gains old new rest (Err e) = ⊥
 abbrev pub IsCopyFault : List ℕ → ℕ → PacketError → Type 0
 IsCopyFault bs count fault = fault ≢ faults.OutOfMemory → (fault ≡ faults.ErrShortPacket) × (length bs < count)
 
--- the fault with which a payload is refused: the one that is read; want of memory only where there is none, and bytes
+-- the fault with which a payload is refused: the fault of reading; out of memory only if reading succeeds and there are bytes
 abbrev pub IsRefusal : PacketError → List ℕ → Result (List ℕ) PacketError → Type 0
 IsRefusal fault payload (Ok frames) = (fault ≡ faults.OutOfMemory) × (0 < length payload)
 IsRefusal fault payload (Err e) = fault ≡ e
 
--- one payload: the bytes and the extra before, the answer, and both afterwards. The frames that the payload's bits carry
--- are appended as bytes; a fault changes nothing, and is the one that is read, or want of memory where there are frames
+-- one payload: the bytes and the codec-specific data before, the result, and both afterwards. The frames in the payload's bits are
+-- appended as bytes. On a fault nothing changes; it is the fault of reading, or out of memory if there are frames
 abbrev pub AmrWbStep : Bool → List ℕ → List ℕ → CodecExtra → Result ⊤ PacketError → List ℕ → CodecExtra → Type 0
 AmrWbStep octet payload out extra (Ok _) out' extra' =
     (frames : List ℕ) × (received octet (bits_of payload) ≡ Ok frames) × (out' ≡ out ++ bytes_of frames) × (extra' ≡ extra)

@@ -5,7 +5,7 @@ use Rattle.codec_payload_base.specs.declared.interface.CodecExtra.{CodecExtra}
 use Rattle.codec_payload_base.specs.declared.error.PacketError.{PacketError}
 use Rattle.codec_payload_base.specs.declared.error.PacketError.TheVariants as faults
 
--- the payload is appended, and the extra stays; want of memory changes nothing
+-- the payload is appended, and the codec-specific data stays; out of memory changes nothing
 abbrev pub Appends : List ℕ → List ℕ → CodecExtra → Result ⊤ PacketError → List ℕ → CodecExtra → Type 0
 Appends payload out extra (Ok _) out' extra' = (out' ≡ out ++ payload) × (extra' ≡ extra)
 Appends payload out extra (Err fault) out' extra' = (fault ≡ faults.OutOfMemory) × (out' ≡ out) × (extra' ≡ extra)
@@ -14,7 +14,7 @@ Appends payload out extra (Err fault) out' extra' = (fault ≡ faults.OutOfMemor
 abbrev pub AnswersItself : List ℕ → Result (List (List ℕ)) PacketError → Type 0
 AnswersItself frame answer = AnswersBy false None (λ packets. packets ≡ frame ∷ []) answer
 
--- a frame that goes into one packet is refused where it is longer than the MTU
+-- a frame that must fit one packet is refused if it is longer than the MTU
 abbrev pub whole_refusal : ℕ → List ℕ → Option PacketError
 whole_refusal mtu frame = if nat_lt mtu (length frame) then Some faults.ErrPayloadTooLarge else None
 

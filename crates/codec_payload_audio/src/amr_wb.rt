@@ -1,7 +1,7 @@
 //! AMR-WB (RFC 4867), one channel, in both layouts, without CRC, interleaving and robust sorting (docs/FORMATS.md, "AMR-WB").
 //!
-//! A frame is handed in and given in its storage form (RFC 4867, section 5.3): a byte with the frame type and the quality
-//! bit, then the speech bits, with zeros up to a byte.
+//! Frames are taken and returned in storage form (RFC 4867, section 5.3): a byte with the frame type and the quality bit, then the
+//! speech bits, padded with zeros to a byte.
 
 ghost use Rattle.std.specs.Prelude.{◌≡◌, ◌<◌, false};
 ghost use Rattle.codec_payload_audio.specs.AmrWb.{speech_size};
@@ -23,8 +23,8 @@ pub fn defaults_of_amr_wb() -> (AmrWbPacketizer, AmrWbDepacketizer)
     (AmrWbPacketizer::default(), AmrWbDepacketizer::default())
 }
 
-/// How many speech bits a frame type has; `None` for a reserved one. Types 14 and 15 stand for a lost frame and for a
-/// frame without data (3GPP TS 26.201, table 1a).
+/// The number of speech bits of a frame type; `None` for a reserved type. Types 14 and 15 mark a lost frame and a frame without
+/// data (3GPP TS 26.201, table 1a).
 fn speech_bits(frame_type: u8) -> Option<usize>
     requires { frame_type < 16 }
     ensures { result ≡ speech_size frame_type }

@@ -1,11 +1,11 @@
-//! What holds of AMR-WB payloads and of pieces. These functions exist for what they prove, and do nothing.
+//! Theorems on AMR-WB payloads and on pieces. These functions exist for their proofs and do nothing.
 
 ghost use Rattle.codec_payload_audio.specs.AmrWbPayload.{ReceivedIsSpelled, SentIsSpelled, SpelledIsReceived};
 ghost use Rattle.codec_payload_base.specs.Pieces.{IsOneList};
 
-/// A payload that is spelled from a mode request, a table of contents and the speech of its entries, with any bits where
-/// their value means nothing, is received as those frames, each in canonical form; and whatever is received was spelled
-/// so (RFC 4867, sections 4.3 and 4.4). What is sent of a frame is spelled so too.
+/// A payload that is spelled from a mode request, a table of contents and the speech of its entries, with any value in the unused
+/// bits, is received as those frames, each in canonical form. Every received payload has such a spelling (RFC 4867, sections 4.3
+/// and 4.4). The payload sent for a frame is spelled so too.
 pub fn payloads_follow_the_grammar()
     ensures received { SpelledIsReceived }
     ensures spelled { ReceivedIsSpelled }

@@ -9,7 +9,7 @@ use Rattle.codec_payload_av1.specs.Av1Size.{packet_size, leb_len}
 use Rattle.codec_payload_av1.proofs.Av1FewestSegments.{runs, runs_from, join, FullSegments, fewest_segments, furthest_segments}
 use Rattle.codec_payload_av1.proofs.Av1PayloadLengths.{leb_len_rises, length_written, payload_at_len}
 
--- ---- where strings begin in an element, and in a packet; mid: the element goes on from before
+-- ---- where strings begin in an element, and in a packet; mid: the element continues from before
 
 abbrev pub falses : List ℕ → List Bool
 falses [] = []
@@ -48,7 +48,7 @@ runs_segment mid [] h = refl
 runs_segment mid ([] ∷ es) h = absurd (omega (arith, h.0))
 runs_segment mid ((c ∷ cs) ∷ es) h = runs_falses 1 cs (segment false es) ∙ runs_after (1 + length cs) es h.1 ∙ ap (λ n. n ∷ map length es) (omega arith)
 
--- ---- all segments together say where the strings begin
+-- ---- all segments together show where the strings begin
 
 marks_join : (begun e : List ℕ) → IsElement e → marks false begun ++ marks (is_begun begun) e ≡ marks false (begun ++ e)
 marks_join [] e h = refl
@@ -101,7 +101,7 @@ with_next_elements true n (e ∷ []) h = (omega (arith, h.0, length-append e (n 
 with_next_elements false n (e ∷ []) h = (h.0, (omega arith, tt))
 with_next_elements y n (e ∷ f ∷ es) h = (h.0, with_next_elements y n (f ∷ es) h.1)
 
--- where something came, the next packet continues exactly where this one goes on
+-- if something came, the next packet continues exactly if this one continues
 next_begun : (y : Bool) (begun : List ℕ) (es : List (List ℕ)) → AllByRecursion IsElement es → 0 < length es → is_begun (left_open y begun es) ≡ y
 next_begun y begun [] h ne = absurd (omega (arith, ne))
 next_begun true [] ([] ∷ []) h ne = absurd (omega (arith, h.0))
@@ -131,7 +131,7 @@ full_segments mtu begun (p ∷ q ∷ ps) strings h ne full =
       full_segments mtu (left_open p.goes_on begun p.elements) (q ∷ ps) rest.0 rest.2 ne.1 full.1,
     )
 
--- ---- what other packets take
+-- ---- the capacity of other packets
 
 within_segments : (mtu : ℕ) (begun : List ℕ) (others : List (List ℕ)) (ps : List Payload) (strings : List (List ℕ)) → StandsAfter begun ps strings
     → AreRead others ps → AllByRecursion (λ bytes. length bytes ≤ mtu) others
@@ -163,7 +163,7 @@ count_read [] (p ∷ ps) r = absurd r
 count_read (bytes ∷ others) [] r = absurd r
 count_read (bytes ∷ others) (p ∷ ps) r = ap suc (count_read others ps r.1)
 
--- No list of payloads of at most mtu bytes that stands for the strings is shorter than the one that is sent.
+-- No list of payloads of at most mtu bytes that represents the strings is shorter than the sent one.
 pub fewest : (mtu : ℕ) (starts : Bool) (strings : List (List ℕ)) (ps : List Payload) (others : List (List ℕ)) → Sent mtu starts strings ps → Packs mtu others strings → length ps ≤ length others
 fewest mtu starts strings ps others sent packs =
     let same : join (segments ps) ≡ join (segments packs.payloads) = all_marks [] ps strings sent.stands ∙ sym (all_marks [] packs.payloads strings packs.stands) in

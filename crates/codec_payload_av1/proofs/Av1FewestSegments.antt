@@ -68,7 +68,7 @@ size_rises cost rises es fs w =
       ]
     ]
 
--- ---- segments: a bit for each byte, true where a string begins
+-- ---- segments: a bit for each byte, true if a string begins there
 
 abbrev pub runs_from : ℕ → List Bool → List ℕ
 runs_from k [] = k ∷ []
@@ -102,7 +102,7 @@ runs_inside ds [] cs = tt
 runs_inside [] (b ∷ bs) cs = runs_front 1 1 (omega arith) bs cs
 runs_inside (d ∷ ds) (b ∷ bs) cs = runs_later 1 (omega arith) ds b bs cs
 
--- ---- the law
+-- ---- the theorem
 
 abbrev pub join : List (List Bool) → List Bool
 join [] = []
@@ -114,7 +114,7 @@ FullSegments cost mtu [] = Unit {0}
 FullSegments cost mtu (x ∷ []) = Unit {0}
 FullSegments cost mtu (x ∷ y ∷ ys) = ((b : Bool) (t : List Bool) → y ≡ b ∷ t → mtu < packet_size cost (runs (x ++ b ∷ []))) × FullSegments cost mtu (y ∷ ys)
 
--- of two ways to part one list, the first part of one goes on into the other
+-- of two partitions of one list, the first part of one reaches into the other
 abbrev Reaches : List Bool → List Bool → List Bool → List Bool → Type 0
 Reaches a b c d = ((t : List Bool) × (a ≡ c ++ t) × (d ≡ t ++ b)) ⊎ ((x : Bool) × (t : List Bool) × (c ≡ a ++ x ∷ t) × (b ≡ x ∷ (t ++ d)))
 

@@ -1,4 +1,4 @@
--- What holds of the packets of a frame.
+-- Facts about the packets of a frame.
 use Rattle.std.proofs.Common.{◌≡◌, ℕ, ◌≤◌, ◌<◌, ◌^◌, Bool, true, false, leb, map, Option, List, [], ◌∷◌, length, take, Some, None, Ok, Err, refl, sym, ap, ◌∙◌, arith}
 use Rattle.std.specs.Option.{option_map}
 use Rattle.std.specs.Prelude.{◌||◌}
@@ -24,7 +24,7 @@ frame_read bytes ks e =
 pub same_sequence : (bytes : List ℕ) (os others : List Obu) → IsSequence os bytes → IsSequence others bytes → os ≡ others
 same_sequence bytes os others a b = some_is os others (sym (sequence_complete os bytes a) ∙ sequence_complete others bytes b)
 
--- ---- what is skipped, refused or wants memory
+-- ---- skipped frames, refused frames, and out of memory
 
 is_large : (mtu : ℕ) → 2 ≤ mtu → leb mtu 1 ≡ false
 is_large mtu le = grind (arith, nat_tests)
@@ -64,7 +64,7 @@ pub none_kept_sent : (mtu : ℕ) (ks : List Obu) → length ks ≡ 0 → AreSent
 none_kept_sent mtu [] none = none_sent mtu
 none_kept_sent mtu (o ∷ os) none = absurd (omega (arith, none))
 
--- the laws of the packets that are sent
+-- the theorems on sent packets
 module _ (bytes : List ℕ) (fits : IsBytes bytes) (short : length bytes < 2 ^ 64) (mtu : ℕ) (small : mtu < 2 ^ 64) (os : List Obu) (seq : IsSequence os bytes) (packets : List (List ℕ))
     (sent : AreSent mtu (starts_sequence (kept os)) (strings_of os) packets) where
   back : ComesBack os packets

@@ -1,4 +1,4 @@
--- What stood in a list before still stands at its front.
+-- An old list remains the front of a longer one.
 use Rattle.std.proofs.Common.{◌≡◌, ℕ, ◌≤◌, List, ◌++◌, length, take, sym, ap, ◌∙◌, arith}
 use Rattle.std.proofs.lemmas.List.{take-append-le, length-take, take-take, take_all}
 

@@ -1,4 +1,4 @@
--- An OBU without a size, and bytes behind it.
+-- An OBU without a size, and bytes after it.
 use Rattle.std.proofs.Common.{◌≡◌, ℕ, ◌+◌, false, cond, List, [], ◌∷◌, ◌++◌, length, take, drop, Some, refl, sym, ap, ◌∙◌, append_assoc, inl, inr, arith}
 use Rattle.std.specs.Prelude.{bit_or}
 use Rattle.std.proofs.lemmas.List.{take-append-drop, length-append}
@@ -9,7 +9,7 @@ use Rattle.codec_payload_av1.specs.Av1Receiving.{unit_of}
 use Rattle.codec_payload_av1.proofs.Av1ObuGrammar.{obu_split}
 use Rattle.codec_payload_av1.proofs.Av1UnitGrammar.{unit_complete}
 
--- an OBU whose payload goes on
+-- an OBU whose payload continues
 abbrev pub going_on : Obu → List ℕ → Obu
 going_on o more = record { header = o.header; extension = o.extension; payload = o.payload ++ more }
 
@@ -24,7 +24,7 @@ same_obu bytes more rest o is none =
       )
     ]
 
--- its payload goes on in these bytes
+-- its payload continues in these bytes
 pub unit_going_on : (bytes more rest : List ℕ) (o : Obu) → obu_at bytes ≡ Some (o, rest) → has_size o.header ≡ false
     → unit_of (bytes ++ more) ≡ Some (cond (is_kept_type o.header) (canonical (going_on o more)) [])
 unit_going_on bytes more rest o is none =
@@ -38,7 +38,7 @@ bare_parts bytes rest o is none =
       | inr q ↦ q.2
     ]
 
--- bytes that stand behind room, and what comes behind them
+-- bytes after room, and the bytes after them
 pub behind_room : (bytes front payload more : List ℕ) (room n : ℕ) → drop room bytes ≡ front ++ payload → length payload + n ≡ length bytes → drop n (bytes ++ more) ≡ payload ++ more
 behind_room bytes front payload more room n is fills =
     let before = take room bytes ++ front in
@@ -46,7 +46,7 @@ behind_room bytes front payload more room n is fills =
     let place : n ≡ length before = omega (arith, fills, ap length parts, length-append before payload) in
     rw place (ap (λ (t : List ℕ). drop (length before) (t ++ more)) parts ∙ ap (λ (t : List ℕ). drop (length before) t) (append_assoc before payload more) ∙ drop-append_seam before (payload ++ more))
 
--- what stands before the payload, and the payload
+-- the bytes before the payload, and the payload
 pub canonical_parts : (out : List ℕ) (o : Obu) (more : List ℕ) → (out ++ (bit_or o.header 2 ∷ (o.extension ++ leb (length o.payload + length more))))
     ++ (o.payload ++ more) ≡ out ++ canonical (going_on o more)
 unfolding canonical

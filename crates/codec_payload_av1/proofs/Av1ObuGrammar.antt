@@ -1,4 +1,4 @@
--- The OBUs that are read from a frame are those that the grammar gives, and canonical OBUs are their own canonical form.
+-- The OBUs that are read from a frame are the OBUs of the grammar, and canonical OBUs are their own canonical form.
 use Rattle.std.proofs.Common.{◌≡◌, ℕ, zero, suc, ◌+◌, ◌^◌, ◌<◌, ◌≤◌, Bool, true, false, cond, ltb, eqb, List, [], ◌∷◌, ◌++◌, length, take, drop, map, get_or, Some, None, refl, sym, ap, subst, ◌∙◌, append_assoc, ◌⊎◌, inl, inr, arith}
 use Rattle.std.specs.Prelude.{◌&&◌, bit_and, bit_or}
 use Rattle.std.specs.List.{AllByRecursion, flat_map}
@@ -12,7 +12,7 @@ use Rattle.codec_payload_av1.proofs.Av1PayloadLengths.{bind_some, some_is, chose
 use Rattle.codec_payload_av1.proofs.Av1ReadBack.{and_true, at_each, extension_again, IsGood, sized}
 use Rattle.codec_payload_av1.proofs.Av1RoundTrip.{AllKept, kept_all}
 
--- ---- what is read is in the grammar
+-- ---- OBUs that are read are in the grammar
 
 abbrev ext_pair : List ℕ → List ℕ → List ℕ × List ℕ
 ext_pair a b = (a, b)
@@ -24,7 +24,7 @@ extension_split true [] ext rest e = absurd cc
 extension_split true (x ∷ bytes) ext rest e = let same : ext_pair (x ∷ []) bytes ≡ ext_pair ext rest = some_is _ _ e in
     (ap (λ (y : List ℕ × List ℕ). length y.0) (sym same), ap (λ (y : List ℕ × List ℕ). y.0 ++ y.1) same)
 
--- one OBU with its size stands before the rest, or one without it takes all
+-- one OBU with its size precedes the rest, or one without it takes all bytes
 abbrev pub Parts : Obu → List ℕ → List ℕ → Type 0
 Parts o bytes rest = IsObu o ×
     (((has_size o.header ≡ true) × ((size : List ℕ) × IsLeb128 size (length o.payload) × (bytes ≡ o.header ∷ (o.extension ++ (size ++ (o.payload ++ rest))))))
@@ -88,7 +88,7 @@ pub sequence_sound : (bytes : List ℕ) (os : List Obu) → obus_of bytes ≡ So
 unfolding obus_of
 sequence_sound bytes os e = within_sound (length bytes) bytes os e
 
--- ---- what is in the grammar is read
+-- ---- OBUs of the grammar are read
 
 sized_again : (o : Obu) (size rest : List ℕ) → IsLeb128 size (length o.payload) → sized_at o.header o.extension (size ++ (o.payload ++ rest)) ≡ Some (o, rest)
 sized_again o size rest text =
@@ -137,7 +137,7 @@ pub sequence_complete : (os : List Obu) (bytes : List ℕ) → IsSequence os byt
 unfolding obus_of
 sequence_complete os bytes h = within_complete (length bytes) os bytes (omega arith) h
 
--- ---- what a frame of bytes has
+-- ---- the parts of a frame of bytes
 
 abbrev pub IsBytes : List ℕ → Type 0
 IsBytes bytes = (i : ℕ) → get_or bytes i 0 < 256

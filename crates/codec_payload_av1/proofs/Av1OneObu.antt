@@ -13,7 +13,7 @@ some_begun : (xs : List ℕ) → 0 < length xs → is_begun xs ≡ true
 some_begun [] lt = absurd (omega (arith, lt))
 some_begun (x ∷ xs) lt = refl
 
--- an OBU with nothing behind it
+-- an OBU with nothing after it
 abbrev alone : (Obu → List ℕ) → Option (Obu × List ℕ) → Option (List ℕ)
 alone f r = r >>= λ o. cond (is_begun o.1) None (Some (f o.0))
 

@@ -79,19 +79,19 @@ own_rises (a ∷ b ∷ c ∷ es) m n le = rw (lt-ltb 2 (length (a ∷ b ∷ c �
 pub shorter_fits : (es : List ℕ) (m n mtu : ℕ) → m ≤ n → packet_size leb_len (es ++ n ∷ []) ≤ mtu → packet_size leb_len (es ++ m ∷ []) ≤ mtu
 shorter_fits es m n mtu le fits = omega (arith, size_push leb_len es m, size_push leb_len es n, own_rises es m n le, fits)
 
--- where not one more byte fits, there is an element
+-- if not one more byte fits, there is an element
 pub some_element : (es : List (List ℕ)) (mtu : ℕ) → 2 ≤ mtu → mtu < packet_size leb_len (lengths es ++ 1 ∷ []) → 0 < length es
 some_element [] mtu le most = absurd (omega (arith, le, most))
 some_element (e ∷ es) mtu le most = omega arith
 
--- where one byte fits, there is room
+-- if one byte fits, there is room
 pub some_room : (es : List (List ℕ)) (room mtu : ℕ) → packet_size leb_len (lengths es ++ 1 ∷ []) ≤ mtu → mtu < packet_size leb_len (lengths es ++ (room + 1) ∷ []) → 0 < room
 some_room es zero mtu fits most = absurd (omega (arith, fits, most))
 some_room es (suc room) mtu fits most = omega arith
 
 -- ---- a payload inside a string
 
--- the payload of one element that goes on from the payload before and in the next
+-- the payload of one element that continues from the payload before and in the next
 abbrev pub inner : List ℕ → Payload
 inner e = record { continues = true; goes_on = true; starts = false; elements = e ∷ [] }
 

@@ -26,7 +26,7 @@ deferred_push cost (a ∷ b ∷ []) n = refl
 deferred_push cost (a ∷ b ∷ c ∷ []) n = refl
 deferred_push cost (a ∷ b ∷ c ∷ d ∷ es) n = rw (lt-ltb 2 (length (a ∷ b ∷ c ∷ d ∷ es)) (omega arith)) refl
 
--- ---- what is kept beside the elements of the open packet
+-- ---- facts kept for the elements of the open packet
 
 module _ (cost : ℕ → ℕ) (es : List ℕ) (mtu left deferred_length : ℕ) (filled : left + packet_size cost es ≡ mtu) (deferred_is : deferred_length ≡ deferred cost es) where
   pub many_fit : (r : ℕ) → 3 ≤ length es → (0 < r → r + cost r ≤ left - deferred_length) → 0 < r → packet_size cost (es ++ r ∷ []) ≤ mtu

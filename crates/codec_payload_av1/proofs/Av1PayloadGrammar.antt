@@ -1,4 +1,4 @@
--- Reading finds what the grammar of payloads gives.
+-- Reading finds the payloads of the grammar.
 use Rattle.std.proofs.Common.{◌≡◌, ℕ, zero, suc, ◌/◌, ◌≤◌, ◌<◌, Bool, true, false, cond, ltb, eqb, List, [], ◌∷◌, ◌++◌, length, take, drop, Some, None, refl, sym, ap, subst, ◌∙◌, inl, inr, arith}
 use Rattle.std.specs.Prelude.{◌||◌, ◌&&◌, bit_and}
 use Rattle.std.proofs.lemmas.Bool.{ltb-false}
@@ -50,7 +50,7 @@ element_joined bytes e rest h =
       drop_at e rest (length e) refl,
     ) refl
 
--- ---- each behind its length
+-- ---- each after its length
 
 each_sound : (k : ℕ) (bytes : List ℕ) (es : List (List ℕ)) → each_at k bytes ≡ Some es → AreEach es bytes
 unfolding each_at

@@ -67,7 +67,7 @@ pub leb_len_most : (n : ℕ) → leb_len n ≤ 10
 unfolding leb
 leb_len_most n = within_most 9 n
 
--- ---- lengths of what is written
+-- ---- lengths of written bytes
 
 length_each : (es : List (List ℕ)) → length (each_with_length es) ≡ size_with_lengths leb_len (map length es)
 length_each [] = refl
@@ -150,7 +150,7 @@ elements_size (suc w) le bytes es e =
 mask_two : (h : ℕ) → bit_and h 0x30 / 16 ≤ 3
 mask_two h = omega (arith, and_le_r h 48)
 
--- the shortest bytes of a payload are no longer than those that it was read from
+-- the shortest bytes of a payload are at most as long as the bytes that it was read from
 pub payload_at_len : (bytes : List ℕ) (p : Payload) → payload_at bytes ≡ Some p → packet_size leb_len (map length p.elements) ≤ length bytes
 unfolding payload_at
 payload_at_len [] p e = absurd cc

@@ -1,4 +1,4 @@
--- What was written is read again.
+-- Written bytes are read back.
 use Rattle.std.proofs.Common.{◌≡◌, ℕ, zero, suc, ◌+◌, ◌*◌, ◌/◌, ◌^◌, ◌<◌, ◌≤◌, Bool, true, false, not, cond, ltb, eqb, List, [], ◌∷◌, ◌++◌, length, Some, refl, ◌∙◌, ap, append_assoc, inl, inr, arith}
 use Rattle.std.specs.Prelude.{◌||◌, ◌&&◌, bit_and, bit_or}
 use Rattle.std.specs.List.{AllByRecursion}
@@ -209,7 +209,7 @@ unit_again o good is_kept =
     let same : has_extension (bit_and o.header 0xfd) ≡ has_extension o.header = ap (λ n. not (eqb n 0)) m.extension in
     rw (same, extension_again (has_extension o.header) o.extension o.payload good.is_obu.extension, m.size, m.type, is_kept, m.back) (rw m.size refl)
 
--- what is kept is read again, and is its own canonical form
+-- a kept OBU is read back, and is its own canonical form
 abbrev pub sized : Obu → Obu
 sized o = record { header = bit_or o.header 2; extension = o.extension; payload = o.payload }
 

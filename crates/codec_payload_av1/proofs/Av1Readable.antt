@@ -1,4 +1,4 @@
--- Whether a receiver can take the elements of a payload, one after the other, as a loop looks at them.
+-- Whether a receiver accepts the elements of a payload, one after another, in the order of a loop.
 use Rattle.std.proofs.Common.{◌≡◌, ℕ, zero, suc, ◌<◌, ◌/◌, Bool, true, false, not, eqb, ltb, List, [], ◌∷◌, ◌++◌, length, Option, Some, None, refl, sym, ap, ◌∙◌, ◌⊎◌, inl, inr, arith}
 use Rattle.std.specs.Prelude.{◌||◌, ◌&&◌, is_some, bit_and}
 use Rattle.std.proofs.lemmas.Bool.{ne_eqb}
@@ -70,13 +70,13 @@ unfolding each_at
 elements_nil zero = refl
 elements_nil (suc k) = counted_nil k
 
--- ---- what a receiver makes of elements
+-- ---- elements at a receiver
 
--- whether the last of so many elements goes on
+-- whether the last of n elements continues
 abbrev pub open_at : Bool → ℕ → ℕ → Bool
 open_at y w n = y && (eqb w 0 || eqb n w)
 
--- whether these elements can be taken behind what was begun
+-- whether these elements are acceptable after the begun bytes
 abbrev pub are_taken : Bool → Bool → List ℕ → ℕ → Option (List (List ℕ)) → Bool
 are_taken y orphan begun w read = is_some (read >>= λ es. taken (y && (eqb w 0 || eqb (length es) w)) begun (without_orphan orphan es))
 
@@ -130,7 +130,7 @@ last_step false begun e = ends_and false begun e [] (unit_of (begun ++ e)) refl 
 eqb_suc : (a b : ℕ) → eqb (suc a) (suc b) ≡ eqb a b
 eqb_suc a b = grind (arith, nat_tests)
 
--- where more elements follow, the same of them goes on
+-- if more elements follow, the same element continues
 pub same_open : (y : Bool) (w : ℕ) (rest : List ℕ) (f : List ℕ) (fs : List (List ℕ)) → (w ≡ 1 → rest ≡ []) → elements_at (w_after w) rest ≡ Some (f ∷ fs)
     → open_at y w (suc (length (f ∷ fs))) ≡ open_at y (w_after w) (length (f ∷ fs))
 same_open y zero rest f fs one read = refl
@@ -210,7 +210,7 @@ received_some : (pending : List ℕ) (h w : ℕ) (r : Option (List (List ℕ))) 
 received_some pending h w None = refl
 received_some pending h w (Some es) = refl
 
--- the elements of a payload, behind what is pending
+-- the elements of a payload, after the pending bytes
 pub taken_first : (pending : List ℕ) (h : ℕ) (bytes : List ℕ)
     → are_taken (has_bit 64 h) (has_bit 128 h && not (is_begun (begun_at h pending))) (begun_at h pending) (bit_and h 0x30 / 16)
     (elements_at (bit_and h 0x30 / 16) bytes) ≡ is_some (received pending (h ∷ bytes))

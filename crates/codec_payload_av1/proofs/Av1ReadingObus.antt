@@ -18,7 +18,7 @@ shorter bytes rest o is =
       | inr q ↦ omega (arith, simp length-append at (ap length q.2), ap length q.1)
     ]
 
--- what was read before, and what is still read
+-- the OBUs read before, and the ones still read
 abbrev pub with_kept : List Obu → Option (List Obu) → Option (List Obu)
 with_kept front read = read >>= λ os. Some (front ++ os)
 
@@ -126,7 +126,7 @@ from_none n (Some os) is = ap (λ (m : ℕ). Some m) (omega (arith, is))
 pub count_starts : (bytes : List ℕ) → option_map (λ os. 0 + bytes_sent os) (frame_kept bytes) ≡ option_map bytes_sent (frame_kept bytes)
 count_starts bytes = from_none 0 (frame_kept bytes) refl
 
--- nothing is sent exactly where nothing is kept
+-- nothing is sent exactly if nothing is kept
 pub some_kept : (os : List Obu) → (bytes_sent os ≡ 0 → ⊥) → 0 < length os
 some_kept [] some = absurd (some refl)
 some_kept (o ∷ os) some = omega arith

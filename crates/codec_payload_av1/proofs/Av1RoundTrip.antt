@@ -75,7 +75,7 @@ usable_is : (begun : List ℕ) (p : Payload) → p.continues ≡ is_begun begun 
 usable_is [] p z = rw z (no_orphan p.elements)
 usable_is (b ∷ bs) p z = rw z (no_orphan p.elements)
 
--- what can be said of each packet of a frame
+-- the facts about each packet of a frame
 pub record IsSound (p : Payload) : Type 0 where
   pub nonempty : 0 < length p.elements
   pub later : p.continues ≡ true → p.starts ≡ false
@@ -219,7 +219,7 @@ read_back begun (p ∷ ps) strings h good =
 pub sent_are_read : (mtu : ℕ) (starts : Bool) (strings : List (List ℕ)) (ps : List Payload) → mtu < 2 ^ 64 → Sent mtu starts strings ps → AreRead (map written ps) ps
 sent_are_read mtu starts strings ps lt sent = read_back [] ps strings sent.stands (sound mtu lt starts strings ps sent)
 
--- the payload of a packet, among those before and behind it
+-- the payload of a packet, among the ones before and after it
 same_before : (p : Payload) (xs ys : List Payload) → xs ≡ ys → p ∷ xs ≡ p ∷ ys
 same_before p xs ys e = cc
 

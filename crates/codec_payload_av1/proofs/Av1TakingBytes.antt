@@ -13,7 +13,7 @@ use Rattle.codec_payload_av1.specs.Av1Receiving.{unit_of, units_of, taken, recei
 use Rattle.codec_payload_av1.proofs.Av1TakingElements.{after, entry, one_taken, one_fails, after_after, none_before, ends_with}
 use Rattle.codec_payload_av1.proofs.Av1Readable.{elements_cons, elements_none, elements_nil, open_at, last_open, same_open, no_elements, one_rest}
 
--- what these elements give behind what was begun
+-- the output of these elements after the begun bytes
 abbrev pub takes : Bool → Bool → List ℕ → ℕ → Option (List (List ℕ)) → Option (List ℕ × List ℕ)
 takes y orphan begun w read = read >>= λ es. taken (y && (eqb w 0 || eqb (length es) w)) begun (without_orphan orphan es)
 
@@ -37,7 +37,7 @@ open_rest : (rest : List ℕ) → not (is_begun rest) ≡ true → rest ≡ []
 open_rest [] is = refl
 open_rest (b ∷ rest) is = absurd cc
 
--- an element that goes on was not dropped
+-- an element that continues was not dropped
 pub whole_open : (orphan a b c : Bool) → (not orphan && a && b && c) ≡ true → (orphan ≡ false) × ((a && b && c) ≡ true)
 whole_open true a b c is = absurd cc
 whole_open false a b c is = (refl, is)
@@ -71,7 +71,7 @@ last_closed y w rest none test = last_open y w ∙ closed (y) (ltb w 2) (ap (λ 
     closed true false is = refl
     closed false b is = refl
 
--- the unit that an element gives, and then what the others give
+-- the unit of an element, and then the output of the others
 abbrev and_then : Option (List ℕ) → Option (List ℕ × List ℕ) → Option (List ℕ × List ℕ)
 and_then u r = u >>= λ u. after u r
 
@@ -95,7 +95,7 @@ ends_read y begun w e rest (Some (f ∷ fs)) read one test =
     ends_of (open_at y w (length (e ∷ f ∷ fs))) begun e (f ∷ fs) (unit_of (begun ++ e)) refl (inr (omega arith))
     ∙ ap (λ (b : Bool). and_then (unit_of (begun ++ e)) (taken b [] (f ∷ fs))) (same_open y w rest f fs one read)
 
--- what an element gives that is dropped where its beginning was lost
+-- the output of an element that is dropped if its beginning was lost
 abbrev pub given : Bool → List ℕ → List ℕ → Option (List ℕ)
 given orphan begun e = cond orphan (Some []) (unit_of (begun ++ e))
 
@@ -115,7 +115,7 @@ takes_next y false begun w bytes e rest lt is lost test =
     ap (takes y false begun w) (elements_cons w bytes e rest lt is)
     ∙ ends_read y begun w e rest (elements_at (w_after w) rest) refl (one_rest w bytes e rest is) test
 
--- ---- the steps of a loop, which has added what stands behind old
+-- ---- the steps of a loop that has appended the bytes after old
 
 module _ (y orphan : Bool) (begun : List ℕ) (w : ℕ) (bytes : List ℕ) (out old : List ℕ) (total : Option (List ℕ × List ℕ))
     (so_far : after out (takes y orphan begun w (elements_at w bytes)) ≡ after old total) where
@@ -154,7 +154,7 @@ received_takes : (pending : List ℕ) (h w : ℕ) (r : Option (List (List ℕ)))
 received_takes pending h w None = refl
 received_takes pending h w (Some es) = refl
 
--- the elements of a payload, behind what is pending
+-- the elements of a payload, after the pending bytes
 pub takes_first : (pending : List ℕ) (h : ℕ) (bytes : List ℕ)
     → takes (has_bit 64 h) (has_bit 128 h && not (is_begun (begun_at h pending))) (begun_at h pending) (bit_and h 0x30 / 16) (elements_at (bit_and h 0x30 / 16) bytes) ≡ received pending (h ∷ bytes)
 unfolding received payload_at
@@ -164,7 +164,7 @@ begun_twice : (b : Bool) (pending : List ℕ) → cond b (cond b pending []) [] 
 begun_twice true pending = refl
 begun_twice false pending = refl
 
--- of what is pending nothing counts but what goes on
+-- pending bytes count only if they continue
 pub received_begun : (pending : List ℕ) (h : ℕ) (bytes : List ℕ) → received (begun_at h pending) (h ∷ bytes) ≡ received pending (h ∷ bytes)
 received_begun pending h bytes =
     sym (takes_first (begun_at h pending) h bytes)
@@ -179,7 +179,7 @@ unfolding received payload_at counted_at taken units_of
 inner_begun p pending [] = ap (entry []) (sym (append-nil (p ∷ pending)))
 inner_begun p pending (b ∷ bytes) = refl
 
--- a payload of one element that goes on from what is pending, and in the next
+-- a payload of one element that continues the pending bytes and continues in the next payload
 pub received_inner : (pending : List ℕ) (h : ℕ) (bytes : List ℕ) → h ≡ 0xd0 → (length pending ≡ 0 → ⊥) → received pending (h ∷ bytes) ≡ entry [] (pending ++ bytes)
 received_inner [] h bytes is some = absurd (some refl)
 received_inner (p ∷ pending) h bytes is some = ap (λ (t : ℕ). received (p ∷ pending) (t ∷ bytes)) is ∙ inner_begun p pending bytes

@@ -9,7 +9,7 @@ use Rattle.codec_payload_av1.proofs.Av1PayloadLengths.{some_is}
 abbrev pub entry : List ℕ → List ℕ → Option (List ℕ × List ℕ)
 entry units left = Some (units, left)
 
--- what stood in the output before what is taken
+-- the old output before the accepted bytes
 abbrev pub after : List ℕ → Option (List ℕ × List ℕ) → Option (List ℕ × List ℕ)
 after out read = read >>= λ x. Some (out ++ x.0, x.1)
 

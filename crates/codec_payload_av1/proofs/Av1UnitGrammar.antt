@@ -1,4 +1,4 @@
--- An element gives a unit exactly where it is one OBU.
+-- An element gives a unit exactly if it is one OBU.
 use Rattle.std.proofs.Common.{◌≡◌, ℕ, false, cond, List, [], ◌∷◌, Some, None, refl, sym, inl, inr}
 use Rattle.codec_payload_av1.specs.Av1Obu.{Obu, IsSequence, obu_at}
 use Rattle.codec_payload_av1.specs.Av1Packing.{is_begun}

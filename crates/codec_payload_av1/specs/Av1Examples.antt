@@ -10,7 +10,7 @@ pub obus_of-past_end : obus_of (0x0a ∷ 0x05 ∷ 0xaa ∷ []) ≡ None
 unfolding leb_at obu_at obus_within obus_of
 obus_of-past_end = refl
 
--- four elements with W = 0, the last of which goes on
+-- four elements with W = 0; the last continues
 pub written-four : written (record { continues = false; goes_on = true; starts = false; elements = (0x28 ∷ 0x11 ∷ []) ∷ (0x28 ∷ 0x22 ∷ []) ∷ (0x28 ∷ 0x33 ∷ []) ∷ (0x28 ∷ []) ∷ [] })
     ≡ (0x40 ∷ 0x02 ∷ 0x28 ∷ 0x11 ∷ 0x02 ∷ 0x28 ∷ 0x22 ∷ 0x02 ∷ 0x28 ∷ 0x33 ∷ 0x01 ∷ 0x28 ∷ [])
 unfolding written leb

@@ -5,19 +5,19 @@ use Rattle.codec_payload_av1.specs.Av1Obu.{Obu, IsSequence, has_bit, obus_of}
 use Rattle.codec_payload_av1.specs.Av1Payload.{Payload, payload_at}
 use Rattle.codec_payload_av1.specs.Av1Receiving.{added, unit_of}
 
--- an element, which is not empty, behind its length in any spelling, and then the rest
+-- an element, which is not empty, after its length in any spelling, and then the rest
 pub record StandsFirst (element bytes rest : List ℕ) : Type 0 where
   pub nonempty : 0 < length element
   pub size : List ℕ
   pub spelled : IsLeb128 size (length element)
   pub parts : bytes ≡ size ++ (element ++ rest)
 
--- each element behind its length
+-- each element after its length
 abbrev pub AreEach : List (List ℕ) → List ℕ → Type 0
 AreEach [] bytes = bytes ≡ []
 AreEach (e ∷ es) bytes = (rest : List ℕ) × StandsFirst e bytes rest × AreEach es rest
 
--- up to so many elements behind their lengths, and one that takes the rest
+-- up to n elements after their lengths, and one that takes the rest
 abbrev pub AreCounted : ℕ → List (List ℕ) → List ℕ → Type 0
 AreCounted k [] bytes = bytes ≡ []
 AreCounted zero (e ∷ es) bytes = (0 < length e) × (es ≡ []) × (bytes ≡ e)
@@ -28,7 +28,7 @@ abbrev pub AreElements : ℕ → List (List ℕ) → List ℕ → Type 0
 AreElements zero es bytes = AreEach es bytes
 AreElements (suc k) es bytes = AreCounted k es bytes
 
--- an aggregation header and what stands behind it; Y counts only where all elements that W names came
+-- an aggregation header and the bytes after it; Y counts only if all elements that W announces are present
 pub record IsBehind (header : ℕ) (bytes : List ℕ) (p : Payload) : Type 0 where
   pub elements : AreElements (bit_and header 0x30 / 16) p.elements bytes
   pub continues : p.continues ≡ has_bit 128 header
@@ -47,7 +47,7 @@ ReadsPayload = (bytes : List ℕ) (p : Payload) → (IsPayload bytes p → paylo
 abbrev pub ReadsSequence : Type 0
 ReadsSequence = (frame : List ℕ) (obus : List Obu) → (IsSequence obus frame → obus_of frame ≡ Some obus) × (obus_of frame ≡ Some obus → IsSequence obus frame)
 
--- an element gives a unit exactly where it is one OBU, and then what that OBU adds
+-- an element gives a unit exactly if it is one OBU, and then the bytes that this OBU appends
 abbrev pub ReadsUnit : Type 0
 ReadsUnit = (element : List ℕ) (o : Obu) (unit : List ℕ) → (IsSequence (o ∷ []) element → unit_of element ≡ Some (added element o))
     × (unit_of element ≡ Some unit → (p : Obu) × IsSequence (p ∷ []) element × (unit ≡ added element p))

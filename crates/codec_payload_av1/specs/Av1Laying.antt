@@ -5,7 +5,7 @@ use Rattle.codec_payload_av1.specs.Av1Payload.{Payload, written}
 use Rattle.codec_payload_av1.specs.Av1Packing.{ended, left_open, is_begun, IsElement, IsFull, HasElement, StartsFirst}
 use Rattle.codec_payload_av1.specs.Av1Size.{Opened, packet_size, leb_len, lengths}
 
--- after what came of the first string, the payloads stand for the strings, and this is left opened
+-- after the begun part of the first string, the payloads represent the strings, and this part is left open
 abbrev pub Laid : List ℕ → List Payload → List (List ℕ) → List ℕ → Type 0
 Laid begun [] strings left = (strings ≡ []) × (begun ≡ left)
 Laid begun (p ∷ ps) strings left = (p.continues ≡ is_begun begun) × AllByRecursion IsElement p.elements
@@ -38,7 +38,7 @@ starts_next starts (p ∷ ps) = false
 abbrev pub Lays : Bool → List (List ℕ) → List ℕ → List Payload → Bool → Opened → Type 0
 Lays starts before partial ps continues opened = Laying opened.mtu starts before partial ps continues opened.elements × (packet_size leb_len (lengths opened.elements) ≤ opened.mtu)
 
--- N stands where no packets are before it
+-- N is set if no packets precede it
 abbrev pub starts_with : Bool → List Payload → Bool
 starts_with starts ps = starts && length ps == 0
 

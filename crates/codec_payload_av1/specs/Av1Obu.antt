@@ -5,7 +5,7 @@ use Rattle.codec_payload_av1.specs.declared.av1.obu.ObuSlices.{ObuSlices}
 use Rattle.codec_payload_base.specs.Leb.{IsLeb128, leb, leb_at}
 use Rattle.codec_payload_av1.specs.Av1Reading.{◌>>=◌}
 
--- The first byte of the header as it stands, the extension byte where there is one, and the payload.
+-- The first byte of the header unchanged, the extension byte if there is one, and the payload.
 pub record Obu : Type 0 where
   pub header : ℕ
   pub extension : List ℕ
@@ -26,20 +26,20 @@ is_kept_type header =
     let type = bit_and header 0x78 in
     type == 0x08 || type == 0x18 || type == 0x20 || type == 0x28 || type == 0x30 || type == 0x38
 
--- An extension byte stands exactly where the header says so.
+-- An extension byte is present exactly if the header says so.
 pub record IsObu (o : Obu) : Type 0 where
   pub extension : length o.extension ≡ (if has_extension o.header then 1 else 0)
 
 -- ---- the grammar, by cases on the bytes of a frame
 
--- The frame is these OBUs: none; or one with its size before the others; or one without it, which takes all that is left.
+-- The frame is these OBUs: none; or one with its size before the others; or one without a size, which takes all remaining bytes.
 abbrev pub IsSequence : List Obu → List ℕ → Type 0
 IsSequence [] bytes = bytes ≡ []
 IsSequence (o ∷ os) bytes = IsObu o ×
     (((has_size o.header ≡ true) × ((size : List ℕ) × (rest : List ℕ) × IsLeb128 size (length o.payload) × (bytes ≡ o.header ∷ (o.extension ++ (size ++ (o.payload ++ rest)))) × IsSequence os rest))
     ⊎ ((has_size o.header ≡ false) × (os ≡ []) × (bytes ≡ o.header ∷ (o.extension ++ o.payload))))
 
--- ---- what is sent of an OBU, and what a receiver makes of it
+-- ---- the sent form of an OBU, and the form that a receiver makes of it
 
 -- The bytes that packets carry: no size, and its bit cleared.
 unfoldable pub string : Obu → List ℕ
@@ -63,13 +63,13 @@ strings_of os = map string (kept os)
 abbrev pub canonical_unit : List Obu → List ℕ
 canonical_unit os = flat_map canonical (kept os)
 
--- an OBU without where it lies in memory
+-- an OBU without its place in memory
 abbrev pub view : ObuSlices → Obu
 view o = record { header = o.header; extension = o.extension.now; payload = o.payload.now }
 
 -- ---- reading
 
--- the extension byte, where the header says that there is one
+-- the extension byte, if the header announces one
 abbrev pub extension_at : Bool → List ℕ → Option (List ℕ × List ℕ)
 extension_at false bytes = Some ([], bytes)
 extension_at true [] = None
@@ -80,14 +80,14 @@ sized_at header extension bytes = leb_at bytes >>= λ n.
     if nat_lt (length n.1) n.0 then None
     else Some (record { header = header; extension = extension; payload = take n.0 n.1 }, drop n.0 n.1)
 
--- one OBU, and what follows it
+-- one OBU, and the bytes after it
 unfoldable pub obu_at : List ℕ → Option (Obu × List ℕ)
 obu_at [] = None
 obu_at (header ∷ bytes) = extension_at (has_extension header) bytes >>= λ x.
     if has_size header then sized_at header x.0 x.1
     else Some (record { header = header; extension = x.0; payload = x.1 }, [])
 
--- whether a size at the front is that of all that follows it
+-- whether a size at the front is the size of all bytes after it
 abbrev pub is_whole : Option (ℕ × List ℕ) → Bool
 is_whole None = false
 is_whole (Some n) = n.0 == length n.1
@@ -106,7 +106,7 @@ obus_within k [] = Some []
 obus_within zero (b ∷ bytes) = None
 obus_within (suc k) (b ∷ bytes) = obu_at (b ∷ bytes) >>= λ o. obus_within k o.1 >>= λ os. Some (o.0 ∷ os)
 
--- the OBUs of a frame, None where it is no sequence
+-- the OBUs of a frame; None if it is not a sequence
 unfoldable pub obus_of : List ℕ → Option (List Obu)
 obus_of bytes = obus_within (length bytes) bytes
 

@@ -1,10 +1,10 @@
--- How the payloads of a list of packets stand for a list of strings, and which of these lists is sent.
+-- How the payloads of a list of packets represent a list of strings, and which of these lists is sent.
 use Rattle.std.specs.Prelude.{◌≡◌, ℕ, ◌<◌, ◌≤◌, List, [], ◌∷◌, ◌++◌, length, map, Option, Some, None, Bool, true, false, if◌then◌else◌}
 use Rattle.std.specs.List.{AllByRecursion, flat_map}
 use Rattle.codec_payload_base.specs.Pieces.{joined}
 use Rattle.codec_payload_av1.specs.Av1Payload.{Payload, written, payload_at}
 
--- The elements that end here, the first joined to what came of it before; and what came of one that goes on.
+-- The elements that end here, the first joined to its earlier part; and the part of one that continues.
 abbrev pub ended : Bool → List ℕ → List (List ℕ) → List (List ℕ)
 ended goes_on begun [] = []
 ended goes_on begun (e ∷ []) = if goes_on then [] else (begun ++ e) ∷ []
@@ -22,7 +22,7 @@ is_begun (b ∷ bytes) = true
 abbrev pub IsElement : List ℕ → Type 0
 IsElement e = 0 < length e
 
--- After what came of the first string, the payloads stand for the strings.
+-- After the earlier part of the first string, the payloads represent the strings.
 abbrev pub StandsAfter : List ℕ → List Payload → List (List ℕ) → Type 0
 StandsAfter begun [] strings = (begun ≡ []) × (strings ≡ [])
 StandsAfter begun (p ∷ ps) strings = (p.continues ≡ is_begun begun) × AllByRecursion IsElement p.elements
@@ -33,7 +33,7 @@ StandsFor ps strings = StandsAfter [] ps strings
 
 -- ---- full packets
 
--- the elements with one byte more: at the end of the last one where that goes on, else in a new one
+-- the elements with one byte more: at the end of the last one if it continues, else in a new one
 abbrev pub with_next : Bool → ℕ → List (List ℕ) → List (List ℕ)
 with_next goes_on next [] = (next ∷ []) ∷ []
 with_next goes_on next (e ∷ []) = if goes_on then (e ++ next ∷ []) ∷ [] else e ∷ (next ∷ []) ∷ []
@@ -51,7 +51,7 @@ AllFullButLast mtu (p ∷ q ∷ ps) = IsFull mtu p × AllFullButLast mtu (q ∷ 
 abbrev pub HasElement : Payload → Type 0
 HasElement p = 0 < length p.elements
 
--- N stands on the first packet, where a sequence starts.
+-- N is set on the first packet, if a sequence starts.
 abbrev pub StartsFirst : Bool → List Payload → Type 0
 StartsFirst starts [] = Unit {0}
 StartsFirst starts (p ∷ ps) = (p.starts ≡ starts) × AllByRecursion (λ q. q.starts ≡ false) ps
@@ -77,7 +77,7 @@ AreRead [] (p ∷ ps) = ⊥
 AreRead (bytes ∷ others) [] = ⊥
 AreRead (bytes ∷ others) (p ∷ ps) = (payload_at bytes ≡ Some p) × AreRead others ps
 
--- A list of payloads of at most mtu bytes that stands for the strings.
+-- A list of payloads of at most mtu bytes that represents the strings.
 pub record Packs (mtu : ℕ) (others : List (List ℕ)) (strings : List (List ℕ)) : Type 0 where
   pub payloads : List Payload
   pub read : AreRead others payloads

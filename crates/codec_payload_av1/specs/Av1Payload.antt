@@ -5,7 +5,7 @@ use Rattle.codec_payload_base.specs.Leb.{leb, leb_at}
 use Rattle.codec_payload_av1.specs.Av1Reading.{◌>>=◌}
 use Rattle.codec_payload_av1.specs.Av1Obu.{has_bit}
 
--- continues is Z: the first element goes on from the packet before. goes_on is Y: the last one goes on in the next.
+-- continues is Z: the first element continues from the previous packet. goes_on is Y: the last one continues in the next packet.
 -- starts is N: a coded video sequence starts.
 pub record Payload : Type 0 where
   pub continues : Bool
@@ -15,11 +15,11 @@ pub record Payload : Type 0 where
 
 -- ---- the shortest bytes of a payload
 
--- each element behind its length
+-- each element after its length
 abbrev pub each_with_length : List (List ℕ) → List ℕ
 each_with_length es = flat_map (λ e. leb (length e) ++ e) es
 
--- each element but the last behind its length
+-- each element except the last after its length
 abbrev pub all_but_last_with_length : List (List ℕ) → List ℕ
 all_but_last_with_length [] = []
 all_but_last_with_length (e ∷ []) = e
@@ -48,18 +48,18 @@ written p = aggregation_header p ∷ body p.elements
 
 -- ---- reading
 
--- an element behind its length, which isn't 0
+-- an element after its length, which isn't 0
 unfoldable pub element_at : List ℕ → Option (List ℕ × List ℕ)
 element_at bytes = leb_at bytes >>= λ n.
     if n.0 == 0 || nat_lt (length n.1) n.0 then None else Some (take n.0 n.1, drop n.0 n.1)
 
--- W = 0: each element behind its length
+-- W = 0: each element after its length
 unfoldable pub each_at : ℕ → List ℕ → Option (List (List ℕ))
 each_at k [] = Some []
 each_at zero (b ∷ bytes) = None
 each_at (suc k) (b ∷ bytes) = element_at (b ∷ bytes) >>= λ e. each_at k e.1 >>= λ es. Some (e.0 ∷ es)
 
--- W = k + 1: up to k elements behind their lengths, and one that takes the rest
+-- W = k + 1: up to k elements after their lengths, and one that takes the rest
 unfoldable pub counted_at : ℕ → List ℕ → Option (List (List ℕ))
 counted_at k [] = Some []
 counted_at zero (b ∷ bytes) = Some ((b ∷ bytes) ∷ [])
@@ -69,7 +69,7 @@ abbrev pub elements_at : ℕ → List ℕ → Option (List (List ℕ))
 elements_at zero bytes = each_at (length bytes) bytes
 elements_at (suc k) bytes = counted_at k bytes
 
--- the next of the elements under W, and what follows it; and the W of what follows
+-- the next element under W, and the bytes after it; and the W for those bytes
 abbrev pub next_at : ℕ → List ℕ → Option (List ℕ × List ℕ)
 next_at w bytes = if w == 1 then Some (bytes, []) else element_at bytes
 
@@ -78,7 +78,7 @@ w_after zero = zero
 w_after (suc zero) = suc zero
 w_after (suc (suc k)) = suc k
 
--- Y counts only where all elements that W names came.
+-- Y counts only if all elements that W announces are present.
 unfoldable pub payload_at : List ℕ → Option Payload
 payload_at [] = None
 payload_at (h ∷ bytes) = let w = bit_and h 0x30 / 16 in elements_at w bytes >>= λ es.

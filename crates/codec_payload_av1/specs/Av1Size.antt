@@ -1,11 +1,11 @@
--- What a packet takes, by the lengths of its elements.
+-- The size of a packet, by the lengths of its elements.
 use Rattle.std.specs.Prelude.{ℕ, ◌+◌, List, [], ◌∷◌, length, map, nat_lt, if◌then◌else◌}
 use Rattle.std.specs.Global.{Vec}
 use Rattle.std.specs.List.{sum_by}
 use Rattle.codec_payload_base.specs.Leb.{leb}
 use Rattle.codec_payload_av1.specs.Av1Obu.{Obu, string}
 
--- ---- what a packet of elements of these lengths takes; cost is what a length takes
+-- ---- the size of a packet of elements of these lengths; cost is the size of a length
 
 abbrev pub size_with_lengths : (ℕ → ℕ) → List ℕ → ℕ
 size_with_lengths cost [] = 0
@@ -22,7 +22,7 @@ packet_size cost es = 1 + (if nat_lt 3 (length es) then size_with_lengths cost e
 abbrev pub leb_len : ℕ → ℕ
 leb_len n = length (leb n)
 
--- what the last element's length takes once another follows, where it stands without one
+-- the size of the last element's length, which is written only if another element follows
 abbrev pub deferred : (ℕ → ℕ) → List ℕ → ℕ
 deferred cost [] = 0
 deferred cost (a ∷ []) = cost a
@@ -30,11 +30,11 @@ deferred cost (a ∷ b ∷ []) = cost b
 deferred cost (a ∷ b ∷ c ∷ []) = cost c
 deferred cost (a ∷ b ∷ c ∷ d ∷ es) = 0
 
--- what the length of an element behind these takes
+-- the size of the length of an element after these
 abbrev pub own : (ℕ → ℕ) → List ℕ → ℕ → ℕ
 own cost es n = if nat_lt 2 (length es) then cost n else 0
 
--- the packet that is being filled: what a packet may take, and the elements so far
+-- the packet that is being filled: its capacity, and the elements so far
 pub record Opened : Type 0 where
   pub mtu : ℕ
   pub elements : List (List ℕ)
@@ -45,6 +45,6 @@ lengths es = map length es
 abbrev pub items_of : List (Vec ℕ) → List (List ℕ)
 items_of vs = map (λ v. v.items) vs
 
--- how many bytes packets carry of these OBUs
+-- the number of bytes of these OBUs that packets carry
 abbrev pub bytes_sent : List Obu → ℕ
 bytes_sent os = sum_by (λ o. length (string o)) os

@@ -1,4 +1,4 @@
--- AV1 frames into packets and back, as calls answer them.
+-- AV1 frames into packets and back: the results of calls.
 use Rattle.std.specs.Prelude.{◌≡◌, ◌≢◌, ℕ, ◌<◌, ◌≤◌, ◌||◌, Bool, true, false, List, [], ◌∷◌, ◌++◌, Option, Some, None, Result, Ok, Err, length, take, nat_le, if◌then◌else◌, ⊤}
 use Rattle.std.specs.List.{flat_map}
 use Rattle.codec_payload_base.specs.declared.error.PacketError.{PacketError}
@@ -31,14 +31,14 @@ pub record IsSentFrame (mtu : ℕ) (frame : List ℕ) (packets : List (List ℕ)
   pub comes_back : ComesBack obus packets
   pub last_come_back : LastComeBack obus packets
 
--- whether a frame is a sequence of OBUs of which none is kept
+-- whether a frame is a sequence of OBUs without a kept one
 abbrev pub keeps_nothing : Option (List Obu) → Bool
 keeps_nothing None = false
 keeps_nothing (Some []) = true
 keeps_nothing (Some (o ∷ os)) = false
 
--- whether a frame gives no packets, and no fault: where the MTU leaves no room for a byte behind the aggregation header, or
--- none of its OBUs is kept, as of an empty frame
+-- whether a frame gives no packets and no fault: the MTU leaves no room for a byte after the aggregation header, or none of its
+-- OBUs is kept, as in an empty frame
 abbrev pub av1_is_skipped : ℕ → List ℕ → Bool
 av1_is_skipped mtu frame = nat_le mtu 1 || keeps_nothing (frame_kept frame)
 
@@ -46,22 +46,22 @@ abbrev pub refusal_of_kept : Option (List Obu) → Option PacketError
 refusal_of_kept None = Some faults.ErrAv1CorruptedPacket
 refusal_of_kept (Some os) = None
 
--- the fault with which a frame is refused, if it is; want of memory is no such fault
+-- the fault with which a frame is refused, if it is; out of memory is not such a fault
 abbrev pub av1_refusal : ℕ → List ℕ → Option PacketError
 av1_refusal mtu frame = if nat_le mtu 1 then None else refusal_of_kept (frame_kept frame)
 
--- the fault where there is one, else want of memory
+-- the fault, if there is one, else out of memory
 abbrev pub IsFault : Option PacketError → PacketError → Type 0
 IsFault None fault = fault ≡ faults.OutOfMemory
 IsFault (Some refusal) fault = fault ≡ refusal
 
--- What the packetizer answers: no packets of a frame that is skipped, and no fault; else the fault of a frame that is
--- refused; else the packets of the frame, or want of memory.
+-- The result of the packetizer: no packets for a skipped frame; the fault of a refused frame; else the packets of the frame, or out
+-- of memory.
 abbrev pub AnswersAv1 : ℕ → List ℕ → Result (List (List ℕ)) PacketError → Type 0
 AnswersAv1 mtu frame (Ok packets) = (av1_is_skipped mtu frame ≡ true → packets ≡ []) × (av1_is_skipped mtu frame ≡ false → IsSentFrame mtu frame packets)
 AnswersAv1 mtu frame (Err fault) = (av1_is_skipped mtu frame ≡ false) × IsFault (av1_refusal mtu frame) fault
 
--- No list of payloads of at most the MTU that stands for the same strings is shorter.
+-- No list of payloads of at most the MTU that represents the same strings is shorter.
 abbrev pub IsLeast : ℕ → List ℕ → List (List ℕ) → Type 0
 IsLeast mtu frame packets = (obus : List Obu) → IsSequence obus frame → (others : List (List ℕ)) → Packs mtu others (strings_of obus) → length packets ≤ length others
 
@@ -77,7 +77,7 @@ abbrev pub is_keyframe : List ℕ → Bool
 is_keyframe [] = false
 is_keyframe (header ∷ bytes) = has_bit 8 header
 
--- the extra that was handed in told of a keyframe
+-- the codec-specific data before the call reports a keyframe
 abbrev pub was_keyframe : CodecExtra → Bool
 was_keyframe (extras.Av1 extra) = extra.is_keyframe
 was_keyframe _ = false
@@ -85,20 +85,20 @@ was_keyframe _ = false
 abbrev pub extra_of : List ℕ → CodecExtra → CodecExtra
 extra_of payload before = extras.Av1 (record { is_keyframe = is_keyframe payload || was_keyframe before })
 
--- why a payload is refused: want of memory comes only of one that could be received
+-- why a payload is refused: out of memory only for a payload that could be received
 abbrev pub IsRefusedPayload : PacketError → List ℕ → List ℕ → Type 0
 IsRefusedPayload faults.ErrShortPacket pending payload = payload ≡ []
 IsRefusedPayload faults.ErrAv1CorruptedPacket pending payload = (0 < length payload) × (received pending payload ≡ None)
 IsRefusedPayload faults.OutOfMemory pending payload = received pending payload ≢ None
 IsRefusedPayload _ pending payload = ⊥
 
--- The bytes that a payload adds, and what is pending then; or why it is refused.
+-- The bytes that a payload appends, and the bytes pending then; or why it is refused.
 abbrev pub TakesPayload : Result ⊤ PacketError → List ℕ → List ℕ → List ℕ → List ℕ → List ℕ → Type 0
 TakesPayload (Ok _) pending payload out out' after = (added : List ℕ) × (received pending payload ≡ Some (added, after)) × (out' ≡ out ++ added)
 TakesPayload (Err fault) pending payload out out' after = IsRefusedPayload fault pending payload
 
--- One payload: what is pending, the payload, the bytes and the extra before; the answer; the pending bytes, the bytes and
--- the extra afterwards. After a refusal nothing is pending, and the rest is as it was.
+-- One payload: the pending bytes, the payload, the output and the codec-specific data before; the result; the pending bytes, the
+-- output and the codec-specific data afterwards. After a refusal nothing is pending, and all else is unchanged.
 abbrev pub Av1Step : List ℕ → List ℕ → List ℕ → CodecExtra → Result ⊤ PacketError → List ℕ → List ℕ → CodecExtra → Type 0
 Av1Step pending payload out extra (Ok _) after out' extra' =
     (added : List ℕ) × (received pending payload ≡ Some (added, after)) × (out' ≡ out ++ added) × (extra' ≡ extra_of payload extra)

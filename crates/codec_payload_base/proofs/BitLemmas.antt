@@ -112,7 +112,7 @@ next_at bs i s n k e h l =
     ∙ next-bits (drop i bs) s n k e within small
     ∙ ap (λ t. bits n (t / 2 ^ k)) (rw (first, second) refl)
 
--- what the code of a read computes from two bytes
+-- the number that a read computes from two bytes
 pub record IsWindow (bs : List ℕ) (p n v : ℕ) : Type 0 where
   pub fits : v < 2 ^ n
   pub front : drop p (bits_of bs) ≡ bits n v ++ drop (p + n) (bits_of bs)
@@ -133,7 +133,7 @@ window_value bs i s n hi lo p q a b c d h =
           ∙ ap (λ t. bits n (whole % 2 ^ n) ++ t) (drop-drop n (8 * i + s) (bits_of bs));
     }
 
--- two bytes in a row are a number of 16 bits
+-- two consecutive bytes are a number of 16 bits
 pub two_bytes : (h l : ℕ) (rest : List ℕ) → l < 256 → bits 8 h ++ (bits 8 l ++ rest) ≡ bits 16 (h * 256 + l) ++ rest
 two_bytes h l rest b = sym (append_assoc (bits 8 h) (bits 8 l) rest) ∙ ap (λ t. t ++ rest) (sym (bits-cat 8 8 h l b))
 
@@ -141,7 +141,7 @@ two_bytes h l rest b = sym (append_assoc (bits 8 h) (bits 8 l) rest) ∙ ap (λ 
 pub reads_none : (r : Reader) → ReadsBits 0 r r (Some 0)
 reads_none r = (lit< tt, ap (λ t. t ++ left r) (sym (none-bits 0)), ap (λ p. record r { place = p }) (sym (add-zero r.place)))
 
--- two bytes read in a row are 16 bits read
+-- two bytes read one after the other are 16 bits read
 pub reads_two : (a b c : Reader) (h l v : ℕ) → v ≡ h * 256 + l → ReadsBits 8 a b (Some h) → ReadsBits 8 b c (Some l) → ReadsBits 16 a c (Some v)
 reads_two a b c h l v e first second =
     let high : h < 2 ^ 8 = first.0 in

@@ -23,7 +23,7 @@ bytes_of-bits_of (x ∷ xs) small =
     let rest : bytes_of (bits_of xs) ≡ xs = bytes_of-bits_of xs (λ i h. small (suc i) (omega (arith, h))) in
     cc
 
--- where bits were appended, so were their bytes
+-- if bits were appended, so were their bytes
 pub appended_bytes : (out more new added : List ℕ) → new ≡ out ++ more → bits_of new ≡ bits_of out ++ added → ((i : ℕ) → i < length new → get_or new i 0 < 256) → new ≡ out ++ bytes_of added
 appended_bytes out more new added e same small =
     let both : bits_of more ≡ added = append_cancel_left (bits_of out) (bits_of more) added (sym (bits_of-append out more) ∙ ap bits_of (sym e) ∙ same) in

@@ -11,7 +11,7 @@ joined_64 : (n last before next first number : ℕ) → (n + last) % 2 ^ 64 ≡ 
     → (n + first) % 2 ^ 64 ≡ (number + next) % 2 ^ 64
 joined_64 n last before next first number one so_far = omega (arith, one, so_far)
 
--- what the last id's bits are moved by
+-- the distance by which the last id's bits are moved
 moved_64 : (near raw last before next : ℕ) → raw < 2 ^ 64 → (near + last) % 2 ^ 64 ≡ (raw + next) % 2 ^ 64
     → ((before + (near + 2 ^ 64 - raw) % 2 ^ 64) % 2 ^ 64 + last) % 2 ^ 64 ≡ (before + next) % 2 ^ 64
 moved_64 near raw last before next small one = omega (arith, small, one)

@@ -9,7 +9,7 @@ use Rattle.codec_payload_base.specs.Bits.{Reader, bits, bits_of, left, moved, Re
 use Rattle.codec_payload_base.specs.Leb.{AllGoOn, leb128_value}
 use Rattle.codec_payload_base.proofs.BitLemmas.{bits_of-append}
 
--- the bytes read so far, all of which go on
+-- the bytes read so far, each with the continuation bit
 pub record SoFar (old now : Reader) (count value : ℕ) : Type 0 where
   pub text : List ℕ
   pub size : length text ≡ count
@@ -52,7 +52,7 @@ or_wrapped low v k h b =
     ∙ or_shifted (low % 2 ^ (64 - k)) k v b
     ∙ sym (wrapped_sum low v k h b)
 
--- what the code of a step computes
+-- the number that a step computes
 pub sum_more : (text : List ℕ) (b v i : ℕ) → length text ≡ i → i < 10 → v ≡ leb128_value text % 2 ^ 64 → bit_or v (b % 128 * 2 ^ (7 * i) % 2 ^ 64) ≡ leb128_value (text ++ b ∷ []) % 2 ^ 64
 sum_more text b v i size few sum =
     let below : leb128_value text < 2 ^ (7 * i) = rw (sym size) (leb128_value_below text) in

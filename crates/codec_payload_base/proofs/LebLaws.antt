@@ -1,4 +1,4 @@
--- What is written of a number in LEB128 says it in as few bytes as can be, and reading finds what texts say.
+-- The LEB128 bytes of a number encode it in as few bytes as possible, and reading returns the number that a text encodes.
 use Rattle.std.proofs.Common.{◌≡◌, ℕ, zero, suc, ◌+◌, ◌*◌, ◌/◌, ◌%◌, ◌^◌, ◌<◌, ◌≤◌, List, [], ◌∷◌, ◌++◌, length, Option, Some, None, refl, sym, ap, ◌∙◌, inl, inr, arith}
 use Rattle.std.specs.Option.{option_map}
 use Rattle.std.proofs.Math.Nat.{mod-eq_of_lt, mod-le}
@@ -7,9 +7,9 @@ use Rattle.std.proofs.lemmas.List.{length-append}
 use Rattle.codec_payload_base.specs.Leb.{AllGoOn, leb128_value, IsLeb128, leb_front, leb_at, leb_within, leb, WritesLeb, WritesShortest, TakesNine, FindsLeb}
 use Rattle.codec_payload_base.proofs.LebLemmas.{limit}
 
--- ---- what is written
+-- ---- written bytes
 
--- bytes that go on and one that does not
+-- bytes with the continuation bit and one without it
 pub record IsText (k : ℕ) (text : List ℕ) : Type 0 where
   pub front : List ℕ
   pub last : ℕ

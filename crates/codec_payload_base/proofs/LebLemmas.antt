@@ -5,7 +5,7 @@ use Rattle.std.proofs.lemmas.List.{length-append, length-take-le, take-append-dr
 use Rattle.std.proofs.lemmas.Grind.{drop_more_same}
 use Rattle.codec_payload_base.specs.Leb.{leb, leb_within}
 
--- what k + 1 bytes can spell is below this
+-- the numbers that k + 1 bytes can spell are below this
 abbrev pub limit : ℕ → ℕ
 limit zero = 128
 limit (suc k) = 128 * limit k
@@ -18,8 +18,7 @@ some_byte (suc k) n =
       | inr large ↦ rw (le-ltb n 128 large) (omega arith)
     ]
 
--- before this place stand the first bytes of a number, behind it what stood there at the start; the rest is still to be
--- written
+-- before this place are the first bytes of a number, after it the bytes from the start; the rest is still to be written
 pub record WrittenTo (value : ℕ) (start buf : List ℕ) (place rest : ℕ) : Type 0 where
   pub written : take place buf ++ leb_within (9 - place) rest ≡ leb value
   pub behind : drop place buf ≡ drop place start

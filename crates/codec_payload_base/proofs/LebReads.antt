@@ -1,4 +1,4 @@
--- A read of a LEB128 text at a whole byte answers the number at the front of the bytes there.
+-- A read of a LEB128 text at a whole byte returns the number at the front of the bytes there.
 use Rattle.std.proofs.Common.{◌≡◌, ℕ, zero, suc, ◌+◌, ◌-◌, ◌*◌, ◌<◌, List, [], ◌∷◌, ◌++◌, length, drop, get_or, Some, None, refl, sym, ap, ◌∙◌, ◌⊎◌, inl, inr, arith}
 use Rattle.std.specs.List.{AllByRecursion}
 use Rattle.std.proofs.lemmas.Bool.{le-ltb}
@@ -10,7 +10,7 @@ use Rattle.codec_payload_base.proofs.BytesLemmas.{bytes_of-bits_of}
 use Rattle.codec_payload_base.specs.Bits.{bytes_of}
 use Rattle.codec_payload_base.proofs.LebLaws.{leb_complete}
 
--- ---- bytes that go on are no number
+-- ---- bytes with the continuation bit only are not a number
 
 all_front_none : (k : ℕ) (text rest : List ℕ) → AllGoOn text → length text ≡ suc k → leb_front k (text ++ rest) ≡ None
 all_front_none zero (b ∷ []) rest all e = rw (le-ltb b 128 all.0) refl

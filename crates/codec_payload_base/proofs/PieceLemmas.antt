@@ -12,7 +12,7 @@ use Rattle.codec_payload_base.specs.Pieces.{joined, AreOfSize, ArePieces, Answer
 at_most : (n size a b : ℕ) → a * size < n + size → n ≤ b * size → a ≤ b
 at_most n size a b a_least b_reaches = grind arith
 
--- two counts of which each is the least whose multiple of size reaches n are one
+-- two counts are equal if each is the least whose multiple of size reaches n
 one_count : (n size a b : ℕ) → n ≤ a * size → a * size < n + size → n ≤ b * size → b * size < n + size → a ≡ b
 one_count n size a b a_reaches a_least b_reaches b_least =
     omega (arith, at_most n size a b a_least b_reaches, at_most n size b a b_least a_reaches)
@@ -55,7 +55,7 @@ one_piece size rest more some left are = record {
 pub no_pieces : (size : ℕ) (frame : List ℕ) → frame ≡ [] → ArePieces size frame []
 no_pieces size frame nothing = record { join = sym nothing; sizes = tt }
 
--- pieces are told by their number
+-- pieces are determined by their number
 told_by_count : (size : ℕ) (pieces : List (List ℕ)) → AreOfSize size pieces → pieces ≡ pieces_from (length pieces) size (joined pieces)
 told_by_count size [] sizes = refl
 told_by_count size (piece ∷ []) sizes = ap (λ p. p ∷ []) (sym (ap (take size) (append-nil piece) ∙ take_all size piece sizes.1))
@@ -72,7 +72,7 @@ pub one_list : IsOneList
 one_list size frame pieces some are =
     told_by_count size pieces are.sizes ∙ (ap (λ x. pieces_from (length pieces) size x) are.join ∙ ap (λ n. pieces_from n size frame) (count_of_pieces size frame pieces some are))
 
--- what is answered for a frame
+-- the result for a frame
 pub answers_empty : (mtu : ℕ) (frame : List ℕ) → length frame ≡ 0 → AnswersPieces mtu frame (Ok [])
 answers_empty mtu [] none = refl
 answers_empty mtu (b ∷ bs) none = absurd (omega arith)

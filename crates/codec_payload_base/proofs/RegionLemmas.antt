@@ -10,7 +10,7 @@ use Rattle.codec_payload_base.proofs.SpanLemmas.{IsPut, drop_by_back, header_at,
 abbrev pub place : ℕ → Span
 place at = record { front = at; start = at; end = at }
 
--- what a region has between two of its places
+-- the bytes of a region between two of its places
 in_region : (bytes : List ℕ) (at to from until : ℕ) (region : List ℕ) → slice_range bytes at to ≡ region → from ≤ until → until ≤ to - at
     → slice_range bytes (at + from) (at + until) ≡ slice_range region from until
 in_region bytes at to from until region is order within =
@@ -34,7 +34,7 @@ parts_of h t s bytes region room near front order is =
       ap (λ (n : ℕ). slice_range bytes n s.end) (sym middle) ∙ (ap (slice_range bytes (at + h)) (sym ends) ∙ second),
     )
 
--- headers and payloads where the region at a place was written over
+-- headers and payloads after the region at a place was overwritten
 region_put : (h t from size : ℕ) (spans : List Span) (i : ℕ) (s : Span) (bytes bytes' header payload region : List ℕ) → i < length spans → s ≡ get_or spans i s → InOrder h t from size spans
     → IsPut bytes (s.start - h) (place (s.end + t)) region bytes' → header_in bytes' s ≡ header → span_in bytes' s ≡ payload
     → (headed bytes' spans ≡ slice_set (headed bytes spans) i header) × (spanned bytes' spans ≡ slice_set (spanned bytes spans) i payload)
@@ -61,7 +61,7 @@ sizes_of : (bytes : List ℕ) (s : Span) → s.front ≤ s.start → s.start ≤
     → (length (header_in bytes s) ≡ s.start - s.front) × (length (span_in bytes s) ≡ s.end - s.start)
 sizes_of bytes s front order within = (length-range bytes s.front s.start front (omega (arith, order, within)), length-range bytes s.start s.end order within)
 
--- what lies in memory where the region at a place was written over
+-- the memory after the region at a place was overwritten
 pub region_list : (h t size : ℕ) (spans : List Span) (i : ℕ) (s : Span) (bytes bytes' region : List ℕ) (b : ℕ) → i < length spans → s ≡ get_or spans i s → InOrder h t 0 size spans
     → IsPut bytes (s.start - h) (place (s.end + t)) region bytes' → s.end + t ≤ b → s.end ≤ length bytes
     → list_of h t bytes' spans b ≡ with_region (list_of h t bytes spans b) i region
@@ -95,7 +95,7 @@ is_region h t size spans i s bytes region b lt is all within region_is =
       payload = ap (λ (n : ℕ). slice_range region h (h + n)) payload ∙ (sym parts.1 ∙ sym body);
     }
 
--- memory is as long as it was where a region of it was written over
+-- memory keeps its length if a region of it is overwritten
 pub length-over : (from : ℕ) (bytes region : List ℕ) → from + length region ≤ length bytes
     → length (take from bytes ++ (region ++ drop (length region) (drop from bytes))) ≡ length bytes
 length-over from bytes region le =

@@ -7,14 +7,14 @@ use Rattle.codec_payload_base.proofs.ByteTables.{below_each}
 use Rattle.codec_payload_base.specs.declared.interface.TelephoneEvent.{TelephoneEvent}
 use Rattle.codec_payload_base.specs.TelephoneReport.{nanoseconds_of, units_of, report, report_of, reports_of, bytes_of_report, without_reserved, are_reports, first_report}
 
--- units come back, where a unit is more than a nanosecond
+-- units are recovered if a unit is longer than a nanosecond
 pub units_of-nanoseconds_of : (units rate : ℕ) → 0 < rate → rate < 1000000000 → units_of (nanoseconds_of units rate) rate ≡ units
 units_of-nanoseconds_of units rate some few =
     let whole : rate * ((units * 1000000000 + rate / 2) / rate) + (units * 1000000000 + rate / 2) % rate ≡ units * 1000000000 + rate / 2 = div-add-mod (units * 1000000000 + rate / 2) rate in
     let rest : (units * 1000000000 + rate / 2) % rate < rate = mod-lt (units * 1000000000 + rate / 2) some in
     omega (arith, whole, rest)
 
--- one report, and those behind it
+-- one report, and the ones after it
 pub reports_of-more : (bytes : List ℕ) (rate : ℕ) (e : TelephoneEvent) → report_of bytes rate ≡ Some e → reports_of bytes rate ≡ e ∷ reports_of (drop 4 bytes) rate
 reports_of-more [] rate e h = cc
 reports_of-more (a ∷ []) rate e h = cc
@@ -26,7 +26,7 @@ reports_of-more (a ∷ b ∷ c ∷ d ∷ rest) rate e h = cc
 flags_kept : (flags : ℕ) → flags < 256 → cond (leb 128 flags) 128 0 + flags % 64 % 64 ≡ bit_and flags 0xbf
 flags_kept flags small = eqb-true (cond (leb 128 flags) 128 0 + flags % 64 % 64) (bit_and flags 0xbf) (below_each 256 (λ f. eqb (cond (leb 128 f) 128 0 + f % 64 % 64) (bit_and f 0xbf)) refl flags small)
 
--- a report that was read is written as its bytes, but for the reserved bit
+-- a report that was read is written as its bytes, except for the reserved bit
 pub written_again : (bytes : List ℕ) (rate : ℕ) (e : TelephoneEvent) → 0 < rate → rate < 1000000000 → ((i : ℕ) → get_or bytes i 0 < 256) → report_of bytes rate ≡ Some e → bytes_of_report e rate ≡ Some (without_reserved bytes)
 written_again (a ∷ b ∷ c ∷ d ∷ rest) rate e some few small h =
     let units : units_of (nanoseconds_of (c * 256 + d) rate) rate ≡ c * 256 + d = units_of-nanoseconds_of (c * 256 + d) rate some few in

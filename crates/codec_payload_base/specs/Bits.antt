@@ -18,7 +18,7 @@ pub record Reader : Type 0 where
   pub bytes : List ℕ
   pub place : ℕ
 
--- what remains: the bits from the place on
+-- the remaining bits: the bits from the place on
 abbrev pub left : Reader → List ℕ
 left r = drop r.place (bits_of r.bytes)
 
@@ -32,17 +32,17 @@ moved r n = record r { place = r.place + n }
 abbrev pub at_end : Reader → Reader
 at_end r = record r { place = 8 * length r.bytes }
 
--- What is read are the first n remaining bits. Nothing, and the same place, where fewer remain.
+-- The result is the number of the first n remaining bits. None, and the same place, if fewer remain.
 abbrev pub ReadsBits : ℕ → Reader → Reader → Option ℕ → Type 0
 ReadsBits n old new None = (length (left old) < n) × (new ≡ old)
 ReadsBits n old new (Some v) = (v < 2 ^ n) × (left old ≡ bits n v ++ left new) × (new ≡ moved old n)
 
--- The n whole bytes from that byte on in which the place stands, and the place n bytes on. Nothing, and the same place, where fewer bits remain.
+-- The n whole bytes from the current byte on, and the place n bytes on. None, and the same place, if fewer bits remain.
 abbrev pub LendsBytes : ℕ → Reader → Reader → Option (List ℕ) → Type 0
 LendsBytes n old new None = (length (left old) < 8 * n) × (new ≡ old)
 LendsBytes n old new (Some bs) = (8 * n ≤ length (left old)) × (bs ≡ take n (here old)) × (new ≡ moved old (8 * n))
 
--- The place n bytes on, or the same place where fewer bits remain.
+-- The place n bytes on, or the same place if fewer bits remain.
 abbrev pub Skips : ℕ → Reader → Reader → Type 0
 Skips n old new = (8 * n ≤ length (left old) → new ≡ moved old (8 * n)) × (length (left old) < 8 * n → new ≡ old)
 
@@ -52,7 +52,8 @@ pub record Passes (text : List ℕ) (old new : Reader) : Type 0 where
   pub front : left old ≡ bits_of text ++ left new
   pub place : new ≡ moved old (8 * length text)
 
--- What is read is the value of a text. Nothing where ten bytes go on, or fewer that go on and then no whole byte; they are passed too.
+-- The result is the value of a text. None if ten bytes have the continuation bit, or fewer and then no whole byte; these bytes are
+-- read too.
 abbrev pub ReadsLeb128 : Reader → Reader → Option ℕ → Type 0
 ReadsLeb128 old new None = (text : List ℕ) × AllGoOn text × Passes text old new × ((length text ≡ 10) ⊎ ((length text < 10) × (length (left new) < 8)))
 ReadsLeb128 old new (Some v) = (text : List ℕ) × IsLeb128 text v × Passes text old new
@@ -62,7 +63,7 @@ abbrev pub IsFront : Option ℕ → Option (ℕ × List ℕ) → List ℕ → Ty
 IsFront None read rest = read ≡ None
 IsFront (Some n) read rest = read ≡ Some (n, rest)
 
--- At a whole byte a read of a LEB128 text answers the number at the front of the bytes there, and leaves what follows it.
+-- At a whole byte, a read of a LEB128 text returns the number at the front of the bytes there, and leaves the bytes after it.
 abbrev pub ReadsLebAtFront : Type 0
 ReadsLebAtFront = (old new : Reader) (i : ℕ) (answer : Option ℕ) → old.place ≡ 8 * i → AllByRecursion (λ b. b < 256) old.bytes → ReadsLeb128 old new answer
     → IsFront answer (leb_at (here old)) (here new)
@@ -72,7 +73,7 @@ abbrev pub number_of : List ℕ → ℕ
 number_of [] = 0
 number_of (b ∷ bs) = b * 2 ^ length bs + number_of bs
 
--- a list of bits as bytes; what is left over of a last byte is not counted
+-- a list of bits as bytes; an incomplete last byte is not counted
 unfoldable pub bytes_of : List ℕ → List ℕ
 bytes_of (a ∷ b ∷ c ∷ d ∷ e ∷ f ∷ g ∷ h ∷ rest) = number_of (a ∷ b ∷ c ∷ d ∷ e ∷ f ∷ g ∷ h ∷ []) ∷ bytes_of rest
 bytes_of bs = []

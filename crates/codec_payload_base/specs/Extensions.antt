@@ -2,7 +2,7 @@
 use Rattle.std.specs.Prelude.{None}
 use Rattle.codec_payload_base.specs.declared.wire.extension.ExtensionValues.{ExtensionValues}
 
--- none is there
+-- the field is absent
 abbrev pub no_values : ExtensionValues
 no_values = record {
   abs_capture_time = None;

@@ -2,9 +2,9 @@
 use Rattle.std.specs.Prelude.{◌≡◌, ℕ, zero, suc, ◌+◌, ◌*◌, ◌/◌, ◌%◌, ◌^◌, ◌<◌, ◌≤◌, ⊤, List, [], ◌∷◌, ◌++◌, length, Option, Some, None, nat_lt, if◌then◌else◌, refl}
 use Rattle.std.specs.Option.{option_map}
 
--- ---- what a text says
+-- ---- the value of a text
 
--- bytes from 0x80 on, after each of which a text goes on
+-- bytes from 0x80 on, which have the continuation bit
 abbrev pub AllGoOn : List ℕ → Type 0
 AllGoOn [] = ⊤
 AllGoOn (b ∷ bs) = (128 ≤ b) × AllGoOn bs
@@ -14,7 +14,7 @@ abbrev pub leb128_value : List ℕ → ℕ
 leb128_value [] = 0
 leb128_value (b ∷ bs) = b % 128 + 128 * leb128_value bs
 
--- at most ten bytes, all but the last from 0x80 on, the last below it; the value is taken modulo 2 ^ 64
+-- at most ten bytes: each except the last is 0x80 or more, and the last is less; the value is taken modulo 2 ^ 64
 pub record IsLeb128 (text : List ℕ) (value : ℕ) : Type 0 where
   pub front : List ℕ
   pub last : ℕ
@@ -26,7 +26,7 @@ pub record IsLeb128 (text : List ℕ) (value : ℕ) : Type 0 where
 
 -- ---- reading
 
--- a number of at most k + 1 bytes at the front, and what follows it
+-- a number of at most k + 1 bytes at the front, and the bytes after it
 abbrev pub leb_front : ℕ → List ℕ → Option (ℕ × List ℕ)
 leb_front k [] = None
 leb_front zero (b ∷ bs) = if nat_lt b 128 then Some (b, bs) else None
@@ -36,7 +36,7 @@ leb_front (suc k) (b ∷ bs) = if nat_lt b 128 then Some (b, bs) else option_map
 abbrev pub leb_low : ℕ → List ℕ → Option (ℕ × List ℕ)
 leb_low k bytes = option_map (λ x. (x.0 % 2 ^ 64, x.1)) (leb_front k bytes)
 
--- the number at the front, of at most ten bytes, and what follows it
+-- the number at the front, of at most ten bytes, and the bytes after it
 unfoldable pub leb_at : List ℕ → Option (ℕ × List ℕ)
 leb_at bytes = leb_low 9 bytes
 
@@ -51,13 +51,13 @@ leb_within (suc k) n = if nat_lt n 128 then n ∷ [] else (n % 128 + 128) ∷ le
 unfoldable pub leb : ℕ → List ℕ
 leb n = leb_within 9 n
 
--- ---- laws
+-- ---- theorems
 
--- What is written of a number says that number.
+-- The bytes written for a number encode that number.
 abbrev pub WritesLeb : Type 0
 WritesLeb = (n : ℕ) → n < 2 ^ 64 → IsLeb128 (leb n) n
 
--- No text that says a number is shorter than what is written of it.
+-- No text that encodes a number is shorter than the written bytes.
 abbrev pub WritesShortest : Type 0
 WritesShortest = (n : ℕ) (text : List ℕ) → IsLeb128 text n → length (leb n) ≤ length text
 

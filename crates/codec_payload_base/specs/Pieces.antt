@@ -6,7 +6,7 @@ use Rattle.std.proofs.Common.{lit<, lit≤}
 use Rattle.codec_payload_base.specs.declared.error.PacketError.{PacketError}
 use Rattle.codec_payload_base.specs.Answers.{AnswersBy, is_empty}
 
--- byte strings, one behind the other
+-- byte strings, one after another
 abbrev pub joined : List (List ℕ) → List ℕ
 joined pieces = flat_map (λ piece. piece) pieces
 
@@ -38,8 +38,8 @@ IsOneList = (size : ℕ) (frame : List ℕ) (pieces : List (List ℕ)) → 0 < s
 abbrev pub pieces_are_skipped : ℕ → List ℕ → Bool
 pieces_are_skipped mtu frame = is_empty frame || (mtu == 0)
 
--- what a packetizer of pieces answers: the pieces of MTU bytes, as many as the length over the MTU, rounded up; no frame
--- is refused
+-- the result of a packetizer of pieces: the pieces of MTU bytes, as many as the length over the MTU, rounded up; no frame is
+-- refused
 abbrev pub AnswersPieces : ℕ → List ℕ → Result (List (List ℕ)) PacketError → Type 0
 AnswersPieces mtu frame answer = AnswersBy (pieces_are_skipped mtu frame) None (λ packets. ArePieces mtu frame packets × (length packets ≡ div_ceil (length frame) mtu)) answer
 

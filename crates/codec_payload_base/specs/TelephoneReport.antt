@@ -22,7 +22,7 @@ abbrev pub report_of : List ℕ → ℕ → Option TelephoneEvent
 report_of (event ∷ flags ∷ high ∷ low ∷ rest) rate = Some (report rate event flags high low)
 report_of bytes rate = None
 
--- the four bytes of a report, R clear, where its duration fits two of them
+-- the four bytes of a report, R clear, if its duration fits two of them
 abbrev pub bytes_of_report : TelephoneEvent → ℕ → Option (List ℕ)
 bytes_of_report e rate =
     if nat_le (units_of e.duration rate) 65535
@@ -47,18 +47,18 @@ abbrev pub without_reserved : List ℕ → List ℕ
 without_reserved (event ∷ flags ∷ high ∷ low ∷ rest) = event ∷ bit_and flags 0xbf ∷ high ∷ low ∷ []
 without_reserved bytes = []
 
--- the fault of a payload that is no reports
+-- the fault of a payload that does not consist of reports
 abbrev pub IsNoReports : PacketError → Type 0
 IsNoReports (faults.InvalidTelephoneEvent reason) = reason.now ≡ codes "payload must contain one or more complete 4-byte reports"
 IsNoReports fault = ⊥
 
--- the bytes of the first report are appended, and the extra tells it
+-- the bytes of the first report are appended, and the codec-specific data reports it
 abbrev pub TakesFirst : ℕ → List ℕ → List ℕ → List ℕ → CodecExtra → Type 0
 TakesFirst rate (event ∷ flags ∷ high ∷ low ∷ rest) out out' extra' =
     (out' ≡ out ++ event ∷ flags ∷ high ∷ low ∷ []) × (extra' ≡ extras.Tele (report rate event flags high low))
 TakesFirst rate bytes out out' extra' = ⊥
 
--- one payload at a rate: the bytes and the extra before, the answer, and both afterwards
+-- one payload at a rate: the bytes and the codec-specific data before, the result, and both afterwards
 abbrev pub TeleStep : ℕ → List ℕ → List ℕ → CodecExtra → Result ⊤ PacketError → List ℕ → CodecExtra → Type 0
 TeleStep rate payload out extra (Ok _) out' extra' = (are_reports payload ≡ true) × TakesFirst rate payload out out' extra'
 TeleStep rate payload out extra (Err fault) out' extra' =

@@ -6,7 +6,7 @@ pub record Time : Type 0 where
   pub numer : ℕ
   pub rate : ℕ
 
--- the same time by a clock of another rate: whole ticks, of which 64 bits are kept
+-- the same time by a clock of another rate: whole ticks, reduced to 64 bits
 abbrev pub rebased : Time → ℕ → Time
 rebased time rate = record { numer = (time.numer * rate / time.rate) % 2 ^ 64; rate = rate }
 

@@ -7,13 +7,13 @@ ghost use Rattle.codec_payload_base.specs.Bits.{Reader, ReadsBits, ReadsLeb128, 
 pub use crate::theorems::leb128_says_numbers;
 use std::marker::Model;
 
-/// Reads the bits of a payload in order, the highest of each byte first. What a call lends lives as long as the payload,
-/// so reading can go on while it is held. `None` leaves the place, but for [`BitRead::get_leb128`].
+/// Reads the bits of a payload in order, the highest bit of each byte first. Lent bytes live as long as the payload, so reading can
+/// continue while they are held. `None` leaves the place unchanged, except from [`BitRead::get_leb128`].
 pub trait BitRead<'a> {
     /// The payload, and the place among its bits.
     ghost reader: { Self → Reader };
 
-    /// How many bits are left, or `usize::MAX` where they are more.
+    /// The number of remaining bits; `usize::MAX` if there are more.
     fn remaining_bits(&self) -> usize
         ensures { result ≡ min (length (left (reader self.now))) usize.MAX };
 
@@ -33,7 +33,7 @@ pub trait BitRead<'a> {
     fn get_u16(&mut self) -> Option<u16>
         ensures { ReadsBits 16 (reader self.old) (reader self.new) result };
 
-    /// The next `count` bits as a number, where `count` is at most 8 and as many are left; 0 bits are the number 0.
+    /// The next `count` bits as a number; `None` if `count` is above 8 or fewer bits remain. For 0 bits the number is 0.
     fn get_bits(&mut self, count: usize) -> Option<u8>
         ensures few { count ≤ 8 → ReadsBits count (reader self.old) (reader self.new) result }
         ensures many { 8 < count → (result ≡ None) × (reader self.new ≡ reader self.old) };
@@ -43,22 +43,21 @@ pub trait BitRead<'a> {
         ensures lent { result.now ≡ here (reader self.old) }
         ensures after { reader self.new ≡ at_end (reader self.old) };
 
-    /// `count` bytes from that one on in which the place stands, where eight times as many bits are left. The place
-    /// moves on by as many bytes.
+    /// `count` bytes from the current byte on, if eight times as many bits remain. The place moves on by as many bytes.
     fn get_bytes(&mut self, count: usize) -> Option<&'a [u8]>
         ensures { LendsBytes count (reader self.old) (reader self.new) (option_map (λ s. s.now) result) };
 
-    /// A LEB128 number of at most ten bytes, low groups first, modulo 2^64. `None` where the tenth byte goes on too, or
-    /// the bytes end before the last; the place is then behind the bytes that were read.
+    /// A LEB128 number of at most ten bytes, low groups first, modulo 2^64. `None` if the tenth byte has the continuation bit too,
+    /// or the bytes end before the last; the place is then after the bytes that were read.
     fn get_leb128(&mut self) -> Option<u64>
         ensures { ReadsLeb128 (reader self.old) (reader self.new) result };
 
-    /// Moves the place on by `count` bytes, or not at all where fewer bits are left.
+    /// Moves the place on by `count` bytes; unchanged if fewer bits remain.
     fn skip_bytes(&mut self, count: usize)
         ensures { Skips count (reader self.old) (reader self.new) };
 }
 
-/// Reads the bits of a byte string that it borrows. It takes no memory.
+/// Reads the bits of a borrowed byte string. Does not allocate.
 #[derive(Debug, Drop)]
 pub struct BitReader<'a> {
     source: &'a [u8],
@@ -123,7 +122,7 @@ impl<'a> BitReader<'a> {
         &self.source[self.byte..]
     }
 
-    /// Moves the place on by `count` bits where as many are left, and tells whether they were. Else it stays.
+    /// Moves the place on by `count` bits if that many remain, and returns whether they did. Otherwise the place is unchanged.
     #[tactic(auto, using(crate::proofs::BitLemmas::length_left))]
     pub fn skip_bits(&mut self, count: usize) -> bool
         ensures skipped { result ≡ true → (count ≤ length (left self.old)) × (self.new ≡ moved self.old count) }
@@ -138,7 +137,7 @@ impl<'a> BitReader<'a> {
         there
     }
 
-    /// How many bits lie between the start of that byte in which the place stands and the place, from 0 to 7.
+    /// The number of bits between the start of the current byte and the place, 0 to 7.
     pub fn bits_behind_byte(&self) -> usize
         ensures { result ≡ self.now.place % 8 }
     {
@@ -181,7 +180,7 @@ impl<'a> BitRead<'a> for BitReader<'a> {
 
     fn get_bits(&mut self, count: usize) -> Option<u8> {
         let bytes = self.source.len() - self.byte;
-        // Two bytes hold what is asked for, wherever the place stands in the first of them.
+        // Two bytes hold the requested bits, at any place within the first byte.
         if count > 8 || (bytes < 2 && self.bit + count > 8 * bytes) {
             return None;
         }

@@ -1,4 +1,4 @@
-//! What holds of LEB128 and of ids that are extended. These functions exist for what they prove, and do nothing.
+//! Theorems on LEB128 and on extended ids. These functions exist for their proofs and do nothing.
 
 ghost use Rattle.codec_payload_base.specs.Bits.{ReadsLebAtFront};
 ghost use Rattle.codec_payload_base.specs.Leb.{WritesLeb, WritesShortest, TakesNine, FindsLeb};
@@ -6,9 +6,9 @@ ghost use Rattle.codec_payload_base.specs.Extended.{NumbersGoAlong};
 ghost use Rattle.codec_payload_base.specs.PictureIds.{IdsGoAlong};
 ghost use Rattle.codec_payload_base.specs.declared.picture_id.PictureId.TheVariants.{Short, Long};
 
-/// The laws of LEB128 (AV1 bitstream specification, section 4.10.5): what is written of a number says it, in as few bytes
-/// as can be, which are at most nine below 2^63; reading finds the number that a text at the front says, and no other; and
-/// so does [`BitRead::get_leb128`](crate::bits::BitRead::get_leb128) where it stands at a whole byte.
+/// LEB128 (AV1 bitstream specification, section 4.10.5). The bytes written for a number encode it in as few bytes as possible, at
+/// most nine below 2^63. Reading returns the number that the bytes at the front encode, and no other.
+/// [`BitRead::get_leb128`](crate::bits::BitRead::get_leb128) does the same at a whole byte.
 pub fn leb128_says_numbers()
     ensures says { WritesLeb }
     ensures shortest { WritesShortest }
@@ -17,8 +17,8 @@ pub fn leb128_says_numbers()
     ensures read { ReadsLebAtFront }
 {}
 
-/// Where each id differs in truth from the one before it by less than half the range, the numbers that the `extend`
-/// functions give, one from the other, differ as the true ids do, modulo 2^64; and so do extended picture ids of one width.
+/// If each true id differs from the previous one by less than half the range, the numbers from the `extend` functions differ as the
+/// true ids do, modulo 2^64. The same applies to extended picture ids of one width.
 pub fn extended_ids_go_along()
     ensures of_7_bits { NumbersGoAlong 128 }
     ensures of_8_bits { NumbersGoAlong 256 }

@@ -210,38 +210,11 @@ left_index hs f r h =
 pub complete_frames_rise : (hs : List Held) (fs : List CompleteFrame) → Rises hs → fs ≡ frames hs → EndsRise fs
 complete_frames_rise hs fs r is = rw (is, ← frames_of_rows hs) (ends_rise (rows hs) (rows_rise hs r))
 
-pub record IsIndex (rs : List Row) (fs : List CompleteFrame) (hs : List Held) : Type 0 where
-  pub rows_are : rs ≡ rows hs
-  pub frames_are : fs ≡ frames hs
+-- what a push leaves of the frames
+pub pushed_frames : (p : Held) (hs new : List Held) (whole : Row) (frame : Option CompleteFrame) (fs fs' : List CompleteFrame) → Rises hs → has_number p.meta.seq_no.0 hs ≡ false → fs ≡ frames hs
+    → new ≡ placed p hs → whole ≡ merged (row_of p) (rows hs) → frame ≡ frame_of_row whole → fs' ≡ noted_if frame fs → fs' ≡ frames new
+pushed_frames p hs new whole frame fs fs' r fresh frames_are placed_is all of noted_is = rw (noted_is, of, all, placed_is, frames_are) (placed_index p hs r fresh)
 
-pub pushed_index : (p : Held) (hs new : List Held) (rs rs' : List Row) (row whole : Row) (frame : Option CompleteFrame) (fs fs' : List CompleteFrame) → Rises hs
-    → has_number p.meta.seq_no.0 hs ≡ false → rs ≡ rows hs → fs ≡ frames hs → new ≡ placed p hs
-    → row ≡ row_of p → rs' ≡ row_placed row rs → whole ≡ merged row rs → frame ≡ frame_of_row whole → fs' ≡ noted_if frame fs → IsIndex rs' fs' new
-pushed_index p hs new rs rs' row whole frame fs fs' r fresh rows_are frames_are placed_is one all of is noted_is =
-    rw (noted_is, is, of, all, one, placed_is, frames_are, rows_are) (record { rows_are = sym (rows_placed p hs r fresh); frames_are = placed_index p hs r fresh })
-
-pub evict_short : (hs new : List Held) (n : ℕ) (rs : List Row) → Rises hs → TakesLowest hs n new → rs ≡ rows hs → IsFirstShort rs new
-evict_short [] new n rs r takes rows_are = absurd takes
-evict_short (p ∷ ps) new n rs r takes rows_are = rw (rows_are, takes.1) (first_is_short p ps r)
-
--- where the first row has a frame there are frames
-frames_some : (rs : List Row) (left : List Held) (before after : Option CompleteFrame) (new : List Row) → IsShortened rs left before after new → IfSome before (λ _. 0 < length (row_frames rs))
-frames_some [] left before after new is = absurd is
-frames_some (r ∷ rs) left before after new is = rw is.0 (by_frame (frame_of_row r) (λ o. IfSome o (λ _. 0 < length (with_frame o (row_frames rs)))) (λ e. tt) (λ f e. omega arith))
-
-pub evict_some : (hs left : List Held) (rs new : List Row) (fs : List CompleteFrame) (count : ℕ) (before after : Option CompleteFrame) → rs ≡ rows hs → fs ≡ frames hs
-    → count ≡ length fs → IsShortened rs left before after new → IfSome before (λ _. 0 < count)
-evict_some hs left rs new fs count before after rows_are frames_are counted is = rw (counted, frames_are, ← frames_of_rows hs) (frames_some (rows hs) left before after new (rw rows_are at is))
-
-pub evicted_index : (hs new : List Held) (n : ℕ) (rs rs' : List Row) (fs fs' : List CompleteFrame) (before after : Option CompleteFrame) → Rises hs → TakesLowest hs n new
-    → rs ≡ rows hs → fs ≡ frames hs → IsShortened rs new before after rs' → fs' ≡ first_mended before after fs → IsIndex rs' fs' new
-evicted_index [] new n rs rs' fs fs' before after r takes rows_are frames_are short mended = absurd takes
-evicted_index (p ∷ ps) new n rs rs' fs fs' before after r takes rows_are frames_are short mended =
-    let both = without_lowest_index p ps before after rs' r (rw (takes.1, rows_are) at short) in
-    rw (takes.1, mended, frames_are) (record { rows_are = both.0; frames_are = both.1 })
-
-pub left_index_of : (hs new : List Held) (f : CompleteFrame) (rs rs' : List Row) (fs fs' : List CompleteFrame) → Rises hs → first_of (frames hs) ≡ Some f → rs ≡ rows hs
-    → fs ≡ frames hs → new ≡ above f.last hs → rs' ≡ drop (row_end f.last rs) rs → fs' ≡ drop 1 fs → IsIndex rs' fs' new
-left_index_of hs new f rs rs' fs fs' r first rows_are frames_are left rows_left frames_left =
-    let both = left_index hs f r first in
-    rw (left, rows_left, frames_left, rows_are, frames_are) (record { rows_are = both.0; frames_are = both.1 })
+-- what holds of the frames holds of what the code has of them
+pub some_frames : (o : Option CompleteFrame) (hs : List Held) (fs : List CompleteFrame) (count : ℕ) → count ≡ length fs → fs ≡ frames hs → IfSome o (λ _. 0 < length (frames hs)) → IfSome o (λ _. 0 < count)
+some_frames o hs fs count counted is some = rw (counted, is) some

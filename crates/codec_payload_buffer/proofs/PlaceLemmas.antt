@@ -41,25 +41,25 @@ absent_below n q qs l a = grind (arith, nat_tests, not_below n qs (above_lower n
 
 -- the number stands at its place, if it is there
 pub at_place : (n : ℕ) (xs : List HeldPacket) (x : HeldPacket) → Rises (map held_of xs) → place_of n (map held_of xs) < length xs
-    → eqb (get_or xs (place_of n (map held_of xs)) x).meta.value.seq_no.0 n ≡ has_number n (map held_of xs)
+    → eqb (get_or xs (place_of n (map held_of xs)) x).packet.value.known.seq_no.0 n ≡ has_number n (map held_of xs)
 at_place n [] x r l = absurd (omega arith)
-at_place n (q ∷ qs) x r l = at_test (at_place n qs x r.1) (ltb q.meta.value.seq_no.0 n) refl l
+at_place n (q ∷ qs) x r l = at_test (at_place n qs x r.1) (ltb q.packet.value.known.seq_no.0 n) refl l
   where
-    at_test : (place_of n (map held_of qs) < length qs → eqb (get_or qs (place_of n (map held_of qs)) x).meta.value.seq_no.0 n ≡ has_number n (map held_of qs))
-        → (b : Bool) → ltb q.meta.value.seq_no.0 n ≡ b → cond b (place_of n (map held_of qs) + 1) 0 < length (q ∷ qs)
-        → eqb (get_or (q ∷ qs) (cond b (place_of n (map held_of qs) + 1) 0) x).meta.value.seq_no.0 n ≡ has_number n (map held_of (q ∷ qs))
+    at_test : (place_of n (map held_of qs) < length qs → eqb (get_or qs (place_of n (map held_of qs)) x).packet.value.known.seq_no.0 n ≡ has_number n (map held_of qs))
+        → (b : Bool) → ltb q.packet.value.known.seq_no.0 n ≡ b → cond b (place_of n (map held_of qs) + 1) 0 < length (q ∷ qs)
+        → eqb (get_or (q ∷ qs) (cond b (place_of n (map held_of qs) + 1) 0) x).packet.value.known.seq_no.0 n ≡ has_number n (map held_of (q ∷ qs))
     at_test rest true e l =
-        let below : q.meta.value.seq_no.0 < n = grind (arith, nat_tests, e) in
+        let below : q.packet.value.known.seq_no.0 < n = grind (arith, nat_tests, e) in
         rw add-one (rest (omega arith) ∙ grind (arith, nat_tests))
     at_test rest false e l =
-        let at_least : n ≤ q.meta.value.seq_no.0 = grind (arith, nat_tests, e) in
-        grind (arith, nat_tests, not_below n (map held_of qs) (above_lower n q.meta.value.seq_no.0 (map held_of qs) at_least r.0))
+        let at_least : n ≤ q.packet.value.known.seq_no.0 = grind (arith, nat_tests, e) in
+        grind (arith, nat_tests, not_below n (map held_of qs) (above_lower n q.packet.value.known.seq_no.0 (map held_of qs) at_least r.0))
 
 -- the packet that is found at that place tells it
 pub at_found : (n : ℕ) (xs : List HeldPacket) (i : ℕ) (q : HeldPacket) → Rises (map held_of xs) → i ≡ place_of n (map held_of xs) → i < length xs → q ≡ get_or xs i q
     → eqb q.number n ≡ has_number n (map held_of xs)
 at_found n xs i q r at l is =
-    ap (λ k. eqb k n) q.numbered ∙ ap (λ (p : HeldPacket). eqb p.meta.value.seq_no.0 n) (is ∙ ap (λ k. get_or xs k q) at) ∙ at_place n xs q r (omega (arith, l, at))
+    ap (λ k. eqb k n) q.numbered ∙ ap (λ (p : HeldPacket). eqb p.packet.value.known.seq_no.0 n) (is ∙ ap (λ k. get_or xs k q) at) ∙ at_place n xs q r (omega (arith, l, at))
 
 pub past_place : (n : ℕ) (hs : List Held) → Rises hs → length hs ≤ place_of n hs → has_number n hs ≡ false
 past_place n [] r l = refl
@@ -111,7 +111,7 @@ with_new items new p cutoff r a fresh over is = record {
 
 -- Places found by a search
 
-number_from : (n : ℕ) (xs : List HeldPacket) → AllAbove n (map held_of xs) → (k : ℕ) (d : HeldPacket) → k < length xs → n < (get_or xs k d).number
+pub number_from : (n : ℕ) (xs : List HeldPacket) → AllAbove n (map held_of xs) → (k : ℕ) (d : HeldPacket) → k < length xs → n < (get_or xs k d).number
 number_from n [] a k d l = absurd (omega arith)
 number_from n (x ∷ xs) a zero d l = omega (arith, a.0, x.numbered)
 number_from n (x ∷ xs) a (suc k) d l = number_from n xs a.1 k d (omega arith)
@@ -120,7 +120,7 @@ number_from n (x ∷ xs) a (suc k) d l = number_from n xs a.1 k d (omega arith)
 pub rises_by_number : (xs : List HeldPacket) → Rises (map held_of xs) → IsNonDecreasingBy (λ (p : HeldPacket). p.number) xs
 rises_by_number [] r i j d le l = absurd (omega arith)
 rises_by_number (x ∷ xs) r zero zero d le l = omega arith
-rises_by_number (x ∷ xs) r zero (suc j) d le l = let over = number_from x.meta.value.seq_no.0 xs r.0 j d (omega arith) in omega (arith, over, x.numbered)
+rises_by_number (x ∷ xs) r zero (suc j) d le l = let over = number_from x.packet.value.known.seq_no.0 xs r.0 j d (omega arith) in omega (arith, over, x.numbered)
 rises_by_number (x ∷ xs) r (suc i) zero d le l = absurd (omega arith)
 rises_by_number (x ∷ xs) r (suc i) (suc j) d le l = rises_by_number xs r.1 i j d (omega arith) (omega arith)
 
@@ -128,8 +128,8 @@ rises_by_number (x ∷ xs) r (suc i) (suc j) d le l = rises_by_number xs r.1 i j
 pub place_from_point : (n : ℕ) (xs : List HeldPacket) (i : ℕ) → IsPartitionPoint (λ (p : HeldPacket). p.number < n) (λ (p : HeldPacket). n ≤ p.number) xs i
     → i ≤ length xs → i ≡ place_of n (map held_of xs)
 place_from_point n [] i point le = omega arith
-place_from_point n (x ∷ xs) zero point le = let t : ltb x.meta.value.seq_no.0 n ≡ false = grind (arith, nat_tests, point.1 0 x (omega arith) (omega arith), x.numbered) in rw t refl
+place_from_point n (x ∷ xs) zero point le = let t : ltb x.packet.value.known.seq_no.0 n ≡ false = grind (arith, nat_tests, point.1 0 x (omega arith) (omega arith), x.numbered) in rw t refl
 place_from_point n (x ∷ xs) (suc i) point le =
-    let t : ltb x.meta.value.seq_no.0 n ≡ true = grind (arith, nat_tests, point.0 0 x (omega arith) (omega arith), x.numbered) in
+    let t : ltb x.packet.value.known.seq_no.0 n ≡ true = grind (arith, nat_tests, point.0 0 x (omega arith) (omega arith), x.numbered) in
     let rest = place_from_point n xs i (λ k d low l. point.0 (suc k) d (omega arith) (omega arith), λ k d low l. point.1 (suc k) d (omega arith) (omega arith)) (omega arith) in
     rw t (omega (arith, rest))

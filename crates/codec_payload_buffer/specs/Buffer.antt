@@ -5,9 +5,9 @@ use Rattle.codec_payload_buffer.specs.Held.{held_of}
 use Rattle.codec_payload_buffer.specs.Steps.{State, IsSound}
 use Rattle.codec_payload_buffer.specs.Frames.{frames}
 use Rattle.codec_payload_buffer.specs.Rows.{rows}
+use Rattle.codec_payload_buffer.specs.Ends.{Mark, AreTold}
 use Rattle.codec_payload_buffer.specs.declared.buffer.DepacketizingBuffer.TheInside.{Inside}
 use Rattle.codec_payload_buffer.specs.declared.buffer.frames.CompleteFrame.{CompleteFrame}
-use Rattle.codec_payload_buffer.specs.declared.buffer.rows.Row.{Row}
 
 -- what the fields say of the buffer
 abbrev pub state_of : {B : _} → Inside B → State
@@ -21,10 +21,10 @@ state_of b = record {
   limit = b.limit;
 }
 
--- what every buffer keeps: it is sound, its limit is in range, and its lists of rows and of frames are those of its packets
-pub record IsIndexed (s : State) (row_list : List Row) (complete_frames : List CompleteFrame) : Type 0 where
+-- what every buffer keeps: it is sound, its limit is in range, and its packets tell their rows, and its list of frames is theirs
+pub record IsIndexed (s : State) (marks : List Mark) (complete_frames : List CompleteFrame) : Type 0 where
   pub sound : IsSound s
   pub least : 1 ≤ s.limit
   pub most : s.limit ≤ 65536
-  pub rows_are : row_list ≡ rows s.held
+  pub told : AreTold (rows s.held) marks
   pub frames_are : complete_frames ≡ frames s.held

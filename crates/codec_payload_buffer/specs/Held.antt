@@ -12,7 +12,7 @@ pub record Held : Type 0 where
 
 -- the packet, without where what it has lies in memory
 abbrev pub held_of : HeldPacket → Held
-held_of p = record { meta = p.meta.value; bytes = p.bytes.items; head = p.head; tail = p.tail }
+held_of p = record { meta = p.packet.value.known; bytes = p.packet.value.bytes.items; head = p.packet.value.head; tail = p.packet.value.tail }
 
 -- its sequence number
 abbrev pub number_of : Held → ℕ

@@ -1,5 +1,5 @@
 -- The rows of held packets, which a push, an eviction and a pop mend, and the complete frames in them.
-use Rattle.std.specs.Prelude.{◌≡◌, ◌≢◌, ℕ, zero, suc, ◌+◌, ◌<◌, ◌≤◌, ◌&&◌, not, Bool, true, false, List, [], ◌∷◌, nat_lt, ◌==◌, if◌then◌else◌, Option, Some, None, drop}
+use Rattle.std.specs.Prelude.{◌≡◌, ◌≢◌, ℕ, ◌+◌, ◌<◌, ◌≤◌, ◌&&◌, not, Bool, true, false, List, [], ◌∷◌, nat_lt, ◌==◌, if◌then◌else◌, Option, Some, None, drop}
 use Rattle.codec_payload_buffer.specs.Held.{Held, number_of}
 use Rattle.codec_payload_buffer.specs.Frames.{is_same_time, start_or_here}
 use Rattle.codec_payload_buffer.specs.declared.buffer.frames.CompleteFrame.{CompleteFrame}
@@ -59,11 +59,6 @@ row_frames (r ∷ rs) = with_frame (frame_of_row r) (row_frames rs)
 
 -- Mending, as the code does it
 
--- how many rows begin below n
-abbrev pub row_place : ℕ → List Row → ℕ
-row_place n [] = 0
-row_place n (r ∷ rs) = if nat_lt r.first n then row_place n rs + 1 else 0
-
 -- how many rows begin up to n
 abbrev pub row_end : ℕ → List Row → ℕ
 row_end n [] = 0
@@ -87,18 +82,6 @@ merged_after r p (s ∷ rs) = if nat_lt s.first p.first then merged_after s p rs
 abbrev pub merged : Row → List Row → Row
 merged p [] = p
 merged p (r ∷ rs) = if nat_lt r.first p.first then merged_after r p rs else with_next p (r ∷ rs)
-
--- p put before the rows from a place on
-abbrev pub put_at : ℕ → Row → List Row → List Row
-put_at zero p rs = put_before p rs
-put_at (suc k) p [] = []
-put_at (suc k) p (r ∷ rs) = r ∷ put_at k p rs
-
--- the row at a place and the one after it as one, where they meet
-abbrev pub join_at : ℕ → List Row → List Row
-join_at k [] = []
-join_at zero (r ∷ rs) = put_before r rs
-join_at (suc k) (r ∷ rs) = r ∷ join_at k rs
 
 -- the frame in its place by its end, in the stead of one with the same end
 abbrev pub noted : CompleteFrame → List CompleteFrame → List CompleteFrame

@@ -2,9 +2,7 @@
 use Rattle.std.proofs.Common.{◌≡◌, ◌∙◌, sym, ap, refl, ℕ, zero, suc, ◌+◌, ◌<◌, ◌≤◌, ◌==◌, ◌&&◌, ◌||◌, Bool, true, Some, Result, List, [], ◌∷◌, ◌++◌, length, take, drop, get_or, slice_get, slice_set, arith, append_assoc, length-append}
 use Rattle.std.proofs.Math.Seq.{take-add}
 use Rattle.std.proofs.lemmas.List.{take_at, drop_at, take_more, drop_more, drop-drop, drop-set-lt, length-take, length-drop, take-append-drop}
-use Rattle.codec_payload_core.specs.Packetizers.{PacketizerState, PacketizerStep, G711Packetizing, G722Packetizing, OpusPacketizing, NullPacketizing}
-use Rattle.codec_payload_core.specs.Packetizers.{Vp8Packetizing, Vp9Packetizing, ComfortNoisePacketizing, TelePacketizing, Av1Packetizing, AmrWbPacketizing}
-use Rattle.codec_payload_core.specs.Packetizers.{BoxedPacketizing, is_built_in, marker_of, talk_spurt_of, nackable_of}
+use Rattle.codec_payload_core.specs.Packetizers.{PacketizerState, PacketizerStep, Vp8Packetizing, Vp9Packetizing, BoxedPacketizing, is_built_in, marker_of, talk_spurt_of, nackable_of}
 use Rattle.codec_payload_core.specs.declared.error.PacketError.{PacketError}
 use Rattle.codec_payload_c.specs.Frames.{capped, laid, placed_at, rooms_in, size_with}
 use Rattle.codec_payload_c.specs.declared.frames.FrameCut.{FrameCut}
@@ -127,14 +125,7 @@ counted_all size rooms ps none few = rw none (grind arith)
 -- a packetizer of a codec stays one
 pub built_in_after : (p q : PacketizerState) (mtu : ℕ) (frame : List ℕ) (answer : Result (List (List ℕ)) PacketError)
     → PacketizerStep p mtu frame answer q → is_built_in p ≡ true → is_built_in q ≡ true
-built_in_after G711Packetizing q mtu frame answer step built = ap is_built_in step.1
-built_in_after G722Packetizing q mtu frame answer step built = ap is_built_in step.1
-built_in_after OpusPacketizing q mtu frame answer step built = ap is_built_in step.1
-built_in_after NullPacketizing q mtu frame answer step built = ap is_built_in step.1
 built_in_after (Vp8Packetizing id) q mtu frame answer step built = ap is_built_in step.3
 built_in_after (Vp9Packetizing sender) q mtu frame answer step built = ap is_built_in step.3
-built_in_after ComfortNoisePacketizing q mtu frame answer step built = ap is_built_in step.1
-built_in_after TelePacketizing q mtu frame answer step built = ap is_built_in step.1
-built_in_after Av1Packetizing q mtu frame answer step built = ap is_built_in step.1
-built_in_after (AmrWbPacketizing octet) q mtu frame answer step built = ap is_built_in step.1
 built_in_after BoxedPacketizing q mtu frame answer step built = ap is_built_in step ∙ built
+built_in_after p q mtu frame answer step built = ap is_built_in step.1

@@ -2,13 +2,14 @@
 use Rattle.std.specs.Prelude.{◌≡◌, ◌≢◌, ℕ, ◌+◌, ◌-◌, ◌%◌, ◌^◌, ◌&&◌, ◌||◌, ◌==◌, not, nat_le, nat_lt, if◌then◌else◌, Bool, true, false, Option, Some, None, Result, Ok, Err, List, is_some, length, drop, ◌++◌}
 use Rattle.codec_payload_core.specs.Depacketizers.{DepacketizerState}
 use Rattle.codec_payload_jitter.specs.Missing.{missing_numbers}
-use Rattle.codec_payload_jitter.specs.Receiving.{PopsWith, settled, waiting_at}
 use Rattle.codec_payload_jitter.specs.declared.waiting.WaitLimits.{WaitLimits}
 use Rattle.codec_payload_jitter.specs.declared.outcome.Outcome.{Outcome}
 use Rattle.codec_payload_jitter.specs.declared.outcome.Outcome.TheVariants as outcomes
-use Rattle.codec_payload_jitter.specs.Receiving.{Receiving}
+use Rattle.codec_payload_keyframes.specs.declared.unit_gate.FromKeyframe.{FromKeyframe}
+use Rattle.codec_payload_keyframes.specs.declared.unit_gate.FromKeyframe.TheVariants as modes
 use Rattle.codec_payload_stream.specs.Kinds.{retransmitted_under}
-use Rattle.codec_payload_stream.specs.Sessions.{ReceivesBytes, Session, restarted, session_by, time_with}
+use Rattle.codec_payload_stream.specs.Pops.{PopsGated}
+use Rattle.codec_payload_stream.specs.Sessions.{ReceivesBytes, Session, restarted, session_by}
 use Rattle.codec_payload_stream.specs.declared.receiver.ReceiveError.{ReceiveError}
 use Rattle.codec_payload_stream.specs.declared.receiver.ReceiveError.TheVariants as errors
 use Rattle.codec_payload_stream.specs.declared.receiver.RedSettings.{RedSettings}
@@ -45,7 +46,7 @@ abbrev pub is_in_range : ReceiverSettings → Bool
 is_in_range s =
     nat_le s.payload_type 127 && nat_le 1 s.limit && nat_le s.limit 65536
     && nat_lt 0 s.forward && nat_le s.forward 32768 && nat_lt s.backward s.forward
-    && nat_lt 0 s.tick_rate && red_in_range s && rtx_in_range s
+    && nat_lt 0 s.tick_rate && nat_le s.from_keyframe 2 && red_in_range s && rtx_in_range s
 
 -- the largest number stands for no bound
 abbrev pub bound_given : ℕ → Option ℕ
@@ -64,6 +65,10 @@ red_set s = if s.has_red then Some (record { payload_type = s.red_payload_type; 
 abbrev pub rtx_set : ReceiverSettings → Option Retransmission
 rtx_set s = if s.has_rtx then Some (record { ssrc = s.rtx_ssrc; payload_type = s.rtx_payload_type }) else None
 
+-- what happens to units that a decoder cannot show
+abbrev pub from_keyframe_numbered : ℕ → FromKeyframe
+from_keyframe_numbered n = if n == 0 then modes.Off else (if n == 1 then modes.Mark else modes.Drop)
+
 -- the settings of a receiver, as C gave them
 pub record AreSettings (s : ReceiverSettings) (types : List ℕ) (t : Settings) : Type 0 where
   pub payload_type : t.payload_type ≡ s.payload_type
@@ -78,6 +83,7 @@ pub record AreSettings (s : ReceiverSettings) (types : List ℕ) (t : Settings) 
   pub limit : t.limit ≡ s.limit
   pub forward : t.forward ≡ s.forward
   pub backward : t.backward ≡ s.backward
+  pub from_keyframe : t.from_keyframe ≡ from_keyframe_numbered s.from_keyframe
 
 -- a new receiver by these settings
 pub record IsNewStream (s : ReceiverSettings) (no_media : List ℕ) (depacketizer : Option DepacketizerState) (r : StreamReceiver) : Type 0 where
@@ -128,20 +134,22 @@ pub record Takes (r : StreamReceiver) (now : ℕ) (bytes : List ℕ) (status bef
 
 -- a pop at that time
 abbrev pub PopsAt : ℕ → Session → Answer → Session → Type 0
-PopsAt now s answer t = (packets : Receiving) × PopsWith (waiting_at (settled s.packets) now) (settled s.packets) answer packets × (t ≡ record s { packets = packets; time = time_with s.time answer })
+PopsAt now s answer t = PopsGated now s answer t
 
 -- the time of a unit without wrapping, as the receiver has it
 abbrev pub time_or : ℕ → Option ℕ → ℕ
 time_or time None = time
 time_or time (Some t) = t
 
--- what is told of a unit whose time does not wrap
-abbrev pub TellsTimed : Option ℕ → Release → CUnit → Type 0
-TellsTimed time u unit = TellsUnit u (record unit { rtp_time = u.time.numer }) × (unit.rtp_time ≡ time_or u.time.numer time)
+-- what is told of a unit that a receiver gave: its time does not wrap, and a decoder can show it or not
+abbrev pub TellsJudged : Session → Release → CUnit → Type 0
+TellsJudged s u unit =
+    TellsUnit u (record unit { rtp_time = u.time.numer; decodable = true; keyframe = false })
+    × (unit.rtp_time ≡ time_or u.time.numer s.time) × (unit.decodable ≡ s.gates.gate.shows) × (unit.keyframe ≡ s.gates.is_keyframe)
 
 -- a unit is told, and where the caller gets its bytes it is the one that was taken last
 abbrev pub TellsAndTakes : ℕ → StreamReceiver → Release → CUnit → Type 0
-TellsAndTakes status s u unit = TellsTimed s.receiver.time u unit × (status ≡ 0 → s.taken ≡ Some u)
+TellsAndTakes status s u unit = TellsJudged s.receiver u unit × (status ≡ 0 → s.taken ≡ Some u)
 
 -- the next unit of a receiver; where none is given, the one that was taken last stays
 abbrev pub PopsUnit : StreamReceiver → ℕ → ℕ → (unit_before unit : CUnit) (before bytes : List ℕ) → StreamReceiver → Type 0
@@ -178,6 +186,7 @@ pub record TellsCounts (r : StreamReceiver) (c : ReceiverCountsInfo) : Type 0 wh
   pub retransmitted : c.retransmitted ≡ r.receiver.packets.counters.retransmitted
   pub recovered : c.recovered ≡ r.receiver.packets.counters.recovered
   pub units : c.units ≡ r.receiver.packets.counters.units
+  pub undecodable : c.undecodable ≡ r.receiver.gates.undecodable
   pub held : c.held ≡ length r.receiver.packets.buffer.held
   pub waiting : c.waiting ≡ is_some r.waiting
   pub ssrc : r.receiver.ssrc ≡ given_if c.has_ssrc c.ssrc

@@ -5,7 +5,7 @@ ghost use Rattle.codec_payload_core.specs.Depacketizers.{depacketizer_state_of};
 ghost use Rattle.codec_payload_jitter.specs.Receiving.{deadline_of};
 ghost use Rattle.codec_payload_stream.specs.Reports.{report_of, reported};
 ghost use Rattle.codec_payload_stream.specs.Sessions.{Finishes, restarted};
-ghost use Rattle.codec_payload_c.specs.StreamReceivers.{AreSettings, IsNewStream, IsStreamReceiverOf, PopsUnit, Takes, Tells, TellsCounts, TellsMissing, TellsNumber, TellsReport, TellsTaken, TellsTimed, bound_given, is_in_range, outcome_number, red_in_range, red_set, rtx_in_range, rtx_set, restarted_as, wait_limits_given, waiting_by};
+ghost use Rattle.codec_payload_c.specs.StreamReceivers.{AreSettings, IsNewStream, IsStreamReceiverOf, PopsUnit, Takes, Tells, TellsCounts, TellsMissing, TellsNumber, TellsReport, TellsJudged, TellsTaken, bound_given, from_keyframe_numbered, is_in_range, outcome_number, red_in_range, red_set, rtx_in_range, rtx_set, restarted_as, wait_limits_given, waiting_by};
 ghost use Rattle.codec_payload_handle.specs.Kinds.{Makes, OnStreamReceiver, Refuses, is_stream_receiver};
 ghost use Rattle.codec_payload_handle.specs.Settings.{depacketizer_set};
 
@@ -26,6 +26,7 @@ use codec_payload_jitter::outcome::Outcome;
 use codec_payload_stream::receiver::{
     ReceiveError, Receiver, RedSettings, Retransmission, Settings,
 };
+use codec_payload_stream::unit_gate::FromKeyframe;
 use std::alloc::Global;
 
 /// What a receiver is made of.
@@ -58,6 +59,8 @@ pub struct ReceiverSettings {
     pub red_payload_type: u8,
     /// That of packets that are sent again, 0 to 127.
     pub rtx_payload_type: u8,
+    /// What happens to units of video that a decoder cannot show: 0 nothing, 1 they are marked, 2 they are dropped.
+    pub from_keyframe: u8,
     /// Whether `max_wait` is set; else frames wait for as long as `hold_back` and `start` say.
     pub has_max_wait: bool,
     /// Whether `ssrc` is set; else two packets of one SSRC choose the stream.
@@ -107,6 +110,8 @@ pub struct ReceiverCountsInfo {
     pub retransmitted: u64,
     pub recovered: u64,
     pub units: u64,
+    /// Units of video that a decoder cannot show.
+    pub undecodable: u64,
     /// How many packets are held.
     pub held: usize,
     pub ssrc: u32,
@@ -159,6 +164,7 @@ fn is_in_range(settings: &ReceiverSettings) -> bool
         && settings.forward <= 32_768
         && settings.backward < settings.forward
         && 0 < settings.tick_rate
+        && settings.from_keyframe <= 2
         && red_in_range(settings)
         && rtx_in_range(settings)
 }
@@ -187,6 +193,17 @@ fn retransmission_of(settings: &ReceiverSettings) -> Option<Retransmission>
         ssrc: settings.rtx_ssrc,
         payload_type: settings.rtx_payload_type,
     })
+}
+
+/// What happens to units that a decoder cannot show.
+fn from_keyframe_of(number: u8) -> FromKeyframe
+    ensures { result ≡ from_keyframe_numbered number }
+{
+    match number {
+        0 => FromKeyframe::Off,
+        1 => FromKeyframe::Mark,
+        _ => FromKeyframe::Drop,
+    }
 }
 
 /// The bound by count, if there is one.
@@ -248,6 +265,7 @@ fn settings_of(
         limit: settings.limit,
         forward: settings.forward,
         backward: settings.backward,
+        from_keyframe: from_keyframe_of(settings.from_keyframe),
     }
 }
 
@@ -294,14 +312,20 @@ fn report_answer(answer: Result<Outcome, ReceiveError>, outcome: &mut u32) -> u3
     }
 }
 
-/// What is known of a unit whose time does not wrap.
-fn timed_unit(unit: &Depacketized, time: Option<u64>) -> Unit
-    ensures { TellsTimed time unit.now result }
+/// What is known of a unit that a receiver gave: its time does not wrap, and it is decodable or not.
+fn judged_unit(unit: &Depacketized, receiver: &Receiver) -> Unit
+    ensures { TellsJudged receiver.now unit.now result }
 {
     let told = unit_of(unit);
-    match time {
-        Some(rtp_time) => Unit { rtp_time, ..told },
-        None => told,
+    let rtp_time = match receiver.unit_time() {
+        Some(time) => time,
+        None => told.rtp_time,
+    };
+    Unit {
+        rtp_time,
+        decodable: receiver.unit_is_decodable(),
+        keyframe: receiver.unit_is_keyframe(),
+        ..told
     }
 }
 
@@ -319,7 +343,7 @@ fn pop(stream: &mut StreamReceiver, now: u64, unit: &mut Unit, bytes: &mut [u8])
     let Some(next) = stream.waiting.take() else {
         return status::NONE;
     };
-    *unit = timed_unit(&next, stream.receiver.unit_time());
+    *unit = judged_unit(&next, &stream.receiver);
     if !fill(bytes, &next.bytes) {
         stream.waiting = Some(next);
         return status::TOO_SMALL;
@@ -352,6 +376,7 @@ fn counts_of(stream: &StreamReceiver) -> ReceiverCountsInfo
         retransmitted: packets.retransmitted,
         recovered: packets.recovered,
         units: packets.units,
+        undecodable: counters.undecodable,
         held: stream.receiver.held(),
         ssrc: ssrc.unwrap_or(0),
         has_ssrc: ssrc.is_some(),
@@ -538,6 +563,31 @@ pub extern "C" fn cpay_receiver_next_deadline(
             }
             None => status::NONE,
         },
+        _ => status::OTHER_KIND,
+    };
+    handle.put(object);
+    answer
+}
+
+/// Whether a keyframe is needed.
+#[unsafe(no_mangle)]
+pub extern "C" fn cpay_receiver_wants_keyframe(
+    alloc: Global,
+    handle: &mut Handle,
+    wants: &mut bool,
+) -> u32
+    ensures tells { OnStreamReceiver handle.old.place.value (λ r s. (result ≡ 0) × (s ≡ r) × (wants.new ≡ r.receiver.gates.gate.wants)) handle.new.place.value }
+    ensures refused { Refuses is_stream_receiver handle.old.place.value result handle.new.place.value }
+    ensures unchanged { result ≢ 0 → wants.new ≡ wants.old }
+{
+    let Some(mut object) = handle.take(alloc) else {
+        return status::EMPTY;
+    };
+    let answer = match &mut *object {
+        Object::StreamReceiver(stream) => {
+            *wants = stream.receiver.wants_keyframe();
+            status::OK
+        }
         _ => status::OTHER_KIND,
     };
     handle.put(object);

@@ -1,2 +1,4 @@
 pub mod AnswerLemmas
 pub mod CaseLemmas
+pub mod CodecLemmas
+pub mod StepLemmas

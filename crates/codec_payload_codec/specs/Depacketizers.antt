@@ -1,4 +1,4 @@
--- Depacketizers as contracts see them, and what each call of theirs does.
+-- Depacketizers in contracts, and the effect of each of their calls.
 use Rattle.std.specs.Prelude.{◌≡◌, ℕ, List, [], ◌∷◌, Bool, true, false, min, Option, Some, None, Result, ⊤}
 use Rattle.codec_payload_audio.specs.AmrWb.{layout}
 use Rattle.codec_payload_audio.specs.AmrWbReceived.{AmrWbStep}
@@ -17,7 +17,7 @@ use Rattle.codec_payload_base.specs.declared.wire.Codec.TheVariants as codecs
 use Rattle.codec_payload_codec.specs.declared.codec.depacketizer.CodecDepacketizer.{CodecDepacketizer}
 use Rattle.codec_payload_codec.specs.declared.codec.depacketizer.CodecDepacketizer.TheVariants as variants
 
--- a depacketizer of each codec, with what it holds; of one that a caller brings nothing is known
+-- a depacketizer of each codec, with its state; the state of a custom one is unknown
 pub data DepacketizerState : Type 0 where
   G711Depacketizing : DepacketizerState
   OpusDepacketizing : DepacketizerState
@@ -67,7 +67,7 @@ kind_of_depacketizer (Av1Depacketizing pending) = Av1Payloads
 kind_of_depacketizer (AmrWbDepacketizing octet) = AmrWbPayloads octet
 kind_of_depacketizer BoxedDepacketizing = BoxedPayloads
 
--- whether the payloads are those of a codec, and not of a depacketizer that a caller brings
+-- whether the payloads are in the format of a codec, and not of a custom depacketizer
 abbrev pub is_codec : DepacketizerKind → Bool
 is_codec BoxedPayloads = false
 is_codec kind = true
@@ -118,19 +118,12 @@ depacketizer_state_for codecs.Unknown = None
 
 -- a depacketizer after a specification was taken over: the layout of AMR-WB, and the clock of telephone events
 abbrev pub configured_depacketizer : Bool → ℕ → DepacketizerState → DepacketizerState
-configured_depacketizer octet rate G711Depacketizing = G711Depacketizing
-configured_depacketizer octet rate OpusDepacketizing = OpusDepacketizing
-configured_depacketizer octet rate ComfortNoiseDepacketizing = ComfortNoiseDepacketizing
 configured_depacketizer octet rate (TeleDepacketizing before) = TeleDepacketizing rate
-configured_depacketizer octet rate (Vp8Depacketizing d) = Vp8Depacketizing d
-configured_depacketizer octet rate (Vp9Depacketizing d) = Vp9Depacketizing d
-configured_depacketizer octet rate (Av1Depacketizing pending) = Av1Depacketizing pending
 configured_depacketizer octet rate (AmrWbDepacketizing before) = AmrWbDepacketizing octet
-configured_depacketizer octet rate NullDepacketizing = NullDepacketizing
-configured_depacketizer octet rate BoxedDepacketizing = BoxedDepacketizing
+configured_depacketizer octet rate depacketizer = depacketizer
 
--- the depacketizer, the payload, the bytes and the extra before; the answer; the three afterwards. One that a caller brings may answer
--- anything
+-- the depacketizer, the payload, the bytes and the codec-specific data before; the result; the three afterwards. A custom one may
+-- return anything
 abbrev pub DepacketizerStep : DepacketizerState → List ℕ → List ℕ → CodecExtra → Result ⊤ PacketError → DepacketizerState → List ℕ → CodecExtra → Type 0
 DepacketizerStep G711Depacketizing payload out extra answer after out' extra' = Appends payload out extra answer out' extra' × (after ≡ G711Depacketizing)
 DepacketizerStep OpusDepacketizing payload out extra answer after out' extra' = Appends payload out extra answer out' extra' × (after ≡ OpusDepacketizing)
@@ -143,65 +136,44 @@ DepacketizerStep (Av1Depacketizing pending) payload out extra answer after out' 
 DepacketizerStep (AmrWbDepacketizing octet) payload out extra answer after out' extra' = AmrWbStep octet payload out extra answer out' extra' × (after ≡ AmrWbDepacketizing octet)
 DepacketizerStep BoxedDepacketizing payload out extra answer after out' extra' = after ≡ BoxedDepacketizing
 
--- what a depacketizer of a codec holds, as numbers
+-- the state of a depacketizer of a codec, as numbers
 abbrev pub numbers_of_depacketizer : DepacketizerState → List ℕ
-numbers_of_depacketizer G711Depacketizing = []
-numbers_of_depacketizer OpusDepacketizing = []
-numbers_of_depacketizer NullDepacketizing = []
 numbers_of_depacketizer (Vp8Depacketizing d) = numbers_of d
 numbers_of_depacketizer (Vp9Depacketizing d) = numbers_of_fields d
-numbers_of_depacketizer ComfortNoiseDepacketizing = []
 numbers_of_depacketizer (TeleDepacketizing rate) = rate ∷ []
 numbers_of_depacketizer (Av1Depacketizing pending) = pending
 numbers_of_depacketizer (AmrWbDepacketizing octet) = layout octet
-numbers_of_depacketizer BoxedDepacketizing = []
+numbers_of_depacketizer depacketizer = []
 
 -- the same step, with the depacketizer afterwards as its numbers
 abbrev pub DepacketizerStepTo : DepacketizerState → List ℕ → List ℕ → CodecExtra → Result ⊤ PacketError → List ℕ → List ℕ → CodecExtra → Type 0
 DepacketizerStepTo d payload out extra answer after out' extra' = (next : DepacketizerState) × DepacketizerStep d payload out extra answer next out' extra' × (after ≡ numbers_of_depacketizer next)
 
--- whether a payload begins a unit. Of a depacketizer that a caller brings this is not known: nothing stands on the values that it has
--- here, and in the two below
+-- whether a payload begins a unit. For a custom depacketizer this is unknown: nothing depends on the values here, nor in the two
+-- below
 abbrev pub head_in : DepacketizerKind → List ℕ → Bool
-head_in G711Payloads payload = true
-head_in OpusPayloads payload = true
-head_in NullPayloads payload = true
 head_in Vp8Payloads payload = is_start payload
 head_in Vp9Payloads payload = is_vp9_start payload
-head_in ComfortNoisePayloads payload = true
-head_in TelePayloads payload = true
 head_in Av1Payloads payload = is_head payload
-head_in (AmrWbPayloads octet) payload = true
 head_in BoxedPayloads payload = false
+head_in kind payload = true
 
 abbrev pub head_of : DepacketizerState → List ℕ → Bool
 head_of depacketizer payload = head_in (kind_of_depacketizer depacketizer) payload
 
 -- whether a payload under this marker ends a unit
 abbrev pub tail_in : DepacketizerKind → Bool → List ℕ → Bool
-tail_in G711Payloads marker payload = true
-tail_in OpusPayloads marker payload = true
-tail_in NullPayloads marker payload = true
 tail_in Vp8Payloads marker payload = marker
 tail_in Vp9Payloads marker payload = marker
-tail_in ComfortNoisePayloads marker payload = true
-tail_in TelePayloads marker payload = true
 tail_in Av1Payloads marker payload = marker
-tail_in (AmrWbPayloads octet) marker payload = true
 tail_in BoxedPayloads marker payload = false
+tail_in kind marker payload = true
 
 abbrev pub tail_of : DepacketizerState → Bool → List ℕ → Bool
 tail_of depacketizer marker payload = tail_in (kind_of_depacketizer depacketizer) marker payload
 
 -- how many bytes payloads of a total size may give
 abbrev pub hint_of : DepacketizerState → ℕ → Option ℕ
-hint_of G711Depacketizing size = Some size
-hint_of OpusDepacketizing size = Some size
-hint_of NullDepacketizing size = Some size
-hint_of (Vp8Depacketizing d) size = Some size
-hint_of (Vp9Depacketizing d) size = Some size
-hint_of ComfortNoiseDepacketizing size = Some size
 hint_of (TeleDepacketizing rate) size = Some (min size 4)
-hint_of (Av1Depacketizing pending) size = Some size
-hint_of (AmrWbDepacketizing octet) size = Some size
 hint_of BoxedDepacketizing size = None
+hint_of depacketizer size = Some size

@@ -1,2 +1,3 @@
+pub mod BaseLayers
 pub mod Depacketizers
 pub mod Packetizers

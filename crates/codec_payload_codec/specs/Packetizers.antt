@@ -1,5 +1,5 @@
--- Packetizers as contracts see them, and what each call of theirs does.
-use Rattle.std.specs.Prelude.{◌≡◌, ℕ, ◌<◌, ◌^◌, List, [], Bool, true, false, Option, Some, None, IfSome, Result}
+-- Packetizers in contracts, and the effect of each of their calls.
+use Rattle.std.specs.Prelude.{◌≡◌, ℕ, ◌<◌, ◌^◌, ◌&&◌, List, [], Bool, true, false, Option, Some, None, IfSome, Result}
 use Rattle.codec_payload_base.specs.Pieces.{AnswersPieces}
 use Rattle.codec_payload_audio.specs.AmrWb.{AnswersAmrWb, layout}
 use Rattle.codec_payload_audio.specs.Payloads.{AnswersItself, AnswersWhole}
@@ -10,10 +10,12 @@ use Rattle.codec_payload_base.specs.declared.interface.Vp9PacketizerMode.{Vp9Pac
 use Rattle.codec_payload_base.specs.declared.error.PacketError.{PacketError}
 use Rattle.codec_payload_base.specs.declared.wire.Codec.{Codec}
 use Rattle.codec_payload_base.specs.declared.wire.Codec.TheVariants as codecs
+use Rattle.codec_payload_codec.specs.Depacketizers.{DepacketizerKind, G711Payloads, OpusPayloads, ComfortNoisePayloads, TelePayloads, Vp8Payloads, Vp9Payloads, Av1Payloads}
+use Rattle.codec_payload_codec.specs.Depacketizers.{AmrWbPayloads, NullPayloads, BoxedPayloads}
 use Rattle.codec_payload_codec.specs.declared.codec.packetizer.CodecPacketizer.{CodecPacketizer}
 use Rattle.codec_payload_codec.specs.declared.codec.packetizer.CodecPacketizer.TheVariants as variants
 
--- a packetizer of each codec, with what it holds; of one that a caller brings nothing is known
+-- a packetizer of each codec, with its state; the state of a custom one is unknown
 pub data PacketizerState : Type 0 where
   G711Packetizing : PacketizerState
   G722Packetizing : PacketizerState
@@ -40,7 +42,7 @@ packetizer_state_of (variants.Av1 _) = Av1Packetizing
 packetizer_state_of (variants.AmrWb p) = AmrWbPacketizing p.octet_align
 packetizer_state_of (variants.Boxed _) = BoxedPacketizing
 
--- whether the packetizer is that of a codec, and not one that a caller brings
+-- whether the packetizer is built in, and not custom
 abbrev pub is_built_in : PacketizerState → Bool
 is_built_in BoxedPacketizing = false
 is_built_in packetizer = true
@@ -67,19 +69,10 @@ packetizer_state_for mode id codecs.Unknown = None
 
 -- a packetizer after a specification was taken over
 abbrev pub configured : Bool → PacketizerState → PacketizerState
-configured octet G711Packetizing = G711Packetizing
-configured octet G722Packetizing = G722Packetizing
-configured octet OpusPacketizing = OpusPacketizing
-configured octet ComfortNoisePacketizing = ComfortNoisePacketizing
-configured octet TelePacketizing = TelePacketizing
-configured octet (Vp8Packetizing id) = Vp8Packetizing id
-configured octet (Vp9Packetizing sender) = Vp9Packetizing sender
-configured octet Av1Packetizing = Av1Packetizing
 configured octet (AmrWbPacketizing before) = AmrWbPacketizing octet
-configured octet NullPacketizing = NullPacketizing
-configured octet BoxedPacketizing = BoxedPacketizing
+configured octet packetizer = packetizer
 
--- the packetizer, the MTU and the frame; the answer and the packetizer afterwards. One that a caller brings may answer anything
+-- the packetizer, the MTU and the frame; the result and the packetizer afterwards. A custom one may return anything
 abbrev pub PacketizerStep : PacketizerState → ℕ → List ℕ → Result (List (List ℕ)) PacketError → PacketizerState → Type 0
 PacketizerStep G711Packetizing mtu frame answer after = AnswersPieces mtu frame answer × (after ≡ G711Packetizing)
 PacketizerStep G722Packetizing mtu frame answer after = AnswersPieces mtu frame answer × (after ≡ G722Packetizing)
@@ -93,67 +86,81 @@ PacketizerStep Av1Packetizing mtu frame answer after = AnswersAv1 mtu frame answ
 PacketizerStep (AmrWbPacketizing octet) mtu frame answer after = AnswersAmrWb octet mtu frame answer × (after ≡ AmrWbPacketizing octet)
 PacketizerStep BoxedPacketizing mtu frame answer after = after ≡ BoxedPacketizing
 
--- what a packetizer of a codec holds, as numbers
+-- the state of a packetizer of a codec, as numbers
 abbrev pub numbers_of_packetizer : PacketizerState → List ℕ
-numbers_of_packetizer G711Packetizing = []
-numbers_of_packetizer G722Packetizing = []
-numbers_of_packetizer OpusPacketizing = []
-numbers_of_packetizer NullPacketizing = []
 numbers_of_packetizer (Vp8Packetizing id) = numbers_of_id id
 numbers_of_packetizer (Vp9Packetizing sender) = numbers_of_sender sender
-numbers_of_packetizer ComfortNoisePacketizing = []
-numbers_of_packetizer TelePacketizing = []
-numbers_of_packetizer Av1Packetizing = []
 numbers_of_packetizer (AmrWbPacketizing octet) = layout octet
-numbers_of_packetizer BoxedPacketizing = []
+numbers_of_packetizer packetizer = []
 
 -- the same step, with the packetizer afterwards as its numbers
 abbrev pub PacketizerStepTo : PacketizerState → ℕ → List ℕ → Result (List (List ℕ)) PacketError → List ℕ → Type 0
 PacketizerStepTo packetizer mtu frame answer after = (next : PacketizerState) × PacketizerStep packetizer mtu frame answer next × (after ≡ numbers_of_packetizer next)
 
--- whether a packet is marked; the last argument says that it is the last of its frame. Of one that a caller brings this is not known:
--- nothing stands on the values that it has here, and in the two below
-abbrev pub marker_of : PacketizerState → Bool → Bool
-marker_of G711Packetizing last = false
-marker_of G722Packetizing last = false
-marker_of OpusPacketizing last = false
-marker_of NullPacketizing last = false
-marker_of (Vp8Packetizing id) last = last
-marker_of (Vp9Packetizing sender) last = last
-marker_of ComfortNoisePacketizing last = false
-marker_of TelePacketizing last = false
-marker_of Av1Packetizing last = last
-marker_of (AmrWbPacketizing octet) last = false
-marker_of BoxedPacketizing last = false
+-- the payloads that a packetizer makes
+abbrev pub payloads_by : PacketizerState → DepacketizerKind
+payloads_by G711Packetizing = G711Payloads
+payloads_by G722Packetizing = G711Payloads
+payloads_by OpusPacketizing = OpusPayloads
+payloads_by NullPacketizing = NullPayloads
+payloads_by (Vp8Packetizing id) = Vp8Payloads
+payloads_by (Vp9Packetizing sender) = Vp9Payloads
+payloads_by ComfortNoisePacketizing = ComfortNoisePayloads
+payloads_by TelePacketizing = TelePayloads
+payloads_by Av1Packetizing = Av1Payloads
+payloads_by (AmrWbPacketizing octet) = AmrWbPayloads octet
+payloads_by BoxedPacketizing = BoxedPayloads
 
--- the same as a step, which leaves the packetizer as it is; it looks at neither packet
+-- what a codec is: one row for the payloads of each
+pub record CodecFacts : Type 0 where
+  -- whether the last packet of a frame is marked, and whether the marker announces the start of a talk spurt
+  pub marks_last : Bool
+  pub marks_spurt : Bool
+  -- whether a lost packet may be asked for again
+  pub nackable : Bool
+  -- whether it is of video, so that a sample gives at most one unit
+  pub video : Bool
+  -- whether a receiver may be given the last parts of a unit alone
+  pub splits : Bool
+  -- whether a payload never reports picture ids, and whether each is a whole unit without a header
+  pub quiet : Bool
+  pub plain : Bool
+
+-- for a custom codec the marker is unknown: nothing depends on its row
+abbrev pub facts_of : DepacketizerKind → CodecFacts
+facts_of G711Payloads = record { marks_last = false; marks_spurt = true; nackable = false; video = false; splits = false; quiet = true; plain = true }
+facts_of OpusPayloads = record { marks_last = false; marks_spurt = true; nackable = false; video = false; splits = false; quiet = true; plain = true }
+facts_of NullPayloads = record { marks_last = false; marks_spurt = false; nackable = true; video = false; splits = false; quiet = true; plain = true }
+facts_of ComfortNoisePayloads = record { marks_last = false; marks_spurt = false; nackable = false; video = false; splits = false; quiet = true; plain = false }
+facts_of TelePayloads = record { marks_last = false; marks_spurt = true; nackable = false; video = false; splits = false; quiet = true; plain = false }
+facts_of (AmrWbPayloads octet) = record { marks_last = false; marks_spurt = true; nackable = false; video = false; splits = false; quiet = true; plain = false }
+facts_of Vp8Payloads = record { marks_last = true; marks_spurt = false; nackable = true; video = true; splits = false; quiet = false; plain = false }
+facts_of Vp9Payloads = record { marks_last = true; marks_spurt = false; nackable = true; video = true; splits = false; quiet = false; plain = false }
+facts_of Av1Payloads = record { marks_last = true; marks_spurt = false; nackable = true; video = true; splits = true; quiet = true; plain = false }
+facts_of BoxedPayloads = record { marks_last = false; marks_spurt = false; nackable = true; video = false; splits = false; quiet = false; plain = false }
+
+-- whether a packet is marked; the last argument says that it is the last of its frame
+abbrev pub marker_of : PacketizerState → Bool → Bool
+marker_of packetizer last = (facts_of (payloads_by packetizer)).marks_last && last
+
+-- the same as a step, which leaves the packetizer unchanged; both packets are ignored
 abbrev pub MarkerStep : PacketizerState → List ℕ → Option (List ℕ) → Bool → Bool → List ℕ → Type 0
 MarkerStep packetizer packet previous last answer after = (answer ≡ marker_of packetizer last) × (after ≡ numbers_of_packetizer packetizer)
 
--- whether the marker tells where a talk spurt starts
 abbrev pub talk_spurt_of : PacketizerState → Bool
-talk_spurt_of G711Packetizing = true
-talk_spurt_of G722Packetizing = true
-talk_spurt_of OpusPacketizing = true
-talk_spurt_of NullPacketizing = false
-talk_spurt_of (Vp8Packetizing id) = false
-talk_spurt_of (Vp9Packetizing sender) = false
-talk_spurt_of ComfortNoisePacketizing = false
-talk_spurt_of TelePacketizing = true
-talk_spurt_of Av1Packetizing = false
-talk_spurt_of (AmrWbPacketizing octet) = true
-talk_spurt_of BoxedPacketizing = false
+talk_spurt_of packetizer = (facts_of (payloads_by packetizer)).marks_spurt
 
--- whether a lost packet may be asked for again
 abbrev pub nackable_of : PacketizerState → Bool
-nackable_of G711Packetizing = false
-nackable_of G722Packetizing = false
-nackable_of OpusPacketizing = false
-nackable_of NullPacketizing = true
-nackable_of (Vp8Packetizing id) = true
-nackable_of (Vp9Packetizing sender) = true
-nackable_of ComfortNoisePacketizing = false
-nackable_of TelePacketizing = false
-nackable_of Av1Packetizing = true
-nackable_of (AmrWbPacketizing octet) = false
-nackable_of BoxedPacketizing = true
+nackable_of packetizer = (facts_of (payloads_by packetizer)).nackable
+
+abbrev pub is_video : PacketizerState → Bool
+is_video packetizer = (facts_of (payloads_by packetizer)).video
+
+abbrev pub may_split : PacketizerState → Bool
+may_split packetizer = (facts_of (payloads_by packetizer)).splits
+
+abbrev pub is_quiet : DepacketizerKind → Bool
+is_quiet kind = (facts_of kind).quiet
+
+abbrev pub is_plain : DepacketizerKind → Bool
+is_plain kind = (facts_of kind).plain

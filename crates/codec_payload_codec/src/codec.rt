@@ -1,4 +1,4 @@
-//! A packetizer and a depacketizer of any codec that is there.
+//! Packetizers and depacketizers of all supported codecs.
 
 mod boxed;
 mod depacketizer;

@@ -1,4 +1,5 @@
-//! RTP payloads of media frames: cut, sent, held and put together again. A user names this crate alone.
+//! RTP payloads of media frames: packetizing, sending, buffering and reassembly. This crate re-exports the crates below it, so
+//! users need no other.
 #![tactic(auto)]
 
 pub use codec_payload_audio::{amr_wb, plain, tele};

@@ -1,5 +1,5 @@
 -- What is known of a unit, as C has it.
-use Rattle.std.specs.Prelude.{◌≡◌, List, length}
+use Rattle.std.specs.Prelude.{◌≡◌, true, false, List, length}
 use Rattle.codec_payload_base.specs.declared.wire.extension.ExtensionValues.{ExtensionValues}
 use Rattle.codec_payload_core.specs.Release.{Release, AreValues, IsFirst, IsLast, IsReceivedFirst}
 use Rattle.codec_payload_core.specs.declared.buffer.RtpMeta.{RtpMeta}
@@ -12,7 +12,7 @@ use Rattle.codec_payload_handle.specs.declared.unit.Unit.{Unit as CUnit}
 abbrev pub TellsValues : List RtpMeta → CValues → Type 0
 TellsValues metas values = (v : ExtensionValues) × AreValues metas v × (values ≡ values_told v)
 
--- what is told of a unit
+-- what is told of a unit that no receiver judged
 pub record TellsUnit (u : Release) (unit : CUnit) : Type 0 where
   pub first : (m : RtpMeta) × IsFirst u.metas m × (unit.first ≡ m.seq_no.0)
   pub last : (m : RtpMeta) × IsLast u.metas m × (unit.last ≡ m.seq_no.0)
@@ -21,4 +21,6 @@ pub record TellsUnit (u : Release) (unit : CUnit) : Type 0 where
   pub bytes : unit.bytes ≡ length u.bytes
   pub contiguous : unit.contiguous ≡ u.contiguous
   pub starts : (m : RtpMeta) × IsFirst u.metas m × (unit.starts_talk_spurt ≡ m.header.marker)
+  pub decodable : unit.decodable ≡ true
+  pub keyframe : unit.keyframe ≡ false
   pub extra : unit.extra ≡ extra_told u.codec_extra

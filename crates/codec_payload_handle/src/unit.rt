@@ -26,6 +26,10 @@ pub struct Unit {
     pub contiguous: bool,
     /// Whether its first packet has the marker, which audio sets where a talk spurt starts.
     pub starts_talk_spurt: bool,
+    /// Whether a decoder can show it, as a receiver says. A buffer says true.
+    pub decodable: bool,
+    /// Whether it is a keyframe, as a receiver says. A buffer says false.
+    pub keyframe: bool,
     /// What its payloads told besides.
     pub extra: Extra,
 }
@@ -70,6 +74,8 @@ pub fn unit_of(unit: &Depacketized) -> Unit
         bytes: unit.bytes.len(),
         contiguous: unit.contiguous,
         starts_talk_spurt: unit.start_of_talkspurt(),
+        decodable: true,
+        keyframe: false,
         extra: extra_of(&unit.codec_extra),
     }
 }

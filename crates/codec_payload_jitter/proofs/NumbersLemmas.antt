@@ -5,7 +5,7 @@ use Rattle.codec_payload_jitter.specs.declared.numbers.Extended.TheVariants as e
 use Rattle.std.specs.Prelude.{nat_lt, nat_le}
 use Rattle.std.proofs.lemmas.Bool.{lt-ltb, le-ltb, le-leb, lt-leb, leb-true, cases_lt}
 use Rattle.codec_payload_jitter.specs.Numbers.{Numbering, ahead, behind, fitting, answer_near, answer_for, number_in, number_for, numbers_for, StayNear, low_bits, AreTrueNumbers, answer_by}
-use Rattle.codec_payload_jitter.specs.Numbers.{numbering_with, greater, is_restarting, follows_suspect, StartsAnew, AllGivenAbove, NeverMix, FitAnew, moved_by, AreTrueAnew, GoOn, NoneRestarts}
+use Rattle.codec_payload_jitter.specs.Numbers.{NeverMixAnew, AreTrueBegun, begun_with, answer_anew, answer_above, numbering_with, greater, is_restarting, follows_suspect, StartsAnew, AllGivenAbove, NeverMix, FitAnew, moved_by, AreTrueAnew, GoOn, NoneRestarts}
 
 -- a true number at or above the greatest
 ahead_is : (x g t q : ℕ) → x + 65536 * q ≡ g + 65536 → g ≤ t → t < g + 65536 → ahead x (t % 65536) ≡ t - g
@@ -194,3 +194,32 @@ are_true_anew s g first ts kept starts fits near =
     ∙ ap (λ (rest : List (Option ℕ)). moved_by up first first ∷ rest)
     (numbers_by ts (record s { greatest = Some (greater s.greatest up); suspect = None }) up first up first
     (ap (λ (o : Option ℕ). Some (greater o up)) starts.greatest ∙ ap (λ (k : ℕ). Some k) top) kept.apart kept.order same (omega arith) (omega arith) (omega arith) fits.1 near))
+
+-- The same of a sender that is known to have restarted
+
+anew_given : (s : Numbering) (g n : ℕ) → s.greatest ≡ Some g → is_restarting g n < 2 ^ 64 → answer_anew s n ≡ extended.Restarted (is_restarting g n)
+anew_given s g n greatest fits = rw (greatest, lt-ltb (is_restarting g n) (2 ^ 64) fits) refl
+
+far_above : (g n k : ℕ) → k ≤ 65536 → g + k ≤ is_restarting g n
+far_above g n k most = omega arith
+
+pub never_mix_anew : NeverMixAnew
+never_mix_anew s g n ns kept greatest low fits =
+    let far : g + s.forward ≤ is_restarting g n = far_above g n s.forward (omega (arith, kept.apart)) in
+    rw (anew_given s g n greatest fits) (
+      refl,
+      omega (arith, far, kept.some),
+      all_above ns (record s { greatest = Some (greater s.greatest (is_restarting g n)); suspect = None }) (max g (is_restarting g n)) g
+          (ap (λ (o : Option ℕ). Some (greater o (is_restarting g n))) greatest) (omega (arith, far)) kept.some kept.order,
+    )
+
+pub are_true_begun : AreTrueBegun
+are_true_begun s g first ts kept greatest fits_first fits near =
+    let n = first % 65536 in
+    let up : ℕ = is_restarting g n in
+    let far : g + s.forward ≤ up = far_above g n s.forward (omega (arith, kept.apart)) in
+    let top : max g up ≡ up = omega (arith, far) in
+    let same : up % 65536 ≡ first % 65536 = omega arith in
+    rw (anew_given s g n greatest fits_first)
+    (numbers_by ts (record s { greatest = Some (greater s.greatest up); suspect = None }) up first up first
+    (ap (λ (o : Option ℕ). Some (greater o up)) greatest ∙ ap (λ (k : ℕ). Some k) top) kept.apart kept.order same (omega arith) (omega arith) (omega arith) fits near)

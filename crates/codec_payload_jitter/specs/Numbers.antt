@@ -51,9 +51,10 @@ follows_suspect (Some m) n = (m + 1) % 65536 == n
 abbrev pub fitting : (ℕ → Extended) → ℕ → Extended
 fitting kind x = if nat_lt x (2 ^ 64) then kind x else extended.Spent
 
--- where the sender has restarted: above all numbers so far, at the next multiple of 65536
+-- where the sender has restarted: above all numbers so far, at the multiple of 65536 after the next, so that the numbers of packets
+-- that were sent before this one are above them too
 abbrev pub is_restarting : ℕ → ℕ → ℕ
-is_restarting g n = (g / 65536 + 1) * 65536 + n
+is_restarting g n = (g / 65536 + 2) * 65536 + n
 
 -- what a packet gets, where g is the greatest number so far: the nearest with these low bits, where that is within the
 -- windows; else it is suspect, unless it comes right after one that is
@@ -178,11 +179,11 @@ pub before-first : numbers_for (no_numbers 3000 1000) (0 ∷ 65535 ∷ 1 ∷ [])
 before-first = refl
 
 -- the sender restarts
-pub starts-is_restarting : numbers_for (no_numbers 3000 1000) (50000 ∷ 30000 ∷ 30001 ∷ 30002 ∷ []) ≡ Some 115536 ∷ None ∷ Some 161073 ∷ Some 161074 ∷ []
+pub starts-is_restarting : numbers_for (no_numbers 3000 1000) (50000 ∷ 30000 ∷ 30001 ∷ 30002 ∷ []) ≡ Some 115536 ∷ None ∷ Some 226609 ∷ Some 226610 ∷ []
 starts-is_restarting = refl
 
 -- also while packets of the former sender still come
-pub beside-former : numbers_for (no_numbers 3000 1000) (50000 ∷ 30000 ∷ 50001 ∷ 30001 ∷ []) ≡ Some 115536 ∷ None ∷ Some 115537 ∷ Some 161073 ∷ []
+pub beside-former : numbers_for (no_numbers 3000 1000) (50000 ∷ 30000 ∷ 50001 ∷ 30001 ∷ []) ≡ Some 115536 ∷ None ∷ Some 115537 ∷ Some 226609 ∷ []
 beside-former = refl
 
 -- a packet from elsewhere
@@ -190,7 +191,7 @@ pub from-elsewhere : numbers_for (no_numbers 3000 1000) (50000 ∷ 30000 ∷ 500
 from-elsewhere = refl
 
 -- the suspicion lasts until another suspect comes
-pub another-suspect : numbers_for (no_numbers 3000 1000) (50000 ∷ 30000 ∷ 10000 ∷ 30001 ∷ 30002 ∷ []) ≡ Some 115536 ∷ None ∷ None ∷ None ∷ Some 161074 ∷ []
+pub another-suspect : numbers_for (no_numbers 3000 1000) (50000 ∷ 30000 ∷ 10000 ∷ 30001 ∷ 30002 ∷ []) ≡ Some 115536 ∷ None ∷ None ∷ None ∷ Some 226610 ∷ []
 another-suspect = refl
 
 -- at the borders of the windows
@@ -231,3 +232,26 @@ abbrev pub AreTrueAnew : Type 0
 AreTrueAnew =
     (s : Numbering) (g first : ℕ) (ts : List ℕ) → IsNumbering s → StartsAnew s g (first % 65536) → FitAnew (is_restarting g (first % 65536)) first (first ∷ ts) → StayNear s.forward s.backward first ts
     → numbers_for s (map low_bits (first ∷ ts)) ≡ map (moved_by (is_restarting g (first % 65536)) first) (first ∷ ts)
+
+-- The same of a sender that is known to have restarted
+
+-- what is known once its first packet, with the low bits n, has come
+abbrev pub begun_with : Numbering → ℕ → Numbering
+begun_with s n = numbering_with s (answer_anew s n) n
+
+-- each number that is given from then on is above each that was given before
+abbrev pub NeverMixAnew : Type 0
+NeverMixAnew =
+    (s : Numbering) (g n : ℕ) (ns : List ℕ) → IsNumbering s → s.greatest ≡ Some g → n < 65536 → is_restarting g n < 2 ^ 64
+    → (number_in (answer_anew s n) ≡ Some (is_restarting g n)) × (g < is_restarting g n) × AllGivenAbove g (numbers_for (begun_with s n) ns)
+
+-- and they are the true ones, moved by one constant
+abbrev pub AreTrueBegun : Type 0
+AreTrueBegun =
+    (s : Numbering) (g first : ℕ) (ts : List ℕ) → IsNumbering s → s.greatest ≡ Some g → is_restarting g (first % 65536) < 2 ^ 64
+    → FitAnew (is_restarting g (first % 65536)) first ts → StayNear s.forward s.backward first ts
+    → numbers_for (begun_with s (first % 65536)) (map low_bits ts) ≡ map (moved_by (is_restarting g (first % 65536)) first) ts
+
+-- the second packet of the new sender is from before its first: above all of the former one
+pub before-first-anew : numbers_for (begun_with (record { greatest = Some 65500; suspect = None; forward = 3000; backward = 1000 }) 5) (65490 ∷ 6 ∷ []) ≡ Some 131026 ∷ Some 131078 ∷ []
+before-first-anew = refl

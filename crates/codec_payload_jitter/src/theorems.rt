@@ -1,19 +1,22 @@
 //! What holds of numbers, of numbers without media and of a jitter buffer. These functions exist for what they prove, and do nothing.
 
-ghost use Rattle.codec_payload_jitter.specs.Numbers.{AreTrueNumbers, NoneRestarts, NeverMix, AreTrueAnew};
+ghost use Rattle.codec_payload_jitter.specs.Numbers.{AreTrueNumbers, NoneRestarts, NeverMix, AreTrueAnew, NeverMixAnew, AreTrueBegun};
 ghost use Rattle.codec_payload_jitter.specs.NoMediaNumbers.{PassesNoMediaAlone, PassesInPlace};
 ghost use Rattle.codec_payload_jitter.specs.Pressure.{SparesCompleteFrames};
 ghost use Rattle.codec_payload_jitter.specs.Restarts.{NeverRestarts};
 ghost use Rattle.codec_payload_jitter.specs.Runs.{AreChains, AreStretches, AreTrueStretches};
 
 /// Where the true numbers of a sender's packets each lie within the windows of the greatest true number so far, the numbers
-/// that they get are the true ones plus one constant, and no restart is told. Where the sender restarts, so are those from then on, by a constant of
-/// their own, and each of them is above all before.
+/// that they get are the true ones plus one constant, and no restart is reported. Once the sender has restarted, so are those from
+/// then on, by another constant, and each of them is above all earlier ones. The same applies to a restart that the caller
+/// announces, also to packets that were sent before the first one that arrives.
 pub fn numbers_are_true()
     ensures numbers { AreTrueNumbers }
     ensures goes_on { NoneRestarts }
     ensures above { NeverMix }
     ensures is_restarting { AreTrueAnew }
+    ensures above_announced { NeverMixAnew }
+    ensures announced { AreTrueBegun }
 {}
 
 /// The cutoff goes over numbers without media alone, and nothing else changes.

@@ -21,7 +21,7 @@ codec_stays codec (event ∷ before) = step_stays (gate_after codec before) even
 video_stays : (codec : Codec) (events : List Event) → is_video codec ≡ true → is_video (gate_after codec events).codec ≡ true
 video_stays codec events video = ap is_video (codec_stays codec events) ∙ video
 
--- what a gate says after a unit
+-- the answer of a gate after a unit
 shows_next : (codec : Codec) (before : List Event) (k c : Bool) → is_video codec ≡ true
     → (gate_after codec (released k c ∷ before)).shows ≡ (k || (c && (gate_after codec before).shows))
 shows_next codec before k c video = rw (video_stays codec before video) refl
@@ -57,7 +57,7 @@ shown codec video (at_keyframe {contiguous = c} {before = before}) = shows_next 
 shown codec video (following {before = before} so) = shows_next codec before false true video ∙ shown codec video so
 shown codec video (past {before = before} so) = shows_skipped codec before video ∙ shown codec video so
 
--- ---- whether a keyframe is wanted
+-- ---- whether a keyframe is needed
 
 or_true : (b : Bool) → (b || true) ≡ true
 or_true true = refl

@@ -1,1 +1,1 @@
-mod GateLemmas
+pub mod GateLemmas

@@ -1,4 +1,4 @@
--- Which units of a video stream a decoder can show, and when a keyframe is wanted.
+-- Which units of a video stream a decoder can show, and when a keyframe is needed.
 use Rattle.std.specs.Prelude.{◌≡◌, ◌&&◌, ◌||◌, ◌⊎◌, ◌↔◌, ℕ, not, if◌then◌else◌, Bool, true, false, List, [], ◌∷◌, Option, Some, None, Result, Ok, Err}
 use Rattle.codec_payload_base.specs.declared.wire.Codec.{Codec}
 use Rattle.codec_payload_base.specs.declared.wire.Codec.TheVariants as codecs
@@ -47,10 +47,14 @@ after_loss g = if is_video g.codec then record g { shows = false; wants = true }
 abbrev pub after_skip : KeyframeGate → KeyframeGate
 after_skip g = if is_video g.codec then record g { wants = true } else g
 
+-- a unit of video is a keyframe
+abbrev pub is_key_unit : KeyframeGate → List ℕ → Bool
+is_key_unit g bytes = is_video g.codec && is_keyframe g.codec bytes
+
 -- ---- whole streams
 
--- what happens in a stream: a unit is released, which is a keyframe or not, and contiguous or not; a unit is lost; units are
--- skipped for their picture ids
+-- events of a stream: a unit is released, which is a keyframe or not, and contiguous or not; a unit is lost; units are skipped
+-- because of their picture ids
 pub data Event : Type 0 where
   released : (key contiguous : Bool) → Event
   lost : Event
@@ -63,7 +67,7 @@ pub data ShowsLast : List Event → Type 0 where
   following : {before : List Event} → ShowsLast before → ShowsLast (released false true ∷ before)
   past : {before : List Event} → ShowsLast before → ShowsLast (skipped ∷ before)
 
--- a keyframe is wanted: since the last keyframe a unit was released that cannot be shown, or one was lost, or units were skipped
+-- a keyframe is needed: since the last keyframe, a unit was released that cannot be shown, or one was lost, or units were skipped
 pub data WantsKeyframe : List Event → Type 0 where
   undecodable : {contiguous : Bool} {before : List Event} → (ShowsLast (released false contiguous ∷ before) → ⊥) → WantsKeyframe (released false contiguous ∷ before)
   after_lost : {before : List Event} → WantsKeyframe (lost ∷ before)

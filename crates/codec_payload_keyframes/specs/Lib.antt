@@ -1,1 +1,2 @@
 pub mod Keyframes
+pub mod UnitGates

@@ -2,3 +2,4 @@
 #![tactic(auto)]
 
 pub mod gate;
+pub mod unit_gate;

@@ -10,7 +10,7 @@ use Rattle.codec_payload_vpx.specs.Reading.{◌>>=◌}
 use Rattle.codec_payload_media.specs.Av1Units.{Obu, obu_at, extension_at, sized}
 use Rattle.codec_payload_vpx.proofs.ReadingLemmas.{bind_ok, guard_ok, ok_is}
 
--- what follows a number that may be there is no longer
+-- the bytes after an optional number are not longer
 abbrev Within : ℕ → Option (ℕ × List ℕ) → Type 0
 Within n None = ⊤
 Within n (Some x) = length x.1 ≤ n

@@ -1,4 +1,4 @@
--- Items one after another: the first, and those behind it.
+-- Items one after another: the first, and the ones after it.
 use Rattle.std.proofs.Common.{◌≡◌, ℕ, zero, suc, ◌+◌, ◌<◌, ◌≤◌, List, [], ◌∷◌, length, Result, Ok, Err, true, false, eqb, refl, sym, ap, ◌∙◌, arith}
 use Rattle.std.proofs.lemmas.Bool.{eqb-true}
 use Rattle.codec_payload_vpx.specs.declared.error.MediaError.{MediaError}
@@ -35,7 +35,7 @@ module _ {A : Type 0} (front : List ℕ → Result (A × List ℕ) MediaError) (
   one_more b bytes =
       same_others (items_in front (length bytes)) (items_at front) (front (b ∷ bytes)) (λ x e. let s = shorter (b ∷ bytes) x e in enough (length bytes) (length x.1) x.1 (omega (arith, s)) (omega arith))
 
-  -- the first item, and those behind it
+  -- the first item, and the ones after it
   pub items_more : (bytes : List ℕ) (o : Result (A × List ℕ) MediaError) → 0 < length bytes → front bytes ≡ o → items_at front bytes ≡ with_others (items_at front) o
   items_more [] o some e = absurd (omega (arith, some))
   items_more (b ∷ bytes) o some e = one_more b bytes ∙ ap (with_others (items_at front)) e

@@ -1,4 +1,4 @@
--- OBUs: what is spelled is read, and what is read is spelled.
+-- OBUs: spelled bytes are read, and bytes that are read are spelled so.
 use Rattle.std.proofs.Common.{◌≡◌, ℕ, zero, suc, ◌+◌, ◌*◌, ◌/◌, ◌%◌, ◌^◌, ◌<◌, ◌≤◌, List, [], ◌∷◌, ◌++◌, length, take, drop, Bool, true, false, ltb, eqb, ◌||◌, Option, Some, None, Result, Ok, Err, refl, sym, ap, ◌∙◌, subst, arith, append_assoc, length-append}
 use Rattle.std.proofs.lemmas.Bool.{eq-eqb, ne_eqb, le-ltb, ltb-false}
 use Rattle.std.proofs.lemmas.List.{take_at, drop_at, take-append-drop, length-take-le}
@@ -122,7 +122,7 @@ obu_again bytes o rest is =
     ∙ ap (sized o.obu_type o.extension) (size_again is.size (length o.payload) (o.payload ++ rest) is.spelled is.short)
     ∙ sized_again o rest
 
--- ---- what is read
+-- ---- accepted bytes
 
 abbrev Taken : List ℕ → Obu × List ℕ → Type 0
 Taken bytes x = IsSizedObu bytes x.0 x.1 × AreBytes x.1

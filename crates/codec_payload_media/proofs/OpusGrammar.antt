@@ -1,4 +1,4 @@
--- Opus packets: what is spelled is read, and what is read is spelled.
+-- Opus packets: spelled bytes are read, and bytes that are read are spelled so.
 use Rattle.std.proofs.Common.{◌≡◌, ℕ, zero, suc, ◌+◌, ◌-◌, ◌*◌, ◌/◌, ◌%◌, ◌<◌, ◌≤◌, inl, inr, min, List, [], ◌∷◌, ◌++◌, length, take, drop, Bool, true, false, cond, ltb, leb, eqb, ◌&&◌, ◌||◌, Result, Ok, refl, sym, ap, ◌∙◌, subst, arith, append_assoc, append-nil, length-append}
 use Rattle.std.specs.List.{AllByRecursion, concat}
 use Rattle.std.proofs.Math.Nat.{div-add-mod, mul-mod_right, mul-div_cancel_left}
@@ -24,7 +24,7 @@ AreSmall frames = AllByRecursion (λ frame. length frame ≤ most) frames
 abbrev AreOf : ℕ → Frames → Type 0
 AreOf size frames = AllByRecursion (λ frame. length frame ≡ size) frames
 
--- ---- what is spelled is read: frames of one length
+-- ---- spelled bytes are read: frames of one length
 
 long_of : (size : ℕ) (frames : Frames) → AreOf size frames → length (concat frames) ≡ length frames * size
 long_of size [] are = omega arith
@@ -45,7 +45,7 @@ alike_is n size some small =
 alike_again : (size : ℕ) (frames : Frames) → 1 ≤ length frames → AreSmall frames → AreOf size frames → alike (length frames) (length (concat frames)) ≡ Ok (length frames)
 alike_again size frames some small are = ap (alike (length frames)) (long_of size frames are) ∙ alike_is (length frames) size some (size_small size frames some are small)
 
--- ---- frames whose lengths are told
+-- ---- frames with explicit lengths
 
 length_again : (n : ℕ) (text rest : List ℕ) → IsLength n text → length_at (text ++ rest) ≡ Ok (n, rest)
 length_again n text rest (inl (small, is)) = rw (is, lt-ltb n 252 small) refl
@@ -147,7 +147,7 @@ opus_again packet p is =
     ∙ ap (λ (r : Result ℕ MediaError). r >>= λ frames. Ok (packet_of is.toc frames)) (coded_again (ticks_of (is.toc / 8)) (is.toc % 4) is.frames is.bytes is.some is.small is.are)
     ∙ ap (λ (x : OpusPacket). Ok x) (sym is.says)
 
--- ---- what is read is spelled: frames of one length
+-- ---- bytes that are read are spelled so: frames of one length
 
 abbrev cuts : ℕ → ℕ → List ℕ → Frames
 cuts zero size bytes = []
@@ -174,7 +174,7 @@ cuts_whole (suc n) size bytes long =
     let both : suc n * size ≡ size + n * size = omega arith in
     sym (take-append-drop size bytes) ∙ ap (λ (t : List ℕ). take size bytes ++ t) (cuts_whole n size (drop size bytes) (omega (arith, long, both, length-drop size bytes)))
 
--- the frames of a reading that told their number
+-- the frames of a reading with an explicit number
 record Told (told : Bool) (n : ℕ) (bytes : List ℕ) : Type 0 where
   frames : Frames
   many : length frames ≡ n
@@ -199,7 +199,7 @@ alike_taken count n bytes e =
       },
     )
 
--- ---- frames whose lengths are told
+-- ---- frames with explicit lengths
 
 record TookLength (bytes : List ℕ) (x : ℕ × List ℕ) : Type 0 where
   text : List ℕ
@@ -394,7 +394,7 @@ middle_bytes text content padding are =
     let behind : AreBytes (content ++ padding) = subst AreBytes (drop_at text (content ++ padding) (length text) refl) (drop_bytes (length text) (text ++ (content ++ padding)) are) in
     subst AreBytes (take_at content padding (length content) refl) (take_bytes (length content) (content ++ padding) behind)
 
--- the frames of a packet of that code
+-- the frames of a packet of this code
 record TookFrames (ticks code n : ℕ) (bytes : List ℕ) : Type 0 where
   frames : Frames
   many : length frames ≡ n

@@ -1,4 +1,4 @@
--- Items one after another: what is spelled is read, and what is read is spelled.
+-- Items one after another: spelled bytes are read, and bytes that are read are spelled so.
 use Rattle.std.proofs.Common.{◌≡◌, ℕ, ◌<◌, List, [], ◌∷◌, length, Result, Ok, Err, refl, sym, ap, ◌∙◌, arith}
 use Rattle.codec_payload_base.specs.Flags.{AreBytes}
 use Rattle.codec_payload_vpx.specs.declared.error.MediaError.{MediaError}

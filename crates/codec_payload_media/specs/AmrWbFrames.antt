@@ -39,7 +39,7 @@ pub record IsAmrWbFrame (bytes : List ℕ) (f : Frame) (rest : List ℕ) : Type 
 
 -- ---- how it is read
 
--- the frame of that first byte, with so much speech
+-- the frame with this first byte and this amount of speech
 abbrev pub with_speech : ℕ → Option ℕ → List ℕ → Result (Frame × List ℕ) MediaError
 with_speech byte None bytes = Err errors.ReservedValue
 with_speech byte (Some n) bytes =
@@ -50,7 +50,7 @@ abbrev pub frame_at : List ℕ → Result (Frame × List ℕ) MediaError
 frame_at [] = Err errors.MissingBytes
 frame_at (byte ∷ rest) = with_speech byte (speech_length (byte / 8 % 16)) rest
 
--- what an iteration yields
+-- the items of an iteration
 pub record Left : Type 0 where
   pub bytes : List ℕ
 

@@ -4,14 +4,14 @@ use Rattle.codec_payload_media.specs.declared.av1.sequence_header.Av1OperatingPo
 use Rattle.codec_payload_vpx.specs.Syntax.{Syntax, tells, field, branch, ◌>>=◌, flag}
 use Rattle.codec_payload_media.specs.Av1SequenceHeaders.{front, operating_point, other_points, reduced_point, timing_if}
 
--- the one behind so many
+-- the item after n others
 abbrev pub point_behind : ℕ → ℕ → Bool → Syntax (Option Av1OperatingPoint)
 point_behind index delay display = do
   passed ← other_points index delay display
   point ← operating_point delay display
   tells (Some point)
 
--- None behind the last
+-- None after the last
 abbrev pub long_point : ℕ → Syntax (Option Av1OperatingPoint)
 long_point index = do
   there ← flag

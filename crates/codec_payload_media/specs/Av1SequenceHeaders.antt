@@ -1,5 +1,5 @@
--- The sequence header of AV1, as the tables of the bitstream specification have it (section 5.5). Fields that are not told here
--- are passed over.
+-- The sequence header of AV1, by the tables of the bitstream specification (section 5.5). Fields that are not reported here are
+-- skipped.
 use Rattle.std.specs.Prelude.{ℕ, zero, suc, ◌+◌, ◌*◌, ◌==◌, ◌&&◌, not, nat_lt, Bool, true, false}
 use Rattle.codec_payload_vpx.specs.declared.error.MediaError.TheVariants as errors
 use Rattle.codec_payload_media.specs.declared.av1.sequence_header.Av1Color.{Av1Color}
@@ -9,14 +9,14 @@ use Rattle.codec_payload_media.specs.declared.av1.sequence_header.Front.{Front}
 use Rattle.codec_payload_media.specs.declared.av1.sequence_header.Av1SequenceHeader.{Av1SequenceHeader}
 use Rattle.codec_payload_vpx.specs.Syntax.{Syntax, tells, refuses, field, skips, branch, ◌>>=◌, flag}
 
--- uvlc, of which the value is not told: so many zeros, a one, and as many bits as zeros; 32 zeros are refused
+-- uvlc, whose value is not reported: n zeros, a one, and as many bits as zeros; 32 zeros are refused
 abbrev pub uvlc_from : ℕ → ℕ → Syntax ℕ
 uvlc_from zero count = refuses errors.ReservedValue
 uvlc_from (suc n) count = do
   one ← flag
   branch one (skips count) (uvlc_from n (count + 1))
 
--- decoder_model_info, of which the length of delays is told
+-- decoder_model_info; its length of delays is reported
 abbrev pub decoder_model : Syntax ℕ
 decoder_model = do
   less ← field 5
@@ -26,7 +26,7 @@ decoder_model = do
 abbrev pub decoder_model_if : Bool → Syntax ℕ
 decoder_model_if there = branch there decoder_model (tells 0)
 
--- timing_info and decoder_model_info; 0 where there is no decoder model
+-- timing_info and decoder_model_info; 0 without a decoder model
 abbrev pub timing : Syntax ℕ
 timing = do
   tick_and_scale ← skips 64
@@ -53,7 +53,7 @@ display_delay = do
   there ← flag
   branch there (skips 4) (tells 0)
 
--- an operating point, where delays of a decoder model have so many bits
+-- an operating point, if delays of a decoder model have n bits
 unfoldable pub operating_point : ℕ → Bool → Syntax Av1OperatingPoint
 operating_point delay display = do
   idc ← field 12
@@ -86,7 +86,7 @@ reduced_point = do
   level ← field 5
   tells (record { idc = 0; level = level; high_tier = false }, 1)
 
--- the largest width and height, each in so many bits as is told before both
+-- the largest width and height; the number of bits of each comes before both
 abbrev pub largest_size : Syntax (ℕ × ℕ)
 largest_size = do
   across ← field 4
@@ -95,7 +95,7 @@ largest_size = do
   height ← field (down + 1)
   tells (width + 1, height + 1)
 
--- frame ids, and tools that are not told
+-- frame ids, and tools that are not reported
 abbrev pub frame_ids : Syntax ℕ
 frame_ids = do
   there ← flag
@@ -106,7 +106,7 @@ integer_vectors = do
   choose ← flag
   branch (not choose) (skips 1) (tells 0)
 
--- seq_force_screen_content_tools, which is 0 where there are none
+-- seq_force_screen_content_tools, which is 0 if absent
 abbrev pub screen_tools : Syntax Bool
 screen_tools = do
   choose ← flag
@@ -154,7 +154,7 @@ told_subsampling = do
   y ← branch x flag (tells false)
   tells (x, y)
 
--- 4:2:0 in profile 0, 4:4:4 in profile 1, in profile 2 4:2:2 or as is told for 12 bits
+-- 4:2:0 in profile 0, 4:4:4 in profile 1; in profile 2 4:2:2, or by explicit bits for 12 bits
 abbrev pub subsampling : ℕ → ℕ → Syntax (Bool × Bool)
 subsampling profile depth =
     branch (profile == 0) (tells (true, true)) (branch (profile == 1) (tells (false, false)) (branch (depth == 12) told_subsampling (tells (true, false))))
@@ -185,7 +185,7 @@ color_config profile = do
   d ← color_description
   branch mono (monochrome depth d) (branch (is_srgb d) (srgb depth d) (with_chroma profile depth d))
 
--- what stands behind the operating points
+-- the fields after the operating points
 abbrev pub behind_points : Front → Av1OperatingPoint × ℕ → Syntax Av1SequenceHeader
 behind_points f points = do
   size ← largest_size

@@ -30,7 +30,7 @@ long_start layer = do
   existing ← flag
   branch existing (tells (existing_frame layer)) (new_frame layer)
 
--- the front of uncompressed_header, of a frame of that temporal layer
+-- the front of uncompressed_header, for a frame of this temporal layer
 abbrev pub frame_start : Bool → ℕ → Syntax Av1FrameStart
 frame_start reduced layer = branch reduced (tells (still_frame layer)) (long_start layer)
 
@@ -48,7 +48,7 @@ with_header u h = record { sequence_header = Some h; frame = u.frame }
 abbrev pub with_frame : Av1TemporalUnit → Av1FrameStart → Av1TemporalUnit
 with_frame u f = record { sequence_header = u.sequence_header; frame = Some f }
 
--- a sequence header (1), or a frame header, alone (3) or before its tiles (6); other OBUs tell nothing
+-- a sequence header (1), or a frame header, alone (3) or before its tiles (6); other OBUs are ignored
 abbrev pub with_obu : Av1TemporalUnit → Obu → Result Av1TemporalUnit MediaError
 with_obu u o =
     if o.obu_type == 1 then told (with_header u) (told_by sequence_header (bits_of o.payload))

@@ -69,7 +69,7 @@ obu_at (header ∷ rest) =
     if (header / 128 == 1) || (header / 2 % 2 == 0) then Err errors.ReservedValue
     else (extension_at (header / 4 % 2 == 1) rest >>= λ extension. sized (header / 8 % 16) extension.0 (leb_low 7 extension.1))
 
--- what an iteration yields
+-- the items of an iteration
 pub record Left : Type 0 where
   pub bytes : List ℕ
 

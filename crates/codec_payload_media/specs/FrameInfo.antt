@@ -1,4 +1,4 @@
--- What a frame of any format says.
+-- The facts in a frame of any format.
 use Rattle.std.specs.Prelude.{ℕ, ◌*◌, List, length, Some, None, is_some, option_map, Result, Ok}
 use Rattle.codec_payload_base.specs.declared.wire.Codec.{Codec}
 use Rattle.codec_payload_base.specs.declared.wire.Codec.TheVariants as codecs
@@ -21,7 +21,7 @@ use Rattle.codec_payload_media.specs.Av1TemporalUnits.{is_shown_keyframe, unit_a
 use Rattle.codec_payload_media.specs.OpusPackets.{opus_at}
 use Rattle.codec_payload_vpx.specs.Vp8Frames.{vp8_frame_at}
 
--- nothing is told
+-- no facts
 abbrev pub nothing : FrameInfo
 nothing = record { keyframe = None; size = None; duration = None }
 
@@ -50,7 +50,7 @@ av1_info u = record { keyframe = option_map is_shown_keyframe u.frame; size = op
 abbrev pub opus_info : OpusPacket → FrameInfo
 opus_info p = lasts (p.frames * p.frame_ticks)
 
--- what the frame of a codec says, or why it is malformed; G.711 and G.722 have a tick for each byte
+-- the facts in a frame of the codec, or why it is malformed; G.711 and G.722 have a tick for each byte
 abbrev pub info_of : Codec → List ℕ → Result FrameInfo MediaError
 info_of codecs.Vp8 bytes = told vp8_info (vp8_frame_at bytes)
 info_of codecs.Vp9 bytes = told vp9_info (told_by frame_header (bits_of bytes))

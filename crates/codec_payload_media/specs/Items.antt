@@ -2,12 +2,12 @@
 use Rattle.std.specs.Prelude.{◌≡◌, ℕ, zero, suc, List, [], ◌∷◌, length, Result, Ok, Err}
 use Rattle.codec_payload_vpx.specs.declared.error.MediaError.{MediaError}
 
--- an item, and those behind it; or the fault, behind which there is none
+-- an item, and the ones after it; or the fault, after which there are none
 abbrev pub with_others : {A : Type 0} → (List ℕ → List (Result A MediaError)) → Result (A × List ℕ) MediaError → List (Result A MediaError)
 with_others others (Ok x) = Ok x.0 ∷ others x.1
 with_others others (Err e) = Err e ∷ []
 
--- at most n items, of which front reads the first
+-- at most n items; front reads the first
 unfoldable pub items_in : {A : Type 0} → (List ℕ → Result (A × List ℕ) MediaError) → ℕ → List ℕ → List (Result A MediaError)
 items_in front zero bytes = []
 items_in front (suc n) [] = []
@@ -29,7 +29,7 @@ count_of (x ∷ xs) = count_then x (count_of xs)
 
 -- ---- how items are spelled
 
--- The bytes are these items, one behind the other, of which each is spelled so before the others.
+-- The bytes are these items, one after another; each is spelled before the others.
 abbrev pub AreSpelled : {A : Type 0} → (List ℕ → A → List ℕ → Type 0) → List ℕ → List A → Type 0
 AreSpelled IsItem bytes [] = bytes ≡ []
 AreSpelled IsItem bytes (x ∷ xs) = (rest : List ℕ) × IsItem bytes x rest × AreSpelled IsItem rest xs

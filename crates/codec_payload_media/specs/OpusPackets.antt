@@ -14,7 +14,7 @@ use Rattle.codec_payload_media.specs.declared.opus.OpusBandwidth.{OpusBandwidth}
 use Rattle.codec_payload_media.specs.declared.opus.OpusBandwidth.TheVariants as bandwidths
 use Rattle.codec_payload_vpx.specs.Reading.{◌>>=◌}
 
--- ---- the first byte: the configuration (5 bits), stereo (1), the code (2); table 2 says what a configuration is
+-- ---- the first byte: the configuration (5 bits), stereo (1), the code (2); table 2 gives the meaning of a configuration
 
 abbrev pub mode_of : ℕ → OpusMode
 mode_of config = if nat_lt config 12 then modes.Silk else if nat_lt config 16 then modes.Hybrid else modes.Celt
@@ -91,7 +91,7 @@ abbrev pub AreFrames : Bool → List (List ℕ) → List ℕ → Type 0
 AreFrames false frames bytes = (size : ℕ) × AllByRecursion (λ frame. length frame ≡ size) frames × (bytes ≡ concat frames)
 AreFrames true frames bytes = (lengths : List ℕ) × (firsts : List (List ℕ)) × (last : List ℕ) × (frames ≡ firsts ++ last ∷ []) × AreLengths firsts lengths × (bytes ≡ lengths ++ concat frames)
 
--- of code 3: a byte with the number of frames (6 bits), whether there is padding (1), and whether their lengths are told (1)
+-- code 3: a byte with the number of frames (6 bits), whether there is padding (1), and whether lengths are explicit (1)
 pub record AreCounted (ticks : ℕ) (frames : List (List ℕ)) (bytes : List ℕ) : Type 0 where
   pub few : length frames < 64
   pub short : length frames * ticks ≤ longest
@@ -104,7 +104,7 @@ pub record AreCounted (ticks : ℕ) (frames : List (List ℕ)) (bytes : List ℕ
   pub are : AreFrames told frames frames_bytes
   pub is : bytes ≡ (length frames + bit_if padded 64 + bit_if told 128) ∷ (size ++ (frames_bytes ++ padding))
 
--- of code 0 one frame, of code 1 two of one length, of code 2 two of which the length of the first is told
+-- code 0: one frame; code 1: two of one length; code 2: two, the first with an explicit length
 abbrev pub AreCoded : ℕ → ℕ → List (List ℕ) → List ℕ → Type 0
 AreCoded ticks zero frames bytes = (length frames ≡ 1) × AreFrames false frames bytes
 AreCoded ticks (suc zero) frames bytes = (length frames ≡ 2) × AreFrames false frames bytes
@@ -124,7 +124,7 @@ pub record IsOpusPacket (packet : List ℕ) (p : OpusPacket) : Type 0 where
 
 -- ---- how packets are read
 
--- so many frames of one length, which together have that size
+-- n frames of one length, together of this size
 abbrev pub alike : ℕ → ℕ → Result ℕ MediaError
 alike count size = if (size % count == 0) && nat_le (size / count) most then Ok count else Err errors.SizesDoNotFit
 
@@ -137,7 +137,7 @@ abbrev pub length_at : List ℕ → Result (ℕ × List ℕ) MediaError
 length_at [] = Err errors.MissingBytes
 length_at (low ∷ rest) = if nat_lt low 252 then Ok (low, rest) else long_length low rest
 
--- the lengths of so many frames, which are added to a sum
+-- the lengths of n frames, added to a sum
 unfoldable pub lengths_at : ℕ → ℕ → List ℕ → Result (ℕ × List ℕ) MediaError
 lengths_at zero sum bytes = Ok (sum, bytes)
 lengths_at (suc n) sum bytes = do
@@ -148,14 +148,14 @@ lengths_at (suc n) sum bytes = do
 abbrev pub with_last : ℕ → ℕ → ℕ → Result ℕ MediaError
 with_last count sum size = if nat_lt size sum || nat_lt most (size - sum) then Err errors.SizesDoNotFit else Ok count
 
--- so many frames, with a length before them for each but the last
+-- n frames, with a length before each except the last
 abbrev pub apart : ℕ → List ℕ → Result ℕ MediaError
 apart count bytes = do
   lengths ← lengths_at (count - 1) 0 bytes
   with_last count lengths.0 (length lengths.1)
 
--- Before frames with padding behind them its size is said by bytes of 255, which stand for 254 bytes each, and a last one.
--- So many bytes from the place on are no padding, by what is said before it; what is left where all is said
+-- If padding follows the frames, its size comes before them: bytes of 255, which mean 254 bytes each, and a last byte. The number
+-- of bytes from this place on that are not padding, by the size so far; the rest once the size is complete
 unfoldable pub unpadded : ℕ → List ℕ → Result (List ℕ) MediaError
 unpadded room [] = Err errors.MissingBytes
 unpadded room (b ∷ rest) =
@@ -171,14 +171,14 @@ abbrev pub frames_if : Bool → ℕ → List ℕ → Result ℕ MediaError
 frames_if false count bytes = alike count (length bytes)
 frames_if true count bytes = apart count bytes
 
--- frames behind a byte that says whether their lengths are told (1 bit), whether there is padding (1), and their number (6)
+-- frames after a byte that says whether lengths are explicit (1 bit), whether there is padding (1), and their number (6)
 abbrev pub counted_at : ℕ → List ℕ → Result ℕ MediaError
 counted_at ticks [] = Err errors.MissingBytes
 counted_at ticks (byte ∷ rest) =
     if (byte % 64 == 0) || nat_lt longest (byte % 64 * ticks) then Err errors.ReservedValue
     else (unpadded_if (byte / 64 % 2 == 1) rest >>= frames_if (byte / 128 == 1) (byte % 64))
 
--- how many frames a packet of that code has, whose frames have so many samples
+-- the number of frames of a packet of this code, with n samples in each frame
 abbrev pub frames_at : ℕ → ℕ → List ℕ → Result ℕ MediaError
 frames_at ticks code bytes =
     if code == 0 then alike 1 (length bytes)
@@ -199,6 +199,6 @@ abbrev pub head_bytes : OpusHead → List ℕ
 head_bytes h =
     0x4f ∷ 0x70 ∷ 0x75 ∷ 0x73 ∷ 0x48 ∷ 0x65 ∷ 0x61 ∷ 0x64 ∷ 1 ∷ h.channels ∷ (to_le_bytes w16 h.pre_skip ++ (to_le_bytes w32 h.input_sample_rate ++ (0 ∷ 0 ∷ 0 ∷ [])))
 
--- Reading finds what a packet says that the bytes spell, and nothing else.
+-- Reading finds exactly the packets that the bytes spell.
 abbrev pub ReadsOpus : Type 0
 ReadsOpus = (packet : List ℕ) (p : OpusPacket) → AreBytes packet → (IsOpusPacket packet p → opus_at packet ≡ Ok p) × (opus_at packet ≡ Ok p → IsOpusPacket packet p)

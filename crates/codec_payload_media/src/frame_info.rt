@@ -18,19 +18,19 @@ pub struct PictureSize {
     pub height: u32,
 }
 
-/// What a frame says of itself; `None` for what it does not tell.
+/// What a frame says about itself; `None` for a fact that its bytes do not contain.
 #[derive(Clone, Copy, Debug, PartialEq, Eq)]
 pub struct FrameInfo {
     /// Whether it is a keyframe, of video.
     pub keyframe: Option<bool>,
-    /// The size of the picture, of video where the frame tells it; of AV1 the largest of the sequence header.
+    /// The size of the picture, if the video frame has one; for AV1 the largest size in the sequence header.
     pub size: Option<PictureSize>,
     /// How long it lasts, of audio, in ticks of the RTP clock.
     pub duration: Option<u64>,
 }
 
 impl FrameInfo {
-    /// Of a frame that tells nothing.
+    /// For a frame without such facts.
     fn nothing() -> FrameInfo
         ensures { result ≡ nothing }
     {
@@ -41,7 +41,7 @@ impl FrameInfo {
         }
     }
 
-    /// Of a frame that lasts so many ticks.
+    /// For a frame with a duration of `ticks`.
     fn lasting(ticks: u64) -> FrameInfo
         ensures { result ≡ lasts ticks }
     {
@@ -52,7 +52,7 @@ impl FrameInfo {
         }
     }
 
-    /// Of a VP8 frame.
+    /// For a VP8 frame.
     fn of_vp8(header: &Vp8FrameHeader) -> FrameInfo
         ensures { result ≡ vp8_info header.now }
     {
@@ -69,7 +69,7 @@ impl FrameInfo {
         }
     }
 
-    /// Of a VP9 frame.
+    /// For a VP9 frame.
     fn of_vp9(header: &Vp9FrameHeader) -> FrameInfo
         ensures { result ≡ vp9_info header.now }
     {
@@ -86,7 +86,7 @@ impl FrameInfo {
         }
     }
 
-    /// Of an AV1 temporal unit.
+    /// For an AV1 temporal unit.
     fn of_av1(unit: &Av1TemporalUnit) -> FrameInfo
         ensures { result ≡ av1_info unit.now }
     {
@@ -107,13 +107,13 @@ impl FrameInfo {
     }
 }
 
-/// What a frame of a codec says: of VP8, VP9 and AV1 whether it is a keyframe, and the size where it is told, of a VP9
-/// superframe what its first frame says, of an AV1 temporal unit what it says up to its first frame header; of Opus, AMR-WB (in
-/// storage form), G.711 and G.722 how long it lasts. Of the other formats, and of what is no frame of media, nothing is told.
+/// Reads facts from the bytes of a frame. For VP8, VP9 and AV1: whether it is a keyframe, and the size if present. A VP9 superframe
+/// is described by its first frame, an AV1 temporal unit by its bytes up to the first frame header. For Opus, AMR-WB (storage
+/// form), G.711 and G.722: the duration in RTP ticks. For other formats all fields are `None`.
 ///
-/// G.711 and G.722 have a byte for each tick of their RTP clock of 8 kHz, so bytes are never malformed. A fault is that of
-/// [`Vp8FrameHeader::parse`], [`Vp9FrameHeader::parse`], [`Av1TemporalUnit::parse`], [`OpusPacket::parse`] or [`amr_wb_ticks`].
-/// It takes no memory.
+/// G.711 and G.722 have one byte for each tick of their RTP clock of 8 kHz, so they are never malformed. The errors are those of
+/// [`Vp8FrameHeader::parse`], [`Vp9FrameHeader::parse`], [`Av1TemporalUnit::parse`], [`OpusPacket::parse`] and [`amr_wb_ticks`].
+/// Does not allocate.
 pub fn frame_info(codec: Codec, bytes: &[u8]) -> Result<FrameInfo, MediaError>
     ensures { result ≡ info_of codec bytes.now }
 {

@@ -1,4 +1,4 @@
-//! What a frame says of itself: its size, whether it is a keyframe, how long it lasts, and how a decoder is set up for it.
+//! Facts from the bytes of a frame: its size, whether it is a keyframe, its duration, and the setup of a decoder.
 #![tactic(auto)]
 
 pub use codec_payload_vpx::{error, vp8, vp9};

@@ -1,4 +1,4 @@
-//! Laws of reading.
+//! Theorems on reading.
 
 ghost use Rattle.codec_payload_media.specs.AmrWbFrames.{ReadsAmrWbFrames};
 ghost use Rattle.codec_payload_media.specs.Av1Units.{ReadsObus};

@@ -1,4 +1,4 @@
--- The loop of the decoder: what was found stands before what is left to read.
+-- The loop of the decoder: the found blocks precede the bytes that are left to read.
 use Rattle.std.proofs.Common.{◌≡◌, ℕ, suc, List, [], ◌∷◌, ◌++◌, map, get_or, drop, Option, Some, None, is_some, true, false, refl, sym, ap, ◌∙◌, append_assoc}
 use Rattle.std.proofs.lemmas.List.{append-nil, map_push}
 use Rattle.codec_payload_red.specs.RedPayload.{Redundant, Red}

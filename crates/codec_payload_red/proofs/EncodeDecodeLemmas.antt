@@ -38,7 +38,7 @@ encoded_is_red bytes pt primary bs e = rw e (kept_is_red pt primary bs)
 pub encoded_is_read : (bytes : List ℕ) (pt : ℕ) (primary : List ℕ) (bs : List Redundant) → bytes ≡ encoded pt primary bs → red_at bytes ≡ Some (kept_of pt primary bs)
 encoded_is_read bytes pt primary bs e = reads_spelled bytes (kept_of pt primary bs) (encoded_is_red bytes pt primary bs e)
 
--- what a payload holds fits, and its types have 7 bits
+-- the contents of a payload fit, and its types have 7 bits
 all_fit : (bs : List Redundant) → AllByRecursion HasHeader bs → filter fits bs ≡ bs
 all_fit [] each = refl
 all_fit (b ∷ bs) each = rw (le-leb b.offset 16383 each.0.offset, le-leb (length b.bytes) 1023 each.0.bytes, all_fit bs each.1) refl

@@ -1,4 +1,4 @@
--- The loops of the encoder: what the blocks ahead still give.
+-- The loops of the encoder: the output of the blocks still ahead.
 use Rattle.std.proofs.Common.{◌≡◌, ℕ, zero, suc, ◌+◌, ◌-◌, ◌<◌, ◌≤◌, List, [], ◌∷◌, ◌++◌, length, map, filter, take, drop, get_or, true, false, refl, sym, ap, ◌∙◌, arith, append_assoc}
 use Rattle.std.proofs.lemmas.List.{drop_more, drop-map, drop_all, append-nil}
 use Rattle.std.specs.List.{flat_map}
@@ -6,7 +6,7 @@ use Rattle.codec_payload_red.specs.declared.red.blocks.RedundantBlock.{Redundant
 use Rattle.codec_payload_red.specs.RedPayload.{Redundant, fits, masked}
 use Rattle.codec_payload_red.specs.RedBlocks.{redundant_of}
 
--- what the first k that fit give, each by g
+-- the output of the first k that fit, each by g
 abbrev pub given : (Redundant → List ℕ) → ℕ → List Redundant → List ℕ
 given g k bs = flat_map g (map masked (take k (filter fits bs)))
 

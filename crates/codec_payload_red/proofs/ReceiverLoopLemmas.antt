@@ -1,4 +1,4 @@
--- The loop of the receiver: the packets that were found stand before those of the blocks that are left.
+-- The loop of the receiver: the found packets precede the packets of the remaining blocks.
 use Rattle.std.proofs.Common.{◌≡◌, ℕ, ◌+◌, ◌<◌, List, [], ◌∷◌, ◌++◌, length, drop, get_or, Option, Some, None, refl, sym, ap, ◌∙◌, arith, append_assoc}
 use Rattle.std.proofs.lemmas.List.{drop_more, get_or-map, length-map}
 use Rattle.std.specs.List.{filter_map}

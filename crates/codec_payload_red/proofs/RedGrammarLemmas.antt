@@ -1,4 +1,4 @@
--- What is spelled so is read, and what is read is spelled so.
+-- Spelled bytes are read, and bytes that are read are spelled so.
 use Rattle.std.proofs.Common.{◌≡◌, ℕ, zero, suc, ◌+◌, ◌*◌, ◌/◌, ◌%◌, ◌<◌, ◌≤◌, List, [], ◌∷◌, ◌++◌, length, get_or, take, drop, Option, Some, None, cond, ltb, refl, sym, ap, ◌∙◌, arith, ◌⊎◌, inl, inr, append_assoc, length-append}
 use Rattle.std.proofs.lemmas.List.{take_at, drop_at, take-append-drop, length-take-le}
 use Rattle.std.proofs.lemmas.Bool.{lt-ltb, le-ltb, cases_lt}
@@ -13,7 +13,7 @@ bind_some None f y h = cc
 abbrev pub bytes_in : List Redundant → List ℕ
 bytes_in bs = flat_map (λ b. b.bytes) bs
 
--- ---- what is spelled so is read
+-- ---- spelled bytes are read
 
 count_spelled : (k : ℕ) (bs : List Redundant) (pt : ℕ) (rest : List ℕ) → length bs ≤ k → pt < 128 → count_at k (flat_map header bs ++ pt ∷ rest) ≡ Some (length bs)
 unfolding count_at
@@ -64,7 +64,7 @@ reads_spelling r each few small =
 pub reads_spelled : (bytes : List ℕ) (r : Red) → IsRed bytes r → red_at bytes ≡ Some r
 reads_spelled bytes r is = rw is.is (reads_spelling r is.each is.few is.pt)
 
--- ---- what is read is spelled so
+-- ---- bytes that are read are spelled so
 
 abbrev IsHeads : ℕ → List ℕ → Type 0
 IsHeads zero bytes = (get_or bytes 0 0 < 128) × (0 < length bytes)

@@ -1,4 +1,4 @@
--- Recovery, worked: four packets of 960 ticks each, whose RTP times go on at 2^32, from a sender of the distances 1 and 3.
+-- Recovery, worked: four packets of 960 ticks each, whose RTP times wrap at 2^32, from a sender with the distances 1 and 3.
 use Rattle.std.proofs.Common.{ℕ, List, [], ◌∷◌, refl, arith}
 use Rattle.codec_payload_red.specs.RedLevels.{Entry, Sender, levels, within}
 use Rattle.codec_payload_red.specs.RedRecovery.{Receiver}
@@ -16,7 +16,7 @@ entry_of byte time = record { bytes = byte ∷ []; time = time }
 abbrev sent : List Entry
 sent = entry_of 0 4294966000 ∷ entry_of 1 4294966960 ∷ entry_of 2 624 ∷ entry_of 3 1584 ∷ []
 
--- what recovery asks can be met
+-- the conditions of recovery can be met
 pub sent_is_recoverable : IsRecoverable sender receiver 1200 sent
 sent_is_recoverable = record {
   fresh = refl;
@@ -30,7 +30,7 @@ sent_is_recoverable = record {
   each_fits = (omega arith, (omega arith, (omega arith, (omega arith, tt))));
 }
 
--- and the first payload stands in a kept level of the fourth packet
+-- and the first payload is in a kept level of the fourth packet
 pub first_stands_in_fourth : IsKeptIn sender 1200 sent 0 3
 unfolding levels within
 first_stands_in_fourth = record {

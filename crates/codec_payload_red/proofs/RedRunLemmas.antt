@@ -1,4 +1,4 @@
--- A row of packets from one sender without history: what each payload carries is what was sent before it.
+-- Consecutive packets from one sender without history: each payload carries payloads that were sent before it.
 use Rattle.std.proofs.Common.{◌≡◌, ℕ, zero, suc, ◌+◌, ◌-◌, ◌*◌, ◌/◌, ◌%◌, ◌^◌, ◌<◌, ◌≤◌, ◌⊎◌, inl, inr, List, [], ◌∷◌, ◌++◌, length, take, map, reverse, Option, Some, None, true, false, ltb, leb, ◌&&◌, ◌==◌, refl, sym, ap, ◌∙◌, subst, arith, append_assoc}
 use Rattle.std.specs.Prelude.{slice_get, Contains}
 use Rattle.std.proofs.lemmas.Option.{slice_get_within}
@@ -40,7 +40,7 @@ take_behind n m [] zs le = take_less n m zs le
 take_behind zero m (y ∷ ys) zs le = refl
 take_behind (suc n) m (y ∷ ys) zs le = ap (λ t. y ∷ t) (take_behind n m ys zs (omega (arith, le)))
 
--- the history is the newest of what was wrapped, newest first, before what was there
+-- the history holds the newest wrapped payloads, newest first, before its old contents
 history_after : (s : Sender) (es : List Entry) → take (deepest s.distances) s.history ≡ s.history → (sender_after s es).history ≡ take (deepest s.distances) (reverse es ++ s.history)
 history_after s [] small = sym small
 history_after s (e ∷ es) small =
@@ -64,7 +64,7 @@ slice_take (suc n) [] i x h = absurd (cc)
 slice_take (suc n) (y ∷ xs) zero x h = h
 slice_take (suc n) (y ∷ xs) (suc i) x h = slice_take n xs i x h
 
--- what the history has i back of the newest was wrapped so many before the last, or was there before
+-- the payload i back in the history was wrapped i before the last, or was in the old history
 entry_back : (s : Sender) (es : List Entry) (i : ℕ) (e : Entry) → slice_get (sender_after s es).history i ≡ Some e
     → ((j : ℕ) × (j + i + 1 ≡ length es) × (slice_get es j ≡ Some e)) ⊎ ((m : ℕ) × (i ≡ m + length es) × (slice_get s.history m ≡ Some e))
 entry_back s [] i e h = inr (i, omega arith, h)
@@ -78,7 +78,7 @@ entry_back s (x ∷ xs) i e h = elim (entry_back (recorded s x.bytes x.time) xs 
     first zero at there = inl (0, omega (arith, at), there)
     first (suc m) at there = inr (m, omega (arith, at), there)
 
--- the payload d back of the packet of index k is that of index k - d
+-- the payload d back from packet k is the payload of packet k - d
 sent_back : (s : Sender) (sent : List Entry) (k d : ℕ) (e : Entry) → s.history ≡ [] → k ≤ length sent → back (sender_after s (take k sent)).history d ≡ Some e
     → (j : ℕ) × (j + d ≡ k) × (0 < d) × (slice_get sent j ≡ Some e)
 sent_back s sent k zero e fresh le h = absurd (cc)
@@ -108,7 +108,7 @@ time_at step time (x ∷ xs) (suc i) e low apart h =
     sum : time + step + i * step ≡ time + suc i * step
     sum = omega arith
 
--- the offset of a packet so many ticks before
+-- the offset of a packet a number of ticks earlier
 offset_is : (a b now then : ℕ) → b < 2 ^ 32 → now ≡ (a + b) % 2 ^ 32 → then ≡ a % 2 ^ 32 → offset_of now then ≡ b
 offset_is a b now then small e f = rw (e, f) (omega (arith, small))
 
@@ -153,7 +153,7 @@ in_reverse x (y ∷ ys) (inr h) = rw (reverse_onto ys y []) (in_left x (reverse 
 
 -- ---- levels
 
--- what is known of a level: the payload so many back, as a block that fits
+-- the facts about a level: the payload a number of packets back, as a block that fits
 record IsLevel (pt now : ℕ) (o : Option Entry) (b : Redundant) : Type 0 where
   entry : Entry
   is : o ≡ Some entry
@@ -215,7 +215,7 @@ all_reverse : {X : Type 0} (P : X → Type 0) (xs : List X) → AllByRecursion P
 all_reverse P [] all = tt
 all_reverse P (x ∷ xs) all = rw (reverse_onto xs x []) (all_append P (reverse xs) (x ∷ []) (all_reverse P xs all.1) (all.0, tt))
 
--- what holds of each block holds of each kept one
+-- a fact about each block is a fact about each kept one
 within_each : (P : Redundant → Type 0) (room : ℕ) (bs : List Redundant) → AllByRecursion P bs → AllByRecursion P (within room bs)
 unfolding within
 within_each P room [] all = tt
@@ -224,9 +224,9 @@ within_each P room (b ∷ bs) all = elim (cases_lt room (cost b)) [
   | inr enough ↦ rw (le-ltb room (cost b) enough) (all.0, within_each P (room - cost b) bs all.1)
 ]
 
--- ---- what a receiver makes of a block
+-- ---- a block at a receiver
 
--- a block so many whole steps back is a packet
+-- a block a number of whole steps back is a packet
 recover_older : (r : Receiver) (seq_no time d : ℕ) (b : Redundant) → 0 < r.step → b.pt ≡ r.primary_pt → b.offset ≡ d * r.step → 0 < d → d ≤ 8 → d ≤ seq_no
     → recovered_from r seq_no time (older b) ≡ Some (record { seq_no = seq_no - d; time = (time + (2 ^ 32 - b.offset)) % 2 ^ 32; bytes = b.bytes; is_primary = false })
 recover_older r seq_no time d b some pt offset back few there =
@@ -247,7 +247,7 @@ recover_primary r seq_no time pt bytes same =
     let of_type : (pt == r.primary_pt) ≡ true = grind (arith, nat_tests, same) in
     rw of_type refl
 
--- ---- what a receiver finds in each payload
+-- ---- the packets that a receiver finds in each payload
 
 module _ (s : Sender) (r : Receiver) (budget first time : ℕ) (sent : List Entry) (fresh : s.history ≡ []) (accepted : is_accepted s.distances ≡ true) (alike : r.primary_pt ≡ s.primary_pt % 128)
     (some : 0 < r.step) (short : r.step ≤ 16383) (low : time < 2 ^ 32) (apart : AreStepApart r.step time sent) where
@@ -385,7 +385,7 @@ module _ (s : Sender) (r : Receiver) (budget first time : ℕ) (sent : List Entr
         primary_is_at k e here,
       )
 
-  -- what stands in a kept level is recovered
+  -- the payload in a kept level is recovered
   recovered_kept : (j k : ℕ) (e : Entry) → slice_get sent k ≡ Some e → IsKeptIn s budget sent j k
       → (x : RecoveredPacket) × Contains (recovered r (first + k) e.time (wrapped (now k) e.bytes e.time budget)) x × IsPacketAt first sent x j
   unfolding older_of_level
@@ -411,7 +411,7 @@ module _ (s : Sender) (r : Receiver) (budget first time : ℕ) (sent : List Entr
           → (older_of_level k e b d here one_of h is_kept).distance ≡ d
       same_distance k e b d here one_of h is_kept = refl
 
--- what goes out is read again as what was wrapped
+-- the output is read back as the wrapped payload
 pub output_reads : (s : Sender) (payload : List ℕ) (time budget : ℕ) → is_accepted s.distances ≡ true → length payload < budget → red_at (output s payload time budget) ≡ Some (wrapped s payload time budget)
 output_reads s payload time budget ok room = reads_spelled (output s payload time budget) (wrapped s payload time budget) (output_is_red s payload time budget (output s payload time budget) ok refl room)
 

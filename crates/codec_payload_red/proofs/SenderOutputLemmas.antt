@@ -1,4 +1,4 @@
--- What a sender sends keeps the budget, and is a RED payload.
+-- The output of a sender keeps the budget, and is a RED payload.
 use Rattle.std.proofs.Common.{◌≡◌, ℕ, suc, ◌+◌, ◌%◌, ◌-◌, ◌<◌, ◌≤◌, List, [], ◌∷◌, ◌++◌, length, reverse, Option, Some, None, true, leb, refl, ap, arith, inl, inr, length-append, append_assoc}
 use Rattle.std.proofs.lemmas.Bool.{and_parts, cases_Bool, leb-true, lt-ltb}
 use Rattle.std.specs.Prelude.{sum_by}

@@ -1,4 +1,4 @@
--- Blocks as they lie in memory, and what calls answer.
+-- Blocks in memory, and the results of calls.
 use Rattle.std.specs.Prelude.{◌≡◌, ◌++◌, ℕ, Bool, true, false, ◌&&◌, ◌==◌, nat_lt, List, [], ◌∷◌, map, filter, Option, Some, None, is_some}
 use Rattle.codec_payload_base.specs.declared.error.PacketError.{PacketError}
 use Rattle.codec_payload_base.specs.declared.error.PacketError.TheVariants as faults
@@ -8,7 +8,7 @@ use Rattle.codec_payload_red.specs.declared.red.blocks.RedBlock.{RedBlock}
 use Rattle.codec_payload_red.specs.declared.red.blocks.RedundantBlock.{RedundantBlock}
 use Rattle.codec_payload_red.specs.RedPayload.{Redundant, Red, header}
 
--- a block without where it lies
+-- a block without its place
 pub record Block : Type 0 where
   pub pt : ℕ
   pub timestamp_offset : ℕ
@@ -40,13 +40,13 @@ abbrev pub part_of : BlockPart → Redundant → List ℕ
 part_of parts.Header b = header b
 part_of parts.Bytes b = b.bytes
 
--- The fault of the bytes comes where reading finds nothing, and want of memory only where it finds something.
+-- The bytes are refused only if reading finds nothing, and memory runs out only if reading finds something.
 abbrev pub Fails : PacketError → Option Red → Type 0
 Fails faults.OutOfMemory read = is_some read ≡ true
 Fails faults.ErrRedCorruptedPacket read = read ≡ None
 Fails _ read = ⊥
 
--- The blocks are those that reading finds.
+-- The blocks are the ones that reading finds.
 abbrev pub Decodes : Option Red → List Block → Type 0
 Decodes read blocks = (r : Red) × (read ≡ Some r) × (blocks ≡ blocks_in r)
 

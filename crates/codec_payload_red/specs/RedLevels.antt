@@ -1,4 +1,4 @@
--- What a RED sender sends again (RFC 2198, section 3).
+-- The payloads that a RED sender repeats (RFC 2198, section 3).
 use Rattle.std.specs.Prelude.{◌≡◌, ℕ, zero, suc, ◌+◌, ◌-◌, ◌%◌, ◌^◌, ◌≤◌, Bool, true, ◌&&◌, nat_lt, nat_le, List, [], ◌∷◌, ◌++◌, length, take, reverse, slice_get, sum_by, Option, Some, None, if◌then◌else◌}
 use Rattle.std.specs.Option.{option_and_then}
 use Rattle.std.specs.List.{filter_map}
@@ -25,7 +25,7 @@ rises_above low (d ∷ ds) = nat_lt low d && nat_le d 8 && rises_above d ds
 abbrev pub is_accepted : List ℕ → Bool
 is_accepted ds = rises_above 0 ds
 
--- the greatest distance, which is the last, or 1 without any
+-- the greatest distance, which is the last, or 1 without distances
 abbrev pub deepest : List ℕ → ℕ
 deepest [] = 1
 deepest (d ∷ []) = d
@@ -33,7 +33,7 @@ deepest (d ∷ e ∷ ds) = deepest (e ∷ ds)
 
 -- ---- levels
 
--- the payload that was sent so many before
+-- the payload that was sent n packets earlier
 abbrev pub back : List Entry → ℕ → Option Entry
 back history zero = None
 back history (suc d) = slice_get history d
@@ -49,7 +49,7 @@ as_block pt now e = let b : Redundant = record { pt = pt; offset = offset_of now
 abbrev pub level : ℕ → ℕ → List Entry → ℕ → Option Redundant
 level pt now history d = option_and_then (as_block pt now) (back history d)
 
--- the distances whose payload is there and fits, in their order: shallowest first
+-- the distances whose payload exists and fits, in their order: shallowest first
 unfoldable pub levels : ℕ → ℕ → List Entry → List ℕ → List Redundant
 levels pt now history ds = filter_map (level pt now history) ds
 
@@ -67,7 +67,7 @@ within room (b ∷ bs) = if nat_lt room (cost b) then [] else b ∷ within (room
 abbrev pub levels_of : Sender → ℕ → List Redundant
 levels_of s time = levels (s.primary_pt % 128) time s.history s.distances
 
--- what the budget leaves beside a payload of that length and the one byte of its header
+-- the budget left beside a payload of this length and the one byte of its header
 abbrev pub room_of : ℕ → ℕ → ℕ
 room_of len budget = budget - len - 1
 
@@ -78,7 +78,7 @@ kept s len time budget = within (room_of len budget) (levels_of s time)
 abbrev pub wrapped : Sender → List ℕ → ℕ → ℕ → Red
 wrapped s payload time budget = record { redundant = reverse (kept s (length payload) time budget); pt = s.primary_pt % 128; primary = payload }
 
--- what goes out: the payload as it is where not even its header fits
+-- the output: the payload unchanged if not even its header fits
 abbrev pub output : Sender → List ℕ → ℕ → ℕ → List ℕ
 output s payload time budget = if nat_lt (length payload) budget then spelling (wrapped s payload time budget) else payload
 

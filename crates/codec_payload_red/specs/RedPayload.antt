@@ -1,4 +1,4 @@
--- RED payloads (RFC 2198, section 3): a row of headers, and behind them the bytes of the blocks.
+-- RED payloads (RFC 2198, section 3): headers, then the bytes of the blocks.
 use Rattle.std.specs.Prelude.{◌≡◌, ℕ, ◌+◌, ◌*◌, ◌/◌, ◌%◌, ◌<◌, ◌≤◌, List, [], ◌∷◌, ◌++◌, length, map, filter, take, Bool, ◌&&◌, nat_le}
 use Rattle.std.specs.List.{flat_map, AllByRecursion}
 
@@ -8,7 +8,7 @@ pub record Redundant : Type 0 where
   pub offset : ℕ
   pub bytes : List ℕ
 
--- what a payload stands for: older blocks, and the primary one
+-- the meaning of a payload: older blocks, and the primary one
 pub record Red : Type 0 where
   pub redundant : List Redundant
   pub pt : ℕ
@@ -25,20 +25,20 @@ header b = header_of b.pt b.offset (length b.bytes)
 abbrev pub spelling : Red → List ℕ
 spelling r = flat_map header r.redundant ++ r.pt ∷ (flat_map (λ b. b.bytes) r.redundant ++ r.primary)
 
--- what has a header
+-- the values that a header can hold
 pub record HasHeader (b : Redundant) : Type 0 where
   pub pt : b.pt < 128
   pub offset : b.offset ≤ 16383
   pub bytes : length b.bytes ≤ 1023
 
--- The bytes are a RED payload that stands for r.
+-- The bytes are a RED payload that represents r.
 pub record IsRed (bytes : List ℕ) (r : Red) : Type 0 where
   pub each : AllByRecursion HasHeader r.redundant
   pub few : length r.redundant ≤ 32
   pub pt : r.pt < 128
   pub is : bytes ≡ spelling r
 
--- ---- what encoding keeps
+-- ---- the blocks that encoding keeps
 
 -- the offset and the length fit their fields
 abbrev pub fits : Redundant → Bool
@@ -52,6 +52,6 @@ masked b = record { pt = b.pt % 128; offset = b.offset; bytes = b.bytes }
 abbrev pub kept_of : ℕ → List ℕ → List Redundant → Red
 kept_of pt primary blocks = record { redundant = map masked (take 32 (filter fits blocks)); pt = pt % 128; primary = primary }
 
--- what encode writes
+-- the bytes that encode writes
 abbrev pub encoded : ℕ → List ℕ → List Redundant → List ℕ
 encoded pt primary blocks = spelling (kept_of pt primary blocks)

@@ -13,11 +13,11 @@ count_at k [] = None
 count_at zero (b ∷ bytes) = if nat_lt b 128 then Some 0 else None
 count_at (suc k) (b ∷ bytes) = if nat_lt b 128 then Some 0 else count_at k (drop 3 bytes) >>= λ n. Some (n + 1)
 
--- a block of so many bytes, and the bytes behind it
+-- a block of n bytes, and the bytes after it
 abbrev pub cut_block : ℕ → ℕ → ℕ → List ℕ → Option (Redundant × List ℕ)
 cut_block pt offset len bodies = if nat_lt (length bodies) len then None else Some (record { pt = pt; offset = offset; bytes = take len bodies }, drop len bodies)
 
--- the block whose header stands first, and the bytes behind it
+-- the block whose header is first, and the bytes after it
 unfoldable pub block_at : List ℕ → List ℕ → Option (Redundant × List ℕ)
 block_at heads bodies = cut_block (slice_index heads 0 % 128) (slice_index heads 1 * 64 + slice_index heads 2 / 4) (slice_index heads 2 % 4 * 256 + slice_index heads 3) bodies
 

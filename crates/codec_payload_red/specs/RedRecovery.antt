@@ -1,4 +1,4 @@
--- What a RED receiver recovers from the payload of a packet (RFC 2198, section 3).
+-- The packets that a RED receiver recovers from the payload of a packet (RFC 2198, section 3).
 use Rattle.std.specs.Prelude.{◌≡◌, ℕ, ◌+◌, ◌-◌, ◌/◌, ◌%◌, ◌^◌, Bool, true, false, ◌&&◌, ◌==◌, nat_lt, nat_le, List, Option, Some, None, if◌then◌else◌}
 use Rattle.std.specs.List.{filter_map}
 use Rattle.codec_payload_red.specs.declared.red.receiver.Recovered.{Recovered}
@@ -10,7 +10,7 @@ pub record Receiver : Type 0 where
   pub primary_pt : ℕ
   pub step : ℕ
 
--- a packet that was recovered, without where its bytes lie
+-- a recovered packet, without the place of its bytes
 pub record RecoveredPacket : Type 0 where
   pub seq_no : ℕ
   pub time : ℕ
@@ -27,7 +27,7 @@ recovered_older r seq_no time b = let n = b.timestamp_offset / r.step in
     then Some (record { seq_no = seq_no - n; time = (time + (2 ^ 32 - b.timestamp_offset)) % 2 ^ 32; bytes = b.payload; is_primary = false })
     else None
 
--- The packet that a block is: none where the type is another, and the packet itself for the primary block.
+-- The packet in a block: none if the type is another, and the packet itself for the primary block.
 abbrev pub recovered_from : Receiver → ℕ → ℕ → Block → Option RecoveredPacket
 recovered_from r seq_no time b =
     if b.pt == r.primary_pt
@@ -38,6 +38,6 @@ recovered_from r seq_no time b =
 abbrev pub recovered : Receiver → ℕ → ℕ → Red → List RecoveredPacket
 recovered r seq_no time red = filter_map (recovered_from r seq_no time) (blocks_in red)
 
--- The packets are those of what reading finds.
+-- The packets are the ones in the blocks that reading finds.
 abbrev pub Recovers : Receiver → ℕ → ℕ → Option Red → List RecoveredPacket → Type 0
 Recovers r seq_no time read packets = (red : Red) × (read ≡ Some red) × (packets ≡ recovered r seq_no time red)

@@ -1,4 +1,4 @@
-//! Redundant audio in RTP (RFC 2198). A user names `codec_payload_core` alone, which gives out the module as its own.
+//! Redundant audio in RTP (RFC 2198). `codec_payload_core` re-exports the module, so users need only that crate.
 #![tactic(auto)]
 
 pub mod red;

@@ -1,14 +1,19 @@
-//! Packets that are written: each is appended to what `out` has, without padding. A datagram is one packet or more, the first a
-//! report unless it may have reduced size.
+//! Packets that are written: each is appended to what `out` has, without padding; `write_padded` then adds padding to the last. A
+//! datagram is one packet or more, the first a report unless it may have reduced size.
 
-ghost use Rattle.std.specs.Prelude.{◌≡◌, ℕ, List, ◌∷◌, [], ◌++◌, ◌+◌, ◌/◌, ◌%◌, ◌<◌, ◌≤◌, ◌&&◌, length, false, OnOk, Some, None, IfSome};
+ghost use Rattle.std.specs.Prelude.{◌≡◌, ℕ, List, ◌∷◌, [], ◌++◌, ◌+◌, ◌/◌, ◌%◌, ◌<◌, ◌≤◌, ◌&&◌, length, false, OnOk, IsTrue, Some, None, IfSome};
 ghost use Rattle.std.specs.Int.{w32, to_be_bytes};
 ghost use Rattle.codec_payload_rtcp.specs.RtcpPackets.{FitsSender, header_bytes, sender_report, receiver_report, source_description, goodbye, nack, picture_loss, full_intra};
 ghost use Rattle.codec_payload_rtcp.specs.RtcpItems.{are_items, reason_short, report_fits};
-ghost use Rattle.codec_payload_rtcp.specs.RtcpValues.{leaving_of, sender_of, receiver_of, nack_of, picture_loss_of, full_intra_of};
-ghost use Rattle.codec_payload_rtcp.specs.RtcpWriting.{Appends, OneMore, AreCompound, feedback_head, sender_head, receiver_head, cname_head, cname_chunk};
+ghost use Rattle.codec_payload_rtcp.specs.RtcpValues.{description_of, leaving_of, sender_of, receiver_of, nack_of, picture_loss_of, full_intra_of};
+ghost use Rattle.codec_payload_base.specs.Flags.{AreBytes};
+ghost use Rattle.codec_payload_rtcp.specs.SdesWriting.{description_fits};
+ghost use Rattle.codec_payload_rtcp.specs.RtcpWriting.{Appends, AppendsPadded, OneMore, AreCompound, LastPadded, padding_fits, feedback_head, sender_head, receiver_head, cname_head, cname_chunk};
 
-use crate::packet::{FullIntraRequest, Goodbye, Nack, PictureLoss, ReceiverReport, SenderReport};
+use crate::packet::{
+    FullIntraRequest, Goodbye, Nack, PictureLoss, ReceiverReport, SenderReport, SourceDescription,
+};
+use crate::sdes::check_chunks;
 use std::alloc::AllocError;
 
 /// The four bytes of a header without padding.
@@ -227,6 +232,34 @@ pub fn write_cname(ssrc: u32, cname: &[u8], out: &mut Vec<u8>) -> Result<(), All
     write_parts(&head, cname, &[0u8; 4][..zeros], out)
 }
 
+/// What the type of bytes says.
+fn known_bytes(bytes: &[u8])
+    ensures { AreBytes bytes.now }
+{}
+
+impl<'a> SourceDescription<'a> {
+    /// Whether the packet can be written: it has at most 31 chunks, they are read without a fault, and they are at most 65,535
+    /// whole words.
+    pub fn fits(&self) -> bool
+        ensures { result ≡ description_fits self.now.count self.now.chunks.now }
+    {
+        self.count <= 31
+            && are_items(4, 0, 262_140, self.chunks)
+            && check_chunks(self.count, self.chunks).is_ok()
+    }
+
+    /// Appends the packet. [`SourceDescription::fits`] says whether it can be written; chunks of
+    /// [`crate::sdes::write_chunk`] are read without a fault.
+    pub fn write(&self, out: &mut Vec<u8>) -> Result<(), AllocError>
+        requires { IsTrue (description_fits self.now.count self.now.chunks.now) }
+        ensures { OnOk result (Appends out.old.items out.new.items (source_description (description_of self.now))) }
+    {
+        known_bytes(self.chunks);
+        let words = (self.chunks.len() / 4) as u16;
+        write_parts(&header(self.count, 202, words), self.chunks, &[], out)
+    }
+}
+
 /// Appends a BYE of these sources, without a reason.
 fn write_leaving(ssrcs: &[u8], out: &mut Vec<u8>) -> Result<(), AllocError>
     requires whole { length ssrcs.now % 4 ≡ 0 }
@@ -278,8 +311,34 @@ impl<'a> Goodbye<'a> {
     }
 }
 
-/// Packets that are appended one after another are a compound packet, which is then read.
+/// Whether [`write_padded`] can add so many bytes of padding to a packet: `padding` is 4 to 252, a multiple of 4, the packet has
+/// none yet (P is clear), and at most 65,536 words result.
+pub fn padding_fits(packet: &[u8], padding: u8) -> bool
+    ensures { result ≡ padding_fits padding packet.now }
+{
+    4 <= packet.len()
+        && packet[0] <= 159
+        && 1 <= padding
+        && padding % 4 == 0
+        && packet.len() + usize::from(padding) <= 262_144
+}
+
+/// Appends a written packet with so many bytes of padding: zeros, and their number last (RFC 3550, section 6.4.1). Only the last
+/// packet of a datagram may have padding: write that packet into memory of its own first.
+pub fn write_padded(packet: &[u8], padding: u8, out: &mut Vec<u8>) -> Result<(), AllocError>
+    requires { IsTrue (padding_fits padding packet.now) }
+    ensures { OnOk result (AppendsPadded padding out.old.items out.new.items packet.now) }
+{
+    let words = ((packet.len() + usize::from(padding)) / 4 - 1) as u16;
+    let [l1, l0] = words.to_be_bytes();
+    out.extend_from_slice(&[packet[0] + 32, packet[1], l1, l0])?;
+    let zeros = usize::from(padding) - 1;
+    write_parts(&packet[4..], &[0u8; 255][..zeros], &[padding], out)
+}
+
+/// Packets that are appended one after another are a compound packet, which is then read. The last may have padding.
 pub fn written_packets_are_read()
     ensures one_more { OneMore }
     ensures compound { AreCompound }
+    ensures padded { LastPadded }
 {}

@@ -139,7 +139,7 @@ pub on_ok : {X E : Type 0} (result : Result X E) (P : Type 0) → P → OnOk res
 on_ok (Ok x) P p = p
 on_ok (Err x) P p = tt
 
--- what is written is read back
+-- written bytes are read back
 pub elements_again : (es : List Element) → all_fit forms.TwoByte es ≡ true → elements_of (extension_for es) ≡ es
 elements_again [] fit = refl
 elements_again (e ∷ es) fit =

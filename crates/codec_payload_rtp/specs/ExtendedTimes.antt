@@ -7,7 +7,7 @@ abbrev pub extended_time : Option ℕ → ℕ → ℕ
 extended_time None timestamp = 2 ^ 32 + timestamp
 extended_time (Some last) timestamp = nearest (2 ^ 32) last timestamp
 
--- 32 bits that wrap go on, and one before the first has a time above 0
+-- 32 bits that wrap continue, and one before the first has a time above 0
 pub extended_time-wraps : extended_time (Some (2 ^ 33 - 1)) 0 ≡ 2 ^ 33
 extended_time-wraps = refl
 

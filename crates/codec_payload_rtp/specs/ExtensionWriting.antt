@@ -14,7 +14,7 @@ use Rattle.codec_payload_rtp.specs.declared.values.ExtensionIds.{ExtensionIds}
 
 -- ---- values as bytes
 
--- the offset of the clock in two's complement, where it is known
+-- the offset of the clock in two's complement, if it is known
 abbrev pub offset_bytes : Option ℤ → List ℕ
 offset_bytes None = []
 offset_bytes (Some offset) = to_be_bytes w64 (cast_unsigned w64 offset)
@@ -31,7 +31,7 @@ level_byte voice (pos zero) = Some (bit_if voice 128)
 level_byte voice (pos (suc n)) = None
 level_byte voice (negsuc n) = if nat_lt n 127 then Some (bit_if voice 128 + (n + 1)) else None
 
--- where nothing is told of speech, there is none
+-- without a value, there is no speech
 abbrev pub is_speech : Option Bool → Bool
 is_speech None = false
 is_speech (Some voice) = voice
@@ -41,7 +41,7 @@ audio_byte values = and_then (level_byte (is_speech values.voice_activity)) valu
 
 -- ---- values under their ids
 
--- the bytes of a value, if it is there, and the id of its extension, if it has one
+-- the bytes of a value, if present, and the id of its extension, if it has one
 pub record Row : Type 0 where
   pub id : Option ℕ
   pub bytes : Option (List ℕ)
@@ -86,7 +86,7 @@ abbrev pub is_id : ℕ → Option ℕ → Bool
 is_id id None = false
 is_id id (Some other) = id == other
 
--- the id is none of the others
+-- the id differs from all others
 abbrev pub is_apart : ℕ → List (Option ℕ) → Bool
 is_apart id [] = true
 is_apart id (other ∷ others) = not (is_id id other) && is_apart id others
@@ -103,9 +103,9 @@ are_ids (id ∷ others) = id_fits id && (is_apart_from id others && are_ids othe
 abbrev pub ids_fit : ExtensionIds → Bool
 ids_fit ids = are_ids (ids.abs_capture_time ∷ ids.video_orientation ∷ ids.video_content_type ∷ ids.video_timing ∷ ids.layers_allocation ∷ ids.audio_level ∷ [])
 
--- ---- what is read of what was written
+-- ---- values read from written bytes
 
--- a value comes back where its extension has an id
+-- a value is read back if its extension has an id
 abbrev pub kept_by : {A : Type 0} → Option ℕ → Option A → Option A
 kept_by None value = None
 kept_by (Some id) value = value
@@ -116,7 +116,7 @@ sent_level (pos zero) = Some (pos zero)
 sent_level (pos (suc n)) = None
 sent_level (negsuc n) = if nat_lt n 127 then Some (negsuc n) else None
 
--- the values that are read: those that have an id; of the audio a level that has a byte, and speech with it alone
+-- the values that are read: those with an id; for audio a level that has a byte, and speech only with a level
 abbrev pub values_told : ExtensionIds → ExtensionValues → ExtensionValues
 values_told ids values = record {
   abs_capture_time = kept_by ids.abs_capture_time values.abs_capture_time;
@@ -146,7 +146,7 @@ pub record FitsValues (values : ExtensionValues) : Type 0 where
   pub timing : IfSome values.video_timing FitsTiming
   pub layers : IfSome values.layers_allocation (λ b. length b ≤ 255)
 
--- what was written under ids that fit is read
+-- values written under ids that fit are read
 abbrev pub ValuesComeBack : Type 0
 ValuesComeBack =
     (ids : ExtensionIds) (values : ExtensionValues) → ids_fit ids ≡ true → FitsValues values

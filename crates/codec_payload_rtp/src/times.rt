@@ -7,9 +7,8 @@ ghost use Rattle.codec_payload_rtp.specs.ExtendedTimes.{extended_time};
 use codec_payload_base::wire::extend_u32;
 use std::marker::Model;
 
-/// Extends the RTP times of one stream, in the order in which they are told: each becomes the time nearest to the last that has
-/// its 32 bits, half the range going forward. The first gets 2^32 on top, so that earlier ones have times above 0. Takes no
-/// memory.
+/// Extends the RTP times of one stream, in order of the calls: each becomes the time nearest to the last one that has its 32 bits;
+/// half the range counts as forward. The first gets 2^32 added, so that earlier ones have times above 0. Does not allocate.
 #[derive(Clone, Copy, Debug, Default)]
 pub struct RtpTimes {
     last: Option<u64>,
@@ -26,14 +25,14 @@ impl Model for RtpTimes {
 }
 
 impl RtpTimes {
-    /// No time was told so far.
+    /// No time so far.
     pub fn new() -> RtpTimes
         ensures { result ≡ None }
     {
         RtpTimes { last: None }
     }
 
-    /// The time that was told last, extended.
+    /// The last time, extended.
     pub fn last(&self) -> Option<u64>
         ensures { result ≡ self.now }
     {
@@ -45,9 +44,10 @@ impl RtpTimes {
     pub fn extend(&mut self, timestamp: u32) -> u64
         ensures value { result ≡ extended_time self.old timestamp }
         ensures after { self.new ≡ Some result }
-        // It has the 32 bits that were told.
+        // It has the 32 bits of the given time.
         ensures low { result % 2 ^ 32 ≡ timestamp }
-        // Where the clock moved by less than half of 2^32 since the last, forward or back, the time moves as it did.
+        // If the clock moved by less than half of 2^32 since the last time, forward or back, the extended time moves by the same
+        // amount.
         ensures follows { IfSome self.old (λ last. Follows (2 ^ 32) (Some last) timestamp result) }
     {
         let time = match self.last {

@@ -17,7 +17,7 @@ use std::alloc::AllocError;
 /// How many header extensions have values here.
 const KINDS: usize = 6;
 
-/// The bytes of a value, if it is there, and the id of its extension, if it has one.
+/// The bytes of a value, if present, and the id of its extension, if it has one.
 #[derive(Clone, Copy, Debug)]
 pub(crate) struct Row<'a> {
     pub(crate) id: Option<u8>,
@@ -45,7 +45,7 @@ fn capture_time_bytes(time: AbsCaptureTime) -> CaptureBytes
     CaptureBytes { bytes, len: 16 }
 }
 
-/// The value of abs-capture-time, if it is there.
+/// The bytes of abs-capture-time, if present.
 fn capture_array(time: Option<AbsCaptureTime>) -> Option<CaptureBytes>
     ensures bytes { option_map in_use result ≡ option_map capture_bytes time }
     ensures few { IfSome result (λ x. x.len ≤ 16) }
@@ -67,7 +67,7 @@ fn lent_part(bytes: &Option<CaptureBytes>) -> Option<&[u8]>
     }
 }
 
-/// A value of one byte, if it is there.
+/// The byte of a value, if present.
 fn byte_array(byte: Option<u8>) -> Option<[u8; 1]>
     ensures { result ≡ option_map one_byte byte }
 {
@@ -77,7 +77,7 @@ fn byte_array(byte: Option<u8>) -> Option<[u8; 1]>
     }
 }
 
-/// The value of video-timing, if it is there.
+/// The bytes of video-timing, if present.
 fn timing_array(timing: Option<VideoTiming>) -> Option<[u8; 13]>
     ensures { result ≡ option_map timing_bytes timing }
 {
@@ -108,7 +108,7 @@ fn layers_of(values: &ExtensionValues) -> Option<&[u8]>
     }
 }
 
-/// The byte of the level of the audio and of speech, where the level is told and has one.
+/// The byte with the audio level and speech, if a level is given and has a byte.
 fn audio_byte_of(values: &ExtensionValues) -> Option<u8>
     ensures { result ≡ audio_byte values.now }
 {
@@ -119,7 +119,7 @@ fn audio_byte_of(values: &ExtensionValues) -> Option<u8>
     }
 }
 
-/// Puts the element of a row, if it has one, behind the first so many, and answers how many there are then.
+/// Puts the element of a row, if it has one, after the first `count`, and returns the new count.
 fn put<'a>(elements: &mut [Element<'a>; KINDS], count: usize, row: Row<'a>) -> usize
     requires { count < 6 }
     ensures few { result ≤ count + 1 }
@@ -132,7 +132,7 @@ fn put<'a>(elements: &mut [Element<'a>; KINDS], count: usize, row: Row<'a>) -> u
     count + 1
 }
 
-/// The elements of these rows: the first so many.
+/// The elements of these rows, and their number.
 fn gather<'a>(rows: &[Row<'a>; KINDS]) -> ([Element<'a>; KINDS], usize)
     ensures few { result.1 ≤ 6 }
     ensures elements { map element_of (take result.1 result.0) ≡ rows_elements (map row_of rows.now) }
@@ -169,7 +169,7 @@ fn is_id(id: u8, other: Option<u8>) -> bool
     }
 }
 
-/// Whether the id is none of the others.
+/// Whether the id differs from all others.
 fn is_apart(id: u8, others: &[Option<u8>]) -> bool
     ensures { result ≡ is_apart id others.now }
 {
@@ -220,10 +220,10 @@ impl ExtensionIds {
         ])
     }
 
-    /// Replaces the contents of `out` with the bytes of a header extension for the values that have an id, and returns its
-    /// profile: the one-byte form if it has room for each value, else the two-byte form (RFC 8285). If no value has an id, it
-    /// returns `None` and empties `out`. An audio level above 0 or below -127 dBov is not written, nor is speech without a
-    /// level. If an allocation fails, `out` has a beginning of the bytes.
+    /// Replaces the contents of `out` with the bytes of a header extension for the values that have an id, and returns its profile:
+    /// the one-byte form if it has room for each value, else the two-byte form (RFC 8285). If no value has an id, returns `None`
+    /// and empties `out`. An audio level above 0 or below -127 dBov is not written, and speech without a level is not written
+    /// either. If an allocation fails, `out` holds a beginning of the bytes.
     pub fn write(
         &self,
         values: &ExtensionValues,
@@ -235,7 +235,7 @@ impl ExtensionIds {
         ensures none { IfOk result (λ profile. profile ≡ None → out.new.items ≡ []) }
         // They are whole words, which an extension asks for.
         ensures words { OnOk result (IfSome (extension_for (elements_for self.now values.now)) (λ e. (length e.bytes % 4 ≡ 0) × (length e.bytes ≤ 300))) }
-        // What was written is read back.
+        // The written bytes are read back.
         ensures comes_back { OnOk result (elements_of (extension_for (elements_for self.now values.now)) ≡ elements_for self.now values.now) }
     {
         let capture = capture_array(values.abs_capture_time);

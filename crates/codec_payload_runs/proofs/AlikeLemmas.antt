@@ -30,7 +30,7 @@ packet_same p q e = cc
 complete_frame_same : (f : CompleteFrame) → None ≡ Some f → ⊥
 complete_frame_same f e = cc
 
--- what a pop goes through, frame after frame
+-- the steps of a pop, frame after frame
 data Goes : State → Answer → State → Type 0 where
   stays : {s : State} → due_of s ≡ None → Goes s None s
   gives : {s t : State} {r : Release} → Releases s r t → Goes s (Some (Ok r)) t
@@ -60,7 +60,7 @@ module _ (plain : Bool) where
       higher [] a = tt
       higher (q ∷ qs) a = (a.0, higher qs a.1)
 
-  -- and it is the same where all but the times of receipt is the same
+  -- and two states equal except for the receive times give equal results in this way
   goes_same : (s u t v : State) (a b : Answer) → IsOfCodec s → IsOfCodec u → Rises s.held → Rises u.held → bare_state plain s ≡ bare_state plain u → Goes s a t
       → Goes u b v → (answer_with (strip plain) a ≡ answer_with (strip plain) b) × (bare_state plain t ≡ bare_state plain v)
   goes_same s u t v a b of_s of_u rise_s rise_u e (stays x) (stays y) = (refl, e)
@@ -92,7 +92,7 @@ goes_of c s t passed None (waits passes nothing) = goes_after s t t passed None 
 goes_of c s t passed (Some (Ok r)) (releases mid passes out) = goes_after s mid t passed (Some (Ok r)) passes (gives out)
 goes_of c s t passed (Some (Err fault)) pop = elim pop [ ]
 
--- all else that is known of a push is told by the packet
+-- all else that is known of a push follows from the packet
 abbrev pub TellsAs : Bool → (ℕ → Packet → RtpMeta → Type 0) → (Packet → RtpMeta) → Type 0
 TellsAs plain known told_as = (k : ℕ) (q : Packet) (m : RtpMeta) → known k q m → strip plain m ≡ told_as q
 

@@ -25,7 +25,7 @@ use Rattle.codec_payload_send.specs.Packets.{Packet}
 use Rattle.codec_payload_runs.specs.Schedule.{Answer, RunState}
 use Rattle.codec_payload_send.specs.Sending.{Sample}
 use Rattle.codec_payload_runs.specs.SentStream.{AreReadable, SentUnit, packets_of}
-use Rattle.codec_payload_runs.specs.Units.{payloads_by, may_split}
+use Rattle.codec_payload_codec.specs.Packetizers.{payloads_by, may_split}
 use Rattle.codec_payload_runs.specs.declared.run.Sent.{Sent}
 use Rattle.codec_payload_runs.specs.declared.run.Step.{Step}
 
@@ -40,7 +40,7 @@ module _ (c : Setting) where
   abbrev Known : ℕ → Packet → RtpMeta → Type 0
   Known = c.known
 
-  -- an event tells what is known of the packet that it brings
+  -- an event says what is known of the packet that it brings
   abbrev pub AllKnown : List Event → Type 0
   AllKnown events = (k : ℕ) (meta : RtpMeta) → IsIn (Arrives k meta) events → (q : Packet) → Tells c.clock_rate q meta → c.known k q meta
 
@@ -69,7 +69,7 @@ module _ (c : Setting) where
       subst (InOrder c.known c.splits c.units from) (sym meets.3)
       (pop_in_order c from waiting meets.2 over meets.0 meets.1 before pop (λ n after. met_in_order n events meets.2 t meets.1 (λ j m is. known j m (inr is)) after meets.5))
 
-  -- what these pushes into an unused buffer leave, and what is met after them
+  -- the state that these pushes into an unused buffer leave, and the events after them
   pub record IsFull (start s : State) (before after : List Event) (answers : List Answer) (t : State) : Type 0 where
     pub mid : State
     pub filling : Filling c start mid
@@ -113,7 +113,7 @@ module _ (c : Setting) where
     may_go = e.may_go;
   }
 
-  -- from then on each push is dropped, and each pop answers the next unit
+  -- from then on each push is dropped, and each pop returns the next unit
   answers_on : (k : ℕ) (rest : List SentUnit) (events : List Event) (s t : State) (answers : List Answer) → AllKnown events → AllAreMade events → Exactly c k rest s
       → Meets c.clock_rate (packets_of c.units) events s answers t
       → AnswersAll c.known k rest answers

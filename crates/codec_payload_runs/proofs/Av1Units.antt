@@ -1,5 +1,4 @@
--- An AV1 frame is one lawful unit, whose parts are its kept OBUs: a receiver that lost its first packets may be given the
--- last of them.
+-- An AV1 frame is one lawful unit, whose parts are its kept OBUs: a receiver that lost its first packets may get the last of them.
 use Rattle.std.proofs.Common.{◌≡◌, ◌≢◌, ◌∙◌, sym, ap, refl, subst, ℕ, ◌+◌, ◌*◌, ◌<◌, ◌≤◌, ◌%◌, ◌^◌, ◌||◌, inl, inr, List, []}
 use Rattle.std.proofs.Common.{◌∷◌, ◌++◌, length, map, arith, append_assoc, Bool, true, false, Option, Some, None, Result, Ok, Err, cond, leb, ltb}
 use Rattle.std.specs.Prelude.{MatchResult}
@@ -32,7 +31,7 @@ use Rattle.codec_payload_runs.specs.SentStream.{SentUnit, EndsWithTail, IsReleas
 use Rattle.codec_payload_buffer.specs.Steps.{Unpacked, Unpacks, nothing_unpacked}
 use Rattle.codec_payload_runs.specs.Units.{canonical_obus, canonical_units, units_by}
 
--- what comes of two reads, one after the other
+-- the result of two reads, one after the other
 bind_split : {A B : Type 0} → (o : Option A) (f : A → Option B) (y : B) → (o >>= f) ≡ Some y → (a : A) × (o ≡ Some a) × (f a ≡ Some y)
 bind_split None f y e = absurd (cc)
 bind_split (Some a) f y e = (a, refl, e)
@@ -41,14 +40,14 @@ received_empty : (pending : List ℕ) → received pending [] ≡ None
 unfolding received payload_at
 received_empty pending = refl
 
--- a payload that can be read is refused for want of memory alone
+-- a payload that can be read is refused only if memory runs out
 refused_for_memory : (fault : PacketError) (pending payload : List ℕ) (r : List ℕ × List ℕ) → received pending payload ≡ Some r → IsRefusedPayload fault pending payload → fault ≡ faults.OutOfMemory
 refused_for_memory faults.OutOfMemory pending payload r reads refused = refl
 refused_for_memory faults.ErrShortPacket pending payload r reads refused = let e = sym (received_empty pending) ∙ (ap (received pending) (sym refused) ∙ reads) in absurd (cc)
 refused_for_memory faults.ErrAv1CorruptedPacket pending payload r reads refused = let e = sym refused.1 ∙ reads in absurd (cc)
 refused_for_memory fault pending payload r reads refused = absurd refused
 
--- packets that can be read are given, or memory is wanted
+-- packets that can be read give their units, or memory runs out
 abbrev Given : List ℕ → Result Unpacked PacketError → DepacketizerState → Type 0
 Given bytes answer e = (kind_of_depacketizer e ≡ Av1Payloads) × MatchResult answer (λ unpacked. unpacked.bytes ≡ bytes) (λ fault. fault ≡ faults.OutOfMemory)
 
@@ -83,7 +82,7 @@ all_given (p ∷ ps) pending x end u answer e reads gives =
     one_given (u.bytes ++ x) p ps pending others.0.0 first.0 u gives.2 gives.0 gives.3.0 gives.1 answer e first.1 gives.3.1 gives.3.2 (ap (λ (xs : List ℕ). u.bytes ++ xs) x_is) gives.4
     (λ left_is unpacks. all_given ps gives.3.0 others.0.0 others.0.1 gives.2 answer e (ap (λ (l : List ℕ). all_received l (payloads_held ps)) left_is ∙ others.1) unpacks)
 
--- a depacketizer of these payloads holds what is pending
+-- a depacketizer of these payloads holds the pending bytes
 is_av1 : (d : DepacketizerState) → kind_of_depacketizer d ≡ Av1Payloads → (pending : List ℕ) × (d ≡ Av1Depacketizing pending)
 is_av1 (Av1Depacketizing pending) is = (pending, refl)
 is_av1 d is = absurd (cc)
@@ -114,7 +113,7 @@ written_first : (p : Payload) → p.continues ≡ false → is_head (written p) 
 unfolding written
 written_first p first = low_is_head (aggregation_header p) (body p.elements) (low_header p first)
 
--- what goes on is begun
+-- an element that continues is begun
 goes_on_begun : (es : List (List ℕ)) (goes_on : Bool) (begun : List ℕ) → AllByRecursion IsElement es → 0 < length es → ended goes_on begun es ≡ [] → is_begun (left_open goes_on begun es) ≡ true
 goes_on_begun [] goes_on begun full some none = absurd (omega (arith, some))
 goes_on_begun (e ∷ []) true begun full some none = begun_more begun e full.0
@@ -130,7 +129,7 @@ left_nil : (xs ys : List (List ℕ)) → [] ≡ xs ++ ys → (xs ≡ []) × (ys 
 left_nil [] ys e = (refl, sym e)
 left_nil (x ∷ xs) ys e = absurd (cc)
 
--- no payloads stand for no strings, once an element has begun
+-- no payloads represent no strings, once an element has begun
 none_begun : (ps : List Payload) (begun : List ℕ) → is_begun begun ≡ true → AllByRecursion HasElement ps → StandsAfter begun ps [] → ⊥
 none_begun [] begun is full stands = let e : is_begun begun ≡ false = ap is_begun stands.0 in cc
 none_begun (p ∷ ps) begun is full (continues, elements, (rest, strings, stands)) =
@@ -282,7 +281,7 @@ module _ (mtu : ℕ) (sample : Sample) (rtp_time number : ℕ) (large : leb mtu 
   sends_refused (Some []) is fault step found = let no = rw (large, is) at step.0 in absurd cc
   sends_refused (Some (o ∷ os)) is fault step found = absurd (found (rw (large, is) at step.1))
 
--- what is sent of an AV1 frame
+-- the packets sent for an AV1 frame
 pub av1_sends : (mtu : ℕ) (sample : Sample) (rtp_time number : ℕ) (answer : Result (List (List ℕ)) PacketError) → AnswersAv1 mtu sample.bytes answer → answer ≢ Err faults.OutOfMemory
     → SendsUnits Av1Packetizing mtu sample rtp_time number (payloads_of answer) Av1Packetizing
 av1_sends mtu sample rtp_time number answer step found =

@@ -1,4 +1,4 @@
--- When a packet was received changes nothing but what its metadata says of it.
+-- The receive time of a packet changes only the metadata about it.
 use Rattle.std.proofs.Common.{◌≡◌, ◌∙◌, refl, sym, ap, ℕ, zero, suc, subst, List, [], Option, Some, None, Result, Ok, Err, Bool, true, false, cond, ◌++◌, ◌∷◌, ◌<◌, ◌||◌, arith, length, map, eqb, ltb}
 use Rattle.std.specs.Prelude.{MatchResult, if◌then◌else◌}
 use Rattle.codec_payload_base.specs.Extensions.{no_values}
@@ -18,7 +18,7 @@ use Rattle.codec_payload_buffer.specs.Steps.{State, Releases, PassesOver, due_of
 use Rattle.codec_payload_buffer.specs.declared.buffer.frames.CompleteFrame.{CompleteFrame}
 use Rattle.codec_payload_buffer.specs.declared.buffer.unit.RtpMeta.{RtpMeta}
 
--- what is told of a packet but for when it was received, and, where it is not plain, for its marker and its values
+-- the metadata of a packet without its receive time and, if it is not plain, without its marker and its values
 abbrev pub strip : Bool → RtpMeta → RtpMeta
 strip plain m = record m { received = record { 0 = 0 }; header = if plain then m.header else record m.header { marker = false; ext_vals = no_values } }
 
@@ -72,7 +72,7 @@ passes_same s t u built_in x y =
     ∙ ap (λ (z : Unpacked). without s y.frame x.depacketizer (checked s.contiguity z.extra (follows s y.frame)).2 s.evicted) out.0
     ∙ ap (λ (d : DepacketizerState). without s y.frame d (checked s.contiguity y.unpacked.extra (follows s y.frame)).2 s.evicted) out.1 ∙ sym y.left
 
--- no frame both goes out and is passed over
+-- no frame is both released and skipped
 pub one_way : (s t u : State) (r : Release) → is_built_in_depacketizer s.depacketizer ≡ true → Releases s r t → PassesOver s u → ⊥
 one_way s t u r built_in x y =
     let f : x.frame ≡ y.frame = complete_frame_is x.frame y.frame (sym x.is_due ∙ y.is_due) in
@@ -188,7 +188,7 @@ module _ (plain : Bool) where
         }) (sym (bare_above f.last s.held));
       }
 
-  -- a frame that is passed over
+  -- a skipped frame
   pub bare_passes : (s t : State) → PassesOver s t → PassesOver (bare_state s) (bare_state t)
   bare_passes s t over =
       let f = over.frame in

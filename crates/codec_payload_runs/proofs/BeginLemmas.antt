@@ -1,5 +1,5 @@
--- Where the first unit comes first and whole, nothing is evicted and no pop is made too early, the released units are a
--- beginning of those that were sent.
+-- If the first unit comes first and whole, nothing is evicted and no pop is too early, the released units are a beginning of the
+-- sent ones.
 use Rattle.std.proofs.Common.{◌≡◌, ◌∙◌, refl, sym, ap, ℕ, zero, suc, subst, List, [], Option, Some, None, Ok, Err}
 use Rattle.std.proofs.Common.{true, false, cond, ◌++◌, ◌+◌, ◌∷◌, ◌<◌, ◌≤◌, ◌⊎◌, ◌||◌, arith, length, map, inl, inr, ltb}
 use Rattle.std.specs.Prelude.{slice_get}
@@ -35,7 +35,7 @@ slice_some (y ∷ ys) zero p x l h = (y, refl)
 slice_some (y ∷ ys) (suc n) zero x l h = absurd (omega (arith, l))
 slice_some (y ∷ ys) (suc n) (suc p) x l h = slice_some ys n p x (omega (arith, l)) h
 
--- where no more frames are there than are held back, the frame that is due starts right after the cutoff
+-- if there are no more frames than are held back, the frame that is due starts right after the cutoff
 due_starts : (s : State) (fs : List CompleteFrame) (f : CompleteFrame) → due_among s fs ≡ Some f → length fs ≤ s.hold_back → starts_right_after s.cutoff f.first ≡ true
 due_starts s [] f h few = absurd (cc)
 due_starts s (g ∷ gs) f h few =
@@ -60,7 +60,7 @@ module _ (c : Setting) where
   abbrev IsAt : ℕ → State → Type 0
   IsAt n s = (m : ℕ) × (s.cutoff ≡ Some m) × (m + 1 ≡ c.first + packets_before n c.units)
 
-  -- a frame that starts where a unit starts is that of the unit, whole
+  -- a frame that starts where a unit starts is the frame of that unit, whole
   at_start : (from : ℕ) (s : State) (f : CompleteFrame) (n : ℕ) → (beyond : Beyond c from s) (due : due_of s ≡ Some f) → (n ≤ from) → f.first ≡ c.first + packets_before n c.units
       → let frame = frame_due c from s f beyond due in (frame.place ≡ n) × (frame.missing ≡ [])
   at_start from s f n beyond due le begins =
@@ -77,7 +77,7 @@ module _ (c : Setting) where
   abbrev Patient : ℕ → State → Type 0
   Patient n s = Whole c n s ⊎ (length (frames s.held) ≤ s.hold_back)
 
-  -- where the pop is not too early, the frame that is due is that of the next unit
+  -- if the pop is not too early, the frame that is due is the frame of the next unit
   next_due : (n : ℕ) (s : State) (f : CompleteFrame) → (beyond : Beyond c n s) → IsAt n s → Patient n s → (due : due_of s ≡ Some f)
       → let frame = frame_due c n s f beyond due in (frame.place ≡ n) × (frame.missing ≡ [])
   next_due n s f beyond at patient due =
@@ -147,7 +147,7 @@ module _ (c : Setting) where
   abbrev StartsWhole : List Answer → Type 0
   StartsWhole answers = FirstIsWhole c.known c.splits c.units answers
 
-  -- where the first release is the first unit, whole, its frame starts with the first packet
+  -- if the first release is the first unit, whole, its frame starts with the first packet
   first_starts : (s t : State) (r : Release) → Beyond c 0 s → (out : Releases s r t) → IsWholeAt c.known c.splits c.units 0 r → out.frame.first ≡ c.first + packets_before 0 c.units
   first_starts s t r beyond out whole =
       let is = whole.0 in

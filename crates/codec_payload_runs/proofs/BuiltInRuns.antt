@@ -1,22 +1,21 @@
--- A run over a packetizer and a depacketizer that are built in: what each step does is told exactly.
+-- A run over a built-in packetizer and depacketizer: the effect of each step is stated exactly.
 use Rattle.std.proofs.Common.{inl, inr, ◌≡◌, ◌≢◌, ◌<◌, ◌^◌, ◌⊎◌, ◌∙◌, ap, refl, subst, ℕ, ◌+◌, List, [], ◌∷◌, ◌++◌, Bool, true, Option, Some, None, Result, Ok, Err, length, cond}
 use Rattle.std.specs.Prelude.{MatchOption, MatchResult, slice_get, nat_lt, ⊤}
 use Rattle.codec_payload_base.specs.declared.error.PacketError.{PacketError}
 use Rattle.codec_payload_base.specs.declared.error.PacketError.TheVariants as faults
 use Rattle.codec_payload_codec.proofs.CaseLemmas.{by_test}
+use Rattle.codec_payload_codec.proofs.CodecLemmas.{codec_payloads, packetizer_stays}
+use Rattle.codec_payload_buffer.proofs.OwnLemmas.{passes_stays, unpacks_stays}
 use Rattle.codec_payload_send.proofs.SendLemmas.{as_built_in}
-use Rattle.codec_payload_codec.specs.Depacketizers.{DepacketizerState, G711Depacketizing, OpusDepacketizing, ComfortNoiseDepacketizing, TeleDepacketizing, Vp8Depacketizing, Vp9Depacketizing}
-use Rattle.codec_payload_codec.specs.Depacketizers.{Av1Depacketizing, AmrWbDepacketizing, NullDepacketizing, BoxedDepacketizing, DepacketizerStep, is_built_in_depacketizer, is_codec}
+use Rattle.codec_payload_codec.specs.Depacketizers.{DepacketizerState, is_built_in_depacketizer, is_codec}
 use Rattle.codec_payload_runs.specs.Headline.{IsUnused}
 use Rattle.codec_payload_buffer.specs.Held.{Held, placed, number_of}
-use Rattle.codec_payload_codec.specs.Packetizers.{PacketizerState, G711Packetizing, G722Packetizing, OpusPacketizing, ComfortNoisePacketizing, TelePacketizing, Vp8Packetizing}
-use Rattle.codec_payload_codec.specs.Packetizers.{Vp9Packetizing, Av1Packetizing, AmrWbPacketizing, NullPacketizing, BoxedPacketizing, PacketizerStep, is_built_in}
+use Rattle.codec_payload_codec.specs.Packetizers.{PacketizerState, PacketizerStep, is_built_in}
 use Rattle.codec_payload_send.specs.Packets.{Packet, AreNumbered}
 use Rattle.codec_payload_runs.specs.Schedule as any
 use Rattle.codec_payload_runs.specs.Schedule.{Answer, RunState, payloads_of, fault_of, packets_sent, after_send, meta_of_push}
 use Rattle.codec_payload_send.specs.Sending.{Sample, AreAs}
 use Rattle.codec_payload_buffer.specs.Steps.{State, arrived, pushed, is_dropped, kept_to_limit, without_lowest, Unpacked, Unpacks, Gives, Passes, none, one_more, PassesOver, TakesFrame, Pops}
-use Rattle.codec_payload_runs.specs.Units.{payloads_by}
 use Rattle.codec_payload_buffer.specs.declared.buffer.frames.CompleteFrame.{CompleteFrame}
 use Rattle.codec_payload_runs.specs.declared.run.Sent.{Sent}
 use Rattle.codec_payload_runs.specs.declared.run.Step.{Step}
@@ -39,7 +38,7 @@ abbrev pub after_push : ℕ → ℕ → Option Packet → State → State
 after_push place clock_rate None s = s
 after_push place clock_rate (Some p) s = pushed s (arrived s.depacketizer (meta_of_push place clock_rate p) p.payload)
 
--- the buffer after step `place`, which names the packet of index k, pushed what that holds
+-- the buffer after step `place`, which names packet k, pushed the contents of that packet
 abbrev pub Pushing : Type 0
 Pushing = ℕ → ℕ → RunState → State
 
@@ -47,7 +46,7 @@ Pushing = ℕ → ℕ → RunState → State
 abbrev pub plainly : Pushing
 plainly place k s = after_push place s.payloading.clock_rate (slice_get s.sink.packets k) s.buffer
 
--- one step, at its place: the entry of a `Send` and the answer of a `Pop`, if it is one
+-- one step, at its place: the entry of a `Send` and the result of a `Pop`, if it is one
 abbrev pub DoesStep : Pushing → List Sample → ℕ → Step → RunState → List Sent → List Answer → RunState → Type 0
 DoesStep pushing samples place (steps.Send i mtu) s sends pops t =
     (pops ≡ []) × MatchOption (slice_get samples i) ((sends ≡ []) × (t ≡ s)) (λ sample. (entry : Sent) × (sends ≡ entry ∷ []) × SendsIt place mtu sample s entry t)
@@ -63,61 +62,15 @@ Runs pushing samples place (step ∷ later) s sends pops t =
     (send : List Sent) × (sends_later : List Sent) × (pop : List Answer) × (pops_later : List Answer) × (mid : RunState)
     × (sends ≡ send ++ sends_later) × (pops ≡ pop ++ pops_later) × DoesStep pushing samples place step s send pop mid × Runs pushing samples (place + 1) later mid sends_later pops_later t
 
--- a packetizer stays built in
-packetizer_stays : (p : PacketizerState) (mtu : ℕ) (frame : List ℕ) (answer : Result (List (List ℕ)) PacketError) (q : PacketizerState)
-    → PacketizerStep p mtu frame answer q → is_built_in q ≡ is_built_in p
-packetizer_stays G711Packetizing mtu frame answer q step = ap is_built_in step.1
-packetizer_stays G722Packetizing mtu frame answer q step = ap is_built_in step.1
-packetizer_stays OpusPacketizing mtu frame answer q step = ap is_built_in step.1
-packetizer_stays NullPacketizing mtu frame answer q step = ap is_built_in step.1
-packetizer_stays (Vp8Packetizing id) mtu frame answer q step = ap is_built_in step.3
-packetizer_stays (Vp9Packetizing sender) mtu frame answer q step = ap is_built_in step.3
-packetizer_stays ComfortNoisePacketizing mtu frame answer q step = ap is_built_in step.1
-packetizer_stays TelePacketizing mtu frame answer q step = ap is_built_in step.1
-packetizer_stays Av1Packetizing mtu frame answer q step = ap is_built_in step.1
-packetizer_stays (AmrWbPacketizing octet) mtu frame answer q step = ap is_built_in step.1
-packetizer_stays BoxedPacketizing mtu frame answer q step = ap is_built_in step
-
--- and so does a depacketizer
-depacketizer_stays : (d : DepacketizerState) (payload out : List ℕ) (extra : _) (answer : Result ⊤ PacketError) (e : DepacketizerState) (out' : List ℕ) (extra' : _)
-    → DepacketizerStep d payload out extra answer e out' extra' → is_built_in_depacketizer e ≡ is_built_in_depacketizer d
-depacketizer_stays G711Depacketizing payload out extra answer e out' extra' step = ap is_built_in_depacketizer step.1
-depacketizer_stays OpusDepacketizing payload out extra answer e out' extra' step = ap is_built_in_depacketizer step.1
-depacketizer_stays NullDepacketizing payload out extra answer e out' extra' step = ap is_built_in_depacketizer step.1
-depacketizer_stays (Vp8Depacketizing d) payload out extra answer e out' extra' step = ap is_built_in_depacketizer step.2
-depacketizer_stays (Vp9Depacketizing d) payload out extra answer e out' extra' step = ap is_built_in_depacketizer step.2
-depacketizer_stays ComfortNoiseDepacketizing payload out extra answer e out' extra' step = ap is_built_in_depacketizer step.1
-depacketizer_stays (TeleDepacketizing rate) payload out extra answer e out' extra' step = ap is_built_in_depacketizer step.1
-depacketizer_stays (Av1Depacketizing pending) payload out extra answer e out' extra' step = ap is_built_in_depacketizer step.2
-depacketizer_stays (AmrWbDepacketizing octet) payload out extra answer e out' extra' step = ap is_built_in_depacketizer step.1
-depacketizer_stays BoxedDepacketizing payload out extra answer e out' extra' step = ap is_built_in_depacketizer step
-
-unpacks_stays : (d : DepacketizerState) (ps : List Held) (u : Unpacked) (answer : Result Unpacked PacketError) (e : DepacketizerState) → Unpacks d ps u answer e
-    → is_built_in_depacketizer e ≡ is_built_in_depacketizer d
-unpacks_stays d [] u answer e all = ap is_built_in_depacketizer all.1
-unpacks_stays d (p ∷ ps) u answer e all = at all.0 all.4 (λ rest. unpacks_stays all.1 ps all.2 answer e rest)
-  where
-    here : is_built_in_depacketizer all.1 ≡ is_built_in_depacketizer d
-    here = depacketizer_stays d p.bytes u.bytes u.extra all.0 all.1 all.2.bytes all.2.extra all.3
-
-    at : (one : Result ⊤ PacketError) → MatchResult one (λ _. Unpacks all.1 ps all.2 answer e) (λ fault. (answer ≡ Err fault) × (e ≡ all.1))
-        → (Unpacks all.1 ps all.2 answer e → is_built_in_depacketizer e ≡ is_built_in_depacketizer all.1) → is_built_in_depacketizer e ≡ is_built_in_depacketizer d
-    at (Ok x) rest more = more rest ∙ here
-    at (Err fault) rest more = ap is_built_in_depacketizer rest.1 ∙ here
-
 abbrev pub IsOfCodec : State → Type 0
 IsOfCodec s = is_built_in_depacketizer s.depacketizer ≡ true
 
 pub passed_stays : (s t : State) → PassesOver s t → is_built_in_depacketizer t.depacketizer ≡ is_built_in_depacketizer s.depacketizer
 passed_stays s t passed = ap (λ (x : State). is_built_in_depacketizer x.depacketizer) passed.left ∙ unpacks_stays s.depacketizer _ _ _ passed.depacketizer passed.gives
 
-passes_stay : (s t : State) (over : _) → Passes s over t → is_built_in_depacketizer t.depacketizer ≡ is_built_in_depacketizer s.depacketizer
-passes_stay s t over none = refl
-passes_stay s u over (one_more {t = t} passes passed) = passed_stays t u passed ∙ passes_stay s t _ passes
-
 pops_stay : (s t : State) (answer : Answer) → Pops s answer t → is_built_in_depacketizer t.depacketizer ≡ is_built_in_depacketizer s.depacketizer
-pops_stay s t None pop = passes_stay s t pop.0 pop.1.0
-pops_stay s t (Some answer) pop = takes answer pop.1.2 ∙ passes_stay s pop.1.0 pop.0 pop.1.1
+pops_stay s t None pop = passes_stays s t pop.0 pop.1.0
+pops_stay s t (Some answer) pop = takes answer pop.1.2 ∙ passes_stays s pop.1.0 pop.0 pop.1.1
   where
     at_stall : (frame : CompleteFrame) (d : DepacketizerState) → (d ≡ pop.1.0.depacketizer) ⊎ Gives pop.1.0 frame (Err faults.OutOfMemory) d
         → is_built_in_depacketizer d ≡ is_built_in_depacketizer pop.1.0.depacketizer
@@ -196,7 +149,7 @@ pop_exactly samples place s t sends pops packetizer depacketizer step = (
   ap (λ (x : RunState). is_built_in_depacketizer x.buffer.depacketizer) step.6 ∙ (pops_stay s.buffer step.2 step.1 step.5 ∙ depacketizer),
 )
 
--- so the steps of such a run are told exactly
+-- so the steps of such a run are stated exactly
 pub runs_exactly : (samples : List Sample) (place : ℕ) (later : List Step) (s : RunState) (sends : List Sent) (pops : List Answer) (t : RunState)
     → is_built_in s.payloading.packetizer ≡ true → IsOfCodec s.buffer → any.Runs samples place later s sends pops t → Runs plainly samples place later s sends pops t
 runs_exactly samples place [] s sends pops t packetizer depacketizer run = run
@@ -220,20 +173,6 @@ runs_exactly samples place (steps.Push k ∷ later) s sends pops t packetizer de
 runs_exactly samples place (steps.Pop ∷ later) s sends pops t packetizer depacketizer run =
     let one = pop_exactly samples place s run.4 run.0 run.2 packetizer depacketizer run.7 in
     (run.0, run.1, run.2, run.3, run.4, run.5, run.6, run.7, runs_exactly samples (place + 1) later run.4 run.1 run.3 t one.0 one.1 run.8)
-
--- a packetizer that is built in makes payloads of a codec
-pub codec_payloads : (p : PacketizerState) → is_built_in p ≡ true → is_codec (payloads_by p) ≡ true
-codec_payloads G711Packetizing e = refl
-codec_payloads G722Packetizing e = refl
-codec_payloads OpusPacketizing e = refl
-codec_payloads NullPacketizing e = refl
-codec_payloads (Vp8Packetizing id) e = refl
-codec_payloads (Vp9Packetizing sender) e = refl
-codec_payloads ComfortNoisePacketizing e = refl
-codec_payloads TelePacketizing e = refl
-codec_payloads Av1Packetizing e = refl
-codec_payloads (AmrWbPacketizing octet) e = refl
-codec_payloads BoxedPacketizing e = e
 
 -- an unused run is of a codec on both sides
 pub unused_exactly : (samples : List Sample) (all_steps : List Step) (s : RunState) (sends : List Sent) (pops : List Answer) (t : RunState)

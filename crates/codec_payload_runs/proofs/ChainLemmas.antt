@@ -1,4 +1,4 @@
--- Where all is pushed before the first pop of a chain, its pops answer each unit in turn, whole, and then None for ever.
+-- If all packets are pushed before the first pop of a chain, its pops return each unit in order, whole, and then always None.
 use Rattle.std.proofs.Common.{◌≡◌, ◌≢◌, ◌∙◌, refl, sym, ap, ℕ, subst, List, [], Some, None, Ok, Err, true, ◌++◌, ◌+◌, ◌∷◌, ◌<◌, ◌≤◌, ◌⊎◌, inl, inr, eqb, arith, drop}
 use Rattle.std.specs.Prelude.{slice_get}
 use Rattle.std.proofs.lemmas.Bool.{cases_lt}
@@ -32,7 +32,7 @@ has_more n (x ∷ xs) ys (inl h) = elim (or_cases (eqb (number_of x) n) (has_num
 ]
 has_more n (x ∷ xs) ys (inr h) = let rest = has_more n xs ys (inr h) in grind (arith, rest)
 
--- the first of these pops has pushed the packet of that number before it, if there is a pop
+-- before the first of these pops, the packet with this number was pushed, if there is a pop
 abbrev pub PushesBefore : ℕ → List Turn → Type 0
 PushesBefore n [] = Unit {0}
 PushesBefore n (turn ∷ turns) = has_number n turn.stretch.pushes ≡ true
@@ -116,7 +116,7 @@ module _ (c : Setting) where
         still = λ n h. rest.still n (one.still n h);
       }
 
-  -- the row is full at the first pop
+  -- the range is full at the first pop
   pub full_at_pop : (start s : State) → Filling start s → MayGo c.units start.depacketizer start.contiguity → ((k : ℕ) → k < count c → has_number (c.first + k) s.held ≡ true) → Exactly 0 c.units s
   full_at_pop start s filling may there = record {
     row = full_row c.known c.clock_rate c.first c.kind c.faithful c.splits c.units c.lawful c.numbered start s filling there;

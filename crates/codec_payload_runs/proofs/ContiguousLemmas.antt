@@ -1,4 +1,4 @@
--- A released unit is contiguous exactly where its first number follows the last of the one before, or it is the first and
+-- A released unit is contiguous exactly if its first number follows the last number of the previous one, or it is the first and
 -- nothing was evicted before it.
 use Rattle.std.proofs.Common.{◌≡◌, ◌∙◌, refl, sym, ap, ℕ, subst, List, [], Option, Some, None, Ok, Err, Bool, true}
 use Rattle.std.proofs.Common.{false, ◌++◌, ◌+◌, ◌-◌, ◌∷◌, ◌<◌, ◌≤◌, ◌⊎◌, arith, length, inl, inr, ◌||◌, ◌&&◌, not, eqb}
@@ -53,8 +53,8 @@ OverCutoff (Some n) ns = Over n ns
 abbrev IsPast : ℕ → Option ℕ → Type 0
 IsPast n cutoff = (m : ℕ) × (cutoff ≡ Some m) × (n < m)
 
--- where the latest released unit ended, and whether packets were evicted by now: with none evicted the cutoff is that
--- number, with one evicted a packet above it was evicted
+-- the end of the latest released unit, and whether packets were evicted by now: with none evicted the cutoff is that number, with
+-- one evicted a packet above it was evicted
 abbrev pub IsTracked : Option ℕ → Bool → State → Type 0
 IsTracked None evicted s = (s.evicted ≡ evicted) × (s.evicted ≡ false → s.cutoff ≡ None)
 IsTracked (Some n) evicted s = (s.evicted ≡ false → s.cutoff ≡ Some n) × (s.evicted ≡ true → IsPast n s.cutoff)
@@ -91,7 +91,7 @@ tracked_left last evicted s t ns r a left known =
     let whole = take-append-drop (length ns - s.limit) ns in
     tracked_out last evicted s t (left_out s ns) (kept s ns) (subst Rise (sym whole) r) (subst (OverCutoff s.cutoff) (sym whole) a) left.cutoff left.evicted known
 
--- what counts in a stretch lies above the cutoff
+-- the numbers that count in a stretch are above the cutoff
 above_held : (n c : ℕ) (hs : List Held) → AllAbove c hs → has_number n hs ≡ true → c < n
 above_held n c [] a h = absurd (cc)
 above_held n c (p ∷ ps) a h = elim (or_cases (eqb (number_of p) n) (has_number n ps) h) [

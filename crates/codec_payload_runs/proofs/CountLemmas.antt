@@ -1,4 +1,4 @@
--- One entry and one answer comes of each step that has one.
+-- Each step that has an entry or a result gives one.
 use Rattle.std.proofs.Common.{◌≡◌, ◌∙◌, sym, ap, refl, ℕ, ◌+◌, List, [], ◌∷◌, ◌++◌, append_assoc, length, length-append, arith, Option, Some, None}
 use Rattle.std.proofs.lemmas.List.{append-nil}
 use Rattle.std.specs.Prelude.{MatchOption, slice_get}
@@ -76,7 +76,7 @@ pops_of_first (steps.Send i mtu) later = omega arith
 pops_of_first (steps.Push k) later = omega arith
 pops_of_first steps.Pop later = omega arith
 
--- the steps that are left count behind one
+-- the remaining steps count after one
 counts_on : (samples : List Sample) (step : Step) (later : List Step) (s mid t : RunState) (sends send sends_later : List Sent) (pops pop pops_later : List Answer)
     → sends ≡ send ++ sends_later → pops ≡ pop ++ pops_later
     → StepCounts samples step s send pop mid → IsCounted samples later mid sends_later pops_later t → IsCounted samples (step ∷ later) s sends pops t

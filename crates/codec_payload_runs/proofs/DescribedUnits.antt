@@ -1,5 +1,5 @@
--- A frame whose pieces are sent behind headers is one lawful unit: all of its packets, from the one that begins it to the
--- one with the marker.
+-- A frame whose pieces follow headers is one lawful unit: all of its packets, from the one that begins it to the one with the
+-- marker.
 use Rattle.std.proofs.Common.{◌≡◌, ◌∙◌, sym, ap, refl, subst, ℕ, ◌+◌, ◌-◌, ◌<◌, ◌%◌, ◌^◌, ◌||◌, List, [], ◌∷◌, ◌++◌, length, length-append, arith, Bool, true, false, Option, None, Ok, leb}
 use Rattle.std.proofs.lemmas.List.{append-nil}
 use Rattle.std.proofs.lemmas.Bool.Decides.{nat_tests}
@@ -10,7 +10,7 @@ use Rattle.codec_payload_base.specs.declared.interface.CodecExtra.{CodecExtra}
 use Rattle.codec_payload_base.specs.declared.interface.CodecExtra.TheVariants as extras
 use Rattle.codec_payload_codec.proofs.CaseLemmas.{by_test}
 use Rattle.codec_payload_codec.specs.Depacketizers.{DepacketizerKind, head_in, tail_in}
-use Rattle.codec_payload_codec.specs.Packetizers.{PacketizerState}
+use Rattle.codec_payload_codec.specs.Packetizers.{PacketizerState, payloads_by, may_split}
 use Rattle.codec_payload_runs.proofs.PieceUnits.{IsPiece, CarryPieces, TellAll, lawful_pieces, whole}
 use Rattle.codec_payload_runs.proofs.SendsUnits.{SendsUnits, no_units}
 use Rattle.codec_payload_runs.proofs.ReportLemmas.{IsSilent, AllSilent, IsTold, AllTold, NoHeads}
@@ -19,7 +19,7 @@ use Rattle.codec_payload_send.specs.Sending.{Sample, packet_for, packets_for, pa
 use Rattle.codec_payload_runs.specs.LawfulUnits.{payloads_sent}
 use Rattle.codec_payload_runs.specs.SentStream.{EndsWithTail}
 use Rattle.codec_payload_runs.specs.ReportedIds.{id_later, next_id}
-use Rattle.codec_payload_runs.specs.Units.{is_skipped, refusal_of, units_sent, each_whole, packetizer_after, payloads_by, may_split}
+use Rattle.codec_payload_runs.specs.Units.{is_skipped, refusal_of, units_sent, each_whole, packetizer_after}
 
 -- no piece is empty
 abbrev pub NoneEmpty : List (List ℕ) → Type 0
@@ -43,7 +43,7 @@ skipped_by (b ∷ bs) small is = is
 abbrev pub cut : (Bool → Bool → List ℕ) → PacketizerState → Sample → ℕ → Bool → ℕ → ℕ → List (List ℕ) → List Packet
 cut header after sample rtp_time first number place pieces = packets_from after sample rtp_time number place (described header first pieces)
 
--- each tells what each piece behind its header tells
+-- each reports the same as each piece after its header
 pub all_silent : (kind : DepacketizerKind) (header : Bool → Bool → List ℕ) → ((first last : Bool) (piece : List ℕ) → IsSilent kind (header first last ++ piece))
     → (after : PacketizerState) (sample : Sample) (rtp_time : ℕ) (first : Bool) (number place : ℕ) (pieces : List (List ℕ))
     → AllSilent kind (payloads_sent (cut header after sample rtp_time first number place pieces))
@@ -131,7 +131,7 @@ module _ (kind : DepacketizerKind) (Keeps : List ℕ → CodecExtra → Type 0) 
         (no_heads ((number + 1) % 2 ^ 64) 1 (more ∷ pieces)) (heads true false piece) (carry true number 0 (piece ∷ more ∷ pieces) full)
         (ends true number 0 piece (more ∷ pieces)) (tell piece (more ∷ pieces)) on.0 on.1
 
-    -- the frame gives no packets, or those of one unit
+    -- the frame gives no packets, or the packets of one unit
     pub described_sends : AnswersDescribed header reserve mtu sample.bytes (Ok payloads) → SendsUnits packetizer mtu sample rtp_time number payloads after
     described_sends answer =
         by_test (leb mtu reserve) (λ b. leb mtu reserve ≡ b → SendsUnits packetizer mtu sample rtp_time number payloads after)

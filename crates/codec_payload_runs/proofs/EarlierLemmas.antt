@@ -23,7 +23,7 @@ use Rattle.codec_payload_runs.specs.declared.run.Step.TheVariants as steps
 use Rattle.codec_payload_red.specs.RedLevels.{Sender}
 use Rattle.codec_payload_red.specs.RedRecovery.{Receiver, RecoveredPacket}
 
--- steps before that place pushed all of these
+-- steps before this place pushed all of these
 abbrev pub AllEarlier : ℕ → List Held → Type 0
 AllEarlier place [] = Unit {0}
 AllEarlier place (p ∷ ps) = (p.meta.received.0 < place) × AllEarlier place ps
@@ -96,7 +96,7 @@ earlier_pop place s t over (Some (Err fault)) found pop all =
       ],
     )
 
--- what a step pushes was pushed before the next step
+-- the pushes of a step happened before the next step
 abbrev pub PushesEarlier : Pushing → Type 0
 PushesEarlier pushing = (place k : ℕ) (s : RunState) → AllEarlier place s.buffer.held → AllEarlier (place + 1) (pushing place k s).held
 
@@ -130,7 +130,7 @@ plain_one place clock_rate (Some p) s all =
 pub plain_earlier : PushesEarlier plainly
 plain_earlier place k s all = plain_one place s.payloading.clock_rate (slice_get s.sink.packets k) s.buffer all
 
--- what is recovered from a packet
+-- the packets recovered from a packet
 recovered_earlier : (place clock_rate pt : ℕ) (carrier : Packet) (d : DepacketizerState) (xs : List RecoveredPacket)
     → AllEarlier (place + 1) (map (λ (x : RecoveredPacket). arrived d (meta_of_recovered place clock_rate pt carrier x) x.bytes) xs)
 recovered_earlier place clock_rate pt carrier d [] = tt

@@ -1,4 +1,4 @@
--- What the entries of a run tell of its sink, and that its premises can be met.
+-- What the entries of a run say about its sink, and that its premises can be met.
 use Rattle.std.proofs.Common.{◌≡◌, ◌≢◌, ◌∙◌, refl, sym, ap, ℕ, zero, suc, subst, List, [], Option, Some, None, ◌+◌, ◌∷◌, ◌<◌, ◌≤◌, inl, inr, arith, length}
 use Rattle.std.specs.Prelude.{slice_get, MatchOption}
 use Rattle.std.proofs.lemmas.List.{length-append}
@@ -12,7 +12,7 @@ use Rattle.codec_payload_runs.specs.declared.run.Sent.{Sent}
 use Rattle.codec_payload_runs.specs.declared.run.Step.{Step}
 use Rattle.codec_payload_runs.specs.declared.run.Step.TheVariants as steps
 
--- an entry tells of the step that made it, and up to which index the sink holds packets after it
+-- an entry describes the step that made it, and the number of packets in the sink after it
 pub record IsEntryOf (place : ℕ) (s mid : RunState) (entry : Sent) : Type 0 where
   pub at : entry.step ≡ place
   pub reach : entry.first + entry.count ≡ length mid.sink.packets

@@ -1,4 +1,4 @@
--- Where everything was pushed before the first pop, the pops answer each unit in turn, whole, and then None for ever.
+-- If everything was pushed before the first pop, the pops return each unit in order, whole, and then always None.
 use Rattle.std.proofs.Common.{◌≡◌, ◌≢◌, ◌∙◌, refl, sym, ap, ℕ, suc, ◌^◌, subst, List, [], Option, Some, None, Result, Ok, Err, Bool, true, false, ◌+◌, ◌∷◌, ◌<◌, ◌≤◌, inl, inr, arith, length, ◌||◌}
 use Rattle.std.specs.Prelude.{MatchResult}
 use Rattle.std.proofs.lemmas.Bool.{cases_lt}
@@ -22,7 +22,7 @@ use Rattle.codec_payload_runs.specs.Exact.{IsWhole, AnswersAll}
 use Rattle.codec_payload_buffer.specs.Frames.{frames}
 use Rattle.codec_payload_runs.specs.Headline.{ArePushesBy}
 use Rattle.codec_payload_buffer.specs.Held.{Held, Rises, has_number, between, above}
-use Rattle.codec_payload_codec.specs.Packetizers.{PacketizerState, Vp9Packetizing}
+use Rattle.codec_payload_codec.specs.Packetizers.{PacketizerState, Vp9Packetizing, payloads_by}
 use Rattle.codec_payload_send.specs.Packets.{Packet, AreNumbered}
 use Rattle.codec_payload_base.specs.declared.interface.Vp9PacketizerMode.{Vp9PacketizerMode}
 use Rattle.codec_payload_base.specs.declared.interface.Vp9PacketizerMode.TheVariants.{Flexible, NonFlexible}
@@ -36,16 +36,15 @@ use Rattle.codec_payload_buffer.specs.Steps.{Unpacked, Unpacks, nothing_unpacked
 use Rattle.codec_payload_buffer.specs.declared.buffer.frames.CompleteFrame.{CompleteFrame}
 use Rattle.codec_payload_buffer.specs.declared.buffer.unit.RtpMeta.{RtpMeta}
 use Rattle.codec_payload_buffer.specs.declared.contiguity.Contiguity.{Contiguity}
-use Rattle.codec_payload_runs.specs.Units.{payloads_by}
 
--- taken whole and in order from there, each unit may go out
+-- accepted whole and in order from there, each unit may be released
 abbrev pub MayGo : List SentUnit → DepacketizerState → Contiguity → Type 0
 MayGo [] d c = Unit {0}
 MayGo (u ∷ us) d c =
     (ps : List Held) → payloads_held ps ≡ payloads_sent u.packets → (unpacked : Unpacked) (e : DepacketizerState) → Unpacks d ps nothing_unpacked (Ok unpacked) e
     → (seq : Bool) → ((checked c unpacked.extra seq).0 ≡ true) × MayGo us e (checked c unpacked.extra seq).2
 
--- by the law of contiguity: all units from place n on, after the one before them
+-- by the theorem of contiguity: all units from place n on, after the previous one
 pub may_go_all : (kind : DepacketizerKind) (splits : Bool) (first : Option ℕ) (n : ℕ) (units : List SentUnit) (d : DepacketizerState) (c : Contiguity) → AllLawful kind splits units
     → CarryIds first n units → n + length units < 2 ^ 63
     → kind_of_depacketizer d ≡ kind → Follows first n (read_by d) c → MayGo units d c
@@ -62,7 +61,7 @@ begins_in : (mode : Vp9PacketizerMode) (id : ℕ) (read : Option ReadId) (c : Co
 begins_in NonFlexible id read c none kept = (none, kept)
 begins_in Flexible id read c none kept = tt
 
--- an unused buffer stands before the first unit
+-- an unused buffer is before the first unit
 pub begins : (packetizer : PacketizerState) (read : Option ReadId) (c : Contiguity) → read ≡ None → c ≡ contiguity_for (payloads_by packetizer) → Follows (next_id packetizer) 0 read c
 begins (Vp9Packetizing sender) read c none kept = begins_in sender.mode sender.picture_id read c none kept
 begins packetizer read c none kept = tt
@@ -85,7 +84,7 @@ or_true true = refl
 or_true false = refl
 
 module _ (known : ℕ → Packet → RtpMeta → Type 0) (clock_rate first : ℕ) (kind : DepacketizerKind) (faithful : IsFaithful known clock_rate kind) (splits : Bool) (all : List SentUnit) where
-  -- what holds from the first pop on: exactly the packets of `rest` are held, which have the indices from k on
+  -- the facts from the first pop on: exactly the packets of `rest` are held, which have the indices from k on
   pub record IsExactly (k : ℕ) (rest : List SentUnit) (s : State) : Type 0 where
     pub row : Exact known clock_rate kind faithful k (packets_of rest) s.held
     pub rises : Rises s.held
@@ -101,7 +100,7 @@ module _ (known : ℕ → Packet → RtpMeta → Type 0) (clock_rate first : ℕ
   below_cutoff None n k e l = absurd (omega (arith, e, l))
   below_cutoff (Some c) n k e l = grind (arith, nat_tests, e, l)
 
-  -- each number of the row is held
+  -- each number of the range is held
   row_has : (k j : ℕ) (rest : List Packet) (ps : List Held) → AreNumbered (first + k) rest → Exact known clock_rate kind faithful k rest ps → k ≤ j
       → j < k + length rest → has_number (first + j) ps ≡ true
   row_has k j [] [] numbers row le l = absurd (omega (arith, le, l))
@@ -128,7 +127,7 @@ module _ (known : ℕ → Packet → RtpMeta → Type 0) (clock_rate first : ℕ
   nothing_held k [] row = refl
   nothing_held k (p ∷ ps) row = absurd row
 
-  -- once all units are out, a pop answers None and changes nothing
+  -- once all units are released, a pop returns None and changes nothing
   pop_none : (k : ℕ) (s t : State) (a : Answer) → IsExactly k [] s → Pops s a t → (a ≡ None) × (t ≡ s)
   pop_none k s t a exactly pop = at a pop
     where
@@ -149,7 +148,7 @@ module _ (known : ℕ → Packet → RtpMeta → Type 0) (clock_rate first : ℕ
         | inr refusal ↦ absurd (not_due refusal.frame pop.1.0 (none_passed s pop.1.0 pop.0 never pop.1.1) refusal.is_due)
       ]
 
-  -- the next unit stands first in the row
+  -- the next unit is first in the range
   pub record IsFront (k : ℕ) (u : SentUnit) (us : List SentUnit) (s : State) : Type 0 where
     pub frame : CompleteFrame
     pub is_due : due_of s ≡ Some frame
@@ -258,7 +257,7 @@ module _ (known : ℕ → Packet → RtpMeta → Type 0) (clock_rate first : ℕ
       sound : (fault : PacketError) (r : State) → Refuses s fault r → ⊥
       sound fault r refusal = refusal.not_memory (given (Err fault) refusal.depacketizer (gives_unit refusal.frame refusal.is_due (Err fault) refusal.depacketizer refusal.gives)).1
 
-  -- what a pop answers, and what the later ones do
+  -- the result of a pop, and the results of the later ones
   pub pop_answers : (k : ℕ) (rest : List SentUnit) (s t : State) (a : Answer) (answers : List Answer) → IsExactly k rest s → a ≢ Some (Err faults.OutOfMemory) → Pops s a t
       → ((n : ℕ) (left : List SentUnit) → IsExactly n left t → AnswersAll known n left answers) → AnswersAll known k rest (a ∷ answers)
   pop_answers k [] s t a answers exactly memory pop later =

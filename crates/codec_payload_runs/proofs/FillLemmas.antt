@@ -1,4 +1,4 @@
--- Where everything is pushed into an unused buffer with room for it, exactly the packets that were sent are held.
+-- If everything is pushed into an unused buffer with room for it, exactly the sent packets are held.
 use Rattle.std.proofs.Common.{◌≡◌, ◌∙◌, refl, ap, ℕ, subst, List, [], Option, Some, None, Bool, true, false, cond, ◌+◌, ◌-◌, ◌∷◌, ◌<◌, ◌≤◌, inl, inr, arith, length, drop, ltb, ◌||◌}
 use Rattle.std.specs.Prelude.{slice_get}
 use Rattle.std.proofs.lemmas.Bool.{cases_lt}
@@ -27,7 +27,7 @@ from_above : (n m : ℕ) (hs : List Held) → m ≡ n + 1 → AllAbove n hs → 
 from_above n m [] e a = tt
 from_above n m (p ∷ ps) e a = (omega (arith, a.0, e), from_above n m ps e a.1)
 
--- the number of a packet that goes in is held from then on
+-- the number of an accepted packet is held from then on
 has_here : (p : Held) (hs : List Held) → has_number p.meta.seq_no.0 (placed p hs) ≡ true
 has_here p hs = has_placed p.meta.seq_no.0 p hs ∙ grind (arith, nat_tests)
 
@@ -105,7 +105,7 @@ module _ (known : ℕ → Packet → RtpMeta → Type 0) (clock_rate first : ℕ
             (λ j le l. still_there (first + j) p ps (omega (arith, at, le)) (there j (omega (arith, le)) l)),
       )
 
-  -- what holds while an unused buffer, `start`, is filled
+  -- the facts while an unused buffer, `start`, is filled
   pub record IsFilling (start s : State) : Type 0 where
     pub beyond : IsBeyond known clock_rate first kind faithful splits all lawful numbered 0 s
     pub no_cutoff : s.cutoff ≡ None

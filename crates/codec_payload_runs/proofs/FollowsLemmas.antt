@@ -1,16 +1,17 @@
--- Units that are taken in order, fewer than half the circle of picture ids apart, may all go out.
+-- Units that are accepted in order, fewer than half the circle of picture ids apart, may all be released.
 use Rattle.std.proofs.Common.{◌≡◌, ◌∙◌, refl, sym, ap, subst, ℕ, zero, suc, ◌+◌, ◌-◌, ◌<◌, ◌≤◌, ◌%◌, ◌^◌, ◌⊎◌, inl, inr, arith, [], ◌∷◌, Bool, true, false, Option, Some, None, leb}
 use Rattle.std.proofs.lemmas.Bool.Decides.{nat_tests}
 use Rattle.codec_payload_base.specs.declared.interface.CodecExtra.{CodecExtra}
 use Rattle.codec_payload_base.specs.declared.interface.CodecExtra.TheVariants as extras
 use Rattle.codec_payload_base.specs.declared.interface.Vp9CodecExtra.{Vp9CodecExtra}
 use Rattle.codec_payload_buffer.specs.ContiguityTable.{both_ids, checked, kept_by, no_ids, verdict, verdict_with, verdict_after}
-use Rattle.codec_payload_runs.specs.ReportedIds.{ReadId, ahead, IsNextId, is_absent, lacks_base, TellsPicture, Tells, id_later}
+use Rattle.codec_payload_codec.specs.BaseLayers.{is_absent, lacks_base}
+use Rattle.codec_payload_runs.specs.ReportedIds.{ReadId, ahead, IsNextId, TellsPicture, Tells, id_later}
 use Rattle.codec_payload_buffer.specs.declared.contiguity.FrameContiguityState.{FrameContiguityState}
 use Rattle.codec_payload_buffer.specs.declared.contiguity.Contiguity.{Contiguity}
 use Rattle.codec_payload_buffer.specs.declared.contiguity.Contiguity.TheVariants as kept
 
--- a unit that does not tell the id of the base layer may go out, follows where its numbers do, and changes nothing
+-- a unit without the id of the base layer may be released, is contiguous if its numbers are, and changes nothing
 verdict_lacks : (s : FrameContiguityState) (picture base layer : Option ℕ) (keyframe seq : Bool) → is_absent base ≡ true → verdict s picture base layer keyframe seq ≡ (true, seq, s)
 verdict_lacks s None base layer keyframe seq lacks = refl
 verdict_lacks s (Some picture) None layer keyframe seq lacks = refl
@@ -21,9 +22,9 @@ checked_lacks (kept.Vp8 s) (extras.Vp8 e) seq lacks = ap (kept_by kept.Vp8) (ver
 checked_lacks (kept.Vp9 s) (extras.Vp9 e) seq lacks = ap (kept_by kept.Vp9) (verdict_lacks s e.picture_id e.tl0_picture_id e.tid e.is_keyframe seq lacks)
 checked_lacks c extra seq lacks = refl
 
--- What holds before the unit at place n, where the unit before it was the last that was taken, and the first of all units
--- carries the id `first`: what was read last, and what is kept.
--- After a unit was taken both ids are kept, the extended one being the one that was read.
+-- The facts before the unit at place n, if the unit before it was the last accepted one, and the first of all units carries the id
+-- `first`: the last id that was read, and the stored ids. After a unit was accepted both ids are stored, and the extended one is
+-- the one that was read.
 pub record IsAfter (first k : ℕ) (read : Option ReadId) (c : Contiguity) : Type 0 where
   pub picture : ℕ
   pub base : ℕ
@@ -39,19 +40,19 @@ Follows (Some first) (suc k) read c = IsAfter first k read c
 ahead_by : (a j : ℕ) → j < 32768 → ahead (a % 32768) ((a + j) % 32768) ≡ j
 ahead_by a j l = omega (arith, l)
 
--- what one more unit does: it may go out, and the same holds after it; and where no ids are carried, it follows where its
--- numbers do
+-- the effect of one more unit: it may be released, and the same facts apply after it; and if no ids are carried, it is contiguous
+-- if its numbers are
 pub record GoesOn (first : Option ℕ) (m : ℕ) (after : Option ReadId) (c : Contiguity) (extra : CodecExtra) (seq : Bool) : Type 0 where
   pub may : (checked c extra seq).0 ≡ true
   pub follows : Follows first (suc m) after (checked c extra seq).2
   pub plain : first ≡ None → (checked c extra seq).1 ≡ seq
 
--- what the table says of a frame of the base layer with both ids
+-- the verdict of the table on a frame of the base layer with both ids
 by_ids : (s : FrameContiguityState) (told : Vp9CodecExtra) (picture base : ℕ) (seq : Bool) → told.picture_id ≡ Some picture → told.tl0_picture_id ≡ Some base → told.tid ≡ Some 0
     → checked (kept.Vp9 s) (extras.Vp9 told) seq ≡ kept_by kept.Vp9 (verdict_with s.last_picture_id s.last_tl0_picture_id picture base (Some 0) told.is_keyframe)
 by_ids s told picture base seq has_picture has_base layer = rw (has_picture, has_base, layer) refl
 
--- a later picture of the base layer goes out, and its ids are kept
+-- a later picture of the base layer is released, and its ids are stored
 record IsTaken (picture base : ℕ) (answer : Bool × Bool × FrameContiguityState) : Type 0 where
   may : answer.0 ≡ true
   ids : answer.2 ≡ both_ids picture base
@@ -66,7 +67,7 @@ later_taken old old_base picture base keyframe l =
     at false high = rw high (record { may = refl; ids = refl })
 
 module _ (first m : ℕ) (before after : Option ReadId) (c : Contiguity) (extra : CodecExtra) (seq : Bool) (tells : TellsPicture ((first + m) % 32768) before extra after) where
-  -- by what was kept, if the unit is taken then and its extended id is not too high
+  -- by the stored ids, if the unit is then accepted and its extended id is not too high
   taken : (s : FrameContiguityState) → c ≡ kept.Vp9 s → tells.picture ≤ 32768 + m
       → IsTaken tells.picture tells.base (verdict_with s.last_picture_id s.last_tl0_picture_id tells.picture tells.base (Some 0) tells.told.is_keyframe)
       → GoesOn (Some first) m after c extra seq
@@ -103,8 +104,8 @@ module _ (first m : ℕ) (before after : Option ReadId) (c : Contiguity) (extra 
       let is : tells.picture ≡ was.picture + j = omega (arith, grown, was.small, le, few) in
       taken (both_ids was.picture was.base) was.is_kept (omega (arith, is, was.small, le)) (later_taken was.picture was.base tells.picture tells.base tells.told.is_keyframe (omega (arith, is, le)))
 
--- Each unit that is taken, whole or from a later head on, may go out, where it comes less than half the circle of ids after
--- the last one that was taken, or is the first. The law of contiguity: all that is ever used of ids.
+-- Each accepted unit, whole or from a later first packet on, may be released, if it comes less than half the circle of ids after
+-- the last accepted one, or is the first. This is the theorem of contiguity: the only use of ids.
 pub goes_on : (first : Option ℕ) (n m : ℕ) (before after : Option ReadId) (c : Contiguity) (extra : CodecExtra) (seq : Bool)
     → Follows first n before c → n ≤ m → (n ≡ 0) ⊎ (m < n + 16384) → m < 2 ^ 63 → Tells (id_later first m) before extra after → GoesOn first m after c extra seq
 goes_on None n m before after c extra seq here le window few tells =

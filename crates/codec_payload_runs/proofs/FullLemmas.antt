@@ -1,4 +1,4 @@
--- Where every packet is held, each pop releases the next unit.
+-- If every packet is held, each pop releases the next unit.
 use Rattle.std.proofs.Common.{◌≡◌, ◌∙◌, refl, ap, ℕ, suc, subst, List, [], Option, Some, None, Ok, Err, true, ◌++◌, ◌+◌, ◌-◌, ◌∷◌, ◌<◌, inl, inr, arith, length}
 use Rattle.std.proofs.lemmas.Bool.Decides.{nat_tests}
 use Rattle.codec_payload_base.specs.Time.{Time}
@@ -20,7 +20,7 @@ use Rattle.codec_payload_buffer.specs.Steps.{State, due_of, starts_right_after, 
 use Rattle.codec_payload_buffer.specs.declared.buffer.frames.CompleteFrame.{CompleteFrame}
 use Rattle.codec_payload_buffer.specs.declared.buffer.unit.RtpMeta.{RtpMeta}
 
--- no frame is passed over from s: so none in any number of steps
+-- no frame is skipped from s on: so none in any number of steps
 pub none_passed : (s t : State) (over : List CompleteFrame) → ((r : State) → PassesOver s r → ⊥) → Passes s over t → t ≡ s
 none_passed s t over never none = refl
 none_passed s u over never (one_more passes passed) = absurd (never u (subst (λ (x : State). PassesOver x u) (none_passed s _ _ never passes) passed))
@@ -110,7 +110,7 @@ module _ (known : ℕ → Packet → RtpMeta → Type 0) (clock_rate : ℕ) (kin
         l,
       )
 
--- where a frame is due, none is passed over and none is refused, the pop releases it unless memory is wanting
+-- if a frame is due, none is skipped and none is refused, the pop releases it unless memory runs out
 pub pop_releases : (s t : State) (a : Answer) (f : CompleteFrame) → due_of s ≡ Some f → ((r : State) → PassesOver s r → ⊥)
     → ((fault : PacketError) (r : State) → Refuses s fault r → ⊥) → (a ≡ Some (Err faults.OutOfMemory) → ⊥) → Pops s a t
     → (r : Release) × (a ≡ Some (Ok r)) × Releases s r t

@@ -1,4 +1,4 @@
--- A frame is passed over only after so many units in a row that no pop took.
+-- A frame is skipped only after a long series of units that no pop accepted.
 use Rattle.std.proofs.Common.{◌≡◌, refl, sym, ℕ, zero, suc, subst, List, [], Some, None, Ok, Err, true, false, Bool, ◌+◌, ◌∷◌, ◌<◌, ◌≤◌, ◌⊎◌, inl, inr, arith, take}
 use Rattle.std.proofs.lemmas.Bool.{cases_lt}
 use Rattle.std.proofs.lemmas.List.{length-append}
@@ -39,7 +39,7 @@ module _ (c : Setting) where
   start_more : (a b : ℕ) → a ≤ b → start_of a ≤ start_of b
   start_more a b l = omega (arith, before_more c.units a b l)
 
-  -- the frame that is due, at its place: where it starts and ends
+  -- the frame that is due, at its place: its start and its end
   frame_starts : (n m : ℕ) (s : State) (f : CompleteFrame) (beyond : Beyond c n s) (due : due_of s ≡ Some f) → m ≤ (frame_due c n s f beyond due).place → start_of m ≤ f.first
   frame_starts n m s f beyond due l = let frame = frame_due c n s f beyond due in omega (arith, frame.start, start_more m frame.place l)
 
@@ -49,7 +49,7 @@ module _ (c : Setting) where
   far_outside : (n m : ℕ) (s : State) (f : CompleteFrame) (beyond : Beyond c n s) (due : due_of s ≡ Some f) → m + 16384 ≤ (frame_due c n s f beyond due).place → Outside m f.last
   far_outside n m s f beyond due l = inr (omega (arith, frame_starts n (m + 16384) s f beyond due l, order_due s f due))
 
-  -- what lies beyond a frame that was passed over
+  -- the packets beyond a skipped frame
   over_beyond : (n : ℕ) (s t : State) (beyond : Beyond c n s) (p : PassesOver s t) → Beyond c ((frame_due c n s p.frame beyond p.is_due).place + 1) t
   over_beyond n s t beyond p =
       let frame = frame_due c n s p.frame beyond p.is_due in
@@ -63,7 +63,7 @@ module _ (c : Setting) where
   release_ends : (n : ℕ) (s t : State) (r : Release) (beyond : Beyond c n s) (out : Releases s r t) (P : ℕ → Type 0) → P out.frame.last → AnswerEnds P (Some (Ok r))
   release_ends n s t r beyond out P is = subst P (sym (numbers_of s t r beyond.rises beyond.beyond out).last) is
 
-  -- frames that are passed over past the gap from place g on
+  -- frames that are skipped after the gap from place g on
   record IsPast (g : ℕ) (over : List CompleteFrame) (t : State) : Type 0 where
     next : ℕ
     far : g + 16384 ≤ next
@@ -90,7 +90,7 @@ module _ (c : Setting) where
       let frame = frame_due c is.next t p.frame is.beyond p.is_due in
       past_one g is.next t u _ is.beyond is.ends is.starts p (omega (arith, is.far, frame.not_before))
 
-  -- from the unit after place n, which was taken last: nothing is passed over, or only what is far
+  -- from the unit after place n, the last accepted one: nothing is skipped, or only frames far away
   passes_far : (n : ℕ) (s t : State) (over : List CompleteFrame) → Beyond c n s → Taken n s → Passes s over t → ((t ≡ s) × (over ≡ [])) ⊎ IsPast n over t
   passes_far n s t over beyond taken none = inl (refl, refl)
   passes_far n s u over beyond taken (one_more {t = t} passes p) = elim (passes_far n s t _ beyond taken passes) [
@@ -106,7 +106,7 @@ module _ (c : Setting) where
         ]
   ]
 
-  -- what pops take from there on, once a gap is passed
+  -- the units that pops release or skip from there on, once a gap is passed
   record IsPastIn (g : ℕ) (turns : List Turn) : Type 0 where
     ends : AllTakenEnd (Outside g) turns
     starts : AllPassedFrom (start_of (g + 16384)) turns

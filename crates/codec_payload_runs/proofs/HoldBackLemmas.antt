@@ -1,4 +1,4 @@
--- What is promised of runs does not rest on how many complete frames wait.
+-- The guarantees of runs do not depend on how many complete frames wait.
 use Rattle.std.proofs.Common.{ℕ}
 use Rattle.codec_payload_buffer.specs.Steps.{State}
 use Rattle.codec_payload_runs.proofs.TurnLemmas.{Setting, Beyond, IsReady}

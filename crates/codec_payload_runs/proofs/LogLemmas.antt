@@ -40,7 +40,7 @@ none_before place (x ∷ xs) later =
     let rest = none_before place xs (λ entry is. later entry (inr is)) in
     omega (arith, here, rest)
 
--- the entry of a step counts what the sink gained
+-- the entry of a step counts the packets that the sink gained
 gains : (samples : List Sample) (place i mtu : ℕ) (s mid : RunState) (sends : List Sent) (pops : List Answer) → DoesStep plainly samples place (steps.Send i mtu) s sends pops mid
     → (n : ℕ) → place < n → length s.sink.packets + sent_before n sends ≡ length mid.sink.packets
 gains samples place i mtu s mid sends pops step n l = at (slice_get samples i) step.1
@@ -103,7 +103,7 @@ pub record Logs (named : ℕ → ℕ → DepacketizerState → List Held) (place
   pub answers : map (λ (turn : Turn). turn.answer) turns ≡ pops
   pub left : end.now ≡ after
 
--- where the sink holds what was sent before the step, pushing what it names does what the step does
+-- if the sink holds the packets sent before the step, a push of the named packets has the effect of the step
 abbrev pub DoesAsNamed : Pushing → (ℕ → ℕ → DepacketizerState → List Held) → List Packet → ℕ → List Sent → Type 0
 DoesAsNamed pushing named packets clock_rate all =
     (place k : ℕ) (s : RunState) → take (sent_before place all) packets ≡ s.sink.packets → s.payloading.clock_rate ≡ clock_rate
@@ -111,7 +111,7 @@ DoesAsNamed pushing named packets clock_rate all =
 
 module _ (pushing : Pushing) (named : ℕ → ℕ → DepacketizerState → List Held) (packets : List Packet) (clock_rate : ℕ) (all : List Sent) (samples : List Sample)
     (does : DoesAsNamed pushing named packets clock_rate all) where
-  -- what was sent before a place is what the sink holds there
+  -- the packets sent before a place are in the sink there
   sent_by : (place : ℕ) (later : List Step) (s t : RunState) (sends before : List Sent) (pops : List Answer) → Runs pushing samples place later s sends pops t
       → t.sink.packets ≡ packets → all ≡ before ++ sends
       → ((n : ℕ) → place ≤ n → sent_before n before ≡ length s.sink.packets) → take (sent_before place all) packets ≡ s.sink.packets

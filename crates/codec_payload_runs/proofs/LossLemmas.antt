@@ -1,5 +1,5 @@
--- A unit that is held whole before a pop is released, or held whole in the end, or a push evicted one of its packets, or a
--- pop passed it over.
+-- A unit that is held whole before a pop is released, or held whole in the end, or a push evicted one of its packets, or a pop
+-- skipped it.
 use Rattle.std.proofs.Common.{◌≡◌, ◌∙◌, refl, sym, ap, ℕ, zero, suc, subst, List, [], Some, None, Ok, Err, Bool, true}
 use Rattle.std.proofs.Common.{false, ◌+◌, ◌-◌, ◌∷◌, ◌<◌, ◌≤◌, ◌⊎◌, ◌||◌, ◌&&◌, not, arith, length, take, drop, inl, inr}
 use Rattle.std.specs.Prelude.{slice_get, Contains}
@@ -67,7 +67,7 @@ module _ (c : Setting) where
         ]
       ]
 
-  -- the frame that is due, where a unit is held whole: it lies below the unit, or it is the unit's, whole
+  -- the frame that is due, if a unit is held whole: it is below the unit, or it is the unit's frame, whole
   pub due_whole : (from : ℕ) (s : State) (f : CompleteFrame) (place : ℕ) (u : SentUnit) (beyond : Beyond c from s) → slice_get c.units place ≡ Some u → Whole place s → (due : due_of s ≡ Some f)
       → (f.last < c.first + packets_before place c.units) ⊎ (let frame = frame_due c from s f beyond due in (frame.place ≡ place) × (frame.missing ≡ [])
       × (f.first ≤ c.first + packets_before place c.units) × (f.last + 1 ≡ c.first + packets_before (place + 1) c.units))
@@ -114,7 +114,7 @@ module _ (c : Setting) where
   passed_more : (place : ℕ) (f : CompleteFrame) (over : List CompleteFrame) → IsAmong c.first c.units place over → IsAmong c.first c.units place (f ∷ over)
   passed_more place f over is = (is.0, (suc is.1.0, omega (arith, is.1.1), is.1.2), is.2, is.3)
 
-  -- frames are passed over
+  -- frames are skipped
   pass_keeps : (from : ℕ) (s t : State) (over : List CompleteFrame) (place : ℕ) (u : SentUnit) → Beyond c from s → Passes s over t → slice_get c.units place ≡ Some u → Whole place s
       → IsAmong c.first c.units place over ⊎ Whole place t
   pass_keeps from s t over place u beyond none at whole = inr whole
@@ -168,7 +168,7 @@ module _ (c : Setting) where
         | inr out ↦ inr (out.0, record { from = out.1; to = out.2 }, out.3)
       ]
 
-  -- what becomes of a unit that is held whole after a pop
+  -- the fate of a unit that is held whole after a pop
   abbrev FateIn : ℕ → List Turn → List Turn → Stretch → Type 0
   FateIn place turns later end = Fate c.known c.first c.splits c.units place turns later end
 

@@ -12,17 +12,17 @@ use Rattle.codec_payload_base.specs.TelephoneReport.{TakesFirst, are_reports}
 use Rattle.codec_payload_base.specs.declared.error.PacketError.{PacketError}
 use Rattle.codec_payload_base.specs.declared.error.PacketError.TheVariants as faults
 use Rattle.codec_payload_base.specs.declared.interface.CodecExtra.{CodecExtra}
-use Rattle.codec_payload_runs.proofs.ReportLemmas.{is_quiet, quiet_tells}
+use Rattle.codec_payload_runs.proofs.ReportLemmas.{quiet_tells}
 use Rattle.codec_payload_codec.specs.Depacketizers.{DepacketizerState, DepacketizerKind, ComfortNoiseDepacketizing, TeleDepacketizing, AmrWbDepacketizing, ComfortNoisePayloads}
 use Rattle.codec_payload_codec.specs.Depacketizers.{TelePayloads, AmrWbPayloads, kind_of_depacketizer, DepacketizerStep, head_in, tail_in}
 use Rattle.codec_payload_buffer.specs.Held.{Held}
-use Rattle.codec_payload_codec.specs.Packetizers.{PacketizerState, ComfortNoisePacketizing, TelePacketizing, AmrWbPacketizing}
+use Rattle.codec_payload_codec.specs.Packetizers.{PacketizerState, ComfortNoisePacketizing, TelePacketizing, AmrWbPacketizing, is_quiet, payloads_by}
 use Rattle.codec_payload_send.specs.Packets.{Packet}
 use Rattle.codec_payload_runs.specs.Schedule.{payloads_of}
 use Rattle.codec_payload_runs.specs.LawfulUnits.{StartsWithHead, payloads_held, payloads_sent, IsLawful}
 use Rattle.codec_payload_runs.specs.SentStream.{SentUnit, IsReleaseOf}
 use Rattle.codec_payload_buffer.specs.Steps.{Unpacked, Unpacks, nothing_unpacked}
-use Rattle.codec_payload_runs.specs.Units.{canonical_units, each_whole, is_readable, payloads_by, bytes_of_frame, units_by}
+use Rattle.codec_payload_runs.specs.Units.{canonical_units, each_whole, is_readable, bytes_of_frame, units_by}
 
 -- a payload begins and ends a unit, and carries these bytes
 pub record IsCarried (kind : DepacketizerKind) (payload bytes : List ℕ) : Type 0 where
@@ -76,7 +76,7 @@ lawful_one kind bytes q carried = record {
   tells = λ missing rest whole head ps same d unpacked e is gives. quiet_tells kind carried.quiet ps d unpacked e is gives;
 }
 
--- what a codec of such units owes for a frame: no packets and no units, or one of each
+-- the condition on a codec of such units for a frame: no packets and no units, or one of each
 abbrev pub OneOrNone : PacketizerState → ℕ → List ℕ → List (List ℕ) → Type 0
 OneOrNone packetizer mtu frame payloads =
     ((payloads ≡ []) × (canonical_units packetizer mtu frame ≡ []))
@@ -93,7 +93,7 @@ none_refused skips refusal fault units is refused = rw (is, refused) refl
 pub all_sent : (skips : Bool) (refusal : Option PacketError) (units : List (List (List ℕ))) → skips ≡ false → refusal ≡ None → units_by skips refusal units ≡ units
 all_sent skips refusal units is taken = rw (is, taken) refl
 
--- an answer goes by what is skipped and refused; nothing is sent of either
+-- an answer depends on what is skipped and refused; nothing is sent for either
 pub by_answer : (skips : Bool) (refusal : Option PacketError) (Sends : List (List ℕ) → Type 0) (answer : Result (List (List ℕ)) PacketError)
     → AnswersBy skips refusal Sends answer → answer ≢ Err faults.OutOfMemory
     → (P : List (List ℕ) → Type 0) → (skips ≡ true → P []) → ((fault : PacketError) → skips ≡ false → refusal ≡ Some fault → P [])

@@ -1,4 +1,4 @@
--- A unit whose packets each carry a piece of it is lawful, by what a depacketizer makes of one packet.
+-- A unit whose packets each carry a piece of it is lawful, by the effect of one packet on a depacketizer.
 use Rattle.std.proofs.Common.{◌≡◌, ◌∙◌, sym, ap, refl, subst, ℕ, ◌<◌, inl, List, [], ◌∷◌, ◌++◌, append_assoc, true, false, Option, Some, None, Result, Ok, Err}
 use Rattle.std.specs.Prelude.{MatchResult}
 use Rattle.std.proofs.lemmas.List.{append-nil}
@@ -16,9 +16,9 @@ use Rattle.codec_payload_runs.specs.SentStream.{SentUnit, EndsWithTail, IsReleas
 use Rattle.codec_payload_buffer.specs.Steps.{Unpacked, Unpacks, nothing_unpacked}
 use Rattle.codec_payload_runs.specs.ReportedIds.{Tells, read_by}
 
--- `Keeps` says what holds of the bytes and the extra between the packets of a unit
+-- `Keeps` states the facts about the bytes and the codec-specific data between the packets of a unit
 module _ (kind : DepacketizerKind) (Keeps : List ℕ → CodecExtra → Type 0) where
-  -- a depacketizer of the kind, whatever it holds, appends the piece, and refuses nothing but for want of memory
+  -- a depacketizer of this type, in any state, appends the piece, and fails only if memory runs out
   abbrev pub IsPiece : List ℕ → List ℕ → Type 0
   IsPiece payload piece =
       (d : DepacketizerState) (out : List ℕ) (extra : CodecExtra) (one : Result (Unit {0}) PacketError) (e : DepacketizerState) (out' : List ℕ) (extra' : CodecExtra)
@@ -64,7 +64,7 @@ module _ (kind : DepacketizerKind) (Keeps : List ℕ → CodecExtra → Type 0) 
   all_given [] (piece ∷ pieces) hs d u answer e carry is keeps same gives = absurd carry
   all_given (p ∷ ps) [] hs d u answer e carry is keeps same gives = absurd carry
 
-  -- what each packet tells: the picture of that id, or none of a base layer
+  -- each packet reports: the picture with this id, or no base layer
   abbrev pub TellAll : Option ℕ → List Packet → Type 0
   TellAll None packets = AllSilent kind (payloads_sent packets)
   TellAll (Some id) packets = (id < 32768) × AllTold kind id (payloads_sent packets)

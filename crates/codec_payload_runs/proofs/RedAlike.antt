@@ -17,7 +17,7 @@ use Rattle.codec_payload_runs.specs.RedSchedule.{meta_of_block}
 use Rattle.codec_payload_runs.specs.RunOrder.{answer_with}
 use Rattle.codec_payload_runs.specs.SentStream.{SentUnit, packets_of}
 
--- what is sent does not depend on how that is shown
+-- the packets sent do not depend on how that is shown
 as_sent : (known : ℕ → Packet → RtpMeta → Type 0) (clock_rate first : ℕ) (kind : DepacketizerKind) (f g : IsFaithful known clock_rate kind) (splits : Bool)
     (units : List SentUnit) (l m : AllLawful kind splits units)
     (n o : AreNumbered first (packets_of units)) (ps : List Held) → AllSent known clock_rate first kind f splits units l n ps → AllSent known clock_rate first kind g splits units m o ps

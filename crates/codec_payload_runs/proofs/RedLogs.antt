@@ -1,4 +1,4 @@
--- What is promised of whole runs with RED, from their logs.
+-- The guarantees of whole runs with RED, from their logs.
 use Rattle.std.specs.Prelude.{slice_get, option_map}
 use Rattle.std.specs.List.{AllByRecursion}
 use Rattle.std.proofs.Common.{◌≡◌, ◌∙◌, refl, sym, ap, subst, List, [], Option, None, Some, Bool, false, true, ℕ, zero, suc, ◌+◌, ◌==◌, ◌++◌, ◌∷◌, ◌<◌, inl, inr, arith, length, map, take}
@@ -7,7 +7,8 @@ use Rattle.std.proofs.lemmas.List.{length-map}
 use Rattle.std.proofs.lemmas.Option.{slice_get-map, slice_get_within}
 use Rattle.codec_payload_buffer.proofs.MemberLemmas.{IsIn, in_contains}
 use Rattle.codec_payload_runs.proofs.BeginLemmas.{begins_from}
-use Rattle.codec_payload_runs.proofs.BuiltInRuns.{Runs, codec_payloads}
+use Rattle.codec_payload_runs.proofs.BuiltInRuns.{Runs}
+use Rattle.codec_payload_codec.proofs.CodecLemmas.{codec_payloads, marker_free}
 use Rattle.codec_payload_runs.proofs.ChainLemmas.{PushesBefore, pushed_before, answers_all}
 use Rattle.codec_payload_runs.proofs.ContiguousLemmas.{all_follow}
 use Rattle.codec_payload_runs.proofs.CountLemmas.{red_counts}
@@ -24,8 +25,7 @@ use Rattle.codec_payload_runs.proofs.TurnLemmas.{Setting, ArePushes, Chain, IsRe
 use Rattle.codec_payload_runs.proofs.UnitRows.{IsFaithful, held_as}
 use Rattle.codec_payload_codec.specs.Depacketizers.{DepacketizerState, DepacketizerKind, kind_of_depacketizer, is_codec, tail_in}
 use Rattle.codec_payload_buffer.specs.Held.{has_number}
-use Rattle.codec_payload_codec.specs.Packetizers.{PacketizerState, G711Packetizing, G722Packetizing, OpusPacketizing, ComfortNoisePacketizing, TelePacketizing}
-use Rattle.codec_payload_codec.specs.Packetizers.{Vp8Packetizing, Vp9Packetizing, Av1Packetizing, AmrWbPacketizing, NullPacketizing, BoxedPacketizing}
+use Rattle.codec_payload_codec.specs.Packetizers.{PacketizerState, Vp9Packetizing, is_video, may_split, payloads_by}
 use Rattle.codec_payload_buffer.specs.Steps.{arrived}
 use Rattle.codec_payload_buffer.specs.Stretches.{after_pushes}
 use Rattle.codec_payload_buffer.specs.declared.buffer.unit.RtpMeta.{RtpMeta}
@@ -40,11 +40,9 @@ use Rattle.codec_payload_runs.specs.RedSchedule.{remembered, all_remembered, all
 use Rattle.codec_payload_runs.specs.RunCounts.{sent_before}
 use Rattle.codec_payload_runs.specs.RunOrder.{AreStretches, AllFollowAsSaid}
 use Rattle.codec_payload_runs.specs.RunUnits.{NoneIsLost, NonePassedOver, FirstIsWhole, NoneEvicted, IsPatient, AreNext}
-use Rattle.codec_payload_runs.specs.RunValues.{is_video}
 use Rattle.codec_payload_runs.specs.Schedule.{RunState}
 use Rattle.codec_payload_runs.specs.SentStream.{SentUnit, packets_of}
 use Rattle.codec_payload_runs.specs.ReportedIds.{next_id}
-use Rattle.codec_payload_runs.specs.Units.{payloads_by, may_split}
 use Rattle.codec_payload_runs.specs.declared.run.Step.TheVariants as steps
 use Rattle.codec_payload_red.proofs.RedRunLemmas.{recovers_sent, output_reads, same_distances}
 use Rattle.codec_payload_red.specs.RedLevels.{Entry, Sender, is_accepted, wrapped}
@@ -52,33 +50,19 @@ use Rattle.codec_payload_red.specs.RedReading.{red_at}
 use Rattle.codec_payload_red.specs.RedRecovery.{RecoveredPacket, recovered}
 use Rattle.codec_payload_red.specs.RedRun.{sender_after, sender_at, IsCarried, AreOfSent}
 
--- no codec but those of video asks the marker where a unit ends
-marker_free : (packetizer : PacketizerState) → is_video packetizer ≡ false → (a b : Bool) (payload : List ℕ) → tail_in (payloads_by packetizer) a payload ≡ tail_in (payloads_by packetizer) b payload
-marker_free G711Packetizing none a b payload = refl
-marker_free G722Packetizing none a b payload = refl
-marker_free OpusPacketizing none a b payload = refl
-marker_free NullPacketizing none a b payload = refl
-marker_free (Vp8Packetizing id) none a b payload = absurd (cc)
-marker_free (Vp9Packetizing sender) none a b payload = absurd (cc)
-marker_free ComfortNoisePacketizing none a b payload = refl
-marker_free TelePacketizing none a b payload = refl
-marker_free Av1Packetizing none a b payload = absurd (cc)
-marker_free (AmrWbPacketizing octet) none a b payload = refl
-marker_free BoxedPacketizing none a b payload = refl
-
--- nor sends picture ids
+-- only codecs of video send picture ids
 no_ids : (packetizer : PacketizerState) → is_video packetizer ≡ false → next_id packetizer ≡ None
 no_ids (Vp9Packetizing sender) none = absurd (cc)
 no_ids packetizer none = refl
 
--- a packet that was recovered has what is known of the packet that was sent: of the primary block marker and values too
+-- the metadata of a recovered packet is known from the packet that was sent: for the primary block also marker and values
 meta_is : (place clock_rate pt : ℕ) (carrier q : Packet) (x : RecoveredPacket) (b : Bool) → x.is_primary ≡ b → x.seq_no ≡ q.number → x.time ≡ q.rtp_time
     → (b ≡ true → (carrier.marker ≡ q.marker) × (carrier.ext_vals ≡ q.ext_vals))
     → meta_of_recovered place clock_rate pt carrier x ≡ meta_of_block place clock_rate pt b q
 meta_is place clock_rate pt carrier q x true is number time same = let (marker, values) = same refl in rw (is, number, time, marker, values) refl
 meta_is place clock_rate pt carrier q x false is number time same = rw (is, number, time) refl
 
--- a recovered packet of that number is pushed
+-- a recovered packet with this number is pushed
 has_recovered : (place clock_rate pt : ℕ) (carrier : Packet) (d : DepacketizerState) (n : ℕ) (xs : List RecoveredPacket) (x : RecoveredPacket) → IsIn x xs → x.seq_no ≡ n
     → has_number n (map (λ (y : RecoveredPacket). arrived d (meta_of_recovered place clock_rate pt carrier y) y.bytes) xs) ≡ true
 has_recovered place clock_rate pt carrier d n [] x is number = absurd is
@@ -142,7 +126,7 @@ module _ (r : RedRan) (run : RunsAsRedSteps r) (is : IsRedFresh r) where
   number_is : (k : ℕ) (q : Packet) → slice_get sent k ≡ Some q → q.number ≡ s.sink.first + k
   number_is k q there = number_at (packets_of stream.units) s.sink.first k q all.numbered (subst (λ (ps : List Packet). slice_get ps k ≡ Some q) all.whole there)
 
-  -- ---- what is recovered
+  -- ---- recovered packets
 
   image_of : (k : ℕ) (p : Packet) → slice_get r.after.images k ≡ Some p → IsImage red r.with.budget sent k p
   image_of k p there = image_at red r.with.budget sent k p (subst (λ (ps : List Packet). slice_get ps k ≡ Some p) runs.1.images there)
@@ -205,7 +189,7 @@ module _ (r : RedRan) (run : RunsAsRedSteps r) (is : IsRedFresh r) where
     abbrev pub red_setting : Setting
     red_setting = setting r.samples r.steps s t stream is.unused is.readable (IsRedPushOf r) faithful units lawful packets
 
-    -- a step pushes what was sent
+    -- a step pushes packets that were sent
     sent_recovered : (place k : ℕ) (d : DepacketizerState) (p : Packet) (xs : List RecoveredPacket) → slice_get r.steps place ≡ Some (steps.Push k)
         → kind_of_depacketizer d ≡ payloads_by s.payloading.packetizer → k < sent_before place r.sends → IsImage red r.with.budget sent k p → AllByRecursion (WasSent r k) xs
         → ArePushes red_setting (map (λ (x : RecoveredPacket). arrived d (meta_of_recovered place s.payloading.clock_rate r.with.receiver.primary_pt p x) x.bytes) xs)
@@ -281,7 +265,7 @@ module _ (r : RedRan) (run : RunsAsRedSteps r) (is : IsRedFresh r) where
       let one = (recovers carrier p (image_of carrier p there)).all_kept j kept in
       (one.0, in_contains one.0 (recovered_in r.with.receiver p) one.1, one.2.number)
 
-  -- so it is pushed before the first pop where that one is
+  -- so it is pushed before the first pop if that one is
   pushed_first : (j carrier : ℕ) → IsPushedFirst r.steps r.sends carrier → IsInPacket r j carrier → carrier < length sent → PushesBefore (s.sink.first + j) found.turns
   pushed_first j carrier p inside l =
       let reach = entry_before (wrapped_by r.with red) r.samples 0 r.steps s t r.sends r.pops runs.0 p.entry (in_contains p.entry r.sends p.noted) p.place p.sent_before in
@@ -364,7 +348,7 @@ module _ (r : RedRan) (run : RunsAsRedSteps r) (is : IsRedFresh r) where
         (begins_from log_setting s.buffer log.turns log.end log_ready
         (nothing r.samples r.steps s t stream is.unused is.readable (IsRedPushOf r) faithful log.released.units log.lawful log.released.packets) log_chain first_whole none_evicted patient)
 
--- what is promised of a run with RED follows from its steps alone
+-- the guarantees of a run with RED follow from its steps alone
 pub red_promises : (r : RedRan) → RunsAsRedSteps r → KeepsRedPromises r
 red_promises r run = record {
   run_as_steps = run;

@@ -1,4 +1,4 @@
--- The premises of a run with RED can be met: three packets are sent, the first is lost, and stands in the second.
+-- The premises of a run with RED can be met: three packets are sent, the first is lost, and the second repeats it.
 use Rattle.std.proofs.Common.{◌≢◌, refl, ℕ, zero, suc, ◌<◌, List, [], ◌∷◌, Some, None, false, inl, inr, arith}
 use Rattle.std.specs.Prelude.{slice_get}
 use Rattle.codec_payload_base.specs.Extensions.{no_values}
@@ -68,7 +68,7 @@ is_fresh = record {
   };
 }
 
--- the first payload stands in the second packet
+-- the second packet contains the first payload
 in_second : IsIn run 0 1
 unfolding levels within
 in_second = inr (record {

@@ -1,4 +1,4 @@
--- A run with RED over unused parts is one without it, but for what its steps push.
+-- A run with RED over unused parts is a run without RED, except for the packets that its steps push.
 use Rattle.std.proofs.Common.{◌≡◌, ◌∙◌, refl, sym, ap, subst, ℕ, zero, suc, ◌+◌, List, [], ◌∷◌, ◌++◌, length, take, map, Option, Some, None, true}
 use Rattle.std.specs.Prelude.{slice_get}
 use Rattle.std.proofs.lemmas.List.{map-append}
@@ -21,7 +21,7 @@ use Rattle.codec_payload_red.specs.RedLevels.{Entry, Sender, recorded}
 use Rattle.codec_payload_red.specs.RedRecovery.{Receiver, RecoveredPacket}
 use Rattle.codec_payload_red.specs.RedRun.{sender_after, sender_at}
 
--- ---- what the sink holds in truth
+-- ---- the actual contents of the sink
 
 pub after_append : (s : Sender) (xs ys : List Entry) → sender_after s (xs ++ ys) ≡ sender_after (sender_after s xs) ys
 after_append s [] ys = refl
@@ -31,7 +31,7 @@ in_red_append : (s : Sender) (budget : ℕ) (ps qs : List Packet) → all_in_red
 in_red_append s budget [] qs = refl
 in_red_append s budget (p ∷ ps) qs = ap (λ (xs : List Packet). in_red s budget p ∷ xs) (in_red_append (recorded s p.payload p.rtp_time) budget ps qs)
 
--- the sink holds in RED what a sink without RED would hold, and the sender remembers it
+-- the sink holds in RED the packets that a sink without RED would hold, and the sender remembers them
 pub record IsInStep (red : Sender) (budget : ℕ) (s : RedState) : Type 0 where
   pub images : s.images ≡ all_in_red red budget s.plain.sink.packets
   pub sender : s.sender ≡ sender_after red (all_remembered s.plain.sink.packets)
@@ -53,7 +53,7 @@ in_step_kept red budget s t images sender packets now = record {
   sender = sender ∙ (now.sender ∙ ap (λ (ps : List Packet). sender_after red (all_remembered ps)) (sym packets));
 }
 
--- the image of an index is the packet of that index, wrapped by the sender that remembers those before it
+-- the image of an index is the packet with that index, wrapped by the sender that remembers the packets before it
 pub record IsImage (red : Sender) (budget : ℕ) (sent : List Packet) (k : ℕ) (p : Packet) : Type 0 where
   pub packet : Packet
   pub there : slice_get sent k ≡ Some packet
@@ -64,7 +64,7 @@ image_at red budget [] k p h = absurd (cc)
 image_at red budget (q ∷ sent) zero p h = record { packet = q; there = refl; is = let same : in_red red budget q ≡ p = cc in sym same }
 image_at red budget (q ∷ sent) (suc k) p h = let rest = image_at (recorded red q.payload q.rtp_time) budget sent k p h in record { packet = rest.packet; there = rest.there; is = rest.is }
 
--- a beginning in RED is a beginning of what is in RED
+-- a beginning in RED is a beginning of the packets in RED
 pub take_in_red : (red : Sender) (budget : ℕ) (n : ℕ) (ps : List Packet) → take n (all_in_red red budget ps) ≡ all_in_red red budget (take n ps)
 take_in_red red budget zero ps = refl
 take_in_red red budget (suc n) [] = refl
@@ -74,9 +74,10 @@ pub length_in_red : (red : Sender) (budget : ℕ) (ps : List Packet) → length 
 length_in_red red budget [] = refl
 length_in_red red budget (p ∷ ps) = ap suc (length_in_red (recorded red p.payload p.rtp_time) budget ps)
 
--- ---- what its steps push
+-- ---- the pushes of its steps
 
--- a packet of a sender that sent nothing before this run is put in RED, and what a receiver recovers from it is pushed
+-- a packet of a sender that sent nothing before this run is wrapped in RED, and the packets that a receiver recovers from it are
+-- pushed
 abbrev pub wrapped_by : Protection → Sender → Pushing
 wrapped_by w red place k s = after_pushes s.buffer (recovered_held place s.payloading.clock_rate w.receiver (slice_get (all_in_red red w.budget s.sink.packets) k) s.buffer.depacketizer)
 
@@ -95,7 +96,7 @@ red_exactly : (place clock_rate : ℕ) (receiver : Receiver) (o : Option Packet)
 red_exactly place clock_rate receiver None s t built_in pushes = (pushes, ap (λ (x : State). is_built_in_depacketizer x.depacketizer) pushes ∙ built_in)
 red_exactly place clock_rate receiver (Some p) s t built_in pushes = all_exactly place clock_rate receiver.primary_pt p (recovered_in receiver p) s t built_in pushes
 
--- the run without RED, and what it leaves in the sink and the sender
+-- the run without RED, and its effect on the sink and the sender
 pub runs_in_red : (w : Protection) (red : Sender) (samples : List Sample) (place : ℕ) (later : List Step) (s t : RedState) (sends : List Sent) (pops : List Answer)
     → is_built_in s.plain.payloading.packetizer ≡ true → IsOfCodec s.plain.buffer → IsInStep red w.budget s → RunsInRed w samples place later s sends pops t
     → Runs (wrapped_by w red) samples place later s.plain sends pops t.plain × IsInStep red w.budget t

@@ -1,4 +1,4 @@
--- What a sample that was sent in RED leaves, as a step of a run.
+-- The effect of a sample sent in RED, as a step of a run.
 use Rattle.std.proofs.Common.{◌≡◌, ◌≢◌, ◌∙◌, sym, ap, refl, subst, ℕ, ◌+◌, ◌-◌, ◌<◌, ◌%◌, ◌^◌, ◌⊎◌, inl, inr}
 use Rattle.std.proofs.Common.{List, [], ◌∷◌, ◌++◌, length, arith, append_assoc, length-append, Option, Some, None, Result, Ok, Err, OnOk, IfErr}
 use Rattle.std.proofs.lemmas.List.{append-nil, map-append}
@@ -80,7 +80,7 @@ sends_plainly before (p ∷ ps) images after sends sent long =
       subst (λ (qs : List Packet). Sends Keeps (plain_sink mid (sent ++ p ∷ [])) ps ps (plain_sink after qs)) (append_assoc sent (p ∷ []) ps) rest,
     )
 
--- numbers go on by how many packets there are
+-- numbers continue by the number of packets
 images_many : (before : RedSink SentPackets) (packets images : List Packet) (after : RedSink SentPackets) → Sends KeepsInRed before packets images after → length images ≡ length packets
 images_many before [] images after sends = ap length sends.0
 images_many before (p ∷ ps) images after sends = ap length sends.3 ∙ omega (arith, images_many sends.2 ps sends.1 after sends.5)
@@ -206,7 +206,7 @@ the_state plain images sender = record { plain = plain; images = images; sender 
 red_same : {x y : RunState} {ps qs : List Packet} {red red' : Sender} → x ≡ y → ps ≡ qs → red ≡ red' → the_state x ps red ≡ the_state y qs red'
 red_same plain images sender = rw (plain, images, sender) refl
 
--- what the sender remembers of the packet that was refused
+-- the sender's memory of the refused packet
 refused_kept : (before mid after : RedSink SentPackets) (begun : List Packet) (refused : Packet) (fault : PacketError)
     → sender_of mid ≡ sender_after (sender_of before) (all_remembered begun) → RefusesInRed mid refused fault after
     → (kept : List Packet) × ((kept ≡ begun) ⊎ (kept ≡ begun ++ refused ∷ [])) × (sender_of after ≡ sender_after (sender_of before) (all_remembered kept)) × (stream_of after ≡ stream_of mid)
@@ -263,7 +263,7 @@ stopped_in_red mtu sample p p' b before after sent long clock (inr beginning) =
       );
     }
 
--- the same, told of what the sink borrows
+-- the same, stated for what the sink borrows
 pub sent_as : (place mtu : ℕ) (sample : Sample) (p p' : Payloading) (b : State) (before after : RedSink SentPackets) (sink sink' : SentPackets)
     (sender sender' : Sender) (budget : ℕ) (sent : List Packet) (count : ℕ) (fault : Option PacketError) (entry : Sent)
     → stream_of before ≡ sink → sender_of before ≡ sender → budget_of before ≡ budget → stream_of after ≡ sink' → sender_of after ≡ sender'

@@ -1,23 +1,25 @@
--- What a unit tells of picture ids, from what each of its packets tells.
+-- The picture ids that a unit reports, from the reports of its packets.
 use Rattle.std.proofs.Common.{◌≡◌, ◌∙◌, ap, refl, sym, subst, ℕ, ◌<◌, List, [], ◌∷◌, ◌++◌, length, arith, Bool, true, false, leb, Option, Some, None, Result, Ok, Err}
 use Rattle.std.specs.Prelude.{MatchResult}
 use Rattle.std.proofs.lemmas.Bool.Decides.{nat_tests}
 use Rattle.codec_payload_base.specs.PictureIds.{extended_by}
-use Rattle.codec_payload_base.specs.TelephoneReport.{TakesFirst}
 use Rattle.codec_payload_base.specs.declared.picture_id.PictureId.TheVariants.{Long}
 use Rattle.codec_payload_base.specs.declared.error.PacketError.{PacketError}
 use Rattle.codec_payload_base.specs.declared.interface.CodecExtra.{CodecExtra}
-use Rattle.codec_payload_codec.specs.Depacketizers.{DepacketizerState, ComfortNoiseDepacketizing, TeleDepacketizing, Vp8Depacketizing, Vp9Depacketizing, Av1Depacketizing, AmrWbDepacketizing, DepacketizerKind}
-use Rattle.codec_payload_codec.specs.Depacketizers.{Vp8Payloads, Vp9Payloads, kind_of_depacketizer, DepacketizerStep, head_in, BoxedDepacketizing, BoxedPayloads}
+use Rattle.codec_payload_codec.proofs.StepLemmas.{quiet_step}
+use Rattle.codec_payload_codec.specs.BaseLayers.{lacks_base}
+use Rattle.codec_payload_codec.specs.Depacketizers.{DepacketizerState, DepacketizerKind}
+use Rattle.codec_payload_codec.specs.Depacketizers.{kind_of_depacketizer, DepacketizerStep, head_in}
+use Rattle.codec_payload_codec.specs.Packetizers.{is_quiet}
 use Rattle.codec_payload_buffer.specs.Held.{Held}
 use Rattle.codec_payload_send.specs.Packets.{Packet}
 use Rattle.codec_payload_runs.specs.LawfulUnits.{payloads_held, payloads_sent, StartsWithHead}
 use Rattle.codec_payload_buffer.specs.Steps.{Unpacked, Unpacks, nothing_unpacked}
-use Rattle.codec_payload_runs.specs.ReportedIds.{ReadId, IsNextId, TellsPicture, ahead, lacks_base, read_by, read_last}
+use Rattle.codec_payload_runs.specs.ReportedIds.{ReadId, IsNextId, TellsPicture, ahead, read_by, read_last}
 
--- Payloads that do not tell the id of the base layer
+-- Payloads that do not report the id of the base layer
 
--- after this payload it is told only if it was before
+-- after this payload it is reported only if it was before
 abbrev pub IsSilent : DepacketizerKind → List ℕ → Type 0
 IsSilent kind payload =
     (d : DepacketizerState) (out : List ℕ) (extra : CodecExtra) (x : Unit {0}) (e : DepacketizerState) (out' : List ℕ) (extra' : CodecExtra) → kind_of_depacketizer d ≡ kind → lacks_base extra ≡ true
@@ -27,7 +29,7 @@ abbrev pub AllSilent : DepacketizerKind → List (List ℕ) → Type 0
 AllSilent kind [] = Unit {0}
 AllSilent kind (payload ∷ payloads) = IsSilent kind payload × AllSilent kind payloads
 
--- nor does what is put together of them
+-- and the bytes reassembled from them do not report it either
 after_silent : (kind : DepacketizerKind) (ps : List Held) (p : Held) (d : DepacketizerState) (u unpacked v : Unpacked) (one : Result (Unit {0}) PacketError) (mid e : DepacketizerState)
     → IsSilent kind p.bytes → kind_of_depacketizer d ≡ kind → lacks_base u.extra ≡ true
     → DepacketizerStep d p.bytes u.bytes u.extra one mid v.bytes v.extra
@@ -44,30 +46,7 @@ silent_unpacks kind (p ∷ ps) d u unpacked e silent is lacks gives =
     after_silent kind ps p d u unpacked gives.2 gives.0 gives.1 e silent.0 is lacks gives.3 gives.4
     (λ is_on lacks_on rest. silent_unpacks kind ps gives.1 gives.2 unpacked e silent.1 is_on lacks_on rest)
 
--- payloads of these kinds never tell ids, whatever they are
-abbrev pub is_quiet : DepacketizerKind → Bool
-is_quiet Vp8Payloads = false
-is_quiet Vp9Payloads = false
-is_quiet BoxedPayloads = false
-is_quiet kind = true
-
-first_silent : (rate : ℕ) (payload out out' : List ℕ) (extra' : CodecExtra) → TakesFirst rate payload out out' extra' → lacks_base extra' ≡ true
-first_silent rate (a ∷ b ∷ c ∷ d ∷ rest) out out' extra' takes = ap lacks_base takes.1
-first_silent rate payload out out' extra' takes = absurd takes
-
-quiet_step : (d : DepacketizerState) (payload out : List ℕ) (extra : CodecExtra) (x : Unit {0}) (e : DepacketizerState) (out' : List ℕ) (extra' : CodecExtra)
-    → is_quiet (kind_of_depacketizer d) ≡ true → lacks_base extra ≡ true
-    → DepacketizerStep d payload out extra (Ok x) e out' extra' → (kind_of_depacketizer e ≡ kind_of_depacketizer d) × (lacks_base extra' ≡ true)
-quiet_step (Vp8Depacketizing d) payload out extra x e out' extra' quiet lacks step = absurd (cc)
-quiet_step (Vp9Depacketizing d) payload out extra x e out' extra' quiet lacks step = absurd (cc)
-quiet_step BoxedDepacketizing payload out extra x e out' extra' quiet lacks step = absurd (cc)
-quiet_step ComfortNoiseDepacketizing [] out extra x e out' extra' quiet lacks step = let none = step.0.0 in absurd (cc)
-quiet_step ComfortNoiseDepacketizing (b ∷ bs) out extra x e out' extra' quiet lacks step = (ap kind_of_depacketizer step.1, ap lacks_base step.0.1 ∙ lacks)
-quiet_step (TeleDepacketizing rate) payload out extra x e out' extra' quiet lacks step = (ap kind_of_depacketizer step.1, first_silent rate payload out out' extra' step.0.1)
-quiet_step (Av1Depacketizing pending) payload out extra x e out' extra' quiet lacks step = (ap kind_of_depacketizer step.2, ap lacks_base step.1.3)
-quiet_step (AmrWbDepacketizing octet) payload out extra x e out' extra' quiet lacks step = (ap kind_of_depacketizer step.1, ap lacks_base step.0.3 ∙ lacks)
-quiet_step d payload out extra x e out' extra' quiet lacks step = (ap kind_of_depacketizer step.1, ap lacks_base step.0.1 ∙ lacks)
-
+-- payloads that never report ids
 all_quiet : (kind : DepacketizerKind) (payloads : List (List ℕ)) → is_quiet kind ≡ true → AllSilent kind payloads
 all_quiet kind [] quiet = tt
 all_quiet kind (payload ∷ payloads) quiet = (
@@ -80,9 +59,9 @@ pub quiet_tells : (kind : DepacketizerKind) → is_quiet kind ≡ true → (ps :
     → Unpacks d ps nothing_unpacked (Ok unpacked) e → lacks_base unpacked.extra ≡ true
 quiet_tells kind quiet ps d unpacked e is gives = silent_unpacks kind ps d nothing_unpacked unpacked e (all_quiet kind (payloads_held ps) quiet) is refl gives
 
--- Payloads that carry a picture id and that of the base layer
+-- Payloads that carry a picture id and the id of the base layer
 
--- this payload tells that picture
+-- this payload reports that picture
 abbrev pub IsTold : DepacketizerKind → ℕ → List ℕ → Type 0
 IsTold kind id payload =
     (d : DepacketizerState) (out : List ℕ) (extra : CodecExtra) (x : Unit {0}) (e : DepacketizerState) (out' : List ℕ) (extra' : CodecExtra) → kind_of_depacketizer d ≡ kind
@@ -115,7 +94,7 @@ told_again id before mid after extra extra' small was on = record {
   read = on.read;
 }
 
--- what was told before some payloads is told behind them
+-- an id reported before some payloads is still reported after them
 after_told : (kind : DepacketizerKind) (id : ℕ) (start : Option ReadId) (ps : List Held) (p : Held) (d : DepacketizerState) (u unpacked v : Unpacked)
     (one : Result (Unit {0}) PacketError) (mid e : DepacketizerState) → IsTold kind id p.bytes → kind_of_depacketizer d ≡ kind
     → DepacketizerStep d p.bytes u.bytes u.extra one mid v.bytes v.extra
@@ -136,7 +115,7 @@ told_behind kind id start (p ∷ ps) d u unpacked e small told is was gives =
     after_told kind id start ps p d u unpacked gives.2 gives.0 gives.1 e told.0 is gives.3 gives.4
     (λ is_on here rest. told_behind kind id start ps gives.1 gives.2 unpacked e small told.1 is_on (told_again id start (read_by d) (read_by gives.1) u.extra gives.2.extra small was here) rest)
 
--- a unit of such payloads, one or more, tells the picture
+-- a unit of such payloads, one or more, reports the picture
 pub unit_told : (kind : DepacketizerKind) (id : ℕ) (ps : List Held) (d : DepacketizerState) (u unpacked : Unpacked) (e : DepacketizerState) → id < 32768 → 0 < length ps
     → AllTold kind id (payloads_held ps) → kind_of_depacketizer d ≡ kind
     → Unpacks d ps u (Ok unpacked) e → TellsPicture id (read_by d) unpacked.extra (read_by e)
@@ -152,7 +131,7 @@ extension_is_next (Some before) last id = λ low near.
     let is : leb (ahead last id) 16384 ≡ true = grind (arith, nat_tests, near) in
     rw is (omega (arith, low, near))
 
--- What a codec whose units carry both ids owes: each packet tells the unit's picture, and none but the first is a head
+-- The condition on a codec whose units carry both ids: each packet reports the unit's picture, and only the first one begins a unit
 
 abbrev pub NoHeads : DepacketizerKind → List Packet → Type 0
 NoHeads kind [] = Unit {0}

@@ -1,4 +1,4 @@
--- What is promised of whole runs, from their logs.
+-- The guarantees of whole runs, from their logs.
 use Rattle.std.specs.Prelude.{slice_get}
 use Rattle.std.proofs.Common.{◌≡◌, ◌∙◌, refl, sym, ap, subst, List, [], Option, None, Some, true, false, ℕ, zero, suc, ◌+◌, ◌++◌, ◌∷◌, ◌<◌, inl, arith, length, map, take, drop}
 use Rattle.std.proofs.lemmas.Bool.Decides.{nat_tests}
@@ -41,23 +41,23 @@ use Rattle.codec_payload_runs.specs.RunValues.{HaveValuesOfSamples, values_of_ru
 use Rattle.codec_payload_runs.specs.Schedule.{Answer, RunState, meta_of_push}
 use Rattle.codec_payload_send.specs.Sending.{Sample}
 use Rattle.codec_payload_runs.specs.SentStream.{AllEndWithTail, AreReadable, SentUnit, packets_of, EndsWithTail}
-use Rattle.codec_payload_runs.specs.Units.{payloads_by, may_split}
+use Rattle.codec_payload_codec.specs.Packetizers.{payloads_by, may_split}
 use Rattle.codec_payload_runs.specs.declared.run.Sent.{Sent}
 use Rattle.codec_payload_runs.specs.declared.run.Step.{Step}
 use Rattle.codec_payload_runs.specs.declared.run.Step.TheVariants as steps
 
--- what was sent by then was sent
+-- packets sent by then were sent
 pub slice_taken : (packets : List Packet) (n k : ℕ) (q : Packet) → slice_get (take n packets) k ≡ Some q → slice_get packets k ≡ Some q
 slice_taken packets n k q h = subst (λ (ps : List Packet). slice_get ps k ≡ Some q) (take-append-drop n packets) (slice_append (take n packets) (drop n packets) k q h)
 
--- and what was sent by then is among so many
+-- and packets sent by then are among the first n
 pub taken_within : (packets : List Packet) (n k : ℕ) (q : Packet) → slice_get (take n packets) k ≡ Some q → k < n
 taken_within packets zero k q h = absurd (cc)
 taken_within [] (suc n) k q h = absurd (cc)
 taken_within (p ∷ ps) (suc n) zero q h = omega arith
 taken_within (p ∷ ps) (suc n) (suc k) q h = omega (arith, taken_within ps n k q h)
 
--- and what was sent was sent by some time
+-- and every sent packet was sent by some time
 pub slice_take : (packets : List Packet) (n k : ℕ) → k < n → slice_get (take n packets) k ≡ slice_get packets k
 slice_take packets zero k l = absurd (omega (arith, l))
 slice_take [] (suc n) k l = refl
@@ -74,7 +74,7 @@ end_at kind [] place u ends is = absurd (cc)
 end_at kind (v ∷ us) zero u ends is = let same : v ≡ u = cc in subst (λ (x : SentUnit). EndsWithTail kind x.packets) same ends.0
 end_at kind (v ∷ us) (suc place) u ends is = end_at kind us place u ends.1 is
 
--- the log of a run is a chain: its steps push what was sent
+-- the log of a run is a chain: its steps push packets that were sent
 plain_chain : (c : Setting) (all_steps : List Step) (sends : List Sent) (turns : List Turn) (end : Stretch) (s : State) → Beyond (by_steps c all_steps sends) 0 s
     → IsLog (packets_of c.units) c.clock_rate sends 0 all_steps (begun s) turns end → Chain (by_steps c all_steps sends) s turns end
 plain_chain c all_steps sends turns end s beyond log = chain_of (by_steps c all_steps sends) all_steps named named_sent all_steps 0 (begun s) turns end refl 0 beyond
@@ -94,7 +94,7 @@ plain_chain c all_steps sends turns end s beyond log = chain_of (by_steps c all_
 
 module _ (samples : List Sample) (all_steps : List Step) (s t : RunState) (sends : List Sent) (pops : List Answer)
     (run : Runs plainly samples 0 all_steps s sends pops t) (unused : IsUnused s) (readable : AreReadable s.payloading.packetizer samples) where
-  -- what is known of pushes, and what a step pushes
+  -- the facts about pushes, and the packets that a step pushes
   abbrev Known : ℕ → Packet → RtpMeta → Type 0
   Known = IsPushOf all_steps sends s.payloading.clock_rate
 
@@ -160,7 +160,7 @@ module _ (samples : List Sample) (all_steps : List Step) (s t : RunState) (sends
       (λ d. ap (λ (o : Option Packet). has_number (s.sink.first + k) (held_of p.place s.payloading.clock_rate o d)) taken ∙ grind (arith, nat_tests, number))
       all_steps 0 (begun s.buffer) found.turns found.end refl found.is_log (inl (omega arith))
 
-  -- and all of them where all are pushed first
+  -- and all of them if all are pushed first
   pub exact : ReleasesUnits samples all_steps s sends pops t
   exact = record {
     in_order = safe;
@@ -183,7 +183,7 @@ module _ (samples : List Sample) (all_steps : List Step) (s t : RunState) (sends
     left = found.left;
   }
 
-  -- of video, a whole release tells the values of its sample
+  -- for video, a whole release reports the values of its sample
   pub has_values : (released : ReleasesInOrder samples all_steps s sends pops t) → HaveValuesOfSamples released
   has_values released video place r whole =
       let sent = sends_all samples all_steps s t unused stream in
@@ -257,7 +257,7 @@ only_sets_count samples all_steps other_steps s t u sends other_sends pops other
     (log_chain samples all_steps s t sends pops exactly unused readable log) other_chain same
     ∙ ap (map (answer_with bare_meta)) other.answers
 
--- what is promised of a run follows from its steps alone
+-- the guarantees of a run follow from its steps alone
 pub promises : (r : Ran) → RunsAsSteps r → KeepsPromises r
 promises r run =
     let exactly : IsFresh r → Runs plainly r.samples 0 r.steps r.before r.sends r.pops r.after = λ is. unused_exactly r.samples r.steps r.before r.sends r.pops r.after is.0 run in

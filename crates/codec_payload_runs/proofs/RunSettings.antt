@@ -1,6 +1,6 @@
--- What a run from unused parts is to the lemmas on its turns.
+-- How a run from unused parts meets the lemmas on its turns.
 use Rattle.std.proofs.Common.{◌≡◌, ◌∙◌, refl, sym, ap, subst, List, [], Option, None, Bool, false, ℕ, suc, ◌∷◌, ◌≤◌, ◌<◌, ◌^◌, arith, length}
-use Rattle.codec_payload_runs.proofs.BuiltInRuns.{codec_payloads}
+use Rattle.codec_payload_codec.proofs.CodecLemmas.{codec_payloads}
 use Rattle.codec_payload_runs.proofs.ChainLemmas.{Filling}
 use Rattle.codec_payload_runs.proofs.ContiguousLemmas.{IsTracked}
 use Rattle.codec_payload_runs.proofs.ExactLemmas.{MayGo, begins, may_go_all, no_more_units}
@@ -23,7 +23,7 @@ use Rattle.codec_payload_runs.specs.Schedule.{RunState}
 use Rattle.codec_payload_send.specs.Sending.{Sample}
 use Rattle.codec_payload_runs.specs.SentStream.{AreReadable, SentUnit, packets_of}
 use Rattle.codec_payload_runs.specs.ReportedIds.{id_later, next_id, read_by}
-use Rattle.codec_payload_runs.specs.Units.{payloads_by, may_split}
+use Rattle.codec_payload_codec.specs.Packetizers.{payloads_by, may_split}
 use Rattle.codec_payload_runs.specs.declared.run.Step.{Step}
 
 -- so lawful units with these packets are one list, and have the times of each other
@@ -34,7 +34,7 @@ times_of kind splits (u ∷ us) (v ∷ vs) a b e times =
     let same = same_front kind u.packets v.packets (packets_of us) (packets_of vs) a.0.ends b.0.ends e in
     ((times.0.0, subst (HasTime times.0.0) (sym same.0) times.0.1), times_of kind splits us vs a.1 b.1 same.1 times.1)
 
--- and tell the ids of each other
+-- and report each other's ids
 ids_of : (kind : DepacketizerKind) (splits : Bool) (first : Option ℕ) (n : ℕ) (us vs : List SentUnit) → AllLawful kind splits us → AllLawful kind splits vs
     → packets_of us ≡ packets_of vs → TellInTurn kind first n vs → TellInTurn kind first n us
 ids_of kind splits first n [] vs a b e told = tt
@@ -45,7 +45,7 @@ ids_of kind splits first n (u ∷ us) (v ∷ vs) a b e told =
 
 module _ (samples : List Sample) (all_steps : List Step) (s t : RunState) (stream : Streams samples all_steps s t) (unused : IsUnused s) (readable : AreReadable s.payloading.packetizer samples)
     (known : ℕ → Packet → RtpMeta → Type 0) (faithful : IsFaithful known s.payloading.clock_rate (payloads_by s.payloading.packetizer)) where
-  -- the units of the stream may go out one after another
+  -- the units of the stream may be released one after another
   pub may_go : MayGo stream.units s.buffer.depacketizer s.buffer.contiguity
   may_go =
       let kind = payloads_by s.payloading.packetizer in

@@ -89,8 +89,7 @@ module _ (known : ℕ → Packet → RtpMeta → Type 0) (clock_rate first : ℕ
   AllSent [] = Unit {0}
   AllSent (p ∷ ps) = IsSent p × AllSent ps
 
-  -- what holds of the buffer between the steps: it holds pushes of sent packets alone, and the units before `from` are
-  -- done with
+  -- the facts about the buffer between the steps: it holds only pushes of sent packets, and the units before `from` are finished
   pub record IsBeyond (from : ℕ) (s : State) : Type 0 where
     pub rises : Rises s.held
     pub beyond : IsAboveCutoff s.cutoff s.held
@@ -113,7 +112,7 @@ module _ (known : ℕ → Packet → RtpMeta → Type 0) (clock_rate first : ℕ
   pub number_of_sent : (p : Held) (s : IsSent p) → p.meta.seq_no.0 ≡ first + s.0
   number_of_sent p s = faithful.number s.0 s.1 p.meta s.3 ∙ number_at (packets_of all) first s.0 s.1 numbered s.2
 
-  -- a run of sent packets is a row of them
+  -- a run of sent packets is a range of them
   row_of_run : (k last : ℕ) (time : Time) (ps : List Held) → IsRun (first + k) last time ps → AllSent ps → RowOf known clock_rate kind faithful k (drop k (packets_of all)) ps
   row_of_run k last time [] run sent = absurd run
   row_of_run k last time (p ∷ []) run sent =
@@ -127,7 +126,7 @@ module _ (known : ℕ → Packet → RtpMeta → Type 0) (clock_rate first : ℕ
       let rest = row_of_run (k + 1) last time (r ∷ rs) (rw next at run.3) sent.1 in
       rw (drop_at (packets_of all) k i.1 (rw same at i.2)) (rw same at i.3, i.4, rest)
 
-  -- what is known of the packets of the frame that is due
+  -- the facts about the packets of the frame that is due
   pub record IsFrameOf (from : ℕ) (s : State) (f : CompleteFrame) : Type 0 where
     pub packets : List Held
     pub after : List Held
@@ -235,14 +234,14 @@ module _ (known : ℕ → Packet → RtpMeta → Type 0) (clock_rate first : ℕ
       (λ e. sound)
       (λ e. beyond_kept from (record s { held = placed p s.held }) (beyond_placed from s p i (grind (arith, e)) (grind (arith, e)) sound))
 
-  -- the frame that is due has left: what is held lies beyond its unit
+  -- the frame that was due has left: the held packets are beyond its unit
   pub beyond_without : (from : ℕ) (s : State) (f : CompleteFrame) (sound : IsBeyond from s) (due : due_of s ≡ Some f) (n : ℕ) → first + packets_before n all ≤ f.last + 1
       → (d : DepacketizerState) → kind_of_depacketizer d ≡ kind → (c : Contiguity) (mark : Bool) → IsBeyond n (without s f d c mark)
   beyond_without from s f sound due n floor d reads c mark =
       let frame = frame_of from s f sound due in
       record { rises = above_rises f.last s.held sound.rises; beyond = above_is_above f.last s.held; sent = subst AllSent (sym frame.left) frame.sent_after; floor = floor; reads = reads }
 
-  -- what the depacketizer answers for the frame that is due
+  -- the result of the depacketizer for the frame that is due
   pub given : (from : ℕ) (s : State) (f : CompleteFrame) (sound : IsBeyond from s) (due : due_of s ≡ Some f) (answer : Result Unpacked PacketError) (e : DepacketizerState) → Gives s f answer e
       → let frame = frame_of from s f sound due in (kind_of_depacketizer e ≡ kind)
       × MatchResult answer (λ unpacked. IsReleaseOf splits frame.sent frame.missing unpacked.bytes) (λ fault. fault ≡ faults.OutOfMemory)
@@ -263,7 +262,7 @@ module _ (known : ℕ → Packet → RtpMeta → Type 0) (clock_rate first : ℕ
   beyond_passes from s t over sound none = sound
   beyond_passes from s u over sound (one_more passes passed) = beyond_over from _ u (beyond_passes from s _ _ sound passes) passed
 
-  -- a release is that of the unit whose frame is due
+  -- a release is the unit whose frame is due
   pub released_at : (from : ℕ) (s t : State) (r : Release) (sound : IsBeyond from s) (out : Releases s r t) → let frame = frame_of from s out.frame sound out.is_due in
       (is : IsUnitAt known splits all frame.place r) × (is.missing ≡ frame.missing) × IsBeyond (frame.place + 1) t
   released_at from s t r sound out =
@@ -291,7 +290,7 @@ module _ (known : ℕ → Packet → RtpMeta → Type 0) (clock_rate first : ℕ
       let is = released_at from s t r sound out in
       (frame.place, frame.not_before, is.0, is.2)
 
-  -- and no fault but for memory is answered
+  -- and the only fault is out of memory
   pub not_refused : (from : ℕ) (s t : State) (fault : PacketError) → IsBeyond from s → Refuses s fault t → ⊥
   not_refused from s t fault sound refusal =
       refusal.not_memory (given from s refusal.frame sound refusal.is_due (Err fault) refusal.depacketizer refusal.gives).1
@@ -306,7 +305,7 @@ module _ (known : ℕ → Packet → RtpMeta → Type 0) (clock_rate first : ℕ
     reads = reads;
   }
 
--- what an unused sink holds after the run
+-- the contents of an unused sink after the run
 pub record SendsAll (s t : RunState) (units : List SentUnit) : Type 0 where
   pub whole : t.sink.packets ≡ packets_of units
   pub numbered : AreNumbered s.sink.first (packets_of units)

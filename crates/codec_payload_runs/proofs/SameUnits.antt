@@ -6,7 +6,7 @@ use Rattle.codec_payload_runs.proofs.UnitValues.{AllCarry, AreStripped}
 use Rattle.codec_payload_send.specs.Packets.{Packet}
 use Rattle.codec_payload_runs.specs.SentStream.{SentUnit, packets_of, AllEndWithTail, EndsWithTail}
 
--- where a list of packets is cut behind its first tail
+-- the cut of a list of packets after its first last packet
 pub same_front : (kind : DepacketizerKind) (xs ys as' bs : List Packet) → EndsWithTail kind xs → EndsWithTail kind ys → xs ++ as' ≡ ys ++ bs → (xs ≡ ys) × (as' ≡ bs)
 same_front kind [] ys as' bs a b e = absurd a
 same_front kind (x ∷ xs) [] as' bs a b e = absurd b

@@ -1,4 +1,4 @@
--- What a sent sample leaves, as a step of a run.
+-- The effect of a sent sample, as a step of a run.
 use Rattle.std.proofs.Common.{◌≡◌, ◌≢◌, ◌∙◌, sym, ap, refl, subst, ℕ, suc, ◌+◌, ◌-◌, ◌<◌, ◌%◌, ◌^◌, ◌⊎◌, inl, inr}
 use Rattle.std.proofs.Common.{List, [], ◌∷◌, ◌++◌, length, arith, length-append, Option, Some, None, Result, Ok, Err, OnOk, OnErr, IfErr}
 use Rattle.std.proofs.lemmas.List.{append-nil}
@@ -30,7 +30,7 @@ next_number s = s.first + length s.packets
 abbrev pub kept_packets : SentPackets → List Packet
 kept_packets s = s.packets
 
--- a sink in memory refuses for want of memory alone, and stays as it was
+-- a sink in memory refuses only if memory runs out, and is then unchanged
 abbrev pub Stays : SentPackets → Packet → PacketError → SentPackets → Type 0
 Stays before packet fault after = (fault ≡ faults.OutOfMemory) × (after ≡ before)
 

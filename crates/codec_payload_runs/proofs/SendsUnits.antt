@@ -1,12 +1,12 @@
--- What a codec owes for each sample.
+-- The condition on a codec for each sample.
 use Rattle.std.proofs.Common.{◌≡◌, ◌∙◌, sym, ap, refl, subst, ℕ, zero, suc, ◌+◌, List, [], ◌∷◌, ◌++◌, length, map, arith, true, Option, Some}
 use Rattle.std.specs.Prelude.{slice_get}
-use Rattle.codec_payload_codec.specs.Packetizers.{PacketizerState}
+use Rattle.codec_payload_codec.specs.Packetizers.{PacketizerState, payloads_by, may_split}
 use Rattle.codec_payload_runs.specs.ReportedIds.{id_later, next_id}
 use Rattle.codec_payload_send.specs.Sending.{Sample, packets_for}
 use Rattle.codec_payload_runs.specs.LawfulUnits.{AllLawful}
 use Rattle.codec_payload_runs.specs.SentStream.{SentUnit, packets_of}
-use Rattle.codec_payload_runs.specs.Units.{canonical_units, is_readable, packetizer_after, payloads_by, may_split}
+use Rattle.codec_payload_runs.specs.Units.{canonical_units, is_readable, packetizer_after}
 
 -- the units carry the ids that come n units after `first` and later, one after another
 abbrev pub CarryIds : Option ℕ → ℕ → List SentUnit → Type 0
@@ -24,7 +24,7 @@ carry_shift later first k n (u ∷ us) same carry =
     let e : k + suc n ≡ suc (k + n) = omega arith in
     (carry.0 ∙ same n, subst (λ (m : ℕ). CarryIds first m us) e (carry_shift later first k (suc n) us same carry.1))
 
--- units, and then more, counted from where the first end
+-- units, and then more, counted from the end of the first
 pub carry_on : (first later : Option ℕ) (us vs : List SentUnit) → CarryIds first 0 us → ((m : ℕ) → id_later later m ≡ id_later first (length us + m))
     → CarryIds later 0 vs → CarryIds first 0 (us ++ vs)
 carry_on first later us vs a same b =
@@ -40,7 +40,7 @@ carry_behind first n (suc m) (v ∷ us) u carry is = let e : suc n + m ≡ n + s
 pub carry_at : (first : Option ℕ) (m : ℕ) (us : List SentUnit) (u : SentUnit) → CarryIds first 0 us → slice_get us m ≡ Some u → u.id ≡ id_later first m
 carry_at first m us u carry is = let e : 0 + m ≡ m = omega arith in carry_behind first 0 m us u carry is ∙ ap (id_later first) e
 
--- what a codec owes for each sample: its packets are those of lawful units, which are the canonical ones
+-- the condition on a codec for each sample: its packets form lawful units, the canonical ones
 pub record SendsUnits (packetizer : PacketizerState) (mtu : ℕ) (sample : Sample) (rtp_time number : ℕ) (payloads : List (List ℕ)) (after : PacketizerState) : Type 0 where
   pub units : List SentUnit
   pub canonical : map (λ (u : SentUnit). u.parts) units ≡ canonical_units packetizer mtu sample.bytes

@@ -1,4 +1,4 @@
--- What a run sends is the stream of its canonical units, each lawful.
+-- The packets that a run sends are the stream of its canonical units, each lawful.
 use Rattle.std.proofs.Common.{◌≡◌, ◌≢◌, ◌∙◌, sym, ap, refl, subst, ℕ, zero, suc, ◌+◌, ◌<◌, ◌%◌, ◌^◌, inl, inr, List}
 use Rattle.std.proofs.Common.{[], ◌∷◌, ◌++◌, length, map, arith, length-append, append_assoc, Bool, true, false, Option, Some, None, Result, Ok, Err}
 use Rattle.std.specs.Prelude.{MatchResult, MatchOption, slice_get}
@@ -9,7 +9,6 @@ use Rattle.codec_payload_base.specs.Pieces.{AnswersPieces, ArePieces, pieces_are
 use Rattle.std.specs.Int.{div_ceil}
 use Rattle.codec_payload_runs.proofs.Av1Units.{av1_sends}
 use Rattle.codec_payload_runs.proofs.OnePacketUnits.{IsCarried, OneOrNone, all_sent, amr_wb_units, by_answer, lawful_one, noise_units, none_skipped, one_packet, tele_units}
-use Rattle.codec_payload_runs.proofs.ReportLemmas.{is_quiet}
 use Rattle.codec_payload_runs.proofs.SendsUnits.{CarryIds, SendsUnits, carry_on, no_units}
 use Rattle.codec_payload_runs.proofs.Vp8Units.{vp8_sends}
 use Rattle.codec_payload_runs.proofs.Vp9Units.{vp9_sends}
@@ -20,11 +19,12 @@ use Rattle.codec_payload_base.proofs.PieceLemmas.{one_list}
 use Rattle.codec_payload_runs.proofs.UnitTimes.{AllOneTime, times_of_sample, times_append}
 use Rattle.codec_payload_runs.proofs.UnitValues.{AllCarry, carried_by_sample, carry_append, same_video}
 use Rattle.codec_payload_base.specs.declared.wire.extension.ExtensionValues.{ExtensionValues}
-use Rattle.codec_payload_runs.specs.RunValues.{is_video, values_of_run, values_of_sample}
-use Rattle.codec_payload_codec.specs.Depacketizers.{DepacketizerState, G711Depacketizing, OpusDepacketizing, NullDepacketizing, DepacketizerKind, G711Payloads}
-use Rattle.codec_payload_codec.specs.Depacketizers.{OpusPayloads, NullPayloads, kind_of_depacketizer, DepacketizerStep, head_in, tail_in}
+use Rattle.codec_payload_runs.specs.RunValues.{values_of_run, values_of_sample}
+use Rattle.codec_payload_codec.specs.Depacketizers.{DepacketizerState, G711Depacketizing, OpusDepacketizing, NullDepacketizing, DepacketizerKind}
+use Rattle.codec_payload_codec.specs.Depacketizers.{Vp8Payloads, Vp9Payloads, Av1Payloads, BoxedPayloads, kind_of_depacketizer, DepacketizerStep, head_in, tail_in}
 use Rattle.codec_payload_codec.specs.Packetizers.{PacketizerState, G711Packetizing, G722Packetizing, OpusPacketizing, ComfortNoisePacketizing, TelePacketizing, NullPacketizing}
 use Rattle.codec_payload_codec.specs.Packetizers.{Vp8Packetizing, Vp9Packetizing, Av1Packetizing, AmrWbPacketizing, PacketizerStep, BoxedPacketizing, is_built_in}
+use Rattle.codec_payload_codec.specs.Packetizers.{is_plain, is_quiet, is_video, may_split, payloads_by}
 use Rattle.codec_payload_send.specs.Packets.{Packet, SentPackets, AreNumbered}
 use Rattle.codec_payload_runs.specs.ReportedIds.{next_id}
 use Rattle.codec_payload_send.specs.Sending.{Sample, packets_for, packets_from, rtp_time_at}
@@ -35,46 +35,46 @@ use Rattle.codec_payload_runs.specs.SentStream.{SentUnit, packets_of, AreReadabl
 use Rattle.codec_payload_runs.specs.declared.run.Sent.{Sent}
 use Rattle.codec_payload_runs.specs.declared.run.Step.{Step}
 use Rattle.codec_payload_runs.specs.declared.run.Step.TheVariants as steps
-use Rattle.codec_payload_runs.specs.Units.{canonical_units, is_readable, packetizer_after, payloads_by, may_split, each_whole, units_by}
+use Rattle.codec_payload_runs.specs.Units.{canonical_units, is_readable, packetizer_after, each_whole, units_by}
 
--- payloads of this kind are units, whole, and carry themselves
-pub data IsPlain : DepacketizerKind → Type 0 where
-  g711 : IsPlain G711Payloads
-  opus : IsPlain OpusPayloads
-  null : IsPlain NullPayloads
+-- payloads that are whole units without headers
+plain_head : (kind : DepacketizerKind) → is_plain kind ≡ true → (payload : List ℕ) → head_in kind payload ≡ true
+plain_head Vp8Payloads plain payload = absurd (cc)
+plain_head Vp9Payloads plain payload = absurd (cc)
+plain_head Av1Payloads plain payload = absurd (cc)
+plain_head BoxedPayloads plain payload = absurd (cc)
+plain_head kind plain payload = refl
 
-plain_head : (kind : DepacketizerKind) → IsPlain kind → (payload : List ℕ) → head_in kind payload ≡ true
-plain_head kind g711 payload = refl
-plain_head kind opus payload = refl
-plain_head kind null payload = refl
+plain_quiet : (kind : DepacketizerKind) → is_plain kind ≡ true → is_quiet kind ≡ true
+plain_quiet Vp8Payloads plain = absurd (cc)
+plain_quiet Vp9Payloads plain = absurd (cc)
+plain_quiet BoxedPayloads plain = absurd (cc)
+plain_quiet kind plain = refl
 
-plain_quiet : (kind : DepacketizerKind) → IsPlain kind → is_quiet kind ≡ true
-plain_quiet kind g711 = refl
-plain_quiet kind opus = refl
-plain_quiet kind null = refl
-
-plain_tail : (kind : DepacketizerKind) → IsPlain kind → (marker : Bool) (payload : List ℕ) → tail_in kind marker payload ≡ true
-plain_tail kind g711 marker payload = refl
-plain_tail kind opus marker payload = refl
-plain_tail kind null marker payload = refl
+plain_tail : (kind : DepacketizerKind) → is_plain kind ≡ true → (marker : Bool) (payload : List ℕ) → tail_in kind marker payload ≡ true
+plain_tail Vp8Payloads plain marker payload = absurd (cc)
+plain_tail Vp9Payloads plain marker payload = absurd (cc)
+plain_tail Av1Payloads plain marker payload = absurd (cc)
+plain_tail BoxedPayloads plain marker payload = absurd (cc)
+plain_tail kind plain marker payload = refl
 
 -- a depacketizer of such payloads appends them and stays as it is
-appends : (d : DepacketizerState) → IsPlain (kind_of_depacketizer d)
+appends : (d : DepacketizerState) → is_plain (kind_of_depacketizer d) ≡ true
     → (payload out : List ℕ) (extra : CodecExtra) (answer : Result (Unit {0}) PacketError) (e : DepacketizerState) (out' : List ℕ) (extra' : CodecExtra)
     → DepacketizerStep d payload out extra answer e out' extra' → Appends payload out extra answer out' extra' × (e ≡ d)
 appends G711Depacketizing plain payload out extra answer e out' extra' step = step
 appends OpusDepacketizing plain payload out extra answer e out' extra' step = step
 appends NullDepacketizing plain payload out extra answer e out' extra' step = step
-appends d plain payload out extra answer e out' extra' step = elim plain [ ]
+appends d plain payload out extra answer e out' extra' step = absurd (cc)
 
 -- and so each is carried whole
-plain_carried : (kind : DepacketizerKind) → IsPlain kind → (payload : List ℕ) → IsCarried kind payload payload
+plain_carried : (kind : DepacketizerKind) → is_plain kind ≡ true → (payload : List ℕ) → IsCarried kind payload payload
 plain_carried kind plain payload = record {
   head = plain_head kind plain payload;
   tail = λ marker. plain_tail kind plain marker payload;
   quiet = plain_quiet kind plain;
   gives = λ d extra one e out' extra' is step.
-      let given = appends d (subst IsPlain (sym is) plain) payload [] extra one e out' extra' step in
+      let given = appends d (ap is_plain is ∙ plain) payload [] extra one e out' extra' step in
       (ap kind_of_depacketizer given.1 ∙ is, answered one out' extra' extra given.0);
 }
   where
@@ -87,7 +87,7 @@ plain_carried kind plain payload = record {
 abbrev pub alone : Packet → SentUnit
 alone q = one_packet q.payload q
 
-pub all_alone : (kind : DepacketizerKind) → IsPlain kind → (ps : List Packet) → AllLawful kind false (map alone ps)
+pub all_alone : (kind : DepacketizerKind) → is_plain kind ≡ true → (ps : List Packet) → AllLawful kind false (map alone ps)
 all_alone kind plain [] = tt
 all_alone kind plain (p ∷ ps) = (lawful_one kind p.payload p (plain_carried kind plain p.payload), all_alone kind plain ps)
 
@@ -106,7 +106,7 @@ parts_alone packetizer sample rtp_time number place [] = refl
 parts_alone packetizer sample rtp_time number place (payload ∷ payloads) = ap (λ (us : List (List (List ℕ))). (payload ∷ []) ∷ us)
     (parts_alone packetizer sample rtp_time ((number + 1) % 2 ^ 64) (place + 1) payloads)
 
--- the answer of a packetizer of pieces
+-- the result of a packetizer of pieces
 some_size : (mtu : ℕ) (frame : List ℕ) → pieces_are_skipped mtu frame ≡ false → 0 < mtu
 some_size zero [] some = absurd (cc)
 some_size zero (b ∷ bs) some = absurd (cc)
@@ -122,7 +122,7 @@ pieces_skipped mtu frame payloads answer =
     (λ fault sent refused. absurd (cc))
     (λ packets sent taken are. ap each_whole (one_list mtu frame packets (some_size mtu frame sent) are.0) ∙ sym (all_sent (pieces_are_skipped mtu frame) None units sent refl))
 
-plain_sends : (packetizer after : PacketizerState) (mtu : ℕ) (sample : Sample) (rtp_time number : ℕ) (payloads : List (List ℕ)) → IsPlain (payloads_by packetizer) → may_split packetizer ≡ false
+plain_sends : (packetizer after : PacketizerState) (mtu : ℕ) (sample : Sample) (rtp_time number : ℕ) (payloads : List (List ℕ)) → is_plain (payloads_by packetizer) ≡ true → may_split packetizer ≡ false
     → next_id packetizer ≡ None → next_id after ≡ None
     → after ≡ packetizer_after packetizer mtu sample.bytes → each_whole payloads ≡ canonical_units packetizer mtu sample.bytes
     → SendsUnits packetizer mtu sample rtp_time number payloads after
@@ -153,7 +153,7 @@ one_sends packetizer after mtu sample rtp_time number payloads whole no_id none_
   goes_on = goes_on;
 }
 
--- a packetizer of pieces refuses nothing but for want of memory
+-- a packetizer of pieces fails only if memory runs out
 pieces_fault : (mtu : ℕ) (frame : List ℕ) (fault : PacketError) → AnswersPieces mtu frame (Err fault) → ◌≡◌ {A = Result (List (List ℕ)) PacketError} (Err fault) (Err faults.OutOfMemory)
 pieces_fault mtu frame fault answer = by_skip (pieces_are_skipped mtu frame) answer
   where
@@ -162,17 +162,17 @@ pieces_fault mtu frame fault answer = by_skip (pieces_are_skipped mtu frame) ans
     by_skip true answer = absurd (cc)
     by_skip false answer = ap Err answer
 
--- every codec that is there keeps its law
+-- every supported codec meets its condition
 pub sends_units : (packetizer after : PacketizerState) (mtu : ℕ) (sample : Sample) (rtp_time number : ℕ) (answer : Result (List (List ℕ)) PacketError)
     → is_built_in packetizer ≡ true → PacketizerStep packetizer mtu sample.bytes answer after → answer ≢ Err faults.OutOfMemory
     → SendsUnits packetizer mtu sample rtp_time number (payloads_of answer) after
-sends_units G711Packetizing after mtu sample rtp_time number (Ok payloads) built_in step found = plain_sends G711Packetizing after mtu sample rtp_time number payloads g711 refl
+sends_units G711Packetizing after mtu sample rtp_time number (Ok payloads) built_in step found = plain_sends G711Packetizing after mtu sample rtp_time number payloads refl refl
     refl (ap next_id step.1) step.1 (pieces_skipped mtu sample.bytes payloads step.0)
-sends_units G722Packetizing after mtu sample rtp_time number (Ok payloads) built_in step found = plain_sends G722Packetizing after mtu sample rtp_time number payloads g711 refl
+sends_units G722Packetizing after mtu sample rtp_time number (Ok payloads) built_in step found = plain_sends G722Packetizing after mtu sample rtp_time number payloads refl refl
     refl (ap next_id step.1) step.1 (pieces_skipped mtu sample.bytes payloads step.0)
-sends_units OpusPacketizing after mtu sample rtp_time number (Ok payloads) built_in step found = plain_sends OpusPacketizing after mtu sample rtp_time number payloads opus refl
+sends_units OpusPacketizing after mtu sample rtp_time number (Ok payloads) built_in step found = plain_sends OpusPacketizing after mtu sample rtp_time number payloads refl refl
     refl (ap next_id step.1) step.1 (pieces_skipped mtu sample.bytes payloads step.0)
-sends_units NullPacketizing after mtu sample rtp_time number (Ok payloads) built_in step found = plain_sends NullPacketizing after mtu sample rtp_time number payloads null refl
+sends_units NullPacketizing after mtu sample rtp_time number (Ok payloads) built_in step found = plain_sends NullPacketizing after mtu sample rtp_time number payloads refl refl
     refl (ap next_id step.1) step.1 (ap each_whole step.0)
 sends_units ComfortNoisePacketizing after mtu sample rtp_time number answer built_in step found = one_sends ComfortNoisePacketizing after mtu sample rtp_time number
     (payloads_of answer) refl refl (ap next_id step.1) step.1 (noise_units mtu sample.bytes answer step.0 found)
@@ -206,7 +206,7 @@ numbered_append : (n : ℕ) (ps qs : List Packet) → AreNumbered n ps → AreNu
 numbered_append n [] qs a b = let e : n + 0 ≡ n = omega arith in subst (λ (m : ℕ). AreNumbered m qs) e b
 numbered_append n (p ∷ ps) qs a b = let e : n + length (p ∷ ps) ≡ (n + 1) + length ps = omega arith in (a.0, numbered_append (n + 1) ps qs a.1 (subst (λ (m : ℕ). AreNumbered m qs) e b))
 
--- a packetizer keeps its payloads' kind
+-- a packetizer keeps the type of its payloads
 same_payloads : (packetizer : PacketizerState) (mtu : ℕ) (frame : List ℕ) → payloads_by (packetizer_after packetizer mtu frame) ≡ payloads_by packetizer
 same_payloads OpusPacketizing mtu frame = refl
 same_payloads packetizer mtu frame = refl
@@ -229,7 +229,7 @@ readable_at packetizer [] i sample readable there = absurd (cc)
 readable_at packetizer (s ∷ samples) zero sample readable there = let same : s ≡ sample = cc in ap (λ (x : Sample). is_readable packetizer x.bytes) (sym same) ∙ readable.0
 readable_at packetizer (s ∷ samples) (suc i) sample readable there = readable_at packetizer samples i sample readable.1 there
 
--- what the steps of a run send from some state on
+-- the packets that the steps of a run send from some state on
 pub record Streams (samples : List Sample) (later : List Step) (s t : RunState) : Type 0 where
   pub units : List SentUnit
   pub canonical : map (λ (u : SentUnit). u.parts) units ≡ units_of_run s.payloading.packetizer samples later

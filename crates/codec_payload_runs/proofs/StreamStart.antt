@@ -1,11 +1,11 @@
--- A fresh stream: its payloader and its buffer are of one kind, and unused.
+-- A fresh stream: its payloader and its buffer have the same type, and are unused.
 use Rattle.std.proofs.Common.{◌≡◌, ◌∙◌, refl, sym, ap, subst, ℕ, Bool, true, false, List, [], Option, Some, None, option_map}
 use Rattle.codec_payload_base.specs.declared.interface.Vp9PacketizerMode.{Vp9PacketizerMode}
 use Rattle.codec_payload_base.specs.declared.wire.Codec.{Codec}
 use Rattle.codec_payload_base.specs.declared.wire.ToPayload.{ToPayload}
 use Rattle.codec_payload_base.specs.declared.wire.Codec.TheVariants as codecs
 use Rattle.codec_payload_codec.specs.Depacketizers.{DepacketizerState, depacketizer_state_for, configured_depacketizer, kind_of_depacketizer}
-use Rattle.codec_payload_codec.specs.Packetizers.{PacketizerState, packetizer_state_for, configured, is_built_in}
+use Rattle.codec_payload_codec.specs.Packetizers.{PacketizerState, packetizer_state_for, configured, is_built_in, payloads_by}
 use Rattle.codec_payload_runs.specs.Headline.{IsUnused}
 use Rattle.codec_payload_send.specs.Packets.{SentPackets}
 use Rattle.codec_payload_runs.specs.RunPromises.{Ran, KeepsPromises, KeepsPromisesIf, ran}
@@ -14,12 +14,11 @@ use Rattle.codec_payload_runs.specs.Schedule.{RunState, run_state}
 use Rattle.codec_payload_send.specs.Sending.{Payloading}
 use Rattle.codec_payload_buffer.specs.Steps.{State, empty_buffer}
 use Rattle.codec_payload_runs.specs.ReportedIds.{read_by}
-use Rattle.codec_payload_runs.specs.Units.{payloads_by}
 use Rattle.codec_payload_runs.specs.declared.run.Run.{Run}
 use Rattle.codec_payload_runs.specs.declared.run.Step.{Step}
 use Rattle.codec_payload_runs.specs.declared.run.Stream.{Stream}
 
--- both are there, of one kind, and nothing was read; or neither is
+-- both exist, have the same type, and have read nothing; or neither exists
 Ends : Bool → ℕ → Option PacketizerState → Option DepacketizerState → Type 0
 Ends octet rate (Some p) (Some d) =
     (kind_of_depacketizer (configured_depacketizer octet rate d) ≡ payloads_by (configured octet p)) × (read_by (configured_depacketizer octet rate d) ≡ None)
@@ -30,23 +29,13 @@ Ends octet rate None (Some d) = ⊥
 
 ends_of : (octet : Bool) (rate : ℕ) (mode : Vp9PacketizerMode) (id : ℕ) (codec : Codec) → Ends octet rate (packetizer_state_for mode id codec) (depacketizer_state_for codec)
 unfolding Ends
-ends_of octet rate mode id codecs.Opus = (refl, refl, refl)
-ends_of octet rate mode id codecs.PCMU = (refl, refl, refl)
-ends_of octet rate mode id codecs.PCMA = (refl, refl, refl)
-ends_of octet rate mode id codecs.G722 = (refl, refl, refl)
-ends_of octet rate mode id codecs.Null = (refl, refl, refl)
-ends_of octet rate mode id codecs.CN = (refl, refl, refl)
-ends_of octet rate mode id codecs.AmrWb = (refl, refl, refl)
 ends_of octet rate mode id codecs.H264 = tt
 ends_of octet rate mode id codecs.H265 = tt
 ends_of octet rate mode id codecs.H266 = tt
-ends_of octet rate mode id codecs.Vp8 = (refl, refl, refl)
-ends_of octet rate mode id codecs.Vp9 = (refl, refl, refl)
-ends_of octet rate mode id codecs.Av1 = (refl, refl, refl)
-ends_of octet rate mode id codecs.Tele = (refl, refl, refl)
 ends_of octet rate mode id codecs.Rtx = tt
 ends_of octet rate mode id codecs.Red = tt
 ends_of octet rate mode id codecs.Unknown = tt
+ends_of octet rate mode id codec = (refl, refl, refl)
 
 no_receiver : (octet : Bool) (rate : ℕ) (op : Option PacketizerState) (od : Option DepacketizerState) → Ends octet rate op od → od ≡ None → op ≡ None
 unfolding Ends
@@ -65,7 +54,7 @@ joined_ends octet rate p d op od ends sends receives = subst (λ (o : Option Dep
 pub no_packetizer : (mode : Vp9PacketizerMode) (id : ℕ) (codec : Codec) → depacketizer_state_for codec ≡ None → packetizer_state_for mode id codec ≡ None
 no_packetizer mode id codec h = no_receiver false 0 _ _ (ends_of false 0 mode id codec) h
 
--- what a stream starts from is unused
+-- the start of a stream is unused
 pub starts_unused : (stream : Stream) (p : PacketizerState) (d : DepacketizerState)
     → packetizer_state_for stream.mode stream.first_id stream.spec.codec ≡ Some p → depacketizer_state_for stream.spec.codec ≡ Some d
     → IsUnused (fresh stream (configured stream.spec.octet_align p) (configured_depacketizer stream.spec.octet_align stream.spec.clock_rate d))
@@ -77,12 +66,12 @@ some_of_map : {A B : Type 0} (f : A → B) (o : Option A) (y : B) → option_map
 some_of_map f None y h = absurd (cc)
 some_of_map f (Some x) y h = (x, refl, cc)
 
--- what a payloader of the specification is, where the codec has a packetizer
+-- the payloader of the specification, if the codec has a packetizer
 abbrev pub payloading_for : Stream → Option Payloading
 payloading_for stream = option_map (λ packetizer. record { packetizer = configured stream.spec.octet_align packetizer; clock_rate = stream.spec.clock_rate })
     (packetizer_state_for stream.mode stream.first_id stream.spec.codec)
 
--- what is kept under a premise is kept under one from which that follows
+-- a guarantee under a premise is kept under a stronger premise
 kept_if : {P Q : Type 0} (r : Ran) → (Q → P) → KeepsPromisesIf P r → KeepsPromisesIf Q r
 kept_if r so kept = record {
   run_as_steps = kept.run_as_steps;
@@ -113,7 +102,7 @@ from_start stream samples steps run after p d sends receives kept = record {
       run after) (λ readable. (starts_unused stream p d sends receives, readable)) kept;
 }
 
--- a run of payloader, buffer and sink that are those of the stream
+-- a run of the payloader, buffer and sink of the stream
 pub runs_stream : (stream : Stream) (samples : List ToPayload) (steps : List Step) (run : Run) (payloading : Payloading) (buffer : State) (sink : SentPackets)
     (after : RunState) (d : DepacketizerState)
     → payloading_for stream ≡ Some payloading → depacketizer_state_for stream.spec.codec ≡ Some d

@@ -1,4 +1,4 @@
--- What contiguity makes of the units that a run sends, where they are taken in order.
+-- How contiguity judges the units that a run sends, if they are accepted in order.
 use Rattle.std.proofs.Common.{◌≡◌, refl, ap, ℕ, suc, subst, arith, List, [], length, Option, Some, None, Ok, Err, Bool, true, false, ◌+◌, ◌^◌, ◌∷◌, ◌<◌, ◌⊎◌}
 use Rattle.std.proofs.lemmas.Option.{slice_get_within}
 use Rattle.codec_payload_runs.proofs.FollowsLemmas as law
@@ -18,7 +18,7 @@ use Rattle.codec_payload_runs.specs.ReportedIds.{Tells, id_later, read_by}
 use Rattle.codec_payload_buffer.specs.declared.buffer.frames.CompleteFrame.{CompleteFrame}
 use Rattle.codec_payload_buffer.specs.declared.contiguity.Contiguity.{Contiguity}
 
--- what holds of a depacketizer and of what contiguity keeps, once the latest unit that was taken is the one before place n
+-- the facts about a depacketizer and the stored ids, if the latest accepted unit is the one before place n
 pub Follows : Setting → ℕ → DepacketizerState → Contiguity → Type 0
 Follows c n d k = law.Follows c.start n (read_by d) k
 
@@ -36,7 +36,7 @@ module _ (c : Setting) where
   unfolding Follows
   nothing_taken d k begins = begins
 
-  -- what the frame that is due tells
+  -- the ids that the frame that is due reports
   tells_due : (n : ℕ) (s : State) (f : CompleteFrame) (beyond : Beyond c n s) (due : due_of s ≡ Some f) (unpacked : Unpacked) (e : DepacketizerState) → Gives s f (Ok unpacked) e
       → Tells (id_later c.start (frame_due c n s f beyond due).place) (read_by s.depacketizer) unpacked.extra (read_by e)
   tells_due n s f beyond due unpacked e gives =
@@ -46,7 +46,7 @@ module _ (c : Setting) where
       (exact_payloads c.known c.clock_rate c.kind c.faithful (packets_before frame.place c.units + length frame.missing) frame.rest frame.packets frame.exact)
       s.depacketizer unpacked e beyond.reads (subst (λ (ps : List Held). Unpacks s.depacketizer ps nothing_unpacked (Ok unpacked) e) frame.are gives)
 
-  -- the unit whose frame is due may go out, where it is near
+  -- the unit whose frame is due may be released, if it is near
   pub goes_on : (n : ℕ) (s : State) (f : CompleteFrame) (beyond : Beyond c n s) (due : due_of s ≡ Some f) → let frame = frame_due c n s f beyond due in
       IsNear n frame.place → Follows c n s.depacketizer s.contiguity → (unpacked : Unpacked) (e : DepacketizerState) → Gives s f (Ok unpacked) e → (seq : Bool)
       → ((checked s.contiguity unpacked.extra seq).0 ≡ true) × Follows c (frame.place + 1) e (checked s.contiguity unpacked.extra seq).2
@@ -59,7 +59,7 @@ module _ (c : Setting) where
       let next : suc frame.place ≡ frame.place + 1 = omega arith in
       (on.may, subst (λ (m : ℕ). law.Follows c.start m (read_by e) (checked s.contiguity unpacked.extra seq).2) next on.follows)
 
-  -- and where packets carry no ids, wherever it is, and it follows where its numbers do
+  -- and if packets carry no ids, at any place, and it is contiguous if its numbers are
   plain_goes : (n : ℕ) (s : State) (f : CompleteFrame) (beyond : Beyond c n s) (due : due_of s ≡ Some f) → IsPlain c → (unpacked : Unpacked) (e : DepacketizerState)
       → Gives s f (Ok unpacked) e → (seq : Bool) → checked s.contiguity unpacked.extra seq ≡ (true, seq, s.contiguity)
   plain_goes n s f beyond due plain unpacked e gives seq =
@@ -70,7 +70,7 @@ module _ (c : Setting) where
   not_passed : (may : Bool) → may ≡ true → may ≡ false → ⊥
   not_passed may go stay = cc
 
-  -- a frame that may go out isn't passed over
+  -- a frame that may be released is not skipped
   pub stays_near : (n : ℕ) (s t : State) (over : List CompleteFrame) → (beyond : Beyond c n s) → Follows c n s.depacketizer s.contiguity
       → ((f : CompleteFrame) (due : due_of s ≡ Some f) → IsNear n (frame_due c n s f beyond due).place) → Passes s over t → (t ≡ s) × (over ≡ [])
   stays_near n s t over beyond before near none = (refl, refl)
@@ -79,7 +79,7 @@ module _ (c : Setting) where
       let yes = goes_on n s p.frame beyond p.is_due (near p.frame p.is_due) before p.unpacked p.depacketizer p.gives (follows s p.frame) in
       absurd (not_passed _ yes.0 p.may_not)
 
-  -- nor is any, where packets carry no ids
+  -- nor is any, if packets carry no ids
   pub stays_plain : (n : ℕ) (s t : State) (over : List CompleteFrame) → Beyond c n s → IsPlain c → Passes s over t → (t ≡ s) × (over ≡ [])
   stays_plain n s t over beyond plain none = (refl, refl)
   stays_plain n s u over beyond plain (one_more {t = t} passes p) =

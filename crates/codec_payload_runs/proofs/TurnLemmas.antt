@@ -1,4 +1,4 @@
--- The turns of a run follow one another, and each stretch leaves what the set of its pushes says.
+-- The turns of a run follow one another, and the state after each stretch depends on the set of its pushes.
 use Rattle.std.proofs.Common.{◌≡◌, ◌≢◌, ◌∙◌, refl, sym, ap, ℕ, subst, List, [], Option, Some, None, Ok, Err, Bool, true, false}
 use Rattle.std.proofs.Common.{◌++◌, ◌+◌, ◌-◌, ◌^◌, ◌∷◌, ◌<◌, ◌≤◌, inl, inr, ◌⊎◌, ◌||◌, ◌&&◌, not, eqb, arith, length, drop, map}
 use Rattle.std.specs.Prelude.{slice_get}
@@ -31,7 +31,7 @@ use Rattle.codec_payload_runs.specs.declared.run.Sent.{Sent}
 use Rattle.codec_payload_runs.specs.declared.run.Step.{Step}
 use Rattle.codec_payload_runs.specs.declared.run.Step.TheVariants as steps
 
--- what a run sends, and what is known of its pushes; `start` is the picture id of the first unit, where units carry them
+-- what a run sends, and the facts about its pushes; `start` is the picture id of the first unit, if units carry them
 pub record Setting : Type 1 where
   pub known : ℕ → Packet → RtpMeta → Type 0
   pub clock_rate : ℕ
@@ -67,7 +67,7 @@ kept_few s ns = omega (arith, length-drop (length ns - s.limit) ns)
 abbrev pub by_steps : Setting → List Step → List Sent → Setting
 by_steps c all_steps sends = record c { known = IsPushOf all_steps sends c.clock_rate; faithful = push_faithful all_steps sends c.clock_rate c.kind }
 
--- what the pops of these turns answer
+-- the results of the pops of these turns
 abbrev pub answers_of : List Turn → List Answer
 answers_of turns = map (λ (turn : Turn). turn.answer) turns
 
@@ -152,7 +152,7 @@ module _ (c : Setting) where
       let now = span_beyond from turn.stretch (subst (Beyond from) (sym chain.0) beyond) chain.1 in
       pop_in_order from turn.stretch.now turn.after turn.passed turn.answer (answers_of turns) now chain.2 (λ n after. chain_in_order n turn.after turns end after chain.3)
 
-  -- where all that is named was sent, a log is a chain
+  -- if all named packets were sent, a log is a chain
   module _ (all_steps : List Step) (named : ℕ → ℕ → DepacketizerState → List Held) (sent : (place k : ℕ) (d : DepacketizerState) → slice_get all_steps place ≡ Some (steps.Push k)
       → kind_of_depacketizer d ≡ c.kind → ArePushes (named place k d)) where
     pub chain_of : (later : List Step) (place : ℕ) (w : Stretch) (turns : List Turn) (end : Stretch) → drop place all_steps ≡ later → (from : ℕ) → Beyond from w.now → IsSpan w
@@ -179,7 +179,7 @@ module _ (c : Setting) where
           chain_of later (place + 1) (begun turn.after) turns end next.1 after.0 after.1 (record { sent = tt; now = refl }) log.3,
         )
 
-  -- what holds of the buffer between two steps
+  -- the facts about the buffer between two steps
   pub record IsReady (from : ℕ) (s : State) : Type 0 where
     pub beyond : Beyond from s
     pub few : length s.held ≤ s.limit
@@ -242,7 +242,7 @@ module _ (c : Setting) where
   pub left_ready : (from : ℕ) (s : State) (w : Stretch) → w.left ≡ s → IsReady from s → IsReady from w.left
   left_ready from s w at ready = subst (IsReady from) (sym at) ready
 
-  -- each held packet is a push of its own
+  -- each held packet is a separate push
   sent_in : (hs : List Held) → ArePushes hs → (p : Held) → IsIn p hs → IsSentPacket c.known (packets_of c.units) p
   sent_in [] sent p is = absurd is
   sent_in (q ∷ qs) sent p (inl same) =

@@ -1,4 +1,4 @@
--- What units tell whose packets carry picture ids one after another.
+-- What units report whose packets carry consecutive picture ids.
 use Rattle.std.proofs.Common.{◌≡◌, subst, ℕ, zero, suc, ◌+◌, List, [], ◌∷◌, ◌++◌, arith, Option, Some, Ok, Bool}
 use Rattle.std.specs.Prelude.{slice_get}
 use Rattle.codec_payload_runs.proofs.SendsUnits.{CarryIds}
@@ -10,7 +10,7 @@ use Rattle.codec_payload_runs.specs.SentStream.{SentUnit}
 use Rattle.codec_payload_buffer.specs.Steps.{Unpacked, Unpacks, nothing_unpacked}
 use Rattle.codec_payload_runs.specs.ReportedIds.{Tells, id_later, read_by}
 
--- these packets, or the last of them from a head on, tell that id
+-- these packets, or the last of them from one that begins a unit, report that id
 abbrev pub TellId : DepacketizerKind → Option ℕ → List Packet → Type 0
 TellId kind id packets =
     (missing rest : List Packet) → missing ++ rest ≡ packets → StartsWithHead kind rest
@@ -18,7 +18,7 @@ TellId kind id packets =
     → (d : DepacketizerState) (unpacked : Unpacked) (e : DepacketizerState) → kind_of_depacketizer d ≡ kind → Unpacks d ps nothing_unpacked (Ok unpacked) e
     → Tells id (read_by d) unpacked.extra (read_by e)
 
--- the units tell the ids that come n units after `first` and later, one after another
+-- the units report the ids that come n units after `first` and later, one after another
 abbrev pub TellInTurn : DepacketizerKind → Option ℕ → ℕ → List SentUnit → Type 0
 TellInTurn kind first n [] = Unit {0}
 TellInTurn kind first n (u ∷ us) = TellId kind (id_later first n) u.packets × TellInTurn kind first (suc n) us
@@ -40,7 +40,7 @@ told_behind kind first n (suc m) (v ∷ us) u told is =
     let e : suc n + m ≡ n + suc m = omega arith in
     subst (λ (k : ℕ). TellId kind (id_later first k) u.packets) e (told_behind kind first (suc n) m us u told.1 is)
 
--- the unit at place m tells the m-th id
+-- the unit at place m reports the m-th id
 pub told_at : (kind : DepacketizerKind) (first : Option ℕ) (m : ℕ) (us : List SentUnit) (u : SentUnit) → TellInTurn kind first 0 us → slice_get us m ≡ Some u → TellId kind (id_later first m) u.packets
 told_at kind first m us u told is =
     let e : 0 + m ≡ m = omega arith in

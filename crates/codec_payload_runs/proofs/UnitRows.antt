@@ -1,4 +1,4 @@
--- A row of pushed packets is the end of one unit's packets.
+-- A range of pushed packets is the end of one unit's packets.
 use Rattle.std.proofs.Common.{◌≡◌, ℕ, zero, suc, ◌<◌, ◌≤◌, ◌+◌, ◌-◌, [], ◌∷◌, ◌++◌, List, length, take, drop, refl, ap, sym, ◌∙◌, arith, Bool, Some, add-one, inl, inr}
 use Rattle.std.specs.Prelude.{slice_get}
 use Rattle.std.proofs.lemmas.Bool.{cases_lt}
@@ -17,7 +17,7 @@ use Rattle.codec_payload_buffer.specs.declared.buffer.unit.RtpMeta.{RtpMeta}
 use Rattle.codec_payload_runs.specs.declared.run.Sent.{Sent}
 use Rattle.codec_payload_runs.specs.declared.run.Step.{Step}
 
--- a packet as a buffer over a depacketizer of that kind holds it
+-- a packet as a buffer over a depacketizer of this type holds it
 abbrev pub held_as : DepacketizerKind → RtpMeta → List ℕ → Held
 held_as kind meta payload = record { meta = meta; bytes = payload; head = head_in kind payload; tail = tail_in kind meta.header.marker payload }
 
@@ -46,13 +46,13 @@ ends_drop kind (suc k) [] e l = absurd e
 ends_drop kind (suc k) (p ∷ []) e l = absurd (omega arith)
 ends_drop kind (suc k) (p ∷ q ∷ ps) e l = ends_drop kind k (q ∷ ps) e.1 (omega arith)
 
--- what a push tells of a packet is its number, its time by the clock of the run, and what makes it a tail
+-- a push reports the packet's number, its time by the clock of the run, and the properties that make it a last packet
 pub record IsFaithful (known : ℕ → Packet → RtpMeta → Type 0) (clock_rate : ℕ) (kind : DepacketizerKind) : Type 0 where
   pub number : (k : ℕ) (q : Packet) (m : RtpMeta) → known k q m → m.seq_no.0 ≡ q.number
   pub time : (k : ℕ) (q : Packet) (m : RtpMeta) → known k q m → m.time ≡ record { numer = q.rtp_time; rate = clock_rate }
   pub tail : (k : ℕ) (q : Packet) (m : RtpMeta) → known k q m → tail_in kind m.header.marker q.payload ≡ tail_in kind q.marker q.payload
 
--- a push of the packet itself tells all this
+-- a push of the packet itself reports all this
 pub push_faithful : (all_steps : List Step) (sends : List Sent) (clock_rate : ℕ) (kind : DepacketizerKind) → IsFaithful (IsPushOf all_steps sends clock_rate) clock_rate kind
 push_faithful all_steps sends clock_rate kind = record {
   number = λ k q m push. ap (λ (x : RtpMeta). x.seq_no.0) push.3;
@@ -85,7 +85,7 @@ module _ (known : ℕ → Packet → RtpMeta → Type 0) (clock_rate : ℕ) (kin
   row_exact k f last time (b ∷ c ∷ bs) rest (p ∷ []) ends run row = let t = tail_is k b p row.0 row.1 in absurd (cc (t, run.3, ends.0))
   row_exact k f last time (b ∷ c ∷ bs) rest (p ∷ q ∷ ps) ends run row = (row.0, row.1, row_exact (k + 1) (f + 1) last time (c ∷ bs) rest (q ∷ ps) ends.1 run.3 row.2)
 
-  -- the row is the end of one unit
+  -- the range is the end of one unit
   pub record IsEndOf (units : List SentUnit) (k base : ℕ) (ps : List Held) : Type 0 where
     pub place : ℕ
     pub sent : SentUnit

@@ -9,7 +9,7 @@ abbrev pub HasTime : ℕ → List Packet → Type 0
 HasTime time [] = Unit {0}
 HasTime time (p ∷ ps) = (p.rtp_time ≡ time) × HasTime time ps
 
--- each unit has one, which may differ from that of the others
+-- each unit has one time, which may differ from the times of the others
 abbrev pub AllOneTime : List SentUnit → Type 0
 AllOneTime [] = Unit {0}
 AllOneTime (u ∷ us) = ((time : ℕ) × HasTime time u.packets) × AllOneTime us

@@ -8,12 +8,11 @@ use Rattle.codec_payload_av1.specs.Av1Obu.{frame_kept}
 use Rattle.codec_payload_base.specs.declared.error.PacketError.{PacketError}
 use Rattle.codec_payload_base.specs.declared.wire.extension.ExtensionValues.{ExtensionValues}
 use Rattle.codec_payload_codec.proofs.CaseLemmas.{by_test}
-use Rattle.codec_payload_codec.specs.Packetizers.{PacketizerState, Vp8Packetizing, Vp9Packetizing, Av1Packetizing}
+use Rattle.codec_payload_codec.specs.Packetizers.{PacketizerState, Vp8Packetizing, Vp9Packetizing, Av1Packetizing, is_video}
 use Rattle.codec_payload_buffer.specs.Release.{AreValues, merged}
 use Rattle.codec_payload_buffer.specs.declared.buffer.unit.RtpMeta.{RtpMeta}
 use Rattle.codec_payload_runs.specs.Headline.{IsPushOf, ArePushesBy}
 use Rattle.codec_payload_send.specs.Packets.{Packet}
-use Rattle.codec_payload_runs.specs.RunValues.{is_video}
 use Rattle.codec_payload_send.specs.Sending.{Sample, packets_from, packets_for}
 use Rattle.codec_payload_runs.specs.SentStream.{SentUnit, packets_of}
 use Rattle.codec_payload_base.specs.StrippedValues.{kept_if, stripped}
@@ -26,7 +25,7 @@ abbrev pub AreStripped : ExtensionValues → ℕ → ℕ → List Packet → Typ
 AreStripped values i n [] = Unit {0}
 AreStripped values i n (p ∷ ps) = (p.ext_vals ≡ stripped values i n) × AreStripped values (i + 1) n ps
 
--- the packets of a unit are all that carry these values
+-- exactly the packets of a unit carry these values
 abbrev pub CarriesValues : ExtensionValues → SentUnit → Type 0
 CarriesValues values u = AreStripped values 0 (length u.packets) u.packets
 
@@ -59,7 +58,7 @@ one_unit_at_most (Vp9Packetizing sender) mtu frame video = at_most_one (is_skipp
 one_unit_at_most Av1Packetizing mtu frame video = at_most_one (is_skipped Av1Packetizing mtu frame) (refusal_of Av1Packetizing mtu frame) (canonical_obus (frame_kept frame))
 one_unit_at_most packetizer mtu frame video = absurd (cc)
 
--- so its packets are those of the sample
+-- so its packets are the packets of the sample
 carried_by : (values : ExtensionValues) (units : List SentUnit) (canonical : List (List (List ℕ))) → map (λ (u : SentUnit). u.parts) units ≡ canonical → length canonical ≤ 1
     → AreStripped values 0 (length (packets_of units)) (packets_of units) → AllCarry (map (λ (unit : List (List ℕ)). values) canonical) units
 carried_by values [] [] are one carried = tt
@@ -94,7 +93,7 @@ carried_at [] (x ∷ us) place u carry is = absurd carry
 carried_at (v ∷ vs) (x ∷ us) zero u carry is = let same : x ≡ u = cc in (v, refl, subst (CarriesValues v) same carry.0)
 carried_at (v ∷ vs) (x ∷ us) (suc place) u carry is = carried_at vs us place u carry.1 is
 
--- the values of the first and the last of all packets, put together, are those of the sample
+-- the values of the first and the last packet, combined, are the values of the sample
 or_kept : {A : Type 0} (b : Bool) (o : Option A) → option_or o (kept_if b o) ≡ o
 or_kept b None = by_test b (λ c. kept_if c None ≡ None) (λ _. refl) (λ _. refl)
 or_kept b (Some x) = refl
@@ -131,7 +130,7 @@ module _ (all_steps : List Step) (sends : List Sent) (clock_rate : ℕ) (values 
       let e : i + 1 + length qs ≡ i + length (q ∷ qs) = omega arith in
       (rest.0, ap (slice_get (m ∷ l ∷ ms)) (sym at) ∙ rest.1, rest.2 ∙ ap (λ (j : ℕ). stripped values j n) e)
 
-  -- what is known of one push each of all these packets tells the values
+  -- the facts about one push each of all these packets give the values
   pub told_by_all : (k : ℕ) (p : Packet) (ps : List Packet) (metas : List RtpMeta) → ArePushesBy (IsPushOf all_steps sends clock_rate) k (p ∷ ps) metas
       → AreStripped values 0 (length (p ∷ ps)) (p ∷ ps) → AreValues metas values
   told_by_all k p ps [] pushes carry = absurd pushes

@@ -10,11 +10,11 @@ use Rattle.codec_payload_runs.proofs.PieceUnits.{IsPiece}
 use Rattle.codec_payload_runs.proofs.SendsUnits.{SendsUnits}
 use Rattle.codec_payload_runs.proofs.ReportLemmas.{IsSilent}
 use Rattle.codec_payload_send.specs.Sending.{Sample}
-use Rattle.codec_payload_runs.specs.ReportedIds.{lacks_base}
+use Rattle.codec_payload_codec.specs.BaseLayers.{lacks_base}
 use Rattle.codec_payload_vp8.proofs.SentIsTakenLemmas.{first_starts, sent_is_taken, sent_tells}
 use Rattle.codec_payload_vp8.specs.Vp8Sent.{advanced, gives_packets, header, header_size}
 
--- nothing is asked of the bytes and the extra between two packets
+-- nothing is required of the bytes and the codec-specific data between two packets
 abbrev Anything : List ℕ → CodecExtra → Type 0
 Anything out extra = Unit {0}
 

@@ -15,7 +15,8 @@ use Rattle.codec_payload_runs.proofs.PieceUnits.{IsPiece, TellAll}
 use Rattle.codec_payload_runs.proofs.SendsUnits.{SendsUnits}
 use Rattle.codec_payload_runs.proofs.ReportLemmas.{IsSilent, IsTold, extension_is_next}
 use Rattle.codec_payload_send.specs.Sending.{Sample}
-use Rattle.codec_payload_runs.specs.ReportedIds.{id_in, id_later, is_absent, lacks_base}
+use Rattle.codec_payload_codec.specs.BaseLayers.{is_absent, lacks_base}
+use Rattle.codec_payload_runs.specs.ReportedIds.{id_in, id_later}
 use Rattle.codec_payload_vp9.proofs.PictureLemmas.{sent_keeps_base, sent_tells}
 use Rattle.codec_payload_vp9.proofs.SentIsTakenLemmas.{first_starts, sent_is_taken}
 use Rattle.codec_payload_vp9.specs.Vp9Keyframe.{is_key_frame}
@@ -31,7 +32,7 @@ is_piece s key small first last piece some (Vp9Depacketizing d) out extra (Err f
     (ap kind_of_depacketizer step.2, sent_is_taken s key first last piece small d out extra (Err fault) step.0 out' extra' keeps step.1)
 is_piece s key small first last piece some d out extra one e out' extra' is keeps step = absurd (cc)
 
--- the flexible mode tells no id of a base layer, and the non-flexible mode both ids
+-- the flexible mode reports no id of a base layer, and the non-flexible mode both ids
 lacked : (extra : CodecExtra) → lacks_base extra ≡ true → is_absent (told_before extra).tl0_picture_id ≡ true
 lacked (extras.Vp9 e) lacks = lacks
 lacked extra lacks = refl

@@ -50,7 +50,7 @@ has_above n last (p ∷ ps) l h =
     (λ e. by_test (eqb (number_of p) n) (λ b. (b || has_number n (above last ps)) ≡ true) (λ same. refl) (λ other. has_above n last ps l (grind (arith, h, other))))
     (λ e. let low : number_of p < n = grind (arith, nat_tests, e, l) in has_above n last ps l (later_number n p ps low h))
 
--- the lowest head of a row lies at its latest packet or before
+-- the lowest first packet of a range is at its latest packet or before
 lowest_alone : (q : Held) (m : ℕ) → start_or_here None q ≡ Some m → m ≤ number_of q
 lowest_alone q m h = by_test q.head (λ b. cond b (Some (number_of q)) None ≡ Some m → m ≤ number_of q) (λ e h. let s : number_of q ≡ m = cc in omega (arith, s)) (λ e h. absurd (cc)) h
 
@@ -64,7 +64,7 @@ lowest_up q (e ∷ es) m h =
     (λ no h. lowest_alone q m h)
     h
 
--- a row that reaches a head has a lowest head, at most there
+-- a range that reaches a first packet has a lowest one, at most there
 lowest_at : (p : Held) (earlier : List Held) → p.head ≡ true → (n : ℕ) × (lowest_head (p ∷ row_before p earlier) ≡ Some n) × (n ≤ number_of p)
 lowest_at p earlier head =
     by_option (lowest_head (row_before p earlier)) (λ o. lowest_head (row_before p earlier) ≡ o → (n : ℕ) × (lowest_head (p ∷ row_before p earlier) ≡ Some n) × (n ≤ number_of p))
@@ -72,7 +72,7 @@ lowest_at p earlier head =
     (λ n some is. let e : lowest_head (p ∷ row_before p earlier) ≡ Some n = rw is refl in (n, e, lowest_up p earlier n e))
     refl
 
--- the first frame that ends in a row and what follows
+-- the first frame that ends in a range, and the packets after it
 row_first : (ps rest earlier : List Held) (first last : ℕ) (time : Time) → IsRun first last time ps → BeginsWithHead ps → (n : ℕ)
     × (first_of (frames_after earlier (ps ++ rest)) ≡ Some (record { first = n; last = last })) × (n ≤ first)
 row_first [] rest earlier first last time run begins = absurd run
@@ -119,7 +119,7 @@ first_cases : (xs ys : List CompleteFrame) (f : CompleteFrame) → first_of (xs 
 first_cases [] ys f h = inr h
 first_cases (x ∷ xs) ys f h = inl h
 
--- where a row from a head to a tail is held, the lowest frame lies below it, or ends with it
+-- if a range from a first packet to a last one is held, the lowest frame is below it, or ends with it
 pub lowest_frame : (below row rest : List Held) (first last : ℕ) (time : Time) (f : CompleteFrame) → Rises (below ++ (row ++ rest)) → IsRun first last time row → BeginsWithHead row
     → first_of (frames (below ++ (row ++ rest))) ≡ Some f → (f.last < first) ⊎ ((f.last ≡ last) × (f.first ≤ first))
 lowest_frame below row rest first last time f r run begins h =

@@ -1,4 +1,4 @@
--- What a buffer releases of packets that were sent, however they come to it, and however long each pop waits.
+-- The units that a buffer releases for sent packets, in whatever way they arrive, and however long each pop waits.
 use Rattle.std.specs.Prelude.{◌≡◌, ◌≢◌, ℕ, ◌<◌, ◌≤◌, ◌⊎◌, Bool, List, [], ◌∷◌, ◌++◌, Option, Some, None, Err, Contains, length, map, slice_get}
 use Rattle.codec_payload_base.specs.declared.error.PacketError.TheVariants as faults
 use Rattle.codec_payload_buffer.specs.Steps.{State, arrived, pushed, Pops}
@@ -9,12 +9,12 @@ use Rattle.codec_payload_send.specs.Packets.{Packet}
 use Rattle.codec_payload_runs.specs.Schedule.{Answer, RunState, Runs}
 use Rattle.codec_payload_send.specs.Sending.{Sample}
 use Rattle.codec_payload_runs.specs.SentStream.{AllEndWithTail, AreReadable, SentUnit, packets_of, units_of_run}
-use Rattle.codec_payload_runs.specs.Units.{payloads_by, may_split}
+use Rattle.codec_payload_codec.specs.Packetizers.{payloads_by, may_split}
 use Rattle.codec_payload_runs.specs.declared.run.Sent.{Sent}
 use Rattle.codec_payload_runs.specs.declared.run.Step.{Step}
 
--- what comes to a buffer: a push of the packet of that index, of which this is known; or a pop, at which so many complete frames
--- wait for what is missing before them, or which is not made
+-- an event at a buffer: a push of the packet with this index, with these facts known; or a pop, with the number of complete frames
+-- that may wait for missing packets before them, or a pop that is not made
 pub data Event : Type 0 where
   Arrives : ℕ → RtpMeta → Event
   Asked : Option ℕ → Event
@@ -24,7 +24,7 @@ abbrev pub PopsWaiting : Option ℕ → State → Answer → State → Type 0
 PopsWaiting None s answer t = (answer ≡ None) × (t ≡ s)
 PopsWaiting (Some hold_back) s answer t = (answer ≢ Some (Err faults.OutOfMemory)) × Pops (record s { hold_back = hold_back }) answer t
 
--- what is known of a push of a packet tells its number, its time and its marker
+-- the facts about a push of a packet include its number, its time and its marker
 pub record Tells (clock_rate : ℕ) (q : Packet) (meta : RtpMeta) : Type 0 where
   pub number : meta.seq_no.0 ≡ q.number
   pub time : meta.time ≡ record { numer = q.rtp_time; rate = clock_rate }
@@ -38,7 +38,7 @@ Meets clock_rate packets (Arrives k meta ∷ events) s answers t =
 Meets clock_rate packets (Asked wait ∷ events) s answers t =
     (answer : Answer) × (more : List Answer) × (mid : State) × (answers ≡ answer ∷ more) × PopsWaiting wait s answer mid × Meets clock_rate packets events mid more t
 
--- this is known of a push of the packet of that index
+-- these facts are known of a push of the packet with this index
 abbrev pub IsMet : ℕ → List Event → ℕ → Packet → RtpMeta → Type 0
 IsMet clock_rate events k q meta = Contains events (Arrives k meta) × Tells clock_rate q meta
 
@@ -48,7 +48,7 @@ OnlyArrive [] = Unit {0}
 OnlyArrive (Arrives k meta ∷ events) = OnlyArrive events
 OnlyArrive (Asked wait ∷ events) = ⊥
 
--- one of them is a push of the packet of that index
+-- one of them is a push of the packet with this index
 abbrev pub HasArrival : ℕ → List Event → Type 0
 HasArrival n [] = ⊥
 HasArrival n (Arrives k meta ∷ events) = (k ≡ n) ⊎ HasArrival n events
@@ -71,7 +71,8 @@ pub record AllArriveFirst (limit : ℕ) (packets : List Packet) (events : List E
   pub each : (k : ℕ) → k < length packets → HasArrival k before
   pub made : AllAreMade after
 
--- the units that the run sends are released in order, each at most once, of packets that came; and where all come first, all of them
+-- the units that the run sends are released in order, each at most once, from packets that arrived; and if all arrive first, all of
+-- them
 pub record ReleasesArrivals (samples : List Sample) (all_steps : List Step) (s t : RunState) (events : List Event) (answers : List Answer) : Type 0 where
   pub units : List SentUnit
   pub canonical : map (λ (u : SentUnit). u.parts) units ≡ units_of_run s.payloading.packetizer samples all_steps
@@ -80,7 +81,7 @@ pub record ReleasesArrivals (samples : List Sample) (all_steps : List Step) (s t
   pub in_order : InOrder (IsMet s.payloading.clock_rate events) (may_split s.payloading.packetizer) units 0 answers
   pub exactly : AllArriveFirst s.buffer.limit t.sink.packets events → AnswersAll (IsMet s.payloading.clock_rate events) 0 units answers
 
--- this holds of what any run of unused parts sends, whatever of it comes to the buffer
+-- the theorem applies to the packets that any run of unused parts sends, in whatever way they arrive at the buffer
 abbrev pub ReleaseInOrder : Type 0
 ReleaseInOrder =
     (samples : List Sample) (all_steps : List Step) (s t : RunState) (sends : List Sent) (pops : List Answer) → Runs samples 0 all_steps s sends pops t → IsUnused s

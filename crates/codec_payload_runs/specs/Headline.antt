@@ -1,8 +1,8 @@
--- What a buffer releases of a run, whatever is lost, repeated and reordered.
+-- The units that a buffer releases for a run, with any loss, repetition and reordering.
 use Rattle.std.specs.Prelude.{◌≡◌, ℕ, ◌+◌, ◌<◌, ◌≤◌, Bool, true, false, List, [], ◌∷◌, ◌++◌, Some, None, Ok, Err, length, map, take, slice_get}
 use Rattle.codec_payload_buffer.specs.ContiguityTable.{contiguity_for}
 use Rattle.codec_payload_codec.specs.Depacketizers.{kind_of_depacketizer}
-use Rattle.codec_payload_codec.specs.Packetizers.{is_built_in}
+use Rattle.codec_payload_codec.specs.Packetizers.{is_built_in, payloads_by, may_split}
 use Rattle.codec_payload_send.specs.Packets.{Packet}
 use Rattle.codec_payload_runs.specs.RunCounts.{sent_before}
 use Rattle.codec_payload_runs.specs.ReportedIds.{read_by}
@@ -10,18 +10,17 @@ use Rattle.codec_payload_buffer.specs.Release.{Release}
 use Rattle.codec_payload_runs.specs.Schedule.{Answer, RunState, meta_of_push}
 use Rattle.codec_payload_send.specs.Sending.{Sample}
 use Rattle.codec_payload_runs.specs.SentStream.{SentUnit, packets_of, AllEndWithTail, IsReleaseOf, units_of_run}
-use Rattle.codec_payload_runs.specs.Units.{payloads_by, may_split}
 use Rattle.codec_payload_buffer.specs.declared.buffer.unit.RtpMeta.{RtpMeta}
 use Rattle.codec_payload_runs.specs.declared.run.Sent.{Sent}
 use Rattle.codec_payload_runs.specs.declared.run.Step.{Step}
 use Rattle.codec_payload_runs.specs.declared.run.Step.TheVariants as steps
 
--- what is known of one push of that packet, whose index is k: a step pushed it, by which it was sent
+-- the metadata of one push of the packet with index k: a step pushed it after it was sent
 abbrev pub IsPushOf : List Step → List Sent → ℕ → ℕ → Packet → RtpMeta → Type 0
 IsPushOf all_steps sends clock_rate k p meta =
     (place : ℕ) × (slice_get all_steps place ≡ Some (steps.Push k)) × (k < sent_before place sends) × (meta ≡ meta_of_push place clock_rate p)
 
--- steps before that place pushed all of these: `received` tells the step
+-- steps before this place pushed all of these; `received` names the step
 abbrev pub ArePushedBefore : ℕ → List RtpMeta → Type 0
 ArePushedBefore place [] = Unit {0}
 ArePushedBefore place (m ∷ ms) = (m.received.0 < place) × ArePushedBefore place ms
@@ -40,8 +39,8 @@ AreOfEarlier place (steps.Push k ∷ later) answers = AreOfEarlier (place + 1) l
 AreOfEarlier place (steps.Pop ∷ later) [] = ⊥
 AreOfEarlier place (steps.Pop ∷ later) (answer ∷ answers) = IsOfEarlier place answer × AreOfEarlier (place + 1) later answers
 
--- what is known of one push each of exactly these packets, in order, from index k on; `known` says what may be known of a
--- push of the packet of an index
+-- the metadata of one push each of exactly these packets, in order, from index k on; `known` says what can be known of a push of
+-- the packet with an index
 abbrev pub ArePushesBy : (ℕ → Packet → RtpMeta → Type 0) → ℕ → List Packet → List RtpMeta → Type 0
 ArePushesBy known k [] [] = Unit {0}
 ArePushesBy known k (p ∷ ps) (m ∷ ms) = known k p m × ArePushesBy known (k + 1) ps ms
@@ -52,8 +51,8 @@ ArePushesBy known k (p ∷ ps) [] = ⊥
 abbrev pub packets_before : ℕ → List SentUnit → ℕ
 packets_before n units = length (packets_of (take n units))
 
--- the release is that of the unit at a place: whole, or, where units may be split and packets are missing, its last
--- parts; and what is known of its packets is what is known of one push each of exactly those packets
+-- the release is the unit at a place: whole, or, if units may be split and packets are missing, its last parts; the metadata of its
+-- packets is that of one push each of exactly those packets
 pub record IsUnitAt (known : ℕ → Packet → RtpMeta → Type 0) (splits : Bool) (units : List SentUnit) (place : ℕ) (r : Release) : Type 0 where
   pub sent : SentUnit
   pub at_place : slice_get units place ≡ Some sent
@@ -63,7 +62,7 @@ pub record IsUnitAt (known : ℕ → Packet → RtpMeta → Type 0) (splits : Bo
   pub bytes : IsReleaseOf splits sent missing r.bytes
   pub metas : ArePushesBy known (packets_before place units + length missing) rest r.metas
 
--- the answers of the pops: no fault, and units at strictly rising places, from `from` on
+-- the results of the pops: no fault, and units at strictly rising places, from `from` on
 abbrev pub InOrder : (ℕ → Packet → RtpMeta → Type 0) → Bool → List SentUnit → ℕ → List Answer → Type 0
 InOrder known splits units from [] = Unit {0}
 InOrder known splits units from (None ∷ answers) = InOrder known splits units from answers
@@ -71,8 +70,8 @@ InOrder known splits units from (Some (Err fault) ∷ answers) = ⊥
 InOrder known splits units from (Some (Ok r) ∷ answers) =
     (place : ℕ) × (from ≤ place) × IsUnitAt known splits units place r × InOrder known splits units (place + 1) answers
 
--- the packetizer is that of a codec, the sink and the buffer are unused, and the buffer's depacketizer reads what the
--- payloader's packetizer makes, and has extended no picture ids
+-- the packetizer is built in; the sink and the buffer are unused; the buffer's depacketizer reads the payloads of the payloader's
+-- packetizer, and has extended no picture ids
 pub record IsUnused (s : RunState) : Type 0 where
   pub built_in : is_built_in s.payloading.packetizer ≡ true
   pub nothing_sent : s.sink.packets ≡ []
@@ -83,9 +82,8 @@ pub record IsUnused (s : RunState) : Type 0 where
   pub nothing_read : read_by s.buffer.depacketizer ≡ None
   pub nothing_kept : s.buffer.contiguity ≡ contiguity_for (kind_of_depacketizer s.buffer.depacketizer)
 
--- the units of the samples, as the steps send them, with their packets, of which the last alone ends a unit,
--- and which the sink holds; and what the pops answered are these units, in order, each at most once, of packets that were
--- pushed before the pop
+-- the units of the samples, as the steps send them, with their packets: only the last packet of each ends a unit, and the sink
+-- holds them. The pops returned these units, in order, each at most once, with packets that were pushed before the pop
 pub record ReleasesInOrder (samples : List Sample) (all_steps : List Step) (s : RunState) (sends : List Sent) (pops : List Answer) (t : RunState) : Type 0 where
   pub units : List SentUnit
   pub canonical : map (λ (u : SentUnit). u.parts) units ≡ units_of_run s.payloading.packetizer samples all_steps

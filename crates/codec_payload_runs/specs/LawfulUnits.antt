@@ -1,4 +1,4 @@
--- What each codec owes for the units that it sends, so that they can be released as the theorem says.
+-- The conditions on the units that each codec sends, so that they can be released as the theorem says.
 use Rattle.std.specs.Prelude.{◌≡◌, ℕ, List, [], ◌∷◌, ◌++◌, Result, Ok, MatchResult, Bool, true, map}
 use Rattle.codec_payload_base.specs.declared.error.PacketError.{PacketError}
 use Rattle.codec_payload_base.specs.declared.error.PacketError.TheVariants as faults
@@ -20,9 +20,9 @@ payloads_held ps = map (λ (p : Held). p.bytes) ps
 abbrev pub payloads_sent : List Packet → List (List ℕ)
 payloads_sent ps = map (λ (p : Packet). p.payload) ps
 
--- what a codec owes for each unit that it sends: it ends with its only tail and begins with a head; and from its first
--- packet, or from a later one that is a head, to its last, a depacketizer of the kind, whatever it holds, gives the unit
--- or its last parts, and refuses nothing but for want of memory; and it tells the picture id that the packets carry
+-- the condition on each unit that a codec sends. It ends with its only last packet and begins with a first packet. Take its packets
+-- from the first, or from a later one that begins a unit, to the last: a depacketizer of this type, in any state, gives the unit or
+-- its last parts, and fails only if memory runs out. It reports the picture id that the packets carry
 pub record IsLawful (kind : DepacketizerKind) (splits : Bool) (u : SentUnit) : Type 0 where
   pub ends : EndsWithTail kind u.packets
   pub starts : StartsWithHead kind u.packets

@@ -1,4 +1,4 @@
--- A run told pop by pop: what was pushed before each, what it answered, and what the buffer was.
+-- A run described pop by pop: the pushes before each pop, its result, and the state of the buffer.
 use Rattle.std.specs.Prelude.{◌≡◌, ◌≢◌, ℕ, ◌+◌, List, [], ◌∷◌, ◌++◌, Option, Some, None, Err, map, take, slice_get}
 use Rattle.codec_payload_base.specs.declared.error.PacketError.TheVariants as faults
 use Rattle.codec_payload_codec.specs.Depacketizers.{DepacketizerState}
@@ -12,20 +12,18 @@ use Rattle.codec_payload_send.specs.Sending.{Sample}
 use Rattle.codec_payload_buffer.specs.Steps.{State, arrived, PopsOver}
 use Rattle.codec_payload_buffer.specs.Stretches.{after_pushes}
 use Rattle.codec_payload_buffer.specs.declared.buffer.frames.CompleteFrame.{CompleteFrame}
-use Rattle.codec_payload_runs.specs.Units.{payloads_by, may_split}
+use Rattle.codec_payload_codec.specs.Packetizers.{payloads_by, may_split}
 use Rattle.codec_payload_runs.specs.declared.run.Sent.{Sent}
 use Rattle.codec_payload_runs.specs.declared.run.Step.{Step}
 use Rattle.codec_payload_runs.specs.declared.run.Step.TheVariants as steps
 
--- what lies between two pops: the buffer as the pop before left it, the packets pushed since, in order, and the buffer
--- then
+-- the time between two pops: the buffer after the previous pop, the packets pushed since, in order, and the buffer then
 pub record Stretch : Type 0 where
   pub left : State
   pub pushes : List Held
   pub now : State
 
--- a pop: the stretch that ends with it, the frames that it passed over, latest first, its answer, and the buffer
--- afterwards
+-- a pop: the stretch that ends with it, the frames that it skipped, latest first, its result, and the buffer afterwards
 pub record Turn : Type 0 where
   pub stretch : Stretch
   pub passed : List CompleteFrame
@@ -36,7 +34,7 @@ pub record Turn : Type 0 where
 abbrev pub begun : State → Stretch
 begun s = record { left = s; pushes = []; now = s }
 
--- a stretch with these pushes besides
+-- a stretch with additional pushes
 abbrev pub with_pushes : Stretch → List Held → Stretch
 with_pushes w ps = record w { pushes = w.pushes ++ ps; now = after_pushes w.now ps }
 
@@ -44,13 +42,13 @@ with_pushes w ps = record w { pushes = w.pushes ++ ps; now = after_pushes w.now 
 abbrev pub packet_named : List Packet → List Sent → ℕ → ℕ → Option Packet
 packet_named packets sends place k = slice_get (take (sent_before place sends) packets) k
 
--- what step `place` pushes of that packet, if there is one
+-- the push of step `place` for that packet, if there is one
 abbrev pub held_of : ℕ → ℕ → Option Packet → DepacketizerState → List Held
 held_of place clock_rate None depacketizer = []
 held_of place clock_rate (Some p) depacketizer = arrived depacketizer (meta_of_push place clock_rate p) p.payload ∷ []
 
--- the steps from place `place` on, with the stretch so far: each pop has its turn, and what comes after the last of them
--- is the stretch at the end; `named` says what a step pushes, by its place, the index that it names, and the depacketizer
+-- the steps from `place` on, with the stretch so far: each pop ends a turn, and the steps after the last pop are the stretch at the
+-- end; `named` gives the pushes of a step from its place, the index that it names, and the depacketizer
 abbrev pub IsLogBy : (ℕ → ℕ → DepacketizerState → List Held) → ℕ → List Step → Stretch → List Turn → Stretch → Type 0
 IsLogBy named place [] w [] end = end ≡ w
 IsLogBy named place [] w (turn ∷ turns) end = ⊥
@@ -65,7 +63,8 @@ IsLogBy named place (steps.Pop ∷ later) w (turn ∷ turns) end =
 abbrev pub IsLog : List Packet → ℕ → List Sent → ℕ → List Step → Stretch → List Turn → Stretch → Type 0
 IsLog packets clock_rate sends = IsLogBy (λ place k. held_of place clock_rate (packet_named packets sends place k))
 
--- a run told pop by pop, with the units that it sends, for each of which the codec keeps what it owes; `end` is what comes after the last pop
+-- a run described pop by pop, with the units that it sends; the codec meets its condition for each; `end` is the stretch after the
+-- last pop
 pub record RunLog (samples : List Sample) (all_steps : List Step) (s : RunState) (sends : List Sent) (pops : List Answer) (t : RunState) : Type 0 where
   pub released : ReleasesInOrder samples all_steps s sends pops t
   pub lawful : AllLawful (payloads_by s.payloading.packetizer) (may_split s.payloading.packetizer) released.units

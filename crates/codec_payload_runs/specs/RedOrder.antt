@@ -1,4 +1,4 @@
--- Of the pushes of runs with RED only their sets count, pop by pop: two runs that push the same packets.
+-- Only the set of packets pushed before each pop matters in runs with RED: two runs that push the same packets.
 use Rattle.std.specs.Prelude.{◌≡◌, false, List, map}
 use Rattle.codec_payload_base.specs.Extensions.{no_values}
 use Rattle.codec_payload_buffer.specs.declared.buffer.unit.RtpMeta.{RtpMeta}
@@ -10,7 +10,7 @@ use Rattle.codec_payload_send.specs.Sending.{Sample}
 use Rattle.codec_payload_runs.specs.declared.run.Sent.{Sent}
 use Rattle.codec_payload_runs.specs.declared.run.Step.{Step}
 
--- all but when a packet was received, and what is not known of one that was recovered: its marker and its values
+-- all except the receive time, and except marker and values, which are not known of a recovered packet
 abbrev pub bare_block : RtpMeta → RtpMeta
 bare_block m = record m { received = record { 0 = 0 }; header = record m.header { marker = false; ext_vals = no_values } }
 
@@ -18,8 +18,8 @@ bare_block m = record m { received = record { 0 = 0 }; header = record m.header 
 abbrev pub ran_from : Protection → List Sample → RedState → List Step → List Sent → List Answer → RedState → RedRan
 ran_from with samples before steps sends pops after = record { with = with; samples = samples; steps = steps; before = before; sends = sends; pops = pops; after = after }
 
--- two runs that sent the same packets, and push the same ones before each pop, be it as themselves or recovered from others,
--- are answered the same, all but when each packet was received, and its marker and its values
+-- two runs that sent the same packets, and push the same ones before each pop, either as themselves or recovered from others, get
+-- the same results, except for the receive time, the marker and the values of each packet
 abbrev pub OnlySetsCountInRed : Type 0
 OnlySetsCountInRed = (with : Protection) (samples : List Sample) (before : RedState) (all_steps other_steps : List Step) (sends other_sends : List Sent)
     (pops other_pops : List Answer) (after other_after : RedState)

@@ -1,4 +1,4 @@
--- What is promised of a whole run with RED.
+-- The guarantees of a whole run with RED.
 use Rattle.std.specs.Prelude.{◌≡◌, ◌⊎◌, ℕ, ◌<◌, ◌≤◌, ◌==◌, false, Option, List, [], Some, None, length, map, slice_get}
 use Rattle.std.specs.Borrow.{MutBor}
 use Rattle.std.specs.List.{AllByRecursion}
@@ -17,11 +17,10 @@ use Rattle.codec_payload_runs.specs.RedSchedule.{Protection, RedState, RunsInRed
 use Rattle.codec_payload_runs.specs.RunCounts.{IsCounted, sent_before}
 use Rattle.codec_payload_runs.specs.RunOrder.{AreStretches, AllFollowAsSaid}
 use Rattle.codec_payload_runs.specs.RunUnits.{NoneIsLost, NonePassedOver, FirstIsWhole, NoneEvicted, IsPatient, AreNext}
-use Rattle.codec_payload_runs.specs.RunValues.{is_video}
+use Rattle.codec_payload_codec.specs.Packetizers.{is_video, payloads_by, may_split}
 use Rattle.codec_payload_runs.specs.Schedule.{Answer}
 use Rattle.codec_payload_send.specs.Sending.{Sample, sample_of}
 use Rattle.codec_payload_runs.specs.SentStream.{AreReadable, SentUnit, packets_of, AllEndWithTail, units_of_run}
-use Rattle.codec_payload_runs.specs.Units.{payloads_by, may_split}
 use Rattle.codec_payload_runs.specs.declared.run.RedRun.{RedRun}
 use Rattle.codec_payload_runs.specs.declared.run.Run.{Run}
 use Rattle.codec_payload_runs.specs.declared.run.Sent.{Sent}
@@ -31,8 +30,8 @@ use Rattle.codec_payload_red.specs.RedLevels.{Sender}
 use Rattle.codec_payload_red.specs.RedRecovery.{Receiver, RecoveredPacket}
 use Rattle.codec_payload_red.specs.RedRun.{IsRecoverable, IsKeptIn}
 
--- a run with RED: budget and receiver, the samples, the steps, and how things stood before; the entries of the sends, the
--- answers of the pops, and how things stand afterwards
+-- a run with RED: budget and receiver, the samples, the steps, and the state before; the entries of the sends, the results of the
+-- pops, and the state afterwards
 pub record RedRan : Type 0 where
   pub with : Protection
   pub samples : List Sample
@@ -45,23 +44,23 @@ pub record RedRan : Type 0 where
 abbrev pub ran_in_red : Protection → List ToPayload → List Step → RedState → Run → RedState → RedRan
 ran_in_red with samples steps before run after = record { with = with; samples = map sample_of samples; steps = steps; before = before; sends = run.sends.items; pops = run.pops.items; after = after }
 
--- what a run is told of RED, besides the sender
+-- the settings of RED for a run, without the sender
 abbrev pub protection_of : RedRun → Protection
 protection_of red = record { budget = red.budget; receiver = red.receiver.now }
 
--- How a run leaves the sender that it was lent. What a value that holds a reference leaves behind it is told by the layout of
--- the value: of an `Option` the second case is `Some`, and the sender is the first field of a `RedRun`.
+-- How a run leaves the sender that it borrowed. The layout of a value that holds a reference gives the value behind the reference
+-- afterwards: for an `Option` the second case is `Some`, and the sender is the first field of a `RedRun`.
 abbrev pub LeavesSender : {Rest : Type 0} → Unit {0} ⊎ (((MutBor Sender × Rest) × Unit {0}) ⊎ ⊥) → Sender → Type 0
 LeavesSender (inl none) sender = ⊥
 LeavesSender (inr (inl red)) sender = sender ≡ red.0.0.now
 LeavesSender (inr (inr none)) sender = ⊥
 
--- the packets that were sent, as they were before they were put in RED
+-- the packets that were sent, before they were wrapped in RED
 abbrev pub sent_in : RedRan → List Packet
 sent_in r = r.after.plain.sink.packets
 
--- The premises: those of a run without RED; the codec is none of VP8, VP9 and AV1; and the packets can be recovered, from
--- an unused sender, by a receiver of its type and of the fixed step between their times, with room for each payload.
+-- The premises: the premises of a run without RED; the codec is not VP8, VP9 or AV1; and the packets can be recovered: from an
+-- unused sender, by a receiver of its type and of the fixed step between their times, with room for each payload.
 pub record IsRedFresh (r : RedRan) : Type 0 where
   pub unused : IsUnused r.before.plain
   pub none_in_sink : r.before.images ≡ []
@@ -69,11 +68,11 @@ pub record IsRedFresh (r : RedRan) : Type 0 where
   pub no_video : is_video r.before.plain.payloading.packetizer ≡ false
   pub recoverable : IsRecoverable r.before.sender r.with.receiver r.with.budget (all_remembered (sent_in r))
 
--- the packet of index k is that of index `carrier` or stands in a kept level of it
+-- packet k is packet `carrier`, or is in a kept level of it
 abbrev pub IsIn : RedRan → ℕ → ℕ → Type 0
 IsIn r k carrier = (k ≡ carrier) ⊎ IsKeptIn r.before.sender r.with.budget (all_remembered (sent_in r)) k carrier
 
--- what is known of one push of the packet of index k: a step pushed what a packet holds that it is in, by which that was sent
+-- the metadata of one push of packet k: a step pushed the contents of a packet that contains it and was sent by then
 pub record IsRedPushOf (r : RedRan) (k : ℕ) (p : Packet) (meta : RtpMeta) : Type 0 where
   pub place : ℕ
   pub carrier : ℕ
@@ -82,7 +81,7 @@ pub record IsRedPushOf (r : RedRan) (k : ℕ) (p : Packet) (meta : RtpMeta) : Ty
   pub carried : IsIn r k carrier
   pub told : meta ≡ meta_of_block place r.before.plain.payloading.clock_rate r.with.receiver.primary_pt (k == carrier) p
 
--- what was recovered from the packet of index k was sent: with that packet or before it
+-- a packet recovered from packet k was sent: with that packet or before it
 pub record WasSent (r : RedRan) (k : ℕ) (x : RecoveredPacket) : Type 0 where
   pub index : ℕ
   pub packet : Packet
@@ -93,8 +92,8 @@ pub record WasSent (r : RedRan) (k : ℕ) (x : RecoveredPacket) : Type 0 where
   pub carried : IsIn r index k
   pub primary : x.is_primary ≡ (index == k)
 
--- the units of the samples, as the steps send them, with their packets, of which the last alone ends a unit; and what the
--- pops answered are these units, in order, each at most once, of packets that were pushed before the pop
+-- the units of the samples, as the steps send them, with their packets: only the last packet of each ends a unit. The pops returned
+-- these units, in order, each at most once, with packets that were pushed before the pop
 pub record ReleasesRecovered (r : RedRan) : Type 0 where
   pub units : List SentUnit
   pub canonical : map (λ (u : SentUnit). u.parts) units ≡ units_of_run r.before.plain.payloading.packetizer r.samples r.steps
@@ -108,22 +107,22 @@ pub record IsAllThere (r : RedRan) : Type 0 where
   pub few : length (sent_in r) ≤ r.before.plain.buffer.limit
   pub there : (k : ℕ) → k < length (sent_in r) → (carrier : ℕ) × IsPushedFirst r.steps r.sends carrier × IsIn r k carrier
 
--- units are released in order; and where all packets are there, exactly all of them
+-- units are released in order; and if all packets arrive, exactly all of them
 pub record RecoversUnits (r : RedRan) : Type 0 where
   pub released : ReleasesRecovered r
   pub exactly : IsAllThere r → AnswersAll (IsRedPushOf r) 0 released.units r.pops
 
--- what step `place` pushes of that packet, if there is one
+-- the push of step `place` for that packet, if there is one
 abbrev pub recovered_held : ℕ → ℕ → Receiver → Option Packet → DepacketizerState → List Held
 recovered_held place clock_rate receiver None depacketizer = []
 recovered_held place clock_rate receiver (Some p) depacketizer = map
     (λ (x : RecoveredPacket). arrived depacketizer (meta_of_recovered place clock_rate receiver.primary_pt p x) x.bytes) (recovered_in receiver p)
 
--- what each step of the run pushes
+-- the pushes of each step of the run
 abbrev pub pushes_of : RedRan → ℕ → ℕ → DepacketizerState → List Held
 pushes_of r place k = recovered_held place r.before.plain.payloading.clock_rate r.with.receiver (packet_named r.after.images r.sends place k)
 
--- the run told pop by pop, with the units that it sends
+-- the run described pop by pop, with the units that it sends
 pub record RedLog (r : RedRan) : Type 0 where
   pub released : ReleasesRecovered r
   pub lawful : AllLawful (payloads_by r.before.plain.payloading.packetizer) (may_split r.before.plain.payloading.packetizer) released.units
@@ -133,7 +132,7 @@ pub record RedLog (r : RedRan) : Type 0 where
   pub answers : map (λ (turn : Turn). turn.answer) turns ≡ r.pops
   pub left : end.now ≡ r.after.plain.buffer
 
--- this holds of each log of a run that keeps the premises
+-- this applies to each log of a run that meets the premises
 abbrev pub OfEachRedLog : (r : RedRan) → (RedLog r → Type 0) → Type 0
 OfEachRedLog r P = IsRedFresh r → (log : RedLog r) → P log
 
@@ -141,20 +140,20 @@ OfEachRedLog r P = IsRedFresh r → (log : RedLog r) → P log
 abbrev pub RunsAsRedSteps : RedRan → Type 0
 RunsAsRedSteps r = RunsInRed r.with r.samples 0 r.steps r.before r.sends r.pops r.after
 
--- Counts: one entry for each `Send` that names a sample, one answer for each `Pop`, and the sink gains what the entries
+-- Counts: one entry for each `Send` that names a sample, one result for each `Pop`, and the sink gains the packets that the entries
 -- count.
 abbrev pub CountsRedSteps : RedRan → Type 0
 CountsRedSteps r = IsCounted r.samples r.steps r.before.plain r.sends r.pops r.after.plain
 
--- Recovery: all that is recovered from a packet was sent, with that number, RTP time and payload.
+-- Recovery: every packet recovered from a packet was sent, with that number, RTP time and payload.
 abbrev pub RecoversWhatWasSent : RedRan → Type 0
 RecoversWhatWasSent r = IsRedFresh r → (k : ℕ) (p : Packet) → slice_get r.after.images k ≡ Some p → AllByRecursion (WasSent r k) (recovered_in r.with.receiver p)
 
--- The safety half, with what is recovered as further pushes.
+-- The safety half, with the recovered packets as further pushes.
 abbrev pub IsSafeInRed : RedRan → Type 0
 IsSafeInRed r = IsRedFresh r → ReleasesRecovered r
 
--- The exact half: a packet counts as pushed where it stands in a kept level of one that was.
+-- The exact half: a packet counts as pushed if it is in a kept level of a pushed packet.
 abbrev pub IsExactInRed : RedRan → Type 0
 IsExactInRed r = IsRedFresh r → RecoversUnits r
 
@@ -165,13 +164,13 @@ IsLoggedInRed r = IsRedFresh r → RedLog r
 abbrev pub IsFreeOfOrderInRed : RedRan → Type 0
 IsFreeOfOrderInRed r = OfEachRedLog r (λ log. AreStretches (IsRedPushOf r) r.before.plain.sink.first (sent_in r) log.turns log.end)
 
--- Contiguous: exactly where the first number of a unit follows the last of the release before, or it is the first and no
+-- Contiguous: exactly if the first number of a unit follows the last number of the previous release, or it is the first and no
 -- packet was evicted before it.
 abbrev pub TellsContiguousInRed : RedRan → Type 0
 TellsContiguousInRed r = OfEachRedLog r (λ log. AllFollowAsSaid r.before.plain.sink.first (length (sent_in r)) None false log.turns)
 
--- No silent loss: a unit that is held whole before a pop is released by that or a later one, or held whole in the end,
--- unless a packet of it was evicted; no pop passes a unit over.
+-- No silent loss: a unit that is held whole before a pop is released by that or a later one, or held whole in the end, unless a
+-- packet of it was evicted; no pop skips a unit.
 abbrev pub LosesNothingSilentlyInRed : RedRan → Type 0
 LosesNothingSilentlyInRed r =
     OfEachRedLog r (λ log. NoneIsLost (IsRedPushOf r) r.before.plain.sink.first (may_split r.before.plain.payloading.packetizer) log.released.units log.turns log.end)
@@ -179,8 +178,8 @@ LosesNothingSilentlyInRed r =
 abbrev pub PassesNothingOverInRed : RedRan → Type 0
 PassesNothingOverInRed r = OfEachRedLog r (λ log. NonePassedOver log.turns)
 
--- Beginning: where the first release is the first unit, whole, nothing is evicted and no pop is made too early, the units
--- released are the first of those that were sent, each whole.
+-- Beginning: if the first release is the first unit, whole, nothing is evicted and no pop is too early, the released units are the
+-- first of the sent ones, each whole.
 abbrev pub BeginsWithFirstInRed : RedRan → Type 0
 BeginsWithFirstInRed r =
     OfEachRedLog r (λ log. FirstIsWhole (IsRedPushOf r) (may_split r.before.plain.payloading.packetizer) log.released.units r.pops

@@ -1,4 +1,5 @@
--- What the steps of a run with RED do: samples go out in RED, and a push pushes what a receiver recovers from a packet.
+-- The effect of the steps of a run with RED: samples are sent in RED, and a push pushes the packets that a receiver recovers from a
+-- packet.
 use Rattle.std.specs.Prelude.{◌≡◌, ◌⊎◌, ℕ, ◌+◌, ◌%◌, ◌^◌, ◌&&◌, if◌then◌else◌, Bool, true, false, List, [], ◌∷◌, ◌++◌, Option, Some, None, Ok, Err, map, slice_get, refl}
 use Rattle.codec_payload_base.specs.Extensions.{no_values}
 use Rattle.codec_payload_base.specs.declared.error.PacketError.TheVariants as faults
@@ -33,32 +34,32 @@ abbrev pub all_in_red : Sender → ℕ → List Packet → List Packet
 all_in_red red budget [] = []
 all_in_red red budget (p ∷ ps) = in_red red budget p ∷ all_in_red (recorded red p.payload p.rtp_time) budget ps
 
--- how a run uses RED, besides its sender
+-- how a run uses RED, without its sender
 pub record Protection : Type 0 where
   pub budget : ℕ
   pub receiver : Receiver
 
--- A run with RED: its payloader, its buffer, and a sink of the packets as they were before they were put in RED; what the
--- sink holds in truth; and the sender.
+-- A run with RED: its payloader, its buffer, and a sink of the packets before they were wrapped in RED; the actual contents of the
+-- sink; and the sender.
 pub record RedState : Type 0 where
   pub plain : RunState
   pub images : List Packet
   pub sender : Sender
 
--- these together, where the sink holds `sink`, and would hold `sent` without RED
+-- these together, if the sink holds `sink`, and would hold `sent` without RED
 abbrev pub red_state : Payloading → State → SentPackets → List Packet → Sender → RedState
 red_state payloading buffer sink sent sender = record { plain = run_state payloading buffer (record sink { packets = sent }); images = sink.packets; sender = sender }
 
--- what the sink gained without RED went out in RED
+-- the packets that the sink gained without RED were sent in RED
 pub record SendsInRed (budget : ℕ) (s t : RedState) : Type 0 where
   pub packets : List Packet
   pub gained : t.plain.sink.packets ≡ s.plain.sink.packets ++ packets
   pub images : t.images ≡ s.images ++ all_in_red s.sender budget packets
   pub sender : t.sender ≡ sender_after s.sender (all_remembered packets)
 
--- ---- pushing what is recovered
+-- ---- pushes of recovered packets
 
--- what is known of a block that step `place` pushes as this packet: marker and values of the primary block alone
+-- the metadata of a block that step `place` pushes as this packet: marker and values only for the primary block
 abbrev pub meta_of_block : ℕ → ℕ → ℕ → Bool → Packet → RtpMeta
 meta_of_block place clock_rate pt is_primary p = record {
   received = record { 0 = place };
@@ -75,11 +76,11 @@ meta_of_block place clock_rate pt is_primary p = record {
   last_sender_info = None;
 }
 
--- what is known of a packet that was recovered from this one: its own number and RTP time
+-- the metadata of a packet that was recovered from this one: its own number and RTP time
 abbrev pub meta_of_recovered : ℕ → ℕ → ℕ → Packet → RecoveredPacket → RtpMeta
 meta_of_recovered place clock_rate pt carrier x = meta_of_block place clock_rate pt x.is_primary (record carrier { number = x.seq_no; rtp_time = x.time })
 
--- what a receiver recovers from a packet: nothing from what is no RED payload
+-- the packets that a receiver recovers from a packet: none from an invalid RED payload
 abbrev pub recovered_of : Receiver → Packet → Option Red → List RecoveredPacket
 recovered_of receiver p None = []
 recovered_of receiver p (Some red) = recovered receiver p.number p.rtp_time red
@@ -98,14 +99,14 @@ abbrev pub StopsAmong : ℕ → ℕ → ℕ → Packet → List RecoveredPacket 
 StopsAmong place clock_rate pt carrier xs s t =
     (begun : List RecoveredPacket) × (refused : RecoveredPacket) × (left : List RecoveredPacket) × (xs ≡ begun ++ refused ∷ left) × PushesAll place clock_rate pt carrier begun s t
 
--- what is recovered from that packet, if there is one
+-- the packets recovered from that packet, if there is one
 abbrev pub RedPushes : ℕ → ℕ → Receiver → Option Packet → State → State → Type 0
 RedPushes place clock_rate receiver None s t = t ≡ s
 RedPushes place clock_rate receiver (Some p) s t = PushesAll place clock_rate receiver.primary_pt p (recovered_in receiver p) s t
 
 -- ---- the steps
 
--- one step, at its place; the entries and answers are those of a run without RED
+-- one step, at its place; the entries and results are the same as in a run without RED
 abbrev pub DoesRedStep : Protection → List Sample → ℕ → Step → RedState → List Sent → List Answer → RedState → Type 0
 DoesRedStep w samples place (steps.Send i mtu) s sends pops t = DoesStep samples place (steps.Send i mtu) s.plain sends pops t.plain × SendsInRed w.budget s t
 DoesRedStep w samples place (steps.Push k) s sends pops t =
@@ -120,8 +121,8 @@ RunsInRed w samples place (step ∷ later) s sends pops t =
     (send : List Sent) × (sends_later : List Sent) × (pop : List Answer) × (pops_later : List Answer) × (mid : RedState)
     × (sends ≡ send ++ sends_later) × (pops ≡ pop ++ pops_later) × DoesRedStep w samples place step s send pop mid × RunsInRed w samples (place + 1) later mid sends_later pops_later t
 
--- memory was refused while a sample was sent: by the packetizer; or by the sink or the sender to one of the packets, once
--- those before had gone out, and the sender has remembered that one too, or not
+-- memory ran out while a sample was sent: in the packetizer; or in the sink or the sender for one of the packets, after the packets
+-- before were sent; the sender has then remembered that one too, or not
 abbrev pub StopsSendingInRed : ℕ → ℕ → Sample → RedState → RedState → Type 0
 StopsSendingInRed budget mtu sample s t = (packetizer : PacketizerState) × (
     (PacketizerStep s.plain.payloading.packetizer mtu sample.bytes (Err faults.OutOfMemory) packetizer × (t ≡ record s { plain = after_send s.plain packetizer [] }))
@@ -134,7 +135,7 @@ StopsSendingInRed budget mtu sample s t = (packetizer : PacketizerState) × (
       sender = sender_after s.sender (all_remembered kept);
     })))
 
--- memory was refused while what a packet holds was pushed: before the first of it, or to one, once those before were pushed
+-- memory ran out while the contents of a packet were pushed: before the first of them, or at one, after the ones before were pushed
 abbrev pub StopsPushing : ℕ → ℕ → Receiver → Packet → State → State → Type 0
 StopsPushing place clock_rate receiver p s t = (t ≡ s) ⊎ StopsAmong place clock_rate receiver.primary_pt p (recovered_in receiver p) s t
 
@@ -153,7 +154,7 @@ StopsInRed w samples place (step ∷ later) s t =
     StopsAtInRed w samples place step s t
     ⊎ ((send : List Sent) × (pop : List Answer) × (mid : RedState) × DoesRedStep w samples place step s send pop mid × StopsInRed w samples (place + 1) later mid t)
 
--- what an older packet is pushed with has its own number and time, and neither marker nor values
+-- an older packet is pushed with its own number and time, and with neither marker nor values
 pub meta_of_recovered-older : (meta_of_recovered 3 48000 96 (record { pt = 63; number = 65537; rtp_time = 1920; wallclock = 0; marker = true; nackable = false; ext_vals = no_values; payload = [] })
     (record { seq_no = 65536; time = 960; bytes = []; is_primary = false })).header ≡ record { payload_type = 96; sequence_number = 0; timestamp = 960; ssrc = 0; marker = false; ext_vals = no_values }
 meta_of_recovered-older = refl

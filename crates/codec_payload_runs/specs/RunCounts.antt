@@ -1,4 +1,4 @@
--- How many entries, answers and packets come of a run, whatever the codec.
+-- The numbers of entries, results and packets of a run, for any codec.
 use Rattle.std.specs.Prelude.{◌≡◌, ℕ, ◌+◌, List, [], ◌∷◌, ◌++◌, Option, Some, None, length, slice_get, nat_lt, if◌then◌else◌, refl}
 use Rattle.codec_payload_send.specs.Packets.{Packet}
 use Rattle.codec_payload_runs.specs.Schedule.{Answer, RunState}
@@ -7,7 +7,7 @@ use Rattle.codec_payload_runs.specs.declared.run.Sent.{Sent}
 use Rattle.codec_payload_runs.specs.declared.run.Step.{Step}
 use Rattle.codec_payload_runs.specs.declared.run.Step.TheVariants as steps
 
--- 1 where there is a sample
+-- 1 if there is a sample
 abbrev pub one_of : Option Sample → ℕ
 one_of None = 0
 one_of (Some sample) = 1
@@ -29,13 +29,13 @@ abbrev pub packets_counted : List Sent → ℕ
 packets_counted [] = 0
 packets_counted (entry ∷ sends) = entry.count + packets_counted sends
 
--- how many packets were sent before step `place`, as the entries tell
+-- the number of packets sent before step `place`, by the entries
 abbrev pub sent_before : ℕ → List Sent → ℕ
 sent_before place [] = 0
 sent_before place (entry ∷ sends) = (if nat_lt entry.step place then entry.count else 0) + sent_before place sends
 
--- one entry for each `Send` that names a sample and one answer for each `Pop`; and the sink gained the packets that the
--- entries count, behind those that it had
+-- one entry for each `Send` that names a sample and one result for each `Pop`; and the sink gained the packets that the entries
+-- count, after its old ones
 pub record IsCounted (samples : List Sample) (all_steps : List Step) (s : RunState) (sends : List Sent) (pops : List Answer) (t : RunState) : Type 0 where
   pub entries : length sends ≡ sends_in samples all_steps
   pub answers : length pops ≡ pops_in all_steps
@@ -43,7 +43,7 @@ pub record IsCounted (samples : List Sample) (all_steps : List Step) (s : RunSta
   pub sink : t.sink.packets ≡ s.sink.packets ++ gained
   pub packets : length gained ≡ packets_counted sends
 
--- of these steps the first and the last name nothing
+-- the first and the last of these steps name nothing
 pub sends_in-none : sends_in [] (steps.Send 0 9 ∷ steps.Push 0 ∷ steps.Pop ∷ steps.Send 7 9 ∷ []) ≡ 0
 sends_in-none = refl
 

@@ -1,4 +1,4 @@
--- Of the pushes of a run only their sets count, pop by pop; and when a released unit follows the one before.
+-- Only the set of packets pushed before each pop matters in a run; and when a released unit follows the previous one.
 use Rattle.std.specs.Prelude.{◌≡◌, ℕ, ◌+◌, ◌||◌, ◌↔◌, IsTrue, Bool, false, List, [], ◌∷◌, ◌++◌, Option, Some, None, Ok, Err, Contains, length, map, slice_get}
 use Rattle.codec_payload_runs.specs.Headline.{IsPushOf, IsUnused}
 use Rattle.codec_payload_buffer.specs.Held.{Held, has_number}
@@ -19,11 +19,11 @@ use Rattle.codec_payload_runs.specs.declared.run.Step.{Step}
 abbrev pub numbers_in : ℕ → ℕ → Stretch → List ℕ
 numbers_in first count w = stretch_numbers w.left w.pushes first count
 
--- those that its pushes evicted
+-- the packets that its pushes evicted
 abbrev pub evicted_in : ℕ → ℕ → Stretch → List ℕ
 evicted_in first count w = left_out w.left (numbers_in first count w)
 
--- a push of the packet of that number, in bytes and metadata
+-- a push of the packet with that number, in bytes and metadata
 abbrev pub IsSentPacket : (ℕ → Packet → RtpMeta → Type 0) → List Packet → Held → Type 0
 IsSentPacket known packets p = (k : ℕ) × (q : Packet) × (slice_get packets k ≡ Some q) × known k q p.meta × (p.bytes ≡ q.payload)
 
@@ -51,7 +51,7 @@ AreStretches known first packets (turn ∷ turns) end =
 abbrev pub IsOrderFree : {samples : List Sample} {all_steps : List Step} {s : RunState} {sends : List Sent} {pops : List Answer} {t : RunState} → RunLog samples all_steps s sends pops t → Type 0
 IsOrderFree {all_steps = all_steps} {s = s} {sends = sends} {t = t} log = AreStretches (IsPushOf all_steps sends s.payloading.clock_rate) s.sink.first t.sink.packets log.turns log.end
 
--- the number of the first packet of a unit, and that of the last
+-- the number of the first packet of a unit, and of the last
 abbrev pub first_number : List RtpMeta → ℕ
 first_number [] = 0
 first_number (m ∷ ms) = m.seq_no.0
@@ -60,8 +60,7 @@ abbrev pub last_number : ℕ → List RtpMeta → ℕ
 last_number n [] = n
 last_number n (m ∷ ms) = last_number m.seq_no.0 ms
 
--- a released unit follows the one before it, which ends at that number; or it is the first, and nothing was evicted
--- before it
+-- a released unit follows the previous one, which ends at that number; or it is the first, and nothing was evicted before it
 abbrev pub FollowsAsSaid : Option ℕ → Bool → Answer → Type 0
 FollowsAsSaid last evicted None = Unit {0}
 FollowsAsSaid last evicted (Some (Err fault)) = Unit {0}
@@ -90,11 +89,11 @@ abbrev pub IsContiguousAsSaid : {samples : List Sample} {all_steps : List Step} 
     → RunLog samples all_steps s sends pops t → Type 0
 IsContiguousAsSaid {s = s} {t = t} log = next_id s.payloading.packetizer ≡ None → AllFollowAsSaid s.sink.first (length t.sink.packets) None false log.turns
 
--- all but when a packet was received
+-- all except the receive time of a packet
 abbrev pub bare_meta : RtpMeta → RtpMeta
 bare_meta m = record m { received = record { 0 = 0 } }
 
--- a unit, and an answer, of whose packets less is told
+-- a unit, and a result, with reduced metadata of its packets
 abbrev pub release_with : (RtpMeta → RtpMeta) → Release → Release
 release_with less r = record r { metas = map less r.metas }
 
@@ -110,8 +109,7 @@ PushTheSame [] (other ∷ others) = ⊥
 PushTheSame (turn ∷ turns) [] = ⊥
 PushTheSame (turn ∷ turns) (other ∷ others) = ((n : ℕ) → has_number n turn.stretch.pushes ≡ has_number n other.stretch.pushes) × PushTheSame turns others
 
--- two runs over the same packets that push the same ones before each pop are answered the same, all but when each packet
--- was received
+-- two runs over the same packets that push the same ones before each pop get the same results, except for the receive times
 abbrev pub OnlySetsCount : Type 0
 OnlySetsCount = (samples : List Sample) (all_steps other_steps : List Step) (s t u : RunState) (sends other_sends : List Sent) (pops other_pops : List Answer)
     → Runs samples 0 all_steps s sends pops t → Runs samples 0 other_steps s other_sends other_pops u → t.sink.packets ≡ u.sink.packets

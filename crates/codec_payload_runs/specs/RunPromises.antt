@@ -1,4 +1,4 @@
--- What is promised of a whole run.
+-- The guarantees of a whole run.
 use Rattle.std.specs.Prelude.{List, map}
 use Rattle.codec_payload_base.specs.declared.wire.ToPayload.{ToPayload}
 use Rattle.codec_payload_runs.specs.Exact.{ReleasesUnits}
@@ -15,8 +15,8 @@ use Rattle.codec_payload_runs.specs.declared.run.Run.{Run}
 use Rattle.codec_payload_runs.specs.declared.run.Sent.{Sent}
 use Rattle.codec_payload_runs.specs.declared.run.Step.{Step}
 
--- a run: the samples, the steps, the payloader, the buffer and the sink before; the entries of the sends, the answers of
--- the pops, and the three afterwards
+-- a run: the samples, the steps, the payloader, the buffer and the sink before; the entries of the sends, the results of the pops,
+-- and the three afterwards
 pub record Ran : Type 0 where
   pub samples : List Sample
   pub steps : List Step
@@ -28,16 +28,16 @@ pub record Ran : Type 0 where
 abbrev pub ran : List ToPayload → List Step → RunState → Run → RunState → Ran
 ran samples steps before run after = record { samples = map sample_of samples; steps = steps; before = before; sends = run.sends.items; pops = run.pops.items; after = after }
 
--- the premises: the packetizer is that of a codec, the sink and the buffer are unused, the buffer reads what the payloader makes, and what is sent of the
--- samples can be read again
+-- the premises: the packetizer is built in, the sink and the buffer are unused, the buffer reads the payloader's payloads, and the
+-- packets sent for the samples can be read back
 abbrev pub IsFresh : Ran → Type 0
 IsFresh r = IsUnused r.before × AreReadable r.before.payloading.packetizer r.samples
 
--- a log tells the run pop by pop
+-- a log describes the run pop by pop
 abbrev pub LogOf : Ran → Type 0
 LogOf r = RunLog r.samples r.steps r.before r.sends r.pops r.after
 
--- this holds of each log of a run that keeps the premise
+-- this applies to each log of a run that meets the premise
 abbrev pub OfEachLog : Type 0 → (r : Ran) → (LogOf r → Type 0) → Type 0
 OfEachLog premise r P = premise → (log : LogOf r) → P log
 
@@ -45,8 +45,8 @@ OfEachLog premise r P = premise → (log : LogOf r) → P log
 abbrev pub RunsAsSteps : Ran → Type 0
 RunsAsSteps r = Runs r.samples 0 r.steps r.before r.sends r.pops r.after
 
--- Counts: one entry for each `Send` that names a sample, one answer for each `Pop`, and the sink gains what the entries
--- count. This and the run as steps hold of every codec, also of a caller's own.
+-- Counts: one entry for each `Send` that names a sample, one result for each `Pop`, and the sink gains the packets that the entries
+-- count. This, and the run as steps, apply to every codec, including custom ones.
 abbrev pub CountsSteps : Ran → Type 0
 CountsSteps r = IsCounted r.samples r.steps r.before r.sends r.pops r.after
 
@@ -55,11 +55,11 @@ CountsSteps r = IsCounted r.samples r.steps r.before r.sends r.pops r.after
 abbrev pub IsSafe : Type 0 → Ran → Type 0
 IsSafe premise r = premise → ReleasesInOrder r.samples r.steps r.before r.sends r.pops r.after
 
--- The exact half: where the buffer has room for all packets and each is pushed before the first pop, all of these units.
+-- The exact half: if the buffer has room for all packets and each is pushed before the first pop, all of these units.
 abbrev pub IsExact : Type 0 → Ran → Type 0
 IsExact premise r = premise → ReleasesUnits r.samples r.steps r.before r.sends r.pops r.after
 
--- Every run can be told pop by pop: what was pushed since the pop before, the answer, and the buffer.
+-- Every run can be described pop by pop: the pushes since the previous pop, the result, and the buffer.
 abbrev pub IsLogged : Type 0 → Ran → Type 0
 IsLogged premise r = premise → LogOf r
 
@@ -67,34 +67,34 @@ IsLogged premise r = premise → LogOf r
 abbrev pub IsFreeOfOrder : Type 0 → Ran → Type 0
 IsFreeOfOrder premise r = OfEachLog premise r IsOrderFree
 
--- Contiguous: where not both picture id and TL0PICIDX are sent, a unit is told contiguous exactly where its first number follows the last of
--- the release before, or it is the first and no packet was evicted before it.
+-- Contiguous: if picture id and TL0PICIDX are not both sent, a unit is reported as contiguous exactly if its first number follows
+-- the last number of the previous release, or it is the first and no packet was evicted before it.
 abbrev pub TellsContiguous : Type 0 → Ran → Type 0
 TellsContiguous premise r = OfEachLog premise r IsContiguousAsSaid
 
--- No silent loss: a unit that is held whole before a pop is released by that or a later one, or held whole in the end,
--- unless a packet of it was evicted, or a pop passed it over.
+-- No silent loss: a unit that is held whole before a pop is released by that or a later one, or held whole in the end, unless a
+-- packet of it was evicted, or a pop skipped it.
 abbrev pub LosesNothingSilently : Type 0 → Ran → Type 0
 LosesNothingSilently premise r = OfEachLog premise r LosesNoneSilently
 
--- Where not both picture id and TL0PICIDX are sent, no pop passes a unit over.
+-- If picture id and TL0PICIDX are not both sent, no pop skips a unit.
 abbrev pub PassesNothingOver : Type 0 → Ran → Type 0
 PassesNothingOver premise r = OfEachLog premise r PassesNoneOver
 
--- Where both are, a unit is passed over only behind 16,384 units in a row of which no pop took one.
+-- If both are sent, a unit is skipped only after 16,384 units in a row that no pop returned.
 abbrev pub PassesOverPastGaps : Type 0 → Ran → Type 0
 PassesOverPastGaps premise r = OfEachLog premise r PassesOnlyPastGap
 
--- Beginning: where the first release is the first unit, whole, nothing is evicted and no pop is made too early, the units
--- released are the first of those that were sent, each whole.
+-- Beginning: if the first release is the first unit, whole, nothing is evicted and no pop is too early, the released units are the
+-- first of the sent ones, each whole.
 abbrev pub BeginsWithFirst : Type 0 → Ran → Type 0
 BeginsWithFirst premise r = OfEachLog premise r BeginsAsSent
 
--- Extension values: a release that is a unit of video, whole, has the extension values of the sample of that unit.
+-- Extension values: a release that is a whole unit of video has the extension values of that unit's sample.
 abbrev pub TellsExtensionValues : Type 0 → Ran → Type 0
 TellsExtensionValues premise r = premise → (released : ReleasesInOrder r.samples r.steps r.before r.sends r.pops r.after) → HaveValuesOfSamples released
 
--- all of it, where that premise is kept
+-- all of it, if that premise is met
 pub record KeepsPromisesIf (premise : Type 0) (r : Ran) : Type 0 where
   pub run_as_steps : RunsAsSteps r
   pub counted : CountsSteps r

@@ -19,8 +19,8 @@ fresh stream packetizer depacketizer = run_state
     (empty_buffer stream.hold_back stream.limit depacketizer)
     (record { first = stream.first_number; packets = [] })
 
--- packetizer and depacketizer are those of the codec, both configured by the specification; and every promise of a run is
--- kept, where the samples can be read again, which is the one premise left
+-- packetizer and depacketizer belong to the codec, both configured by the specification; and every guarantee of a run is kept if
+-- the samples can be read back, the only remaining premise
 pub record RunsStream (stream : Stream) (samples : List ToPayload) (steps : List Step) (run : Run) : Type 0 where
   pub packetizer : PacketizerState
   pub sender : option_map (configured stream.spec.octet_align) (packetizer_state_for stream.mode stream.first_id stream.spec.codec) ≡ Some packetizer

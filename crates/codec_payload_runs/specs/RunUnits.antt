@@ -1,4 +1,4 @@
--- What becomes of units that are held whole, and when the released units are a beginning of those that were sent.
+-- The fate of units that are held whole, and when the released units are a beginning of the sent ones.
 use Rattle.std.specs.Prelude.{◌≡◌, ℕ, ◌+◌, ◌<◌, ◌≤◌, ◌⊎◌, Bool, true, List, [], ◌∷◌, Some, None, Ok, Err, Contains, length, slice_get}
 use Rattle.codec_payload_buffer.specs.Frames.{frames}
 use Rattle.codec_payload_runs.specs.Headline.{IsPushOf, packets_before, IsUnitAt}
@@ -12,13 +12,13 @@ use Rattle.codec_payload_send.specs.Sending.{Sample}
 use Rattle.codec_payload_runs.specs.SentStream.{SentUnit, packets_of}
 use Rattle.codec_payload_buffer.specs.Steps.{State}
 use Rattle.codec_payload_runs.specs.ReportedIds.{next_id}
-use Rattle.codec_payload_runs.specs.Units.{may_split}
+use Rattle.codec_payload_codec.specs.Packetizers.{may_split}
 use Rattle.codec_payload_buffer.specs.declared.buffer.frames.CompleteFrame.{CompleteFrame}
 use Rattle.codec_payload_buffer.specs.declared.buffer.unit.RtpMeta.{RtpMeta}
 use Rattle.codec_payload_runs.specs.declared.run.Sent.{Sent}
 use Rattle.codec_payload_runs.specs.declared.run.Step.{Step}
 
--- n is the number of a packet of the unit at that place, where the numbers of all packets go from `first` on
+-- n is the number of a packet of the unit at that place, if the numbers of all packets start at `first`
 pub record IsNumberIn (first : ℕ) (units : List SentUnit) (place n : ℕ) : Type 0 where
   pub from : first + packets_before place units ≤ n
   pub to : n < first + packets_before (place + 1) units
@@ -27,11 +27,11 @@ pub record IsNumberIn (first : ℕ) (units : List SentUnit) (place n : ℕ) : Ty
 abbrev pub IsHeldWhole : ℕ → List SentUnit → ℕ → State → Type 0
 IsHeldWhole first units place s = (n : ℕ) → IsNumberIn first units place n → has_number n s.held ≡ true
 
--- the release is that of the unit at that place, with nothing missing
+-- the release is the unit at that place, with nothing missing
 abbrev pub IsWholeAt : (ℕ → Packet → RtpMeta → Type 0) → Bool → List SentUnit → ℕ → Release → Type 0
 IsWholeAt known splits units place r = (is : IsUnitAt known splits units place r) × (is.missing ≡ [])
 
--- the answer is that release
+-- the result is that release
 abbrev pub ReleasesWhole : (ℕ → Packet → RtpMeta → Type 0) → Bool → List SentUnit → ℕ → Answer → Type 0
 ReleasesWhole known splits units place None = ⊥
 ReleasesWhole known splits units place (Some (Err fault)) = ⊥
@@ -43,17 +43,17 @@ IsReleasedIn known splits units place [] = ⊥
 IsReleasedIn known splits units place (turn ∷ turns) =
     ReleasesWhole known splits units place turn.answer ⊎ IsReleasedIn known splits units place turns
 
--- one of these frames is that of the whole unit
+-- one of these frames is the frame of the whole unit
 abbrev pub IsAmong : ℕ → List SentUnit → ℕ → List CompleteFrame → Type 0
 IsAmong first units place passed =
     (f : CompleteFrame) × Contains passed f × (f.first ≡ first + packets_before place units) × (f.last + 1 ≡ first + packets_before (place + 1) units)
 
--- one of these pops passes the unit over
+-- one of these pops skips the unit
 abbrev pub IsPassedOverIn : ℕ → List SentUnit → ℕ → List Turn → Type 0
 IsPassedOverIn first units place [] = ⊥
 IsPassedOverIn first units place (turn ∷ turns) = IsAmong first units place turn.passed ⊎ IsPassedOverIn first units place turns
 
--- a push of one of these stretches evicts the packet of that number
+-- a push of one of these stretches evicts the packet with that number
 abbrev pub IsEvictedIn : ℕ → ℕ → ℕ → List Turn → Stretch → Type 0
 IsEvictedIn first count n [] end = Contains (evicted_in first count end) n
 IsEvictedIn first count n (turn ∷ turns) end = Contains (evicted_in first count turn.stretch) n ⊎ IsEvictedIn first count n turns end
@@ -62,7 +62,7 @@ IsEvictedIn first count n (turn ∷ turns) end = Contains (evicted_in first coun
 abbrev pub LosesPacketIn : ℕ → List SentUnit → ℕ → List Turn → Stretch → Type 0
 LosesPacketIn first units place turns end = (n : ℕ) × IsNumberIn first units place n × IsEvictedIn first (length (packets_of units)) n turns end
 
--- what may become of a unit that is held whole before the first of these pops; `later` has those after the first
+-- the possible fates of a unit that is held whole before the first of these pops; `later` has the pops after the first
 pub data Fate (known : ℕ → Packet → RtpMeta → Type 0) (first : ℕ) (splits : Bool) (units : List SentUnit) (place : ℕ) (turns later : List Turn) (end : Stretch) : Type 0 where
   released : IsReleasedIn known splits units place turns → Fate known first splits units place turns later end
   skipped_over : IsPassedOverIn first units place turns → Fate known first splits units place turns later end
@@ -101,12 +101,12 @@ AnswerEnds P None = Unit {0}
 AnswerEnds P (Some (Err fault)) = Unit {0}
 AnswerEnds P (Some (Ok r)) = P (last_number 0 r.metas)
 
--- all units that these pops take, be they released or passed over, end at such numbers
+-- all units that these pops release or skip end at such numbers
 abbrev pub AllTakenEnd : (ℕ → Type 0) → List Turn → Type 0
 AllTakenEnd P [] = Unit {0}
 AllTakenEnd P (turn ∷ turns) = AllEnd P turn.passed × AnswerEnds P turn.answer × AllTakenEnd P turns
 
--- a unit that ends at e is none of the 16,384 from place n on
+-- a unit that ends at e is outside of the 16,384 from place n on
 abbrev pub EndsOutside : ℕ → List SentUnit → ℕ → ℕ → Type 0
 EndsOutside first units n e = (e < first + packets_before n units) ⊎ (first + packets_before (n + 16384) units ≤ e)
 
@@ -115,18 +115,18 @@ abbrev pub AllStartFrom : ℕ → List CompleteFrame → Type 0
 AllStartFrom n [] = Unit {0}
 AllStartFrom n (f ∷ fs) = (n ≤ f.first) × AllStartFrom n fs
 
--- and so do all that these pops pass over
+-- and so do all units that these pops skip
 abbrev pub AllPassedFrom : ℕ → List Turn → Type 0
 AllPassedFrom n [] = Unit {0}
 AllPassedFrom n (turn ∷ turns) = AllStartFrom n turn.passed × AllPassedFrom n turns
 
--- there are 16,384 units in a row of which these pops take none, and what they pass over comes after them
+-- there are 16,384 units in a row that these pops do not return, and the units that they skip come after them
 pub record IsGap (first : ℕ) (units : List SentUnit) (turns : List Turn) : Type 0 where
   pub place : ℕ
   pub none_taken : AllTakenEnd (EndsOutside first units place) turns
   pub later : AllPassedFrom (first + packets_before (place + 16384) units) turns
 
--- No silent loss, of what is passed over: nothing is, or so many units in a row were not taken before
+-- No silent loss, for skipped units: there are none, or 16,384 units in a row were not returned before
 abbrev pub PassesOnlyPastGap : {samples : List Sample} {all_steps : List Step} {s : RunState} {sends : List Sent} {pops : List Answer} {t : RunState} → RunLog samples all_steps s sends pops t → Type 0
 PassesOnlyPastGap {s = s} log = NonePassedOver log.turns ⊎ IsGap s.sink.first log.released.units log.turns
 

@@ -1,4 +1,4 @@
--- What the steps of a run do, one after another.
+-- The effect of the steps of a run, one after another.
 use Rattle.std.specs.Prelude.{false, ◌≡◌, ◌≢◌, ℕ, ◌<◌, ◌+◌, ◌%◌, ◌^◌, ◌⊎◌, List, [], ◌∷◌, ◌++◌, Option, Some, None, Result, Ok, Err, MatchOption, length, slice_get, refl}
 use Rattle.codec_payload_base.specs.Extensions.{no_values}
 use Rattle.codec_payload_base.specs.declared.error.PacketError.{PacketError}
@@ -14,7 +14,7 @@ use Rattle.codec_payload_runs.specs.declared.run.Sent.{Sent}
 use Rattle.codec_payload_runs.specs.declared.run.Step.{Step}
 use Rattle.codec_payload_runs.specs.declared.run.Step.TheVariants as steps
 
--- what a pop answers
+-- the result of a pop
 abbrev pub Answer : Type 0
 Answer = Option (Result Release PacketError)
 
@@ -24,7 +24,7 @@ pub record RunState : Type 0 where
   pub buffer : State
   pub sink : SentPackets
 
--- the payloads of an answer of a packetizer; a fault gives none
+-- the payloads in a packetizer's result; a fault gives none
 abbrev pub payloads_of : Result (List (List ℕ)) PacketError → List (List ℕ)
 payloads_of (Ok payloads) = payloads
 payloads_of (Err fault) = []
@@ -55,7 +55,7 @@ pub record SendsIt (place mtu : ℕ) (sample : Sample) (s : RunState) (entry : S
   pub few : length t.sink.packets < 2 ^ 63
   pub left : t ≡ after_send s packetizer packets
 
--- what is known of a packet that step `place` pushes
+-- the metadata of a packet that step `place` pushes
 abbrev pub meta_of_push : ℕ → ℕ → Packet → RtpMeta
 meta_of_push place clock_rate p = record {
   received = record { 0 = place };
@@ -77,7 +77,7 @@ abbrev pub Pushes : ℕ → ℕ → Option Packet → State → State → Type 0
 Pushes place clock_rate None s t = t ≡ s
 Pushes place clock_rate (Some p) s t = (held : Held) × IsArrived s.depacketizer (meta_of_push place clock_rate p) p.payload held × (t ≡ pushed s held)
 
--- one step, at its place: the entry of a `Send` and the answer of a `Pop`, if it is one
+-- one step, at its place: the entry of a `Send` and the result of a `Pop`, if it is one
 abbrev pub DoesStep : List Sample → ℕ → Step → RunState → List Sent → List Answer → RunState → Type 0
 DoesStep samples place (steps.Send i mtu) s sends pops t =
     (pops ≡ []) × MatchOption (slice_get samples i) ((sends ≡ []) × (t ≡ s)) (λ sample. (entry : Sent) × (sends ≡ entry ∷ []) × SendsIt place mtu sample s entry t)

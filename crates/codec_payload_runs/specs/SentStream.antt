@@ -1,4 +1,4 @@
--- What a run sends: its units, with their packets.
+-- The units that a run sends, with their packets.
 use Rattle.std.specs.Prelude.{◌≡◌, ℕ, ◌<◌, ◌⊎◌, Bool, true, false, List, [], ◌∷◌, ◌++◌, Option, Some, None, length, slice_get}
 use Rattle.std.specs.List.{flat_map}
 use Rattle.codec_payload_base.specs.Pieces.{joined}
@@ -19,7 +19,7 @@ abbrev pub packetizer_after_sample : PacketizerState → ℕ → Option Sample �
 packetizer_after_sample packetizer mtu None = packetizer
 packetizer_after_sample packetizer mtu (Some sample) = packetizer_after packetizer mtu sample.bytes
 
--- the units that the steps of a run send, in order: told by the samples and the steps alone
+-- the units that the steps of a run send, in order: determined by the samples and the steps
 abbrev pub units_of_run : PacketizerState → List Sample → List Step → List (List (List ℕ))
 units_of_run packetizer samples [] = []
 units_of_run packetizer samples (steps.Send i mtu ∷ later) =
@@ -27,13 +27,13 @@ units_of_run packetizer samples (steps.Send i mtu ∷ later) =
 units_of_run packetizer samples (steps.Push k ∷ later) = units_of_run packetizer samples later
 units_of_run packetizer samples (steps.Pop ∷ later) = units_of_run packetizer samples later
 
--- what is sent of these samples can be read again
+-- the packets sent for these samples can be read back
 abbrev pub AreReadable : PacketizerState → List Sample → Type 0
 AreReadable packetizer [] = Unit {0}
 AreReadable packetizer (sample ∷ samples) = (is_readable packetizer sample.bytes ≡ true) × AreReadable packetizer samples
 
--- a unit that was sent, in its parts, with its packets, and the picture id that these carry, if they carry that of the
--- base layer besides
+-- a unit that was sent, in its parts, with its packets, and the picture id that these carry, if they also carry the id of the base
+-- layer
 pub record SentUnit : Type 0 where
   pub parts : List (List ℕ)
   pub packets : List Packet
@@ -49,12 +49,12 @@ EndsWithTail kind [] = ⊥
 EndsWithTail kind (p ∷ []) = tail_in kind p.marker p.payload ≡ true
 EndsWithTail kind (p ∷ q ∷ ps) = (tail_in kind p.marker p.payload ≡ false) × EndsWithTail kind (q ∷ ps)
 
--- the packets of each of these units end with their only tail
+-- the packets of each of these units end with their only last packet
 abbrev pub AllEndWithTail : DepacketizerKind → List SentUnit → Type 0
 AllEndWithTail kind [] = Unit {0}
 AllEndWithTail kind (u ∷ us) = EndsWithTail kind u.packets × AllEndWithTail kind us
 
--- the bytes are the unit whole, where no packet of it is missing, or else its last parts, where it may be split
+-- the bytes are the whole unit, if no packet of it is missing, or else its last parts, if it may be split
 abbrev pub IsReleaseOf : Bool → SentUnit → List Packet → List ℕ → Type 0
 IsReleaseOf splits u missing bytes =
     ((missing ≡ []) × (bytes ≡ joined u.parts))

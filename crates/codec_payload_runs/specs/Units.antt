@@ -1,4 +1,4 @@
--- The units of a frame: what a receiver is to be given of it.
+-- The units of a frame: the bytes that a receiver should get.
 use Rattle.std.specs.Prelude.{◌≡◌, ℕ, ◌||◌, not, Bool, true, false, List, [], ◌∷◌, Option, Some, None, is_some, if◌then◌else◌, map, take, refl}
 use Rattle.codec_payload_audio.specs.AmrWb.{Frame, amr_wb_is_skipped, amr_wb_refusal, canonical as canonical_frame, stored}
 use Rattle.codec_payload_audio.specs.Payloads.{whole_refusal}
@@ -12,8 +12,6 @@ use Rattle.codec_payload_av1.specs.Av1Obu.{Obu, canonical, frame_kept}
 use Rattle.codec_payload_av1.specs.Av1Steps.{av1_is_skipped, av1_refusal}
 use Rattle.codec_payload_vp8.specs.Vp8Sent.{advanced, header_size}
 use Rattle.codec_payload_vp9.specs.Vp9Sent.{advanced as sender_advanced, begun, reserve_in}
-use Rattle.codec_payload_codec.specs.Depacketizers.{DepacketizerKind, G711Payloads, OpusPayloads, NullPayloads, Vp8Payloads, Vp9Payloads}
-use Rattle.codec_payload_codec.specs.Depacketizers.{ComfortNoisePayloads, TelePayloads, Av1Payloads, AmrWbPayloads, BoxedPayloads}
 use Rattle.codec_payload_codec.specs.Packetizers.{PacketizerState, G711Packetizing, G722Packetizing, OpusPacketizing, NullPacketizing, Vp8Packetizing}
 use Rattle.codec_payload_codec.specs.Packetizers.{Vp9Packetizing, ComfortNoisePacketizing, TelePacketizing, Av1Packetizing, AmrWbPacketizing, BoxedPacketizing}
 
@@ -31,7 +29,7 @@ is_skipped Av1Packetizing mtu frame = av1_is_skipped mtu frame
 is_skipped (AmrWbPacketizing octet) mtu frame = amr_wb_is_skipped frame
 is_skipped BoxedPacketizing mtu frame = false
 
--- the fault with which a frame that is not skipped is refused, if it is; want of memory is no such fault
+-- the fault with which a frame that is not skipped is refused, if it is; out of memory is not such a fault
 abbrev pub refusal_of : PacketizerState → ℕ → List ℕ → Option PacketError
 refusal_of G711Packetizing mtu frame = None
 refusal_of G722Packetizing mtu frame = None
@@ -59,8 +57,7 @@ abbrev pub canonical_obus : Option (List Obu) → List (List ℕ)
 canonical_obus None = []
 canonical_obus (Some os) = map canonical os
 
--- the units of a frame that is sent, each in its parts: units of several parts are those of which a receiver may lose
--- the first
+-- the units of a frame that is sent, each in its parts: of a unit of several parts a receiver may lose the first ones
 abbrev pub units_sent : PacketizerState → ℕ → List ℕ → List (List (List ℕ))
 units_sent G711Packetizing mtu frame = each_whole (pieces_of mtu frame)
 units_sent G722Packetizing mtu frame = each_whole (pieces_of mtu frame)
@@ -84,52 +81,16 @@ canonical_units packetizer mtu frame = units_by (is_skipped packetizer mtu frame
 
 -- the packetizer after a frame that was not refused for memory
 abbrev pub packetizer_after : PacketizerState → ℕ → List ℕ → PacketizerState
-packetizer_after G711Packetizing mtu frame = G711Packetizing
-packetizer_after G722Packetizing mtu frame = G722Packetizing
-packetizer_after OpusPacketizing mtu frame = OpusPacketizing
-packetizer_after NullPacketizing mtu frame = NullPacketizing
 packetizer_after (Vp8Packetizing id) mtu frame = Vp8Packetizing (advanced (not (is_skipped (Vp8Packetizing id) mtu frame)) id)
 packetizer_after (Vp9Packetizing sender) mtu frame = Vp9Packetizing (sender_advanced (not (is_skipped (Vp9Packetizing sender) mtu frame)) (begun sender mtu frame))
-packetizer_after ComfortNoisePacketizing mtu frame = ComfortNoisePacketizing
-packetizer_after TelePacketizing mtu frame = TelePacketizing
-packetizer_after Av1Packetizing mtu frame = Av1Packetizing
-packetizer_after (AmrWbPacketizing octet) mtu frame = AmrWbPacketizing octet
-packetizer_after BoxedPacketizing mtu frame = BoxedPacketizing
+packetizer_after packetizer mtu frame = packetizer
 
--- the payloads that a packetizer makes
-abbrev pub payloads_by : PacketizerState → DepacketizerKind
-payloads_by G711Packetizing = G711Payloads
-payloads_by G722Packetizing = G711Payloads
-payloads_by OpusPacketizing = OpusPayloads
-payloads_by NullPacketizing = NullPayloads
-payloads_by (Vp8Packetizing id) = Vp8Payloads
-payloads_by (Vp9Packetizing sender) = Vp9Payloads
-payloads_by ComfortNoisePacketizing = ComfortNoisePayloads
-payloads_by TelePacketizing = TelePayloads
-payloads_by Av1Packetizing = Av1Payloads
-payloads_by (AmrWbPacketizing octet) = AmrWbPayloads octet
-payloads_by BoxedPacketizing = BoxedPayloads
-
--- whether a receiver may be given the last parts of a unit alone
-abbrev pub may_split : PacketizerState → Bool
-may_split G711Packetizing = false
-may_split G722Packetizing = false
-may_split OpusPacketizing = false
-may_split NullPacketizing = false
-may_split (Vp8Packetizing id) = false
-may_split (Vp9Packetizing sender) = false
-may_split ComfortNoisePacketizing = false
-may_split TelePacketizing = false
-may_split Av1Packetizing = true
-may_split (AmrWbPacketizing octet) = false
-may_split BoxedPacketizing = false
-
--- whether what is sent of a frame can be read again: of telephone events whole reports, and all of any other codec
+-- whether the packets sent for a frame can be read back: for telephone events whole reports, and everything for any other codec
 abbrev pub is_readable : PacketizerState → List ℕ → Bool
 is_readable TelePacketizing frame = is_empty frame || are_reports frame
 is_readable packetizer frame = true
 
--- Opus at an MTU of 2: three bytes are two units; at an MTU of 0 they are none
+-- Opus at an MTU of 2: three bytes are two units; at an MTU of 0 there are none
 pub canonical_units-opus : canonical_units OpusPacketizing 2 (0x90 ∷ 0x90 ∷ 0x90 ∷ []) ≡ ((0x90 ∷ 0x90 ∷ []) ∷ []) ∷ ((0x90 ∷ []) ∷ []) ∷ []
 canonical_units-opus = refl
 

@@ -1,4 +1,4 @@
-//! Whole runs, from samples to units, and what holds of them.
+//! Whole runs, from samples to units, and theorems on them.
 #![tactic(auto)]
 
 mod plain;

@@ -29,15 +29,15 @@ use std::alloc::Global;
 /// One step of a run.
 #[derive(Clone, Copy, Debug, PartialEq, Eq)]
 pub enum Step {
-    /// Sends the sample of that index, cut for an MTU in bytes. Passed over where there is no such sample.
+    /// Sends the sample with this index, cut for an MTU in bytes. Skipped if there is no such sample.
     Send { sample: usize, mtu: usize },
-    /// Pushes a copy of the packet of that index, from 0, that the sink holds. Passed over where there is no such packet.
+    /// Pushes a copy of the packet with this index, from 0, that the sink holds. Skipped if there is no such packet.
     Push(usize),
     /// Pops.
     Pop,
 }
 
-/// What came of the steps.
+/// The results of the steps.
 #[derive(Debug, Drop)]
 pub struct Run {
     /// One entry for each `Send` step that names a sample, in order.
@@ -46,7 +46,7 @@ pub struct Run {
     pub pops: Vec<Option<Result<Depacketized, PacketError>>>,
 }
 
-/// What came of a `Send` step.
+/// The result of a `Send` step.
 #[derive(Debug, Drop)]
 pub struct Sent {
     /// The place of the step, from 0.
@@ -81,7 +81,7 @@ pub struct Stream {
     pub first_id: u16,
     /// The number of the first packet: 0 to 2^62.
     pub first_number: u64,
-    /// How many complete frames may wait behind a gap; one more, and the gap is given up.
+    /// How many complete frames may wait after a gap; with one more, the buffer stops waiting for the gap.
     pub hold_back: usize,
     /// How many packets the buffer holds at most: 1 to 65,536.
     pub limit: usize,
@@ -89,17 +89,17 @@ pub struct Stream {
 
 /// Does the steps in order: sends samples into the sink, pushes packets that the sink holds into the buffer, and pops.
 ///
-/// A `Send` whose sample the packetizer refuses is noted with the fault, and the run goes on. Want of memory ends the run:
-/// the payloader, the buffer and the sink are then as the refused call left them, and the units popped before are given
-/// up with the entries. Room for an entry is found before its step begins, so no unit is popped that cannot be answered.
+/// A `Send` whose sample the packetizer refuses is recorded with the fault, and the run continues. Out of memory ends the run: the
+/// payloader, the buffer and the sink are then as the failed call left them, and the units popped before are discarded with the
+/// entries. Memory for an entry is allocated before its step begins, so every popped unit can be returned.
 ///
-/// Each pushed packet is a copy. The cost is that of the calls, one after another.
+/// Each pushed packet is a copy. The cost is the sum of the calls.
 ///
 /// With `red`, a `Send` goes through a [`RedSink`](codec_payload_send::red_sink::RedSink), and a `Push` pushes each packet that the
-/// receiver recovers from the payload of the packet it names, in payload order, instead of that packet. Each is told with
-/// its own number and RTP time under the receiver's payload type; the packet itself, which comes last, with its marker and
-/// its values of header extensions, those that were sent before it without. A payload that is no RED (fault 14) is passed
-/// over. On want of memory the packets before the refused one stay pushed.
+/// receiver recovers from the named packet's payload, in payload order, instead of that packet. Each has its own number and RTP
+/// time, under the receiver's payload type. The packet itself comes last, with its marker and its values of header extensions;
+/// recovered packets have neither. An invalid RED payload (fault 14) is skipped. If memory runs out, the packets before the refused
+/// one stay pushed.
 pub fn run_schedule<P: Packetizer, D: Depacketizer>(
     alloc: Global,
     payloader: &mut Payloader<P>,
@@ -116,9 +116,9 @@ pub fn run_schedule<P: Packetizer, D: Depacketizer>(
     ensures fault { IfErr result (λ fault. fault ≡ OutOfMemory) }
     ensures stops { IsNone red.entry → OnErr result (Stops (map sample_of samples.now) 0 steps.now (run_state payloader.old buffer.old sink.old)
         (run_state payloader.new buffer.new sink.new)) }
-    // With RED: run as steps, and the same promises with what is recovered as further pushes: see `specs/RedPromises.antt`.
-    // Some packets make them true: those that were sent, as they were before they were put in RED. The sender is that behind
-    // the reference, as the run leaves it.
+    // With RED: run as steps, and the same guarantees with the recovered packets as further pushes: see `specs/RedPromises.antt`.
+    // They hold for the packets that were sent, as they were before RED. The sender is the one behind the reference, as the run
+    // leaves it.
     ensures red_promises { IfSome red.entry (λ lent. (sender : Sender) × LeavesSender red.exit sender × IfOk result (λ run. (sent : List Packet) × KeepsRedPromises (ran_in_red (protection_of lent) samples.now steps.now
         (red_state payloader.old buffer.old sink.old sink.old.packets lent.sender.now) run (red_state payloader.new buffer.new sink.new sent sender)))) }
     ensures red_stops { IfSome red.entry (λ lent. (sender : Sender) × LeavesSender red.exit sender × OnErr result ((sent : List Packet) × StopsInRed (protection_of lent) (map sample_of samples.now) 0 steps.now
@@ -136,8 +136,8 @@ pub fn run_schedule<P: Packetizer, D: Depacketizer>(
     }
 }
 
-/// Builds a payloader, a buffer and a sink for a stream, both sides configured by its specification, and runs the steps
-/// over them. The answer is `None` where the codec has no packetizer.
+/// Builds a payloader, a buffer and a sink for a stream, both sides configured by its specification, and runs the steps over them.
+/// `None` if the codec has no packetizer.
 pub fn run_stream(
     alloc: Global,
     stream: Stream,
@@ -178,7 +178,7 @@ pub fn run_stream(
     Ok(Some(run))
 }
 
-/// Why the sample was refused, if it was. Want of memory is no refusal.
+/// Why the sample was refused, if it was. Out of memory does not count as a refusal.
 pub(crate) fn refusal(answer: Result<(), PacketError>) -> Result<Option<PacketError>, PacketError>
     ensures ok { IfOk result (λ fault. (fault ≡ result_err answer) × (fault ≢ Option.Some OutOfMemory)) }
     ensures fault { IfErr result (λ fault. fault ≡ OutOfMemory) }
@@ -206,7 +206,7 @@ pub(crate) fn push_copy<D: Depacketizer>(
     buffer.push(meta, payload)
 }
 
-/// Pops, and notes the answer, for which it finds room first. Want of memory is no answer.
+/// Pops, and records the result, after it makes room for it. Out of memory is not recorded.
 pub(crate) fn pop_step<D: Depacketizer>(
     buffer: &mut DepacketizingBuffer<D>,
     run: &mut Run,

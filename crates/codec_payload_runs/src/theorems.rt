@@ -1,24 +1,24 @@
-//! What holds of all runs. These functions exist for what they prove, and do nothing.
+//! Theorems on all runs. These functions exist for their proofs and do nothing.
 
 ghost use Rattle.codec_payload_runs.specs.Arrivals.{ReleaseInOrder};
 ghost use Rattle.codec_payload_runs.specs.RedOrder.{OnlySetsCountInRed};
 ghost use Rattle.codec_payload_runs.specs.RunOrder.{OnlySetsCount};
 
-/// Only which packets are pushed before each pop counts: two runs over the same packets that push the same ones before
-/// each pop are answered the same, all but when each packet was received.
+/// Only the set of packets pushed before each pop matters: two runs over the same packets that push the same ones before each pop
+/// get the same results, except for the receive times.
 pub fn order_of_runs()
     ensures { OnlySetsCount }
 {}
 
-/// The same of two runs with RED from one beginning, whose packets come as themselves or are recovered from others: also all
-/// but the marker and the values of header extensions, which are not known of a packet that was recovered.
+/// The same for two runs with RED from one beginning, whose packets arrive as themselves or are recovered from others. Marker and
+/// header extension values may also differ, since a recovered packet has none.
 pub fn order_of_red_runs()
     ensures { OnlySetsCountInRed }
 {}
 
-/// Whatever comes of the packets that a run sends to an unused buffer that reads them, in whatever order and however often, and
-/// however many complete frames each pop waits for: both halves of the theorem hold of what the pops answer. So does a receiver
-/// keep them that is no part of a run.
+/// Let the packets that a run sends arrive at an unused buffer for their codec, in any order and any number of times, with any
+/// number of complete frames to wait for at each pop. Then both halves of the theorem hold for the popped units. So they also hold
+/// for a receiver outside of a run.
 pub fn release_in_order()
     ensures { ReleaseInOrder }
 {}

@@ -1,10 +1,11 @@
--- How the packets of a packetizer that a caller brings follow one another.
+-- How the packets of a custom packetizer follow one another.
 use Rattle.std.proofs.Common.{◌≡◌, ◌∙◌, sym, ap, refl, subst, ℕ, ◌+◌, ◌==◌, List, ◌∷◌, length, map, Bool, false, Option, Some, Result, Ok, Err, OnOk, IfErr}
 use Rattle.std.specs.Prelude.{MatchResult, ⊤}
 use Rattle.std.specs.Global.{Vec}
 use Rattle.std.proofs.lemmas.List.{length-map}
 use Rattle.codec_payload_base.specs.declared.error.PacketError.{PacketError}
 use Rattle.codec_payload_base.specs.declared.wire.extension.ExtensionValues.{ExtensionValues}
+use Rattle.codec_payload_codec.proofs.CodecLemmas.{own_packetizer}
 use Rattle.codec_payload_codec.specs.Packetizers.{PacketizerStep, packetizer_state_of, is_built_in}
 use Rattle.codec_payload_codec.specs.declared.codec.packetizer.CodecPacketizer.{CodecPacketizer}
 use Rattle.codec_payload_codec.specs.declared.codec.packetizer.CodecPacketizer.TheVariants as variants
@@ -14,21 +15,7 @@ use Rattle.codec_payload_send.specs.Sending.{Sample}
 use Rattle.codec_payload_base.specs.StrippedValues.{stripped}
 use Rattle.codec_payload_send.proofs.SendLemmas.{is_last_at_end}
 
--- one that is not built in is the caller's
-pub own_packetizer : {B : Type 0} (p : CodecPacketizer B) → is_built_in (packetizer_state_of p) ≡ false → (b : B) × (p ≡ variants.Boxed b)
-own_packetizer (variants.G711 _) other = absurd (cc)
-own_packetizer (variants.G722 _) other = absurd (cc)
-own_packetizer (variants.Opus _) other = absurd (cc)
-own_packetizer (variants.Null _) other = absurd (cc)
-own_packetizer (variants.Vp8 _) other = absurd (cc)
-own_packetizer (variants.Vp9 _) other = absurd (cc)
-own_packetizer (variants.ComfortNoise _) other = absurd (cc)
-own_packetizer (variants.Tele _) other = absurd (cc)
-own_packetizer (variants.Av1 _) other = absurd (cc)
-own_packetizer (variants.AmrWb _) other = absurd (cc)
-own_packetizer (variants.Boxed b) other = (b, refl)
-
--- it stays the caller's
+-- a custom packetizer stays custom
 pub still_own_packetizer : {B : Type 0} (p q : CodecPacketizer B) (b : B) → p ≡ variants.Boxed b → packetizer_state_of q ≡ packetizer_state_of p → (b' : B) × (q ≡ variants.Boxed b')
 still_own_packetizer {B} p q b is same = own_packetizer q (ap is_built_in same ∙ ap (λ (x : CodecPacketizer B). is_built_in (packetizer_state_of x)) is)
 
@@ -38,7 +25,7 @@ pub still_own_cut : {B : Type 0} (p q : CodecPacketizer B) (b : B) (mtu : ℕ) (
 still_own_cut {B} p q b mtu frame answer is step = own_packetizer q
     (ap is_built_in (subst (λ (x : CodecPacketizer B). PacketizerStep (packetizer_state_of x) mtu frame answer (packetizer_state_of q)) is step))
 
--- what follows from what holds of an answer
+-- a consequence of a fact about a result
 pub both_ways : {T E P P' : Type 0} {Q Q' : E → Type 0} (r : Result T E) → (P → P') → ((e : E) → Q e → Q' e) → OnOk r P → IfErr r Q → MatchResult r (λ _. P') Q'
 both_ways (Ok x) f h p q = f p
 both_ways (Err e) f h p q = h e q

@@ -1,4 +1,4 @@
--- How what a sink took grows packet by packet.
+-- The packets that a sink accepted grow one by one.
 use Rattle.std.proofs.Common.{◌≡◌, ◌∙◌, sym, ap, refl, subst, ℕ, List, [], ◌∷◌, ◌++◌, append_assoc, map, length, ◌==◌, ◌+◌, ◌%◌, ◌^◌, ◌<◌, arith, length-append, Bool, true, false, suc, ◌||◌, ◌&&◌}
 use Rattle.std.specs.Global.{Vec}
 use Rattle.std.proofs.lemmas.List.{append-nil}
@@ -46,7 +46,7 @@ as_many b (p ∷ ps) (q ∷ qs) are = ap suc (as_many b ps qs are.1)
 as_many b [] (q ∷ qs) are = absurd are
 as_many b (p ∷ ps) [] are = absurd are
 
--- one packet, of which this packetizer told the marker, and whether it may be asked for again
+-- one packet, with the marker from this packetizer, and whether it may be retransmitted
 pub as_for : (p : PacketizerState) (sample : Sample) (rtp_time n number : ℕ) (values : ExtensionValues) (last marker nackable : Bool) (payload : List ℕ) → number ≡ n
     → (is_built_in p ≡ true → marker ≡ (marker_of p last || (talk_spurt_of p && sample.start_of_talk_spurt))) → (is_built_in p ≡ true → nackable ≡ nackable_of p)
     → IsAs (is_built_in p) (record {
@@ -91,7 +91,7 @@ module _ (b : Bool) {S : Type 0} (accepts : S → Packet → Packet → S → Ty
     pub goes_on : next now ≡ number_after (next before) images
     pub whole : AreAs b (begun ++ rest) all
 
-  -- one packet more behind those that were taken
+  -- one packet more after the accepted ones
   pub sends_one : (before : S) (begun images : List Packet) (mid : S) (packet image : Packet) (after : S)
       → Sends accepts before begun images mid → accepts mid packet image after
       → Sends accepts before (begun ++ packet ∷ []) (images ++ image ∷ []) after
@@ -115,7 +115,7 @@ module _ (b : Bool) {S : Type 0} (accepts : S → Packet → Packet → S → Ty
     whole = subst (λ (ps : List Packet). AreAs b ps all) (sym (append_assoc so_far.begun (packet ∷ []) rest)) (as_in_place b so_far.begun packet like rest all is so_far.whole);
   }
 
-  -- where nothing is left, all were sent
+  -- if nothing is left, all were sent
   pub all_so_far : (before : S) (all : List Packet) (now : S) (so_far : SentSoFar before all [] now) → AreAs b so_far.begun all
   all_so_far before all now so_far = subst (λ (ps : List Packet). AreAs b ps all) (append-nil _) so_far.whole
 
@@ -161,7 +161,7 @@ next_so_far accepts sent next before all packetizer here sample rtp_time vs v le
     (subst (λ (p : PacketizerState). IsAs (is_built_in p) one.0 (packet_for p sample rtp_time (next mid) values (place + 1 == count) v.items)) same one.1) _ mid one.2 after
     unfolded one.3 one.4 one.5
 
--- what a sink in memory makes of packets: it keeps them
+-- a sink in memory keeps its packets
 abbrev pub Keeps : SentPackets → Packet → Packet → SentPackets → Type 0
 Keeps before packet image after = (image ≡ packet) × (after ≡ record before { packets = before.packets ++ packet ∷ [] }) × (after.first + length after.packets < 2 ^ 64)
 

@@ -1,4 +1,4 @@
--- How a sample is sent through a packetizer that a caller brings: what it is asked, and what comes of its answers.
+-- How a sample is sent through a custom packetizer: the questions to it, and the use of its answers.
 use Rattle.std.specs.Prelude.{◌≡◌, ℕ, ◌+◌, ◌&&◌, ◌||◌, ◌⊎◌, Bool, false, List, [], ◌∷◌, Option, Some, None, Result, Ok, Err, MatchResult, length, ⊤}
 use Rattle.codec_payload_base.specs.declared.error.PacketError.{PacketError}
 use Rattle.codec_payload_base.specs.declared.wire.extension.ExtensionValues.{ExtensionValues}
@@ -7,8 +7,9 @@ use Rattle.codec_payload_send.specs.Packets.{Packet, last_payload}
 use Rattle.codec_payload_send.specs.Sending.{Sample, packet_for, is_last, rtp_time_at, IsAs}
 use Rattle.codec_payload_base.specs.StrippedValues.{stripped}
 
--- the packetizer b is asked once for the marker of a payload, after that previous payload and as the last or not, and is then b'. The
--- marker is set besides where a talk spurt starts, if b marks those; and b' says of the packet whether it may be asked for again
+-- the packetizer b is asked once for the marker of a payload, with that previous payload, and whether it is the last; it is then
+-- b'. The marker is also set at the start of a talk spurt, if b marks them; and b' says of the packet whether it may be
+-- retransmitted
 pub record IsAsked {B : Type 0} (state : B → List ℕ) (mark : B → List ℕ → Option (List ℕ) → Bool → Bool → List ℕ → Type 0) (spurts may_ask : B → Bool)
     (b : B) (starts : Bool) (payload : List ℕ) (previous : Option (List ℕ)) (last marker nackable : Bool) (b' : B) : Type 0 where
   pub answer : Bool
@@ -19,8 +20,8 @@ pub record IsAsked {B : Type 0} (state : B → List ℕ) (mark : B → List ℕ 
 module _ {B S : Type 0} (state : B → List ℕ) (mark : B → List ℕ → Option (List ℕ) → Bool → Bool → List ℕ → Type 0) (spurts may_ask : B → Bool)
     (accepts : S → Packet → Packet → S → Type 0) (refuses : S → Packet → PacketError → S → Type 0) (sent : S → List Packet) (next : S → ℕ)
     (sample : Sample) (rtp_time : ℕ) where
-  -- one payload becomes a packet with these values, for whose marker the packetizer b is asked, which is then b'; the sink takes the
-  -- packet, or refuses it with that fault
+  -- one payload becomes a packet with these values; the packetizer b gives its marker and is then b'; the sink accepts the packet,
+  -- or refuses it with that fault
   pub record OwnPacket (values : ExtensionValues) (last : Bool) (payload : List ℕ) (b : B) (before : S) (answer : Result ⊤ PacketError) (b' : B) (after : S) : Type 0 where
     pub packet : Packet
     pub told : IsAs false packet (packet_for BoxedPacketizing sample rtp_time (next before) values last payload)

@@ -1,4 +1,4 @@
--- Packets on their way out, without where they lie in memory.
+-- Outgoing packets, without their places in memory.
 use Rattle.std.specs.Prelude.{◌≡◌, ℕ, ◌+◌, Bool, List, [], ◌∷◌, Option, option_map, slice_get, length, ◌-◌, map}
 use Rattle.codec_payload_base.specs.declared.wire.extension.ExtensionValues.{ExtensionValues}
 use Rattle.codec_payload_send.specs.declared.sink.OutgoingPacket.{OutgoingPacket}

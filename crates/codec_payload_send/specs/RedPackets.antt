@@ -1,4 +1,4 @@
--- Packets that go out in RED (RFC 2198), and the sink that puts them so.
+-- Packets sent in RED (RFC 2198), and the sink that wraps them.
 use Rattle.std.specs.Prelude.{◌≡◌, ℕ, List}
 use Rattle.codec_payload_base.specs.declared.error.PacketError.{PacketError}
 use Rattle.codec_payload_base.specs.declared.error.PacketError.TheVariants.{OutOfMemory}

@@ -8,7 +8,7 @@ use Rattle.codec_payload_codec.specs.Packetizers.{PacketizerState, PacketizerSte
 use Rattle.codec_payload_send.specs.Packets.{Packet}
 use Rattle.codec_payload_base.specs.StrippedValues.{stripped}
 
--- a sample, without where its bytes lie
+-- a sample, without the place of its bytes
 pub record Sample : Type 0 where
   pub pt : ℕ
   pub wallclock : ℕ
@@ -32,11 +32,11 @@ pub record Payloading : Type 0 where
   pub packetizer : PacketizerState
   pub clock_rate : ℕ
 
--- the RTP time: that of the sample by the RTP clock, of which 32 bits are kept
+-- the RTP time: the time of the sample by the RTP clock, reduced to 32 bits
 abbrev pub rtp_time_at : ℕ → Time → ℕ
 rtp_time_at clock_rate time = (rebased time clock_rate).numer % 2 ^ 32
 
--- one packet of a sample, with those of its extension values that go on it; `last` says that no other of the sample follows
+-- one packet of a sample, with the extension values for its place; `last` says that no other packet of the sample follows
 abbrev pub packet_for : PacketizerState → Sample → ℕ → ℕ → ExtensionValues → Bool → List ℕ → Packet
 packet_for packetizer sample rtp_time number ext_vals last payload = record {
   pt = sample.pt;
@@ -64,13 +64,13 @@ packets_from packetizer sample rtp_time number place (payload ∷ payloads) =
 abbrev pub packets_for : PacketizerState → Sample → ℕ → ℕ → List (List ℕ) → List Packet
 packets_for packetizer sample rtp_time number payloads = packets_from packetizer sample rtp_time number 0 payloads
 
--- the packet is q where the packetizer is built in; one that a caller brings tells the marker, and whether the packet may be asked for
--- again, as it likes
+-- the packet is q if the packetizer is built in; a custom one chooses the marker, and whether the packet may be retransmitted,
+-- freely
 abbrev pub IsAs : Bool → Packet → Packet → Type 0
 IsAs true p q = p ≡ q
 IsAs false p q = p ≡ record q { marker = p.marker; nackable = p.nackable }
 
--- the same of each of these packets
+-- the same for each of these packets
 abbrev pub AreAs : Bool → List Packet → List Packet → Type 0
 AreAs built_in [] [] = Unit {0}
 AreAs built_in (p ∷ ps) (q ∷ qs) = IsAs built_in p q × AreAs built_in ps qs
@@ -83,12 +83,12 @@ Sends accepts before [] images after = (images ≡ []) × (after ≡ before)
 Sends {S} accepts before (packet ∷ packets) images after =
     (image : Packet) × (more : List Packet) × (mid : S) × (images ≡ image ∷ more) × accepts before packet image mid × Sends accepts mid packets more after
 
--- the number that comes after those of these packets
+-- the number after the numbers of these packets
 abbrev pub number_after : ℕ → List Packet → ℕ
 number_after number [] = number
 number_after number (packet ∷ packets) = number_after ((number + 1) % 2 ^ 64) packets
 
--- the packets of the sample were sent: those of the payloads that the packetizer gives, and the sink gained their images
+-- the packets of the sample were sent: one for each payload of the packetizer, and the sink gained their images
 pub record SendsSample {S : Type 0} (accepts : S → Packet → Packet → S → Type 0) (sent : S → List Packet) (next : S → ℕ) (mtu : ℕ) (sample : Sample) (p : Payloading)
     (before : S) (p' : Payloading) (after : S) : Type 0 where
   pub payloads : List (List ℕ)

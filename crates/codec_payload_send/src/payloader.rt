@@ -32,9 +32,9 @@ impl<B> Model for Payloader<B> {
 }
 
 impl Payloader {
-    /// A payloader for a codec, or `None` where the codec has no packetizer. Its RTP clock has the rate that the
-    /// specification gives, and payloads have the layout that it gives. `mode` and `first_id` are those of VP9: its mode, and
-    /// the picture id of the first frame, of at most 15 bits, which is asked for whatever the codec.
+    /// A payloader for a codec; `None` if the codec has no packetizer. The specification gives the rate of its RTP clock and the
+    /// layout of payloads. `mode` and `first_id` are for VP9: its mode, and the picture id of the first frame. `first_id` must be
+    /// below 2^15 for every codec.
     pub fn new(spec: CodecSpec, mode: Vp9PacketizerMode, first_id: u16) -> Option<Self>
         requires { first_id ≤ 32767 }
         ensures { result ≡ option_map (λ packetizer. record { packetizer = configured spec.octet_align packetizer; clock_rate = spec.clock_rate }) (packetizer_state_for mode first_id spec.codec) }
@@ -46,7 +46,7 @@ impl Payloader {
 }
 
 impl<B: Packetizer> Payloader<B> {
-    /// A payloader over that packetizer, with an RTP clock of that rate.
+    /// A payloader over this packetizer, with an RTP clock of this rate.
     pub fn with_packetizer(packetizer: CodecPacketizer<B>, rate: Frequency) -> Self
         ensures { result ≡ record { packetizer = packetizer_state_of packetizer; clock_rate = rate } }
     {
@@ -63,10 +63,9 @@ impl<B: Packetizer> Payloader<B> {
         self.clock_rate
     }
 
-    /// Sends the packets of a sample, cut for an MTU in bytes, in order. Of its extension values, capture time and layers
-    /// allocation go on the first packet alone, orientation, content type and timing on the last alone, and all others on
-    /// each. A fault of the packetizer sends nothing. Where the sink refuses a packet, those before it are sent, and the
-    /// packetizer has gone on.
+    /// Sends the packets of a sample, cut for an MTU in bytes, in order. Capture time and layers allocation go only on the first
+    /// packet; orientation, content type and timing only on the last; all other extension values on each. If the packetizer fails,
+    /// nothing is sent. If the sink refuses a packet, the packets before it are sent, and the packetizer has advanced.
     ///
     /// Each payload byte is copied once, from the sample into its packet.
     pub fn push_sample<S: PacketSink>(
@@ -96,7 +95,7 @@ impl<B: Packetizer> Payloader<B> {
     }
 }
 
-/// Sends the packets of a sample that the packetizer gives, by an RTP clock of that rate.
+/// Sends the packets that the packetizer makes of a sample, with an RTP clock of this rate.
 fn send_sample<B: Packetizer, S: PacketSink>(
     packetizer: &mut CodecPacketizer<B>,
     clock_rate: Frequency,
@@ -132,7 +131,7 @@ fn send_sample<B: Packetizer, S: PacketSink>(
     Ok(())
 }
 
-/// Sends one payload of a sample, with those of its extension values that go on it.
+/// Sends one payload of a sample, with the extension values for its place.
 fn send_payload<B: Packetizer, S: PacketSink>(
     packetizer: &mut CodecPacketizer<B>,
     sample: &ToPayload,

@@ -1,4 +1,4 @@
-//! Packets on their way out, and where they go.
+//! Outgoing packets, and the sinks that accept them.
 
 ghost use Rattle.std.specs.Prelude.{◌≡◌, ◌∷◌, ◌++◌, ◌+◌, ◌%◌, ◌^◌, ◌<◌, ℕ, List, [], Option, OnOk, IfErr};
 ghost use Rattle.std.specs.Option.{option_copied};
@@ -15,7 +15,7 @@ pub struct OutgoingPacket {
     pub seq_no: SeqNo,
     /// In ticks of the RTP clock, modulo 2^32.
     pub rtp_time: u32,
-    /// That of the sample, by the caller's clock.
+    /// The time of the sample, by the caller's clock.
     pub wallclock: Ticks,
     pub marker: bool,
     /// Whether a receiver may ask for the packet again.
@@ -24,7 +24,7 @@ pub struct OutgoingPacket {
     pub payload: Vec<u8>,
 }
 
-/// Where packets go.
+/// The destination of packets.
 pub trait PacketSink {
     /// What it sent.
     ghost sent: { Self → List Packet };
@@ -50,7 +50,7 @@ pub trait PacketSink {
     fn last_packet(&self) -> Option<&[u8]>
         ensures { option_copied result ≡ last_payload (sent self.now) };
 
-    /// Sends a packet. A refused one leaves what was sent, and the next number, as they were.
+    /// Sends a packet. If it is refused, the sent packets and the next number are unchanged.
     fn send(&mut self, packet: OutgoingPacket) -> Result<(), PacketError>
         ensures ok { OnOk result ((image : Packet) × accepts self.old (packet_of packet) image self.new
             × (sent self.new ≡ sent self.old ++ image ∷ []) × (next self.new ≡ (next self.old + 1) % 2 ^ 64)) }
@@ -61,6 +61,6 @@ pub trait PacketSink {
     /// A sink that stays as it is keeps what it borrows.
     ghost keeps_same: { (x : Self) → keeps x x };
 
-    /// What is kept from one sink to the next, and from that one to a third, is kept from the first to the third.
+    /// Keeping is transitive: if `keeps x y` and `keeps y z`, then `keeps x z`.
     ghost keeps_on: { (x y z : Self) → keeps x y → keeps y z → keeps x z };
 }

@@ -1,1 +1,3 @@
+pub mod LentLemmas
+pub mod OwnLemmas
 pub mod SenderLemmas

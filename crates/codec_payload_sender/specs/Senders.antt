@@ -1,11 +1,14 @@
 -- A sender: what each call leaves.
-use Rattle.std.specs.Prelude.{◌≡◌, ℕ, ◌+◌, ◌%◌, ◌^◌, nat_lt, not, if◌then◌else◌, true, List, [], Option, Some, None, Result, Ok, Err, length}
+use Rattle.std.specs.Prelude.{◌≡◌, ℕ, ◌+◌, ◌%◌, ◌^◌, ◌++◌, nat_lt, not, if◌then◌else◌, true, drop, min, List, [], Option, Some, None, Result, Ok, Err, length, slice_index_or, slice_set, take}
 use Rattle.codec_payload_base.specs.Answers.{Lands}
+use Rattle.codec_payload_base.specs.Time.{Time, rebased}
+use Rattle.codec_payload_base.specs.declared.wire.Frequency.{Frequency}
 use Rattle.codec_payload_base.specs.declared.error.PacketError.{PacketError}
 use Rattle.codec_payload_codec.specs.Packetizers.{PacketizerState, PacketizerStep, is_built_in}
 use Rattle.codec_payload_rtp.specs.ExtensionWriting.{ids_fit}
 use Rattle.codec_payload_sender.specs.Datagrams.{Sample, AreSent, octets_in, time_of}
 use Rattle.codec_payload_sender.specs.declared.sender.Counts.{Counts}
+use Rattle.codec_payload_sender.specs.declared.sender.Report.{Report}
 use Rattle.codec_payload_sender.specs.declared.sender.SenderSettings.{SenderSettings}
 use Rattle.codec_payload_sender.specs.declared.sender.SenderError.{SenderError}
 use Rattle.codec_payload_sender.specs.declared.sender.SenderError.TheVariants as errors
@@ -70,3 +73,36 @@ pub record Sends (s : Sending) (sample : Sample) (t : Sending) : Type 0 where
 pub record Refuses (s : Sending) (sample : Sample) (fault : PacketError) (t : Sending) : Type 0 where
   pub packetized : is_built_in s.packetizer ≡ true → (answer : Result (List (List ℕ)) PacketError) × PacketizerStep s.packetizer s.mtu sample.bytes answer t.packetizer × Lands answer (Err fault) []
   pub left : t ≡ record s { packetizer = t.packetizer; datagrams = [] }
+
+-- ---- formats and reports
+
+-- the sender with another packetizer, payload type and clock rate; all else goes on
+abbrev pub with_format : Sending → PacketizerState → ℕ → Frequency → Sending
+with_format s packetizer payload_type clock_rate = record s { packetizer = packetizer; stream = record s.stream { payload_type = payload_type; clock_rate = clock_rate } }
+
+-- the fields of a sender report at a time (RFC 3550, section 6.4.1)
+abbrev pub report_of : Sending → Time → Report
+report_of s now = record {
+  ssrc = s.stream.ssrc;
+  rtp_time = (rebased now s.stream.clock_rate).numer % 2 ^ 32;
+  packets = s.counts.packets;
+  octets = s.counts.octets;
+}
+
+-- ---- a datagram with its tailroom
+
+-- the region is the datagram at a place, and the bytes that are free after it
+pub record IsLent (s : Sending) (place : ℕ) (region : List ℕ) : Type 0 where
+  pub size : length region ≡ length (slice_index_or s.datagrams place []) + s.tailroom
+  pub packet : take (length (slice_index_or s.datagrams place [])) region ≡ slice_index_or s.datagrams place []
+
+-- a call was lent the region from a place on, and left other bytes of the same length there
+pub record IsLentFrom {R : Type 0} (call : List ℕ → R → List ℕ → Type 0) (front : ℕ) (before : List ℕ) (result : R) (after : List ℕ) : Type 0 where
+  pub left : List ℕ
+  pub size : length left ≡ length (drop (min front (length before)) before)
+  pub called : call (drop (min front (length before)) before) result left
+  pub rest : after ≡ take (min front (length before)) before ++ left
+
+-- the datagram at a place is what the region has in front of the tailroom; all else is unchanged
+abbrev pub with_datagram : Sending → ℕ → List ℕ → Sending
+with_datagram s place region = record s { datagrams = slice_set s.datagrams place (take (length (slice_index_or s.datagrams place [])) region) }

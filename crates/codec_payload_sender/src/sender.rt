@@ -1,13 +1,19 @@
 //! Sends the samples of one stream as datagrams.
 
-ghost use Rattle.std.specs.Prelude.{◌≡◌, ◌+◌, ◌%◌, ◌^◌, ◌<◌, ◌≤◌, ◌∷◌, ℕ, List, [], Option, true, length, IfOk, IfErr, IfSome, OnOk, OnErr, IsTrue, Err, slice_index_or, slice_set};
+ghost use Rattle.std.specs.Fn.{FnOnceReturnsAtMut};
+ghost use Rattle.std.specs.Prelude.{◌≡◌, ◌+◌, ◌%◌, ◌^◌, ◌<◌, ◌≤◌, ◌∷◌, ℕ, Bool, List, [], Option, true, false, if◌then◌else◌, nat_lt, length, IfOk, IfErr, IfSome, OnOk, OnErr, IsTrue, Ok, Err, MatchResult, slice_index_or, slice_set};
 ghost use Rattle.std.specs.Option.{option_map};
+ghost use Rattle.codec_payload_base.specs.Answers.{IsWritten, written};
+ghost use Rattle.codec_payload_base.specs.PayloadLists.{rooms_of};
+ghost use Rattle.codec_payload_base.specs.Time.{rebased};
 ghost use Rattle.codec_payload_base.specs.declared.error.PacketError.TheVariants.{OutOfMemory};
-ghost use Rattle.codec_payload_codec.specs.Packetizers.{packetizer_state_of};
+ghost use Rattle.codec_payload_codec.specs.Packetizers.{PacketizerStep, is_built_in, packetizer_state_of};
+ghost use Rattle.codec_payload_codec.specs.declared.codec.packetizer.CodecPacketizer.TheVariants.{Boxed};
 ghost use Rattle.codec_payload_rtp.specs.ExtensionWriting.{ids_fit};
 ghost use Rattle.codec_payload_rtp.specs.RtpValues.{extension_of, header_of};
-ghost use Rattle.codec_payload_sender.specs.Datagrams.{IsHeader, IsHeadedAt, IsMarker, header_with, octets_in, sample_of, time_of};
-ghost use Rattle.codec_payload_sender.specs.Senders.{Sends, Refuses, nothing_sent, refusal_of, sender_by};
+ghost use Rattle.codec_payload_sender.specs.Datagrams.{IsHeader, IsHeadedAt, IsMarker, header_at, header_with, octets_in, sample_of, time_of};
+ghost use Rattle.codec_payload_sender.specs.OwnDatagrams.{AreAsked, IsAskedAt, OwnSample};
+ghost use Rattle.codec_payload_sender.specs.Senders.{IsLent, IsLentFrom, Sends, Refuses, nothing_sent, refusal_of, report_of, sender_by, with_datagram, with_format};
 ghost use Rattle.codec_payload_sender.specs.declared.sender.SenderError.TheVariants as refusals;
 
 use codec_payload_base::error::PacketError;
@@ -50,10 +56,10 @@ pub enum SenderError {
     #[error("the payload type is above 127")]
     PayloadType,
     /// More than 65,535 bytes are to be free behind each datagram.
-    #[error("more than 65535 bytes are to be free behind a datagram")]
+    #[error("tailroom exceeds 65535 bytes")]
     Tailroom,
     /// An id of a header extension is 0, or two are the same.
-    #[error("an id of a header extension is 0, or two are the same")]
+    #[error("header extension id is 0 or used twice")]
     ExtensionIds,
     /// Memory is wanting.
     #[error("out of memory")]
@@ -81,6 +87,19 @@ pub struct Counts {
     pub octets: u32,
     /// The RTP time of the sample that was sent last.
     pub rtp_time: Option<u32>,
+}
+
+/// The fields of a sender report (RFC 3550, section 6.4.1), except its NTP time, which the caller's clock has.
+#[derive(Clone, Copy, Debug, PartialEq, Eq)]
+pub struct Report {
+    /// The SSRC of the sender.
+    pub ssrc: u32,
+    /// The RTP time of the moment that was given.
+    pub rtp_time: u32,
+    /// The sender's packet count, modulo 2^32.
+    pub packets: u32,
+    /// The sender's octet count: bytes of payload, modulo 2^32.
+    pub octets: u32,
 }
 
 /// What the packets of a stream share, and the number of the next.
@@ -195,11 +214,38 @@ fn write_header(
     Ok(())
 }
 
+/// A time by the RTP clock of the stream, modulo 2^32.
+fn rtp_time_at(stream: &Stream, time: MediaTime) -> u32
+    ensures { result ≡ (rebased time stream.now.clock_rate).numer % 2 ^ 32 }
+{
+    (time.rebase(stream.clock_rate).numer() % (1 << 32)) as u32
+}
+
 /// The RTP time of a sample.
 fn time_of(stream: &Stream, sample: &Sample<'_>) -> u32
     ensures { result ≡ time_of stream.now (sample_of sample.now) }
 {
-    (sample.rtp_time.rebase(stream.clock_rate).numer() % (1 << 32)) as u32
+    rtp_time_at(stream, sample.rtp_time)
+}
+
+/// Packetizes a frame into reused memory. A custom packetizer stays custom.
+fn packetize_sample<B: Packetizer>(
+    packetizer: &mut CodecPacketizer<B>,
+    alloc: Global,
+    mtu: usize,
+    bytes: &[u8],
+    out: &mut Payloads,
+) -> Result<(), PacketError>
+    ensures built_in { is_built_in (packetizer_state_of packetizer.old) ≡ true → PacketizerStep (packetizer_state_of packetizer.old) mtu bytes.now (written result out.new.payloads) (packetizer_state_of packetizer.new) }
+    ensures own { (before : B) → packetizer.old ≡ Boxed before → (after : B) × (packetizer.new ≡ Boxed after)
+        × IsWritten (λ answer. B.packetize_step before mtu bytes.now answer (B.state after)) result out.new.payloads }
+    ensures fault { OnErr result (out.new.payloads ≡ []) }
+    ensures rooms { rooms_of out.new ≡ rooms_of out.old }
+{
+    if let CodecPacketizer::Boxed(own) = packetizer {
+        return own.packetize_into(alloc, mtu, bytes, out);
+    }
+    packetizer.packetize_into(alloc, mtu, bytes, out)
 }
 
 /// Whether the packet at a place is marked.
@@ -211,6 +257,8 @@ fn is_marked<B: Packetizer>(
 ) -> bool
     requires { place < length out.now.payloads }
     ensures marker { IsMarker (packetizer_state_of packetizer.old) (sample_of sample.now) place (length out.now.payloads) result }
+    ensures own { (before : B) → packetizer.old ≡ Boxed before → (after : B) × (packetizer.new ≡ Boxed after)
+        × IsAskedAt B.state B.marker_step B.marks_spurts (sample_of sample.now) out.now.payloads place before result after }
     ensures same { packetizer_state_of packetizer.new ≡ packetizer_state_of packetizer.old }
 {
     let count = out.len();
@@ -236,6 +284,10 @@ fn put_header<B: Packetizer>(
     requires payload_type { stream.now.payload_type < 128 }
     requires ids { IsTrue (ids_fit stream.now.ids) }
     ensures ok { OnOk result ((header : List ℕ) × IsHeadedAt stream.now (packetizer_state_of packetizer.old) (sample_of sample.now) (length packets.old.out.payloads) place header
+        × (packets.new.out.headers ≡ slice_set packets.old.out.headers place header)) }
+    ensures own { (before : B) → packetizer.old ≡ Boxed before → (after : B) × (packetizer.new ≡ Boxed after) × (marker : Bool)
+        × IsAskedAt B.state B.marker_step B.marks_spurts (sample_of sample.now) packets.old.out.payloads place before marker after
+        × OnOk result ((header : List ℕ) × IsHeader header (header_at stream.now (sample_of sample.now) place (length packets.old.out.payloads) marker)
         × (packets.new.out.headers ≡ slice_set packets.old.out.headers place header)) }
     ensures same { packetizer_state_of packetizer.new ≡ packetizer_state_of packetizer.old }
     ensures rest { packets.new.out ≡ record packets.old.out { headers = packets.new.out.headers } }
@@ -271,6 +323,11 @@ fn put_headers<B: Packetizer>(
     requires ids { IsTrue (ids_fit stream.now.ids) }
     ensures ok { OnOk result ((place : ℕ) → place < length packets.old.out.payloads
         → IsHeadedAt stream.now (packetizer_state_of packetizer.old) (sample_of sample.now) (length packets.old.out.payloads) place (slice_index_or packets.new.out.headers place [])) }
+    ensures own { (before : B) → packetizer.old ≡ Boxed before → (after : B) × (packetizer.new ≡ Boxed after)
+        × MatchResult result (λ _. AreAsked B.state B.marker_step B.marks_spurts (sample_of sample.now) packets.old.out.payloads
+        (λ place marker. IsHeader (slice_index_or packets.new.out.headers place []) (header_at stream.now (sample_of sample.now) place (length packets.old.out.payloads) marker))
+        (length packets.old.out.payloads) before after)
+        (λ _. (n : ℕ) × (n ≤ length packets.old.out.payloads) × AreAsked B.state B.marker_step B.marks_spurts (sample_of sample.now) packets.old.out.payloads (λ _ _. Unit {0}) n before after) }
     ensures same { packetizer_state_of packetizer.new ≡ packetizer_state_of packetizer.old }
     ensures rest { packets.new.out ≡ record packets.old.out { headers = packets.new.out.headers } }
     ensures fault { IfErr result (λ fault. fault ≡ OutOfMemory) }
@@ -290,6 +347,15 @@ fn octets_in(out: &Payloads) -> u32
         octets = octets.wrapping_add((out.get(place).len() % (1 << 32)) as u32);
     }
     octets
+}
+
+/// Lends the region from `front` on.
+fn lend<R, F: FnOnce(&mut [u8]) -> R>(region: &mut [u8], front: usize, change: F) -> R
+    requires callable { F.IsAlwaysCallable change }
+    ensures { IsLentFrom (FnOnceReturnsAtMut F.FnOnce change) front region.old result region.new }
+{
+    let from = front.min(region.len());
+    change(&mut region[from..])
 }
 
 impl<B: Packetizer> Sender<B> {
@@ -334,9 +400,17 @@ impl<B: Packetizer> Sender<B> {
     pub fn send(&mut self, sample: &Sample<'_>) -> Result<(), PacketError>
         ensures ok { OnOk result (Sends self.old (sample_of sample.now) self.new) }
         ensures err { IfErr result (λ fault. Refuses self.old (sample_of sample.now) fault self.new) }
+        // A custom packetizer is asked once for the payloads, and once for each marker.
+        ensures own { is_built_in self.old.packetizer ≡ false → (before : B) × (after : B)
+            × OwnSample B.state B.packetize_step B.marker_step B.marks_spurts self.old.mtu self.old.stream (sample_of sample.now) before result after self.new.datagrams }
     {
-        self.packetizer
-            .packetize_into(self.alloc, self.mtu, sample.bytes, &mut self.packets.out)?;
+        packetize_sample(
+            &mut self.packetizer,
+            self.alloc,
+            self.mtu,
+            sample.bytes,
+            &mut self.packets.out,
+        )?;
         let answer = put_headers(
             &mut self.packetizer,
             &self.stream,
@@ -372,6 +446,28 @@ impl<B: Packetizer> Sender<B> {
         self.packets.out.packet(place)
     }
 
+    /// Lends the datagram at a place with the [`tailroom`](Self::tailroom) after it to `change`, and returns the result of `change`.
+    ///
+    /// SRTP encrypts the payload in place and writes its tag after it (RFC 3711, section 3.1). Send the datagram and its tag from
+    /// within `change`: the bytes in the tailroom are not kept. The datagram is then the bytes that `change` left in front of the
+    /// tailroom; everything else is unchanged. Copies nothing, and does not allocate.
+    pub fn with_datagram<R, F: FnOnce(&mut [u8]) -> R>(&mut self, place: usize, change: F) -> R
+        requires place { place < length self.old.datagrams }
+        requires callable { F.IsAlwaysCallable change }
+        ensures { (before : List ℕ) × (after : List ℕ) × IsLent self.old place before × (length after ≡ length before)
+            × FnOnceReturnsAtMut F.FnOnce change before result after × (self.new ≡ with_datagram self.old place after) }
+    {
+        // Headers fit into the headroom, and the lent region begins with it.
+        let front = HEADROOM.saturating_sub(self.packets.out.header(place).len());
+        self.packets.out.with_packet(
+            place,
+            |region|
+                requires callable { F.IsAlwaysCallable change }
+                ensures lent { IsLentFrom (FnOnceReturnsAtMut F.FnOnce change) front region.old result region.new }
+            { lend(region, front, change) },
+        )
+    }
+
     /// How many bytes are free behind each datagram.
     pub fn tailroom(&self) -> usize
         ensures { result ≡ self.now.tailroom }
@@ -384,6 +480,49 @@ impl<B: Packetizer> Sender<B> {
         ensures { result ≡ self.now.stream.number }
     {
         self.stream.number
+    }
+
+    /// Continues the stream in another format: with this packetizer, payload type (0 to 127) and rate of the RTP clock. Sequence
+    /// numbers, SSRC, counts, MTU and extension ids go on, and the datagrams of the previous sample stay.
+    ///
+    /// RTP times are the times of the samples by the new rate. With the same rate they go on. With another rate receivers of the
+    /// stream lose its clock, so RFC 7160, section 4.1, wants another SSRC: make another sender.
+    ///
+    /// # Errors
+    ///
+    /// `PayloadType`: the payload type is above 127. The sender is unchanged.
+    pub fn set_format(
+        &mut self,
+        packetizer: CodecPacketizer<B>,
+        payload_type: u8,
+        clock_rate: Frequency,
+    ) -> Result<(), SenderError>
+        ensures ok { OnOk result (self.new ≡ with_format self.old (packetizer_state_of packetizer) payload_type clock_rate) }
+        ensures err { OnErr result (self.new ≡ self.old) }
+        ensures refused { result ≡ if nat_lt 127 payload_type then Err refusals.PayloadType else Ok tt }
+    {
+        if payload_type > 127 {
+            return Err(SenderError::PayloadType);
+        }
+        self.packetizer = packetizer;
+        self.stream.payload_type = payload_type;
+        self.stream.clock_rate = clock_rate;
+        Ok(())
+    }
+
+    /// Returns the fields of a sender report for the moment `now` on the time line of the samples.
+    ///
+    /// RFC 3550, section 6.4.1: the RTP time of the report is of the same moment as its NTP time, which the caller's clock has. It
+    /// may lie before or after the last sample.
+    pub fn report(&self, now: MediaTime) -> Report
+        ensures { result ≡ report_of self.now now }
+    {
+        Report {
+            ssrc: self.stream.ssrc,
+            rtp_time: rtp_time_at(&self.stream, now),
+            packets: self.counts.packets,
+            octets: self.counts.octets,
+        }
     }
 
     /// What sender reports tell.

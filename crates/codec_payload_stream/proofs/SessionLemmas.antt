@@ -1,5 +1,5 @@
 -- Every datagram is accounted for.
-use Rattle.std.proofs.Common.{◌≡◌, ◌⊎◌, ◌∙◌, refl, ap, sym, subst, inl, inr, cond, ℕ, ◌+◌, ◌%◌, ◌^◌, List, [], ◌∷◌, Bool, true, false, Option, Some, None, Result, Ok, Err, arith, eqb}
+use Rattle.std.proofs.Common.{◌≡◌, ◌⊎◌, ◌∙◌, refl, ap, sym, subst, inl, inr, cond, ℕ, ◌+◌, ◌%◌, ◌^◌, List, [], ◌∷◌, Bool, true, false, Option, Some, None, Result, Ok, Err, arith, ◌&&◌, not}
 use Rattle.codec_payload_base.specs.declared.wire.Ticks.{Ticks}
 use Rattle.codec_payload_jitter.specs.Receiving.{Receiving, Arrival, Confirms, GoesOn, ReceivesAs, ReceivesAgainAs, RecoversAs, RecoversIf, NotesAs}
 use Rattle.codec_payload_jitter.specs.Receiving.{Accepts, counted, counted_again, counted_in_again, is_stored, may_recover, next, number_again}
@@ -10,8 +10,9 @@ use Rattle.codec_payload_jitter.specs.declared.outcome.Outcome.TheVariants as ou
 use Rattle.codec_payload_jitter.specs.declared.outcome.PacketCounters.{PacketCounters}
 use Rattle.codec_payload_stream.specs.Choice.{latest_after, origin_of}
 use Rattle.codec_payload_stream.specs.Kinds.{Kinds, Carrier, Datagram, RtcpPacket, Malformed, OfOthers, WithoutMedia, WithMedia, InRed, Again, AgainEmpty}
-use Rattle.codec_payload_stream.specs.Sessions.{Session, TakesDatagram, TakesPrimaryIf, RecoversOne, RecoversAll, RecoversUnless, AnswersFor}
-use Rattle.codec_payload_stream.specs.Sessions.{Heard, IsSorted, all_carried, arrived_with, ssrc_after, is_suspect, error_of, observed_in, told_of_red}
+use Rattle.codec_payload_stream.specs.SeenTimes.{Seen, is_seen}
+use Rattle.codec_payload_stream.specs.Sessions.{Holding, Session, TakesAgain, TakesDatagram, TakesMedia, TakesPrimaryIf, RecoversOne, RecoversUnseen, RecoversAll, RecoversUnless, AnswersFor}
+use Rattle.codec_payload_stream.specs.Sessions.{Heard, IsSorted, all_carried, arrived_with, ssrc_after, is_own_media, is_repeat, is_suspect, error_of, observed_in, told_of_red}
 use Rattle.codec_payload_stream.specs.declared.datagram.Malformation.{Malformation}
 use Rattle.codec_payload_stream.specs.declared.datagram.Malformation.TheVariants as malformations
 use Rattle.codec_payload_stream.specs.declared.receiver.Arrived.{Arrived}
@@ -66,7 +67,7 @@ counted_balance c outcomes.OtherStream = refl
 counted_balance c outcomes.Undecided = refl
 counted_balance c outcomes.Rtcp = refl
 
-accepts_balance : (a : Arrival) (n : ℕ) (r t : Receiving) (o : Outcome) → Accepts a n r o t → balance_of t ≡ one_pushed (balance_of r)
+pub accepts_balance : (a : Arrival) (n : ℕ) (r t : Receiving) (o : Outcome) → Accepts a n r o t → balance_of t ≡ one_pushed (balance_of r)
 accepts_balance a n r t o got = ap balance_of got.3 ∙ counted_balance r.counters o
 
 goes_on_balance : (n : ℕ) (a : Arrival) (r t : Receiving) (o : Outcome) → GoesOn n a r o t → balance_of t ≡ one_pushed (balance_of r)
@@ -110,8 +111,20 @@ recovers_as_balance : (number : Option ℕ) (a : Arrival) (r t : Receiving) (wen
 recovers_as_balance None a r t went_in got = inl (ap balance_of got.1)
 recovers_as_balance (Some n) a r t went_in got = recovers_if_balance (may_recover r n) n a r t went_in got
 
-one_balance : (a : Arrival) (r t : Receiving) → RecoversOne a r t → Recovered r t
-one_balance a r t got = recovers_as_balance (number_again r a.header.sequence_number) a r t got.0 got.1
+unseen_balance : (b : Bool) (a : Arrival) (r t : Holding) → RecoversUnseen b a r t → Recovered r.packets t.packets
+unseen_balance true a r t got = inl (ap (λ (x : Holding). balance_of x.packets) got)
+unseen_balance false a r t got = recovers_as_balance (number_again r.packets a.header.sequence_number) a r.packets t.packets got.0 got.1
+
+one_balance : (a : Arrival) (r t : Holding) → RecoversOne a r t → Recovered r.packets t.packets
+one_balance a r t got = unseen_balance (is_seen a.header.timestamp r.seen.places) a r t got
+
+pub media_balance : (b : Bool) (a : Arrival) (r t : Receiving) (o : Outcome) → TakesMedia b a r o t → balance_of t ≡ one_pushed (balance_of r)
+media_balance false a r t o got = ap balance_of got.2 ∙ receives_as_balance _ _ r got.0 o got.1
+media_balance true a r t o got = ap balance_of got.1.2 ∙ notes_as_balance _ r got.1.0 got.1.1
+
+pub sent_again_balance : (b : Bool) (a : Arrival) (r t : Receiving) (o : Outcome) → TakesAgain b a r o t → balance_of t ≡ one_pushed (balance_of r)
+sent_again_balance false a r t o got = receives_again_balance _ _ r t o got
+sent_again_balance true a r t o got = ap balance_of got.1.2 ∙ notes_as_balance _ r got.1.0 got.1.1
 
 -- Each is accounted for
 
@@ -125,18 +138,18 @@ recovered_balanced a r t (inr one) kept =
     let after : IsBalanced a (one_recovered (balance_of r)) = omega (arith, kept) in
     subst (λ (b : Balance). IsBalanced a b) (sym one) after
 
-all_balanced : (a : Arrived) (whole : Bool) (all : List Arrival) (r t : Receiving) → RecoversAll whole all r t → IsBalanced a (balance_of r) → IsBalanced a (balance_of t)
-all_balanced a true [] r t got kept = subst (λ (x : Receiving). IsBalanced a (balance_of x)) (sym got) kept
-all_balanced a true (one ∷ more) r t got kept = all_balanced a true more got.0 t got.2 (recovered_balanced a r got.0 (one_balance one r got.0 got.1) kept)
+all_balanced : (a : Arrived) (whole : Bool) (all : List Arrival) (r t : Holding) → RecoversAll whole all r t → IsBalanced a (balance_of r.packets) → IsBalanced a (balance_of t.packets)
+all_balanced a true [] r t got kept = subst (λ (x : Holding). IsBalanced a (balance_of x.packets)) (sym got) kept
+all_balanced a true (one ∷ more) r t got kept = all_balanced a true more got.0 t got.2 (recovered_balanced a r.packets got.0.packets (one_balance one r got.0 got.1) kept)
 all_balanced a false [] r t got kept = absurd got
-all_balanced a false (one ∷ more) r t (inl same) kept = subst (λ (x : Receiving). IsBalanced a (balance_of x)) (sym same) kept
-all_balanced a false (one ∷ more) r t (inr got) kept = all_balanced a false more got.0 t got.2 (recovered_balanced a r got.0 (one_balance one r got.0 got.1) kept)
+all_balanced a false (one ∷ more) r t (inl same) kept = subst (λ (x : Holding). IsBalanced a (balance_of x.packets)) (sym same) kept
+all_balanced a false (one ∷ more) r t (inr got) kept = all_balanced a false more got.0 t got.2 (recovered_balanced a r.packets got.0.packets (one_balance one r got.0 got.1) kept)
 
-unless_balanced : (a : Arrived) (suspect whole : Bool) (all : List Arrival) (r t : Receiving) → RecoversUnless suspect whole all r t → IsBalanced a (balance_of r) → IsBalanced a (balance_of t)
-unless_balanced a true whole all r t got kept = subst (λ (x : Receiving). IsBalanced a (balance_of x)) (sym got.1) kept
+unless_balanced : (a : Arrived) (suspect whole : Bool) (all : List Arrival) (r t : Holding) → RecoversUnless suspect whole all r t → IsBalanced a (balance_of r.packets) → IsBalanced a (balance_of t.packets)
+unless_balanced a true whole all r t got kept = subst (λ (x : Holding). IsBalanced a (balance_of x.packets)) (sym got.1) kept
 unless_balanced a false whole all r t got kept = all_balanced a whole all r t got kept
 
-primary_balance : (b : Bool) (s : Kinds) (now : Ticks) (c : Carrier) (r t : Receiving) (o : Outcome) → TakesPrimaryIf b s now c r o t → balance_of t ≡ one_pushed (balance_of r)
+pub primary_balance : (b : Bool) (s : Kinds) (now : Ticks) (c : Carrier) (r t : Receiving) (o : Outcome) → TakesPrimaryIf b s now c r o t → balance_of t ≡ one_pushed (balance_of r)
 primary_balance true s now c r t o got = ap balance_of got.2 ∙ receives_as_balance _ _ r got.0 o got.1
 primary_balance false s now c r t o got = ap balance_of got.1.2 ∙ notes_as_balance _ r got.1.0 got.1.1
 
@@ -150,18 +163,21 @@ pushed_balanced a r t one kept =
 apart_balanced : (a a' : Arrived) (r t : Receiving) → t ≡ r → IsBalanced a' (balance_of r) → IsBalanced a' (balance_of t)
 apart_balanced a a' r t same kept = subst (λ (x : Receiving). IsBalanced a' (balance_of x)) (sym same) kept
 
-pub takes_balanced : (s : Kinds) (now : Ticks) (a : Arrived) (d : Datagram) (r t : Receiving) (o : Outcome) (whole : Bool) → TakesDatagram s now d r o whole t → IsSorted a r.counters
-    → IsSorted (arrived_with a d) t.counters
-takes_balanced s now a RtcpPacket r t o whole got kept = apart_balanced a (arrived_with a RtcpPacket) r t got.1 (omega (arith, kept))
-takes_balanced s now a (Malformed e) r t o whole got kept = apart_balanced a (arrived_with a (Malformed e)) r t got (omega (arith, kept))
-takes_balanced s now a OfOthers r t o whole got kept = apart_balanced a (arrived_with a OfOthers) r t got.1 (omega (arith, kept))
-takes_balanced s now a (WithoutMedia h) r t o whole got kept = pushed_balanced a r t (ap balance_of got.1.2 ∙ notes_as_balance _ r got.1.0 got.1.1) kept
-takes_balanced s now a (WithMedia p) r t o whole got kept = pushed_balanced a r t (ap balance_of got.2 ∙ receives_as_balance _ _ r got.0 o got.1) kept
+pub takes_balanced : (s : Kinds) (now : Ticks) (a : Arrived) (d : Datagram) (r t : Holding) (o : Outcome) (whole : Bool) → TakesDatagram s now d r o whole t → IsSorted a r.packets.counters
+    → IsSorted (arrived_with a d) t.packets.counters
+takes_balanced s now a RtcpPacket r t o whole got kept = apart_balanced a (arrived_with a RtcpPacket) r.packets t.packets (ap (λ (x : Holding). x.packets) got.1) (omega (arith, kept))
+takes_balanced s now a (Malformed e) r t o whole got kept = apart_balanced a (arrived_with a (Malformed e)) r.packets t.packets (ap (λ (x : Holding). x.packets) got) (omega (arith, kept))
+takes_balanced s now a OfOthers r t o whole got kept = apart_balanced a (arrived_with a OfOthers) r.packets t.packets (ap (λ (x : Holding). x.packets) got.1) (omega (arith, kept))
+takes_balanced s now a (WithoutMedia h) r t o whole got kept = pushed_balanced a r.packets t.packets (ap balance_of got.1.2 ∙ notes_as_balance _ r.packets got.1.0 got.1.1) kept
+takes_balanced s now a (WithMedia p) r t o whole got kept =
+    pushed_balanced a r.packets t.packets (media_balance (is_repeat s r.seen r.packets p.header.timestamp p.header.sequence_number) _ r.packets t.packets o got.0) kept
 takes_balanced s now a (InRed c) r t o whole got kept =
-    unless_balanced (record a { received = next a.received }) (is_suspect o) whole (all_carried s now c) got.0 t got.2
-    (pushed_balanced a r got.0 (primary_balance (eqb c.primary.pt s.payload_type) s now c r got.0 o got.1) kept)
-takes_balanced s now a (Again it) r t o whole got kept = pushed_balanced a r t (receives_again_balance _ _ r t o got) kept
-takes_balanced s now a AgainEmpty r t o whole got kept = pushed_balanced a r t (ap balance_of got.1) kept
+    unless_balanced (record a { received = next a.received }) (is_suspect o) whole (all_carried s now c) _ t got.2
+    (pushed_balanced a r.packets got.0
+    (primary_balance (is_own_media s c && not (is_repeat s r.seen r.packets c.header.timestamp c.header.sequence_number)) s now c r.packets got.0 o got.1) kept)
+takes_balanced s now a (Again it) r t o whole got kept =
+    pushed_balanced a r.packets t.packets (sent_again_balance (is_repeat s r.seen r.packets it.header.timestamp it.number) _ r.packets t.packets o got.0) kept
+takes_balanced s now a AgainEmpty r t o whole got kept = pushed_balanced a r.packets t.packets (ap (λ (x : Holding). balance_of x.packets) got.1) kept
 
 -- Answers
 
@@ -184,19 +200,20 @@ not_memory (InRed c) o whole is = not_memory_in_red whole o (sym is)
 not_memory (Again it) o whole is = cc
 not_memory AgainEmpty o whole is = cc
 
-pub heard : (now : Ticks) (d : Datagram) (s t : Session) (o : Outcome) (whole : Bool) (packets : Receiving) (answer : Result Outcome ReceiveError)
-    → TakesDatagram s.stream now d s.packets o whole packets → AnswersFor d o whole answer
+pub heard : (now : Ticks) (d : Datagram) (s t : Session) (o : Outcome) (whole : Bool) (packets : Receiving) (seen : Seen) (answer : Result Outcome ReceiveError)
+    → TakesDatagram s.stream now d (record { packets = s.packets; seen = s.seen }) o whole (record { packets = packets; seen = seen }) → AnswersFor d o whole answer
     → t ≡ record s {
       ssrc = ssrc_after s.ssrc d;
       packets = packets;
       arrived = arrived_with s.arrived d;
       reception = observed_in s.reception now.0 d;
       choice = record s.choice { latest = latest_after s.choice.latest now.0 (origin_of d) };
+      seen = seen;
     }
     → Heard now d s answer t
-heard now d s t o whole packets (Ok told) takes answers left = record { outcome = o; whole = whole; packets = packets; takes = takes; answers = answers; left = left }
-heard now d s t o whole packets (Err (errors.Rtp e)) takes answers left = record { outcome = o; whole = whole; packets = packets; takes = takes; answers = answers; left = left }
-heard now d s t o whole packets (Err errors.Red) takes answers left = record { outcome = o; whole = whole; packets = packets; takes = takes; answers = answers; left = left }
-heard now d s t o whole packets (Err errors.Retransmission) takes answers left = record { outcome = o; whole = whole; packets = packets; takes = takes; answers = answers; left = left }
-heard now d s t o whole packets (Err errors.BlocksOutOfMemory) takes answers left = record { outcome = o; whole = whole; packets = packets; takes = takes; answers = answers; left = left }
-heard now d s t o whole packets (Err errors.OutOfMemory) takes answers left = absurd (not_memory d o whole answers)
+heard now d s t o whole packets seen (Ok told) takes answers left = record { outcome = o; whole = whole; packets = packets; seen = seen; takes = takes; answers = answers; left = left }
+heard now d s t o whole packets seen (Err (errors.Rtp e)) takes answers left = record { outcome = o; whole = whole; packets = packets; seen = seen; takes = takes; answers = answers; left = left }
+heard now d s t o whole packets seen (Err errors.Red) takes answers left = record { outcome = o; whole = whole; packets = packets; seen = seen; takes = takes; answers = answers; left = left }
+heard now d s t o whole packets seen (Err errors.Retransmission) takes answers left = record { outcome = o; whole = whole; packets = packets; seen = seen; takes = takes; answers = answers; left = left }
+heard now d s t o whole packets seen (Err errors.BlocksOutOfMemory) takes answers left = record { outcome = o; whole = whole; packets = packets; seen = seen; takes = takes; answers = answers; left = left }
+heard now d s t o whole packets seen (Err errors.OutOfMemory) takes answers left = absurd (not_memory d o whole answers)

@@ -1,8 +1,9 @@
 -- Settings by purpose: what they set, and what is left out.
-use Rattle.std.specs.Prelude.{◌≡◌, ℕ, [], Option, Some, None}
+use Rattle.std.specs.Prelude.{◌≡◌, ℕ, [], None}
 use Rattle.codec_payload_jitter.specs.declared.waiting.WaitLimits.{WaitLimits}
+use Rattle.codec_payload_keyframes.specs.declared.unit_gate.FromKeyframe.TheVariants as modes
 use Rattle.codec_payload_rtp.specs.declared.values.ExtensionIds.{ExtensionIds}
-use Rattle.codec_payload_stream.specs.declared.defaults.Windows.{Windows}
+use Rattle.codec_payload_stream.specs.declared.windows.Windows.{Windows}
 use Rattle.codec_payload_stream.specs.declared.receiver.Settings.{Settings}
 
 -- no header extension has an id
@@ -17,7 +18,7 @@ abbrev pub video_windows : Windows
 video_windows = record { forward = 12000; backward = 5000 }
 
 -- the stream's payload type, clock rate, wait limits and windows are these; no SSRC is named, nothing comes without media, in RED or
--- again; the caller's clock has ticks of milliseconds
+-- again; the caller's clock has ticks of milliseconds; and units of video are marked
 pub record HasDefaults (payload_type rate : ℕ) (limits : WaitLimits) (windows : Windows) (s : Settings) : Type 0 where
   pub payload_type_is : s.payload_type ≡ payload_type
   pub no_media : s.no_media.items ≡ []
@@ -31,3 +32,4 @@ pub record HasDefaults (payload_type rate : ℕ) (limits : WaitLimits) (windows 
   pub limit : s.limit ≡ 4096
   pub forward : s.forward ≡ windows.forward
   pub backward : s.backward ≡ windows.backward
+  pub from_keyframe : s.from_keyframe ≡ modes.Mark

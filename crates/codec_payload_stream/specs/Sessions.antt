@@ -7,19 +7,23 @@ use Rattle.codec_payload_base.specs.declared.wire.Ticks.{Ticks}
 use Rattle.codec_payload_red.specs.RedBlocks.{Block}
 use Rattle.codec_payload_red.specs.RedRecovery.{RecoveredPacket, recovered_from}
 use Rattle.codec_payload_rtp.specs.ExtendedTimes.{extended_time}
-use Rattle.codec_payload_codec.specs.Depacketizers.{DepacketizerState}
+use Rattle.codec_payload_base.specs.declared.wire.Codec.{Codec}
+use Rattle.codec_payload_base.specs.declared.wire.Codec.TheVariants as codecs
+use Rattle.codec_payload_codec.specs.Depacketizers.{DepacketizerKind, DepacketizerState, kind_of_depacketizer, G711Payloads, OpusPayloads, ComfortNoisePayloads, TelePayloads, Vp8Payloads, Vp9Payloads, Av1Payloads, AmrWbPayloads, NullPayloads, BoxedPayloads}
 use Rattle.codec_payload_buffer.specs.Release.{Release}
 use Rattle.codec_payload_buffer.specs.Steps.{empty_buffer}
 use Rattle.codec_payload_jitter.specs.Numbers.{Numbering, numbering_within}
-use Rattle.codec_payload_jitter.specs.Receiving.{Receiving, Arrival, Notes, Receives, ReceivesAgain, Recovers, begun_anew, counted, next, no_packets}
+use Rattle.codec_payload_jitter.specs.Receiving.{Receiving, Arrival, Notes, Receives, ReceivesAgain, Recovers, begun_anew, counted, next, no_packets, would_store}
 use Rattle.codec_payload_jitter.specs.Waiting.{most_held_back, room_for}
 use Rattle.codec_payload_jitter.specs.declared.numbers.WindowError.{WindowError}
 use Rattle.codec_payload_jitter.specs.declared.numbers.WindowError.TheVariants as windows
 use Rattle.codec_payload_jitter.specs.declared.outcome.Outcome.{Outcome}
 use Rattle.codec_payload_jitter.specs.declared.outcome.Outcome.TheVariants as outcomes
 use Rattle.codec_payload_jitter.specs.declared.outcome.PacketCounters.{PacketCounters}
+use Rattle.codec_payload_keyframes.specs.UnitGates.{Gating, new_gating, with_skip}
 use Rattle.codec_payload_stream.specs.Choice.{Choosing, IsCandidate, is_silent, latest_after, leaving, no_choice, origin_of, verdict_of, waiting_with}
 use Rattle.codec_payload_stream.specs.Kinds.{Kinds, Carrier, Datagram, RtcpPacket, Malformed, OfOthers, WithoutMedia, WithMedia, InRed, Again, AgainEmpty, block_header, datagram_at, header_for, original_header}
+use Rattle.codec_payload_stream.specs.SeenTimes.{Seen, has_block, is_seen, none_seen, seen_with}
 use Rattle.codec_payload_stream.specs.Reports.{Reception, no_reception, observed}
 use Rattle.codec_payload_stream.specs.declared.blocks.BlockCopy.{BlockCopy}
 use Rattle.codec_payload_stream.specs.declared.choice.Candidate.{Candidate}
@@ -41,7 +45,8 @@ use Rattle.codec_payload_stream.specs.declared.receiver.SettingsError.TheVariant
 
 -- a receiver, as contracts see it: what tells the datagrams of the stream, the SSRC that the settings name, if they do, and that of
 -- the stream, if it is known, the jitter buffer, how many datagrams came to what before it, the RTP time of the latest unit, what
--- came of the sender, what that begins with, and what is known for the choice of the stream
+-- came of the sender, what that begins with, what is known for the choice of the stream, the RTP times of the latest packets and
+-- blocks, and which units a decoder can show
 pub record Session : Type 0 where
   pub stream : Kinds
   pub named : Option ℕ
@@ -52,6 +57,8 @@ pub record Session : Type 0 where
   pub reception : Reception
   pub no_reception : Reception
   pub choice : Choosing
+  pub seen : Seen
+  pub gates : Gating
 
 -- Each is accounted for
 
@@ -112,24 +119,71 @@ all_carried s now c = filter_map (carried s now c) c.older
 abbrev pub copied : Ticks → BlockCopy → Arrival
 copied now c = record { now = now; header = c.header; bytes = c.payload.items }
 
--- a packet that another one carried goes in where it is missing
-abbrev pub RecoversOne : Arrival → Receiving → Receiving → Type 0
-RecoversOne a r t = (went_in : Bool) × Recovers a r went_in t
+-- the jitter buffer, and the RTP times of the latest packets and blocks
+pub record Holding : Type 0 where
+  pub packets : Receiving
+  pub seen : Seen
+
+-- the time of a stored block is noted
+abbrev pub block_seen : Bool → ℕ → Seen → Seen
+block_seen true time seen = seen_with (record { time = time; is_block = true }) seen
+block_seen false time seen = seen
+
+-- a block is stored if its packet is missing, unless a packet or a block of its time was received
+abbrev pub RecoversUnseen : Bool → Arrival → Holding → Holding → Type 0
+RecoversUnseen true a r t = t ≡ r
+RecoversUnseen false a r t = (went_in : Bool) × Recovers a r.packets went_in t.packets × (t.seen ≡ block_seen went_in a.header.timestamp r.seen)
+
+abbrev pub RecoversOne : Arrival → Holding → Holding → Type 0
+RecoversOne a r t = RecoversUnseen (is_seen a.header.timestamp r.seen.places) a r t
 
 -- each of these goes in where it is missing, in order; with no memory for one, it and those after it do not
-abbrev pub RecoversAll : Bool → List Arrival → Receiving → Receiving → Type 0
+abbrev pub RecoversAll : Bool → List Arrival → Holding → Holding → Type 0
 RecoversAll true [] r t = t ≡ r
-RecoversAll true (a ∷ more) r t = (mid : Receiving) × RecoversOne a r mid × RecoversAll true more mid t
+RecoversAll true (a ∷ more) r t = (mid : Holding) × RecoversOne a r mid × RecoversAll true more mid t
 RecoversAll false [] r t = ⊥
-RecoversAll false (a ∷ more) r t = (t ≡ r) ⊎ ((mid : Receiving) × RecoversOne a r mid × RecoversAll false more mid t)
+RecoversAll false (a ∷ more) r t = (t ≡ r) ⊎ ((mid : Holding) × RecoversOne a r mid × RecoversAll false more mid t)
 
--- what the packet itself is: its primary block, where that is media of the stream
+-- a packet repeats a block: a block of its time was stored, and the packet would be stored too, under another number
+abbrev pub is_repeat : Kinds → Seen → Receiving → (time low : ℕ) → Bool
+is_repeat s seen r time low = (is_some s.red && has_block time seen.places) && would_store r low
+
+-- in a stream that is sent in RED the time of each packet with media is noted; a restart forgets the times before it
+abbrev pub is_restart : Outcome → Bool
+is_restart (outcomes.Restarted _) = true
+is_restart outcomes.Suspect = false
+is_restart outcomes.Held = false
+is_restart outcomes.HeldAndEvicted = false
+is_restart outcomes.Duplicate = false
+is_restart outcomes.Late = false
+is_restart outcomes.NoMedia = false
+is_restart outcomes.OtherStream = false
+is_restart outcomes.Undecided = false
+is_restart outcomes.Rtcp = false
+
+abbrev pub packet_seen : Bool → Outcome → ℕ → Seen → Seen
+packet_seen false outcome time seen = seen
+packet_seen true outcome time seen = seen_with (record { time = time; is_block = false }) (if is_restart outcome then none_seen else seen)
+
+-- the primary block of a packet is stored, if it is media of the stream and repeats no block
 abbrev pub TakesPrimaryIf : Bool → Kinds → Ticks → Carrier → Receiving → Outcome → Receiving → Type 0
 TakesPrimaryIf true s now c r outcome t = Receives (record { now = now; header = header_for s c.header; bytes = c.primary.payload }) r outcome t
 TakesPrimaryIf false s now c r outcome t = (outcome ≡ outcomes.NoMedia) × Notes c.header.sequence_number r t
 
-abbrev pub TakesPrimary : Kinds → Ticks → Carrier → Receiving → Outcome → Receiving → Type 0
-TakesPrimary s now c r outcome t = TakesPrimaryIf (c.primary.pt == s.payload_type) s now c r outcome t
+abbrev pub is_own_media : Kinds → Carrier → Bool
+is_own_media s c = c.primary.pt == s.payload_type
+
+abbrev pub TakesPrimary : Kinds → Ticks → Carrier → Seen → Receiving → Outcome → Receiving → Type 0
+TakesPrimary s now c seen r outcome t = TakesPrimaryIf (is_own_media s c && not (is_repeat s seen r c.header.timestamp c.header.sequence_number)) s now c r outcome t
+
+-- a packet with media is stored; if it repeats a block, it counts as one without media
+abbrev pub TakesMedia : Bool → Arrival → Receiving → Outcome → Receiving → Type 0
+TakesMedia false a r outcome t = Receives a r outcome t
+TakesMedia true a r outcome t = (outcome ≡ outcomes.NoMedia) × Notes a.header.sequence_number r t
+
+abbrev pub TakesAgain : Bool → Arrival → Receiving → Outcome → Receiving → Type 0
+TakesAgain false a r outcome t = ReceivesAgain a r outcome t
+TakesAgain true a r outcome t = (outcome ≡ outcomes.NoMedia) × Notes a.header.sequence_number r t
 
 abbrev pub is_suspect : Outcome → Bool
 is_suspect outcomes.Suspect = true
@@ -144,24 +198,31 @@ is_suspect outcomes.Undecided = false
 is_suspect outcomes.Rtcp = false
 
 -- of a suspect packet nothing is recovered
-abbrev pub RecoversUnless : Bool → Bool → List Arrival → Receiving → Receiving → Type 0
+abbrev pub RecoversUnless : Bool → Bool → List Arrival → Holding → Holding → Type 0
 RecoversUnless true whole all r t = (whole ≡ true) × (t ≡ r)
 RecoversUnless false whole all r t = RecoversAll whole all r t
 
 -- a packet of RED: first what it is itself, and then what it carries
-abbrev pub TakesRed : Kinds → Ticks → Carrier → Receiving → Outcome → Bool → Receiving → Type 0
-TakesRed s now c r outcome whole t = (mid : Receiving) × TakesPrimary s now c r outcome mid × RecoversUnless (is_suspect outcome) whole (all_carried s now c) mid t
+abbrev pub TakesRed : Kinds → Ticks → Carrier → Holding → Outcome → Bool → Holding → Type 0
+TakesRed s now c r outcome whole t =
+    (mid : Receiving) × TakesPrimary s now c r.seen r.packets outcome mid
+    × RecoversUnless (is_suspect outcome) whole (all_carried s now c) (record { packets = mid; seen = packet_seen (is_own_media s c) outcome c.header.timestamp r.seen }) t
 
 -- the jitter buffer takes in what is its stream's; whole: all that it carries
-abbrev pub TakesDatagram : Kinds → Ticks → Datagram → Receiving → Outcome → Bool → Receiving → Type 0
+abbrev pub TakesDatagram : Kinds → Ticks → Datagram → Holding → Outcome → Bool → Holding → Type 0
 TakesDatagram s now RtcpPacket r outcome whole t = (outcome ≡ outcomes.Rtcp) × (t ≡ r)
 TakesDatagram s now (Malformed e) r outcome whole t = t ≡ r
 TakesDatagram s now OfOthers r outcome whole t = (outcome ≡ outcomes.OtherStream) × (t ≡ r)
-TakesDatagram s now (WithoutMedia h) r outcome whole t = (outcome ≡ outcomes.NoMedia) × Notes h.sequence_number r t
-TakesDatagram s now (WithMedia p) r outcome whole t = Receives (record { now = now; header = header_for s p.header; bytes = p.payload }) r outcome t
+TakesDatagram s now (WithoutMedia h) r outcome whole t = (outcome ≡ outcomes.NoMedia) × Notes h.sequence_number r.packets t.packets × (t.seen ≡ r.seen)
+TakesDatagram s now (WithMedia p) r outcome whole t =
+    TakesMedia (is_repeat s r.seen r.packets p.header.timestamp p.header.sequence_number) (record { now = now; header = header_for s p.header; bytes = p.payload }) r.packets outcome t.packets
+    × (t.seen ≡ packet_seen (is_some s.red) outcome p.header.timestamp r.seen)
 TakesDatagram s now (InRed c) r outcome whole t = TakesRed s now c r outcome whole t
-TakesDatagram s now (Again o) r outcome whole t = ReceivesAgain (record { now = now; header = original_header s o; bytes = o.bytes }) r outcome t
-TakesDatagram s now AgainEmpty r outcome whole t = (outcome ≡ outcomes.NoMedia) × (t ≡ record r { counters = counted r.counters outcomes.NoMedia })
+TakesDatagram s now (Again o) r outcome whole t =
+    TakesAgain (is_repeat s r.seen r.packets o.header.timestamp o.number) (record { now = now; header = original_header s o; bytes = o.bytes }) r.packets outcome t.packets
+    × (t.seen ≡ packet_seen (is_some s.red) outcome o.header.timestamp r.seen)
+TakesDatagram s now AgainEmpty r outcome whole t =
+    (outcome ≡ outcomes.NoMedia) × (t ≡ record r { packets = record r.packets { counters = counted r.packets.counters outcomes.NoMedia } })
 
 -- the fault that is told of a malformed datagram
 abbrev pub error_of : Malformation → ReceiveError
@@ -200,7 +261,8 @@ pub record Hears (now : Ticks) (d : Datagram) (s : Session) (answer : Result Out
   pub outcome : Outcome
   pub whole : Bool
   pub packets : Receiving
-  pub takes : TakesDatagram s.stream now d s.packets outcome whole packets
+  pub seen : Seen
+  pub takes : TakesDatagram s.stream now d (record { packets = s.packets; seen = s.seen }) outcome whole (record { packets = packets; seen = seen })
   pub answers : AnswersFor d outcome whole answer
   pub left : t ≡ record s {
     ssrc = ssrc_after s.ssrc d;
@@ -208,6 +270,7 @@ pub record Hears (now : Ticks) (d : Datagram) (s : Session) (answer : Result Out
     arrived = arrived_with s.arrived d;
     reception = observed_in s.reception now.0 d;
     choice = record s.choice { latest = latest_after s.choice.latest now.0 (origin_of d) };
+    seen = seen;
   }
 
 -- where memory was wanting, nothing has changed
@@ -274,7 +337,7 @@ SettlesOn (Some c) false s t = t ≡ s
 
 -- the next packet is the first of another sender, with that SSRC if it is known
 abbrev pub gone_over_to : Option ℕ → Session → Session
-gone_over_to ssrc s = record s { ssrc = ssrc; packets = begun_anew s.packets; reception = s.no_reception }
+gone_over_to ssrc s = record s { ssrc = ssrc; packets = begun_anew s.packets; reception = s.no_reception; seen = none_seen }
 
 -- a stream that was silent is left, as if the caller had told a restart
 abbrev pub opened_if : Bool → Session → Session
@@ -314,9 +377,9 @@ first_waiting s = if is_none_of s.ssrc then slice_get s.choice.candidates 0 else
 abbrev pub Finishes : Session → Session → Type 0
 Finishes s t = (whole : Bool) × (mid : Session) × SettlesOn (first_waiting s) whole s mid × (t ≡ ended mid)
 
--- the sender begins anew: packets that wait are of other streams
+-- the sender begins anew: packets that wait are of other streams, and a keyframe is needed
 abbrev pub restarted : Option ℕ → Session → Session
-restarted ssrc s = gone_over_to ssrc (record s { arrived = turned_away (length s.choice.candidates) s.arrived; choice = record s.choice { candidates = []; latest = None } })
+restarted ssrc s = gone_over_to ssrc (record s { arrived = turned_away (length s.choice.candidates) s.arrived; choice = record s.choice { candidates = []; latest = None }; gates = with_skip s.gates })
 
 -- Pops
 
@@ -352,6 +415,19 @@ abbrev pub packets_at_once : Option RedStream → ℕ
 packets_at_once None = 2
 packets_at_once (Some red) = 10
 
+-- the codec of units that are inspected
+abbrev pub video_codec : DepacketizerKind → Codec
+video_codec Vp8Payloads = codecs.Vp8
+video_codec Vp9Payloads = codecs.Vp9
+video_codec Av1Payloads = codecs.Av1
+video_codec G711Payloads = codecs.Null
+video_codec OpusPayloads = codecs.Null
+video_codec ComfortNoisePayloads = codecs.Null
+video_codec TelePayloads = codecs.Null
+video_codec (AmrWbPayloads octet) = codecs.Null
+video_codec NullPayloads = codecs.Null
+video_codec BoxedPayloads = codecs.Null
+
 abbrev pub session_with : Settings → DepacketizerState → Option RedStream → Numbering → Session
 session_with s depacketizer red numbering = record {
   stream = record { payload_type = s.payload_type; no_media = s.no_media.items; red = red; retransmission = s.retransmission; ids = s.extension_ids };
@@ -365,6 +441,8 @@ session_with s depacketizer red numbering = record {
   reception = no_reception numbering s.tick_rate s.clock_rate;
   no_reception = no_reception numbering s.tick_rate s.clock_rate;
   choice = no_choice (2 * s.tick_rate);
+  seen = none_seen;
+  gates = new_gating (video_codec (kind_of_depacketizer depacketizer)) s.from_keyframe;
 }
 
 abbrev pub session_within : Settings → DepacketizerState → Option RedStream → Result Numbering WindowError → Result Session SettingsError

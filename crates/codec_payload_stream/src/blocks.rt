@@ -5,9 +5,10 @@ ghost use Rattle.std.specs.Option.{option_map};
 ghost use Rattle.codec_payload_red.specs.RedBlocks.{block_of, blocks_of};
 ghost use Rattle.std.specs.List.{filter_map};
 ghost use Rattle.codec_payload_stream.specs.Kinds.{carrier_of};
-ghost use Rattle.codec_payload_stream.specs.Sessions.{RecoversAll, all_carried, carried, copied};
+ghost use Rattle.codec_payload_stream.specs.Sessions.{RecoversAll, all_carried, block_seen, carried, copied};
 
 use crate::datagram::{RedPacket, Stream};
+use crate::seen_times::{SeenTime, SeenTimes};
 use codec_payload_base::wire::{RtpHeader as Header, SeqNo, Ticks};
 use codec_payload_codec::codec::Depacketizer;
 use codec_payload_jitter::jitter::JitterBuffer;
@@ -72,22 +73,37 @@ fn copy_block(
     }
 }
 
-/// The jitter buffer takes in those of these packets that are missing, in order. Whether there was memory for all of them: where
-/// there is none for one, it and those after it do not go in.
+/// Stores the missing ones of these packets, in order, except those whose RTP time was received. Returns whether there was memory for
+/// all of them: if there is none for one, neither it nor any after it is stored.
 pub(crate) fn recover_all<B: Depacketizer>(
     packets: &mut JitterBuffer<B>,
+    seen: &mut SeenTimes,
     now: Ticks,
     mut copies: VecDeque<BlockCopy>,
 ) -> bool
-    ensures { RecoversAll result (map (copied now) copies.items) packets.old packets.new }
+    ensures { RecoversAll result (map (copied now) copies.items) (record { packets = packets.old; seen = seen.old }) (record { packets = packets.new; seen = seen.new }) }
 {
     while let Some(copy) = copies.pop_front() {
-        if packets
-            .push_recovered(now, copy.header, copy.payload)
-            .is_err()
-        {
-            return false;
+        let time = copy.header.timestamp;
+        if seen.is_seen(time) {
+            continue;
+        }
+        match packets.push_recovered(now, copy.header, copy.payload) {
+            Ok(went_in) => note_block(seen, went_in, time),
+            Err(_) => return false,
         }
     }
     true
+}
+
+/// Notes the time of a block, if it was stored.
+fn note_block(seen: &mut SeenTimes, went_in: bool, time: u32)
+    ensures { seen.new ≡ block_seen went_in time seen.old }
+{
+    if went_in {
+        seen.note(SeenTime {
+            time,
+            is_block: true,
+        });
+    }
 }

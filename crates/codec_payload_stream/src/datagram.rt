@@ -6,11 +6,12 @@ ghost use Rattle.codec_payload_red.specs.RedRecovery.{packet_of as recovered_of}
 ghost use Rattle.codec_payload_rtp.specs.RtpValues.{header_of, packet_of};
 ghost use Rattle.codec_payload_jitter.specs.Receiving.{Receives, ReceivesAgain};
 ghost use Rattle.codec_payload_stream.specs.Kinds.{again_kind, block_header, carrier_of, datagram_at, datagram_of, header_for, is_among, is_other, is_padding_only, is_sent_again, kind_for, media_kind, original_header, original_of, red_kind, red_of, retransmitted_under, ssrc_or, under};
-ghost use Rattle.codec_payload_stream.specs.Sessions.{TakesDatagram, TakesPrimary, TakesRed, is_suspect, observed_in, ssrc_after};
+ghost use Rattle.codec_payload_stream.specs.Sessions.{TakesAgain, TakesDatagram, TakesMedia, TakesPrimary, TakesRed, is_own_media, is_repeat, is_restart, is_suspect, observed_in, packet_seen, ssrc_after};
 
 use crate::blocks::{copy_blocks, recover_all};
 use crate::receiver::Retransmission;
 use crate::reports::ReceptionStatistics;
+use crate::seen_times::{SeenTime, SeenTimes};
 use codec_payload_base::error::PacketError;
 use codec_payload_base::wire::{ExtensionValues, Pt, RtpHeader as Header, Ticks};
 use codec_payload_codec::codec::Depacketizer;
@@ -347,19 +348,41 @@ impl Stream {
         packets.push_retransmitted(now, header, payload)
     }
 
-    /// The jitter buffer takes in the packet that carries blocks: its primary block, where that is media of the stream.
+    /// Returns whether the primary block of a packet is media of the stream.
+    fn is_own_media(&self, red: &RedPacket<'_>) -> bool
+        ensures { result ≡ is_own_media self.now (carrier_of red.now) }
+    {
+        red.primary.pt == self.payload_type
+    }
+
+    /// Returns whether a packet of that time and number repeats a block: a block of its time was stored under another number.
+    fn is_repeat<B: Depacketizer>(
+        &self,
+        seen: &SeenTimes,
+        packets: &JitterBuffer<B>,
+        time: u32,
+        number: u16,
+    ) -> bool
+        ensures { result ≡ is_repeat self.now seen.now packets.now time number }
+    {
+        self.red.is_some() && seen.has_block(time) && packets.would_store(number)
+    }
+
+    /// Stores the primary block of a packet, if it is media of the stream and repeats no block. Else the packet has no media.
     fn push_primary<B: Depacketizer>(
         &self,
         packets: &mut JitterBuffer<B>,
+        seen: &SeenTimes,
         now: Ticks,
         red: &RedPacket<'_>,
     ) -> Result<Outcome, PacketError>
-        ensures ok { IfOk result (λ outcome. TakesPrimary self.now now (carrier_of red.now) packets.old outcome packets.new) }
+        ensures ok { IfOk result (λ outcome. TakesPrimary self.now now (carrier_of red.now) seen.now packets.old outcome packets.new) }
         ensures err { OnErr result (packets.new ≡ packets.old) }
         ensures fault { IfErr result (λ f. f ≡ OutOfMemory) }
     {
         let header = &red.packet.header;
-        if red.primary.pt == self.payload_type {
+        let (time, number) = (header.timestamp, header.sequence_number);
+        if self.is_own_media(red) && !self.is_repeat(seen, packets, time, number) {
             self.push_packet(packets, now, header, red.primary.payload)
         } else {
             packets.push_no_media(header.sequence_number)?;
@@ -386,35 +409,84 @@ impl Stream {
     fn push_red<B: Depacketizer>(
         &self,
         packets: &mut JitterBuffer<B>,
+        seen: &mut SeenTimes,
         now: Ticks,
         red: &RedPacket<'_>,
     ) -> Result<Taken, PacketError>
-        ensures ok { IfOk result (λ taken. TakesRed self.now now (carrier_of red.now) packets.old taken.outcome taken.whole packets.new) }
-        ensures err { OnErr result (packets.new ≡ packets.old) }
+        ensures ok { IfOk result (λ taken. TakesRed self.now now (carrier_of red.now) (record { packets = packets.old; seen = seen.old }) taken.outcome taken.whole (record { packets = packets.new; seen = seen.new })) }
+        ensures err { OnErr result ((packets.new ≡ packets.old) × (seen.new ≡ seen.old)) }
         ensures fault { IfErr result (λ f. f ≡ OutOfMemory) }
     {
         let copies = copy_blocks(self, red)?;
-        let outcome = self.push_primary(packets, now, red)?;
+        let outcome = self.push_primary(packets, seen, now, red)?;
+        note_packet(
+            seen,
+            self.is_own_media(red),
+            outcome,
+            red.packet.header.timestamp,
+        );
         if outcome == Outcome::Suspect {
             return Ok(Taken::whole(outcome));
         }
-        let whole = recover_all(packets, now, copies);
+        let whole = recover_all(packets, seen, now, copies);
         Ok(Taken { outcome, whole })
+    }
+
+    /// Stores a packet with media. If it repeats a block, it counts as a packet without media.
+    fn push_media<B: Depacketizer>(
+        &self,
+        packets: &mut JitterBuffer<B>,
+        seen: &SeenTimes,
+        now: Ticks,
+        packet: &RtpPacket<'_>,
+    ) -> Result<Outcome, PacketError>
+        ensures ok { IfOk result (λ outcome. TakesMedia (is_repeat self.now seen.now packets.old packet.now.header.timestamp packet.now.header.sequence_number)
+            (record { now = now; header = header_for self.now (header_of packet.now.header); bytes = packet.now.payload.now }) packets.old outcome packets.new) }
+        ensures err { OnErr result (packets.new ≡ packets.old) }
+        ensures fault { IfErr result (λ f. f ≡ OutOfMemory) }
+    {
+        let header = &packet.header;
+        if self.is_repeat(seen, packets, header.timestamp, header.sequence_number) {
+            packets.push_no_media(header.sequence_number)?;
+            return Ok(Outcome::NoMedia);
+        }
+        self.push_packet(packets, now, header, packet.payload)
+    }
+
+    /// Stores a retransmitted packet, by the same rule.
+    fn push_again<B: Depacketizer>(
+        &self,
+        packets: &mut JitterBuffer<B>,
+        seen: &SeenTimes,
+        now: Ticks,
+        sent: &SentAgain<'_>,
+    ) -> Result<Outcome, PacketError>
+        ensures ok { IfOk result (λ outcome. TakesAgain (is_repeat self.now seen.now packets.old sent.now.header.timestamp sent.now.number)
+            (record { now = now; header = original_header self.now (original_of sent.now); bytes = sent.now.payload.now }) packets.old outcome packets.new) }
+        ensures err { OnErr result (packets.new ≡ packets.old) }
+        ensures fault { IfErr result (λ f. f ≡ OutOfMemory) }
+    {
+        if self.is_repeat(seen, packets, sent.header.timestamp, sent.number) {
+            packets.push_no_media(sent.number)?;
+            return Ok(Outcome::NoMedia);
+        }
+        self.push_retransmitted(packets, now, sent)
     }
 
     /// The jitter buffer takes in what is its stream's.
     pub(crate) fn take<B: Depacketizer>(
         &self,
         packets: &mut JitterBuffer<B>,
+        seen: &mut SeenTimes,
         now: Ticks,
         datagram: &Datagram<'_>,
     ) -> Result<Taken, PacketError>
-        ensures ok { IfOk result (λ taken. TakesDatagram self.now now (datagram_of datagram.now) packets.old taken.outcome taken.whole packets.new) }
-        ensures err { OnErr result (packets.new ≡ packets.old) }
+        ensures ok { IfOk result (λ taken. TakesDatagram self.now now (datagram_of datagram.now) (record { packets = packets.old; seen = seen.old }) taken.outcome taken.whole (record { packets = packets.new; seen = seen.new })) }
+        ensures err { OnErr result ((packets.new ≡ packets.old) × (seen.new ≡ seen.old)) }
         ensures fault { IfErr result (λ f. f ≡ OutOfMemory) }
     {
         let outcome = match datagram {
-            Datagram::Red(red) => return self.push_red(packets, now, red),
+            Datagram::Red(red) => return self.push_red(packets, seen, now, red),
             Datagram::Rtcp | Datagram::Malformed(_) => Outcome::Rtcp,
             Datagram::OtherStream => Outcome::OtherStream,
             Datagram::NoMedia(packet) => {
@@ -422,9 +494,15 @@ impl Stream {
                 Outcome::NoMedia
             }
             Datagram::Media(packet) => {
-                self.push_packet(packets, now, &packet.header, packet.payload)?
+                let outcome = self.push_media(packets, seen, now, packet)?;
+                note_packet(seen, self.red.is_some(), outcome, packet.header.timestamp);
+                outcome
             }
-            Datagram::SentAgain(sent) => self.push_retransmitted(packets, now, sent)?,
+            Datagram::SentAgain(sent) => {
+                let outcome = self.push_again(packets, seen, now, sent)?;
+                note_packet(seen, self.red.is_some(), outcome, sent.header.timestamp);
+                outcome
+            }
             Datagram::Nothing => {
                 packets.push_nothing();
                 Outcome::NoMedia
@@ -432,6 +510,29 @@ impl Stream {
         };
         Ok(Taken::whole(outcome))
     }
+}
+
+/// Returns whether the sender restarted.
+fn is_restart(outcome: Outcome) -> bool
+    ensures { result ≡ is_restart outcome }
+{
+    matches!(outcome, Outcome::Restarted(_))
+}
+
+/// Notes the time of a packet, if it has media and its stream is sent in RED. A restart forgets the times before it.
+fn note_packet(seen: &mut SeenTimes, is_media: bool, outcome: Outcome, time: u32)
+    ensures { seen.new ≡ packet_seen is_media outcome time seen.old }
+{
+    if !is_media {
+        return;
+    }
+    if is_restart(outcome) {
+        *seen = SeenTimes::none();
+    }
+    seen.note(SeenTime {
+        time,
+        is_block: false,
+    });
 }
 
 /// The SSRC of the stream, once that datagram came.

@@ -5,20 +5,15 @@ ghost use Rattle.codec_payload_jitter.specs.Waiting.{waits_by_number, waits_for}
 ghost use Rattle.codec_payload_stream.specs.Defaults.{HasDefaults, audio_windows, video_windows};
 
 use crate::receiver::Settings;
+use crate::windows::Windows;
 use codec_payload_base::wire::Frequency;
 use codec_payload_jitter::jitter::WaitLimits;
+use codec_payload_keyframes::unit_gate::FromKeyframe;
 use codec_payload_rtp::values::ExtensionIds;
 use std::alloc::Global;
 
 /// How many packets a receiver with default settings holds at most.
 const LIMIT: usize = 4_096;
-
-/// How far ahead of the greatest number a packet may be, and how far behind it.
-#[derive(Clone, Copy, Debug)]
-struct Windows {
-    forward: u16,
-    backward: u16,
-}
 
 /// At least the packets of 5 s behind and more than twice as many ahead, of packets of 20 ms or less often.
 const AUDIO: Windows = Windows {
@@ -37,9 +32,13 @@ impl Settings {
     ///
     /// As all of these constructors have it: no SSRC is named, so that two packets choose the stream; nothing is sent in RED and
     /// nothing is retransmitted; no payload type comes without media and no header extension has an id; 4,096 packets are held at
-    /// most; and the caller's clock has ticks of milliseconds. All fields are public: change what differs. Takes no memory.
+    /// most; the caller's clock has ticks of milliseconds; and units of video are marked as decodable or not. All fields are public:
+    /// change what differs. Takes no memory.
     ///
-    /// A lost packet delays frames by at most 100 ms. The windows are 3,000 packets ahead and 1,000 behind.
+    /// A lost packet delays frames by at most 100 ms. The windows are 3,000 packets ahead and 1,000 behind. For more than 200 packets
+    /// per second set those of [`Windows::for_rate`].
+    ///
+    /// [`Windows::for_rate`]: crate::windows::Windows::for_rate
     pub fn live_audio(alloc: Global, payload_type: u8, clock_rate: Frequency) -> Settings
         ensures { HasDefaults payload_type clock_rate (waits_for 1 100) audio_windows result }
     {
@@ -61,7 +60,10 @@ impl Settings {
     }
 
     /// Returns settings for live video without retransmission: a lost packet delays frames by at most 100 ms. The windows are
-    /// 12,000 packets ahead and 5,000 behind. All else as [`Settings::live_audio`].
+    /// 12,000 packets ahead and 5,000 behind. For more than 1,000 packets per second set those of [`Windows::for_rate`]. All else as
+    /// [`Settings::live_audio`].
+    ///
+    /// [`Windows::for_rate`]: crate::windows::Windows::for_rate
     pub fn live_video(alloc: Global, payload_type: u8, clock_rate: Frequency) -> Settings
         ensures { HasDefaults payload_type clock_rate (waits_for 1 100) video_windows result }
     {
@@ -115,6 +117,7 @@ impl Settings {
             limit: LIMIT,
             forward: windows.forward,
             backward: windows.backward,
+            from_keyframe: FromKeyframe::Mark,
         }
     }
 }

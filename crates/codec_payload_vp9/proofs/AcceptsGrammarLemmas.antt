@@ -16,7 +16,7 @@ use Rattle.codec_payload_vp9.proofs.ReadIsSpelledLemmas.{read_is_spelled}
 use Rattle.codec_payload_vp9.proofs.SpelledIsReadLemmas.{fields_read, groups_told, spelled_is_read}
 use Rattle.codec_payload_vp9.proofs.NamedFaultLemmas.{names_no_memory}
 
--- taken: what is behind the descriptor was appended
+-- accepted: the bytes after the descriptor were appended
 taken_if : (misplaced : Bool) (d : Fields) (rest out : List ℕ) (extra : CodecExtra) (out' : List ℕ) (extra' : CodecExtra) → AppendedIf misplaced d rest out extra (Ok tt) out' extra'
     → (out' ≡ out ++ rest) × (extra' ≡ extras.Vp9 (extra_of d (length out') (told_before extra)))
 taken_if true d rest out extra out' extra' step = let never = step.0 in absurd (cc)
@@ -44,7 +44,7 @@ accepts (flags ∷ bytes) d out extra (Ok _) after out' extra' are step =
     ∙ ap (λ (g : Groups). record (with_descriptor d read) { groups = g }) (so.1 refl ∙ groups_told read rest is d) in
     (read, rest, (is, whole), appended, fields, told)
 
--- refused, of a payload that has a descriptor: it is misplaced, or memory is wanted
+-- refused, for a payload that has a descriptor: it is misplaced, or memory ran out
 refused_if : (misplaced : Bool) (d : Fields) (rest out : List ℕ) (extra : CodecExtra) (fault : PacketError) (out' : List ℕ) (extra' : CodecExtra) → (fault ≡ faults.OutOfMemory → ⊥)
     → AppendedIf misplaced d rest out extra (Err fault) out' extra' → (fault ≡ faults.ErrVP9CorruptedPacket) × (misplaced ≡ true)
 refused_if true d rest out extra fault out' extra' other step = let is = step.0 in (cc, refl)
@@ -57,7 +57,7 @@ refuses_by d read rest out extra fault after out' extra' other described step =
     let goes = subst (λ (r : Result (List ℕ) PacketError). Vp9Rest after r out extra (Err fault) out' extra') (spelled_is_read read rest described.0 d) step.2 in
     refused_if (is_misplaced after (length out) (told_before extra)) after rest out extra fault out' extra' other goes
 
--- memory is wanted
+-- memory ran out
 wanting_if : (misplaced : Bool) (d : Fields) (rest out : List ℕ) (extra : CodecExtra) (fault : PacketError) (out' : List ℕ) (extra' : CodecExtra) → fault ≡ faults.OutOfMemory
     → AppendedIf misplaced d rest out extra (Err fault) out' extra' → WantsMemory d rest × (misplaced ≡ false)
 wanting_if true d rest out extra fault out' extra' lacks step = let never = step.0 in absurd (cc)

@@ -1,4 +1,4 @@
--- No descriptor names want of memory as its fault.
+-- The fault of a descriptor is never out of memory.
 use Rattle.std.proofs.Common.{◌≡◌, ◌∙◌, sym, ap, refl, ℕ, zero, suc, ◌+◌, List, [], ◌∷◌, Bool, true, false, ◌&&◌, Option, Some, None, Result, Ok, Err, length, take, drop, ◌<◌, arith}
 use Rattle.std.specs.Prelude.{nat_lt, if◌then◌else◌}
 use Rattle.codec_payload_base.specs.Flags.{has_bit}
@@ -138,7 +138,7 @@ all_named d bytes = let r = read_before d bytes in if_before_named r.fields r.re
 pub names_no_memory : (d : Fields) (bytes : List ℕ) → (all_groups d bytes).rest ≡ Err faults.OutOfMemory → ⊥
 names_no_memory d bytes is = let never = sym (ap is_no_memory is) ∙ all_named d bytes in cc
 
--- The structure but for its groups, and then these.
+-- The structure without its groups, and then the groups.
 
 then_v : (r : Result (List ℕ) PacketError) (d : Fields) (v : Bool) (next : Fields → List ℕ → Reading) → d.v ≡ v → ((e : Fields) (bytes : List ℕ) → (next e bytes).fields.v ≡ e.v)
     → (next_from d r next).fields.v ≡ v
@@ -180,7 +180,7 @@ if_read_is : (count : ℕ) (r : Result (List ℕ) PacketError) → if_read count
 if_read_is count (Ok bytes) = refl
 if_read_is count (Err fault) = refl
 
--- without a structure there are none
+-- without a structure there are no groups
 pub no_structure : (d : Fields) (bytes : List ℕ) → d.v ≡ false → read_groups d bytes ≡ groups_from (groups_of d) (read_head d bytes).rest (groups_at (group_count d))
 no_structure d bytes is = rw is refl
 

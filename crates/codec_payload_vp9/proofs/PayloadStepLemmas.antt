@@ -51,21 +51,21 @@ module _ (d start after : Fields) (flags : ℕ) (bytes out : List ℕ) (extra : 
           (subst (λ (r : Result (List ℕ) PacketError). Vp9Rest after r out extra answer out' extra') (sym whole)
           (subst (λ (m : Bool). AppendedIf m after rest out extra answer out' extra') (sym is) appended))
 
-      -- they are all there, and what is behind them is misplaced
+      -- the groups are complete, and the bytes after them are misplaced
       pub misplaced : is_misplaced after (length out) (told_before extra) ≡ true → Vp9Step d (flags ∷ bytes) out extra (Err faults.ErrVP9CorruptedPacket) after out extra
       misplaced is = placed true (Err faults.ErrVP9CorruptedPacket) out extra is (λ taken. absurd (cc)) (refl, refl, refl)
 
-      -- there is no memory for them
+      -- there is no memory for the groups
       pub wanting : (fault : PacketError) → is_misplaced after (length out) (told_before extra) ≡ false → fault ≡ faults.OutOfMemory → 0 < group_count after
           → Vp9Step d (flags ∷ bytes) out extra (Err fault) after out extra
       wanting fault is lacks some = placed false (Err fault) out extra is (λ taken. absurd (cc)) (lacks, inl some, refl, refl)
 
-      -- what is behind them is appended, or there is no memory for it
+      -- the bytes after the groups are appended, or there is no memory for them
       pub appended : (answer : Result (Unit {0}) PacketError) (out' : List ℕ) (extra' : CodecExtra) → is_misplaced after (length out) (told_before extra) ≡ false → groups_of after ≡ here.groups
           → AppendedIf false after rest out extra answer out' extra' → Vp9Step d (flags ∷ bytes) out extra answer after out' extra'
       appended answer out' extra' is groups given = placed false answer out' extra' is (λ _. groups) given
 
--- what can be read whole is refused for want of memory alone
+-- a payload that can be read whole is refused only if memory runs out
 pub lacks_memory : (lacks : Bool) (fault : PacketError) (r : Result (List ℕ) PacketError) (rest : List ℕ) → is_no_memory {X = Unit {0}} (Err fault) ≡ lacks → r ≡ Ok rest
     → (is_no_memory {X = Unit {0}} (Err fault) ≡ false → Err fault ≡ r) → fault ≡ faults.OutOfMemory
 lacks_memory true fault r rest is whole named = no_memory_fault fault is

@@ -1,4 +1,4 @@
--- What the payloads that were sent tell of pictures.
+-- What sent payloads report about pictures.
 use Rattle.std.proofs.Common.{◌≡◌, ◌∙◌, ap, refl, subst, ℕ, ◌+◌, ◌<◌, ◌^◌, List, ◌∷◌, ◌++◌, length, Bool, true, false, Option, Some, Ok}
 use Rattle.codec_payload_base.specs.Extended.{extended}
 use Rattle.codec_payload_base.specs.PictureIds.{extended_by, id_bytes, take_id}
@@ -15,7 +15,7 @@ use Rattle.codec_payload_vp9.specs.Vp9Reading.{then_read, read_head}
 use Rattle.codec_payload_vp9.specs.Vp9Received.{AppendedIf, Vp9Step, extra_of, is_misplaced, told_before}
 use Rattle.codec_payload_vp9.specs.Vp9Sent.{header_in}
 
--- the picture id and that of the base layer were read, and are told of the base layer's frame
+-- the picture id and the id of the base layer were read, and are reported for the base layer's frame
 pub record TellsBoth (d : Fields) (id tl0 : ℕ) (after : Fields) (extra : CodecExtra) : Type 0 where
   pub told : Vp9CodecExtra
   pub is : extra ≡ extras.Vp9 told
@@ -25,7 +25,7 @@ pub record TellsBoth (d : Fields) (id tl0 : ℕ) (after : Fields) (extra : Codec
   pub last : after.picture_id ≡ id
   pub extended_last : after.extended_pid ≡ Some (extended_by d.extended_pid d.picture_id (Long id))
 
--- the extra of a payload that is taken
+-- the codec-specific data of an accepted payload
 taken_extra : (misplaced : Bool) (after : Fields) (piece out : List ℕ) (extra : CodecExtra) (x : Unit {0}) (out' : List ℕ) (extra' : CodecExtra)
     → AppendedIf misplaced after piece out extra (Ok x) out' extra' → extra' ≡ extras.Vp9 (extra_of after (length out + length piece) (told_before extra))
 taken_extra true after piece out extra x out' extra' a = let no = a.0 in absurd (cc)
@@ -68,7 +68,7 @@ module _ (d : Fields) (id tl0 : ℕ) (small : id < 2 ^ 15) (piece out : List ℕ
         extended_last = ap (λ (f : Fields). f.extended_pid) known.0;
       }
 
-  -- each packet of the non-flexible mode tells both
+  -- each packet of the non-flexible mode reports both
   pub sent_tells : (key first last : Bool) → Vp9Step d (header_in NonFlexible key id tl0 first last ++ piece) out extra (Ok x) after out' extra' → TellsBoth d id tl0 after extra'
   sent_tells true true true step = structure_tells false true true step
   sent_tells true true false step = structure_tells false true false step
@@ -79,7 +79,7 @@ module _ (d : Fields) (id tl0 : ℕ) (small : id < 2 ^ 15) (piece out : List ℕ
   sent_tells false false true step = plain_tells true false true step
   sent_tells false false false step = plain_tells true false false step
 
-  -- a packet of the flexible mode leaves the id of the base layer as it was told before
+  -- a packet of the flexible mode leaves the id of the base layer as it was reported before
   abbrev pub KeepsBase : Type 0
   KeepsBase = (told : Vp9CodecExtra) × (extra' ≡ extras.Vp9 told) × (told.tl0_picture_id ≡ (told_before extra).tl0_picture_id)
 

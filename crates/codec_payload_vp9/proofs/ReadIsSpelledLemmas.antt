@@ -1,4 +1,4 @@
--- What is read is spelled so.
+-- A value that was read has this spelling.
 use Rattle.std.proofs.Common.{◌≡◌, ◌∙◌, sym, ap, refl, ℕ, zero, suc, ◌+◌, ◌*◌, ◌/◌, ◌%◌, ◌<◌, ◌≤◌, List, [], ◌∷◌, ◌++◌, length, take, drop, Bool, true, false, ◌&&◌, Option, Some}
 use Rattle.std.proofs.Common.{None, Result, Ok, Err, append_assoc, arith, subst, ltb-false}
 use Rattle.std.proofs.lemmas.List.{length-take, take-append-drop}
@@ -17,7 +17,7 @@ use Rattle.codec_payload_vp9.specs.Vp9Reading.{read_layers, with_difference, dif
 use Rattle.codec_payload_vp9.specs.Vp9Reading.{sizes_at, read_sizes, group_count_at, read_group_count, with_structure, behind_head, GroupReading, no_groups, groups_of, with_group}
 use Rattle.codec_payload_vp9.specs.Vp9Reading.{count_of_differences, groups_at, if_read, structure_groups, read_groups, if_before, all_groups}
 
--- what is read next was read from where the first reading came to its end
+-- the next part is read from the end of the first
 next_reads : (d : Fields) (x : Result (List ℕ) PacketError) (next : Fields → List ℕ → Reading) (rest : List ℕ) → (next_from d x next).rest ≡ Ok rest
     → (mid : List ℕ) × (x ≡ Ok mid) × ((next d mid).rest ≡ Ok rest) × (next_from d x next ≡ next d mid)
 next_reads d (Ok mid) next rest h = (mid, refl, h, refl)
@@ -297,7 +297,7 @@ groups_read : (v : Bool) (d : Fields) (bytes rest : List ℕ) → AreBytes bytes
 groups_read true d bytes rest are h = structure_there d bytes rest are h
 groups_read false d bytes rest are h = let e : bytes ≡ rest = cc in (None, e, refl)
 
--- the parts are joined in whichever order
+-- the parts can be joined in any order of brackets
 four_joined : (a b c d rest : List ℕ) → a ++ (b ++ (c ++ (d ++ rest))) ≡ (a ++ (b ++ (c ++ d))) ++ rest
 four_joined a b c d rest = simp append_assoc refl
 

@@ -1,4 +1,4 @@
--- What a VP9 depacketizer holds, without where it lies in memory.
+-- The state of a VP9 depacketizer, without its place in memory.
 use Rattle.std.specs.Prelude.{ℕ, Bool, false, List, [], ◌∷◌, Option, None, map}
 use Rattle.codec_payload_vp9.specs.declared.vp9.depacketizer.Vp9Depacketizer.{Vp9Depacketizer}
 
@@ -63,7 +63,7 @@ fields_of x = record {
   groups = record { tids = x.pgtid.items; us = x.pgu.items; differences = map (λ v. v.items) x.pgpdiff.items };
 }
 
--- those of a depacketizer that has read nothing
+-- the fields of a depacketizer that has read nothing
 abbrev pub unused : Fields
 unused = record {
   i = false;

@@ -1,4 +1,4 @@
--- Readers of fields: what is taken out of the bytes, and what is read of it.
+-- Readers of fields: the bits taken out of the bytes, and the values read from them.
 use Rattle.std.proofs.Common.{◌≡◌, ℕ, suc, ◌+◌, ◌-◌, ◌*◌, ◌/◌, ◌%◌, ◌^◌, ◌<◌, ◌≤◌, List, [], ◌∷◌, ◌++◌, length, take, drop, Bool, true, false, cond, ltb, Result, Ok, Err, inl, inr, refl, sym, ap, ◌∙◌, arith, append_assoc, length-append, length-drop}
 use Rattle.std.proofs.lemmas.Bool.{cases_lt, le-ltb, lt-ltb, ltb-false, ltb-true}
 use Rattle.std.proofs.lemmas.Nat.{one_shl, pow_below, pow_pos, pow-add, shl_whole}
@@ -86,7 +86,7 @@ takes_field n v old new small is same =
 pub none_held : (bytes : List ℕ) → bits 0 0 ++ bits_of bytes ≡ bits_of bytes
 none_held bytes = ap (λ (t : List ℕ). t ++ bits_of bytes) (none-bits 0)
 
--- ---- what is held
+-- ---- held bits
 
 pub held_is : (h w : ℕ) (b : List ℕ) (u : Unread) → record { held = bits h w; behind = b } ≡ u → length u.held ≡ h
 held_is h w b u e = ap (λ (t : Unread). length t.held) (sym e) ∙ length-bits h w
@@ -120,7 +120,7 @@ filled held w x bytes front small few e bound =
       fits = omega (arith, less, below);
     }
 
--- ---- bits that are passed over
+-- ---- skipped bits
 
 pub skips_held : (n v : ℕ) (old new : Unread) → old.held ≡ bits n v ++ new.held → new.behind ≡ old.behind → read (skips n) (left old) ≡ Ok (0, left new)
 skips_held n v old new is same =
@@ -140,7 +140,7 @@ guard_err : (b : Bool) (d f : MediaError) (x : ℕ × List ℕ) → failed f ≡
 guard_err true d f x e = (refl, cc)
 guard_err false d f x e = absurd cc
 
--- what is held is passed over, and then bits behind it
+-- the held bits are skipped, and then bits after them
 skips_rest : (n : ℕ) (u : Unread) → length u.held < n → read (skips n) (left u) ≡ read (skips (n - length u.held)) (bits_of u.behind)
 skips_rest n u more =
     let h : ℕ = length u.held in

@@ -37,7 +37,7 @@ pub neither : (a b : Bool) → a || b ≡ false → (a ≡ false) × (b ≡ fals
 neither true b e = absurd cc
 neither false b e = (refl, e)
 
--- a bit that is told by whether it is 1
+-- a bit given by whether it is 1
 pub bit_is : (k bit : ℕ) → k < 2 → bit_if (eqb k 1) bit ≡ k * bit
 bit_is zero bit h = omega arith
 bit_is (suc zero) bit h = omega arith

@@ -1,4 +1,4 @@
--- Superframes of VP9: what is spelled is read, and what is read is spelled.
+-- Superframes of VP9: spelled bytes are read, and bytes that are read are spelled so.
 use Rattle.std.proofs.Common.{◌≡◌, ℕ, zero, suc, ◌+◌, ◌-◌, ◌*◌, ◌/◌, ◌<◌, ◌≤◌, ◌⊎◌, inl, inr, List, [], ◌∷◌, ◌++◌, length, take, drop, get_or, Bool, true, false, ltb, leb, eqb, ◌&&◌, Ok, refl, sym, ap, ◌∙◌, subst, arith, append_assoc, length-append}
 use Rattle.std.specs.List.{concat}
 use Rattle.std.proofs.Math.Seq.{get_or-append_seam, take-append-add, take-length, take-suc}
@@ -10,7 +10,7 @@ use Rattle.codec_payload_vpx.specs.Vp9Superframes.{AreSizes, IsAlone, IsSize, Is
 use Rattle.codec_payload_vpx.proofs.ReadingLemmas.{guard_ok, ok_is}
 use Rattle.codec_payload_vpx.proofs.SuperframeLemmas.{how_many}
 
--- ---- what is spelled is read
+-- ---- spelled bytes are read
 
 sizes_long : (width : ℕ) (frames : List (List ℕ)) (sizes : List ℕ) → AreSizes width sizes frames → length sizes ≡ length frames * width
 sizes_long width [] sizes is = let none : length sizes ≡ 0 = ap length is in omega (arith, none)
@@ -104,7 +104,7 @@ module _ (unit : List ℕ) (frames : List (List ℕ)) (is : IsSuperframe unit fr
       ∙ indexed_is unit m (length front_bytes) (length frames) is.width (is.sizes ++ m ∷ []) front_bytes place has.1 has.2 behind (ap (take (length front_bytes)) is.is ∙ take_at front_bytes (m ∷ (is.sizes ++ m ∷ [])) (length front_bytes) refl) sum
       ∙ ap (λ (f : List (List ℕ)). Ok f) (frames_again is.width frames is.sizes (m ∷ []) is.spare is.are_sizes)
 
--- ---- what is read is spelled
+-- ---- bytes that are read are spelled so
 
 sizes_taken : (n width : ℕ) (sizes body : List ℕ) → n * width ≤ length sizes → size_sum n width sizes ≤ length body → AreSizes width (take (n * width) sizes) (frames_in n width sizes body)
 unfolding frames_in size_sum

@@ -1,4 +1,4 @@
--- Headers of VP8 frames: what is spelled so is read, and what is read is spelled so.
+-- Headers of VP8 frames: spelled bytes are read, and bytes that are read are spelled so.
 use Rattle.std.proofs.Common.{◌≡◌, ℕ, zero, suc, ◌+◌, ◌*◌, ◌/◌, ◌%◌, ◌<◌, ◌≤◌, List, [], ◌∷◌, ◌++◌, length, Bool, true, false, ltb, eqb, Option, Some, None, Result, Ok, Err, refl, sym, ap, ◌∙◌, subst, arith, ◌&&◌}
 use Rattle.std.specs.Prelude.{is_some, IfSome, IfOk}
 use Rattle.std.specs.Int.{w16, from_le_bytes, to_le_bytes}

@@ -1,4 +1,4 @@
--- Readers of fields: bits that were taken out of the bytes, and the bytes behind them.
+-- Readers of fields: bits that were taken out of the bytes, and the bytes after them.
 use Rattle.std.specs.Prelude.{ℕ, ◌+◌, ◌*◌, ◌^◌, List, [], ◌∷◌, ◌++◌, length, Result, Ok, Err}
 use Rattle.codec_payload_base.specs.Bits.{bits_of}
 use Rattle.codec_payload_vpx.specs.declared.error.MediaError.{MediaError}
@@ -16,7 +16,7 @@ abbrev pub be_number : List ℕ → ℕ
 be_number [] = 0
 be_number (b ∷ bs) = b * 2 ^ (8 * length bs) + be_number bs
 
--- what a reader has left behind bits that were passed over
+-- the rest of a reader after skipped bits
 abbrev pub passed : Result Unread MediaError → Result (ℕ × List ℕ) MediaError
 passed (Ok r) = Ok (0, left r)
 passed (Err f) = Err f

@@ -1,11 +1,11 @@
--- Syntax tables, as the standards write them: fields of so many bits, highest first, bits of any value that are passed over,
--- and what follows from the values of fields.
+-- Syntax tables, as the standards write them: fields of n bits, highest first, skipped bits of any value, and steps that depend on
+-- the values of fields.
 use Rattle.std.specs.Prelude.{◌≡◌, ℕ, ◌^◌, ◌<◌, ◌==◌, nat_lt, Bool, true, false, List, ◌++◌, length, take, drop, if◌then◌else◌, Result, Ok, Err}
 use Rattle.codec_payload_base.specs.Bits.{bits, number_of}
 use Rattle.codec_payload_vpx.specs.declared.error.MediaError.{MediaError}
 use Rattle.codec_payload_vpx.specs.declared.error.MediaError.TheVariants as errors
 
--- a table that tells an A
+-- a table whose value is an A
 pub data Syntax : Type 0 → Type 1 where
   tells : {A : Type 0} → A → Syntax A
   refuses : {A : Type 0} → MediaError → Syntax A
@@ -18,12 +18,12 @@ infixl 10 ◌>>=◌
 abbrev pub ◌>>=◌ : {A B : Type 0} → Syntax A → (A → Syntax B) → Syntax B
 s >>= f = follows s f
 
--- a step, and what is read behind it
+-- a step, and the next step after it
 abbrev pub then_read : {A B : Type 0} → Result (A × List ℕ) MediaError → (A → List ℕ → Result (B × List ℕ) MediaError) → Result (B × List ℕ) MediaError
 then_read (Ok x) f = f x.0 x.1
 then_read (Err e) f = Err e
 
--- what a table tells of bits, and the bits behind it, or the first fault
+-- the value that a table gives to bits, and the bits after it, or the first fault
 abbrev pub read : {A : Type 0} → Syntax A → List ℕ → Result (A × List ℕ) MediaError
 read (tells x) bs = Ok (x, bs)
 read (refuses e) bs = Err e
@@ -32,12 +32,12 @@ read (skips n) bs = if nat_lt (length bs) n then Err errors.MissingBytes else Ok
 read (branch b s t) bs = if b then read s bs else read t bs
 read (follows s f) bs = then_read (read s bs) (λ x rest. read (f x) rest)
 
--- the first where the test is met, else the second
+-- the first if the test is met, else the second
 abbrev pub IfMet : Bool → Type 0 → Type 0 → Type 0
 IfMet true P Q = P
 IfMet false P Q = Q
 
--- The bits are spelled by the table, which tells this of them, and then the rest.
+-- The bits are spelled by the table with this value, and then the rest.
 abbrev pub Spells : {A : Type 0} → Syntax A → List ℕ → A → List ℕ → Type 0
 Spells (tells x) bs y rest = (x ≡ y) × (bs ≡ rest)
 Spells (refuses e) bs y rest = ⊥
@@ -61,7 +61,7 @@ flag = do
 
 -- ---- readers
 
--- an answer, and the bits that are left
+-- a result, and the bits that are left
 abbrev pub paired : {A : Type 0} → Result A MediaError → List ℕ → Result (A × List ℕ) MediaError
 paired (Ok x) rest = Ok (x, rest)
 paired (Err e) rest = Err e
@@ -70,10 +70,10 @@ abbrev pub without_rest : {A : Type 0} → Result (A × List ℕ) MediaError →
 without_rest (Ok x) = Ok x.0
 without_rest (Err e) = Err e
 
--- what the table tells of the bits at the front
+-- the value that the table gives to the bits at the front
 abbrev pub told_by : {A : Type 0} → Syntax A → List ℕ → Result A MediaError
 told_by s bs = without_rest (read s bs)
 
--- The bits begin with what the table spells so.
+-- The bits begin with a spelling of this value by the table.
 abbrev pub IsSpelled : {A : Type 0} → Syntax A → List ℕ → A → Type 0
 IsSpelled s bs x = (rest : List ℕ) × Spells s bs x rest

@@ -1,6 +1,6 @@
--- Frames of VP8 (RFC 6386, section 9.1): a tag of three bytes, low byte first, whose bit 0 is clear in a keyframe, with the
--- version (3 bits), whether it is shown (1) and the size of the first partition (19); of a keyframe a start code, and width
--- and height of 14 bits each below two of scale; then the partitions.
+-- Frames of VP8 (RFC 6386, section 9.1): a tag of three bytes, low byte first: bit 0 (clear in a keyframe), the version (3 bits),
+-- whether it is shown (1) and the size of the first partition (19). A keyframe continues with a start code, then width and height
+-- of 14 bits each below two of scale. The partitions follow.
 use Rattle.std.specs.Prelude.{◌≡◌, ℕ, ◌+◌, ◌*◌, ◌/◌, ◌%◌, ◌<◌, ◌≤◌, ◌==◌, ◌&&◌, nat_lt, Bool, true, false, List, [], ◌∷◌, ◌++◌, length, if◌then◌else◌, Option, Some, None, is_some, IfSome, Result, Ok, Err}
 use Rattle.std.specs.Int.{w16, to_le_bytes, from_le_bytes}
 use Rattle.codec_payload_vpx.specs.BitFields.{bit_if}
@@ -34,7 +34,7 @@ keyframe_bytes (Some k) = 0x9d ∷ 0x01 ∷ 0x2a ∷ (side_bytes k.width k.horiz
 abbrev pub header_bytes : Vp8FrameHeader → List ℕ
 header_bytes h = three_bytes (tag_of h) ++ keyframe_bytes h.keyframe
 
--- ---- what has a spelling
+-- ---- values with a spelling
 
 pub record FitsKeyframe (k : Vp8Keyframe) : Type 0 where
   pub width : k.width < 16384
@@ -42,7 +42,7 @@ pub record FitsKeyframe (k : Vp8Keyframe) : Type 0 where
   pub height : k.height < 16384
   pub vertical_scale : k.vertical_scale < 4
 
--- The bytes are a frame with that header, behind which the first partition has room.
+-- The bytes are a frame with that header, and the first partition fits after it.
 pub record IsVp8Frame (frame : List ℕ) (h : Vp8FrameHeader) : Type 0 where
   pub version : h.version < 8
   pub size : h.first_partition_size < 524288
@@ -70,13 +70,13 @@ behind_tag true bytes = do
   keyframe ← keyframe_at bytes
   Ok (Some keyframe.0, keyframe.1)
 
--- the header of that tag, where the partition has room
+-- the header with this tag, if the partition has room
 abbrev pub with_partition : ℕ → Option Vp8Keyframe → List ℕ → Result Vp8FrameHeader MediaError
 with_partition tag keyframe bytes =
     if nat_lt (length bytes) (tag / 32) then Err errors.SizesDoNotFit
     else Ok (record { version = tag / 2 % 8; shown = tag / 16 % 2 == 1; first_partition_size = tag / 32; keyframe = keyframe })
 
--- the header of that tag, before these bytes
+-- the header with this tag, before these bytes
 abbrev pub with_tag : ℕ → List ℕ → Result Vp8FrameHeader MediaError
 with_tag tag bytes = do
   keyframe ← behind_tag (tag % 2 == 0) bytes

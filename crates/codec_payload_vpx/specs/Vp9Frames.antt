@@ -63,7 +63,7 @@ side = do
   less ← field 16
   tells (less + 1)
 
--- render_size, which is that of the frame where it is not told
+-- render_size, which is the size of the frame if it is absent
 abbrev pub render_size : ℕ → ℕ → Syntax (ℕ × ℕ)
 render_size width height = do
   different ← flag
@@ -103,7 +103,7 @@ intra_picture profile = do
   refresh ← field 8
   picture color
 
--- intra_only, which is told where the frame is not shown
+-- intra_only, which is present if the frame is not shown
 abbrev pub intra_flag : Bool → Syntax Bool
 intra_flag shown = branch shown (tells false) flag
 
@@ -115,7 +115,7 @@ picture_if intra profile = branch intra some (tells None)
       p ← intra_picture profile
       tells (Some p)
 
--- reset_frame_context, where error_resilient_mode is clear
+-- reset_frame_context, if error_resilient_mode is clear
 abbrev pub reset_if : Bool → Syntax ℕ
 reset_if there = branch there (field 2) (tells 0)
 
@@ -145,7 +145,7 @@ shown_again profile = do
   index ← field 3
   tells (record { profile = profile; existing = Some index; keyframe = false; shown = true; error_resilient = false; intra_only = false; picture = None })
 
--- the bit behind profile 3 is reserved
+-- the bit after profile 3 is reserved
 abbrev pub profile_at : Syntax ℕ
 profile_at = do
   low ← field 1
@@ -157,7 +157,7 @@ profile_at = do
       reserved ← expects 1 0 errors.ReservedValue
       tells 3
 
--- uncompressed_header, as far as it tells what is asked for here
+-- uncompressed_header, up to the last field that is needed here
 unfoldable pub frame_header : Syntax Vp9FrameHeader
 frame_header = do
   marker ← expects 2 2 errors.WrongMarker

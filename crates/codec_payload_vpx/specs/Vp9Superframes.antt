@@ -13,7 +13,7 @@ le_number (b ∷ bs) = b + 256 * le_number bs
 
 -- ---- how a superframe is spelled
 
--- a size in so many bytes
+-- a size in `width` bytes
 pub record IsSize (width : ℕ) (text frame : List ℕ) : Type 0 where
   pub wide : length text ≡ width
   pub says : le_number text ≡ length frame
@@ -26,7 +26,7 @@ AreSizes width sizes (frame ∷ frames) = (text : List ℕ) × (others : List �
 abbrev pub marker_of : ℕ → ℕ → ℕ
 marker_of width count = 192 + 8 * (width - 1) + (count - 1)
 
--- The unit is a superframe of these frames; between them and the index bytes may stand that belong to none.
+-- The unit is a superframe of these frames; between them and the index there may be bytes of no frame.
 pub record IsSuperframe (unit : List ℕ) (frames : List (List ℕ)) : Type 0 where
   pub some : 1 ≤ length frames
   pub few : length frames ≤ 8
@@ -40,7 +40,7 @@ pub record IsSuperframe (unit : List ℕ) (frames : List (List ℕ)) : Type 0 wh
 
 -- ---- how it is read
 
--- what the byte at both ends says
+-- the meaning of the byte at both ends
 abbrev pub is_marker : ℕ → Bool
 is_marker byte = byte / 32 == 6
 
@@ -73,7 +73,7 @@ pub record Left : Type 0 where
 abbrev pub next_size : ℕ → List ℕ → ℕ
 next_size width sizes = le_number (take width sizes)
 
--- so many frames at the front, each of the next size
+-- n frames at the front, each of the next size
 unfoldable pub frames_in : ℕ → ℕ → List ℕ → List ℕ → List (List ℕ)
 frames_in zero width sizes bytes = []
 frames_in (suc n) width sizes bytes = take (next_size width sizes) bytes ∷ frames_in n width (drop width sizes) (drop (next_size width sizes) bytes)
@@ -85,7 +85,7 @@ with_alone (Some frame) frames = frame ∷ frames
 abbrev pub frames_left : Left → List (List ℕ)
 frames_left s = with_alone s.alone (frames_in s.count s.width s.sizes s.bytes)
 
--- what so many frames have together
+-- the sum of the sizes of n frames
 unfoldable pub size_sum : ℕ → ℕ → List ℕ → ℕ
 size_sum zero width sizes = 0
 size_sum (suc n) width sizes = next_size width sizes + size_sum n width (drop width sizes)
@@ -98,12 +98,12 @@ indexed byte unit =
     if nat_lt front (size_sum (frame_count byte) (size_width byte) sizes) then Err errors.SizesDoNotFit
     else Ok (frames_in (frame_count byte) (size_width byte) sizes (take front unit))
 
--- the frames of a unit: of a superframe those of its index, else the unit alone
+-- the frames of a unit: for a superframe the frames of its index, else the unit alone
 abbrev pub unit_frames : List ℕ → Result (List (List ℕ)) MediaError
 unit_frames [] = Err errors.MissingBytes
 unit_frames (b ∷ bytes) = if has_index (b ∷ bytes) then indexed (last_byte (b ∷ bytes)) (b ∷ bytes) else Ok ((b ∷ bytes) ∷ [])
 
--- the frame of that number, from 0, behind all bytes of those before it, if there are more than so many
+-- frame `number`, from 0, after all bytes of the frames before it, if there are enough frames
 abbrev pub placed_in : ℕ → List (List ℕ) → Option (ℕ × List ℕ)
 placed_in i frames = if nat_lt i (length frames) then Some (length (concat (take i frames)), get_or frames i []) else None
 

@@ -1,4 +1,4 @@
-//! Fields of so many bits, as the tables of standards have them.
+//! Fields of a given number of bits, as in the tables of standards.
 
 ghost use Rattle.std.specs.Prelude.{◌≡◌, ◌≤◌, ◌<◌, ◌^◌, IfOk};
 ghost use Rattle.codec_payload_vpx.specs.FieldReaders.{left};
@@ -58,7 +58,7 @@ pub fn expect_field(
     }
 }
 
-/// So many bits are passed over.
+/// Skips a given number of bits.
 #[inline(always)]
 pub fn skip_bits(reader: &mut FieldReader<'_>, bits: usize) -> Result<u8, MediaError>
     ensures { paired result (left reader.new) ≡ read (skips bits) (left reader.old) }

@@ -1,4 +1,4 @@
-//! What frames of VP8 and VP9 say of themselves, and how fields of so many bits are read.
+//! Headers of VP8 and VP9 frames, and a reader of bit fields.
 #![tactic(auto)]
 
 pub mod error;

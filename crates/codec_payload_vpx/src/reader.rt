@@ -1,4 +1,4 @@
-//! A reader of fields of so many bits, the highest of each byte first.
+//! A reader of bit fields, the highest bit of each byte first.
 
 ghost use Rattle.std.specs.Prelude.{◌≡◌, ◌*◌, ◌<◌, ◌≤◌, ◌^◌, ◌++◌, [], length, take, drop, true, false, IfOk};
 ghost use Rattle.codec_payload_base.specs.Bits.{bits, bits_of};
@@ -23,7 +23,7 @@ fn be_number(bytes: &[u8]) -> u32
     }
 }
 
-/// The number of those bytes at most, which has as many bits.
+/// The big-endian number of at most four bytes.
 #[inline(always)]
 fn front_number(bytes: &[u8]) -> u32
     requires { length bytes.now ≤ 4 }
@@ -33,7 +33,7 @@ fn front_number(bytes: &[u8]) -> u32
     be_number(bytes)
 }
 
-/// Four bytes from the front, or all where there are fewer, and what is behind them.
+/// Four bytes from the front, or all if there are fewer, and the bytes after them.
 #[inline(always)]
 fn cut_four(bytes: &[u8]) -> (&[u8], &[u8])
     ensures front { result.0.now ≡ take 4 bytes.now }
@@ -45,14 +45,14 @@ fn cut_four(bytes: &[u8]) -> (&[u8], &[u8])
     bytes.split_at(4)
 }
 
-/// Reads fields from the bytes that it borrows. It takes no memory.
+/// Reads fields from borrowed bytes. Does not allocate.
 #[derive(Debug, Drop)]
 pub struct FieldReader<'a> {
     /// The bits that were taken out of the bytes and are not read, lowest in a number.
     window: u64,
     /// How many these are.
     held: usize,
-    /// The bytes behind them.
+    /// The bytes after them.
     behind: &'a [u8],
 }
 
@@ -82,7 +82,7 @@ impl<'a> FieldReader<'a> {
         }
     }
 
-    /// Takes bits out of four bytes more, or of all where there are fewer.
+    /// Takes bits out of four more bytes, or of all if there are fewer.
     #[inline(always)]
     fn fill(&mut self)
         requires { length self.old.held ≤ 16 }
@@ -97,7 +97,7 @@ impl<'a> FieldReader<'a> {
         self.behind = rest;
     }
 
-    /// Whether there are so many bits, which are then held.
+    /// Makes the requested bits available; an error if there are fewer.
     #[inline(always)]
     fn hold(&mut self, count: usize) -> bool
         requires { count ≤ 16 }
@@ -138,7 +138,7 @@ impl<'a> FieldReader<'a> {
         }
     }
 
-    /// So many bits are passed over.
+    /// Skips a given number of bits.
     #[inline(always)]
     pub fn skip_bits(&mut self, count: usize) -> Result<u8, MediaError>
         ensures { paired result (left self.new) ≡ read (skips count) (left self.old) }
@@ -157,7 +157,7 @@ impl<'a> FieldReader<'a> {
     }
 }
 
-/// A reader behind so many bits.
+/// A reader after `count` bits.
 fn behind_bits(count: usize, bytes: &[u8]) -> Result<FieldReader<'_>, MediaError>
     ensures { passed result ≡ read (skips count) (bits_of bytes.now) }
 {

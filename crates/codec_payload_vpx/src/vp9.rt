@@ -14,7 +14,7 @@ use crate::fields::{expect_field, read_field, read_flag, read_wide};
 use crate::reader::FieldReader;
 pub use superframe::{Vp9FrameAt, Vp9Frames, frame_at};
 
-/// How the colors of a picture are told.
+/// The color format of a picture.
 #[derive(Clone, Copy, Debug, PartialEq, Eq)]
 pub struct Vp9Color {
     /// 8, 10 or 12 bits.
@@ -29,7 +29,7 @@ pub struct Vp9Color {
     pub subsampling_y: bool,
 }
 
-/// What a keyframe or an intra-only frame tells of the picture.
+/// The picture fields of a keyframe or an intra-only frame.
 #[derive(Clone, Copy, Debug, PartialEq, Eq)]
 pub struct Vp9Picture {
     pub color: Vp9Color,
@@ -48,13 +48,13 @@ pub struct Vp9Picture {
 pub struct Vp9FrameHeader {
     /// 0 to 3.
     pub profile: u8,
-    /// Which decoded frame is shown again, 0 to 7, where the header stands for no frame of its own. It is then shown, and no
-    /// keyframe.
+    /// The decoded frame, 0 to 7, that the header shows again; `None` for a header with a frame. A frame shown again counts as
+    /// shown, and not as a keyframe.
     pub existing: Option<u8>,
     pub keyframe: bool,
     pub shown: bool,
     pub error_resilient: bool,
-    /// Whether the frame, which is no keyframe, needs no earlier one.
+    /// Whether a frame other than a keyframe needs no earlier frame.
     pub intra_only: bool,
     /// The picture, of keyframes and intra-only frames.
     pub picture: Option<Vp9Picture>,
@@ -112,7 +112,7 @@ fn read_rgb(
     })
 }
 
-/// The color of a profile that tells its subsampling.
+/// The color in a profile that has a subsampling field.
 #[inline(always)]
 fn read_subsampling(
     reader: &mut FieldReader<'_>,
@@ -183,7 +183,7 @@ fn read_side(reader: &mut FieldReader<'_>) -> Result<u32, MediaError>
     Ok(u32::from(less) + 1)
 }
 
-/// The size at which a picture of that size is to be shown.
+/// The display size for a picture of this size.
 #[inline(always)]
 fn read_render_size(
     reader: &mut FieldReader<'_>,
@@ -200,7 +200,7 @@ fn read_render_size(
     Ok((width, height))
 }
 
-/// The picture of that color.
+/// The picture with this color.
 #[inline(always)]
 fn read_picture(reader: &mut FieldReader<'_>, color: Vp9Color) -> Result<Vp9Picture, MediaError>
     ensures { paired result (left reader.new) ≡ read (picture color) (left reader.old) }
@@ -274,7 +274,7 @@ fn read_picture_if(
     Ok(Some(picture))
 }
 
-/// Whether a frame that is no keyframe is intra-only.
+/// Whether a frame other than a keyframe is intra-only.
 #[inline(always)]
 fn read_intra_flag(reader: &mut FieldReader<'_>, shown: bool) -> Result<bool, MediaError>
     ensures { paired result (left reader.new) ≡ read (intra_flag shown) (left reader.old) }
@@ -285,7 +285,7 @@ fn read_intra_flag(reader: &mut FieldReader<'_>, shown: bool) -> Result<bool, Me
     read_flag(reader)
 }
 
-/// Which contexts are reset, if it is told.
+/// Which contexts are reset, if the field is present.
 #[inline(always)]
 fn read_reset_if(reader: &mut FieldReader<'_>, there: bool) -> Result<u8, MediaError>
     ensures { paired result (left reader.new) ≡ read (reset_if there) (left reader.old) }
@@ -294,7 +294,7 @@ fn read_reset_if(reader: &mut FieldReader<'_>, there: bool) -> Result<u8, MediaE
 }
 
 impl Vp9FrameHeader {
-    /// A frame that is no keyframe.
+    /// A frame other than a keyframe.
     #[inline(always)]
     fn read_inter(
         reader: &mut FieldReader<'_>,
@@ -364,7 +364,7 @@ impl Vp9FrameHeader {
         ensures { paired result (left reader.new) ≡ read (shown_again profile) (left reader.old) }
     {
         let index = read_field(reader, 3)?;
-        // A frame that is shown again is no keyframe of its own.
+        // A frame that is shown again does not count as a keyframe.
         Ok(Vp9FrameHeader {
             profile,
             existing: Some(index),
@@ -376,7 +376,7 @@ impl Vp9FrameHeader {
         })
     }
 
-    /// The profile, with the bit that is reserved behind profile 3.
+    /// The profile, with the reserved bit after profile 3.
     #[inline(always)]
     fn read_profile(reader: &mut FieldReader<'_>) -> Result<u8, MediaError>
         ensures { paired result (left reader.new) ≡ read profile_at (left reader.old) }
@@ -413,15 +413,15 @@ impl Vp9FrameHeader {
         Vp9FrameHeader::read_fields(&mut reader)
     }
 
-    /// What the uncompressed header of a frame tells at its front. It reads at most 17 bytes, and takes no memory.
+    /// Reads the front of the uncompressed header of a frame, at most 17 bytes. Does not allocate.
     ///
-    /// `frame` is one frame; a superframe begins with its first. A fault is the first one from left to right: `MissingBytes`
-    /// where the header is cut off, `WrongMarker` where it does not begin with the bits 10 or the sync code is not `49 83 42`,
-    /// and `ReservedValue` where a reserved bit is set, or the color is one that the profile does not have.
+    /// `frame` is one frame; a superframe begins with its first. The first fault from left to right. `MissingBytes`: the header is
+    /// cut off. `WrongMarker`: it does not begin with the bits 10, or the sync code is not `49 83 42`. `ReservedValue`: a reserved
+    /// bit is set, or the profile does not have the color.
     pub fn parse(frame: &[u8]) -> Result<Vp9FrameHeader, MediaError>
-        // What is read is spelled so.
+        // A value that was read has this spelling.
         ensures spelled { IfOk result (λ h. IsSpelled frame_header (bits_of frame.now) h) }
-        // What is spelled so is read.
+        // Everything with this spelling is read.
         ensures accepted { (h : Vp9FrameHeader) → IsSpelled frame_header (bits_of frame.now) h → result ≡ Ok h }
         // Which fault comes first.
         ensures exact { result ≡ told_by frame_header (bits_of frame.now) }

@@ -107,6 +107,8 @@ module _ (stream : Stream) (types : (stream.payload_type < 64) ⊎ (95 < stream.
         running = refl;
         none_noted = listening.none_noted;
         of_codec = listening.of_codec;
+        no_block_seen = listening.no_block_seen;
+        drops_none = listening.drops_none;
       }) numbers times (subst (λ (x : Session). Takes later datagrams x answers t) at_end takes.2) in
       record { events = rest.events; meets = rest.meets; brings = rest.brings }
 

@@ -1,3 +1,4 @@
+pub mod DeliveredLemmas
 pub mod EventLemmas
 pub mod NewReceivers
 pub mod ReadingLemmas

@@ -1,6 +1,6 @@
 -- What a receiver does with the datagrams of its sender, and with pops, is what its buffer does with their packets.
 use Rattle.std.proofs.Common.{◌≡◌, ◌≢◌, ◌∙◌, refl, sym, ap, subst, ℕ, ◌+◌, ◌%◌, ◌^◌, ◌<◌, ◌⊎◌, inl, inr, ◌&&◌, ◌||◌, List, [], ◌∷◌, Bool, true, false, not, cond, Option, Some, None, Ok, Err}
-use Rattle.std.specs.Prelude.{slice_get}
+use Rattle.std.specs.Prelude.{slice_get, is_some}
 use Rattle.std.proofs.lemmas.Bool.{eq-eqb, or_left}
 use Rattle.codec_payload_base.specs.declared.error.PacketError.TheVariants as faults
 use Rattle.codec_payload_base.specs.declared.wire.Ticks.{Ticks}
@@ -15,7 +15,7 @@ use Rattle.codec_payload_runs.specs.Schedule.{Answer, RunState, run_state}
 use Rattle.codec_payload_jitter.specs.NoMediaNumbers.{passed_no_media, no_media_left}
 use Rattle.codec_payload_jitter.specs.NotedTimes.{AreTimesOf, noted_with}
 use Rattle.codec_payload_jitter.specs.Numbers.{Numbering, answer_for, numbering_after, numbering_with}
-use Rattle.codec_payload_jitter.specs.Receiving.{Arrival, GoesOn, PopsWith, Receives, ReceivesAs, Receiving, answer_to, is_starting, meta_for, settled, waiting_at, with_noted}
+use Rattle.codec_payload_jitter.specs.Receiving.{Arrival, GoesOn, PopsWith, Receives, ReceivesAs, Receiving, answer_to, is_starting, meta_for, settled, waiting_at, with_noted, would_store}
 use Rattle.codec_payload_jitter.specs.Waiting.{most_held_back}
 use Rattle.codec_payload_jitter.proofs.RestartLemmas.{answer_to_is, still_times}
 use Rattle.codec_payload_jitter.specs.declared.noted_times.NotedTime.{NotedTime}
@@ -25,9 +25,13 @@ use Rattle.codec_payload_jitter.specs.declared.outcome.Outcome.{Outcome}
 use Rattle.codec_payload_sender.specs.declared.sender.Stream.{Stream}
 use Rattle.codec_payload_stream.specs.Kinds.{Datagram, WithMedia, datagram_at, header_for, is_other}
 use Rattle.codec_payload_stream.specs.Choice.{is_silent, origin_of, verdict_of}
-use Rattle.codec_payload_stream.specs.Sessions.{Finishes, Heard, Hears, ReceivesBy, ReceivesBytes, Session, SettlesOn, ended, first_waiting, is_none_of, is_open}
+use Rattle.codec_payload_stream.specs.Sessions.{Finishes, Heard, Hears, ReceivesBy, ReceivesBytes, Session, SettlesOn, TakesMedia, ended, first_waiting, is_none_of, is_open, is_repeat, packet_seen}
 use Rattle.codec_payload_stream.specs.declared.choice.Candidate.{Candidate}
+use Rattle.codec_payload_stream.specs.Pops.{PopsOnce}
 use Rattle.codec_payload_stream.specs.declared.receiver.ReceiveError.TheVariants as refusals
+use Rattle.codec_payload_stream.proofs.PopLemmas.{drops_stay, pops_at_once}
+use Rattle.codec_payload_stream.specs.RedOnce.{HasNoBlock}
+use Rattle.codec_payload_stream.proofs.BlockTimeLemmas.{and_false, packet_has_no_block}
 use Rattle.codec_payload_wire.proofs.ReadingLemmas.{datagram_is, packet_at}
 use Rattle.codec_payload_wire.specs.Releases.{ReadsAs, is_sent_again_by}
 use Rattle.codec_payload_wire.specs.WireRuns.{Delivers, PopsUnit, Receipt}
@@ -37,7 +41,7 @@ abbrev pub AllNumbered : ℕ → Numbering → List ℕ → Type 0
 AllNumbered first s [] = Unit {0}
 AllNumbered first s (k ∷ ks) = (answer_for s ((first + k) % 2 ^ 16) ≡ extended.Number (first + k)) × AllNumbered first (numbering_after s ((first + k) % 2 ^ 16)) ks
 
--- a receiver of the stream, which knows of no numbers without media, and to which no restart was told
+-- a receiver of the stream, which knows of no numbers without media and of no blocks of RED, and to which no restart was told
 pub record IsListening (stream : Stream) (s : Session) : Type 0 where
   pub payload_type : s.stream.payload_type ≡ stream.payload_type
   pub named : s.named ≡ Some stream.ssrc
@@ -47,6 +51,8 @@ pub record IsListening (stream : Stream) (s : Session) : Type 0 where
   pub running : s.packets.is_restarting ≡ false
   pub none_noted : s.packets.no_media_numbers ≡ []
   pub of_codec : is_built_in_depacketizer s.packets.buffer.depacketizer ≡ true
+  pub no_block_seen : HasNoBlock s.seen
+  pub drops_none : s.gates.drops ≡ false
 
 -- Receiving
 
@@ -144,7 +150,12 @@ pushes time_of stream now q bytes s t receipt types listening reads numbered tim
     let hears : Hears now (WithMedia (packet_at stream q)) s receipt t =
     subst (λ (d : Datagram). Hears now d s receipt t) is (heard now (datagram_at s.stream s.ssrc bytes) s t receipt delivers.0 (heard_at_once stream now bytes s t receipt listening delivers)) in
     let a : Arrival = record { now = now; header = header_for s.stream (packet_at stream q).header; bytes = q.payload } in
-    let one = takes_in time_of q.number a s.packets hears.packets hears.outcome listening.running listening.of_codec numbered times time hears.takes in
+    let new : is_repeat s.stream s.seen s.packets a.header.timestamp a.header.sequence_number ≡ false =
+    ap (λ (b : Bool). (is_some s.stream.red && b) && would_store s.packets a.header.sequence_number) (listening.no_block_seen a.header.timestamp)
+    ∙ ap (λ (b : Bool). b && would_store s.packets a.header.sequence_number) (and_false (is_some s.stream.red)) in
+    let receives : Receives a s.packets hears.outcome hears.packets = subst (λ (b : Bool). TakesMedia b a s.packets hears.outcome hears.packets) new hears.takes.0 in
+    let one = takes_in time_of q.number a s.packets hears.packets hears.outcome listening.running listening.of_codec numbered times time receives in
+    let seen : t.seen ≡ packet_seen (is_some s.stream.red) hears.outcome a.header.timestamp s.seen = ap (λ (x : Session). x.seen) hears.left ∙ hears.takes.1 in
     let meta : RtpMeta = meta_for now s.packets.rate a.header q.number in
     let packets : t.packets ≡ hears.packets = ap (λ (x : Session). x.packets) hears.left in
     let buffer : t.packets.buffer ≡ pushed s.packets.buffer (arrived s.packets.buffer.depacketizer meta q.payload) = ap (λ (x : Receiving). x.buffer) packets ∙ one.buffer in
@@ -169,6 +180,8 @@ pushes time_of stream now q bytes s t receipt types listening reads numbered tim
         none_noted = ap (λ (x : Receiving). x.no_media_numbers) packets ∙ (one.no_media_numbers ∙ listening.none_noted);
         of_codec = ap (λ (x : State). is_built_in_depacketizer x.depacketizer) buffer
             ∙ (ap is_built_in_depacketizer (push_keeps s.packets.buffer (arrived s.packets.buffer.depacketizer meta q.payload)) ∙ listening.of_codec);
+        no_block_seen = subst HasNoBlock (sym seen) (packet_has_no_block (is_some s.stream.red) hears.outcome a.header.timestamp s.seen listening.no_block_seen);
+        drops_none = ap (λ (x : Session). x.gates.drops) hears.left ∙ listening.drops_none;
       };
       ended = ap (λ (x : Receiving). x.ended) packets ∙ one.ended;
     }
@@ -237,7 +250,8 @@ waits_for_nothing r now at_end =
 
 pub pops_as : (stream : Stream) (now : Ticks) (answer : Answer) (s t : Session) → IsListening stream s → answer ≢ Some (Err faults.OutOfMemory)
     → PopsUnit now s answer t → IsPopped stream now answer s t
-pops_as stream now answer s t listening not_memory popped =
+pops_as stream now answer s t listening not_memory gated =
+    let popped : PopsOnce now.0 s answer t = pops_at_once now.0 s answer t listening.drops_none gated in
     let r : Receiving = s.packets in
     let settled_is : settled r ≡ r = settled_none r listening.none_noted in
     let wait : Option ℕ = waiting_at r now.0 in
@@ -259,6 +273,8 @@ pops_as stream now answer s t listening not_memory popped =
         running = ap (λ (x : Receiving). x.is_restarting) packets ∙ (turn.is_restarting ∙ listening.running);
         none_noted = ap (λ (x : Receiving). x.no_media_numbers) packets ∙ (turn.no_media_numbers ∙ listening.none_noted);
         of_codec = ap (λ (x : Receiving). is_built_in_depacketizer x.buffer.depacketizer) packets ∙ turn.of_codec;
+        no_block_seen = subst HasNoBlock (sym (ap (λ (x : Session). x.seen) popped.2)) listening.no_block_seen;
+        drops_none = ap (λ (x : Session). x.gates.drops) popped.2 ∙ (drops_stay s.gates _ answer ∙ listening.drops_none);
       };
       ended = ap (λ (x : Receiving). x.ended) packets ∙ turn.ended;
     }

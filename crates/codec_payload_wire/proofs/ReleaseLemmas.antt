@@ -4,8 +4,8 @@ use Rattle.std.proofs.lemmas.Option.{same_Some, slice_get_within}
 use Rattle.codec_payload_buffer.proofs.MemberLemmas.{contains_in, in_contains}
 use Rattle.codec_payload_buffer.specs.ContiguityTable.{contiguity_for}
 use Rattle.codec_payload_codec.specs.Depacketizers.{is_built_in_depacketizer, is_codec, kind_of_depacketizer}
-use Rattle.codec_payload_codec.specs.Packetizers.{PacketizerState, G711Packetizing, G722Packetizing, OpusPacketizing, ComfortNoisePacketizing, TelePacketizing, Vp8Packetizing}
-use Rattle.codec_payload_codec.specs.Packetizers.{Vp9Packetizing, Av1Packetizing, AmrWbPacketizing, NullPacketizing, BoxedPacketizing, is_built_in}
+use Rattle.codec_payload_codec.proofs.CodecLemmas.{codec_payloads}
+use Rattle.codec_payload_codec.specs.Packetizers.{is_built_in, payloads_by, may_split}
 use Rattle.codec_payload_buffer.specs.declared.buffer.unit.RtpMeta.{RtpMeta}
 use Rattle.codec_payload_runs.proofs.ArrivalLemmas.{release_in_order}
 use Rattle.codec_payload_runs.specs.Arrivals.{AllArriveFirst, Arrives, Meets, ReleasesArrivals, Tells}
@@ -15,7 +15,6 @@ use Rattle.codec_payload_send.specs.Packets.{Packet}
 use Rattle.codec_payload_runs.specs.Schedule.{Answer, RunState}
 use Rattle.codec_payload_send.specs.Sending.{Sample}
 use Rattle.codec_payload_runs.specs.ReportedIds.{read_by}
-use Rattle.codec_payload_runs.specs.Units.{payloads_by, may_split}
 use Rattle.codec_payload_jitter.specs.NotedTimes.{AreTimesOf}
 use Rattle.codec_payload_jitter.proofs.NumbersLemmas.{are_true_numbers, none_restarts}
 use Rattle.codec_payload_jitter.specs.Numbers.{StayNear, GoOn, IsNumbering, Numbering, answer_for, numbering_after, is_restart, low_bits, moved, no_numbers, number_for, number_in, numbers_for}
@@ -23,6 +22,9 @@ use Rattle.codec_payload_jitter.specs.declared.numbers.Extended.{Extended}
 use Rattle.codec_payload_jitter.specs.declared.numbers.Extended.TheVariants as extended
 use Rattle.codec_payload_sender.specs.Senders.{Sending}
 use Rattle.codec_payload_stream.specs.Sessions.{Session}
+use Rattle.codec_payload_stream.specs.RedOnce.{HasNoBlock}
+use Rattle.codec_payload_stream.proofs.BlockTimeLemmas.{new_has_no_block}
+use Rattle.codec_payload_wire.proofs.DeliveredLemmas.{AllIn, delivered_before}
 use Rattle.codec_payload_wire.proofs.EventLemmas.{Brings, IsMet, all_told, delivery_of, met, order_told, split_at_end, times_from}
 use Rattle.codec_payload_wire.proofs.NewReceivers.{IsBegun, new_is_begun}
 use Rattle.codec_payload_wire.proofs.ReceivingLemmas.{AllNumbered, IsListening}
@@ -112,20 +114,6 @@ numbered_within forward backward number bound (k ∷ ks) windows low few below w
     all_numbered number (first_for number (k ∷ ks)) (number + k) (no_numbers forward backward) (k ∷ ks) (omega (arith, low, within.0))
     (are_true_numbers forward backward windows (number + k) (trues number ks) fits near) (none_restarts forward backward windows (number + k) (trues number ks) fits near)
 
--- a depacketizer of what a packetizer of a codec makes is one of a codec
-of_codec : (p : PacketizerState) → is_built_in p ≡ true → is_codec (payloads_by p) ≡ true
-of_codec G711Packetizing built_in = refl
-of_codec G722Packetizing built_in = refl
-of_codec OpusPacketizing built_in = refl
-of_codec NullPacketizing built_in = refl
-of_codec (Vp8Packetizing id) built_in = refl
-of_codec (Vp9Packetizing sender) built_in = refl
-of_codec ComfortNoisePacketizing built_in = refl
-of_codec TelePacketizing built_in = refl
-of_codec Av1Packetizing built_in = refl
-of_codec (AmrWbPacketizing octet) built_in = refl
-of_codec BoxedPacketizing built_in = absurd (cc)
-
 -- The theorem
 
 module _ (samples : List Sample) (all_steps : List DatagramStep) (sender : Sending) (receiver : Session) (t : Wire) (run : Runs samples all_steps (begins sender receiver) t)
@@ -170,7 +158,9 @@ module _ (samples : List Sample) (all_steps : List DatagramStep) (sender : Sendi
     rate = ap (λ (x : Session). x.packets.rate) begun.is ∙ within.one_stream.clock_rate;
     running = ap (λ (x : Session). x.packets.is_restarting) begun.is;
     none_noted = ap (λ (x : Session). x.packets.no_media_numbers) begun.is;
-    of_codec = ap (λ (x : Session). is_built_in_depacketizer x.packets.buffer.depacketizer) begun.is ∙ (ap is_codec within.one_stream.alike ∙ of_codec sender.packetizer within.one_stream.built_in);
+    of_codec = ap (λ (x : Session). is_built_in_depacketizer x.packets.buffer.depacketizer) begun.is ∙ (ap is_codec within.one_stream.alike ∙ codec_payloads sender.packetizer within.one_stream.built_in);
+    no_block_seen = subst HasNoBlock (sym (ap (λ (x : Session). x.seen) begun.is)) new_has_no_block;
+    drops_none = ap (λ (x : Session). x.gates.drops) begun.is ∙ within.one_stream.drops_none;
   }
 
   -- from a number with those low bits on
@@ -244,6 +234,8 @@ module _ (samples : List Sample) (all_steps : List DatagramStep) (sender : Sendi
     datagrams = subst (λ (ps : List Packet). AreDatagrams sender.stream ps t.datagrams) (sym releases.packets) sent.at.reads;
     ends = releases.ends;
     in_order = order_told (core.IsMet rate come.events) (IsDelivery rate received) told (may_split sender.packetizer) releases.units 0 t.pops releases.in_order;
+    before_pops = delivered_before rate sent.all receiver.packets.ended received [] come.events receiver.packets.buffer t.session.packets.buffer t.pops come.brings come.meets
+        (subst (λ (x : Session). AllIn [] x.packets.buffer.held) (sym begun.is) tt);
     exactly = λ come_first. all_told (core.IsMet rate come.events) (IsDelivery rate received) told 0 releases.units t.pops (releases.exactly (all_come come_first));
   }
 

@@ -9,8 +9,8 @@ use Rattle.codec_payload_base.specs.StrippedValues.{stripped}
 use Rattle.codec_payload_base.specs.declared.error.PacketError.{PacketError}
 use Rattle.codec_payload_base.specs.declared.error.PacketError.TheVariants as faults
 use Rattle.codec_payload_base.specs.declared.wire.extension.ExtensionValues.{ExtensionValues}
-use Rattle.codec_payload_codec.specs.Packetizers.{PacketizerState, G711Packetizing, G722Packetizing, OpusPacketizing, ComfortNoisePacketizing, TelePacketizing, Vp8Packetizing, Vp9Packetizing}
-use Rattle.codec_payload_codec.specs.Packetizers.{Av1Packetizing, AmrWbPacketizing, NullPacketizing, BoxedPacketizing, PacketizerStep, is_built_in, marker_of, talk_spurt_of}
+use Rattle.codec_payload_codec.proofs.CodecLemmas.{packetizer_stays}
+use Rattle.codec_payload_codec.specs.Packetizers.{PacketizerState, PacketizerStep, is_built_in, marker_of, talk_spurt_of}
 use Rattle.codec_payload_buffer.specs.Steps.{State}
 use Rattle.codec_payload_send.specs.Packets.{Packet, AreNumbered}
 use Rattle.codec_payload_runs.specs.Schedule as core
@@ -29,21 +29,6 @@ use Rattle.codec_payload_wire.specs.WireRuns.{Delivers, Receipt, Runs, SendsIt, 
 use Rattle.codec_payload_wire.specs.declared.run.DatagramStep.{DatagramStep}
 use Rattle.codec_payload_wire.specs.declared.run.DatagramStep.TheVariants as steps
 use Rattle.codec_payload_wire.specs.declared.run.SentSample.{SentSample}
-
--- a packetizer stays built in
-pub packetizer_stays : (p : PacketizerState) (mtu : ℕ) (frame : List ℕ) (answer : Result (List (List ℕ)) PacketError) (q : PacketizerState)
-    → PacketizerStep p mtu frame answer q → is_built_in q ≡ is_built_in p
-packetizer_stays G711Packetizing mtu frame answer q step = ap is_built_in step.1
-packetizer_stays G722Packetizing mtu frame answer q step = ap is_built_in step.1
-packetizer_stays OpusPacketizing mtu frame answer q step = ap is_built_in step.1
-packetizer_stays NullPacketizing mtu frame answer q step = ap is_built_in step.1
-packetizer_stays (Vp8Packetizing id) mtu frame answer q step = ap is_built_in step.3
-packetizer_stays (Vp9Packetizing sender) mtu frame answer q step = ap is_built_in step.3
-packetizer_stays ComfortNoisePacketizing mtu frame answer q step = ap is_built_in step.1
-packetizer_stays TelePacketizing mtu frame answer q step = ap is_built_in step.1
-packetizer_stays Av1Packetizing mtu frame answer q step = ap is_built_in step.1
-packetizer_stays (AmrWbPacketizing octet) mtu frame answer q step = ap is_built_in step.1
-packetizer_stays BoxedPacketizing mtu frame answer q step = ap is_built_in step
 
 -- Lists of packets
 

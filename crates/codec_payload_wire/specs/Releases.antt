@@ -1,25 +1,26 @@
 -- What a run over datagrams releases, whatever of its datagrams is lost, repeated and comes in another order.
 use Rattle.std.specs.Prelude.{◌≡◌, ℕ, ◌+◌, ◌%◌, ◌^◌, ◌<◌, ◌≤◌, ◌⊎◌, ◌==◌, ◌&&◌, nat_lt, max, if◌then◌else◌, Bool, true}
-use Rattle.std.specs.Prelude.{false, List, [], ◌∷◌, ◌++◌, Option, Some, None, Ok, Contains, length, map, slice_get, refl}
+use Rattle.std.specs.Prelude.{false, List, [], ◌∷◌, ◌++◌, Option, Some, None, Ok, Err, Contains, length, map, slice_get, refl}
 use Rattle.std.proofs.Common.{lit<, lit≤}
 use Rattle.codec_payload_base.specs.declared.wire.Ticks.{Ticks}
 use Rattle.codec_payload_codec.specs.Depacketizers.{DepacketizerState, kind_of_depacketizer}
-use Rattle.codec_payload_codec.specs.Packetizers.{is_built_in}
+use Rattle.codec_payload_codec.specs.Packetizers.{is_built_in, payloads_by, may_split}
 use Rattle.codec_payload_buffer.specs.declared.buffer.unit.RtpMeta.{RtpMeta}
 use Rattle.codec_payload_runs.specs.Arrivals.{Tells}
 use Rattle.codec_payload_runs.specs.Exact.{AnswersAll}
 use Rattle.codec_payload_runs.specs.Headline.{InOrder}
+use Rattle.codec_payload_runs.specs.Schedule.{Answer}
 use Rattle.codec_payload_send.specs.Packets.{Packet}
 use Rattle.codec_payload_send.specs.Sending.{Sample}
 use Rattle.codec_payload_runs.specs.SentStream.{AllEndWithTail, AreReadable, SentUnit, packets_of, units_of_run}
 use Rattle.codec_payload_runs.specs.ReportedIds.{read_by}
-use Rattle.codec_payload_runs.specs.Units.{payloads_by, may_split}
 use Rattle.codec_payload_runs.specs.declared.run.Step.{Step}
 use Rattle.codec_payload_runs.specs.declared.run.Step.TheVariants as run_steps
 use Rattle.codec_payload_rtp.specs.RtpReading.{rtp_at}
 use Rattle.codec_payload_sender.specs.Datagrams.{header_with}
 use Rattle.codec_payload_sender.specs.Senders.{Sending}
 use Rattle.codec_payload_sender.specs.declared.sender.Stream.{Stream}
+use Rattle.codec_payload_stream.specs.UnitGates.{drops_units}
 use Rattle.codec_payload_stream.specs.Sessions.{Session, session_by}
 use Rattle.codec_payload_stream.specs.declared.receiver.Retransmission.{Retransmission}
 use Rattle.codec_payload_stream.specs.declared.receiver.Settings.{Settings}
@@ -85,6 +86,34 @@ delivered (steps.Finish ∷ later) = delivered later
 abbrev pub IsDelivery : ℕ → List DatagramStep → ℕ → Packet → RtpMeta → Type 0
 IsDelivery clock_rate all_steps k q meta = Contains all_steps (steps.Deliver k meta.received) × Tells clock_rate q meta
 
+-- one of these steps
+abbrev pub IsAmong : DatagramStep → List DatagramStep → Type 0
+IsAmong step [] = ⊥
+IsAmong step (s ∷ ss) = (s ≡ step) ⊎ IsAmong step ss
+
+-- one of these steps delivered the packet, when it was received
+abbrev pub WasDelivered : List DatagramStep → RtpMeta → Type 0
+WasDelivered before meta = (k : ℕ) × IsAmong (steps.Deliver k meta.received) before
+
+abbrev pub AreOfDeliveries : List DatagramStep → List RtpMeta → Type 0
+AreOfDeliveries before [] = Unit {0}
+AreOfDeliveries before (m ∷ ms) = WasDelivered before m × AreOfDeliveries before ms
+
+-- these steps delivered all packets of the unit, if one is released
+abbrev pub IsOfDeliveries : List DatagramStep → Answer → Type 0
+IsOfDeliveries before None = Unit {0}
+IsOfDeliveries before (Some (Err fault)) = Unit {0}
+IsOfDeliveries before (Some (Ok r)) = AreOfDeliveries before r.metas
+
+-- each pop of the steps releases packets that were delivered before it: by one of these steps, or by a step in front of the pop
+abbrev pub AreDeliveredBefore : List DatagramStep → List DatagramStep → List Answer → Type 0
+AreDeliveredBefore before [] answers = Unit {0}
+AreDeliveredBefore before (steps.Send i ∷ later) answers = AreDeliveredBefore before later answers
+AreDeliveredBefore before (steps.Deliver k now ∷ later) answers = AreDeliveredBefore (steps.Deliver k now ∷ before) later answers
+AreDeliveredBefore before (steps.Pop now ∷ later) [] = ⊥
+AreDeliveredBefore before (steps.Pop now ∷ later) (answer ∷ answers) = IsOfDeliveries before answer × AreDeliveredBefore before later answers
+AreDeliveredBefore before (steps.Finish ∷ later) answers = AreDeliveredBefore before later answers
+
 -- Premises
 
 -- packets of the sender are none of those that are sent again
@@ -94,7 +123,7 @@ is_sent_again_by (Some r) stream = (r.ssrc == stream.ssrc) && (r.payload_type ==
 
 -- a sender of a codec, and the settings and the depacketizer of a receiver of its stream: this reads what the packetizer makes, and
 -- takes the sender's packets for neither RTCP (RFC 5761, section 4) nor another stream, nor for packets that are sent again; it names
--- the sender's SSRC
+-- the sender's SSRC, and drops no units that a decoder cannot show
 pub record AreOfOneStream (sender : Sending) (settings : Settings) (depacketizer : DepacketizerState) : Type 0 where
   pub built_in : is_built_in sender.packetizer ≡ true
   pub alike : kind_of_depacketizer depacketizer ≡ payloads_by sender.packetizer
@@ -104,6 +133,7 @@ pub record AreOfOneStream (sender : Sending) (settings : Settings) (depacketizer
   pub not_rtcp : (sender.stream.payload_type < 64) ⊎ (95 < sender.stream.payload_type)
   pub ssrc : settings.ssrc ≡ Some sender.stream.ssrc
   pub not_again : is_sent_again_by settings.retransmission sender.stream ≡ false
+  pub drops_none : drops_units settings.from_keyframe ≡ false
 
 -- each of these indices is less than `forward` above the greatest before it, and at most `backward` below it; g is the greatest so far
 abbrev pub StayWithin : ℕ → ℕ → ℕ → List ℕ → Type 0
@@ -145,13 +175,14 @@ pub record AllComeFirst (limit count : ℕ) (received : List DatagramStep) : Typ
   pub each : (k : ℕ) → k < count → Contains (delivered before) k
 
 -- the datagrams that were sent read as the packets of canonical units; these are popped in order, each at most once and whole, of
--- packets that were delivered; and where all come before the stream ends, and pops come after, all of them
+-- packets that were delivered before the pop; and where all come before the stream ends, and pops come after, all of them
 pub record ReleasesUnits (samples : List Sample) (all_steps : List DatagramStep) (s t : Wire) : Type 0 where
   pub units : List SentUnit
   pub canonical : map (λ (u : SentUnit). u.parts) units ≡ units_of_run s.sending.packetizer samples (sending_steps s.sending.mtu all_steps)
   pub datagrams : AreDatagrams s.sending.stream (packets_of units) t.datagrams
   pub ends : AllEndWithTail (payloads_by s.sending.packetizer) units
   pub in_order : InOrder (IsDelivery s.sending.stream.clock_rate (received_steps samples 0 all_steps t.sends)) (may_split s.sending.packetizer) units 0 t.pops
+  pub before_pops : AreDeliveredBefore [] (received_steps samples 0 all_steps t.sends) t.pops
   pub exactly : AllComeFirst s.session.packets.buffer.limit (length t.datagrams) (received_steps samples 0 all_steps t.sends)
       → AnswersAll (IsDelivery s.sending.stream.clock_rate (received_steps samples 0 all_steps t.sends)) 0 units t.pops
 

@@ -1,16 +1,16 @@
 -- What the steps of a run over datagrams do, one after another.
-use Rattle.std.specs.Prelude.{◌≡◌, ◌≢◌, ℕ, ◌<◌, ◌^◌, List, [], ◌∷◌, ◌++◌, Option, Some, None, Result, Err, MatchOption, length, map, slice_get}
+use Rattle.std.specs.Prelude.{◌≡◌, ◌≢◌, ℕ, ◌<◌, ◌^◌, List, [], ◌∷◌, ◌++◌, ◌⊎◌, Option, Some, None, Result, Err, MatchOption, length, map, slice_get}
 use Rattle.std.specs.Global.{Vec}
 use Rattle.codec_payload_base.specs.declared.error.PacketError.{PacketError}
 use Rattle.codec_payload_base.specs.declared.error.PacketError.TheVariants as faults
 use Rattle.codec_payload_base.specs.declared.wire.Ticks.{Ticks}
 use Rattle.codec_payload_runs.specs.Schedule.{Answer}
 use Rattle.codec_payload_send.specs.Sending.{Sample}
-use Rattle.codec_payload_jitter.specs.Receiving.{PopsWith, Receiving, settled, waiting_at}
 use Rattle.codec_payload_jitter.specs.declared.outcome.Outcome.{Outcome}
 use Rattle.codec_payload_sender.specs.Datagrams.{Sample as SentNow}
 use Rattle.codec_payload_sender.specs.Senders.{Sending, Sends, Refuses}
-use Rattle.codec_payload_stream.specs.Sessions.{Finishes, ReceivesBytes, Session, time_with}
+use Rattle.codec_payload_stream.specs.Pops.{PopsGated}
+use Rattle.codec_payload_stream.specs.Sessions.{Finishes, ReceivesBytes, Session}
 use Rattle.codec_payload_stream.specs.declared.receiver.ReceiveError.{ReceiveError}
 use Rattle.codec_payload_stream.specs.declared.receiver.ReceiveError.TheVariants as refusals
 use Rattle.codec_payload_wire.specs.declared.run.DatagramRun.{DatagramRun}
@@ -55,6 +55,10 @@ abbrev pub SendsOrRefuses : SentNow → Sending → Option PacketError → Sendi
 SendsOrRefuses sample s None t = Sends s sample t
 SendsOrRefuses sample s (Some fault) t = (fault ≢ faults.OutOfMemory) × Refuses s sample fault t
 
+-- memory was refused to the sample, or to the copy of its datagrams
+abbrev pub StopsSending : SentNow → Sending → Sending → Type 0
+StopsSending sample s t = Refuses s sample faults.OutOfMemory t ⊎ ((fault : Option PacketError) × SendsOrRefuses sample s fault t)
+
 -- and its datagrams come behind those that were sent before
 pub record SendsIt (sample : Sample) (s : Sending) (before : List (List ℕ)) (entry : SentSample) (t : Sending) (after : List (List ℕ)) : Type 0 where
   pub sends : SendsOrRefuses (sent_sample sample) s entry.fault t
@@ -72,8 +76,7 @@ Delivers now bytes s receipt t = (receipt ≢ Err refusals.OutOfMemory) × Recei
 
 -- a pop of the receiver
 abbrev pub PopsUnit : Ticks → Session → Answer → Session → Type 0
-PopsUnit now s answer t =
-    (packets : Receiving) × PopsWith (waiting_at (settled s.packets) now.0) (settled s.packets) answer packets × (t ≡ record s { packets = packets; time = time_with s.time answer })
+PopsUnit now s answer t = PopsGated now.0 s answer t
 
 -- one step: a `Send` that names a sample gets an entry, a `Deliver` that names a datagram a receipt, and each `Pop` an answer
 abbrev pub DoesStep : List Sample → DatagramStep → Wire → Wire → Type 0
@@ -87,6 +90,25 @@ DoesStep samples (steps.Deliver k now) s t =
 DoesStep samples (steps.Pop now) s t =
     (answer : Answer) × (session : Session) × (answer ≢ Some (Err faults.OutOfMemory)) × PopsUnit now s.session answer session × (t ≡ record s { session = session; pops = s.pops ++ answer ∷ [] })
 DoesStep samples steps.Finish s t = (session : Session) × Finishes s.session session × (t ≡ record s { session = session })
+
+-- memory was refused to a step: before it began, or as the refused call leaves sender and receiver. A sample whose datagrams could
+-- not be copied was sent, or refused by the packetizer
+abbrev pub StopsAt : List Sample → DatagramStep → Wire → Sending → Session → Type 0
+StopsAt samples (steps.Send i) s sending session =
+    (sample : Sample) × (slice_get samples i ≡ Some sample) × (session ≡ s.session)
+    × ((sending ≡ s.sending) ⊎ StopsSending (sent_sample sample) s.sending sending)
+StopsAt samples (steps.Deliver k now) s sending session =
+    (bytes : List ℕ) × (slice_get s.datagrams k ≡ Some bytes) × (sending ≡ s.sending)
+    × ((session ≡ s.session) ⊎ ReceivesBytes now bytes s.session (Err refusals.OutOfMemory) session)
+StopsAt samples (steps.Pop now) s sending session =
+    (sending ≡ s.sending) × ((session ≡ s.session) ⊎ PopsUnit now s.session (Some (Err faults.OutOfMemory)) session)
+StopsAt samples steps.Finish s sending session = ⊥
+
+-- the steps, in order, up to one to which memory was refused: the sender and the receiver then
+abbrev pub Stops : List Sample → List DatagramStep → Wire → Sending → Session → Type 0
+Stops samples [] s sending session = ⊥
+Stops samples (step ∷ later) s sending session =
+    StopsAt samples step s sending session ⊎ ((mid : Wire) × DoesStep samples step s mid × Stops samples later mid sending session)
 
 -- the steps, in order
 abbrev pub Runs : List Sample → List DatagramStep → Wire → Wire → Type 0

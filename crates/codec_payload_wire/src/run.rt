@@ -1,16 +1,17 @@
 //! Whole runs over datagrams: samples are sent, some of their datagrams are delivered, in any order, and units are popped.
 
-ghost use Rattle.std.specs.Prelude.{◌≡◌, ◌≢◌, ◌<◌, ◌^◌, ◌++◌, ◌∷◌, [], List, length, map, IfOk, IfErr, OnOk, Option, Result};
+ghost use Rattle.std.specs.Prelude.{◌≡◌, ◌≢◌, ◌<◌, ◌^◌, ◌++◌, ◌∷◌, [], List, length, map, IfOk, IfErr, OnOk, OnErr, Option, Result};
 ghost use Rattle.std.specs.Result.{result_err};
 ghost use Rattle.codec_payload_base.specs.declared.error.PacketError.TheVariants.{OutOfMemory};
 ghost use Rattle.codec_payload_send.specs.Sending.{sample_of};
+ghost use Rattle.codec_payload_sender.specs.Senders.{Refuses};
 ghost use Rattle.codec_payload_jitter.specs.declared.outcome.Outcome.{Outcome as Told};
 ghost use Rattle.codec_payload_stream.specs.declared.receiver.ReceiveError.{ReceiveError as Refusal};
 ghost use Rattle.codec_payload_stream.specs.declared.receiver.ReceiveError.TheVariants as refusals;
 ghost use Rattle.codec_payload_runs.specs.Schedule.{Answer};
 ghost use Rattle.codec_payload_stream.specs.Sessions.{ReceivesBytes};
 ghost use Rattle.codec_payload_wire.specs.Releases.{ReleasesWithinWindows};
-ghost use Rattle.codec_payload_wire.specs.WireRuns.{DoesStep, PopsUnit, Runs, SendsIt, SendsOrRefuses, begins, bytes_in, sent_sample, wire_of};
+ghost use Rattle.codec_payload_wire.specs.WireRuns.{DoesStep, PopsUnit, Runs, SendsIt, SendsOrRefuses, Stops, StopsAt, StopsSending, begins, bytes_in, sent_sample, wire_of};
 ghost use Rattle.codec_payload_wire.specs.declared.run.SentSample.{SentSample as Entry};
 
 use codec_payload_base::error::PacketError;
@@ -75,6 +76,7 @@ pub fn run_datagrams<P: Packetizer, D: Depacketizer>(
     ensures runs { IfOk result (λ run. Runs (map sample_of samples.now) steps.now (begins sender.old receiver.old) (wire_of sender.new receiver.new run)) }
     // What is popped, where the datagrams that are delivered come within the windows of the receiver's numbers.
     ensures units { IfOk result (λ run. ReleasesWithinWindows (map sample_of samples.now) steps.now (begins sender.old receiver.old) (wire_of sender.new receiver.new run)) }
+    ensures stops { OnErr result (Stops (map sample_of samples.now) steps.now (begins sender.old receiver.old) sender.new receiver.new) }
     ensures fault { IfErr result (λ fault. fault ≡ OutOfMemory) }
 {
     let mut run = DatagramRun {
@@ -99,6 +101,7 @@ fn do_step<P: Packetizer, D: Depacketizer>(
     run: &mut DatagramRun,
 ) -> Result<(), PacketError>
     ensures ok { OnOk result (DoesStep (map sample_of samples.now) step (wire_of sender.old receiver.old run.old) (wire_of sender.new receiver.new run.new)) }
+    ensures err { OnErr result (StopsAt (map sample_of samples.now) step (wire_of sender.old receiver.old run.old) sender.new receiver.new) }
     ensures fault { IfErr result (λ fault. fault ≡ OutOfMemory) }
 {
     match step {
@@ -141,6 +144,7 @@ fn send_step<P: Packetizer>(
     datagrams: &mut Vec<Vec<u8>>,
 ) -> Result<SentSample, PacketError>
     ensures ok { IfOk result (λ entry. SendsIt (sample_of sample.now) sender.old (bytes_in datagrams.old.items) entry sender.new (bytes_in datagrams.new.items)) }
+    ensures err { OnErr result (StopsSending (sent_sample (sample_of sample.now)) sender.old sender.new) }
     ensures fault { IfErr result (λ fault. fault ≡ OutOfMemory) }
 {
     let fault = send(sender, sample)?;
@@ -157,6 +161,7 @@ fn send<P: Packetizer>(
     sample: &ToPayload,
 ) -> Result<Option<PacketError>, PacketError>
     ensures ok { IfOk result (λ fault. SendsOrRefuses (sent_sample (sample_of sample.now)) sender.old fault sender.new) }
+    ensures err { OnErr result (Refuses sender.old (sent_sample (sample_of sample.now)) OutOfMemory sender.new) }
     ensures fault { IfErr result (λ fault. fault ≡ OutOfMemory) }
 {
     let sample = Sample {
@@ -195,6 +200,7 @@ fn deliver<D: Depacketizer>(
     bytes: &[u8],
 ) -> Result<Result<Outcome, ReceiveError>, PacketError>
     ensures ok { IfOk result (λ receipt. (receipt ≢ Result.Err refusals.OutOfMemory) × ReceivesBytes now bytes.now receiver.old receipt receiver.new) }
+    ensures err { OnErr result (ReceivesBytes now bytes.now receiver.old (Result.Err refusals.OutOfMemory) receiver.new) }
     ensures fault { IfErr result (λ fault. fault ≡ OutOfMemory) }
 {
     match receiver.receive(now, bytes) {
@@ -209,6 +215,7 @@ fn pop_at<D: Depacketizer>(
     now: Ticks,
 ) -> Result<Option<Result<Depacketized, PacketError>>, PacketError>
     ensures ok { IfOk result (λ answer. (answer ≢ Option.Some (Result.Err OutOfMemory)) × PopsUnit now receiver.old answer receiver.new) }
+    ensures err { OnErr result (PopsUnit now receiver.old (Option.Some (Result.Err OutOfMemory)) receiver.new) }
     ensures fault { IfErr result (λ fault. fault ≡ OutOfMemory) }
 {
     match receiver.pop(now) {

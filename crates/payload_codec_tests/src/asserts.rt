@@ -6,7 +6,7 @@ use std::alloc::{AllocError, Global};
 use std::fmt::{Debug, Display};
 use std::process::Abort;
 
-/// What is found is what is wanted, in the example of that name.
+/// Asserts that the found value equals the expected one, in the example with that name.
 pub fn assert_same<T: Debug + PartialEq>(rt: &impl Abort, name: &str, found: &T, wanted: &T) {
     assert_eq!(rt; *found, *wanted, "in {name}");
 }
@@ -64,7 +64,8 @@ pub fn assert_frames<P: Packetizer>(
     }
 }
 
-/// What a payload gives behind the one byte 7, or its fault, which leaves that byte, and the extra as it was. Returns the extra.
+/// Asserts the bytes that a payload appends to the one byte 7, or its fault, which leaves that byte and the codec-specific data
+/// unchanged. Returns the codec-specific data.
 pub fn assert_received<D: Depacketizer>(
     rt: &impl Abort,
     alloc: Global,
@@ -104,7 +105,7 @@ pub fn put_together<D: Depacketizer>(
     Ok((out, extra))
 }
 
-/// Bytes of which one is there so many times in the middle.
+/// Bytes with one byte repeated in the middle.
 pub fn filled(
     alloc: Global,
     front: &[u8],

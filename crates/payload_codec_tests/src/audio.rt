@@ -40,9 +40,9 @@ const TYPE_8_BANDWIDTH_EFFICIENT: [u8; 61] = [
     0x69, 0x69, 0x69, 0x69, 0x69, 0x69, 0x69, 0x69, 0x69, 0x69, 0x69, 0x69, 0x68,
 ];
 
-/// A frame is its header, F FT Q and two zeros, and its speech bits. A payload (RFC 4867, sections 4.3 and 4.4) begins with
-/// CMR 15: in the octet-aligned layout the byte f0, the header, and the speech as it is; in the bandwidth-efficient one 1111
-/// and then all bits without filling. In each row: whether the layout is octet-aligned.
+/// A frame is its header, F FT Q and two zeros, and its speech bits. A payload (RFC 4867, sections 4.3 and 4.4) begins with CMR 15.
+/// In the octet-aligned layout: the byte f0, the header, and the speech unchanged. In the bandwidth-efficient layout: 1111 and then
+/// all bits without padding. Each test vector says whether the layout is octet-aligned.
 static SPEECH: [(&str, bool, Frame); 8] = [
     (
         "amr-wb-type-14-sent, octet-aligned",
@@ -121,7 +121,7 @@ static SPEECH: [(&str, bool, Frame); 8] = [
 /// A comfort noise payload.
 const NOISE: [u8; 3] = [0x2a, 0x80, 0x40];
 
-/// The rows `cn-one-packet-no-marker` and `cn-mtu-2-fault`.
+/// The test vectors `cn-one-packet-no-marker` and `cn-mtu-2-fault`.
 static OF_NOISE: [Frame; 2] = [
     Frame {
         mtu: 1_200,
@@ -135,7 +135,7 @@ static OF_NOISE: [Frame; 2] = [
     },
 ];
 
-/// The rows `opus-two-pieces` and `opus-mtu-zero`, which G.711 shares.
+/// The test vectors `opus-two-pieces` and `opus-mtu-zero`, which G.711 shares.
 static IN_PIECES: [Frame; 2] = [
     Frame {
         mtu: 2,
@@ -194,14 +194,14 @@ fn frames_are_sent(rt: HostRuntime) {
     );
 }
 
-/// A payload, and what comes out of it behind the one byte 7.
+/// A payload, and the bytes that it appends to the one byte 7.
 type Received = (
     &'static str,
     &'static [u8],
     Result<&'static [u8], PacketError>,
 );
 
-/// What comes out of AMR-WB is the header of each frame and its speech bits; in each row: whether it is octet-aligned.
+/// AMR-WB appends the header of each frame and its speech bits; each test vector says whether the layout is octet-aligned.
 static SPEECH_RECEIVED: [(bool, Received); 5] = [
     (
         false,
@@ -287,7 +287,7 @@ const EVENTS: [TelephoneEvent; 2] = [
     },
 ];
 
-/// What comes out is the first report; all are read.
+/// The first report is appended; all are read.
 #[test]
 fn tele_two_reports(rt: HostRuntime) -> Result<(), Fail> {
     let alloc = rt.alloc();
@@ -302,7 +302,7 @@ fn tele_two_reports(rt: HostRuntime) -> Result<(), Fail> {
     Ok(())
 }
 
-/// The rows `tele-five-bytes-fault`, `tele-all-ones-written` and `tele-three-seconds-none`.
+/// The test vectors `tele-five-bytes-fault`, `tele-all-ones-written` and `tele-three-seconds-none`.
 #[test]
 fn tele_reports(rt: HostRuntime) -> Result<(), Fail> {
     let alloc = rt.alloc();

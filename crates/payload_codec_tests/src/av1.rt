@@ -39,9 +39,8 @@ struct SentRow {
     frame: Frame,
 }
 
-/// A frame is OBUs with their sizes. A packet is the byte Z Y W W N (version 1.0.0 of AV1's RTP format, section 4.4) and
-/// elements, which are OBUs without sizes or pieces of these; each has its length in front, but for the last where W counts
-/// the elements.
+/// A frame is OBUs with their sizes. A packet is the byte Z Y W W N (version 1.0.0 of AV1's RTP format, section 4.4) and elements:
+/// OBUs without sizes, or pieces of them. Each has its length in front, except the last if W counts the elements.
 static SENT: [SentRow; 9] = [
     SentRow {
         name: "av1-two-obus-mtu-1200",
@@ -134,14 +133,14 @@ fn frames_are_sent(rt: HostRuntime) {
     }
 }
 
-/// Bytes with a filling byte `bb`, so many times, in the middle.
+/// Bytes with the filling byte `bb` repeated in the middle.
 type Filled = (&'static [u8], usize, &'static [u8]);
 
 fn bytes_of(alloc: Global, (front, count, back): Filled) -> Result<Vec<u8>, AllocError> {
     filled(alloc, front, 0xbb, count, back)
 }
 
-/// A frame of many bytes and its two packets, with the lengths of these.
+/// A frame of many bytes and its two packets, with their lengths.
 struct FilledRow {
     name: &'static str,
     mtu: usize,
@@ -151,8 +150,7 @@ struct FilledRow {
     lengths: [usize; 2],
 }
 
-/// Frames are OBUs of metadata without bytes and an OBU of a frame, which is long; packets cut that OBU where the MTU is
-/// reached.
+/// Frames are OBUs of metadata without bytes and an OBU of a frame, which is long; packets cut that OBU when the MTU is reached.
 const FILLED: [FilledRow; 4] = [
     FilledRow {
         name: "av1-largest-fragment-mtu-136",
@@ -204,7 +202,7 @@ const FILLED: [FilledRow; 4] = [
     },
 ];
 
-/// The two packets of a row's frame.
+/// Asserts the two packets of a test vector's frame.
 fn assert_filled(rt: &impl Abort, alloc: Global, row: &FilledRow) -> Result<(), AllocError> {
     let first = bytes_of(alloc, row.first)?;
     let second = bytes_of(alloc, row.second)?;
@@ -283,7 +281,7 @@ fn units_are_put_together(rt: HostRuntime) -> Result<(), Fail> {
 const CORRUPTED: [(&str, &[u8]); 4] = [
     // An element of no bytes.
     ("av1-zero-length-fault", &[0x00, 0x00]),
-    // An element of 5 bytes, of which one is there.
+    // An element of 5 bytes, of which one is present.
     ("av1-length-past-end-fault", &[0x00, 0x05, 0x30]),
     (
         // One element, with two OBUs that have sizes.

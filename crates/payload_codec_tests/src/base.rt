@@ -10,15 +10,15 @@ use codec_payload_base::wire::{
 use std::collections::HashMap;
 use std::test::Fail;
 
-/// What is read, and the answer.
+/// A read, and its result.
 enum Read {
-    /// So many bits.
+    /// Reads this number of bits.
     Bits(usize, Option<u8>),
     Leb128(Option<u64>),
     ByteOffset(usize),
 }
 
-/// What a reader of these bytes, which starts at that bit, answers one after another.
+/// The results of a reader of these bytes that starts at that bit, one after another.
 struct ReadRow {
     name: &'static str,
     bytes: &'static [u8],
@@ -28,7 +28,7 @@ struct ReadRow {
 
 const READS: [ReadRow; 3] = [
     ReadRow {
-        // 10101100 01010000, of which the first four bits are passed over.
+        // 10101100 01010000; the first four bits are skipped.
         name: "bits-reads-and-refusals",
         bytes: &[0xac, 0x50],
         place_in_bits: 4,
@@ -148,7 +148,7 @@ fn layers_allocation_255_bytes(rt: HostRuntime) -> Result<(), Fail> {
     Ok(())
 }
 
-/// The row `media-kind-application-none`, and kinds of media as keys of a map.
+/// The test vector `media-kind-application-none`, and media kinds as keys of a map.
 #[test]
 fn media_kinds(rt: HostRuntime) -> Result<(), Fail> {
     for (media_type, kind) in [

@@ -1,5 +1,5 @@
-//! The worked examples of the codecs and of RED by their names, each public call once, and what Rattle alone shows: generic
-//! code at the types of the library. What else is tested of behaviour stands in `rust/tests/codecs`.
+//! The worked examples of the codecs and of RED by their names, each public call once, and what only Rattle shows: generic code
+//! with the types of the library. Other tests of behaviour are in `rust/tests/codecs`.
 #![tactic(auto)]
 
 #[cfg(test)]

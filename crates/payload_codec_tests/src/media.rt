@@ -1,4 +1,4 @@
-//! What frames say: each public call once. Rows stand in `rust/tests/codecs/media` and `rust/tests/codecs/vpx`.
+//! Headers of frames: each public call once. Test vectors are in `rust/tests/codecs/media` and `rust/tests/codecs/vpx`.
 
 use crate::asserts::{assert_same, filled};
 use codec_payload_base::wire::Codec;

@@ -39,22 +39,22 @@ fn wrapped(
 /// A payload that is as long as the budget.
 const SEVENS: [u8; 1_200] = [7; 1_200];
 
-/// A payload at an RTP time, and what a sender makes of it at a budget of 1,200 bytes, where that is looked at.
+/// A payload at an RTP time, and the sender's output for it at a budget of 1,200 bytes, if it is checked.
 struct Payload {
     payload: &'static [u8],
     rtp_time: u32,
     wanted: Option<&'static [u8]>,
 }
 
-/// What a new sender of these distances makes of payloads, one after another.
+/// The output of a new sender with these distances for payloads, one after another.
 struct SentRow {
     name: &'static str,
     distances: &'static [u32],
     payloads: &'static [Payload],
 }
 
-/// What a sender makes is, for each block, a byte of F and the type and 14 bits of offset and 10 of length, without these two
-/// for the primary block, which is the last (RFC 2198, section 3); then the bytes of all blocks.
+/// The output has for each block a byte of F and the type, 14 bits of offset and 10 of length (not for the primary block, which is
+/// the last; RFC 2198, section 3); then the bytes of all blocks.
 const SENT: [SentRow; 3] = [
     SentRow {
         name: "red-unwrapped-is-recorded",
@@ -133,7 +133,7 @@ const SENT: [SentRow; 3] = [
     },
 ];
 
-/// What a new sender makes of the payloads of a row.
+/// Asserts the output of a new sender for the payloads of a test vector.
 fn assert_row(rt: &impl Abort, alloc: Global, row: &SentRow) -> Result<(), PacketError> {
     assert!(rt; RedSender::accepts(row.distances), "in {}", row.name);
     let mut sender = sender_of(alloc, row.distances);
@@ -218,7 +218,7 @@ fn red_accepted_distances(rt: HostRuntime) {
     assert_eq!(rt; MAX_RED_RECOVERY_DEPTH, 8);
 }
 
-/// So many headers of empty redundant blocks, and that of the primary block, of type 96.
+/// `count` headers of empty redundant blocks, and the header of the primary block, of type 96.
 fn empty_blocks(alloc: Global, count: usize) -> Result<Vec<u8>, AllocError> {
     let mut bytes = Vec::new(alloc);
     for _ in 0..count {
@@ -228,7 +228,7 @@ fn empty_blocks(alloc: Global, count: usize) -> Result<Vec<u8>, AllocError> {
     Ok(bytes)
 }
 
-/// Bytes of so many empty blocks, and others, each with how many blocks they are, if they are RED.
+/// Bytes of empty blocks, and others, each with the number of blocks, if they are RED.
 #[test]
 fn blocks_are_read(rt: HostRuntime) -> Result<(), Fail> {
     let alloc = rt.alloc();

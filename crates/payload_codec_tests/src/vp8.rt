@@ -13,14 +13,14 @@ use std::test::Fail;
 /// Frames that one packetizer is given one after another.
 struct SentRow {
     name: &'static str,
-    /// The first picture id, where ids are sent.
+    /// The first picture id, if ids are sent.
     first_id: Option<u16>,
     frames: &'static [Frame],
 }
 
-/// A frame that begins with 0x90 is a keyframe, one with 0x91 an interframe. A packet is a descriptor (RFC 7741, section 4.2)
-/// and then bytes of its frame. The descriptor is the byte X R N S R PID; where ids are sent X is set, and then come I L T K,
-/// with I alone, and the id in one byte, or in two with the highest bit set.
+/// A frame that begins with 0x90 is a keyframe, one with 0x91 an interframe. A packet is a descriptor (RFC 7741, section 4.2) and
+/// then bytes of its frame. The descriptor is the byte X R N S R PID. If ids are sent, X is set, and I L T K follow, only I set,
+/// and then the id in one byte, or in two with the highest bit set.
 static SENT: [SentRow; 8] = [
     SentRow {
         name: "vp8-no-ids-three-packets",
@@ -150,7 +150,7 @@ fn frames_are_sent(rt: HostRuntime) -> Result<(), Fail> {
     Ok(())
 }
 
-/// Payloads that one depacketizer is given one after another, each with the extended picture id that it tells.
+/// Payloads for one depacketizer, one after another, each with the extended picture id that it reports.
 struct ToldRow {
     name: &'static str,
     /// The picture id before, and the extended one.
@@ -190,7 +190,7 @@ const TOLD: [ToldRow; 3] = [
     },
 ];
 
-/// The extended picture ids that the payloads of a row tell.
+/// Asserts the extended picture ids that the payloads of a test vector report.
 fn assert_ids(rt: &impl Abort, alloc: Global, row: &ToldRow) -> Result<(), PacketError> {
     let mut depacketizer = Vp8Depacketizer::default();
     depacketizer.picture_id = row.picture_id;
@@ -218,8 +218,8 @@ fn picture_ids_are_told(rt: HostRuntime) -> Result<(), Fail> {
 /// A payload of a descriptor with the ids 0x1234 and 0x55 and the key index 7, and the first byte of a keyframe.
 pub const READ: [u8; 7] = [0x90, 0xf0, 0x92, 0x34, 0x55, 0xa7, 0x00];
 
-/// The rows `vp8-nothing-follows-fault`, `vp8-l-without-t-fault`, `vp8-malformed-yet-keyframe` and `vp8-fields-read-so-far`:
-/// payloads, each with the fault of the depacketizer and with that of `parse`.
+/// The test vectors `vp8-nothing-follows-fault`, `vp8-l-without-t-fault`, `vp8-malformed-yet-keyframe` and
+/// `vp8-fields-read-so-far`: payloads, each with the fault of the depacketizer and with the fault of `parse`.
 const REFUSED: [(&str, &[u8], PacketError, Vp8DescriptorError); 4] = [
     (
         "vp8-nothing-follows-fault",
@@ -247,7 +247,7 @@ const REFUSED: [(&str, &[u8], PacketError, Vp8DescriptorError); 4] = [
     ),
 ];
 
-/// The last row leaves what it has read.
+/// The last test vector leaves the fields that it has read.
 #[test]
 fn payloads_are_refused(rt: HostRuntime) -> Result<(), Fail> {
     let mut depacketizer = Vp8Depacketizer::default();

@@ -55,7 +55,7 @@ static PATCHES: [PatchRow; 4] = [
     },
 ];
 
-/// The patch of a row.
+/// The patch of a test vector.
 fn patch_of(row: &PatchRow) -> Result<Result<Vp8Patch, Vp8PatchError>, Vp8DescriptorError> {
     let mut builder = Vp8Descriptor::parse(row.payload)?.patch();
     if let Some(id) = row.picture_id {
@@ -70,7 +70,7 @@ fn patch_of(row: &PatchRow) -> Result<Result<Vp8Patch, Vp8PatchError>, Vp8Descri
     Ok(builder.build())
 }
 
-/// What the patch of a row gives.
+/// Asserts the payload that the patch of a test vector gives.
 fn assert_patched(rt: &impl Abort, alloc: Global, row: &PatchRow) -> Result<(), Fail> {
     match (patch_of(row).ok().ok_or(row.name)?, &row.wanted) {
         (Ok(patch), Ok(wanted)) => {

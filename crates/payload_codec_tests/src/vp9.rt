@@ -17,9 +17,10 @@ struct SentRow {
     frames: &'static [Frame],
 }
 
-/// A frame that begins with 0x82 is a keyframe of profile 0, one with 0x86 an interframe. A packet is a descriptor (RFC 9628, section 4.2) and then bytes of its frame. The descriptor is the byte I P L
-/// F B E V Z and the id in two bytes; in the non-flexible mode also TID U SID D with U alone, TL0PICIDX, and, in the first
-/// packet of a keyframe, a structure of one layer without sizes and groups.
+/// A frame that begins with 0x82 is a keyframe of profile 0, one with 0x86 an interframe. A packet is a descriptor (RFC 9628,
+/// section 4.2) and then bytes of its frame. The descriptor is the byte I P L F B E V Z and the id in two bytes. The non-flexible
+/// mode adds TID U SID D with only U set, TL0PICIDX, and, in the first packet of a keyframe, a structure of one layer without sizes
+/// and groups.
 static SENT: [SentRow; 3] = [
     SentRow {
         name: "vp9-nonflex-two-packets",
@@ -85,7 +86,7 @@ const REFUSED: [(&str, &[u8], PacketError); 4] = [
     // No byte.
     ("vp9-empty-fault", &[], PacketError::ErrShortPacket),
     (
-        // P and F, and three differences of which each says that another follows.
+        // P and F, and three differences; each says that another follows.
         "vp9-fourth-p-diff-fault",
         &[0x50, 0x03, 0x03, 0x03],
         PacketError::ErrTooManyPDiff,

@@ -1,4 +1,4 @@
-//! Elements of header extensions: the figures of RFC 8285, how elements end, and what is written.
+//! Elements of header extensions: the figures of RFC 8285, and written elements.
 
 use codec_payload_rtp::elements::{Element, ElementForm, Elements, write_elements};
 use std::process::Abort;
@@ -53,84 +53,6 @@ fn elements_of_the_figures(rt: HostRuntime) {
         })
     );
     assert_eq!(rt; two.next(), None);
-}
-
-/// Bytes of elements, how many come, and whether an element passes the end.
-struct Ended {
-    name: &'static str,
-    form: ElementForm,
-    bytes: &'static [u8],
-    count: usize,
-    cut: bool,
-}
-
-/// In the one-byte form an element is a byte of its id and its length less one, and its bytes; in the two-byte form a byte of
-/// its id, one of its length, and its bytes (RFC 8285, sections 4.2 and 4.3).
-const ENDED: [Ended; 7] = [
-    Ended {
-        name: "padding-alone",
-        form: ElementForm::OneByte,
-        bytes: &[0, 0, 0],
-        count: 0,
-        cut: false,
-    },
-    Ended {
-        name: "id-15",
-        form: ElementForm::OneByte,
-        bytes: &[0x10, 1, 0xf0, 2, 0x20, 3],
-        count: 1,
-        cut: false,
-    },
-    Ended {
-        name: "id-0-with-a-length",
-        form: ElementForm::OneByte,
-        bytes: &[0x01, 1, 2, 0x10, 3],
-        count: 0,
-        cut: false,
-    },
-    Ended {
-        name: "one-byte-cut",
-        form: ElementForm::OneByte,
-        bytes: &[0x10, 1, 0x2f, 2, 3],
-        count: 1,
-        cut: true,
-    },
-    Ended {
-        name: "two-byte-cut",
-        form: ElementForm::TwoByte,
-        bytes: &[1, 0, 2, 255, 3],
-        count: 1,
-        cut: true,
-    },
-    Ended {
-        name: "two-byte-without-length",
-        form: ElementForm::TwoByte,
-        bytes: &[1, 0, 2],
-        count: 1,
-        cut: true,
-    },
-    Ended {
-        name: "id-15-of-two-bytes",
-        form: ElementForm::TwoByte,
-        bytes: &[15, 1, 9, 0],
-        count: 1,
-        cut: false,
-    },
-];
-
-#[test]
-fn elements_end(rt: HostRuntime) {
-    for row in &ENDED {
-        let mut elements = Elements::new(row.form, row.bytes);
-        let mut count = 0usize;
-        for _ in 0..10 {
-            if elements.next().is_some() {
-                count = count.saturating_add(1);
-            }
-        }
-        assert_eq!(rt; count, row.count, "in {}", row.name);
-        assert_eq!(rt; elements.is_cut(), row.cut, "in {}", row.name);
-    }
 }
 
 #[test]

@@ -1,16 +1,11 @@
-//! RTP packets, numbers and receivers, by rows: bytes of the standards' figures, and what a receiver answers, event by event.
+//! RTP packets, senders and receivers: each public call, by bytes of the standards' figures and some of the rows of
+//! `rust/tests/datagrams`, where all rows are.
 #![tactic(auto)]
 
-#[cfg(test)]
-mod amr_wb;
-#[cfg(test)]
-mod choice;
 #[cfg(test)]
 mod elements;
 #[cfg(test)]
 mod events;
-#[cfg(test)]
-mod hostile;
 #[cfg(test)]
 mod packets;
 #[cfg(test)]

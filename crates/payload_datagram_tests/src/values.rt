@@ -1,6 +1,5 @@
 //! Values of header extensions, by their ids.
 
-use codec_payload_base::wire::ExtensionValues;
 use codec_payload_rtp::rtp::HeaderExtension;
 use codec_payload_rtp::values::ExtensionIds;
 use std::process::Abort;
@@ -14,13 +13,8 @@ const IDS: ExtensionIds = ExtensionIds {
     audio_level: Some(6),
 };
 
-/// What the words of an extension tell.
-fn values_of(profile: u16, bytes: &[u8]) -> ExtensionValues {
-    IDS.values(&Some(HeaderExtension { profile, bytes }))
-}
-
-/// Of each extension an element: the time of capture of 8 bytes, orientation 2, content type 1, the times 1 to 6, an
-/// allocation of two bytes, and speech at -10 dBov.
+/// For each extension an element: the capture time of 8 bytes, orientation 2, content type 1, the times 1 to 6, an allocation of
+/// two bytes, and speech at -10 dBov.
 const EACH: [u8; 36] = [
     0x17, 0, 0, 0, 1, 0x80, 0, 0, 0, 0x20, 2, 0x30, 1, 0x4c, 1, 0, 1, 0, 2, 0, 3, 0, 4, 0, 5, 0, 6,
     0x51, 9, 8, 0x60, 0x8a, 0, 0, 0, 0,
@@ -28,7 +22,11 @@ const EACH: [u8; 36] = [
 
 #[test]
 fn each_value(rt: HostRuntime) {
-    let values = values_of(0xbede, &EACH);
+    let extension = HeaderExtension {
+        profile: 0xbede,
+        bytes: &EACH,
+    };
+    let values = IDS.values(&Some(extension));
     assert_eq!(rt;
         values
             .abs_capture_time
@@ -46,23 +44,4 @@ fn each_value(rt: HostRuntime) {
     assert_eq!(rt; values.layers_allocation.map(|a| a.bytes().len()), Some(2));
     assert_eq!(rt; values.audio_level, Some(-10));
     assert_eq!(rt; values.voice_activity, Some(true));
-}
-
-#[test]
-fn lengths_of_other_formats(rt: HostRuntime) {
-    // Nine bytes of capture time, two of orientation, none of content type in the two-byte form, and level of two bytes.
-    let bytes = [
-        1, 9, 0, 0, 0, 0, 0, 0, 0, 0, 0, 2, 2, 1, 1, 3, 0, 6, 2, 1, 1,
-    ];
-    assert_eq!(rt; values_of(0x1000, &bytes), ExtensionValues::default());
-    // The first element with an id tells the value, and an extension of another profile tells none.
-    assert_eq!(rt;
-        values_of(0xbede, &[0x20, 7, 0x20, 8]).video_orientation,
-        Some(7)
-    );
-    assert_eq!(rt;
-        values_of(0xbedf, &[0x20, 7, 0x20, 8]),
-        ExtensionValues::default()
-    );
-    assert_eq!(rt; IDS.values(&None), ExtensionValues::default());
 }

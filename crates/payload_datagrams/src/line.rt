@@ -28,7 +28,7 @@ pub enum Line {
     },
 }
 
-/// What is asked of a receiver.
+/// A question to a receiver.
 #[derive(Clone, Copy, Debug)]
 pub enum Event {
     Pop(u64),
@@ -98,7 +98,7 @@ impl Line {
     }
 }
 
-/// What is asked of a receiver.
+/// A question to a receiver.
 fn event_of(fields: &[&str]) -> Option<Event> {
     match fields {
         ["pop", now] => Some(Event::Pop(decimal(now)?)),
@@ -112,7 +112,7 @@ fn event_of(fields: &[&str]) -> Option<Event> {
     }
 }
 
-/// What is set of a receiver.
+/// A setting of a receiver.
 fn setting_of(fields: &[&str]) -> Option<Setting> {
     match fields {
         ["wait", hold_back, start, max_wait] => Some(Setting::Wait(WaitLimits {

@@ -1,4 +1,4 @@
-//! Reads settings and datagrams from standard input, receives them, sends samples, and prints what becomes of each.
+//! Reads settings and datagrams from standard input, receives them, sends samples, and prints the outcome of each.
 #![tactic(auto)]
 
 mod line;

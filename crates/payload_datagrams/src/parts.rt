@@ -6,7 +6,7 @@ use payload_lines::digits::hex_text;
 use std::alloc::{AllocError, Global};
 use std::fmt::Write;
 
-/// What a datagram is: `rtcp`, the parts of an RTP packet, or why it is none.
+/// Prints the type of a datagram: `rtcp`, the parts of an RTP packet, or the fault.
 pub fn print_packet(alloc: Global, text: &mut String, bytes: &[u8]) -> Result<(), AllocError> {
     if is_rtcp(bytes) {
         return writeln!(text, "rtcp");

@@ -43,7 +43,7 @@ impl Player {
         }
     }
 
-    /// Does what a line says. Whether the line may stand there.
+    /// Does what a line says. Returns whether the line is allowed there.
     pub fn play(&mut self, line: Line) -> Result<bool, ProgramFault> {
         match line {
             Line::Stream(stream) => self.begin(stream),

@@ -31,7 +31,7 @@ fn word_of(outcome: Outcome) -> &'static str {
     }
 }
 
-/// What became of a datagram.
+/// Prints the outcome of a datagram.
 pub fn print_outcome(text: &mut String, outcome: Outcome) -> Result<(), AllocError> {
     writeln!(text, "{}", word_of(outcome))
 }
@@ -115,7 +115,7 @@ pub fn print_counters(
     Ok(())
 }
 
-/// What a receiver report tells.
+/// Prints a receiver report.
 pub fn print_report(text: &mut String, report: Option<ReceptionReport>) -> Result<(), AllocError> {
     match report {
         Some(report) => {

@@ -9,8 +9,8 @@ use std::io::{Read, Write};
 /// The greatest length of the input, in bytes.
 const INPUT_LIMIT: usize = 64 << 20;
 
-/// Reads all of the input, does what its lines say, and writes what they came to. Nothing is written before all of it is there to
-/// be written; a write that fails leaves a beginning of it.
+/// Reads all input, does what its lines say, and writes the results. Nothing is written before all output is complete; a write that
+/// fails leaves a beginning of it.
 pub fn run_lines<R: Read, W: Write>(
     alloc: Global,
     input: &mut R,

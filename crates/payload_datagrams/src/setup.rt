@@ -8,6 +8,7 @@ use codec_payload_stream::jitter::WaitLimits;
 use codec_payload_stream::receiver::{
     Receiver, RedSettings, Retransmission, Settings, SettingsError,
 };
+use codec_payload_stream::unit_gate::FromKeyframe;
 use std::alloc::{AllocError, Global};
 
 /// A codec, and the payload type under which it comes.
@@ -38,7 +39,7 @@ pub struct Draft {
 }
 
 impl Draft {
-    /// The settings of a stream where no line sets others.
+    /// The default settings of a stream.
     pub fn new(alloc: Global, stream: Stream, tick_rate: Frequency) -> Draft {
         Draft {
             spec: stream.spec,
@@ -55,6 +56,7 @@ impl Draft {
                 limit: 4_096,
                 forward: 3_000,
                 backward: 1_000,
+                from_keyframe: FromKeyframe::Mark,
             },
         }
     }
@@ -125,7 +127,7 @@ pub fn sender_of(alloc: Global, setup: SenderSetup) -> Option<Result<Sender<NoBo
     Some(Sender::new(alloc, pack, settings))
 }
 
-/// The codec of that name.
+/// The codec with that name.
 pub fn codec_named(name: &str) -> Option<Codec> {
     match name {
         "opus" => Some(Codec::Opus),

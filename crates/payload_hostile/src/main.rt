@@ -1,6 +1,6 @@
-//! Makes one call of a sink, a payloader or a run, by the name that is the one line of standard input, and prints what it answered
-//! and how things are after it. `scripts/refuse.sh` refuses it each allocation in turn, and those of the calls that the library for
-//! C has too to `tools/refused`.
+//! Makes one call of a sink, a payloader or a run. The name of the call is the one line of standard input. Prints the result of the
+//! call and the state after it. `scripts/refuse.sh` makes each allocation fail in turn; `tools/refused` does so for the calls of
+//! the library for C.
 #![tactic(auto)]
 
 mod report;
@@ -14,7 +14,7 @@ use std::io;
 use std::io::{Read, Write};
 use std::process::ExitCode;
 
-/// No call of that name.
+/// No call has that name.
 const NO_CALL: u8 = 2;
 
 /// Memory was refused before the call or after it, and nothing is printed.
@@ -23,7 +23,7 @@ const REFUSED_ELSEWHERE: u8 = 3;
 /// Input or output failed.
 const IO_FAILED: u8 = 1;
 
-/// What is printed of the call whose name is a line.
+/// The report on the call named by a line.
 fn report_of_line(alloc: Global, line: &[u8]) -> Result<Option<String>, PacketError> {
     match str::from_utf8(line) {
         Ok(name) => report(alloc, name.trim_end()),

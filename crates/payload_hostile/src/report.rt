@@ -6,7 +6,8 @@ use codec_payload_core::error::PacketError;
 use std::alloc::{AllocError, Global};
 use std::fmt::Write;
 
-/// What is printed of the call of that name, or `None` if there is none. A fault is out of memory elsewhere than in the call.
+/// The report on the call with that name, or `None` if there is none. An error means that memory ran out elsewhere than in the
+/// call.
 pub fn report(alloc: Global, name: &str) -> Result<Option<String>, PacketError> {
     let mut text = String::new(alloc);
     match name {

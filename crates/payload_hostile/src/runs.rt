@@ -72,7 +72,7 @@ const ALL_OF_ONE: [Step; 6] = [
     Step::Pop,
 ];
 
-/// Runs one sample of Opus through all, and then pops what is left.
+/// Runs one sample of Opus through all steps, and then pops the rest.
 pub fn runs(alloc: Global, text: &mut String) -> Result<(), PacketError> {
     let Some(mut payloader) = Payloader::new(OPUS, Vp9PacketizerMode::NonFlexible, 0) else {
         return Ok(());
@@ -111,8 +111,8 @@ const SECOND_OF_TWO: [Step; 4] = [
     Step::Pop,
 ];
 
-/// Runs two samples of Opus in RED. Then the next payload is wrapped, which shows what the sender has remembered, and the buffer
-/// gives what is left.
+/// Runs two samples of Opus in RED. Then it wraps the next payload, which shows the payloads that the sender remembers, and pops
+/// the rest of the buffer.
 pub fn runs_in_red(alloc: Global, text: &mut String) -> Result<(), PacketError> {
     let Some(mut payloader) = Payloader::new(OPUS, Vp9PacketizerMode::NonFlexible, 0) else {
         return Ok(());

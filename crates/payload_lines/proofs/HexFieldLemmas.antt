@@ -69,7 +69,7 @@ hex_field_of-decoded text bytes other nonempty h =
     let digits = decode_of-ok text bytes h in
     rw (dash_test-false text other, is_hex_pairs-true text nonempty digits.0 digits.1, bytes_of_pairs-decoded text bytes h) refl
 
--- what is not decoded is no pairs of digits
+-- text that is not decoded does not consist of pairs of digits
 is_hex_pairs-refused : (text : List ℕ) (e : FromHexError) → decode_of text ≡ Err e → is_hex_pairs text ≡ false
 is_hex_pairs-refused text e h =
     elim (cases_Bool (is_hex_pairs text)) [
@@ -81,7 +81,7 @@ is_hex_pairs-refused text e h =
       | inr other ↦ other
     ]
 
--- what is not decoded spells nothing
+-- text that is not decoded spells nothing
 pub hex_field_of-refused : (text : List ℕ) (e : FromHexError) → text ≢ codes "-" → decode_of text ≡ Err e
     → hex_field_of text ≡ None
 hex_field_of-refused text e other h = rw (dash_test-false text other, is_hex_pairs-refused text e h) refl

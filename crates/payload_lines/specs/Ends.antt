@@ -13,7 +13,7 @@ status_of TooLong = 2
 status_of OutOfMemory = 1
 status_of Io = 1
 
--- an error of reading or writing is told as want of memory where it is one
+-- an error of reading or writing is reported as out of memory if it is one
 abbrev pub IsFaultOf : Error → ProgramFault → Type 0
 IsFaultOf e fault =
     (error_kind e ≡ kinds.OutOfMemory → fault ≡ OutOfMemory) × (error_kind e ≢ kinds.OutOfMemory → fault ≡ Io)

@@ -9,10 +9,10 @@ use std::io;
 use std::io::{ErrorKind, Read, Write};
 use thiserror::Error;
 
-/// Why the program gives up. Each text is one line.
+/// Why the program stops. Each text is one line.
 #[derive(Debug, PartialEq, Eq, Drop, Error)]
 pub enum ProgramFault {
-    /// The number, from 1, of the first line that is none of the program's, or 1 where there is no line.
+    /// The number, from 1, of the first line that is not valid, or 1 if there is no line.
     #[error("bad line {0}")]
     BadLine(usize),
     /// The input has more bytes than the program takes. No line was looked at.
@@ -83,8 +83,8 @@ pub fn read_below<R: Read>(
     Ok(bytes)
 }
 
-/// Tells how the program ended: answers the exit status, and writes a fault as one line of `messages`. The status is the
-/// same where that line cannot be written.
+/// Reports how the program ended: returns the exit status, and writes an error as one line of `messages`. The status is the same if
+/// that line cannot be written.
 pub fn finish<W: Write>(answer: Result<(), ProgramFault>, messages: &mut W) -> u8
     ensures done { OnOk answer ((result ≡ 0) × (messages.new ≡ messages.old)) }
     ensures fault { IfErr answer (λ fault. result ≡ status_of fault) }
@@ -96,7 +96,7 @@ pub fn finish<W: Write>(answer: Result<(), ProgramFault>, messages: &mut W) -> u
     fault.status()
 }
 
-/// The text of a line, whose last byte is a newline. `None` where it is not, and for bytes that are no UTF-8.
+/// The text of a line, whose last byte is a newline. `None` if it is not, or if the bytes are not UTF-8.
 pub fn text_of(line: &[u8]) -> Option<&str> {
     match line.split_last() {
         Some((b'\n', text)) => std::str::from_utf8(text).ok(),

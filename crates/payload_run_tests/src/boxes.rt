@@ -19,7 +19,7 @@ use codec_payload_core::wire::{Frequency, MediaTime, Pt, SeqNo, Ticks};
 use std::alloc::{AllocError, Global};
 use std::test::Fail;
 
-/// Answers an empty packet and one longer than the MTU, and marks where a talk spurt starts.
+/// Gives an empty packet and one longer than the MTU, and marks the start of a talk spurt.
 #[derive(Debug, Drop)]
 struct Lawless {}
 
@@ -59,7 +59,7 @@ impl Packetizer for Lawless {
     }
 }
 
-/// Each packet ends a unit, and begins one where `heads` says so; each is appended, or refused with 11.
+/// Each packet ends a unit, and begins one if `heads` says so; each is appended, or refused with 11.
 #[derive(Debug, Drop)]
 struct EachPacket {
     heads: bool,
@@ -190,7 +190,7 @@ fn box_run_two_units(rt: HostRuntime) -> Result<(), Fail> {
     Ok(())
 }
 
-/// What a pop answers: a unit, a fault of that number, or nothing.
+/// The result of a pop: a unit, a fault with that number, or nothing.
 type Answer = Option<Result<(), u8>>;
 
 fn answer_of(answer: Option<Result<Depacketized, PacketError>>) -> Answer {
@@ -218,8 +218,8 @@ fn answers_of(
     Ok((answers, buffer.held()))
 }
 
-/// A box that refuses both of two packets, where each is told to begin a unit, and one that never comes to read, since none
-/// begins one: with what pops answer, and how many packets are then held.
+/// A box that refuses both of two packets that each begin a unit, and a box that never gets to read, since no packet begins a unit:
+/// with the results of pops, and the number of packets held afterwards.
 #[test]
 fn box_refuses_everything(rt: HostRuntime) -> Result<(), Fail> {
     let both = [Some(Err(11)), Some(Err(11)), None];

@@ -96,7 +96,7 @@ fn steps_are_answered(rt: HostRuntime) -> Result<(), Fail> {
     Ok(())
 }
 
-/// The packets of these numbers of a VP8 frame of packets 1 to 4,097.
+/// Pushes the packets with these numbers of a VP8 frame of packets 1 to 4,097.
 fn push_long_frame(
     alloc: Global,
     buffer: &mut DepacketizingBuffer,

@@ -15,7 +15,7 @@ use std::test::Fail;
 /// The most bytes of a payload in RED.
 const BUDGET: usize = 1_200;
 
-/// What is told of a packet that was found in a RED payload.
+/// The metadata of a packet that was found in a RED payload.
 fn found(packet: &Recovered<'_>) -> RtpMeta {
     RtpMeta {
         received: Ticks(0),
@@ -33,8 +33,8 @@ fn found(packet: &Recovered<'_>) -> RtpMeta {
     }
 }
 
-/// Sends each frame of 20 milliseconds in RED (payload type 63), with the frame before it and the third before it. The MTU is
-/// one byte less than the budget, so that each frame fits into its packet.
+/// Sends each frame of 20 milliseconds in RED (payload type 63), with the previous frame and the third before it. The MTU is one
+/// byte less than the budget, so that each frame fits its packet.
 fn send_in_red(
     alloc: Global,
     payloader: &mut Payloader,
@@ -54,7 +54,7 @@ fn send_in_red(
     Ok(())
 }
 
-/// Pushes what a packet holds: itself, and the frames that it repeats. The buffer drops those that it has.
+/// Pushes the packets in a payload: the packet itself, and the frames that it repeats. The buffer drops duplicates.
 fn receive(
     alloc: Global,
     receiver: &RedReceiver,
@@ -67,7 +67,7 @@ fn receive(
     Ok(())
 }
 
-/// The packets of eight frames, each of which has its number as its only byte.
+/// The packets of eight frames; each has its number as its only byte.
 fn sent_frames(alloc: Global) -> Result<MemorySink, Fail> {
     let mut frames = Vec::new(alloc);
     for number in 0..8u8 {
@@ -88,7 +88,7 @@ fn pop_all(alloc: Global, buffer: &mut DepacketizingBuffer) -> Result<Vec<u8>, P
     Ok(units)
 }
 
-/// The frames that come out where the packets of these indices come.
+/// The frames released if the packets with these indices arrive.
 fn units_of(alloc: Global, arrived: &[usize]) -> Result<Vec<u8>, Fail> {
     let stream = sent_frames(alloc)?;
     let receiver = RedReceiver::new(96, 960).ok_or("no step")?;
@@ -100,8 +100,8 @@ fn units_of(alloc: Global, arrived: &[usize]) -> Result<Vec<u8>, Fail> {
     Ok(pop_all(alloc, &mut buffer)?)
 }
 
-/// One lost packet; three in a row, of which the next packet repeats the first and the last, and the one after it the second;
-/// and two at the end, which nothing repeats.
+/// One lost packet; three in a row, of which the next packet repeats the first and the last, and the one after it the second; and
+/// two at the end, which nothing repeats.
 #[test]
 fn lost_frames_come_back(rt: HostRuntime) -> Result<(), Fail> {
     let all = [0, 1, 2, 3, 4, 5, 6, 7];

@@ -1,5 +1,5 @@
-//! The worked examples of the buffer, of payloaders and of whole runs by their names, the programs of docs/RATTLE.md, and codecs of
-//! a caller's own, over `codec_payload_core` alone. What else is tested of behaviour stands in `rust/tests/runs`.
+//! The worked examples of the buffer, of payloaders and of whole runs by their names, the programs of docs/RATTLE.md, and custom
+//! codecs, over `codec_payload_core` only. Other tests of behaviour are in `rust/tests/runs`.
 #![tactic(auto)]
 
 #[cfg(test)]

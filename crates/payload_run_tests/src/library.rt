@@ -1,5 +1,5 @@
-//! Calls of the library that several tests make. None has a contract, so what the library promises of a call is no part of
-//! the proof of a test.
+//! Calls of the library that several tests make. None has a contract, so the guarantees of the library are not part of the proof of
+//! a test.
 
 use codec_payload_core::buffer::{Depacketized, DepacketizingBuffer, RtpMeta};
 use codec_payload_core::codec::{CodecDepacketizer, Depacketizer, Packetizer, Vp9PacketizerMode};
@@ -33,7 +33,7 @@ pub(super) fn push<D: Depacketizer>(
     buffer.push(meta, Vec::from_slice(alloc, payload)?)
 }
 
-/// The unit that comes out. Where none does, the test fails with the words that are passed last.
+/// The released unit. If there is none, the test fails with the last argument as its message.
 pub(super) fn pop_unit(
     buffer: &mut DepacketizingBuffer,
     missing: &str,
@@ -62,7 +62,7 @@ pub(super) fn send<P: Packetizer>(
     payloader.push_sample(alloc, sample, mtu, sink)
 }
 
-/// What is left when a run has ended.
+/// The state after a run.
 #[derive(Drop)]
 pub(super) struct Ended {
     pub run: Run,
@@ -122,7 +122,7 @@ pub(super) fn bytes_and_markers(alloc: Global, sink: &MemorySink) -> Result<Vec<
     Ok(sent)
 }
 
-/// How many packets each sample gave. Where one was refused, the test fails with the words that are passed last.
+/// The number of packets of each sample. If one was refused, the test fails with the last argument as its message.
 pub(super) fn counts_of(alloc: Global, run: &Run, refused: &str) -> Result<Vec<usize>, Fail> {
     let mut counts = Vec::new(alloc);
     for sent in &run.sends {
@@ -134,7 +134,7 @@ pub(super) fn counts_of(alloc: Global, run: &Run, refused: &str) -> Result<Vec<u
     Ok(counts)
 }
 
-/// The bytes of the units that came out, and 255 for each other answer of a pop.
+/// The bytes of the released units, and 255 for each other result of a pop.
 pub(super) fn bytes_of_units(alloc: Global, run: &Run) -> Result<Vec<u8>, AllocError> {
     let mut bytes = Vec::new(alloc);
     for pop in &run.pops {

@@ -1,4 +1,4 @@
-//! A codec of a caller's own, as docs/RATTLE.md has it.
+//! A custom codec, as in docs/RATTLE.md.
 
 ghost use Rattle.std.specs.Prelude.{[], ⊤, false, true};
 
@@ -11,7 +11,7 @@ use codec_payload_core::wire::{Frequency, ToPayload};
 use std::alloc::Global;
 use std::test::Fail;
 
-/// Sends each byte of a frame in a packet of its own.
+/// Sends each byte of a frame in a separate packet.
 #[derive(Debug, Drop)]
 pub(super) struct EachByte {}
 

@@ -1,4 +1,4 @@
-//! A codec of a caller's own that counts what it is asked. Its frames are two packets, of which the marked one ends the frame.
+//! A custom codec that counts the questions to it. Its frames are two packets; the marked one ends the frame.
 
 ghost use Rattle.std.specs.Prelude.{[], Some, ⊤, false, true};
 
@@ -15,7 +15,7 @@ use codec_payload_core::wire::Frequency;
 use std::alloc::Global;
 use std::test::Fail;
 
-/// Puts each byte of a frame in a packet, behind how often it was asked to packetize and how often for a marker.
+/// Puts each byte of a frame in a packet, after two counts: how often it was asked to packetize, and how often for a marker.
 #[derive(Debug, Drop)]
 struct CountingPacketizer {
     frames: u8,
@@ -61,7 +61,7 @@ impl Packetizer for CountingPacketizer {
     }
 }
 
-/// Puts before each payload how many it has read, and ends a frame where the marker is set.
+/// Puts before each payload the number of payloads that it has read, and ends a frame at the marker.
 #[derive(Debug, Drop)]
 struct CountingDepacketizer {
     payloads: u8,
@@ -121,7 +121,7 @@ const TWO_FRAMES: [Step; 9] = [
     Step::Pop,
 ];
 
-/// A run of two frames of two bytes, whose packets come out of order.
+/// A run of two frames of two bytes, whose packets arrive out of order.
 fn run_counting(alloc: Global) -> Result<Ended, Fail> {
     let pack = CodecPacketizer::Boxed(CountingPacketizer {
         frames: 0,

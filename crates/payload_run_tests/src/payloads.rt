@@ -13,7 +13,7 @@ use std::test::Fail;
 /// The room in front of each payload, for an RTP header without CSRCs and extension.
 const HEADROOM: usize = 12;
 
-/// The room behind each payload, for a tag.
+/// The room after each payload, for a tag.
 const TAILROOM: usize = 16;
 
 /// A frame, and the payloads that it is sent in, or the fault.
@@ -82,7 +82,7 @@ static OF_BYTES: SentRow = SentRow {
 /// The header of each packet.
 const HEADER: [u8; 12] = [0x80, 96, 0, 7, 0, 0, 3, 0xc0, 1, 2, 3, 4];
 
-/// These payloads are there, each behind the header that is put in front of it, with its rooms.
+/// Asserts these payloads, each after the header in front of it, with its rooms.
 fn assert_packets(rt: &impl Abort, name: &str, out: &mut Payloads, payloads: &[&[u8]]) {
     assert_same(rt, name, &out.len(), &payloads.len());
     for (place, payload) in payloads.iter().enumerate() {
@@ -113,7 +113,7 @@ fn assert_written<P: Packetizer>(
     }
 }
 
-/// All go into the same memory; the last is of a codec of a caller's own.
+/// All go into the same memory; the last belongs to a custom codec.
 #[test]
 fn rows_into_the_same_memory(rt: HostRuntime) -> Result<(), Fail> {
     let alloc = rt.alloc();

@@ -13,7 +13,7 @@ use std::alloc::Global;
 use std::process::Abort;
 use std::test::Fail;
 
-/// What is known of a packet that came as it was sent.
+/// The metadata of a packet that arrived as it was sent.
 fn received(packet: &OutgoingPacket, clock_rate: Frequency) -> RtpMeta {
     RtpMeta {
         received: Ticks(0),
@@ -31,7 +31,7 @@ fn received(packet: &OutgoingPacket, clock_rate: Frequency) -> RtpMeta {
     }
 }
 
-/// Sends samples and receives their packets. There are no units of a codec that has no payloads of its own.
+/// Sends samples and receives their packets. A codec without a payload format gives no units.
 fn send_and_receive(
     alloc: Global,
     spec: CodecSpec,

@@ -1,4 +1,4 @@
--- What a line says, from what is known of each form.
+-- The meaning of a line, from the facts about each form.
 use Rattle.std.proofs.Common.{◌≡◌, ℕ, List, [], ◌∷◌, codes, Option, Some, None, Result, Ok, Err, ap, inl, inr}
 use Rattle.std.specs.Prelude.{IfOk}
 use Rattle.codec_payload_core.specs.declared.schedule.Step.TheVariants.{Pop}

@@ -9,7 +9,7 @@ use Rattle.codec_payload_core.specs.declared.wire.Codec.TheVariants as codecs
 use Rattle.payload_lines.specs.HexField.{hex_field_of}
 use Rattle.payload_lines.specs.Numbers.{IsNumber}
 
--- the codec that a name stands for
+-- the codec with this name
 abbrev pub codec_of : List ℕ → Option Codec
 codec_of name =
     if bytes_eq name (codes "opus") then Some codecs.Opus

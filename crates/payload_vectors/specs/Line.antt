@@ -105,7 +105,7 @@ IsPush packet found = SomeIff found (IsNumber (2 ^ 64) packet) (lines.Step (Push
 abbrev pub fields_of : List ℕ → List (List ℕ)
 fields_of text = slice_split (λ b. b == 32) text
 
--- what a line of these fields says, by its word: nothing where it has no such word, other fields, or fields out of range
+-- the meaning of a line with these fields, by its word: nothing if it has no such word, other fields, or fields out of range
 abbrev pub Says : List (List ℕ) → Option Line → Type 0
 Says (word ∷ []) found = (word ≡ codes "pop" → found ≡ Some (lines.Step Pop)) × (word ≢ codes "pop" → found ≡ None)
 Says (word ∷ field ∷ []) found =

@@ -9,7 +9,7 @@ ghost use Rattle.codec_payload_core.specs.declared.interface.Vp9PacketizerMode.{
 use codec_payload_core::codec::Vp9PacketizerMode;
 use codec_payload_core::wire::Codec;
 
-/// The codec of that name, if a payloader and a buffer can be made for it.
+/// The codec with that name, if it has a payloader and a buffer.
 pub fn codec_named(name: &str) -> Option<Codec>
     ensures name { result ≡ codec_of name.now }
     ensures has_packetizer { IfSome result (λ codec. (mode : Mode) (id : ℕ) → IsSome (packetizer_state_for mode id codec)) }
@@ -31,21 +31,21 @@ pub fn codec_named(name: &str) -> Option<Codec>
     }
 }
 
-/// Whether payloads of the codec of that name have the octet-aligned layout of AMR-WB.
+/// Whether payloads of the codec with that name have the octet-aligned layout of AMR-WB.
 pub fn is_octet_aligned(name: &str) -> bool
     ensures { result ≡ names_octet_aligned name.now }
 {
     name == "amrwb-octet"
 }
 
-/// Whether the frames of VP8 of that name have picture ids.
+/// Whether the frames of VP8 with that name have picture ids.
 pub fn has_vp8_ids(name: &str) -> bool
     ensures { result ≡ names_vp8_ids name.now }
 {
     name == "vp8-id"
 }
 
-/// The mode of VP9 of that name.
+/// The mode of VP9 with that name.
 pub fn vp9_mode(name: &str) -> Vp9PacketizerMode
     ensures { result ≡ vp9_mode_of name.now }
 {

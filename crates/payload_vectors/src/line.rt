@@ -39,7 +39,7 @@ pub struct Setup {
     pub hold_back: usize,
     /// The number of the first packet.
     pub first_number: u64,
-    /// The picture id of the first frame, where frames have one.
+    /// The picture id of the first frame, if frames have one.
     pub first_id: u16,
     ghost number_fits: { first_number ≤ 2 ^ 62 },
     ghost id_fits: { first_id ≤ 32767 },
@@ -85,7 +85,7 @@ pub struct Limit {
 }
 
 impl Limit {
-    /// The limit of a buffer where no line sets one.
+    /// The default limit of a buffer.
     pub fn unless_set() -> Limit
         ensures { result.packets ≡ 4096 }
     {
@@ -132,7 +132,7 @@ impl Line {
         Line::from_fields(alloc, &fields)
     }
 
-    /// The line of these fields.
+    /// The line with these fields.
     fn from_fields(alloc: Global, fields: &[&str]) -> Result<Option<Line>, AllocError>
         ensures pop { map (λ field. field.now) fields.now ≡ codes "pop" ∷ []
             → IfOk result (λ found. found ≡ Some (lines.Step Pop)) }

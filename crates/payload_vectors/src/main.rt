@@ -1,5 +1,5 @@
-//! Reads a codec, samples and steps from standard input, runs the steps, and prints what was sent and what came out.
-//! `run_lines` does the work, and `finish` tells how it ended; here are the streams alone.
+//! Reads a codec, samples and steps from standard input, runs the steps, and prints the packets sent and the units released.
+//! `run_lines` does the work, and `finish` reports how it ended; this file has only the streams.
 #![tactic(auto)]
 
 mod fields;

@@ -60,7 +60,7 @@ impl RedSetup {
     }
 }
 
-/// The number that decimal digits spell, where it has at most 32 bits.
+/// The number that decimal digits spell, if it has at most 32 bits.
 fn small(field: &str) -> Option<u32>
     ensures found { IsSome result ↔ IsNumber (2 ^ 32) field.now }
     ensures value { IfSome result (λ number. number ≡ digits_value 10 field.now) }
@@ -68,7 +68,7 @@ fn small(field: &str) -> Option<u32>
     u32::try_from(decimal(field)?).ok()
 }
 
-/// The distances that a field spells, where a sender takes them.
+/// The distances that a field spells, if a sender accepts them.
 fn accepted_distances(alloc: Global, field: &str) -> Result<Option<Vec<u32>>, AllocError>
     ensures found { IfOk result (λ found. IsSome found ↔ IsDistances field.now) }
     ensures value { IfOk result (λ found. IfSome found (λ distances. SpellsDistances field.now distances.items × IsTrue (is_accepted distances.items))) }
@@ -82,7 +82,7 @@ fn accepted_distances(alloc: Global, field: &str) -> Result<Option<Vec<u32>>, Al
     Ok(Some(distances))
 }
 
-/// The distances that a field spells, where they are no more than a sender takes.
+/// The distances that a field spells, if they are no more than a sender accepts.
 fn spelled_distances(alloc: Global, field: &str) -> Result<Option<Vec<u32>>, AllocError>
     ensures some { IfOk result (λ found. IfSome found (λ distances. SpellsDistances field.now distances.items)) }
     ensures none { IfOk result (λ found. IsNone found → (distances : List ℕ) → SpellsDistances field.now distances → 8 < length distances) }
@@ -101,8 +101,8 @@ fn spelled_distances(alloc: Global, field: &str) -> Result<Option<Vec<u32>>, All
     Ok(Some(distances))
 }
 
-/// Adds the numbers that at most so many fields spell as a sender takes distances, up to the first that spells none. Says
-/// whether each spells one. It calls itself for each field, so no deeper than that.
+/// Adds the numbers that at most eight fields spell as distances of a sender, up to the first that spells none. Returns whether
+/// each spells one. Calls itself once per field, so its depth is bounded.
 fn add_numbers(numbers: &mut Vec<u32>, fields: &[&str]) -> Result<bool, AllocError>
     requires { length fields.now ≤ 8 }
     ensures all { IfOk result (λ all. IsTrue all ↔ AreNumbers (map (λ field. field.now) fields.now)) }

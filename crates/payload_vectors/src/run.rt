@@ -28,8 +28,8 @@ const INPUT_LIMIT: usize = 1_048_576;
 /// The payload type of packets in RED.
 const RED_PAYLOAD_TYPE: u8 = 63;
 
-/// Reads all of the input, runs its steps, and writes what was sent and what came out. Nothing is written before all of
-/// it is there to be written; a write that fails leaves a beginning of it.
+/// Reads all input, runs its steps, and writes the packets sent and the units released. Nothing is written before all output is
+/// complete; a write that fails leaves a beginning of it.
 pub fn run_lines<R: Read, W: Write>(
     alloc: Global,
     input: &mut R,

@@ -1,4 +1,4 @@
-//! The whole input: what is set, the samples, and the steps.
+//! The whole input: settings, samples and steps.
 
 ghost use Rattle.std.specs.Prelude.{◌≡◌, IfErr};
 ghost use Rattle.payload_vectors.specs.Program.{IsLineFault};
@@ -25,8 +25,8 @@ pub struct Script {
 }
 
 impl Script {
-    /// The script whose lines are all of `input`. The first line sets up the run, and no other does; at most one of the
-    /// others sets the limit of the buffer, and at most one has it run in RED.
+    /// The script in the lines of `input`. The first line sets up the run, and no other does; at most one of the others sets the
+    /// limit of the buffer, and at most one selects RED.
     pub fn read(alloc: Global, input: &[u8]) -> Result<Script, ProgramFault>
         ensures { IfErr result IsLineFault }
     {

@@ -1,9 +1,6 @@
-//! Whole runs of a sender and a receiver, whose datagrams are lost, come again, or come in another order: what is popped is
-//! what was sent.
+//! `run_datagrams`, by some of the rows of `rust/tests/wire`: the popped units are the sent ones.
 #![tactic(auto)]
 
-#[cfg(test)]
-mod losses;
 #[cfg(test)]
 mod rows;
 #[cfg(test)]

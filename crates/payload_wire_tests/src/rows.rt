@@ -1,39 +1,21 @@
-//! Runs by rows: what is done, and what comes of it.
+//! Runs by test vectors: steps and their results.
 
-use crate::sides::{receiver_of, sample_of, sender_of};
-use codec_payload_base::error::PacketError;
-use codec_payload_base::wire::{Ticks, ToPayload};
-use codec_payload_buffer::buffer::Depacketized;
-use codec_payload_stream::jitter::{Outcome, WaitLimits};
-use codec_payload_stream::receiver::ReceiveError;
+use crate::sides::{receiver_of, sender_of};
+use codec_payload_base::wire::{ExtensionValues, MediaTime, Pt, Ticks, ToPayload};
+use codec_payload_stream::jitter::Outcome;
 use codec_payload_wire::run::{DatagramRun, DatagramStep, run_datagrams};
 use std::alloc::Global;
 use std::process::Abort;
 use std::test::Fail;
 
-/// One step of a run.
-#[derive(Clone, Copy, Debug)]
-enum Event {
-    /// Sends the frame of that index.
-    Send(usize),
-    /// Delivers the datagram of that index at a time.
-    Deliver(usize, u64),
-    /// Pops at a time.
-    Pop(u64),
-    Finish,
-}
-
-/// What a pop gives: the frame, and whether it follows the one before.
-type Unit = Option<(&'static [u8], bool)>;
-
-/// What is done, how many datagrams each sample has, a letter for each receipt, and what each pop gives.
+/// The steps, the number of datagrams of each sample, a letter for each receipt, and the result of each pop: the frame, and
+/// whether it follows the one before.
 struct Row {
     name: &'static str,
-    wait_limits: WaitLimits,
-    events: &'static [Event],
+    steps: &'static [DatagramStep],
     sent: &'static [usize],
     receipts: &'static str,
-    units: &'static [Unit],
+    units: &'static [Option<(&'static [u8], bool)>],
 }
 
 /// A keyframe of VP8: the lowest bit of its first byte is clear (RFC 7741, section 4.3).
@@ -47,172 +29,70 @@ const THIRD: &[u8] = &[0x13, 5, 6];
 /// Three frames of two datagrams each, and a sample with nothing in it.
 const FRAMES: [&[u8]; 4] = [FIRST, SECOND, THIRD, &[]];
 
-/// A frame behind a gap waits for 50 ticks.
-const WAITS: WaitLimits = WaitLimits {
-    hold_back: Some(1_000),
-    start: 0,
-    max_wait: Some(50),
-};
+/// A pop at time 0.
+const POP: DatagramStep = DatagramStep::Pop { now: Ticks(0) };
 
-/// The first frame waits for a second one besides.
-const STARTS_LATER: WaitLimits = WaitLimits {
-    hold_back: Some(1_000),
-    start: 1,
-    max_wait: Some(50),
-};
-
-const ROWS: [Row; 8] = [
-    Row {
-        name: "all-in-order",
-        wait_limits: WAITS,
-        events: &[
-            Event::Send(0),
-            Event::Deliver(0, 0),
-            Event::Pop(0),
-            Event::Deliver(1, 0),
-            Event::Pop(0),
-            Event::Send(1),
-            Event::Deliver(2, 5),
-            Event::Deliver(3, 5),
-            Event::Pop(5),
-            Event::Pop(5),
-        ],
-        sent: &[2, 2],
-        receipts: "hhhh",
-        units: &[None, Some((FIRST, true)), Some((SECOND, true)), None],
-    },
+const ROWS: [Row; 3] = [
     Row {
         name: "all-reversed-and-some-again",
-        wait_limits: WAITS,
-        events: &[
-            Event::Send(0),
-            Event::Send(1),
-            Event::Send(2),
-            Event::Deliver(5, 0),
-            Event::Deliver(4, 0),
-            Event::Deliver(3, 0),
-            Event::Deliver(4, 0),
-            Event::Deliver(2, 0),
-            Event::Deliver(1, 0),
-            Event::Deliver(0, 0),
-            Event::Deliver(5, 0),
-            Event::Pop(0),
-            Event::Pop(0),
-            Event::Pop(0),
-            Event::Pop(0),
-        ],
-        sent: &[2, 2, 2],
-        receipts: "hhhdhhhd",
-        units: &[
-            Some((FIRST, true)),
-            Some((SECOND, true)),
-            Some((THIRD, true)),
-            None,
-        ],
-    },
-    Row {
-        name: "a-datagram-is-lost",
-        wait_limits: WAITS,
-        events: &[
-            Event::Send(0),
-            Event::Send(1),
-            Event::Send(2),
-            Event::Deliver(0, 0),
-            Event::Deliver(1, 0),
-            Event::Deliver(2, 0),
-            Event::Deliver(4, 10),
-            Event::Deliver(5, 10),
-            Event::Pop(10),
-            Event::Pop(59),
-            Event::Pop(60),
-            Event::Pop(60),
-        ],
-        sent: &[2, 2, 2],
-        receipts: "hhhhh",
-        units: &[Some((FIRST, true)), None, Some((THIRD, false)), None],
-    },
-    Row {
-        name: "what-comes-too-late-is-dropped",
-        wait_limits: WAITS,
-        events: &[
-            Event::Send(0),
-            Event::Send(1),
-            Event::Send(2),
-            Event::Deliver(0, 0),
-            Event::Deliver(1, 0),
-            Event::Pop(0),
-            Event::Deliver(4, 0),
-            Event::Deliver(5, 0),
-            Event::Pop(50),
-            Event::Deliver(2, 51),
-            Event::Deliver(3, 51),
-            Event::Pop(101),
-        ],
-        sent: &[2, 2, 2],
-        receipts: "hhhhll",
-        units: &[Some((FIRST, true)), Some((THIRD, false)), None],
-    },
-    Row {
-        name: "what-comes-in-time-closes-the-gap",
-        wait_limits: WAITS,
-        events: &[
-            Event::Send(0),
-            Event::Send(1),
-            Event::Send(2),
-            Event::Deliver(0, 0),
-            Event::Deliver(1, 0),
-            Event::Pop(0),
-            Event::Deliver(4, 0),
-            Event::Deliver(5, 0),
-            Event::Pop(49),
-            Event::Deliver(3, 49),
-            Event::Deliver(2, 49),
-            Event::Pop(49),
-            Event::Pop(49),
-        ],
-        sent: &[2, 2, 2],
-        receipts: "hhhhhh",
-        units: &[
-            Some((FIRST, true)),
-            None,
-            Some((SECOND, true)),
-            Some((THIRD, true)),
-        ],
-    },
-    Row {
-        name: "the-second-frame-comes-first",
-        wait_limits: STARTS_LATER,
-        events: &[
-            Event::Send(0),
-            Event::Send(1),
-            Event::Deliver(2, 0),
-            Event::Deliver(3, 0),
-            Event::Pop(0),
-            Event::Deliver(1, 1),
-            Event::Deliver(0, 1),
-            Event::Pop(1),
-            Event::Pop(1),
+        steps: &[
+            DatagramStep::Send(0),
+            DatagramStep::Send(1),
+            DatagramStep::Deliver {
+                datagram: 3,
+                now: Ticks(0),
+            },
+            DatagramStep::Deliver {
+                datagram: 2,
+                now: Ticks(0),
+            },
+            DatagramStep::Deliver {
+                datagram: 3,
+                now: Ticks(0),
+            },
+            DatagramStep::Deliver {
+                datagram: 1,
+                now: Ticks(0),
+            },
+            DatagramStep::Deliver {
+                datagram: 0,
+                now: Ticks(0),
+            },
+            POP,
+            POP,
+            POP,
         ],
         sent: &[2, 2],
-        receipts: "hhhh",
-        units: &[None, Some((FIRST, true)), Some((SECOND, true))],
+        receipts: "hhdhh",
+        units: &[Some((FIRST, true)), Some((SECOND, true)), None],
     },
     Row {
         name: "the-end-of-a-stream-with-a-gap",
-        wait_limits: STARTS_LATER,
-        events: &[
-            Event::Send(0),
-            Event::Send(1),
-            Event::Send(2),
-            Event::Deliver(4, 0),
-            Event::Deliver(5, 0),
-            Event::Deliver(1, 0),
-            Event::Deliver(0, 0),
-            Event::Pop(0),
-            Event::Pop(0),
-            Event::Finish,
-            Event::Pop(0),
-            Event::Pop(0),
+        steps: &[
+            DatagramStep::Send(0),
+            DatagramStep::Send(1),
+            DatagramStep::Send(2),
+            DatagramStep::Deliver {
+                datagram: 4,
+                now: Ticks(0),
+            },
+            DatagramStep::Deliver {
+                datagram: 5,
+                now: Ticks(0),
+            },
+            DatagramStep::Deliver {
+                datagram: 1,
+                now: Ticks(0),
+            },
+            DatagramStep::Deliver {
+                datagram: 0,
+                now: Ticks(0),
+            },
+            POP,
+            POP,
+            DatagramStep::Finish,
+            POP,
+            POP,
         ],
         sent: &[2, 2, 2],
         receipts: "hhhh",
@@ -220,17 +100,27 @@ const ROWS: [Row; 8] = [
     },
     Row {
         name: "nothing-in-it-and-nothing-there",
-        wait_limits: WAITS,
-        events: &[
-            Event::Deliver(0, 0),
-            Event::Send(3),
-            Event::Send(4),
-            Event::Deliver(0, 0),
-            Event::Send(2),
-            Event::Deliver(0, 0),
-            Event::Deliver(1, 0),
-            Event::Deliver(2, 0),
-            Event::Pop(0),
+        steps: &[
+            DatagramStep::Deliver {
+                datagram: 0,
+                now: Ticks(0),
+            },
+            DatagramStep::Send(3),
+            DatagramStep::Send(4),
+            DatagramStep::Send(2),
+            DatagramStep::Deliver {
+                datagram: 0,
+                now: Ticks(0),
+            },
+            DatagramStep::Deliver {
+                datagram: 1,
+                now: Ticks(0),
+            },
+            DatagramStep::Deliver {
+                datagram: 2,
+                now: Ticks(0),
+            },
+            POP,
         ],
         sent: &[0, 2],
         receipts: "hh",
@@ -238,97 +128,59 @@ const ROWS: [Row; 8] = [
     },
 ];
 
-fn step_of(event: Event) -> DatagramStep {
-    match event {
-        Event::Send(sample) => DatagramStep::Send(sample),
-        Event::Deliver(datagram, now) => DatagramStep::Deliver {
-            datagram,
-            now: Ticks(now),
-        },
-        Event::Pop(now) => DatagramStep::Pop { now: Ticks(now) },
-        Event::Finish => DatagramStep::Finish,
-    }
-}
-
-/// The frames, 3,000 ticks apart.
+/// The frames, 3,000 ticks of 90 kHz apart.
 fn samples(alloc: Global) -> Result<Vec<ToPayload>, Fail> {
     let mut samples = Vec::new(alloc);
     let mut time = 0u64;
     for frame in &FRAMES {
-        samples.push(sample_of(alloc, time, frame)?)?;
+        samples.push(ToPayload {
+            pt: Pt::new_with_value(96),
+            wallclock: Ticks(0),
+            rtp_time: MediaTime::from_90khz(time),
+            bytes: Vec::from_slice(alloc, frame)?,
+            start_of_talk_spurt: false,
+            ext_vals: ExtensionValues::default(),
+        })?;
         time = time.wrapping_add(3_000);
     }
     Ok(samples)
 }
 
-fn run_of(alloc: Global, wait_limits: WaitLimits, events: &[Event]) -> Result<DatagramRun, Fail> {
-    let mut sender = sender_of(alloc)?;
-    let mut receiver = receiver_of(alloc, wait_limits)?;
-    let samples = samples(alloc)?;
-    let mut steps = Vec::new(alloc);
-    for event in events {
-        steps.push(step_of(*event))?;
+/// Ends the test unless each sample gave so many datagrams, each datagram that receipt (held, duplicate, or another), and each
+/// pop that unit.
+fn assert_run(rt: &impl Abort, run: &DatagramRun, row: &Row) {
+    assert_eq!(rt; run.sends.len(), row.sent.len(), "in {}", row.name);
+    for (entry, count) in run.sends.iter().zip(row.sent) {
+        assert_eq!(rt; entry.count, *count, "in {}", row.name);
     }
-    Ok(run_datagrams(alloc, &mut sender, &mut receiver, &samples, &steps)?)
-}
-
-/// How many datagrams each sample has.
-fn sent_in(alloc: Global, run: &DatagramRun) -> Result<Vec<usize>, Fail> {
-    let mut sent = Vec::new(alloc);
-    for entry in &run.sends {
-        sent.push(entry.count)?;
+    assert_eq!(rt; run.receipts.len(), row.receipts.len(), "in {}", row.name);
+    for (receipt, letter) in run.receipts.iter().zip(row.receipts.chars()) {
+        let found = match receipt {
+            Ok(Outcome::Held) => 'h',
+            Ok(Outcome::Duplicate) => 'd',
+            _ => '?',
+        };
+        assert_eq!(rt; found, letter, "in {}", row.name);
     }
-    Ok(sent)
-}
-
-/// A letter for each receipt: held, duplicate, late, or another.
-fn letter_of(receipt: &Result<Outcome, ReceiveError>) -> char {
-    match receipt {
-        Ok(Outcome::Held) => 'h',
-        Ok(Outcome::Duplicate) => 'd',
-        Ok(Outcome::Late) => 'l',
-        _ => '?',
-    }
-}
-
-fn receipts_in(alloc: Global, run: &DatagramRun) -> Result<String, Fail> {
-    let mut receipts = String::new(alloc);
-    for receipt in &run.receipts {
-        receipts.push(letter_of(receipt))?;
-    }
-    Ok(receipts)
-}
-
-/// What a pop gave.
-fn unit_in(answer: &Option<Result<Depacketized, PacketError>>) -> Option<(&[u8], bool)> {
-    match answer {
-        Some(Ok(unit)) => Some((unit.bytes.as_slice(), unit.contiguous)),
-        Some(Err(_)) => Some((&[], false)),
-        None => None,
-    }
-}
-
-/// Ends the test unless each pop of the run gave that.
-fn assert_popped(rt: &impl Abort, name: &str, run: &DatagramRun, units: &[Unit]) {
-    assert_eq!(rt; run.pops.len(), units.len(), "in {name}");
-    for (answer, unit) in run.pops.iter().zip(units) {
-        assert_eq!(rt; unit_in(answer), *unit, "in {name}");
+    assert_eq!(rt; run.pops.len(), row.units.len(), "in {}", row.name);
+    for (answer, wanted) in run.pops.iter().zip(row.units) {
+        let found = match answer {
+            Some(Ok(unit)) => Some((unit.bytes.as_slice(), unit.contiguous)),
+            Some(Err(_)) => Some(([].as_slice(), false)),
+            None => None,
+        };
+        assert_eq!(rt; found, *wanted, "in {}", row.name);
     }
 }
 
 #[test]
 fn rows(rt: HostRuntime) -> Result<(), Fail> {
+    let samples = samples(rt.alloc())?;
     for row in &ROWS {
-        let run = run_of(rt.alloc(), row.wait_limits, row.events)?;
-        assert_eq!(rt;
-            sent_in(rt.alloc(), &run)?.as_slice(),
-            row.sent,
-            "in {}",
-            row.name
-        );
-        let receipts = receipts_in(rt.alloc(), &run)?;
-        assert_eq!(rt; receipts.as_str(), row.receipts, "in {}", row.name);
-        assert_popped(&rt, row.name, &run, row.units);
+        let mut sender = sender_of(rt.alloc())?;
+        let mut receiver = receiver_of(rt.alloc())?;
+        let run = run_datagrams(rt.alloc(), &mut sender, &mut receiver, &samples, row.steps)?;
+        assert_run(&rt, &run, row);
     }
     Ok(())
 }

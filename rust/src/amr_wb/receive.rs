@@ -27,10 +27,9 @@ impl Depacketizer for AmrWbDepacketizer {
     /// Appends the frames of a payload in storage form, one after another, with no bit set that means nothing. An empty
     /// payload appends nothing. The mode request and the bits that fill up bytes may have any value.
     ///
-    /// In reading order: an entry of the table of contents, or speech, that is not all there is refused with
-    /// `ErrShortPacket`; a reserved frame type, and eight or more bits behind the frames, with
-    /// `ErrAmrWbCorruptedPacket`. The whole payload is looked at before memory is asked for, so `OutOfMemory` comes only
-    /// where it has frames and they find no room. After a refusal `out` is as before.
+    /// The first error in reading order. `ErrShortPacket`: an entry of the table of contents or its speech is cut off.
+    /// `ErrAmrWbCorruptedPacket`: a reserved frame type, or eight or more bits after the frames. `OutOfMemory`: the payload has
+    /// frames and the allocation fails. The whole payload is checked before anything is allocated. On an error `out` is unchanged.
     fn depacketize(
         &mut self,
         packet: &[u8],
@@ -58,18 +57,18 @@ impl Depacketizer for AmrWbDepacketizer {
     }
 }
 
-/// What is known of a payload that was checked.
+/// The layout of a payload that was checked.
 #[derive(Debug)]
 struct Contents<'a> {
-    /// Stands at the table of contents.
+    /// At the table of contents.
     toc: BitReader<'a>,
-    /// Stands behind it, at the first frame.
+    /// After the table of contents, at the first frame.
     speech: BitReader<'a>,
-    /// How many bytes the frames take in storage form, or `usize::MAX` where they are more.
+    /// The size of the frames in storage form, in bytes; `usize::MAX` if it is larger.
     storage_size: usize,
 }
 
-/// Looks at a payload whole. It takes no memory.
+/// Checks a whole payload. Does not allocate.
 fn check_payload<'a>(octet_align: bool, packet: &'a [u8]) -> Result<Contents<'a>, PacketError> {
     let toc = behind_request(octet_align, packet);
     let mut speech = toc.fork();
@@ -105,7 +104,7 @@ fn append_payload<'a>(
     append_frames(&mut toc, &mut speech, octet_align, out)
 }
 
-/// A reader of what stands behind the mode request, where the table of contents begins.
+/// A reader at the table of contents, after the mode request.
 fn behind_request<'a>(octet_align: bool, packet: &'a [u8]) -> BitReader<'a> {
     BitReader::at(packet, if octet_align { 8 } else { 4 })
 }
@@ -148,7 +147,7 @@ fn skip_frames<'a>(
     }
 }
 
-/// Goes over the speech of an entry, and tells how many bits it has.
+/// Skips the speech of an entry, and returns its number of bits.
 fn skip_frame<'a>(
     reader: &mut BitReader<'a>,
     entry: TocEntry,
@@ -196,7 +195,7 @@ fn read_frame<'a>(
     Ok(())
 }
 
-/// Skips what is left of the byte that the last of `count` bits stands in, where frames begin with a byte.
+/// Skips the rest of the byte that holds the last of `count` bits, if frames begin at a byte.
 fn skip_padding<'a>(reader: &mut BitReader<'a>, count: usize, octet_align: bool) {
     if octet_align {
         let _ = reader.get_bits((8 - count % 8) % 8);

@@ -17,7 +17,7 @@ const NO_DATA: u8 = 15;
 /// As many bytes as a payload can take before its last bits are cut off.
 const LONGEST: usize = 65;
 
-/// Sends each frame in a packet of its own.
+/// Sends each frame in a separate packet.
 #[derive(Debug, Default)]
 pub struct AmrWbPacketizer {
     /// Whether payloads have the octet-aligned layout (RFC 4867, section 4.4), and else the bandwidth-efficient one
@@ -29,9 +29,9 @@ impl Packetizer for AmrWbPacketizer {
     /// The payload of a frame in storage form: the request for any mode, one entry of the table of contents, the speech
     /// bits, and zeros up to a byte. Bits of the frame that mean nothing are not sent.
     ///
-    /// No bytes, and a frame without data, give no packets. A reserved frame type, and a frame that is not as long as its
-    /// type has it, are refused with `ErrAmrWbCorruptedPacket`; after that a payload longer than `mtu` bytes is refused
-    /// with `ErrPayloadTooLarge`. Each byte is copied once.
+    /// An empty frame, and a frame without data, give no packets. `ErrAmrWbCorruptedPacket`: a reserved frame type, or a frame
+    /// whose length does not match its type. `ErrPayloadTooLarge`: the payload is longer than `mtu` bytes. Each byte is copied
+    /// once.
     fn packetize(&mut self, mtu: usize, b: &[u8]) -> Result<Vec<Vec<u8>>, PacketError> {
         match sent_of(b)? {
             Some(frame) => send_frame(self.octet_align, mtu, &frame),
@@ -39,7 +39,7 @@ impl Packetizer for AmrWbPacketizer {
         }
     }
 
-    /// The same into memory that is used again, and no other. The payload, of at most 62 bytes, is put together and copied once
+    /// The same into reused memory; allocates nothing else. The payload, at most 62 bytes, is built on the stack and copied once
     /// more.
     fn packetize_into(
         &mut self,
@@ -66,10 +66,10 @@ impl Packetizer for AmrWbPacketizer {
     }
 }
 
-/// What is sent of a frame.
+/// The parts of a frame that are sent.
 #[derive(Clone, Copy, Debug)]
 struct SentFrame<'a> {
-    /// The first byte, but for the bits that mean nothing.
+    /// The first byte without the bits that have no meaning.
     toc: u8,
     /// The bytes of the speech.
     speech: &'a [u8],
@@ -77,7 +77,7 @@ struct SentFrame<'a> {
     count: usize,
 }
 
-/// What is sent of a frame in storage form: nothing of no bytes, nor of a frame without data.
+/// The sent parts of a frame in storage form; `None` for no bytes and for a frame without data.
 fn sent_of(b: &[u8]) -> Result<Option<SentFrame<'_>>, PacketError> {
     let Some((&header, speech)) = b.split_first() else {
         return Ok(None);
@@ -140,12 +140,12 @@ fn send_frame(
     Ok(packets)
 }
 
-/// How many bits stand before the speech bits.
+/// The number of bits before the speech bits.
 fn bits_before_speech(octet_align: bool) -> usize {
     if octet_align { 16 } else { 10 }
 }
 
-/// The length of a payload with so many speech bits, in bytes.
+/// The length in bytes of a payload with `count` speech bits.
 fn payload_size(octet_align: bool, count: usize) -> usize {
     (bits_before_speech(octet_align) + count).div_ceil(8)
 }
@@ -178,7 +178,7 @@ fn lay_aligned(to: &mut [u8], toc: u8, speech: &[u8]) {
     to[2..].copy_from_slice(speech);
 }
 
-/// Writes the mode request, the entry and the speech, the speech two bits to the right of where it stands in the frame.
+/// Writes the mode request, the entry and the speech, the speech two bits to the right of its place in the frame.
 fn lay_shifted(to: &mut [u8], toc: u8, speech: &[u8]) {
     to[0] = 0xf0 | (toc >> 4);
     match speech.first() {
@@ -192,7 +192,7 @@ fn lay_shifted(to: &mut [u8], toc: u8, speech: &[u8]) {
     }
 }
 
-/// Clears what follows the first `count` bits in the last of their bytes, and says how many bytes these are.
+/// Clears the bits after the first `count` bits in the last of their bytes, and returns the number of bytes.
 fn cut(bytes: &mut [u8], count: usize) -> usize {
     let size = count.div_ceil(8);
     let last = size - 1;
@@ -200,7 +200,7 @@ fn cut(bytes: &mut [u8], count: usize) -> usize {
     size
 }
 
-/// A byte with zeros for so many of its low bits.
+/// A byte with its `spare` low bits cleared.
 fn without_low(byte: u8, spare: usize) -> u8 {
     byte >> spare << spare
 }

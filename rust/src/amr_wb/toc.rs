@@ -9,7 +9,7 @@ pub(crate) struct TocEntry {
     pub(crate) follows: bool,
     /// From 0 to 15.
     pub(crate) frame_type: u8,
-    /// Clear where the frame is severely damaged.
+    /// Clear if the frame is severely damaged.
     pub(crate) quality: bool,
 }
 

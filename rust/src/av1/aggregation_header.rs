@@ -11,7 +11,7 @@ const GOES_ON: u8 = 0x40;
 /// The two bits of W.
 const COUNT: u8 = 0x30;
 
-/// What a W of one stands for.
+/// The value of a W of one.
 const ONE: u8 = 0x10;
 
 /// The bit N: a coded video sequence starts.
@@ -24,7 +24,7 @@ pub struct AggregationHeader {
 }
 
 impl AggregationHeader {
-    /// The header of a payload of so many elements. W is their number up to three, and 0 above.
+    /// The header of a payload with this number of elements. W is the number up to three, and 0 above.
     pub fn new(continues: bool, goes_on: bool, elements: usize, starts: bool) -> Self {
         let count = if elements > 3 { 0 } else { elements as u8 };
         let z = if continues { CONTINUES } else { 0 };
@@ -52,12 +52,12 @@ impl AggregationHeader {
         self.byte & CONTINUES != 0
     }
 
-    /// Y: whether the last element goes on in the next payload. Where W names more elements than came, it does not count.
+    /// Y: whether the last element continues in the next payload. Ignored if W announces more elements than the payload has.
     pub fn goes_on(self) -> bool {
         self.byte & GOES_ON != 0
     }
 
-    /// W, 0 to 3: how many elements there are, of which the last has no length before it; 0 where each has one.
+    /// W, 0 to 3: the number of elements, the last without a length before it; 0 if each has a length.
     pub fn count(self) -> u8 {
         (self.byte & COUNT) / ONE
     }
@@ -67,7 +67,7 @@ impl AggregationHeader {
         self.byte & STARTS != 0
     }
 
-    /// Whether what is pending goes on in the payload: Z is set, and N is clear.
+    /// Whether the pending OBU continues in the payload: Z is set, and N is clear.
     pub fn continues_pending(self) -> bool {
         self.continues() && !self.starts()
     }

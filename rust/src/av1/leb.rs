@@ -7,7 +7,7 @@ use crate::memory::{AllocError, TryVec};
 use crate::payloads::PayloadWriter;
 use alloc::vec::Vec;
 
-/// A number of at most `more` + 1 bytes at the front, modulo 2^64, and what follows it.
+/// A number of at most `more` + 1 bytes at the front, modulo 2^64, and the bytes after it.
 fn number_front(more: u32, bytes: &[u8]) -> Option<(u64, &[u8])> {
     let (first, rest) = bytes.split_first()?;
     if *first < 128 {
@@ -21,8 +21,8 @@ fn number_front(more: u32, bytes: &[u8]) -> Option<(u64, &[u8])> {
     Some((low + high.wrapping_mul(128), rest))
 }
 
-/// The number at the front, of at most ten bytes and modulo 2^64, and what follows it. `None` where no byte below 0x80
-/// ends it. Numbers of one or two bytes, as most are, are read without a loop.
+/// The number at the front, of at most ten bytes and modulo 2^64, and the bytes after it; `None` if no byte below 0x80 ends it.
+/// Numbers of one or two bytes, the usual case, are read without a loop.
 pub fn number_at(bytes: &[u8]) -> Option<(u64, &[u8])> {
     match bytes {
         [low, rest @ ..] if *low < 128 => Some((u64::from(*low), rest)),
@@ -74,7 +74,7 @@ pub fn put_number(out: &mut Vec<u8>, number: u64) -> Result<(), AllocError> {
     Ok(())
 }
 
-/// Writes a number behind what there is of a payload, in as few bytes as it takes.
+/// Appends a number to a payload, in as few bytes as possible.
 #[inline(always)]
 pub fn write_number<W: PayloadWriter>(
     out: &mut W,
@@ -104,7 +104,7 @@ pub fn number_len(number: u64) -> usize {
     10
 }
 
-/// The greatest number of bytes that fits with its own length before it, or 0 where none does.
+/// The greatest number of bytes that fits after its own length, or 0 if none fits.
 pub fn longest(room: usize) -> usize {
     for len in 1..10usize {
         if room <= len {

@@ -6,7 +6,7 @@ use crate::av1::leb::{joined_number, number_at, put_number};
 use crate::memory::{AllocError, TryVec};
 use alloc::vec::Vec;
 
-/// An OBU that lies in memory: the first byte of its header, the extension byte where there is one, and its payload.
+/// An OBU in memory: the first byte of its header, the extension byte if there is one, and its payload.
 #[derive(Clone, Copy, Debug)]
 pub struct ObuSlices<'a> {
     pub header: u8,
@@ -14,7 +14,7 @@ pub struct ObuSlices<'a> {
     pub payload: &'a [u8],
 }
 
-/// Whether the size of the payload stands before it.
+/// Whether the payload has a size field before it.
 pub fn has_size_bit(header: u8) -> bool {
     header & 2 != 0
 }
@@ -25,7 +25,7 @@ pub fn is_kept(header: u8) -> bool {
     matches!(header & 0x78, 0x08 | 0x18 | 0x20 | 0x28 | 0x30 | 0x38)
 }
 
-/// The extension byte where the header says that there is one, and what follows it.
+/// The extension byte, if the header announces one, and the bytes after it.
 fn extension_of(bytes: &[u8], has_one: bool) -> Option<(&[u8], &[u8])> {
     if !has_one {
         return Some((&[], bytes));
@@ -36,7 +36,7 @@ fn extension_of(bytes: &[u8], has_one: bool) -> Option<(&[u8], &[u8])> {
     Some(bytes.split_at(1))
 }
 
-/// The OBU whose size and payload stand at the front, and what follows it.
+/// The OBU whose size and payload are at the front, and the bytes after it.
 fn sized_of<'a>(
     header: u8,
     extension: &'a [u8],
@@ -57,7 +57,7 @@ fn sized_of<'a>(
     ))
 }
 
-/// The OBU at the front, and what follows it. `None` where a byte of it is missing.
+/// The OBU at the front, and the bytes after it; `None` if a byte of it is missing.
 pub fn obu_of(bytes: &[u8]) -> Option<(ObuSlices<'_>, &[u8])> {
     let (first, rest) = bytes.split_first()?;
     let header = *first;
@@ -76,7 +76,7 @@ pub fn obu_of(bytes: &[u8]) -> Option<(ObuSlices<'_>, &[u8])> {
     }
 }
 
-/// What follows the extension byte of a header, in two slices that follow each other.
+/// The bytes after the extension byte of a header, in two adjacent slices.
 fn behind_extension<'a>(
     has_one: bool,
     front: &'a [u8],
@@ -92,7 +92,7 @@ fn behind_extension<'a>(
     }
 }
 
-/// Whether two slices that follow each other are exactly one OBU. It takes no memory.
+/// Whether two adjacent slices are exactly one OBU. Does not allocate.
 pub fn is_one_obu(front: &[u8], back: &[u8]) -> bool {
     let (header, front, back) = match (front, back) {
         ([header, rest @ ..], _) => (*header, rest, back),
@@ -111,7 +111,7 @@ pub fn is_one_obu(front: &[u8], back: &[u8]) -> bool {
     }
 }
 
-/// Writes bytes at the end, of which there are mostly none.
+/// Appends bytes; usually there are none.
 pub fn put_if_any(out: &mut Vec<u8>, bytes: &[u8]) -> Result<(), AllocError> {
     if !bytes.is_empty() {
         out.try_extend(bytes)?;
@@ -119,8 +119,8 @@ pub fn put_if_any(out: &mut Vec<u8>, bytes: &[u8]) -> Result<(), AllocError> {
     Ok(())
 }
 
-/// Writes at the end what stands before the payload in the canonical form of an OBU: the header with the size bit set, the
-/// extension byte where there is one, and the size in as few bytes as it takes.
+/// Appends the part before the payload in the canonical form of an OBU: the header with the size bit set, the extension byte if
+/// there is one, and the size in as few bytes as possible.
 #[inline(always)]
 pub fn put_front(
     out: &mut Vec<u8>,

@@ -12,7 +12,7 @@ use crate::memory::AllocError;
 use crate::memory::SmallVec;
 use crate::payloads::PayloadWriter;
 
-/// How many elements of a payload are listed without memory being asked for.
+/// The number of elements of a payload that are listed without an allocation.
 const USUAL_ELEMENTS: usize = 16;
 
 /// The payload that is being filled.
@@ -21,7 +21,7 @@ struct OpenPayload<'a> {
     mtu: usize,
     /// The bytes that are left.
     left: usize,
-    /// What the length of the last element takes once another follows, where it stands without one.
+    /// The size of the last element's length, which is written only if another element follows.
     deferred_length: usize,
     elements: SmallVec<Piece<'a>, USUAL_ELEMENTS>,
 }
@@ -36,7 +36,7 @@ impl<'a> OpenPayload<'a> {
         }
     }
 
-    /// The length of the longest element that fits behind the others.
+    /// The length of the longest element that fits after the others.
     fn room(&self) -> usize {
         let left = self.left.saturating_sub(self.deferred_length);
         if self.elements.len() < 3 {
@@ -107,7 +107,7 @@ impl<'a> Packer<'a> {
         Ok(())
     }
 
-    /// Ends the open payload where no byte of another OBU fits.
+    /// Ends the open payload if no byte of another OBU fits.
     fn start_obu<W: PayloadWriter>(&mut self, out: &mut W) -> Result<(), PacketError> {
         if self.opened.room() != 0 {
             return Ok(());
@@ -116,7 +116,7 @@ impl<'a> Packer<'a> {
         Ok(())
     }
 
-    /// Lays an OBU behind the others: whole where it fits, else in the longest pieces that fit.
+    /// Adds an OBU after the others: whole if it fits, else in the longest pieces that fit.
     fn lay<W: PayloadWriter>(
         &mut self,
         out: &mut W,
@@ -136,8 +136,8 @@ impl<'a> Packer<'a> {
         Ok(())
     }
 
-    /// Makes a payload of each front of what is left of an OBU that fills one, and gives what they leave. It takes nothing
-    /// of what begins with a header.
+    /// Makes one payload of each front of the remaining OBU that fills a payload, and returns the rest. Takes no bytes of a rest
+    /// that begins with a header.
     fn fill_with<W: PayloadWriter>(
         &mut self,
         out: &mut W,
@@ -160,7 +160,7 @@ impl<'a> Packer<'a> {
         })
     }
 
-    /// Lays an OBU where it is kept.
+    /// Adds an OBU if it is kept.
     fn take<W: PayloadWriter>(
         &mut self,
         out: &mut W,
@@ -186,8 +186,8 @@ fn starts_with_sequence(frame: &[u8]) -> bool {
     false
 }
 
-/// Writes the payloads in which the kept OBUs of a frame are sent that is a sequence of OBUs, of which some are kept. So many
-/// bytes of them are sent.
+/// Writes the payloads for the kept OBUs of a frame that is a sequence of OBUs, with at least one kept. They carry `size` bytes of
+/// them.
 pub fn pack<W: PayloadWriter>(
     mtu: usize,
     size: usize,

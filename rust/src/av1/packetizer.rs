@@ -16,20 +16,19 @@ use alloc::vec::Vec;
 pub struct Av1Packetizer;
 
 impl Packetizer for Av1Packetizer {
-    /// The OBUs of the frame `b` but for temporal delimiters, tile lists, padding and reserved ones, without their sizes,
-    /// laid in order into as few payloads of at most `mtu` bytes as can hold them, each but the last as full as the next
-    /// byte lets it be. An empty frame, an MTU of 0 or 1, or a frame of which no OBU is kept gives no packets.
+    /// The OBUs of the frame `b` without their sizes, in order, in as few payloads of at most `mtu` bytes as can hold them.
+    /// Temporal delimiters, tile lists, padding and reserved OBUs are left out. Each payload except the last is as full as the next
+    /// byte allows. An empty frame, an MTU of 0 or 1, or a frame without a kept OBU gives no packets.
     ///
-    /// `ErrAv1CorruptedPacket` where the frame is no sequence of OBUs: where an extension byte, a size or the end of a
-    /// payload is missing (AV1 bitstream specification, section 5.3). That is found before any memory is asked for.
+    /// `ErrAv1CorruptedPacket`: the frame is not a sequence of OBUs; an extension byte, a size or the end of a payload is missing
+    /// (AV1 bitstream specification, section 5.3). This is checked before anything is allocated.
     fn packetize(&mut self, mtu: usize, b: &[u8]) -> Result<Vec<Vec<u8>>, PacketError> {
         let mut packets = Vec::new();
         write(mtu, b, &mut packets)?;
         Ok(packets)
     }
 
-    /// The same into memory that is used again. It takes none of its own but where a payload has more than sixteen elements, for
-    /// the list of them.
+    /// The same into reused memory. Allocates nothing else, except a list of elements if a payload has more than sixteen.
     fn packetize_into(
         &mut self,
         mtu: usize,
@@ -70,7 +69,7 @@ fn write<W: PayloadWriter>(mtu: usize, b: &[u8], out: &mut W) -> Result<(), Pack
     Ok(())
 }
 
-/// How many bytes packets carry of an OBU: none where it is not kept.
+/// The number of bytes of an OBU that packets carry: 0 if it is not kept.
 fn size_where_kept(obu: &ObuSlices<'_>) -> usize {
     if is_kept(obu.header) {
         Piece::whole(obu).len()
@@ -79,7 +78,7 @@ fn size_where_kept(obu: &ObuSlices<'_>) -> usize {
     }
 }
 
-/// How many bytes packets carry of a frame, or `None` where it is no sequence of OBUs. It takes no memory.
+/// The number of bytes of a frame that packets carry; `None` if the frame is not a sequence of OBUs. Does not allocate.
 fn kept_size(frame: &[u8]) -> Option<usize> {
     let mut size = 0usize;
     let mut rest = frame;

@@ -8,7 +8,7 @@ use crate::av1::piece::Piece;
 use crate::error::PacketError;
 use crate::payloads::PayloadWriter;
 
-/// Writes a payload of `size` bytes: the header, and the elements behind it.
+/// Writes a payload of `size` bytes: the header, and the elements after it.
 pub fn write_payload<W: PayloadWriter>(
     out: &mut W,
     size: usize,
@@ -32,7 +32,7 @@ pub fn write_inner_payload<W: PayloadWriter>(
     out.end(payload)
 }
 
-/// Writes an element, behind its length where that is asked for.
+/// Writes an element, after its length if one is requested.
 fn write_element<W: PayloadWriter>(
     out: &mut W,
     payload: &mut W::Payload,
@@ -45,7 +45,7 @@ fn write_element<W: PayloadWriter>(
     element.write(out, payload)
 }
 
-/// Writes the elements, each behind its length, but for the last of up to three.
+/// Writes the elements, each after its length; the last of up to three has no length.
 fn write_body<W: PayloadWriter>(
     out: &mut W,
     payload: &mut W::Payload,

@@ -3,7 +3,7 @@
 //! The packets that a buffer holds, in rising order of sequence number.
 
 use super::frames::CompleteFrame;
-use super::held_packet::{HeldPacket, Known, Tells};
+use super::held_packet::{HeldPacket, Packet, Tells};
 use super::search::place_of_number;
 use super::unit::RtpMeta;
 use crate::codec::{CodecDepacketizer, Depacketizer};
@@ -14,21 +14,37 @@ use crate::wire::Ticks;
 use alloc::collections::VecDeque;
 use alloc::vec::Vec;
 
+/// How many memory blocks of packets that have left are kept for packets to come.
+const KEPT_BLOCKS: usize = 16;
+
+/// A packet in a memory block, one that is kept for it if there is one.
+fn in_block(spare: &mut Vec<One<Packet>>, packet: Packet) -> Result<One<Packet>, AllocError> {
+    if let Some(mut block) = spare.pop() {
+        *block = packet;
+        return Ok(block);
+    }
+    if spare.capacity() < KEPT_BLOCKS {
+        spare.try_exact(KEPT_BLOCKS)?;
+    }
+    Ok(One::try_new(packet)?)
+}
+
+/// Keeps the memory block of a packet that has left, without what the packet had elsewhere. Takes no memory.
+fn keep(spare: &mut Vec<One<Packet>>, block: One<Packet>) {
+    if spare.len() < KEPT_BLOCKS && spare.len() < spare.capacity() {
+        let mut block = block;
+        block.bytes = Vec::new();
+        block.known.drop_rare();
+        let _ = spare.try_push(block);
+    }
+}
+
 /// A packet as it is held. Takes memory for what is known of it.
-pub(super) fn hold(
-    meta: RtpMeta,
-    bytes: Vec<u8>,
-    head: bool,
-    tail: bool,
-) -> Result<HeldPacket, AllocError> {
-    let number = meta.seq_no.0;
-    let meta = One::try_new(Known::of(meta)?)?;
+pub(super) fn hold(spare: &mut Vec<One<Packet>>, packet: Packet) -> Result<HeldPacket, AllocError> {
+    let number = packet.known.number();
     Ok(HeldPacket {
         number,
-        meta,
-        bytes,
-        head,
-        tail,
+        packet: in_block(spare, packet)?,
     })
 }
 
@@ -63,28 +79,18 @@ pub(super) fn received_at(packets: &VecDeque<HeldPacket>, number: u64) -> Option
     }
     let packet = &packets[place];
     if packet.number == number {
-        Some(packet.meta.received())
+        Some(packet.packet.known.received())
     } else {
         None
     }
 }
 
-/// Puts a packet at its place. Nothing moves where it is the last.
-pub(super) fn place_at(
-    packets: &mut VecDeque<HeldPacket>,
-    place: usize,
-    packet: HeldPacket,
-) -> Result<(), AllocError> {
-    match packets.try_insert(place, packet) {
-        Ok(()) => Ok(()),
-        Err(_) => Err(AllocError),
-    }
-}
-
 /// Takes the lowest packet out, and says its number.
-pub(super) fn take_lowest(packets: &mut VecDeque<HeldPacket>) -> u64 {
+pub(super) fn take_lowest(packets: &mut VecDeque<HeldPacket>, spare: &mut Vec<One<Packet>>) -> u64 {
     let lowest = packets.pop_front().unwrap();
-    lowest.number
+    let number = lowest.number;
+    keep(spare, lowest.packet);
+    number
 }
 
 /// Where the packets of a frame begin and end. Their numbers follow one another, so how many there are need not be searched.
@@ -118,7 +124,7 @@ pub(super) fn copy_metas(
 fn payload_size(packets: &VecDeque<HeldPacket>, from: usize, to: usize) -> usize {
     let mut size = 0usize;
     for packet in packets.range(from..to) {
-        size = size.saturating_add(packet.bytes.len());
+        size = size.saturating_add(packet.packet.bytes.len());
     }
     size
 }
@@ -148,7 +154,7 @@ pub(super) fn unpack<B: Depacketizer>(
     codec_extra: &mut CodecExtra,
 ) -> Result<(), PacketError> {
     for packet in packets.range(from..to) {
-        match depacketizer.depacketize(&packet.bytes, bytes, codec_extra) {
+        match depacketizer.depacketize(&packet.packet.bytes, bytes, codec_extra) {
             Ok(()) => {}
             Err(fault) => return Err(fault),
         }
@@ -168,6 +174,16 @@ pub(super) fn give_back<T>(queue: &mut VecDeque<T>) {
 }
 
 /// The first `count` packets leave.
-pub(super) fn drop_front(packets: &mut VecDeque<HeldPacket>, count: usize) {
-    packets.drain(..count);
+pub(super) fn drop_front(
+    packets: &mut VecDeque<HeldPacket>,
+    spare: &mut Vec<One<Packet>>,
+    count: usize,
+) {
+    let mut left = count;
+    while left > 0 {
+        left -= 1;
+        if let Some(entry) = packets.pop_front() {
+            keep(spare, entry.packet);
+        }
+    }
 }

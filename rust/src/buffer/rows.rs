@@ -4,7 +4,6 @@
 
 use super::frames::{CompleteFrame, frame_of};
 use super::held_packet::HeldPacket;
-use super::search::place_of_number;
 use crate::wire::MediaTime;
 use alloc::collections::VecDeque;
 
@@ -26,14 +25,18 @@ pub(super) fn row_of_packet(packet: &HeldPacket) -> Row {
     Row {
         first: number,
         last: number,
-        time: packet.meta.time(),
-        head: if packet.head { Some(number) } else { None },
-        tail: packet.tail,
+        time: packet.packet.known.time(),
+        head: if packet.packet.head {
+            Some(number)
+        } else {
+            None
+        },
+        tail: packet.packet.tail,
     }
 }
 
 /// Whether the later row goes on where the earlier ends: the next number, the same time, and no tail before.
-fn meets(earlier: &Row, later: &Row) -> bool {
+pub(super) fn meets(earlier: &Row, later: &Row) -> bool {
     earlier.last < later.first
         && later.first - earlier.last == 1
         && earlier.time == later.time
@@ -41,7 +44,7 @@ fn meets(earlier: &Row, later: &Row) -> bool {
 }
 
 /// Two rows that meet, as one.
-fn join(earlier: Row, later: Row) -> Row {
+pub(super) fn join(earlier: Row, later: Row) -> Row {
     Row {
         first: earlier.first,
         last: later.last,
@@ -51,59 +54,13 @@ fn join(earlier: Row, later: Row) -> Row {
     }
 }
 
-/// How many rows begin below that number.
-fn find_row(rows: &VecDeque<Row>, number: u64) -> usize {
-    place_of_number(rows, number)
-}
-
-/// Another row at a place.
-fn set_row(rows: &mut VecDeque<Row>, place: usize, row: Row) {
-    rows[place] = row;
-}
-
-/// Puts a row before those from a place on, one with the first of them where they meet, and says which row it is then.
-/// The room was found before.
-fn put_in(rows: &mut VecDeque<Row>, place: usize, row: Row) -> Row {
-    if place < rows.len() {
-        let next = rows[place];
-        if meets(&row, &next) {
-            set_row(rows, place, join(row, next));
-            return rows[place];
-        }
-    }
-    rows.insert(place, row);
-    row
-}
-
-/// Makes the row after a place one with the row there, where they meet, and says which row it is then.
-fn join_back(rows: &mut VecDeque<Row>, place: usize, row: Row) -> Row {
-    let earlier = rows[place];
-    if !meets(&earlier, &row) {
-        return row;
-    }
-    rows.remove(place + 1);
-    set_row(rows, place, join(earlier, row));
-    join(earlier, row)
-}
-
-/// Takes a row in, one with those that it meets, and says which row it is then. The room was found before.
-pub(super) fn add_row(rows: &mut VecDeque<Row>, row: Row) -> Row {
-    let place = find_row(rows, row.first);
-    let row = put_in(rows, place, row);
-    if place > 0 {
-        join_back(rows, place - 1, row)
-    } else {
-        row
-    }
-}
-
 /// The lowest number, up to `last`, of a packet that begins a unit.
 fn find_head(packets: &VecDeque<HeldPacket>, last: u64) -> Option<u64> {
     for packet in packets {
         if packet.number > last {
             return None;
         }
-        if packet.head {
+        if packet.packet.head {
             return Some(packet.number);
         }
     }
@@ -112,7 +69,7 @@ fn find_head(packets: &VecDeque<HeldPacket>, last: u64) -> Option<u64> {
 
 /// What is left of a row once its first packet has left; `packets` are those that are left. Looks for the next packet
 /// that begins a unit only where the one that has left did.
-fn shorten(row: &Row, packets: &VecDeque<HeldPacket>) -> Option<Row> {
+pub(super) fn shorten(row: &Row, packets: &VecDeque<HeldPacket>) -> Option<Row> {
     if row.first == row.last {
         return None;
     }
@@ -130,43 +87,10 @@ fn shorten(row: &Row, packets: &VecDeque<HeldPacket>) -> Option<Row> {
     })
 }
 
-/// The first row becomes this one, or leaves.
-fn replace_first(rows: &mut VecDeque<Row>, rest: Option<Row>) {
-    match rest {
-        Some(row) => rows[0] = row,
-        None => {
-            rows.pop_front();
-        }
-    }
-}
-
 /// The frame of what is left of a row.
-fn frame_of_left(rest: &Option<Row>) -> Option<CompleteFrame> {
+pub(super) fn frame_of_left(rest: &Option<Row>) -> Option<CompleteFrame> {
     match rest {
         Some(row) => frame_of(row),
         None => None,
-    }
-}
-
-/// The first packet of the first row has left; `packets` are those that are left. Says which frame the row had before and
-/// which it has after.
-pub(super) fn shorten_first(
-    rows: &mut VecDeque<Row>,
-    packets: &VecDeque<HeldPacket>,
-) -> (Option<CompleteFrame>, Option<CompleteFrame>) {
-    let row = rows[0];
-    let rest = shorten(&row, packets);
-    let frames = (frame_of(&row), frame_of_left(&rest));
-    replace_first(rows, rest);
-    frames
-}
-
-/// The rows that begin up to that number leave.
-pub(super) fn remove_rows(rows: &mut VecDeque<Row>, last: u64) {
-    while let Some(row) = rows.front() {
-        if row.first > last {
-            return;
-        }
-        rows.pop_front();
     }
 }

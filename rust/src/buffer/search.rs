@@ -4,7 +4,6 @@
 
 use super::frames::CompleteFrame;
 use super::held_packet::HeldPacket;
-use super::rows::Row;
 use alloc::collections::VecDeque;
 
 /// What stands in a queue in rising order of a number.
@@ -15,13 +14,6 @@ pub(super) trait Numbered {
 impl Numbered for HeldPacket {
     fn number(&self) -> u64 {
         self.number
-    }
-}
-
-/// By their beginnings.
-impl Numbered for Row {
-    fn number(&self) -> u64 {
-        self.first
     }
 }
 

@@ -10,8 +10,8 @@ use alloc::boxed::Box;
 use alloc::vec::Vec;
 use core::fmt;
 
-/// No codec but the built-in ones. There is no call that makes a value of this type, so no `Boxed` is made of it. One would
-/// send no packets and take nothing in.
+/// The type for built-in codecs only. No call makes a value of this type, so a `Boxed` value cannot exist. Such a value would send
+/// no packets and accept none.
 #[derive(Debug)]
 pub struct NoBox(());
 
@@ -59,14 +59,14 @@ impl Depacketizer for NoBox {
 /// A packetizer in a box, of a type that is known when the program runs. It is dropped with its owner.
 pub struct BoxedPacketizer(pub Box<dyn Packetizer + Send + Sync>);
 
-/// What is in the box is not shown.
+/// The contents of the box are not printed.
 impl fmt::Debug for BoxedPacketizer {
     fn fmt(&self, f: &mut fmt::Formatter<'_>) -> fmt::Result {
         write!(f, "BoxedPacketizer")
     }
 }
 
-/// Each call is that of the packetizer in the box.
+/// Each call is forwarded to the packetizer in the box.
 impl Packetizer for BoxedPacketizer {
     fn packetize(&mut self, mtu: usize, b: &[u8]) -> Result<Vec<Vec<u8>>, PacketError> {
         self.0.packetize(mtu, b)
@@ -97,14 +97,14 @@ impl Packetizer for BoxedPacketizer {
 /// A depacketizer in a box, of a type that is known when the program runs. It is dropped with its owner.
 pub struct BoxedDepacketizer(pub Box<dyn Depacketizer + Send + Sync>);
 
-/// What is in the box is not shown.
+/// The contents of the box are not printed.
 impl fmt::Debug for BoxedDepacketizer {
     fn fmt(&self, f: &mut fmt::Formatter<'_>) -> fmt::Result {
         write!(f, "BoxedDepacketizer")
     }
 }
 
-/// Each call is that of the depacketizer in the box.
+/// Each call is forwarded to the depacketizer in the box.
 impl Depacketizer for BoxedDepacketizer {
     fn out_size_hint(&self, packets_size: usize) -> Option<usize> {
         self.0.out_size_hint(packets_size)

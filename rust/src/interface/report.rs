@@ -8,23 +8,22 @@ use crate::wire::Frequency;
 /// The length of a report in bytes (RFC 4733, section 2.3).
 pub const REPORT_SIZE: usize = 4;
 
-/// The duration of so many units of a clock of that rate, in nanoseconds, to the nearest.
+/// The duration of `units` ticks of a clock of this rate, in nanoseconds, rounded to the nearest.
 pub fn duration_from_units(units: u16, rate: Frequency) -> u64 {
     let rate = u64::from(rate.get());
     (u64::from(units) * 1_000_000_000 + rate / 2) / rate
 }
 
-/// The units of a clock that so many nanoseconds are, to the nearest, where they fit sixteen bits.
+/// The number of clock ticks in `nanoseconds`, rounded to the nearest; `None` if it does not fit 16 bits.
 fn units_from_duration(nanoseconds: u64, rate: Frequency) -> Option<u16> {
     let scaled = u128::from(nanoseconds) * u128::from(rate.get());
     u16::try_from((scaled + 500_000_000) / 1_000_000_000).ok()
 }
 
 impl TelephoneEvent {
-    /// The report of the first four bytes, or `None` where there are fewer. What follows them is not looked at. The
-    /// reserved bit may have any value.
+    /// The report in the first four bytes; `None` if there are fewer. Later bytes are ignored. The reserved bit may have any value.
     ///
-    /// Written again at the same rate, a report gives its bytes back, the reserved bit clear, where the rate is below
+    /// Written again at the same rate, a report gives its bytes back with the reserved bit clear, if the rate is below
     /// 1,000,000,000 Hz.
     pub fn parse(buf: &[u8], rate: Frequency) -> Option<Self> {
         let [event, flags, high, low, ..] = *buf else {
@@ -38,9 +37,8 @@ impl TelephoneEvent {
         })
     }
 
-    /// The reports of a payload, in order, or `None` unless it is one or more whole reports and nothing else. A sender
-    /// may put several into one packet (RFC 4733, section 2.5.1.5); a depacketizer gives the first alone, so read them
-    /// here where the others matter.
+    /// The reports of a payload, in order; `None` unless it consists of one or more whole reports. A sender may put several into
+    /// one packet (RFC 4733, section 2.5.1.5). A depacketizer reports only the first; call this for the others.
     pub fn parse_all<'a>(buf: &'a [u8], rate: Frequency) -> Option<TelephoneEvents<'a>> {
         if buf.is_empty() || buf.len() % REPORT_SIZE != 0 {
             return None;
@@ -48,8 +46,8 @@ impl TelephoneEvent {
         Some(TelephoneEvents { bytes: buf, rate })
     }
 
-    /// The four bytes of the report, or `None` where its duration is more than 65,535 units of the clock. The reserved
-    /// bit is clear, and of the volume the low six bits are written.
+    /// The four bytes of the report; `None` if its duration exceeds 65,535 units of the clock. The reserved bit is clear, and the
+    /// low six bits of the volume are written.
     pub fn to_bytes(&self, rate: Frequency) -> Option<[u8; 4]> {
         let [high, low] = units_from_duration(self.duration, rate)?.to_be_bytes();
         let end = if self.end { 0x80 } else { 0 };
@@ -57,7 +55,7 @@ impl TelephoneEvent {
     }
 }
 
-/// The reports of a payload, in order. No step takes memory.
+/// The reports of a payload, in order. No step allocates.
 #[derive(Debug)]
 pub struct TelephoneEvents<'a> {
     bytes: &'a [u8],

@@ -201,6 +201,14 @@ impl<B: Depacketizer> JitterBuffer<B> {
         Ok(true)
     }
 
+    /// Returns whether a packet of this number would be stored: the number is within the windows, and neither held nor late.
+    pub fn would_store(&self, low: u16) -> bool {
+        match self.number_again(low) {
+            Some(number) => is_stored(outcome_in(&self.buffer, SeqNo(number))),
+            None => false,
+        }
+    }
+
     /// A packet came that has no number of this sender's: one that is sent again and has nothing in it (RFC 4588, section 4).
     pub fn push_nothing(&mut self) {
         self.count_no_media();

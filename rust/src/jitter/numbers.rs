@@ -61,8 +61,9 @@ impl core::error::Error for WindowError {}
 ///
 /// Let d be the distance from the greatest number so far to the number with the packet's low bits that is nearest to it. Where
 /// `-backward <= d < forward`, that is the packet's number; the first packet gets 65,536 and its low bits, so that those sent
-/// before it have numbers too. All others are suspect, until two come one after the other: then the sender has restarted, and
-/// its numbers go on above all that were given. Packets within the windows between the two change nothing (RFC 3550, appendix
+/// before it have numbers too. All others are suspect, until two come one after the other: then the sender has restarted. Its
+/// numbers continue at the multiple of 65,536 after the next, above all that were given; so do those of its packets that were
+/// sent earlier and arrive later. Packets within the windows between the two change nothing (RFC 3550, appendix
 /// A.1).
 #[derive(Clone, Copy, Debug)]
 pub struct SequenceNumbers {
@@ -110,7 +111,7 @@ impl SequenceNumbers {
     }
 
     /// The number of a packet that is known to be the first since the sender has restarted, whatever low bits it carries: it is
-    /// above all others.
+    /// above all others, by more than the window behind it.
     pub fn restart_number(&mut self, low: u16) -> Extended {
         let answer = self.answer_anew(low);
         self.take(answer, low);
@@ -154,7 +155,7 @@ impl SequenceNumbers {
         let Some(greatest) = self.greatest else {
             return Extended::Number(65_536 + low_bits);
         };
-        match (greatest - greatest % 65_536).checked_add(65_536 + low_bits) {
+        match (greatest - greatest % 65_536).checked_add(131_072 + low_bits) {
             Some(number) => Extended::Restarted(number),
             None => Extended::Spent,
         }

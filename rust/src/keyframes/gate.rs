@@ -10,7 +10,7 @@ pub fn is_video(codec: Codec) -> bool {
     matches!(codec, Codec::Vp8 | Codec::Vp9 | Codec::Av1)
 }
 
-/// Whether a unit is a keyframe by its own bits: the frame header of VP8 (RFC 6386, section 9.1) or VP9 (its bitstream
+/// Whether a unit is a keyframe by its own bits: the frame header of VP8 (RFC 6386, section 9.1) or VP9 (VP9 bitstream
 /// specification, section 6.2), or the first frame header of an AV1 temporal unit. A malformed unit is not a keyframe. Does not
 /// allocate.
 pub fn is_keyframe(codec: Codec, unit: &[u8]) -> bool {
@@ -26,9 +26,9 @@ pub fn is_keyframe(codec: Codec, unit: &[u8]) -> bool {
 /// Reports which released units a decoder can show, and whether the receiver has to request a keyframe (by PLI or FIR: RFC 4585,
 /// section 6.3.1; RFC 5104, section 4.3.1).
 ///
-/// Call it for each answer of a pop, in order: [`KeyframeGate::release`] for a unit, [`KeyframeGate::lose`] for a fault, and
-/// [`KeyframeGate::skip`] if the buffer discarded complete units for their picture ids. For audio each unit can be shown. Does not
-/// allocate.
+/// Call it for each result of a pop, in order: [`KeyframeGate::release`] for a unit, [`KeyframeGate::lose`] for an error, and
+/// [`KeyframeGate::skip`] if the buffer discarded complete units because of their picture ids. For audio each unit can be shown.
+/// Does not allocate.
 #[derive(Clone, Copy, Debug, PartialEq, Eq)]
 pub struct KeyframeGate {
     codec: Codec,
@@ -37,7 +37,7 @@ pub struct KeyframeGate {
 }
 
 impl KeyframeGate {
-    /// A gate for a new stream of that codec: no unit was released, and no keyframe is wanted yet.
+    /// A gate for a new stream of this codec: no unit was released, and no keyframe is needed yet.
     pub fn new(codec: Codec) -> KeyframeGate {
         KeyframeGate {
             codec,
@@ -46,16 +46,29 @@ impl KeyframeGate {
         }
     }
 
-    /// Records a released unit. `contiguous` is that of the unit. Returns whether a decoder can show it: it is a keyframe, or it
-    /// is contiguous and a decoder can show the unit before it.
+    /// Records a released unit with the flag `contiguous` of that unit. Returns whether a decoder can show it: it is a keyframe, or
+    /// it is contiguous and a decoder can show the previous unit.
     pub fn release(&mut self, unit: &[u8], contiguous: bool) -> bool {
         if !is_video(self.codec) {
             return true;
         }
         let keyframe = is_keyframe(self.codec, unit);
+        self.release_as(keyframe, contiguous)
+    }
+
+    /// Records a released unit that is a keyframe or not. Returns whether a decoder can show it.
+    pub(crate) fn release_as(&mut self, keyframe: bool, contiguous: bool) -> bool {
+        if !is_video(self.codec) {
+            return true;
+        }
         self.shows = keyframe || (contiguous && self.shows);
         self.wants = !keyframe && (self.wants || !self.shows);
         self.shows
+    }
+
+    /// Returns whether a unit of the stream is a keyframe. A unit of audio is not, and is not inspected.
+    pub(crate) fn is_key(&self, unit: &[u8]) -> bool {
+        is_video(self.codec) && is_keyframe(self.codec, unit)
     }
 
     /// Records that a unit was lost although its packets came: the depacketizer refused them. Units after it cannot be shown
@@ -67,15 +80,15 @@ impl KeyframeGate {
         }
     }
 
-    /// Records that complete units were discarded for their picture ids, as happens after the sender's ids jump back: a keyframe
-    /// is wanted, since delta frames may stay below the last id for long.
+    /// Records that complete units were discarded because of their picture ids. This happens after the sender's ids jump back. A
+    /// keyframe is then needed, since delta frames may stay below the last id for long.
     pub fn skip(&mut self) {
         if is_video(self.codec) {
             self.wants = true;
         }
     }
 
-    /// Whether a keyframe is wanted: from the first event that needs one until a keyframe is released.
+    /// Whether a keyframe is needed: from the first event that needs one until a keyframe is released.
     pub fn wants_keyframe(&self) -> bool {
         self.wants
     }

@@ -41,8 +41,8 @@ fn speech_length(frame_type: u8) -> Option<usize> {
     }
 }
 
-/// The frame at the front, and what is behind it. A fault is that of [`AmrWbFrames`]; of no bytes it is `MissingBytes`. It takes
-/// no memory.
+/// The frame at the front, and the bytes after it. The errors are those of [`AmrWbFrames`]; `MissingBytes` for an empty slice. Does
+/// not allocate.
 pub fn front_frame(bytes: &[u8]) -> Result<(AmrWbFrame<'_>, &[u8]), MediaError> {
     let [byte, rest @ ..] = bytes else {
         return Err(MediaError::MissingBytes);
@@ -63,16 +63,16 @@ pub fn front_frame(bytes: &[u8]) -> Result<(AmrWbFrame<'_>, &[u8]), MediaError> 
     Ok((frame, rest))
 }
 
-/// The frames of a unit, in order, up to the first that is malformed, of which the fault is given. No step takes memory.
+/// The frames of a unit, in order, up to the first malformed one, whose fault is returned. No step allocates.
 ///
-/// A fault is `ReservedValue` where the type is 10 to 13, and `MissingBytes` where the speech is cut off.
+/// `ReservedValue`: the type is 10 to 13. `MissingBytes`: the speech is cut off.
 #[derive(Debug)]
 pub struct AmrWbFrames<'a> {
     bytes: &'a [u8],
 }
 
 impl<'a> AmrWbFrames<'a> {
-    /// The frames of these bytes.
+    /// The frames in these bytes.
     pub fn new(unit: &'a [u8]) -> AmrWbFrames<'a> {
         AmrWbFrames { bytes: unit }
     }
@@ -112,8 +112,8 @@ fn frame_count(unit: &[u8]) -> Result<usize, MediaError> {
     Ok(count)
 }
 
-/// How long a unit is, 20 ms for each frame, in ticks of the RTP clock of 16 kHz. A fault is that of the first frame that is
-/// malformed (see [`AmrWbFrames`]). It takes no memory.
+/// The duration of a unit, 20 ms for each frame, in ticks of the RTP clock of 16 kHz. The error is the fault of the first malformed
+/// frame (see [`AmrWbFrames`]). Does not allocate.
 pub fn amr_wb_ticks(unit: &[u8]) -> Result<u64, MediaError> {
     let count = frame_count(unit)?;
     Ok((count as u64).saturating_mul(AMR_WB_FRAME_TICKS))

@@ -16,11 +16,11 @@ pub const OPUS_HEAD_LEN: usize = 19;
 /// Which coder a packet is of.
 #[derive(Clone, Copy, Debug, PartialEq, Eq)]
 pub enum OpusMode {
-    /// Linear prediction alone, for speech.
+    /// Linear prediction only, for speech.
     Silk,
     /// Both.
     Hybrid,
-    /// The transform alone, for music and short delays.
+    /// Transform only, for music and short delays.
     Celt,
 }
 
@@ -83,7 +83,7 @@ fn ticks_of(config: u8) -> u16 {
     }
 }
 
-/// So many frames of one length, which together have that size.
+/// `count` frames of one length, together of this size.
 fn frames_alike(count: u8, size: usize) -> Result<u8, MediaError> {
     let each = size / usize::from(count);
     if size % usize::from(count) == 0 && each <= MAX_FRAME_LEN {
@@ -93,7 +93,7 @@ fn frames_alike(count: u8, size: usize) -> Result<u8, MediaError> {
     }
 }
 
-/// The length of a frame at the front (RFC 6716, section 3.2.1), and what is behind it.
+/// The length of a frame at the front (RFC 6716, section 3.2.1), and the bytes after it.
 fn read_length(bytes: &[u8]) -> Result<(usize, &[u8]), MediaError> {
     let [low, rest @ ..] = bytes else {
         return Err(MediaError::MissingBytes);
@@ -107,7 +107,7 @@ fn read_length(bytes: &[u8]) -> Result<(usize, &[u8]), MediaError> {
     Ok((usize::from(*low) + 4 * usize::from(*high), rest))
 }
 
-/// The sum of the lengths of so many frames, and what is behind them.
+/// The sum of the lengths of `count` frames, and the bytes after them.
 fn read_lengths(count: u8, bytes: &[u8]) -> Result<(usize, &[u8]), MediaError> {
     let mut sum = 0;
     let mut rest = bytes;
@@ -119,7 +119,7 @@ fn read_lengths(count: u8, bytes: &[u8]) -> Result<(usize, &[u8]), MediaError> {
     Ok((sum, rest))
 }
 
-/// So many frames, with a length before them for each but the last.
+/// `count` frames, with a length before them for each except the last.
 fn frames_apart(count: u8, bytes: &[u8]) -> Result<u8, MediaError> {
     let (sum, rest) = read_lengths(count - 1, bytes)?;
     if rest.len() < sum || MAX_FRAME_LEN < rest.len() - sum {
@@ -128,7 +128,7 @@ fn frames_apart(count: u8, bytes: &[u8]) -> Result<u8, MediaError> {
     Ok(count)
 }
 
-/// What stands between the size of the padding and the padding, which is at the end.
+/// The bytes between the size of the padding and the padding, which is at the end.
 fn remove_padding(bytes: &[u8]) -> Result<&[u8], MediaError> {
     let mut room = bytes.len();
     let mut rest = bytes;
@@ -147,7 +147,7 @@ fn remove_padding(bytes: &[u8]) -> Result<&[u8], MediaError> {
     Err(MediaError::MissingBytes)
 }
 
-/// What is left of the bytes without their padding, if there is any.
+/// The bytes without their padding, if there is any.
 fn remove_padding_if(padded: bool, bytes: &[u8]) -> Result<&[u8], MediaError> {
     if padded {
         remove_padding(bytes)
@@ -156,7 +156,7 @@ fn remove_padding_if(padded: bool, bytes: &[u8]) -> Result<&[u8], MediaError> {
     }
 }
 
-/// The frames of a packet that says their number, each of so many ticks.
+/// The frames of a packet with a frame count, each of this many ticks.
 fn frames_counted(ticks: u16, bytes: &[u8]) -> Result<u8, MediaError> {
     let [byte, rest @ ..] = bytes else {
         return Err(MediaError::MissingBytes);
@@ -174,13 +174,13 @@ fn frames_counted(ticks: u16, bytes: &[u8]) -> Result<u8, MediaError> {
 }
 
 impl OpusPacket {
-    /// What the packet says, where it is not malformed by the rules of RFC 6716, section 3.4. It reads the first byte, the
-    /// lengths of frames and the size of the padding, and takes no memory.
+    /// Reads a packet that meets the rules of RFC 6716, section 3.4. Reads the first byte, the lengths of frames and the size of
+    /// the padding, and does not allocate.
     ///
-    /// A fault is the first one from left to right: `MissingBytes` where there are no bytes, or the number of frames, the
-    /// length of one or the size of the padding is cut off (rules R1, R4, R6, R7); `ReservedValue` where there are no frames
-    /// or more than 120 ms (R5); `SizesDoNotFit` where a frame is longer than 1,275 bytes (R2), frames of one length do not
-    /// fill the packet (R3, R6), or what is told is longer than what is there (R4, R6, R7).
+    /// The first fault from left to right. `MissingBytes`: the packet is empty, or the number of frames, the length of one or the
+    /// size of the padding is cut off (rules R1, R4, R6, R7). `ReservedValue`: no frames, or more than 120 ms (R5).
+    /// `SizesDoNotFit`: a frame is longer than 1,275 bytes (R2), frames of one length do not fill the packet (R3, R6), or lengths
+    /// exceed the packet (R4, R6, R7).
     pub fn parse(packet: &[u8]) -> Result<OpusPacket, MediaError> {
         let [toc, rest @ ..] = packet else {
             return Err(MediaError::MissingBytes);
@@ -202,8 +202,8 @@ impl OpusPacket {
         })
     }
 
-    /// How long the packet is, in samples of 48 kHz, which are the ticks of the RTP clock. Of what `parse` answers it is at
-    /// most 5,760, which are 120 ms.
+    /// The duration of the packet, in ticks of the RTP clock, which are samples at 48 kHz. At most 5,760 (120 ms) for a packet from
+    /// `parse`.
     pub fn ticks(&self) -> u32 {
         u32::from(self.frames) * u32::from(self.frame_ticks)
     }
@@ -216,12 +216,12 @@ pub struct OpusHead {
     pub channels: u8,
     /// How many samples of 48 kHz a decoder drops at the start.
     pub pre_skip: u16,
-    /// The rate of the input before it was coded, in Hz, or 0 where it is not known. It says nothing of the decoder's rate.
+    /// The sampling rate of the input before coding, in Hz; 0 if unknown. It does not determine the decoder's rate.
     pub input_sample_rate: u32,
 }
 
 impl OpusHead {
-    /// The header as bytes (RFC 7845, section 5.1), with version 1, no gain and mapping family 0. It takes no memory.
+    /// The header as bytes (RFC 7845, section 5.1), with version 1, no gain and mapping family 0. Does not allocate.
     ///
     /// # Panics
     ///

@@ -7,16 +7,16 @@ use crate::payload::sink::{OutgoingPacket, PacketSink};
 use crate::red::RedSender;
 use crate::wire::SeqNo;
 
-/// Hands packets on to another sink in RED: each with its payload wrapped by a sender, under the sender's payload type,
-/// and with number, RTP time, marker and all else as they are.
+/// Forwards packets to another sink in RED: a sender wraps each payload, and the packet gets the sender's payload type. Number, RTP
+/// time, marker and all other fields are unchanged.
 ///
-/// **A packet whose payload has `budget` bytes or more goes out with its payload as it is, yet under the payload type of
-/// RED**, and a receiver may read those bytes as RED. So packetize for an MTU of `budget - 1`, as the `mtu` of
-/// [`Payloader::push_sample`](crate::payload::payloader::Payloader::push_sample): then each payload finds room behind the one byte
-/// of its header. See [`RedSender::wrap`].
+/// **A packet whose payload has `budget` bytes or more is sent with its payload unchanged, but under the payload type of RED**, and
+/// a receiver may read those bytes as RED. So packetize with an MTU of `budget - 1`, the `mtu` of
+/// [`Payloader::push_sample`](crate::payload::payloader::Payloader::push_sample): then each payload fits after the one byte of its header.
+/// See [`RedSender::wrap`].
 ///
-/// Where the sender finds no memory, sink and sender stay as they were. Where the other sink refuses the packet, the
-/// sender has remembered the payload already, as if it had been sent.
+/// If the sender runs out of memory, sink and sender are unchanged. If the other sink refuses the packet, the sender has already
+/// remembered the payload as if it had been sent.
 #[derive(Debug)]
 pub struct RedSink<'a, S> {
     stream: &'a mut S,

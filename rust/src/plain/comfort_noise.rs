@@ -31,7 +31,7 @@ impl Packetizer for ComfortNoisePacketizer {
         out.settle(answer)
     }
 
-    /// Never, also where a talk spurt starts: noise is no talk.
+    /// Never, even if a talk spurt starts: comfort noise is not talk.
     fn is_marker(&mut self, _data: &[u8], _previous: Option<&[u8]>, _last: bool) -> bool {
         false
     }

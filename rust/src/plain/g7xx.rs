@@ -13,7 +13,7 @@ use alloc::vec::Vec;
 #[derive(Clone, Debug, Default, Copy)]
 pub struct G7xxPacketizer;
 
-/// Cuts frames of G.711, μ-law and A-law alike.
+/// Cuts frames of G.711 (μ-law or A-law).
 pub type G711Packetizer = G7xxPacketizer;
 
 /// Cuts frames of G.722.
@@ -23,8 +23,8 @@ impl Packetizer for G7xxPacketizer {
     /// The frame in pieces of `mtu` bytes, the last with the rest. An empty frame, or an MTU of 0, gives no packets.
     /// Each byte is copied once.
     ///
-    /// All pieces of a frame go out under the RTP time of the frame, though a receiver takes the time of a packet for
-    /// that of its first sample (RFC 3551, section 4.1). So choose the MTU above the longest frame.
+    /// All pieces of a frame get the RTP time of the frame, but a receiver takes the time of a packet as the time of its first
+    /// sample (RFC 3551, section 4.1). Choose an MTU above the longest frame.
     fn packetize(&mut self, mtu: usize, b: &[u8]) -> Result<Vec<Vec<u8>>, PacketError> {
         send_pieces(mtu, b)
     }

@@ -9,16 +9,14 @@ use crate::red::sender::MAX_RED_RECOVERY_DEPTH;
 use crate::wire::SeqNo;
 use alloc::vec::Vec;
 
-/// A packet that the payload of a packet holds: that packet itself, or one that was sent before it. It borrows its bytes
-/// from the payload.
+/// A packet found in a payload: the packet that carried the payload, or an earlier one. It borrows its bytes from the payload.
 #[derive(Clone, Debug, PartialEq, Eq)]
 pub struct Recovered<'a> {
     /// The number of the packet.
     pub seq_no: SeqNo,
     /// The RTP time of the packet, in ticks of the RTP clock, modulo 2^32.
     pub rtp_time: u32,
-    /// The media, as it was before it was put in RED: at most 1,023 bytes of an earlier packet, any number of the packet
-    /// itself.
+    /// The media before it was wrapped in RED: at most 1,023 bytes for an earlier packet, any number for the packet itself.
     pub payload: &'a [u8],
     /// Whether this is the packet itself whose payload was read.
     pub is_primary: bool,
@@ -26,9 +24,9 @@ pub struct Recovered<'a> {
 
 /// Finds the packets that a RED payload holds, of a stream whose packets are a fixed step of RTP time apart.
 ///
-/// A redundant block says how many ticks of the RTP clock older it is, and not which number it had (RFC 2198, section 3),
-/// so the number is told by the step: a receiver whose step is another than the sender's gives wrong numbers, or none.
-/// With 48 kHz and packets of 20 milliseconds the step is 960.
+/// A redundant block says how many ticks of the RTP clock older it is, but not its sequence number (RFC 2198, section 3). The step
+/// gives the number: a receiver with another step than the sender's reports wrong numbers, or none. With 48 kHz and packets of 20
+/// ms the step is 960.
 #[derive(Clone, Copy, Debug, PartialEq, Eq)]
 pub struct RedReceiver {
     primary_pt: u8,
@@ -36,9 +34,8 @@ pub struct RedReceiver {
 }
 
 impl RedReceiver {
-    /// A receiver of blocks of the payload type `primary_pt`, whose low 7 bits count, of packets that are `step` ticks of
-    /// the RTP clock apart. `None` for a step of 0, and for one above 16,383, the greatest offset of a block. It takes no
-    /// memory.
+    /// A receiver of blocks of the payload type `primary_pt` (low 7 bits), for packets that are `step` ticks of the RTP clock
+    /// apart. `None` if `step` is 0 or above 16,383, the greatest offset of a block. Does not allocate.
     pub fn new(primary_pt: u8, step: u32) -> Option<Self> {
         if step == 0 || step > MAX_OFFSET {
             return None;
@@ -54,7 +51,7 @@ impl RedReceiver {
         self.primary_pt
     }
 
-    /// The packet that one block of a payload is, if it is one: as [`RedReceiver::recover`] has it. Takes no memory.
+    /// The packet in one block of a payload, if there is one, by the rules of [`RedReceiver::recover`]. Does not allocate.
     pub fn recover_block<'a>(
         &self,
         seq_no: SeqNo,
@@ -105,14 +102,13 @@ impl RedReceiver {
     /// itself is last. Each borrows its bytes from the payload; nothing is copied, and the receiver remembers nothing: a
     /// packet that came already, or was recovered before, is answered again (RFC 2198, section 3).
     ///
-    /// A redundant block of the receiver's payload type is the packet as many numbers back as its timestamp offset has
-    /// steps, with an RTP time by the offset less, modulo 2^32. It is passed over where the offset is 0 or no multiple of
-    /// the step, where it goes back more than [`MAX_RED_RECOVERY_DEPTH`] steps, and where it goes below number 0. The
-    /// primary block is the packet itself, where it has the type. So the answer has at most 33 packets, and may be empty.
+    /// A redundant block of the receiver's payload type is the packet `offset / step` numbers back, with an RTP time less by the
+    /// offset, modulo 2^32. It is skipped if the offset is 0 or not a multiple of the step, if it goes back more than
+    /// [`MAX_RED_RECOVERY_DEPTH`] steps, or if the number would be below 0. The primary block is the packet itself, if it has the
+    /// type. So the result has at most 33 packets, and may be empty.
     ///
-    /// Fault 14, `ErrRedCorruptedPacket`, comes where the payload is no RED payload, exactly as for
-    /// [`RedDecoder::decode`], and no memory is asked for then. Fault 17, `OutOfMemory`, comes where the list of blocks
-    /// or the list of packets of a RED payload finds no memory.
+    /// `ErrRedCorruptedPacket` (14): the payload is not a RED payload, exactly as for [`RedDecoder::decode`]; nothing is allocated
+    /// then. `OutOfMemory` (17): the allocation of the list of blocks or of packets fails.
     pub fn recover<'a>(
         &self,
         seq_no: SeqNo,

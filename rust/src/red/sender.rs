@@ -10,7 +10,7 @@ use alloc::collections::VecDeque;
 use alloc::vec::Vec;
 use core::mem;
 
-/// How many packets back a receiver looks for what a redundant block carries, and so the greatest distance of a sender.
+/// The greatest distance, in packets, of a redundant block: the limit of a receiver and of a sender.
 pub const MAX_RED_RECOVERY_DEPTH: u64 = 8;
 
 /// A payload that was sent.
@@ -21,7 +21,7 @@ struct SentPayload {
     time: u32,
 }
 
-/// The payload that was sent so many before.
+/// The payload that was sent `distance` packets earlier.
 fn back_of(history: &VecDeque<SentPayload>, distance: u32) -> Option<&SentPayload> {
     let index = distance.checked_sub(1)?;
     history.get(index as usize)
@@ -36,7 +36,7 @@ fn as_block_of(sent: &SentPayload, _pt: u8, time: u32) -> Option<(u32, &[u8])> {
     Some((offset, sent.bytes.as_slice()))
 }
 
-/// The level of a distance: the payload that was sent so many before, as a block's offset and bytes.
+/// The level of a distance: the payload sent that many packets earlier, as the offset and bytes of a block.
 fn level_of(
     history: &VecDeque<SentPayload>,
     pt: u8,
@@ -99,7 +99,7 @@ fn put_levels(
     Ok(())
 }
 
-/// Puts behind what is there the levels that the budget has room for, deepest first, and the payload behind them.
+/// Appends the levels that fit the budget, deepest first, and then the payload.
 fn put_wrapped(
     out: &mut Vec<u8>,
     history: &VecDeque<SentPayload>,
@@ -143,7 +143,7 @@ impl Distances {
     }
 }
 
-/// How many payloads the history holds at most: as many as the greatest distance, and one where there is no distance.
+/// The most payloads that the history holds: the greatest distance, or one without distances.
 fn depth_of(distances: &[u32]) -> usize {
     match distances {
         [] => 1,
@@ -151,7 +151,7 @@ fn depth_of(distances: &[u32]) -> usize {
     }
 }
 
-/// Takes out the oldest payload where the history holds one more than so many, and gives its memory.
+/// Removes the oldest payload if the history holds more than `depth`, and returns its memory.
 fn take_past(history: &mut VecDeque<SentPayload>, depth: usize) -> Vec<u8> {
     if history.len() > depth
         && let Some(oldest) = history.pop_back()
@@ -161,10 +161,10 @@ fn take_past(history: &mut VecDeque<SentPayload>, depth: usize) -> Vec<u8> {
     Vec::new()
 }
 
-/// Sends each payload together with some of those before it, so that a receiver finds lost ones again (RFC 2198).
+/// Sends each payload together with some earlier ones, so that a receiver can recover lost packets (RFC 2198).
 ///
-/// A *distance* says how many payloads back a redundant block goes: 1 is the payload right before. The sender keeps as
-/// many payloads as its greatest distance.
+/// A *distance* is how many payloads back a redundant block goes: 1 is the payload right before. The sender keeps as many payloads
+/// as its greatest distance.
 #[derive(Debug)]
 pub struct RedSender {
     red_pt: Pt,
@@ -172,7 +172,7 @@ pub struct RedSender {
     distances: Distances,
     /// Newest first.
     history: VecDeque<SentPayload>,
-    /// Memory of a payload that left the history.
+    /// Memory of a payload that left the history, for reuse.
     spare: Vec<u8>,
 }
 
@@ -189,11 +189,11 @@ impl RedSender {
         true
     }
 
-    /// A sender that has sent nothing. `red_pt` is the payload type of the packets, `primary_pt` that of the blocks, of
-    /// which 7 bits are written. It takes no memory; `alloc` is where the history will grow.
+    /// A sender that has sent nothing. `red_pt` is the payload type of the packets, `primary_pt` the payload type of the blocks; 7
+    /// bits of each are written. Does not allocate; the history grows in `alloc`.
     ///
-    /// It asks for distances that [`RedSender::accepts`] takes: strictly rising, each from 1 to 8, or none at all.
-    /// Where they come from outside, ask that call first.
+    /// Requires distances that [`RedSender::accepts`] accepts: strictly rising, each 1 to 8; an empty list is allowed. Call it
+    /// first if the distances come from outside.
     ///
     /// # Panics
     ///
@@ -209,8 +209,8 @@ impl RedSender {
         }
     }
 
-    /// Takes over new payload types and distances. Of the history the newest payloads stay, as many as the new greatest
-    /// distance, and one where there is no distance. It takes no memory.
+    /// Sets new payload types and distances. The newest payloads of the history stay, as many as the new greatest distance, or one
+    /// without distances. Does not allocate.
     ///
     /// It asks, as [`RedSender::new`] does, for distances that [`RedSender::accepts`] takes.
     ///
@@ -230,7 +230,7 @@ impl RedSender {
         self.red_pt
     }
 
-    /// Puts behind what is there what goes out for a payload.
+    /// Appends the output for a payload.
     fn put_output(
         &self,
         payload: &[u8],
@@ -253,7 +253,7 @@ impl RedSender {
         }
     }
 
-    /// What goes out for a payload.
+    /// The output for a payload.
     fn output(&self, payload: &[u8], time: u32, budget: usize) -> Result<Vec<u8>, AllocError> {
         let mut out = Vec::new();
         self.put_output(payload, time, budget, &mut out)?;
@@ -270,18 +270,17 @@ impl RedSender {
         Ok(())
     }
 
-    /// The RED payload of a media payload, whose RTP time is `rtp_time` ticks modulo 2^32, in at most `budget` bytes
-    /// (RFC 2198, section 3). Redundant blocks repeat earlier payloads: of the distances, shallowest first, those whose
-    /// payload was sent and fits a block (an offset of at most 16,383 ticks, at most 1,023 bytes), as long as each with
-    /// its header of 4 bytes finds room. They are written deepest first. The payload is then remembered.
+    /// The RED payload for a media payload, in at most `budget` bytes (RFC 2198, section 3); its RTP time is `rtp_time` ticks,
+    /// modulo 2^32. Redundant blocks repeat earlier payloads. The distances are tried shallowest first; a payload is repeated if it
+    /// fits a block (offset at most 16,383 ticks, at most 1,023 bytes) and fits the budget with its header of 4 bytes. The blocks
+    /// are written deepest first. The payload is then remembered.
     ///
-    /// **A payload of `budget` bytes or more comes back as it is**, without the one byte of RED's last header, and is
-    /// remembered all the same. Sent under the RED payload type, as [`RedSender::red_pt`] has it, such bytes are no RED
-    /// to a receiver, or worse: by chance they read as RED, as blocks that nobody sent. So cut media for one byte less
-    /// than the budget: where samples are packetized, let the MTU be `budget - 1`.
+    /// **A payload of `budget` bytes or more is returned unchanged**, without the one byte of RED's last header, and is remembered
+    /// too. Sent under the RED payload type, as [`RedSender::red_pt`] is, such bytes are an invalid RED payload, or they parse by
+    /// accident as blocks that nobody sent. So packetize with an MTU of `budget - 1`.
     ///
-    /// The only fault is 17, `OutOfMemory`, which leaves the sender as it was; the payload is then gone. The payload
-    /// moves into the history and is copied once, into the answer, and so is each payload that is repeated.
+    /// The only error is `OutOfMemory` (17): the sender is unchanged, and the payload is lost. The payload moves into the history
+    /// and is copied once, into the result; each repeated payload is copied once too.
     pub fn wrap(
         &mut self,
         payload: Vec<u8>,
@@ -293,8 +292,7 @@ impl RedSender {
         Ok(out)
     }
 
-    /// Puts a copy of a payload into the history, in the memory of one that left it, and then keeps the memory of the one that
-    /// leaves.
+    /// Copies a payload into the history, into the memory of an earlier one, and keeps the memory of the payload that leaves.
     fn remember(&mut self, payload: &[u8], time: u32) -> Result<(), PacketError> {
         self.spare.clear();
         self.spare.try_extend(payload)?;
@@ -306,7 +304,7 @@ impl RedSender {
         Ok(())
     }
 
-    /// Puts what goes out behind what is there, and remembers the payload.
+    /// Appends the output, and remembers the payload.
     fn put_and_remember(
         &mut self,
         payload: &[u8],
@@ -318,9 +316,9 @@ impl RedSender {
         self.remember(payload, time)
     }
 
-    /// The same as [`RedSender::wrap`] over memory that is used again: what goes out is put into `out`, which is begun anew
-    /// and keeps its memory, and the payload is copied into the history, into the memory of the one that leaves it. It takes
-    /// memory only where `out`, or what left the history, is too short, and until the history is full.
+    /// The same as [`RedSender::wrap`] over reused memory: the output replaces the contents of `out`, which keeps its memory, and
+    /// the payload is copied into the history, into the memory of the payload that leaves it. Allocates only if `out`, or the
+    /// memory of the payload that left, is too short, and until the history is full.
     ///
     /// The only fault is 17, `OutOfMemory`, which leaves the sender as it was, and `out` empty. The payload is copied twice,
     /// and each payload that is repeated once.

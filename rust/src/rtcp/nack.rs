@@ -94,7 +94,7 @@ fn write_pair(pid: u16, blp: u16, out: &mut Vec<u8>) -> Result<(), AllocError> {
 }
 
 /// Appends pairs of PID and BLP that name these numbers, in their order. Each pair takes the numbers that follow its first
-/// within 16, up to the first that does not.
+/// within 16, up to the first that does not. No other pairs that name the same numbers in that order are fewer.
 pub fn pack_numbers(numbers: &[u16], out: &mut Vec<u8>) -> Result<(), AllocError> {
     let mut rest = numbers;
     while let [pid, others @ ..] = rest {

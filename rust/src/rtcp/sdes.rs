@@ -2,8 +2,10 @@
 
 //! Source descriptions (RFC 3550, section 6.5).
 
+use crate::memory::{AllocError, TryVec};
 use crate::rtcp::packet::{RtcpError, SourceDescription};
 use crate::rtcp::steps::{cut_front, read_word};
+use alloc::vec::Vec;
 
 /// The type of the item CNAME (RFC 3550, section 6.5.1).
 pub const CNAME: u8 = 1;
@@ -63,7 +65,7 @@ fn read_chunk(bytes: &[u8]) -> Result<(SdesChunk<'_>, &[u8]), RtcpError> {
 }
 
 /// Reads `count` chunks.
-fn check_chunks(count: u8, bytes: &[u8]) -> Result<(), RtcpError> {
+pub(crate) fn check_chunks(count: u8, bytes: &[u8]) -> Result<(), RtcpError> {
     let mut rest = bytes;
     let mut left = count;
     while left > 0 {
@@ -165,4 +167,49 @@ impl<'a> SdesChunk<'a> {
     pub fn cname(&self) -> Option<&'a [u8]> {
         text_of(CNAME, self.items())
     }
+}
+
+impl<'a> SdesItem<'a> {
+    /// Whether the item can be written: its type is 1 to 255, and its text has at most 255 bytes.
+    pub fn fits(&self) -> bool {
+        1 <= self.kind && self.text.len() <= 255
+    }
+
+    /// Appends the type, the length and the text.
+    fn put(&self, out: &mut Vec<u8>) -> Result<(), AllocError> {
+        out.try_extend(&[self.kind, self.text.len() as u8])?;
+        out.try_extend(self.text)
+    }
+}
+
+/// Appends items one after another.
+fn put_items(items: &[SdesItem<'_>], out: &mut Vec<u8>) -> Result<(), AllocError> {
+    for item in items {
+        item.put(out)?;
+    }
+    Ok(())
+}
+
+/// Appends a chunk to `chunks`: a source with its items, the byte of 0 that ends them, and zeros up to a whole word (RFC 3550,
+/// section 6.5). Each item has a type of 1 to 255 and a text of at most 255 bytes (see [`SdesItem::fits`]). A
+/// [`SourceDescription`] of all chunks is then written by [`SourceDescription::write`].
+///
+/// # Errors
+///
+/// If memory runs out, `chunks` may have a part of the chunk at its end.
+///
+/// # Panics
+///
+/// Unless `items.iter().all(SdesItem::fits)`.
+pub fn write_chunk(
+    ssrc: u32,
+    items: &[SdesItem<'_>],
+    chunks: &mut Vec<u8>,
+) -> Result<(), AllocError> {
+    assert!(items.iter().all(SdesItem::fits));
+    let start = chunks.len();
+    chunks.try_extend(&ssrc.to_be_bytes())?;
+    put_items(items, chunks)?;
+    let used = chunks.len() - start;
+    chunks.try_extend(&[0u8; 4][..4 - used % 4])
 }

@@ -15,7 +15,7 @@ pub enum ElementForm {
 }
 
 impl ElementForm {
-    /// The form that the 16 bits of a profile say: 0xBEDE, or 0x1000 to 0x100F; `None` for an extension of another kind.
+    /// The form for the 16 bits of a profile: 0xBEDE, or 0x1000 to 0x100F; `None` for another type of extension.
     pub fn of_profile(profile: u16) -> Option<ElementForm> {
         if profile == 0xBEDE {
             return Some(ElementForm::OneByte);
@@ -75,7 +75,7 @@ pub fn all_fit(form: ElementForm, elements: &[Element<'_>]) -> bool {
     true
 }
 
-/// The one-byte form where it has room for all of the elements, else the two-byte form.
+/// The one-byte form if it has room for all elements, else the two-byte form.
 pub fn form_for(elements: &[Element<'_>]) -> ElementForm {
     if all_fit(ElementForm::OneByte, elements) {
         ElementForm::OneByte
@@ -109,8 +109,8 @@ fn put_words(
     Ok(())
 }
 
-/// Appends the elements as the bytes of a header extension, in whole words, and answers the form: the one-byte form where it
-/// has room for each of them, else the two-byte form. Its profile goes before the bytes (see [`ElementForm::profile`]).
+/// Appends the elements as the bytes of a header extension, in whole words, and returns the form: the one-byte form if it has room
+/// for each element, else the two-byte form. Write its profile before the bytes (see [`ElementForm::profile`]).
 ///
 /// # Panics
 ///
@@ -125,7 +125,7 @@ pub fn write_elements(
     Ok(form)
 }
 
-/// What stands behind the padding at the front.
+/// The bytes after the padding at the front.
 fn skip_padding(bytes: &[u8]) -> &[u8] {
     let mut rest = bytes;
     while let [0, others @ ..] = rest {
@@ -134,7 +134,7 @@ fn skip_padding(bytes: &[u8]) -> &[u8] {
     rest
 }
 
-/// The element of that id and so many bytes, and what is behind it, or `None` where it passes the end.
+/// The element with this id and `len` bytes, and the bytes after it; `None` if it extends beyond the end.
 fn cut_front(id: u8, len: usize, bytes: &[u8]) -> Option<(Element<'_>, &[u8])> {
     if bytes.len() < len {
         return None;
@@ -143,7 +143,7 @@ fn cut_front(id: u8, len: usize, bytes: &[u8]) -> Option<(Element<'_>, &[u8])> {
     Some((Element { id, bytes }, rest))
 }
 
-/// The element at the front, and what is behind it.
+/// The element at the front, and the bytes after it.
 fn front_element(form: ElementForm, bytes: &[u8]) -> Option<(Element<'_>, &[u8])> {
     match form {
         ElementForm::OneByte => {
@@ -163,10 +163,10 @@ fn front_element(form: ElementForm, bytes: &[u8]) -> Option<(Element<'_>, &[u8])
     }
 }
 
-/// The elements of an extension, in order. No step takes memory.
+/// The elements of an extension, in order. No step allocates.
 ///
-/// Padding is skipped. The iteration ends at the end of the bytes, in the one-byte form at an id that is reserved (0 with a
-/// length, or 15), and at an element that passes the end: see [`Elements::is_cut`].
+/// Padding is skipped. The iteration ends at the end of the bytes, at a reserved id of the one-byte form (0 with a length, or 15),
+/// and at an element that extends beyond the end: see [`Elements::is_cut`].
 #[derive(Debug)]
 pub struct Elements<'a> {
     form: ElementForm,
@@ -174,13 +174,13 @@ pub struct Elements<'a> {
 }
 
 impl<'a> Elements<'a> {
-    /// The elements of these bytes.
+    /// The elements in these bytes.
     pub fn new(form: ElementForm, bytes: &'a [u8]) -> Elements<'a> {
         Elements { form, bytes }
     }
 
-    /// Whether the bytes that are left begin with an element that passes their end. Asked after the last element, it tells
-    /// whether the extension was cut off.
+    /// Whether the remaining bytes begin with an element that extends beyond their end. After the last element, this says whether
+    /// the extension was cut off.
     pub fn is_cut(&self) -> bool {
         let rest = skip_padding(self.bytes);
         match (self.form, rest) {

@@ -2,8 +2,8 @@
 
 //! RTP packets (RFC 3550, section 5.1).
 //!
-//! A packet is a header of 12 bytes, the CSRCs, a header extension where the bit X is set, the payload, and padding where the
-//! bit P is set. What is read borrows its bytes from the packet; reading takes no memory.
+//! A packet is a header of 12 bytes, the CSRCs, a header extension if the bit X is set, the payload, and padding if the bit P is
+//! set. A parsed packet borrows its bytes; reading does not allocate.
 
 use crate::memory::{AllocError, TryVec};
 use crate::rtp::elements::{ElementForm, Elements};
@@ -13,7 +13,7 @@ use core::fmt;
 /// The length of a header without CSRCs and without an extension, in bytes.
 pub const FIXED_HEADER_LEN: usize = 12;
 
-/// Why bytes are no RTP packet: the first fault in reading order.
+/// Why bytes are not an RTP packet: the first fault in reading order.
 #[derive(Clone, Copy, Debug, PartialEq, Eq)]
 #[non_exhaustive]
 pub enum RtpError {
@@ -25,11 +25,11 @@ pub enum RtpError {
     CsrcsTooShort,
     /// X is set, and the bytes end inside the four that announce the extension.
     ExtensionHeaderTooShort,
-    /// The bytes end inside those of the extension.
+    /// The bytes end inside the extension.
     ExtensionTooShort,
     /// P is set, and the last byte says that there are 0 bytes of padding.
     PaddingOfZero,
-    /// P is set, and there is more padding than bytes are left behind the header.
+    /// P is set, and the padding is longer than the bytes after the header.
     PaddingTooLong,
 }
 
@@ -43,8 +43,8 @@ impl fmt::Display for RtpError {
                 f.write_str("RTP packet ends inside the header of its extension")
             }
             RtpError::ExtensionTooShort => f.write_str("RTP packet ends inside its extension"),
-            RtpError::PaddingOfZero => f.write_str("RTP padding has no bytes"),
-            RtpError::PaddingTooLong => f.write_str("RTP padding is longer than what is left"),
+            RtpError::PaddingOfZero => f.write_str("RTP padding length is 0"),
+            RtpError::PaddingTooLong => f.write_str("RTP padding exceeds the payload"),
         }
     }
 }
@@ -56,7 +56,7 @@ impl core::error::Error for RtpError {}
 pub struct HeaderExtension<'a> {
     /// The 16 bits that the profile defines.
     pub profile: u16,
-    /// What stands behind them and the length: whole words of four bytes.
+    /// The bytes after profile and length: whole words of four bytes.
     pub bytes: &'a [u8],
 }
 
@@ -73,7 +73,7 @@ pub struct PacketHeader<'a> {
     pub timestamp: u32,
     /// The synchronization source.
     pub ssrc: u32,
-    /// The contributing sources, at most 15 of four bytes each, as they stand in the packet. See [`PacketHeader::csrc`].
+    /// The contributing sources, at most 15 of four bytes each, in network order. See [`PacketHeader::csrc`].
     pub csrcs: &'a [u8],
     /// The header extension.
     pub extension: Option<HeaderExtension<'a>>,
@@ -90,7 +90,7 @@ impl<'a> HeaderExtension<'a> {
         are_words(65_535, self.bytes)
     }
 
-    /// The elements of the extension (RFC 8285), or `None` where the profile says that it has none.
+    /// The elements of the extension (RFC 8285); `None` if its profile is of another type.
     pub fn elements(&self) -> Option<Elements<'a>> {
         match ElementForm::of_profile(self.profile) {
             Some(form) => Some(Elements::new(form, self.bytes)),
@@ -117,7 +117,7 @@ fn write_extension(
     }
 }
 
-/// Passes the answer on, and if an allocation failed, cuts `out` back to its first `len` bytes.
+/// Returns the result, and if an allocation failed, cuts `out` back to its first `len` bytes.
 fn cut_back(
     answer: Result<(), AllocError>,
     len: usize,
@@ -140,8 +140,8 @@ fn first_byte(padded: bool, extended: bool, count: u8) -> u8 {
 }
 
 impl<'a> PacketHeader<'a> {
-    /// Whether the header can be written: the payload type is below 128, the CSRCs are whole words of four bytes and at most
-    /// 15, and the extension, if there is one, fits (see [`HeaderExtension::fits`]). A header that was read fits.
+    /// Whether the header can be written: the payload type is below 128, the CSRCs are whole words of four bytes and at most 15,
+    /// and the extension, if present, fits (see [`HeaderExtension::fits`]). A header that was read fits.
     pub fn fits(&self) -> bool {
         let extension_fits = match &self.extension {
             None => true,
@@ -155,7 +155,7 @@ impl<'a> PacketHeader<'a> {
         self.csrcs.len() / 4
     }
 
-    /// The contributing source of that index.
+    /// The contributing source with this index, from 0; `None` if there are fewer.
     pub fn csrc(&self, index: usize) -> Option<u32> {
         if index >= self.csrc_count() {
             return None;
@@ -192,7 +192,7 @@ impl<'a> PacketHeader<'a> {
         [first, second, s1, s0, t3, t2, t1, t0, c3, c2, c1, c0]
     }
 
-    /// Writes the header, with P as it is told.
+    /// Writes the header with this value of P.
     fn write_padded(&self, out: &mut Vec<u8>, padded: bool) -> Result<(), AllocError> {
         out.try_extend(&self.fixed(padded))?;
         out.try_extend(self.csrcs)?;
@@ -221,7 +221,7 @@ pub struct RtpPacket<'a> {
     pub header: PacketHeader<'a>,
     /// The payload, without padding.
     pub payload: &'a [u8],
-    /// How many bytes of padding stood behind the payload: 0 where P was clear, and no 0 where it was set.
+    /// The number of padding bytes after the payload: 0 if P was clear, at least 1 if it was set.
     pub padding: u8,
 }
 
@@ -230,7 +230,7 @@ pub fn is_rtcp(bytes: &[u8]) -> bool {
     matches!(bytes, [_, 192..=223, ..])
 }
 
-/// So many bytes from the front, and what is behind them.
+/// `count` bytes from the front, and the bytes after them.
 fn cut_front(count: usize, fault: RtpError, bytes: &[u8]) -> Result<(&[u8], &[u8]), RtpError> {
     if bytes.len() < count {
         return Err(fault);
@@ -238,7 +238,7 @@ fn cut_front(count: usize, fault: RtpError, bytes: &[u8]) -> Result<(&[u8], &[u8
     Ok(bytes.split_at(count))
 }
 
-/// The extension at the front, if it is there, and what is behind it.
+/// The extension at the front, if present, and the bytes after it.
 fn read_extension(
     there: bool,
     bytes: &[u8],
@@ -255,7 +255,7 @@ fn read_extension(
     Ok((Some(HeaderExtension { profile, bytes }), rest))
 }
 
-/// What stands before the padding, if there is any, and how many bytes of padding there are.
+/// The bytes before the padding, and the number of padding bytes.
 fn remove_padding(there: bool, bytes: &[u8]) -> Result<(&[u8], u8), RtpError> {
     if !there {
         return Ok((bytes, 0));
@@ -274,7 +274,7 @@ fn remove_padding(there: bool, bytes: &[u8]) -> Result<(&[u8], u8), RtpError> {
     Ok((payload, padding))
 }
 
-/// The header at the front, whether P is set, and what is behind it.
+/// The header at the front, whether P is set, and the bytes after it.
 fn read_header(packet: &[u8]) -> Result<(PacketHeader<'_>, bool, &[u8]), RtpError> {
     let [
         first,
@@ -355,11 +355,11 @@ impl<'a> RtpPacket<'a> {
         write_padding(self.padding, out)
     }
 
-    /// The packet that the bytes are (RFC 3550, section 5.1). It takes no memory.
+    /// Reads an RTP packet (RFC 3550, section 5.1). Does not allocate.
     ///
-    /// A fault is the first one from left to right: `HeaderTooShort`, `WrongVersion`, `CsrcsTooShort`,
-    /// `ExtensionHeaderTooShort`, `ExtensionTooShort`, and of the padding `PaddingOfZero` or `PaddingTooLong`. Where P is set
-    /// and nothing is left behind the header, there is no last byte, and the padding is too long.
+    /// The first fault from left to right: `HeaderTooShort`, `WrongVersion`, `CsrcsTooShort`, `ExtensionHeaderTooShort`,
+    /// `ExtensionTooShort`, then `PaddingOfZero` or `PaddingTooLong`. If P is set and no byte follows the header, the result is
+    /// `PaddingTooLong`.
     pub fn parse(bytes: &'a [u8]) -> Result<RtpPacket<'a>, RtpError> {
         RtpPacket::read(bytes)
     }

@@ -4,21 +4,20 @@
 
 use crate::wire::extend_u32;
 
-/// Extends the RTP times of one stream, in the order in which they are told: each becomes the time nearest to the last that has
-/// its 32 bits, half the range going forward. The first gets 2^32 on top, so that earlier ones have times above 0. Takes no
-/// memory.
+/// Extends the RTP times of one stream, in order of the calls: each becomes the time nearest to the last one that has its 32 bits;
+/// half the range counts as forward. The first gets 2^32 added, so that earlier ones have times above 0. Does not allocate.
 #[derive(Clone, Copy, Debug, Default)]
 pub struct RtpTimes {
     last: Option<u64>,
 }
 
 impl RtpTimes {
-    /// No time was told so far.
+    /// No time so far.
     pub fn new() -> RtpTimes {
         RtpTimes { last: None }
     }
 
-    /// The time that was told last, extended.
+    /// The last time, extended.
     pub fn last(&self) -> Option<u64> {
         self.last
     }

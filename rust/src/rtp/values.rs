@@ -98,8 +98,8 @@ pub struct ExtensionIds {
 }
 
 impl ExtensionIds {
-    /// The values that the extension of a packet tells: of each the first element with its id. A value of another length than
-    /// its format's is not there. Goes over the elements once for each id, and takes no memory.
+    /// The values in the extension of a packet: for each, the first element with its id. A value whose length is not that of its
+    /// format is absent. Reads the elements once for each id, and does not allocate.
     pub fn values(&self, extension: &Option<HeaderExtension<'_>>) -> ExtensionValues {
         let level = byte_of(bytes_for(self.audio_level, extension));
         ExtensionValues {
@@ -114,7 +114,7 @@ impl ExtensionIds {
     }
 }
 
-/// The bytes of the first element of that id.
+/// The bytes of the first element with this id.
 fn bytes_with<'a>(id: u8, elements: Elements<'a>) -> Option<&'a [u8]> {
     for element in elements {
         if element.id == id {
@@ -170,7 +170,7 @@ fn allocation_of(bytes: Option<&[u8]>) -> Option<VideoLayersAllocation> {
     }
 }
 
-/// The level that the byte tells.
+/// The level in the byte.
 fn level_in(byte: Option<u8>) -> Option<i8> {
     match byte {
         Some(byte) => Some(audio_level_of(byte).0),
@@ -178,7 +178,7 @@ fn level_in(byte: Option<u8>) -> Option<i8> {
     }
 }
 
-/// Whether the byte tells speech.
+/// Whether the byte says speech.
 fn voice_in(byte: Option<u8>) -> Option<bool> {
     match byte {
         Some(byte) => Some(audio_level_of(byte).1),

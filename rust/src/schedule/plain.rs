@@ -31,7 +31,7 @@ pub(crate) fn run_plain<P: Packetizer, D: Depacketizer>(
     Ok(run)
 }
 
-/// Does one step, and notes what came of it.
+/// Does one step, and records its result.
 fn do_step<P: Packetizer, D: Depacketizer>(
     payloader: &mut Payloader<P>,
     buffer: &mut DepacketizingBuffer<D>,

@@ -50,7 +50,7 @@ fn push_all_recovered<D: Depacketizer>(
     push_all_recovered(clock_rate, buffer, packet, others, pt, place)
 }
 
-/// Pushes what the receiver finds in a packet. A payload that is no RED is passed over.
+/// Pushes the packets that the receiver finds in a packet. An invalid RED payload is skipped.
 fn red_push_step<D: Depacketizer>(
     clock_rate: Frequency,
     buffer: &mut DepacketizingBuffer<D>,
@@ -88,7 +88,7 @@ fn red_send_step<P: Packetizer>(
     })
 }
 
-/// Does one step, and notes what came of it.
+/// Does one step, and records its result.
 fn do_red_step<P: Packetizer, D: Depacketizer>(
     payloader: &mut Payloader<P>,
     buffer: &mut DepacketizingBuffer<D>,
@@ -120,8 +120,8 @@ fn do_red_step<P: Packetizer, D: Depacketizer>(
     }
 }
 
-/// Does what [`run_schedule`](crate::schedule::run::run_schedule) does with this [`RedRun`], which stands behind a reference here,
-/// so that the contract says how its sender is left. Its budget and its receiver stay.
+/// Does the work of [`run_schedule`](crate::schedule::run::run_schedule) with this [`RedRun`], passed by reference here so that the contract
+/// can say how its sender is left. Its budget and its receiver are unchanged.
 pub fn run_in_red<P: Packetizer, D: Depacketizer>(
     payloader: &mut Payloader<P>,
     buffer: &mut DepacketizingBuffer<D>,

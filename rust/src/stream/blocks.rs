@@ -7,6 +7,7 @@ use crate::jitter::jitter_buffer::JitterBuffer;
 use crate::memory::{AllocError, TryQueue, TryVec};
 use crate::red::RedBlock;
 use crate::stream::datagram::{RedPacket, Stream};
+use crate::stream::seen_times::{SeenTime, SeenTimes};
 use crate::wire::{RtpHeader as Header, SeqNo, Ticks};
 use alloc::collections::VecDeque;
 use alloc::vec::Vec;
@@ -62,20 +63,33 @@ fn copy_block(
     }
 }
 
-/// The jitter buffer takes in those of these packets that are missing, in order. Whether there was memory for all of them: where
-/// there is none for one, it and those after it do not go in.
+/// Stores the missing ones of these packets, in order, except those whose RTP time was received. Returns whether there was memory for
+/// all of them: if there is none for one, neither it nor any after it is stored.
 pub(crate) fn recover_all<B: Depacketizer>(
     packets: &mut JitterBuffer<B>,
+    seen: &mut SeenTimes,
     now: Ticks,
     mut copies: VecDeque<BlockCopy>,
 ) -> bool {
     while let Some(copy) = copies.pop_front() {
-        if packets
-            .push_recovered(now, copy.header, copy.payload)
-            .is_err()
-        {
-            return false;
+        let time = copy.header.timestamp;
+        if seen.is_seen(time) {
+            continue;
+        }
+        match packets.push_recovered(now, copy.header, copy.payload) {
+            Ok(went_in) => note_block(seen, went_in, time),
+            Err(_) => return false,
         }
     }
     true
+}
+
+/// Notes the time of a block, if it was stored.
+fn note_block(seen: &mut SeenTimes, went_in: bool, time: u32) {
+    if went_in {
+        seen.note(SeenTime {
+            time,
+            is_block: true,
+        });
+    }
 }

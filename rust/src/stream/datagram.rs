@@ -12,6 +12,7 @@ use crate::rtp::values::ExtensionIds;
 use crate::stream::blocks::{copy_blocks, recover_all};
 use crate::stream::receiver::Retransmission;
 use crate::stream::reports::ReceptionStatistics;
+use crate::stream::seen_times::{SeenTime, SeenTimes};
 use crate::wire::{ExtensionValues, Pt, RtpHeader as Header, Ticks};
 use alloc::vec::Vec;
 
@@ -281,15 +282,33 @@ impl Stream {
         packets.push_retransmitted(now, header, payload)
     }
 
-    /// The jitter buffer takes in the packet that carries blocks: its primary block, where that is media of the stream.
+    /// Returns whether the primary block of a packet is media of the stream.
+    fn is_own_media(&self, red: &RedPacket<'_>) -> bool {
+        red.primary.pt == self.payload_type
+    }
+
+    /// Returns whether a packet of that time and number repeats a block: a block of its time was stored under another number.
+    fn is_repeat<B: Depacketizer>(
+        &self,
+        seen: &SeenTimes,
+        packets: &JitterBuffer<B>,
+        time: u32,
+        number: u16,
+    ) -> bool {
+        self.red.is_some() && seen.has_block(time) && packets.would_store(number)
+    }
+
+    /// Stores the primary block of a packet, if it is media of the stream and repeats no block. Else the packet has no media.
     fn push_primary<B: Depacketizer>(
         &self,
         packets: &mut JitterBuffer<B>,
+        seen: &SeenTimes,
         now: Ticks,
         red: &RedPacket<'_>,
     ) -> Result<Outcome, PacketError> {
         let header = &red.packet.header;
-        if red.primary.pt == self.payload_type {
+        let (time, number) = (header.timestamp, header.sequence_number);
+        if self.is_own_media(red) && !self.is_repeat(seen, packets, time, number) {
             self.push_packet(packets, now, header, red.primary.payload)
         } else {
             packets.push_no_media(header.sequence_number)?;
@@ -314,27 +333,66 @@ impl Stream {
     fn push_red<B: Depacketizer>(
         &self,
         packets: &mut JitterBuffer<B>,
+        seen: &mut SeenTimes,
         now: Ticks,
         red: &RedPacket<'_>,
     ) -> Result<Taken, PacketError> {
         let copies = copy_blocks(self, red)?;
-        let outcome = self.push_primary(packets, now, red)?;
+        let outcome = self.push_primary(packets, seen, now, red)?;
+        note_packet(
+            seen,
+            self.is_own_media(red),
+            outcome,
+            red.packet.header.timestamp,
+        );
         if outcome == Outcome::Suspect {
             return Ok(Taken::whole(outcome));
         }
-        let whole = recover_all(packets, now, copies);
+        let whole = recover_all(packets, seen, now, copies);
         Ok(Taken { outcome, whole })
+    }
+
+    /// Stores a packet with media. If it repeats a block, it counts as a packet without media.
+    fn push_media<B: Depacketizer>(
+        &self,
+        packets: &mut JitterBuffer<B>,
+        seen: &SeenTimes,
+        now: Ticks,
+        packet: &RtpPacket<'_>,
+    ) -> Result<Outcome, PacketError> {
+        let header = &packet.header;
+        if self.is_repeat(seen, packets, header.timestamp, header.sequence_number) {
+            packets.push_no_media(header.sequence_number)?;
+            return Ok(Outcome::NoMedia);
+        }
+        self.push_packet(packets, now, header, packet.payload)
+    }
+
+    /// Stores a retransmitted packet, by the same rule.
+    fn push_again<B: Depacketizer>(
+        &self,
+        packets: &mut JitterBuffer<B>,
+        seen: &SeenTimes,
+        now: Ticks,
+        sent: &SentAgain<'_>,
+    ) -> Result<Outcome, PacketError> {
+        if self.is_repeat(seen, packets, sent.header.timestamp, sent.number) {
+            packets.push_no_media(sent.number)?;
+            return Ok(Outcome::NoMedia);
+        }
+        self.push_retransmitted(packets, now, sent)
     }
 
     /// The jitter buffer takes in what is its stream's.
     pub(crate) fn take<B: Depacketizer>(
         &self,
         packets: &mut JitterBuffer<B>,
+        seen: &mut SeenTimes,
         now: Ticks,
         datagram: &Datagram<'_>,
     ) -> Result<Taken, PacketError> {
         let outcome = match datagram {
-            Datagram::Red(red) => return self.push_red(packets, now, red),
+            Datagram::Red(red) => return self.push_red(packets, seen, now, red),
             Datagram::Rtcp | Datagram::Malformed(_) => Outcome::Rtcp,
             Datagram::OtherStream => Outcome::OtherStream,
             Datagram::NoMedia(packet) => {
@@ -342,9 +400,15 @@ impl Stream {
                 Outcome::NoMedia
             }
             Datagram::Media(packet) => {
-                self.push_packet(packets, now, &packet.header, packet.payload)?
+                let outcome = self.push_media(packets, seen, now, packet)?;
+                note_packet(seen, self.red.is_some(), outcome, packet.header.timestamp);
+                outcome
             }
-            Datagram::SentAgain(sent) => self.push_retransmitted(packets, now, sent)?,
+            Datagram::SentAgain(sent) => {
+                let outcome = self.push_again(packets, seen, now, sent)?;
+                note_packet(seen, self.red.is_some(), outcome, sent.header.timestamp);
+                outcome
+            }
             Datagram::Nothing => {
                 packets.push_nothing();
                 Outcome::NoMedia
@@ -352,6 +416,25 @@ impl Stream {
         };
         Ok(Taken::whole(outcome))
     }
+}
+
+/// Returns whether the sender restarted.
+fn is_restart(outcome: Outcome) -> bool {
+    matches!(outcome, Outcome::Restarted(_))
+}
+
+/// Notes the time of a packet, if it has media and its stream is sent in RED. A restart forgets the times before it.
+fn note_packet(seen: &mut SeenTimes, is_media: bool, outcome: Outcome, time: u32) {
+    if !is_media {
+        return;
+    }
+    if is_restart(outcome) {
+        *seen = SeenTimes::none();
+    }
+    seen.note(SeenTime {
+        time,
+        is_block: false,
+    });
 }
 
 /// The SSRC of the stream, once that datagram came.

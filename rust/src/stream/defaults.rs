@@ -3,20 +3,15 @@
 //! Settings by purpose.
 
 use crate::jitter::jitter_buffer::WaitLimits;
+use crate::keyframes::unit_gate::FromKeyframe;
 use crate::rtp::values::ExtensionIds;
 use crate::stream::receiver::ReceiverSettings;
+use crate::stream::windows::Windows;
 use crate::wire::Frequency;
 use alloc::vec::Vec;
 
 /// How many packets a receiver with default settings holds at most.
 const LIMIT: usize = 4_096;
-
-/// How far ahead of the greatest number a packet may be, and how far behind it.
-#[derive(Clone, Copy, Debug)]
-struct Windows {
-    forward: u16,
-    backward: u16,
-}
 
 /// At least the packets of 5 s behind and more than twice as many ahead, of packets of 20 ms or less often.
 const AUDIO: Windows = Windows {
@@ -35,9 +30,13 @@ impl ReceiverSettings {
     ///
     /// As all of these constructors have it: no SSRC is named, so that two packets choose the stream; nothing is sent in RED and
     /// nothing is retransmitted; no payload type comes without media and no header extension has an id; 4,096 packets are held at
-    /// most; and the caller's clock has ticks of milliseconds. All fields are public: change what differs. Takes no memory.
+    /// most; the caller's clock has ticks of milliseconds; and units of video are marked as decodable or not. All fields are public:
+    /// change what differs. Takes no memory.
     ///
-    /// A lost packet delays frames by at most 100 ms. The windows are 3,000 packets ahead and 1,000 behind.
+    /// A lost packet delays frames by at most 100 ms. The windows are 3,000 packets ahead and 1,000 behind. For more than 200 packets
+    /// per second set those of [`Windows::for_rate`].
+    ///
+    /// [`Windows::for_rate`]: crate::stream::windows::Windows::for_rate
     pub fn live_audio(payload_type: u8, clock_rate: Frequency) -> ReceiverSettings {
         ReceiverSettings::with_defaults(payload_type, clock_rate, WaitLimits::live(), AUDIO)
     }
@@ -54,7 +53,10 @@ impl ReceiverSettings {
     }
 
     /// Returns settings for live video without retransmission: a lost packet delays frames by at most 100 ms. The windows are
-    /// 12,000 packets ahead and 5,000 behind. All else as [`ReceiverSettings::live_audio`].
+    /// 12,000 packets ahead and 5,000 behind. For more than 1,000 packets per second set those of [`Windows::for_rate`]. All else as
+    /// [`ReceiverSettings::live_audio`].
+    ///
+    /// [`Windows::for_rate`]: crate::stream::windows::Windows::for_rate
     pub fn live_video(payload_type: u8, clock_rate: Frequency) -> ReceiverSettings {
         ReceiverSettings::with_defaults(payload_type, clock_rate, WaitLimits::live(), VIDEO)
     }
@@ -98,6 +100,7 @@ impl ReceiverSettings {
             limit: LIMIT,
             forward: windows.forward,
             backward: windows.backward,
+            from_keyframe: FromKeyframe::Mark,
         }
     }
 }

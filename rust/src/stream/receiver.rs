@@ -8,6 +8,7 @@ use crate::error::PacketError;
 use crate::jitter::jitter_buffer::{JitterBuffer, Outcome, PacketCounters, WaitLimits};
 use crate::jitter::missing::MissingNumbers;
 use crate::jitter::numbers::{SequenceNumbers, WindowError};
+use crate::keyframes::unit_gate::{FromKeyframe, UnitGate};
 use crate::red::RedReceiver;
 use crate::rtp::packet::RtpError;
 use crate::rtp::times::RtpTimes;
@@ -16,7 +17,9 @@ use crate::stream::choice::{Choice, Origin, Verdict};
 use crate::stream::datagram::{
     Datagram, Malformation, RedStream, Stream, Taken, observe, ssrc_after,
 };
+use crate::stream::gated::{follow, follow_into, gate_for};
 use crate::stream::reports::{ReceptionReport, ReceptionStatistics};
+use crate::stream::seen_times::SeenTimes;
 use crate::wire::{Frequency, Ticks};
 use alloc::vec::Vec;
 use core::fmt;
@@ -75,6 +78,9 @@ pub struct ReceiverSettings {
     pub forward: u16,
     /// How far behind it: at most this, and less than `forward` (1,000 serves where packets are sent again).
     pub backward: u16,
+    /// What happens to units of video that a decoder cannot show: those after a gap, until a keyframe. All constructors set
+    /// [`FromKeyframe::Mark`]. Units of audio are always released.
+    pub from_keyframe: FromKeyframe,
 }
 
 /// Which setting is out of range.
@@ -176,6 +182,9 @@ pub struct Counters {
     pub undecided: u64,
     /// What became of the packets of the stream, and of those that were recovered.
     pub packets: PacketCounters,
+    /// Units of video that a decoder cannot show. They were released, or dropped if the settings say [`FromKeyframe::Drop`]. Both
+    /// count as units in `packets`.
+    pub undecodable: u64,
 }
 
 /// The same, without the packets of the stream.
@@ -206,6 +215,10 @@ pub struct Receiver<B = NoBox> {
     /// The statistics before any packet came.
     no_statistics: ReceptionStatistics,
     choice: Choice,
+    /// The RTP times of the latest packets and blocks, if the stream is sent in RED.
+    seen: SeenTimes,
+    /// Which units a decoder can show.
+    gates: UnitGate,
 }
 
 impl<B: Depacketizer> Receiver<B> {
@@ -233,6 +246,7 @@ impl<B: Depacketizer> Receiver<B> {
         let clock_rate = settings.clock_rate;
         let statistics = ReceptionStatistics::over(numbers, settings.tick_rate, clock_rate);
         let choice = Choice::over(settings.tick_rate);
+        let gates = gate_for(&depacketizer, settings.from_keyframe);
         let wait_limits = settings.wait_limits;
         let buffer = DepacketizingBuffer::with_limit(
             depacketizer,
@@ -257,6 +271,8 @@ impl<B: Depacketizer> Receiver<B> {
             statistics,
             no_statistics: statistics,
             choice,
+            seen: SeenTimes::none(),
+            gates,
         })
     }
 
@@ -372,7 +388,10 @@ impl<B: Depacketizer> Receiver<B> {
         let Ok(datagram) = self.stream.sort(self.ssrc, bytes) else {
             return Err(ReceiveError::OutOfMemory);
         };
-        let Ok(taken) = self.stream.take(&mut self.packets, now, &datagram) else {
+        let Ok(taken) = self
+            .stream
+            .take(&mut self.packets, &mut self.seen, now, &datagram)
+        else {
             return Err(ReceiveError::OutOfMemory);
         };
         self.ssrc = ssrc_after(self.ssrc, &datagram);
@@ -383,10 +402,26 @@ impl<B: Depacketizer> Receiver<B> {
     }
 
     /// The next unit, at that time, where its turn has come. See [`JitterBuffer::pop`].
+    ///
+    /// For video [`Receiver::unit_is_decodable`] then says whether a decoder can show the unit. If the settings say
+    /// [`FromKeyframe::Drop`], units that a decoder cannot show are dropped, and the answer is that of the first pop whose unit is not.
     pub fn pop(&mut self, now: Ticks) -> Option<Result<Depacketized, PacketError>> {
+        loop {
+            let (answer, is_passed) = self.pop_once(now);
+            if is_passed {
+                return answer;
+            }
+        }
+    }
+
+    /// Pops the jitter buffer, and says whether the answer is passed on.
+    fn pop_once(&mut self, now: Ticks) -> (Option<Result<Depacketized, PacketError>>, bool) {
+        let left = self.packets.counters().left;
         let answer = self.packets.pop(now);
         extend_with(&mut self.times, &answer);
-        answer
+        let has_left = self.packets.counters().left != left;
+        let is_passed = follow(&mut self.gates, &answer, has_left);
+        (answer, is_passed)
     }
 
     /// The same into memory of the caller's, which is used again. See [`JitterBuffer::pop_into`].
@@ -396,9 +431,48 @@ impl<B: Depacketizer> Receiver<B> {
         bytes: &mut Vec<u8>,
         metas: &mut Vec<RtpMeta>,
     ) -> Option<Result<UnitInfo, PacketError>> {
+        loop {
+            let (answer, is_passed) = self.pop_once_into(now, bytes, metas);
+            if is_passed {
+                return answer;
+            }
+        }
+    }
+
+    /// Pops the jitter buffer into this memory, and says whether the answer is passed on.
+    fn pop_once_into(
+        &mut self,
+        now: Ticks,
+        bytes: &mut Vec<u8>,
+        metas: &mut Vec<RtpMeta>,
+    ) -> (Option<Result<UnitInfo, PacketError>>, bool) {
+        let left = self.packets.counters().left;
         let answer = self.packets.pop_into(now, bytes, metas);
         extend_into(&mut self.times, &answer);
-        answer
+        let has_left = self.packets.counters().left != left;
+        let is_passed = follow_into(&mut self.gates, &answer, bytes, has_left);
+        (answer, is_passed)
+    }
+
+    /// Whether a decoder can show the unit that the last pop gave: it is a keyframe, or it follows a unit that can be shown, without
+    /// a gap. True for audio, and with [`FromKeyframe::Off`]. False for video before the first unit, and after a pop that gave an
+    /// error.
+    pub fn unit_is_decodable(&self) -> bool {
+        self.gates.is_decodable()
+    }
+
+    /// Whether the unit that the last pop gave is a keyframe, by its frame header (RFC 6386, section 9.1; VP9 bitstream
+    /// specification, section 6.2; AV1 bitstream specification, section 5.9). False for audio, and with [`FromKeyframe::Off`].
+    pub fn unit_is_keyframe(&self) -> bool {
+        self.gates.is_keyframe()
+    }
+
+    /// Whether to request a keyframe (by PLI, RFC 4585, section 6.3.1, or FIR, RFC 5104, section 4.3.1). True from the first pop that
+    /// needs one until a pop releases a keyframe: it gave a unit that a decoder cannot show, or an error other than
+    /// [`PacketError::OutOfMemory`], or it gave no unit and discarded packets, as when the picture ids of the sender jump back. True
+    /// after [`Receiver::restart`] too. False for audio, and with [`FromKeyframe::Off`].
+    pub fn wants_keyframe(&self) -> bool {
+        self.gates.wants_keyframe()
     }
 
     /// The RTP time of the unit that came out last, in ticks of the RTP clock, as a time that does not wrap: that of the first unit
@@ -437,6 +511,7 @@ impl<B: Depacketizer> Receiver<B> {
     /// The sender begins anew: the next packet of the stream gets a number above all others, whatever it carries, and pops wait
     /// again. What is held stays, and comes out before what is new; a suspect packet is dropped, and stays counted as such. If the
     /// settings name no SSRC, the stream is chosen anew, by two packets; those that wait are of other streams. Reports begin anew.
+    /// A keyframe is needed from now on ([`Receiver::wants_keyframe`]).
     pub fn restart(&mut self) {
         let named = self.named;
         self.begin_anew(named);
@@ -456,6 +531,7 @@ impl<B: Depacketizer> Receiver<B> {
         let waiting = self.choice.candidates.len();
         self.turn_away(waiting);
         self.choice.forget();
+        self.gates.skip();
         self.go_over_to(ssrc);
     }
 
@@ -463,6 +539,7 @@ impl<B: Depacketizer> Receiver<B> {
     fn go_over_to(&mut self, ssrc: Option<u32>) {
         self.ssrc = ssrc;
         self.statistics = self.no_statistics;
+        self.seen = SeenTimes::none();
         self.packets.restart();
     }
 
@@ -498,6 +575,7 @@ impl<B: Depacketizer> Receiver<B> {
             other_streams: self.arrived.other_streams,
             undecided,
             packets: self.packets.counters(),
+            undecodable: self.gates.undecodable(),
         }
     }
 }

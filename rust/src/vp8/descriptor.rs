@@ -16,33 +16,33 @@ pub(crate) const NON_REFERENCE_FRAME: u8 = 0x20;
 /// S of the first byte: a partition starts.
 pub(crate) const START_OF_PARTITION: u8 = 0x10;
 
-/// How many partitions PID, the low three bits of the first byte, tells apart.
+/// The number of partitions that PID, the low three bits of the first byte, can name.
 pub(crate) const PARTITION_INDEXES: u8 = 8;
 
-/// I of the second byte: the picture id is there.
+/// I of the second byte: the picture id is present.
 pub(crate) const PICTURE_ID_PRESENT: u8 = 0x80;
 
-/// L of the second byte: TL0PICIDX is there.
+/// L of the second byte: TL0PICIDX is present.
 pub(crate) const TL0_PIC_IDX_PRESENT: u8 = 0x40;
 
 /// T of the second byte: TID and Y are there.
 pub(crate) const TID_PRESENT: u8 = 0x20;
 
-/// K of the second byte: KEYIDX is there.
+/// K of the second byte: KEYIDX is present.
 pub(crate) const KEY_IDX_PRESENT: u8 = 0x10;
 
-/// Y, beside TID and KEYIDX: the frame depends on frames of the base layer alone.
+/// Y, in the byte of TID and KEYIDX: the frame depends only on frames of the base layer.
 pub(crate) const LAYER_SYNC: u8 = 0x20;
 
-/// How many keyframes KEYIDX, the low five bits beside TID and Y, tells apart.
+/// The number of keyframes that KEYIDX, the low five bits after TID and Y, can name.
 pub(crate) const KEY_INDEXES: u8 = 32;
 
 /// Why a payload has no descriptor.
 #[derive(Clone, Debug, PartialEq, Eq, Copy)]
 pub enum Vp8DescriptorError {
-    /// A byte is missing, of the descriptor or behind it.
+    /// A byte of the descriptor is missing, or no byte follows it.
     ShortPayload,
-    /// TL0PICIDX stands there without a temporal layer.
+    /// TL0PICIDX is present without a temporal layer.
     MalformedDescriptor,
 }
 
@@ -64,15 +64,15 @@ impl core::error::Error for Vp8DescriptorError {}
 pub struct Vp8Descriptor {
     /// X R N S R PID(3).
     first: u8,
-    /// I L T K RSV(4), where X is set.
+    /// I L T K RSV(4), if X is set.
     flags: Option<u8>,
     picture_id: Option<PictureId>,
     tl0_pic_idx: Option<u8>,
-    /// TID(2) Y KEYIDX(5), where T or K is set.
+    /// TID(2) Y KEYIDX(5), if T or K is set.
     tid_octet: Option<u8>,
 }
 
-/// A byte at the front, if it is there, and what is behind it.
+/// The byte at the front, if the flag says that it is present, and the bytes after it.
 fn byte_of(there: bool, bytes: &[u8]) -> Result<(Option<u8>, &[u8]), Vp8DescriptorError> {
     if !there {
         return Ok((None, bytes));
@@ -83,7 +83,7 @@ fn byte_of(there: bool, bytes: &[u8]) -> Result<(Option<u8>, &[u8]), Vp8Descript
     Ok((Some(byte), rest))
 }
 
-/// A picture id at the front, if it is there, and what is behind it.
+/// The picture id at the front, if the flag says that it is present, and the bytes after it.
 fn id_of(there: bool, bytes: &[u8]) -> Result<(Option<PictureId>, &[u8]), Vp8DescriptorError> {
     if !there {
         return Ok((None, bytes));
@@ -106,8 +106,7 @@ impl Vp8Descriptor {
         }
     }
 
-    /// Reads the fields behind the second byte, and answers what is behind them. On an error the fields hold what was
-    /// read so far.
+    /// Reads the fields after the second byte, and returns the bytes after them. On an error the fields hold what was read so far.
     pub(crate) fn read_fields<'a>(
         &mut self,
         flags: u8,
@@ -126,7 +125,7 @@ impl Vp8Descriptor {
         Ok(rest)
     }
 
-    /// Reads the second byte and what is behind it.
+    /// Reads the second byte and the fields after it.
     fn read_extension<'a>(&mut self, bytes: &'a [u8]) -> Result<&'a [u8], Vp8DescriptorError> {
         let Some((&flags, rest)) = bytes.split_first() else {
             return Err(Vp8DescriptorError::ShortPayload);
@@ -137,7 +136,7 @@ impl Vp8Descriptor {
         self.read_fields(flags, rest)
     }
 
-    /// Reads what is behind the first byte.
+    /// Reads the bytes after the first byte.
     pub(crate) fn read<'a>(&mut self, bytes: &'a [u8]) -> Result<&'a [u8], Vp8DescriptorError> {
         if self.first & EXTENSION_PRESENT == 0 {
             return Ok(bytes);
@@ -145,7 +144,7 @@ impl Vp8Descriptor {
         self.read_extension(bytes)
     }
 
-    /// Reads a descriptor, behind which something follows.
+    /// Reads a descriptor that must have at least one byte after it.
     fn read_payload(payload: &[u8]) -> Result<Self, Vp8DescriptorError> {
         let Some((&first, bytes)) = payload.split_first() else {
             return Err(Vp8DescriptorError::ShortPayload);
@@ -160,13 +159,13 @@ impl Vp8Descriptor {
 
     /// The descriptor of a payload.
     ///
-    /// `MalformedDescriptor` where TL0PICIDX stands there without a temporal layer, and `ShortPayload` where a byte is
-    /// missing, also of what is behind the descriptor.
+    /// `MalformedDescriptor`: TL0PICIDX is present without a temporal layer. `ShortPayload`: a byte of the descriptor is missing,
+    /// or no byte follows it.
     pub fn parse(payload: &[u8]) -> Result<Self, Vp8DescriptorError> {
         Vp8Descriptor::read_payload(payload)
     }
 
-    /// The picture id, of 7 or 15 bits, if it is there.
+    /// The picture id, of 7 or 15 bits, if present.
     pub fn picture_id(&self) -> Option<u16> {
         match self.picture_id {
             Some(id) => Some(id.value()),
@@ -174,8 +173,8 @@ impl Vp8Descriptor {
         }
     }
 
-    /// How many bits the picture id has: 7, or 15 if its M bit is set (RFC 7741, section 4.2). `None` if there is no picture
-    /// id. A patch keeps this width.
+    /// The width of the picture id in bits: 7, or 15 if its M bit is set (RFC 7741, section 4.2); `None` without a picture id. A
+    /// patch keeps this width.
     pub fn picture_id_bits(&self) -> Option<u8> {
         match self.picture_id {
             Some(PictureId::Short(_)) => Some(7),
@@ -184,12 +183,12 @@ impl Vp8Descriptor {
         }
     }
 
-    /// TL0PICIDX, if it is there.
+    /// TL0PICIDX, if present.
     pub fn tl0_pic_idx(&self) -> Option<u8> {
         self.tl0_pic_idx
     }
 
-    /// KEYIDX, 0 to 31, if it is there.
+    /// KEYIDX, 0 to 31, if present.
     pub fn key_idx(&self) -> Option<u8> {
         match (self.flags, self.tid_octet) {
             (Some(flags), Some(octet)) if flags & KEY_IDX_PRESENT != 0 => Some(octet % KEY_INDEXES),
@@ -205,8 +204,7 @@ impl Vp8Descriptor {
         1 + flags + self.id_len() + tl0 + octet
     }
 
-    /// Whether a keyframe starts in the payload: of the payload that is given the first byte is read, and the one behind
-    /// a descriptor of this length.
+    /// Whether a keyframe starts in the payload. Reads the first byte of `payload`, and the byte after a descriptor of this length.
     pub fn starts_keyframe(&self, payload: &[u8]) -> bool {
         let Some(&first) = payload.first() else {
             return false;
@@ -244,12 +242,12 @@ impl Vp8Descriptor {
         }
     }
 
-    /// Where TL0PICIDX stands in an extended descriptor.
+    /// The place of TL0PICIDX in an extended descriptor.
     pub(crate) fn place_of_tl0(&self) -> usize {
         2 + self.id_len()
     }
 
-    /// Where TID Y KEYIDX stand in an extended descriptor.
+    /// The place of TID, Y and KEYIDX in an extended descriptor.
     pub(crate) fn place_of_octet(&self) -> usize {
         self.place_of_tl0() + usize::from(self.tl0_pic_idx.is_some())
     }
@@ -262,7 +260,7 @@ impl Vp8Descriptor {
         self.flags
     }
 
-    /// The picture id with its width, if it is there.
+    /// The picture id with its width, if present.
     pub(crate) fn sent_picture_id(&self) -> Option<PictureId> {
         self.picture_id
     }

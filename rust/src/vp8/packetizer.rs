@@ -11,15 +11,15 @@ use crate::vp8::VP8_HEADER_SIZE;
 use crate::vp8::descriptor::{EXTENSION_PRESENT, PICTURE_ID_PRESENT, START_OF_PARTITION};
 use alloc::vec::Vec;
 
-/// Cuts VP8 frames into pieces, each behind its descriptor. The default sends no picture ids.
+/// Cuts VP8 frames into pieces, each after its descriptor. The default sends no picture ids.
 #[derive(Clone, Debug, Default, Copy)]
 pub struct Vp8Packetizer {
     picture_id: Option<u16>,
 }
 
 impl Vp8Packetizer {
-    /// A packetizer whose next frame gets this picture id, of at most 15 bits; the frames after it get the next ones, modulo
-    /// 2^15. Where the ids of a stream start anew, let the next frame be a keyframe: a receiver may take others for old ones.
+    /// A packetizer that gives its next frame this picture id, of at most 15 bits; later frames get the next ids, modulo 2^15. If
+    /// the ids of a stream restart, make the next frame a keyframe: a receiver may take other frames for old ones.
     ///
     /// # Panics
     ///
@@ -108,12 +108,12 @@ impl Packetizer for Vp8Packetizer {
     /// picture ids, 3 with an id below 128, and else 4 (RFC 7741, section 4.2). An empty frame, or an MTU of at most the
     /// descriptor, gives no packets. Each byte is copied once. A frame that gave packets has used its picture id.
     ///
-    /// `OutOfMemory` alone; the next picture id is then as before.
+    /// Only `OutOfMemory`; the next picture id is then unchanged.
     fn packetize(&mut self, mtu: usize, b: &[u8]) -> Result<Vec<Vec<u8>>, PacketError> {
         self.send(mtu, b)
     }
 
-    /// The same into memory that is used again.
+    /// The same into reused memory.
     fn packetize_into(
         &mut self,
         mtu: usize,

@@ -12,7 +12,7 @@ use core::fmt;
 pub enum Vp8PatchError {
     /// I is clear.
     PictureIdMissing,
-    /// The id is above 127 where 7 bits are there, or above 32,767.
+    /// The id is above 127 in a field of 7 bits, or above 32,767.
     PictureIdTooLarge,
     /// L is clear.
     Tl0PicIdxMissing,
@@ -120,7 +120,7 @@ fn placed_id(asked: bool, id: Option<PictureId>) -> Option<(usize, u8)> {
     }
 }
 
-/// The second byte of a picture id with its place, if it is there and asked for.
+/// The second byte of a picture id with its place, if present and requested.
 fn placed_id_low(asked: bool, id: Option<PictureId>) -> Option<(usize, u8)> {
     match id {
         Some(PictureId::Long(id)) if asked => Some((3, (id % 256) as u8)),
@@ -138,7 +138,7 @@ impl Vp8PatchBuilder {
         }
     }
 
-    /// Asks for this picture id, in the width that is there.
+    /// Requests this picture id, in the width of the existing one.
     pub fn picture_id(self, picture_id: u16) -> Self {
         Vp8PatchBuilder {
             picture_id: Some(picture_id),
@@ -211,7 +211,7 @@ pub struct Vp8Patch {
     key_idx: Option<(usize, u8)>,
 }
 
-/// Whether a place, if it is there, is below `len`.
+/// Whether a place, if present, is below `len`.
 fn is_below(place: Option<(usize, u8)>, len: usize) -> bool {
     match place {
         None => true,
@@ -219,7 +219,7 @@ fn is_below(place: Option<(usize, u8)>, len: usize) -> bool {
     }
 }
 
-/// Writes a byte at its place, if it is there.
+/// Writes a byte at its place, if there is one.
 fn write(place: Option<(usize, u8)>, dst: &mut [u8]) {
     if let Some((place, byte)) = place {
         dst[place] = byte;
@@ -235,8 +235,8 @@ impl Vp8Patch {
             && is_below(self.key_idx, len)
     }
 
-    /// Copies the payload into `dst`, with the bytes of the patch in their places. Both have one length, within which every
-    /// patched place stands; ask `reaches` where the payload is not the one that was parsed.
+    /// Copies the payload into `dst` with the patched bytes replaced. Both must have the same length, and every patched place must
+    /// lie within it; call `reaches` first if the payload is not the one that was parsed.
     ///
     /// # Panics
     ///

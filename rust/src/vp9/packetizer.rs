@@ -44,7 +44,7 @@ impl Sender {
         }
     }
 
-    /// The same after a frame: the picture id advances where it gave packets.
+    /// The state after a frame: the picture id advances if the frame gave packets.
     fn advanced(self, gave_packets: bool) -> Sender {
         if !gave_packets {
             return self;
@@ -122,19 +122,18 @@ impl PieceHeader for FrameHeader {
     }
 }
 
-/// Cuts VP9 frames into pieces, each behind its descriptor (RFC 9628, section 4.2).
+/// Cuts VP9 frames into pieces, each after its descriptor (RFC 9628, section 4.2).
 ///
-/// In the flexible mode P is never set and no references are told, so a receiver counts every frame as a keyframe. In the
-/// non-flexible mode a frame is told to be a keyframe just where `detect_vp9_keyframe_bitstream` says so.
+/// In flexible mode P is never set and no references are sent, so a receiver counts every frame as a keyframe. In non-flexible mode
+/// a frame is marked as a keyframe exactly if `detect_vp9_keyframe_bitstream` detects one.
 #[derive(Clone, Debug)]
 pub struct Vp9Packetizer {
     sender: Sender,
 }
 
 impl Vp9Packetizer {
-    /// A packetizer of that mode, whose next frame gets this picture id, of at most 15 bits; the frames after it get the next
-    /// ones, modulo 2^15. Where the ids of a stream start anew, let the next frame be a keyframe: a receiver may take others
-    /// for old ones.
+    /// A packetizer of this mode that gives its next frame this picture id, of at most 15 bits; later frames get the next ids,
+    /// modulo 2^15. If the ids of a stream restart, make the next frame a keyframe: a receiver may take other frames for old ones.
     ///
     /// # Panics
     ///
@@ -188,17 +187,17 @@ impl Default for Vp9Packetizer {
 }
 
 impl Packetizer for Vp9Packetizer {
-    /// The frame in pieces of `mtu` bytes less those kept for the descriptor (8 in the non-flexible mode, 3 in the
-    /// flexible one), the last with the rest. An empty frame, or an MTU of at most these bytes, gives no packets. Each
-    /// byte is copied once. A frame that gave packets has used its picture id; one that is not empty has used a TL0PICIDX
-    /// of the non-flexible mode, at any MTU above 0.
+    /// The frame in pieces of `mtu` bytes less the bytes reserved for the descriptor (8 in non-flexible mode, 3 in flexible mode),
+    /// the last with the rest. An empty frame, or an MTU of at most these bytes, gives no packets. Each byte is copied once. A
+    /// frame that gave packets uses its picture id. In non-flexible mode a nonempty frame uses a TL0PICIDX at any MTU above 0, even
+    /// if it gave no packets.
     ///
-    /// `OutOfMemory` alone; the next picture id and TL0PICIDX are then as before.
+    /// Only `OutOfMemory`; the next picture id and TL0PICIDX are then unchanged.
     fn packetize(&mut self, mtu: usize, b: &[u8]) -> Result<Vec<Vec<u8>>, PacketError> {
         self.send(mtu, b)
     }
 
-    /// The same into memory that is used again.
+    /// The same into reused memory.
     fn packetize_into(
         &mut self,
         mtu: usize,

@@ -13,7 +13,7 @@ pub enum MediaType {
     Unknown,
 }
 
-/// What kind of media a stream carries.
+/// The media type of a stream.
 #[derive(Clone, Copy, Debug, PartialEq, Eq, Hash)]
 pub enum MediaKind {
     Audio,
@@ -21,7 +21,7 @@ pub enum MediaKind {
 }
 
 impl MediaKind {
-    /// The kind of media of that type, or `None` for a type that is neither audio nor video.
+    /// The media kind of this media type; `None` if it is neither audio nor video.
     pub fn from_media_type(media_type: MediaType) -> Option<MediaKind> {
         match media_type {
             MediaType::Audio => Some(MediaKind::Audio),

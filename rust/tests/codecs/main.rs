@@ -1,5 +1,5 @@
 //! The worked examples of the parts, of the codecs and of RED, by what the crate makes public. The test of a
-//! module stands in the file of that name.
+//! module is in the file of that name.
 
 mod asserts;
 mod audio;

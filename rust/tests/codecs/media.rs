@@ -1,5 +1,5 @@
-//! What frames of encoders say. `scripts/media_frames.sh` makes them with ffmpeg's encoders; what is wanted is what ffprobe and
-//! ffmpeg's `trace_headers` tell of them.
+//! The headers of encoders' frames. `scripts/media_frames.sh` makes the frames with ffmpeg's encoders; the expected values are those of
+//! ffprobe and ffmpeg's `trace_headers`.
 
 mod amr_wb;
 mod av1;

@@ -14,7 +14,7 @@ pub struct Frame {
     pub packets: Result<&'static [&'static [u8]], PacketError>,
 }
 
-/// As many parts as are wanted, each of them whole.
+/// Fails if the parts differ from the expected ones.
 pub fn assert_parts(name: &str, parts: &[Vec<u8>], wanted: &[&[u8]]) {
     assert_same(name, &parts.len(), &wanted.len());
     for (place, (part, bytes)) in parts.iter().zip(wanted).enumerate() {
@@ -61,7 +61,7 @@ pub fn found<T>(answer: Result<T, PacketError>) -> Result<Option<T>, Fail> {
     }
 }
 
-/// Bytes of which one is there so many times in the middle.
+/// Bytes with one byte repeated in the middle.
 pub fn filled(front: &[u8], filling: u8, count: usize, back: &[u8]) -> Result<Vec<u8>, AllocError> {
     let mut bytes = Vec::try_from_slice(front)?;
     for _ in 0..count {
@@ -71,7 +71,7 @@ pub fn filled(front: &[u8], filling: u8, count: usize, back: &[u8]) -> Result<Ve
     Ok(bytes)
 }
 
-/// A depacketizer, and what it put together so far.
+/// A depacketizer, and the unit that it reassembled so far.
 pub struct Unit<D> {
     pub depacketizer: D,
     pub out: Vec<u8>,

@@ -6,8 +6,10 @@ use codec_payload::rtcp::items::{FullIntraEntry, ReportBlock};
 use codec_payload::rtcp::nack::pack_numbers;
 use codec_payload::rtcp::packet::{
     FullIntraRequest, Goodbye, Nack, PictureLoss, ReceiverReport, RtcpPacket, SenderReport,
+    SourceDescription,
 };
-use codec_payload::rtcp::writing::write_cname;
+use codec_payload::rtcp::sdes::{CNAME, SdesItem, write_chunk};
+use codec_payload::rtcp::writing::{padding_fits, write_cname, write_padded};
 
 #[test]
 fn compound_written() -> Result<(), Fail> {
@@ -127,5 +129,135 @@ fn others_written() -> Result<(), Fail> {
         0, 0, 0, 4, 0, 0, 0, 5, 0, 0, 0, 6,
     ];
     assert_eq!(out.as_slice(), wanted.as_slice());
+    Ok(())
+}
+
+/// NAME is 2 (RFC 3550, section 6.5.2).
+const NAME: u8 = 2;
+
+/// Two chunks: one with two items, of whose 4 + 4 + 8 bytes 15 are used, and one without items.
+const CHUNKS: [u8; 24] = [
+    0, 0, 0, 1, 1, 2, b'm', b'e', 2, 5, b'A', b'l', b'i', b'c', b'e', 0, 0, 0, 0, 2, 0, 0, 0, 0,
+];
+
+#[test]
+fn several_chunks_written() -> Result<(), Fail> {
+    let items = [
+        SdesItem {
+            kind: CNAME,
+            text: b"me",
+        },
+        SdesItem {
+            kind: NAME,
+            text: b"Alice",
+        },
+    ];
+    let mut chunks = Vec::new();
+    write_chunk(1, &items, &mut chunks)?;
+    write_chunk(2, &[], &mut chunks)?;
+    assert_eq!(chunks, CHUNKS);
+    let description = SourceDescription {
+        count: 2,
+        chunks: &chunks,
+    };
+    assert!(description.fits());
+    let mut out = Vec::new();
+    description.write(&mut out)?;
+    assert_eq!(out[..4], [0x82, 202, 0, 6]);
+    assert_eq!(out[4..], CHUNKS);
+    let mut packets = read_compound(CompoundRule::ReducedSize, &out)?;
+    let Some(RtcpPacket::SourceDescription(again)) = packets.next() else {
+        return Err("it is a description".into());
+    };
+    let found: Vec<_> = again.chunks().collect();
+    assert_eq!(found.len(), 2);
+    assert!(found[0].items().eq(items));
+    assert_eq!((found[1].ssrc, found[1].items().count()), (2, 0));
+    Ok(())
+}
+
+/// Each length of a text ends its chunk with one to four bytes of 0, and comes back.
+#[test]
+fn every_length_of_a_text() -> Result<(), Fail> {
+    let text = [b'x'; 255];
+    for len in 0..=255 {
+        let item = SdesItem {
+            kind: CNAME,
+            text: &text[..len],
+        };
+        let mut chunks = Vec::new();
+        write_chunk(7, &[item], &mut chunks)?;
+        assert_eq!(chunks.len(), (6 + len) / 4 * 4 + 4);
+        assert!(chunks[6 + len..].iter().all(|byte| *byte == 0));
+        let description = SourceDescription {
+            count: 1,
+            chunks: &chunks,
+        };
+        let mut out = Vec::new();
+        description.write(&mut out)?;
+        let mut cname = Vec::new();
+        write_cname(7, item.text, &mut cname)?;
+        assert_eq!(out, cname);
+    }
+    Ok(())
+}
+
+#[test]
+fn what_does_not_fit() {
+    let long = [b'x'; 256];
+    let fits = |kind, text| SdesItem { kind, text }.fits();
+    assert!(fits(255, &long[..255]));
+    assert!(!fits(0, b"x"));
+    assert!(!fits(1, &long));
+    let fits = |count, chunks| SourceDescription { count, chunks }.fits();
+    assert!(fits(0, &[]));
+    assert!(fits(2, &CHUNKS));
+    assert!(!fits(3, &CHUNKS));
+    assert!(!fits(2, &CHUNKS[..23]));
+    assert!(!fits(32, &[0; 32 * 8]));
+    assert!(fits(31, &[0; 31 * 8]));
+    assert!(fits(1, &[0; 262_140]));
+    assert!(!fits(1, &[0; 262_144]));
+    let packet = [0x80, 203, 0, 0];
+    for padding in 0..=255u8 {
+        assert_eq!(
+            padding_fits(&packet, padding),
+            padding > 0 && padding.is_multiple_of(4)
+        );
+    }
+    assert!(!padding_fits(&[0xa0, 203, 0, 0], 4));
+    assert!(!padding_fits(&packet[..3], 4));
+    assert!(!padding_fits(&[0x80; 262_144], 4));
+    assert!(padding_fits(&[0x80; 262_140], 4));
+}
+
+/// A PLI with padding behind a report: P is set and the length counts the padding (RFC 3550, section 6.4.1).
+#[test]
+fn the_last_is_padded() -> Result<(), Fail> {
+    let loss = PictureLoss {
+        sender_ssrc: 1,
+        media_ssrc: 2,
+    };
+    let mut last = Vec::new();
+    loss.write(&mut last)?;
+    for padding in (4..=252u8).step_by(4) {
+        let report = ReceiverReport {
+            ssrc: 1,
+            blocks: &[],
+            extension: &[],
+        };
+        let mut out = Vec::new();
+        report.write(&mut out)?;
+        write_padded(&last, padding, &mut out)?;
+        assert_eq!(out.len(), 20 + usize::from(padding));
+        assert_eq!(out[8..12], [0xa1, 206, 0, 2 + padding / 4]);
+        assert_eq!(out[12..20], last[4..]);
+        let (count, zeros) = out[20..].split_last().ok_or("it has padding")?;
+        assert_eq!(*count, padding);
+        assert!(zeros.iter().all(|byte| *byte == 0));
+        let mut packets = read_compound(CompoundRule::Full, &out)?.skip(1);
+        assert_eq!(packets.next(), Some(RtcpPacket::PictureLoss(loss)));
+        assert_eq!(packets.next(), None);
+    }
     Ok(())
 }

@@ -3,17 +3,17 @@
 use codec_payload::memory::AllocError;
 use std::fmt::Debug;
 
-/// What is found is what is wanted, in the example of that name.
+/// Fails if the found value differs from the expected one, and names the example.
 pub fn assert_same<T: Debug + PartialEq>(name: &str, found: &T, wanted: &T) {
     assert_eq!(*found, *wanted, "in {name}");
 }
 
-/// The bytes that are found are those that are wanted, in the example of that name.
+/// Fails if the found bytes differ from the expected ones, and names the example.
 pub fn assert_bytes(name: &str, found: &[u8], wanted: &[u8]) {
     assert_eq!(found, wanted, "in {name}");
 }
 
-/// As many are found as are wanted, in the example of that name.
+/// Fails if the count differs from the expected one, and names the example.
 pub fn assert_count(name: &str, found: usize, wanted: usize) {
     assert_eq!(found, wanted, "in {name}");
 }

@@ -193,8 +193,8 @@ fn answers_of(each_packet: EachPacket, pops: usize) -> Result<(Vec<Answer>, usiz
     Ok((answers, buffer.held()))
 }
 
-/// A box that refuses both of two packets, where each is told to begin a unit, and one that never comes to read, since none
-/// begins one: with what pops answer, and how many packets are then held.
+/// A box that refuses both of two packets, each of which begins a unit, and a box that never reads, since no packet begins a unit: the
+/// answers of the pops, and the number of held packets after them.
 #[test]
 fn box_refuses_everything() -> Result<(), Fail> {
     let both = [Some(Err(11)), Some(Err(11)), None];

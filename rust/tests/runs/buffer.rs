@@ -45,8 +45,8 @@ fn pop(buffer: &mut DepacketizingBuffer) -> Result<Option<(u64, bool)>, PacketEr
     }
 }
 
-/// The next units are these, each told by the number of its first packet and by whether it is contiguous; `None` where none
-/// comes.
+/// Fails if the next units differ: each has the number of its first packet and the flag contiguous; `None` means that no unit is
+/// due.
 fn assert_pops(
     buffer: &mut DepacketizingBuffer,
     wanted: &[Option<(u64, bool)>],
@@ -57,7 +57,7 @@ fn assert_pops(
     Ok(())
 }
 
-/// So many packets are held, and so many complete frames.
+/// Fails if the numbers of held packets and of complete frames differ.
 fn assert_held(buffer: &DepacketizingBuffer, held: usize, ready: usize) {
     let got = (buffer.held(), buffer.ready());
     assert_same("packets and frames that are held", &got, &(held, ready));

@@ -81,7 +81,7 @@ fn a_specification_sets_the_clock() -> Result<(), Fail> {
     Ok(())
 }
 
-/// The payloads of a frame of speech from a packetizer that is told a specification.
+/// The payloads of a frame of speech from a packetizer with a specification.
 fn sent_speech(frame: &[u8]) -> Result<Vec<Vec<u8>>, Fail> {
     let mut speech = CodecPacketizer::from_codec(Codec::AmrWb).ok_or("no packetizer")?;
     speech.configure_for(&specification(Codec::AmrWb)?);

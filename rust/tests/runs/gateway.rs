@@ -15,7 +15,7 @@ use codec_payload::wire::{
 /// The most bytes of a payload in RED.
 const BUDGET: usize = 1_200;
 
-/// What is told of a packet that was found in a RED payload.
+/// The data of a packet that was found in a RED payload.
 fn found(packet: &Recovered<'_>) -> RtpMeta {
     RtpMeta {
         received: Ticks(0),
@@ -81,7 +81,7 @@ fn pop_all(buffer: &mut DepacketizingBuffer) -> Result<Vec<u8>, PacketError> {
     Ok(units)
 }
 
-/// The frames that come out where the packets of these indices come.
+/// The frames that are released if the packets with these indices arrive.
 fn units_of(arrived: &[usize]) -> Result<Vec<u8>, Fail> {
     let stream = sent_frames()?;
     let receiver = RedReceiver::new(96, 960).ok_or("no step")?;

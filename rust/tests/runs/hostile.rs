@@ -1,5 +1,5 @@
-//! Hostile input: each answer is `Ok` or a fault that the format names, never want of memory, and a refusal changes neither
-//! the bytes nor the extra.
+//! Hostile input: each answer is `Ok` or an error of the format, never out of memory, and an error changes neither the bytes
+//! nor the codec-specific data.
 
 use crate::Fail;
 use codec_payload::memory::TryVec;
@@ -163,7 +163,7 @@ fn new_ones_read(payload: &[u8]) -> Result<(), Fail> {
     Ok(())
 }
 
-/// A VP8 descriptor is parsed exactly where the payload is accepted, and tells of a keyframe as the detector does.
+/// A VP8 descriptor is parsed exactly where the payload is accepted, and agrees with the detector about keyframes.
 fn vp8_agrees(payload: &[u8], accepted: bool) {
     let parsed = Vp8Descriptor::parse(payload);
     assert_same("descriptors that are parsed", &parsed.is_ok(), &accepted);

@@ -19,7 +19,7 @@ pub(super) fn depacketizer_of(codec: Codec) -> Result<CodecDepacketizer, Fail> {
     Ok(CodecDepacketizer::from_codec(codec).ok_or("no depacketizer")?)
 }
 
-/// A depacketizer of a built-in codec that is told a specification.
+/// A depacketizer of a built-in codec with a specification.
 pub(super) fn depacketizer_for(spec: &CodecSpec) -> Result<CodecDepacketizer, Fail> {
     let mut depacketizer = depacketizer_of(spec.codec)?;
     depacketizer.configure_for(spec);
@@ -49,7 +49,7 @@ pub(super) fn push<D: Depacketizer>(
     buffer.push(meta, Vec::try_from_slice(payload)?)
 }
 
-/// The unit that comes out. Where none does, the test fails with the words that are passed last.
+/// Returns the released unit. If no unit is due, the test fails with the message that is passed last.
 pub(super) fn pop_unit(
     buffer: &mut DepacketizingBuffer,
     missing: &str,
@@ -147,7 +147,7 @@ pub(super) fn counts_of(run: &Run, refused: &str) -> Result<Vec<usize>, Fail> {
     Ok(counts)
 }
 
-/// The bytes of the units that came out, and 255 for each other answer of a pop.
+/// The bytes of the released units, and 255 for each other answer of a pop.
 pub(super) fn bytes_of_units(run: &Run) -> Result<Vec<u8>, AllocError> {
     let mut bytes = Vec::new();
     for pop in &run.pops {

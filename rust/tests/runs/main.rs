@@ -1,5 +1,5 @@
 //! The worked examples of the buffer, of payloaders and of whole runs, the programs of docs/RATTLE.md, and hostile input.
-//! The test of a module stands in the file of that name.
+//! The test of a module is in the file of that name.
 
 mod asserts;
 mod boxes;

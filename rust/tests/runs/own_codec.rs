@@ -1,4 +1,4 @@
-//! A codec of a caller's own, as docs/RATTLE.md has it.
+//! A custom codec, as in docs/RATTLE.md.
 
 use crate::Fail;
 use crate::asserts::assert_bytes;
@@ -9,7 +9,7 @@ use codec_payload::memory::TryVec;
 use codec_payload::payload::{MemorySink, Payloader};
 use codec_payload::wire::{Frequency, ToPayload};
 
-/// Sends each byte of a frame in a packet of its own.
+/// Sends each byte of a frame in a separate packet.
 #[derive(Debug)]
 pub(super) struct EachByte;
 

@@ -1,4 +1,4 @@
-//! A codec of a caller's own that counts what it is asked. Its frames are two packets, of which the marked one ends the frame.
+//! A custom codec that counts its calls. Its frames are two packets, of which the marked one ends the frame.
 
 use crate::Fail;
 use crate::asserts::assert_bytes;
@@ -94,7 +94,7 @@ const TWO_FRAMES: [Step; 9] = [
     Step::Pop,
 ];
 
-/// A run of two frames of two bytes, whose packets come out of order.
+/// A run of two frames of two bytes, whose packets arrive out of order.
 fn run_counting() -> Result<Ended, Fail> {
     let pack = CodecPacketizer::Boxed(CountingPacketizer {
         frames: 0,

@@ -168,7 +168,7 @@ fn write<P: Packetizer>(
     pack.packetize_into(mtu, frame, out)
 }
 
-/// What comes of a row is what it says.
+/// Fails if the result of a row differs from the expected one.
 fn assert_row(row: &SentRow, out: &mut Payloads) -> Result<(), Fail> {
     let mode = Vp9PacketizerMode::NonFlexible;
     let mut pack = CodecPacketizer::new(row.codec, mode, 0x1234).ok_or("no packetizer")?;

@@ -28,7 +28,7 @@ fn received(packet: &OutgoingPacket, clock_rate: Frequency) -> RtpMeta {
     }
 }
 
-/// Sends samples and receives their packets. There are no units of a codec that has no payloads of its own.
+/// Sends samples and receives their packets. A codec without payloads has no units.
 fn send_and_receive(
     spec: CodecSpec,
     samples: &[ToPayload],

@@ -48,7 +48,7 @@ fn packetizer(spec: &CodecSpec, how: u8, id: u16) -> CodecPacketizer {
     made
 }
 
-/// Any payloads, from any state that payloads lead to: nothing panics, and what was there stays in front of what is appended.
+/// Any payloads, from any state that payloads lead to: nothing panics, and the bytes of `out` stay in front of the appended ones.
 pub fn depacketize(input: &mut Input) {
     let spec = spec(input);
     let mut depacketizer = depacketizer(&spec);

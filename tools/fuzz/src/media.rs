@@ -9,7 +9,7 @@ use codec_payload::media::opus::OpusPacket;
 use codec_payload::media::vp8::Vp8FrameHeader;
 use codec_payload::media::vp9::{Vp9FrameHeader, Vp9Frames};
 
-/// Any bytes as a frame of any codec: nothing panics, and what is found lies within the frame.
+/// Any bytes as a frame of any codec: nothing panics, and all parts lie within the frame.
 pub fn media(input: &mut Input) {
     let index = input.byte();
     let bytes = input.0;

@@ -3,7 +3,7 @@
 use crate::input::Input;
 use codec_payload::rtp::{ExtensionIds, RtpPacket, is_rtcp};
 
-/// Any bytes; what is read is written and read again.
+/// Any bytes: a packet that was read is written and read again.
 pub fn packets(input: &mut Input) {
     let ids = ExtensionIds {
         abs_capture_time: Some(1 + input.byte() % 14),

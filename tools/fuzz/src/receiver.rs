@@ -112,7 +112,7 @@ pub fn receiver(input: &mut Input) {
     }
 }
 
-/// The theorem of the counters: what was received and recovered is the sum of all outcomes. If the settings name no SSRC, at most four
+/// The theorem of the counters: the received and recovered packets are the sum of all outcomes. If the settings name no SSRC, at most four
 /// packets wait until the stream is chosen.
 fn counted(receiver: &Receiver, is_named: bool) {
     let all = receiver.counters();

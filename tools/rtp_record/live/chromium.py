@@ -28,7 +28,7 @@ TEMPORAL_DELIMITER = 2
 
 
 class Call:
-    """What the page tells: its frames by their kind, each with its place, and its offer."""
+    """The posts of the page: its frames by their medium, each with its place, and its offer."""
 
     def __init__(self):
         self.frames, self.sdp, self.failure, self.ended = {}, None, None, threading.Event()
@@ -36,7 +36,7 @@ class Call:
     def take(self, path, body):
         words = path.strip("/").split("/")
         if words[0] == "frame":
-            self.frames.setdefault(words[1], []).append((int(words[2]), words[3], words[4], body))
+            self.frames.setdefault(words[1], []).append((int(words[2]), words[3], words[4], words[5], body))
         elif words[0] == "sdp":
             self.sdp = body.decode()
         elif words[0] == "failed":
@@ -105,9 +105,21 @@ def run_browser(port, wanted, call):
         sys.exit(call.failure or "the page does not end")
 
 
+def joined(frames):
+    """The pictures: consecutive frames with one RTP time are the spatial layers of one picture. A picture is a keyframe if its first
+    layer is."""
+    pictures = []
+    for _, kind, codec, time, frame in sorted(frames):
+        if pictures and pictures[-1][2] == time:
+            pictures[-1][3] += frame
+        else:
+            pictures.append([kind, codec, time, frame])
+    return pictures
+
+
 def write_md5(path, frames):
     with open(path, "w", encoding="ascii") as file:
-        for place, (_, kind, codec, frame) in enumerate(sorted(frames)):
+        for place, (kind, codec, _, frame) in enumerate(joined(frames)):
             md5 = hashlib.md5(frame).hexdigest()
             file.write(f"0, {place:10}, {place:10}, {1:8}, {len(frame):8}, {md5}, {kind}, {codec}\n")
 
@@ -134,7 +146,7 @@ def main():
         if kind == "audio" and ("red" in wanted or "keys" in wanted):
             continue  # the page sees RED and not what is in it, and frames that keys take the place of
         if "video=AV1" in wanted and kind == "video":
-            frames = [(place, key, codec, without_delimiters(frame)) for place, key, codec, frame in frames]
+            frames = [(place, key, codec, at, without_delimiters(frame)) for place, key, codec, at, frame in frames]
         write_md5(f"{folder}/{name}.{kind}.md5", frames)
 
 

@@ -1,5 +1,5 @@
-"""What a network does to a stream: each condition makes, of the clean packets, those that come, and tells which of the clean ones
-are among them."""
+"""What a network does to a stream: each condition turns the clean packets into the packets that arrive, and gives the places of the
+clean ones among them."""
 
 import random
 from dataclasses import replace
@@ -42,17 +42,17 @@ def swapped(packets):
 
 
 def padded(packets):
-    """Each packet has four bytes of padding, and behind each tenth comes one of padding alone, with a number of its own."""
+    """Each packet has four bytes of padding, and after each tenth follows a packet of padding only, with the next number."""
     come, number = [], packets[0].number
     for place, packet in enumerate(packets):
         packet = packet.changed(number=number)
         padding = bytes([0, 0, 0, 4])
         payload = bytes([packet.payload[0] | 0x20]) + packet.payload[1:] + padding
-        come.append(replace(packet, payload=payload))
+        come.append(packet if packet.payload[0] & 0x20 else replace(packet, payload=payload))
         number += 1
         if place % 10 == 9 and place + 1 < len(packets) and packets[place + 1].timestamp != packet.timestamp:
             alone = packet.changed(number=number).payload
-            come.append(replace(packet, payload=bytes([alone[0] | 0x20, alone[1] & 0x7F]) + alone[2:12] + padding))
+            come.append(replace(packet, payload=bytes([0xA0, alone[1] & 0x7F]) + alone[2:12] + padding))
             number += 1
     return come, set(range(len(packets)))
 
@@ -65,11 +65,17 @@ def wrapping(packets):
     ], set(range(len(packets)))
 
 
-def restarted(packets):
-    """From the middle frame on the sender begins anew, with other numbers and times."""
+def middle(packets):
+    """The place of the first packet of the middle frame."""
     half = len(packets) // 2
     while packets[half].timestamp == packets[half - 1].timestamp:
         half += 1
+    return half
+
+
+def restarted(packets):
+    """From the middle frame on the sender has other numbers and times."""
+    half = middle(packets)
     return [
         packet if place < half else packet.changed(number=packet.number + 30000, timestamp=packet.timestamp + 10**9)
         for place, packet in enumerate(packets)

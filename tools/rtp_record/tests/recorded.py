@@ -1,4 +1,4 @@
-"""The streams of captures/, and what has to come of each: by the frames that its encoder gave, or by the payloads of its packets.
+"""The streams of captures/, and the expected frames of each: those of its encoder, or the payloads of its packets.
 
 A capture of ffmpeg or GStreamer has one stream; one of Chromium those of its SDP (RFC 8866, and RFC 5576 for the SSRCs)."""
 
@@ -94,14 +94,29 @@ class Recorded:
         times = [packet.timestamp - offset for packet in carriers for offset in offsets_of(packet.media)]
         return {places[time] for time in times if time in places}
 
-    def wanted(self, packets, there):
-        """What has to be in the file where of these packets those at some places are there: the MD5s of the frames, or bytes."""
+    def decodable(self, units, whole, there, restart):
+        """The frames among the whole ones that a decoder can show: keyframes, and each that follows such a frame without a gap. A
+        lost packet of padding is a gap too: a receiver cannot know what was in it. So is a restart: no stream here has both
+        picture ids of VP8 or VP9, which could show that no frame is missing."""
+        keyframes, shown = self.keyframes(), []
+        for place in whole:
+            first = units[place][0][0]
+            between = range(units[place - 1][0][-1] + 1, first) if place else []
+            follows = shown[-1:] == [place - 1] and there.issuperset(between) and first != restart
+            if place in keyframes or follows:
+                shown.append(place)
+        return shown
+
+    def wanted(self, packets, there, keeps_undecodable=False, restart=None):
+        """The expected content of the file if the packets at some places arrived: the MD5s of the frames, or bytes. With
+        keeps_undecodable all whole frames of video from the first keyframe on, else the decodable ones. The sender restarts with the
+        packet at the place `restart`."""
         units = self.units(packets)
         there = there | self.recovered(packets, there)
         whole = [place for place, (places, _) in enumerate(units) if set(places) <= there]
         if self.codec in VIDEO:
             first = min(set(whole) & self.keyframes())
-            whole = [place for place in whole if place >= first]
+            whole = [place for place in whole if place >= first] if keeps_undecodable else self.decodable(units, whole, there, restart)
         found = [units[place][1] for place in whole]
         return found if self.codec in FRAMES else b"".join(found)
 

@@ -1,11 +1,11 @@
 #!/usr/bin/env python3
 """Records each stream of captures/ under each condition, and compares the files with the frames that the encoders gave.
 
-  tests/test_captures.py [PROGRAM]     the program is ./rtp_record where none is named
+  tests/test_captures.py [PROGRAM]     by default ./rtp_record
 
-Which frames come whole is counted here, by the packets of the clean capture, and not by the library: of video those of which every
-packet is there, from the first keyframe among them on; of audio each packet's media. ffprobe and ffmpeg read each file without an
-error, and no time falls. Needs ffmpeg. The last line is `N passed, N failed`."""
+The expected frames are computed here from the packets of the clean capture, without the library. Of video they are the frames of
+which every packet arrived and which a decoder can show: keyframes, and each frame that follows such a frame without a gap. Of audio
+they are each packet's media. ffprobe and ffmpeg read each file without an error, and no time falls. Needs ffmpeg. The last line is `N passed, N failed`."""
 
 import hashlib
 import os
@@ -31,7 +31,7 @@ def is_av1(path):
 
 def md5s_in(path, track="0"):
     """The MD5 of each frame of a track."""
-    # IVF and OBU files have temporal delimiters, which are no part of the frames
+    # IVF and OBU files have temporal delimiters, which are not part of the frames
     bare = ["-bsf:v", "av1_metadata=td=remove"] if is_av1(path) else []
     lines = words("ffmpeg", "-v", "error", "-i", path, "-map", track, "-c", "copy", "-copyinkf", *bare, "-f", "framemd5", "-").stdout.decode()
     return [line.split(",")[5].strip() for line in lines.splitlines() if line[0] != "#"]
@@ -64,8 +64,8 @@ def faults_of_file(path):
         yield "a time falls"
 
 
-def faults_of(program, stream, path, there, folder):
-    """A capture is written into a folder, and the stream's file compared."""
+def faults_of(program, stream, path, there, restart, folder):
+    """Writes a capture into a folder, and compares the stream's file."""
     os.mkdir(folder)
     ran = words(program, *stream.words, path, "-o", folder)
     if ran.returncode:
@@ -75,33 +75,34 @@ def faults_of(program, stream, path, there, folder):
         yield f"{len(files)} files: {ran.stderr.decode().strip()}"
         return
     file = f"{folder}/{files[0]}"
-    wanted, found = stream.wanted(stream.packets(), there), found_in(stream.codec, file)
+    wanted, found = stream.wanted(stream.packets(), there, restart=restart), found_in(stream.codec, file)
     if wanted != found:
-        yield f"{told(wanted)} are wanted, and {told(found)} are there"
+        yield f"expected {told(wanted)}, found {told(found)}"
     yield from faults_of_file(file)
 
 
 def runs(folder):
-    """Each stream under each condition: its title, a capture, and which of its packets are there. The first capture is as it came,
-    with all that the sender and the receiver sent besides."""
+    """Each stream under each condition: its title, the stream, a capture, the places of the packets that arrive, and the place of a
+    restart. The first capture is the recorded one, with everything that sender and receiver sent."""
     for stream in all_streams():
         packets = stream.packets()
-        yield f"{stream.title}, as it came", stream, f"{CAPTURES}/{stream.name}.pcap", set(range(len(packets)))
+        yield f"{stream.title}, as it came", stream, f"{CAPTURES}/{stream.name}.pcap", set(range(len(packets))), None
         for condition in conditions.ALL:
             if condition is conditions.restarted and stream.repeats:
                 continue  # a sender that begins anew has nothing to repeat; this one does
             come, there = condition(packets)
             path = f"{folder}/{stream.title.replace(' ', '-')}-{condition.__name__}.pcap"
             capture.write(path, come)
-            yield f"{stream.title}, {condition.__name__}", stream, path, there
+            restart = conditions.middle(packets) if condition is conditions.restarted else None
+            yield f"{stream.title}, {condition.__name__}", stream, path, there, restart
 
 
 def main():
     program = os.path.abspath(sys.argv[1] if len(sys.argv) > 1 else f"{HERE}/../rtp_record")
     passed = failed = 0
     with tempfile.TemporaryDirectory() as folder:
-        for place, (title, stream, path, there) in enumerate(runs(folder)):
-            faults = list(faults_of(program, stream, path, there, f"{folder}/{place}"))
+        for place, (title, stream, path, there, restart) in enumerate(runs(folder)):
+            faults = list(faults_of(program, stream, path, there, restart, f"{folder}/{place}"))
             for fault in faults:
                 print(f"{title}: {fault}")
             passed, failed = passed + (not faults), failed + bool(faults)

@@ -191,7 +191,7 @@ def malformed(folder):
         is_whole(told, name)
 
 
-# RFC 7983, section 7: what the first byte tells, at both ends of each range; and RFC 5761, section 4, of the second
+# RFC 7983, section 7: the meaning of the first byte, at both ends of each range; and RFC 5761, section 4, of the second
 PROTOCOLS = {
     "stun": [bytes([0]), bytes([3])],
     "zrtp": [bytes([16]), bytes([19])],
@@ -218,7 +218,7 @@ def protocols(folder):
 
 
 def encrypted(folder):
-    """What an SDP says to be SRTP is told as that, and nothing is guessed or written."""
+    """A stream that the SDP describes as SRTP is listed as SRTP; its codec is not guessed, and no file is written."""
     frames = [(packet.time, ethernet(ipv4(udp(packet.payload)), TYPE_IPV4)) for packet in PACKETS]
     pcap(f"{folder}/s.pcap", ETHERNET, frames)
     crypto = "a=crypto:1 AES_CM_128_HMAC_SHA1_80 inline:WVNfX19zZW1jdGwgKCkgewkyMjA7fQp9CnVubGVz\n"

@@ -1,5 +1,6 @@
 #!/usr/bin/env python3
-"""What options change: the file that is named, --mux by sender reports, --all, --clean, --fill, --map, and RED and events of Chromium.
+"""What options change: the file that is named, --mux by sender reports, --all, --keep-undecodable, --fill, --map, and RED and
+events of Chromium.
 
   tests/test_options.py [PROGRAM]
 
@@ -134,19 +135,39 @@ def keyframe_lost(folder):
         check(not said, f"{name}: --all plays, but for what a decoder says of references that lack: {said}")
 
 
-def clean(folder):
-    """With --clean frames behind a lost one are left out up to the next keyframe."""
-    for name in ("vp8", "vp9"):
+def undecodable(folder):
+    """Frames after a lost one are left out up to the next keyframe, and counted; with --keep-undecodable they are written."""
+    for name in ("vp8", "vp9", "chromium-vp8 video", "chromium-av1 video", "chromium-layers video", "chromium-av1-layers video"):
         stream = STREAMS[name]
         packets = stream.packets()
         come, there = conditions.lossy(packets)
-        wanted, lacks = [], True
-        for place, (places, unit) in enumerate(stream.units(packets)):
-            whole = set(places) <= there
-            lacks = not whole or (lacks and place not in stream.keyframes())
-            wanted += [] if lacks else [unit]
-        run("--clean", *stream.words, source_of(stream, folder, come), "-o", f"{folder}/c.webm")
-        check(0 < len(wanted) and md5s_in(f"{folder}/c.webm") == wanted, f"{name}: --clean gives {len(wanted)} frames")
+        shown, kept = stream.wanted(packets, there), stream.wanted(packets, there, keeps_undecodable=True)
+        path = source_of(stream, folder, come)
+        found = run(*stream.words, path, "-o", f"{folder}/u.webm")["streams"][0]
+        check(0 < len(shown) < len(kept) and md5s_in(f"{folder}/u.webm") == shown, f"{name}: {len(shown)} decodable frames")
+        # a unit that lacks its lower layers is one more frame that is left out
+        check(found["undecodable"] >= len(kept) - len(shown) and found["damaged"] == 0, f"{name}: counted: {found}")
+        table = subprocess.run([PROGRAM, *stream.words, path, "-o", f"{folder}/u.webm"], capture_output=True, check=False).stdout.decode()
+        check(f"({found['undecodable']} undecodable), 0 damaged" in table, f"{name}: the table reports them")
+        found = run("--keep-undecodable", *stream.words, path, "-o", f"{folder}/u.webm")["streams"][0]
+        written = md5s_in(f"{folder}/u.webm")
+        check([md5 for md5 in written if md5 in kept] == kept, f"{name}: --keep-undecodable has all {len(kept)} whole frames")
+        check(found["damaged"] == len(written) - len(shown) and found["undecodable"] == 0, f"{name}: --keep-undecodable: {found}")
+
+
+def layers(folder):
+    """Without the first packet of a picture with spatial layers, the rest of the picture is not written as a frame."""
+    for name in ("chromium-layers video", "chromium-av1-layers video"):
+        stream = STREAMS[name]
+        packets = stream.packets()
+        media = [place for place, packet in enumerate(packets) if stream.is_media(packet)]
+        first = next(places[0] for places, _ in stream.units(packets)[1:] if len(places) > 2)
+        check(first in media, f"{name}: a picture of several packets")
+        come = packets[:first] + packets[first + 1 :]
+        there = set(range(len(packets))) - {first}
+        found = run(*stream.words, source_of(stream, folder, come), "-o", f"{folder}/l.webm")["streams"][0]
+        check(md5s_in(f"{folder}/l.webm") == stream.wanted(packets, there), f"{name}: only whole pictures that a decoder can show")
+        check(found["gaps"] >= 1 and found["damaged"] == 0, f"{name}: {found}")
 
 
 def fill(folder):
@@ -187,7 +208,11 @@ def red(folder):
     told = run(*stream.words, source_of(stream, folder, [packets[place] for place in sorted(there)]), "-o", f"{folder}/r.webm")
     check(md5s_in(f"{folder}/r.webm") == stream.all_wanted(), "RED: all frames are there, though one packet in seven is lost")
     check(told["streams"][0]["recovered"] == len(lost), f"RED: recovered {told['streams'][0]['recovered']} of {len(lost)}")
-    # an SDP that names RED without saying what is inside: the packets tell
+    # 19 packets of padding only have RED's payload type: they leave no gap, and no unit
+    padding = [packet for packet in packets if packet.payload_type == 63 and not packet.media]
+    told = run(*stream.words, source_of(stream, folder), "-o", f"{folder}/r.webm")["streams"][0]
+    check(len(padding) == 19 and (told["frames"], told["gaps"], told["refused"]) == (len(media), 0, 0), f"padding under RED's type: {told}")
+    # an SDP that names RED without the codec inside: the packets decide
     told = run("--map", "63=red/48000", "--map", "111=opus/48000/2", source_of(stream, folder), "-o", f"{folder}/r.webm")
     check(md5s_in(f"{folder}/r.webm") == stream.all_wanted(), "RED whose inner type is not signalled")
 
@@ -217,7 +242,7 @@ def guesses(folder):
 
 def main():
     with tempfile.TemporaryDirectory() as folder:
-        for test in [named_files, two_flows, reports, call, keyframe_lost, clean, fill, red, keys, guesses]:
+        for test in [named_files, two_flows, reports, call, keyframe_lost, undecodable, layers, fill, red, keys, guesses]:
             test(folder)
     return status_of_checks()
 

@@ -109,7 +109,7 @@ def headers(folder):
     capture.write(f"{folder}/h.pcap", come[1:81] + [late] + come[81:])
     found = listed(f"{folder}/h.pcap")[ssrc_of("pcmu")]
     check(found["late"] == found["reordered"] == 1 and found["lost"] == 0, f"80 packets late: {found}")
-    # a stray number counts for nothing, and two in a row are a restart (RFC 3550, appendix A.1)
+    # a stray number is ignored, and two in a row are a restart (RFC 3550, appendix A.1)
     stray = come[40].changed(number=come[40].number + 20000)
     capture.write(f"{folder}/h.pcap", come[:40] + [stray] + come[40:])
     found = listed(f"{folder}/h.pcap")[ssrc_of("pcmu")]

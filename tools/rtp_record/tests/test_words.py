@@ -1,5 +1,5 @@
 #!/usr/bin/env python3
-"""What people see of the program: --help, the manual page and the completion tell the same options, and progress is for terminals.
+"""The words of the program: --help, the manual page and the completion have the same options, and progress is for terminals.
 
   tests/test_words.py [PROGRAM]
 
@@ -24,16 +24,16 @@ def text_of(name):
 
 
 def options():
-    """The options that are read, of the table in options.c, beside those that are told."""
-    table = {(letter, name) for name, letter in re.findall(r'\{"([a-z]+)", \w+_argument, NULL, \'(\w)\'\}', text_of("options.c"))}
+    """The table in options.c has the same options as the help, the manual page and the completion."""
+    table = {(letter, name) for name, letter in re.findall(r'\{"([a-z-]+)", \w+_argument, NULL, \'(\w)\'\}', text_of("options.c"))}
     letters = re.search(r'getopt_long\(count, words, "([^"]*)"', text_of("options.c"))[1].replace(":", "")
     check({letter for letter, _ in table} == set(letters), "each option has a letter and a name")
     helped = subprocess.run([PROGRAM, "--help"], capture_output=True, check=True, text=True).stdout
-    check(set(re.findall(r"^  -(\w), --([a-z]+)", helped, re.M)) == table, "--help")
+    check(set(re.findall(r"^  -(\w), --([a-z-]+)", helped, re.M)) == table, "--help")
     page = text_of("rtp_record.1").replace("\\-", "-")
-    check(set(re.findall(r"^\.BR -(\w) \", \" --([a-z]+)", page, re.M)) == table, "the manual page")
+    check(set(re.findall(r"^\.BR -(\w) \", \" --([a-z-]+)", page, re.M)) == table, "the manual page")
     completion = text_of("completion.bash")
-    check({f"--{name}" for _, name in table} == set(re.findall(r"--[a-z]+", completion.split("-W", 2)[2].split("-- ")[0])), "the completion")
+    check({f"--{name}" for _, name in table} == set(re.findall(r"--[a-z][a-z-]+", completion.split("-W", 2)[2].split("-- ")[0])), "the completion")
     rendered = subprocess.run(["man", "--warnings", "-l", f"{TOOL}/rtp_record.1"], capture_output=True, check=False, text=True) if (
         os.path.exists("/usr/bin/man")) else None
     check(rendered is None or (rendered.returncode == 0 and not rendered.stderr), "the manual page has no warnings")

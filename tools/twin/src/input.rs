@@ -1,6 +1,6 @@
 //! Bytes as a sequence of decisions.
 
-/// What is left of an input. Past its end all bytes are 0.
+/// The unread bytes of an input. Past its end all bytes are 0.
 pub struct Input<'a>(pub &'a [u8]);
 
 impl<'a> Input<'a> {

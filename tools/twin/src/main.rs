@@ -1,8 +1,11 @@
 //! The generated crate beside the proved library, in one process: each call of both answers the same.
 //!
 //! `twin COUNT` makes COUNT random sequences of calls of packetizers, depacketizers and receivers each; `twin FOLDER` takes the
-//! sequences of depacketizers and receivers from the fuzzer's corpora, FOLDER/depacketize and FOLDER/receiver.
+//! sequences of depacketizers and receivers from the fuzzer's corpora, FOLDER/depacketize and FOLDER/receiver. `twin changed COUNT`
+//! prints what the crate reads of COUNT changed copies of the session description on its standard input, as c/descriptions.c does.
 
+#[path = "../../../rust/tests/sdp/dump.rs"]
+mod descriptions;
 mod input;
 mod proved;
 
@@ -335,10 +338,23 @@ fn pop(ours: &mut Receiver, theirs: &mut proved::Receiver, now: u64, compared: &
 
 type Sequence = fn(&mut Input, &mut Compared);
 
+/// Prints the sections that are read from changed copies of a session description.
+fn print_changed(count: &str) {
+    let given = std::io::read_to_string(std::io::stdin()).expect("a description of UTF-8");
+    for seed in 0..count.parse().expect("a count") {
+        let text = descriptions::changed(&given, seed);
+        print!("{}", descriptions::dump(&text));
+    }
+}
+
 fn main() {
-    let word = std::env::args()
-        .nth(1)
-        .expect("usage: twin COUNT | twin FOLDER");
+    let mut words = std::env::args().skip(1);
+    let word = words
+        .next()
+        .expect("usage: twin COUNT | twin FOLDER | twin changed COUNT");
+    if word == "changed" {
+        return print_changed(&words.next().expect("a count"));
+    }
     let sequences: [(&str, Sequence); 3] = [
         ("packetize", packetize),
         ("depacketize", depacketize),

@@ -13,7 +13,7 @@ const GOES_ON: u8 = 0x40;
 /// The two bits of W.
 const COUNT: u8 = 0x30;
 
-/// What a W of one stands for.
+/// The value of a W of one.
 const ONE: u8 = 0x10;
 
 /// The bit N: a coded video sequence starts.
@@ -26,7 +26,7 @@ pub struct AggregationHeader {
 }
 
 impl AggregationHeader {
-    /// The header of a payload of so many elements. W is their number up to three, and 0 above.
+    /// The header of a payload with this number of elements. W is the number up to three, and 0 above.
     pub fn new(continues: bool, goes_on: bool, elements: usize, starts: bool) -> Self
         ensures { result.byte ≡ header_byte continues goes_on (count_of elements) starts }
     {
@@ -62,14 +62,14 @@ impl AggregationHeader {
         self.byte & CONTINUES != 0
     }
 
-    /// Y: whether the last element goes on in the next payload. Where W names more elements than came, it does not count.
+    /// Y: whether the last element continues in the next payload. Ignored if W announces more elements than the payload has.
     pub fn goes_on(self) -> bool
         ensures { result ≡ has_bit 64 self.byte }
     {
         self.byte & GOES_ON != 0
     }
 
-    /// W, 0 to 3: how many elements there are, of which the last has no length before it; 0 where each has one.
+    /// W, 0 to 3: the number of elements, the last without a length before it; 0 if each has a length.
     pub fn count(self) -> u8
         ensures { result ≡ bit_and self.byte 0x30 / 16 }
     {
@@ -83,7 +83,7 @@ impl AggregationHeader {
         self.byte & STARTS != 0
     }
 
-    /// Whether what is pending goes on in the payload: Z is set, and N is clear.
+    /// Whether the pending OBU continues in the payload: Z is set, and N is clear.
     pub fn continues_pending(self) -> bool
         ensures { result ≡ (has_bit 128 self.byte && not (has_bit 8 self.byte)) }
     {

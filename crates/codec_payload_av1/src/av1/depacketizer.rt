@@ -1,4 +1,4 @@
-//! AV1: payloads put together to frames (docs/FORMATS.md, "AV1").
+//! AV1: reassembles frames from payloads (docs/FORMATS.md, "AV1").
 
 ghost use Rattle.std.specs.Prelude.{◌≡◌, ◌∷◌, List, [], Some, length, take, true, nat_lt, ◌&&◌, ℕ, is_some, not, ◌++◌, OnOk, if◌then◌else◌};
 ghost use Rattle.codec_payload_av1.specs.Av1Obu.{canonical, has_bit, is_kept_type};
@@ -33,7 +33,7 @@ impl Model for Av1Depacketizer {
 }
 
 impl Av1Depacketizer {
-    /// A depacketizer that holds nothing. It takes no memory until it is used.
+    /// An empty depacketizer. Does not allocate until it is used.
     pub fn new(alloc: Global) -> Self
         ensures { result ≡ [] }
     {
@@ -42,7 +42,7 @@ impl Av1Depacketizer {
         }
     }
 
-    /// Takes the payload of an aggregation header and the bytes behind it. After a refusal anything may be pending.
+    /// Accepts the payload of an aggregation header and the bytes after it. After an error any bytes may be pending.
     fn take_payload(
         &mut self,
         header: AggregationHeader,
@@ -62,7 +62,7 @@ impl Av1Depacketizer {
         self.take_elements_of(header, bytes, out)
     }
 
-    /// The same, where want of memory comes of any payload.
+    /// The same, with an allocation failure possible for any payload.
     fn take_elements_of(
         &mut self,
         header: AggregationHeader,
@@ -78,7 +78,7 @@ impl Av1Depacketizer {
     }
 }
 
-/// What the payload tells, after what `before` told of the frame.
+/// The codec-specific data of the payload, merged with `before`, the data of the earlier payloads of the frame.
 fn extra(packet: &[u8], before: &CodecExtra) -> CodecExtra
     ensures { result ≡ extra_of packet.now before.now }
 {
@@ -106,12 +106,12 @@ impl Depacketizer for Av1Depacketizer {
         Some(packets_size)
     }
 
-    /// Appends the kept OBUs that end in the payload, each with its size, and tells of the frame in the extra. A frame
-    /// that was told to be a keyframe stays one. The beginning of an OBU that goes on in the next payload stays pending.
+    /// Appends the kept OBUs that end in the payload, each with its size, and records the codec-specific data. A frame that was
+    /// reported as a keyframe stays one. The beginning of an OBU that continues in the next payload stays pending.
     ///
-    /// `ErrShortPacket` for the empty payload; `ErrAv1CorruptedPacket` where the length of an element is unreadable, 0 or
-    /// past the end, or where an element is not exactly one OBU, which is found before any memory is asked for. After a
-    /// refusal `out` and the extra are as before, and nothing is pending.
+    /// `ErrShortPacket`: the payload is empty. `ErrAv1CorruptedPacket`: the length of an element is unreadable, 0 or beyond the
+    /// end, or an element is not exactly one OBU; this is checked before anything is allocated. On an error `out` and the
+    /// codec-specific data are unchanged, and nothing is pending.
     fn depacketize(
         &mut self,
         packet: &[u8],
@@ -140,7 +140,7 @@ impl Depacketizer for Av1Depacketizer {
         }
     }
 
-    /// Whether the Z bit is clear, so that the payload does not begin inside an OBU. An empty payload is no head.
+    /// Whether the Z bit is clear, so that the payload does not begin inside an OBU; false for an empty payload.
     fn is_partition_head(&self, packet: &[u8]) -> bool {
         match packet.first() {
             Some(header) => !AggregationHeader { byte: *header }.continues(),
@@ -164,8 +164,8 @@ fn begun_of(header: AggregationHeader, pending: &[u8]) -> &[u8]
     }
 }
 
-/// Makes room for what a payload of so many bytes adds to a unit that has just begun: no more than these and one size.
-/// Packets can be shorter than the unit that they give, and room for twice as much is not asked for then.
+/// Makes room for what a payload of `count` bytes adds to a unit that has just begun: at most these bytes and one size. Packets can
+/// be shorter than the unit that they give, so this avoids a request for twice as much.
 fn reserve_for_first(out: &mut Vec<u8>, count: usize) -> Result<(), AllocError>
     ensures { out.new.items ≡ out.old.items }
 {
@@ -175,7 +175,7 @@ fn reserve_for_first(out: &mut Vec<u8>, count: usize) -> Result<(), AllocError>
     Ok(())
 }
 
-/// Lets go of what is pending where it does not go on in the payload of this aggregation header.
+/// Discards the pending bytes if they do not continue in the payload of this aggregation header.
 fn keep_begun(pending: &mut Pending, header: AggregationHeader)
     ensures { pending.new ≡ begun_at header.byte pending.old }
 {
@@ -191,8 +191,8 @@ fn has_orphan(header: AggregationHeader, begun: &[u8]) -> bool
     header.continues() && begun.is_empty()
 }
 
-/// Whether an element under a W of `w` can be taken behind what was begun and before these bytes: it is dropped, it goes on
-/// in the next packet, or it ends one OBU.
+/// Whether an element with a W of `w` is acceptable after the begun bytes and before these bytes: it is dropped, it continues in
+/// the next packet, or it ends one OBU.
 fn can_be_taken(
     is_orphan: bool,
     may_go_on: bool,
@@ -206,8 +206,8 @@ fn can_be_taken(
     is_orphan || (may_go_on && w < 2 && rest.is_empty()) || is_one_obu(begun, element)
 }
 
-/// Whether a depacketizer that holds these bytes can take the payload of an aggregation header and the bytes behind it. It
-/// takes no memory.
+/// Whether a depacketizer with these pending bytes accepts the payload of an aggregation header and the bytes after it. Does not
+/// allocate.
 fn is_readable(pending: &[u8], header: AggregationHeader, bytes: &[u8]) -> bool
     ensures { result ≡ is_some (received pending.now (header.byte ∷ bytes.now)) }
 {
@@ -231,7 +231,7 @@ fn is_readable(pending: &[u8], header: AggregationHeader, bytes: &[u8]) -> bool
     true
 }
 
-/// Adds what an element gives, which has to be exactly one OBU: nothing where that is not kept.
+/// Appends the unit of an element, which must be exactly one OBU: nothing if the OBU is not kept.
 #[tactic(auto, using(crate::proofs::Av1FrontKept::kept_more, crate::proofs::Av1FrontKept::kept_same), unfolding(crate::specs::Av1Receiving::unit_of))]
 fn append_unit(out: &mut Vec<u8>, element: &[u8]) -> Result<(), PacketError>
     ensures added { Appends result out.old.items out.new.items (unit_of element.now) }
@@ -253,8 +253,8 @@ fn append_unit(out: &mut Vec<u8>, element: &[u8]) -> Result<(), PacketError>
     Ok(())
 }
 
-/// Adds what the pending bytes and an element behind them give, which have to be exactly one OBU. Nothing is pending then.
-/// The element is copied once, but for an OBU with a size of its own.
+/// Appends the OBU from the pending bytes and an element after them, which must be exactly one OBU. Nothing is pending afterwards.
+/// The element is copied once, unless the OBU has a size field.
 fn append_joined(
     pending: &mut Pending,
     out: &mut Vec<u8>,
@@ -276,8 +276,8 @@ fn append_joined(
     Ok(())
 }
 
-/// Takes an element that ends here: joins it to what is pending, and adds what both give, or drops it where it goes on from
-/// bytes that never came. Nothing is pending then.
+/// Handles an element that ends here: joins it to the pending bytes and appends the result, or drops it if the bytes that it
+/// continues never came. Nothing is pending afterwards.
 fn take_element(
     pending: &mut Pending,
     out: &mut Vec<u8>,
@@ -302,8 +302,7 @@ fn stays_open(is_orphan: bool, may_go_on: bool, w: u8, rest: &[u8]) -> bool
     !is_orphan && may_go_on && w < 2 && rest.is_empty()
 }
 
-/// Takes the elements behind an aggregation header one after another, as they are read; the last one of a packet that goes
-/// on stays pending.
+/// Reads the elements after an aggregation header one after another; the last one of a packet that continues stays pending.
 fn take_elements(
     pending: &mut Pending,
     out: &mut Vec<u8>,

@@ -1,4 +1,4 @@
-//! AV1: what is read of a payload (RTP Payload Format for AV1, section 4.4; docs/FORMATS.md, "AV1").
+//! AV1: reads payloads (RTP Payload Format for AV1, section 4.4; docs/FORMATS.md, "AV1").
 
 ghost use Rattle.std.specs.Prelude.{◌≡◌};
 ghost use Rattle.codec_payload_base.specs.Answers.{Finds};
@@ -6,8 +6,7 @@ ghost use Rattle.codec_payload_av1.specs.Av1Payload.{element_at, next_at, w_afte
 
 use crate::av1::leb::number_at;
 
-/// The element behind its length at the front, and what follows it. `None` where the length is unreadable, 0 or past the
-/// end.
+/// The element after its length at the front, and the bytes after it; `None` if the length is unreadable, 0 or beyond the end.
 #[tactic(auto, unfolding(crate::specs::Av1Payload::element_at))]
 fn element_of(bytes: &[u8]) -> Option<(&[u8], &[u8])>
     ensures { Finds (λ x. (x.0.now, x.1.now)) result (element_at bytes.now) }
@@ -19,7 +18,7 @@ fn element_of(bytes: &[u8]) -> Option<(&[u8], &[u8])>
     Some(bytes.split_at(size as usize))
 }
 
-/// The next of the elements under a W of `w`, and what follows it.
+/// The next element with a W of `w`, and the bytes after it.
 pub fn next_element(w: u8, bytes: &[u8]) -> Option<(&[u8], &[u8])>
     ensures { Finds (λ x. (x.0.now, x.1.now)) result (next_at w bytes.now) }
 {
@@ -30,7 +29,7 @@ pub fn next_element(w: u8, bytes: &[u8]) -> Option<(&[u8], &[u8])>
     }
 }
 
-/// The W of what follows an element.
+/// The W for the bytes after an element.
 pub fn w_after_one(w: u8) -> u8
     ensures { result ≡ w_after w }
 {

@@ -1,4 +1,4 @@
-//! AV1: what is pending of an OBU between packets (docs/FORMATS.md, "AV1").
+//! AV1: the pending part of an OBU between packets (docs/FORMATS.md, "AV1").
 
 ghost use Rattle.std.specs.Prelude.{◌≡◌, ◌≤◌, ℕ, List, [], true, false, Some, length, take, drop, ◌++◌, OnOk, IfOk};
 ghost use Rattle.codec_payload_av1.specs.Av1Receiving.{unit_of};
@@ -9,11 +9,11 @@ use std::alloc::{AllocError, Global};
 use std::marker::Model;
 use std::mem::swap;
 
-/// How many bytes a unit may hold for these to be copied rather than the OBU behind them.
+/// The largest size of earlier bytes in a unit for which these bytes are copied, rather than the OBU after them.
 pub const MOST_BEFORE: usize = 64;
 
-/// The beginning of an OBU whose end is still to come. Room may stand before it, for what the unit holds before the OBU and
-/// for its size. Where they fill that room in the end, they are written there, and what is pending is not copied again.
+/// The beginning of an OBU whose end is still to come. There may be room before it, for the unit's earlier bytes and for the size
+/// of the OBU. If they fill that room in the end, they are written there, and the pending bytes are not copied again.
 #[derive(Debug, Drop)]
 pub struct Pending {
     bytes: Vec<u8>,
@@ -40,14 +40,14 @@ impl Pending {
         }
     }
 
-    /// What is pending.
+    /// The pending bytes.
     pub fn as_slice(&self) -> &[u8]
         ensures { result.now ≡ self.now }
     {
         &self.bytes[self.room..]
     }
 
-    /// Lets go of what is pending.
+    /// Discards the pending bytes.
     pub fn clear(&mut self)
         ensures { self.new ≡ [] }
     {
@@ -62,7 +62,7 @@ impl Pending {
         self.bytes.extend_from_slice(more)
     }
 
-    /// Adds the next bytes of an OBU, or its first ones, which come behind `out`.
+    /// Appends the next bytes of an OBU, or its first ones, which will follow `out`.
     pub fn extend_behind(&mut self, out: &Vec<u8>, more: &[u8]) -> Result<(), AllocError>
         ensures { OnOk result (self.new ≡ self.old ++ more.now) }
     {
@@ -72,8 +72,8 @@ impl Pending {
         self.extend(more)
     }
 
-    /// Leaves room for what `out` holds, where that is little, and for the size of an OBU that takes all that is free in it.
-    /// What is pending then has as much memory as `out`; less is not grown, which would copy what it held before.
+    /// Leaves room for the contents of `out`, if they are few, and for the size of an OBU that takes all free memory of `out`. The
+    /// pending part then has as much memory as `out`; a smaller one is not grown, which would copy its old contents.
     fn leave_room(&mut self, out: &Vec<u8>) -> Result<(), AllocError>
         ensures { OnOk result (self.new ≡ []) }
     {
@@ -91,9 +91,9 @@ impl Pending {
         Ok(())
     }
 
-    /// Appends the unit of the OBU that is pending and ends in these bytes, where it has no size of its own; then nothing is
-    /// pending. Else nothing changes. Where the OBU is most of what `out` has room for, and what comes before its payload
-    /// fills the room, what is pending becomes `out`.
+    /// Appends the unit of the pending OBU that ends in these bytes, if it has no size field; then nothing is pending. Otherwise
+    /// nothing changes. If the OBU takes most of the room of `out`, and the bytes before its payload fill the room before the
+    /// pending bytes, the pending memory becomes `out`.
     pub fn complete(&mut self, out: &mut Vec<u8>, end: &[u8]) -> Result<bool, AllocError>
         ensures added { IfOk result (λ is_whole. is_whole ≡ true → (added : List ℕ) × (unit_of (self.old ++ end.now) ≡ Some added) × (out.new.items ≡ out.old.items ++ added) × (self.new ≡ [])) }
         ensures same { IfOk result (λ is_whole. is_whole ≡ false → (out.new.items ≡ out.old.items) × (self.new ≡ self.old)) }
@@ -131,7 +131,7 @@ fn write_over(to: &mut [u8], front: &[u8])
     to[..front.len()].copy_from_slice(front);
 }
 
-/// Puts what `bytes` hold past as many as `out` has behind that, by a swap of both.
+/// Moves the bytes of `bytes` from position `out.len()` on to the end of `out`, by a swap of both.
 fn swap_behind(bytes: &mut Vec<u8>, out: &mut Vec<u8>)
     requires { length out.old.items ≤ length bytes.old.items }
     ensures { out.new.items ≡ out.old.items ++ drop (length out.old.items) bytes.old.items }

@@ -1,4 +1,4 @@
-//! AV1: how what is sent is received (docs/FORMATS.md, "AV1").
+//! AV1: sent frames are received (docs/FORMATS.md, "AV1").
 
 ghost use Rattle.std.specs.Prelude.{◌≡◌, ◌<◌, ◌^◌, ◌++◌, ◌∷◌, ℕ, Bool, true, List, Some, length, slice_index};
 ghost use Rattle.std.specs.List.{flat_map};
@@ -8,8 +8,8 @@ ghost use Rattle.codec_payload_av1.specs.Av1Packing.{AreSent};
 ghost use Rattle.codec_payload_av1.specs.Av1Receiving.{all_received};
 ghost use Rattle.codec_payload_av1.specs.Av1Grammar.{ReadsPayload, ReadsSequence, ReadsUnit};
 
-/// Reading finds the OBUs of a frame, and the elements of a payload, that their grammars give, and no others. An element
-/// gives a unit exactly where it is one OBU.
+/// Reading finds exactly the OBUs of a frame, and the elements of a payload, that their grammars give. An element gives a unit
+/// exactly if it is one OBU.
 pub fn reading_follows_the_grammars()
     ensures obus { ReadsSequence }
     ensures payloads { ReadsPayload }

@@ -10,7 +10,7 @@ use std::marker::Model;
 /// The length of a report in bytes (RFC 4733, section 2.3).
 pub const REPORT_SIZE: usize = 4;
 
-/// The duration of so many units of a clock of that rate, in nanoseconds, to the nearest.
+/// The duration of `units` ticks of a clock of this rate, in nanoseconds, rounded to the nearest.
 pub fn duration_from_units(units: u16, rate: Frequency) -> u64
     ensures value { result ≡ nanoseconds_of units rate }
     ensures rated { 0 < rate }
@@ -19,7 +19,7 @@ pub fn duration_from_units(units: u16, rate: Frequency) -> u64
     (u64::from(units) * 1_000_000_000 + rate / 2) / rate
 }
 
-/// The units of a clock that so many nanoseconds are, to the nearest, where they fit sixteen bits.
+/// The number of clock ticks in `nanoseconds`, rounded to the nearest; `None` if it does not fit 16 bits.
 fn units_from_duration(nanoseconds: u64, rate: Frequency) -> Option<u16>
     ensures { SomeIff result (units_of nanoseconds rate < 65536) (units_of nanoseconds rate) }
 {
@@ -28,10 +28,9 @@ fn units_from_duration(nanoseconds: u64, rate: Frequency) -> Option<u16>
 }
 
 impl TelephoneEvent {
-    /// The report of the first four bytes, or `None` where there are fewer. What follows them is not looked at. The
-    /// reserved bit may have any value.
+    /// The report in the first four bytes; `None` if there are fewer. Later bytes are ignored. The reserved bit may have any value.
     ///
-    /// Written again at the same rate, a report gives its bytes back, the reserved bit clear, where the rate is below
+    /// Written again at the same rate, a report gives its bytes back with the reserved bit clear, if the rate is below
     /// 1,000,000,000 Hz.
     pub fn parse(buf: &[u8], rate: Frequency) -> Option<Self>
         ensures value { result ≡ report_of buf.now rate }
@@ -48,9 +47,8 @@ impl TelephoneEvent {
         })
     }
 
-    /// The reports of a payload, in order, or `None` unless it is one or more whole reports and nothing else. A sender
-    /// may put several into one packet (RFC 4733, section 2.5.1.5); a depacketizer gives the first alone, so read them
-    /// here where the others matter.
+    /// The reports of a payload, in order; `None` unless it consists of one or more whole reports. A sender may put several into
+    /// one packet (RFC 4733, section 2.5.1.5). A depacketizer reports only the first; call this for the others.
     pub fn parse_all<'a>(buf: &'a [u8], rate: Frequency) -> Option<TelephoneEvents<'a>>
         ensures none { IsNone result ↔ (are_reports buf.now ≡ false) }
         ensures all { IfSome result (λ events. events ≡ reports_of buf.now rate) }
@@ -61,8 +59,8 @@ impl TelephoneEvent {
         Some(TelephoneEvents { bytes: buf, rate })
     }
 
-    /// The four bytes of the report, or `None` where its duration is more than 65,535 units of the clock. The reserved
-    /// bit is clear, and of the volume the low six bits are written.
+    /// The four bytes of the report; `None` if its duration exceeds 65,535 units of the clock. The reserved bit is clear, and the
+    /// low six bits of the volume are written.
     pub fn to_bytes(&self, rate: Frequency) -> Option<[u8; 4]>
         ensures { result ≡ bytes_of_report self.now rate }
     {
@@ -72,7 +70,7 @@ impl TelephoneEvent {
     }
 }
 
-/// The reports of a payload, in order. No step takes memory.
+/// The reports of a payload, in order. No step allocates.
 #[derive(Debug, Drop)]
 pub struct TelephoneEvents<'a> {
     bytes: &'a [u8],

@@ -1,4 +1,4 @@
-//! Values of RTP header extensions (RFC 8285). They are carried and never looked into.
+//! Values of RTP header extensions (RFC 8285). They are carried and never interpreted.
 
 ghost use Rattle.std.specs.Prelude.{◌≡◌, ◌≤◌, ◌<◌, ◌↔◌, IsNone, IfSome, length};
 ghost use Rattle.codec_payload_base.specs.Extensions.{no_values};
@@ -7,8 +7,7 @@ ghost use Rattle.codec_payload_base.specs.StrippedValues.{kept_if, stripped};
 use std::fmt;
 use std::marker::Model;
 
-/// The values of the header extensions that go with a packet, or with all packets of a sample. `None` stands for an
-/// extension that is not there.
+/// The values of the header extensions of a packet, or of all packets of a sample. `None`: the extension is absent.
 #[derive(Clone, Copy, Debug, Default, PartialEq, Eq)]
 pub struct ExtensionValues {
     /// When the frame was captured (abs-capture-time).
@@ -35,8 +34,8 @@ fn only_if<T: Drop>(goes: bool, value: Option<T>) -> Option<T>
 }
 
 impl ExtensionValues {
-    /// The values of a sample that go on its packet at that place, of so many: capture time and layers allocation on the first
-    /// alone, orientation, content type and timing on the last alone, and all others on each.
+    /// The values of a sample for packet `place` of `count`: capture time and layers allocation only on the first packet;
+    /// orientation, content type and timing only on the last; all others on each.
     pub fn for_packet(&self, place: usize, count: usize) -> ExtensionValues
         requires { place < count }
         ensures { result ≡ stripped self.now place count }
@@ -66,7 +65,7 @@ pub fn default_of_extension_values() -> ExtensionValues
 pub struct AbsCaptureTime {
     /// Seconds since 1900 in the high 32 bits, their fraction in the low 32.
     pub capture_time: u64,
-    /// What is to be added to get the sender's clock, in the same unit, if it is known.
+    /// The offset to add to get the sender's clock, in the same unit; `None` if unknown.
     pub clock_offset: Option<i64>,
 }
 
@@ -89,12 +88,12 @@ pub struct VideoTiming {
     pub network_2: u16,
 }
 
-/// The bytes of a layers allocation, as they stand in the header extension: at most 255, as many as the two-byte header
-/// has room for (RFC 8285, section 4.3).
+/// The bytes of a layers allocation, as in the header extension: at most 255, the limit of the two-byte header (RFC 8285, section
+/// 4.3).
 #[derive(Clone, Copy)]
 pub struct VideoLayersAllocation {
     len: u8,
-    /// The bytes, and then zeros, so that the bytes tell all of it.
+    /// The bytes, padded with zeros, so that equal bytes mean equal values.
     padded: [u8; 255],
 }
 

@@ -1,27 +1,68 @@
 //! A packet in the queue of a buffer.
 
-ghost use Rattle.std.specs.Prelude.{◌≡◌, IfOk};
+ghost use Rattle.std.specs.Prelude.{◌≡◌, IfOk, Option, if◌then◌else◌};
 
+use super::known::Known;
 use super::unit::RtpMeta;
-use codec_payload_base::wire::{
-    AbsCaptureTime, ExtensionValues, MediaTime, Pt, RtpHeader, SenderInfo, SeqNo, Ticks,
-    VideoLayersAllocation, VideoTiming,
-};
 use std::alloc::{AllocError, Global};
-use std::marker::Model;
 use std::mem::size_of;
 
-/// A packet that is held. Whether it begins and ends a unit was asked of the depacketizer when it came.
+/// A packet that is held: its number, and where the rest is.
 #[derive(Debug, Drop)]
 pub(super) struct HeldPacket {
     /// Its sequence number, here too, so that a search looks at entries alone.
     pub(super) number: u64,
-    /// What is known of it, behind a pointer, so that an entry has 48 bytes however much that is.
-    pub(super) meta: Box<Known>,
+    /// The rest, behind a pointer, so that an entry has 16 bytes however much that is.
+    pub(super) packet: Box<Packet>,
+    ghost numbered: { number ≡ packet.value.known.seq_no.0 },
+}
+
+/// One memory block for each packet.
+#[derive(Debug, Drop)]
+pub(super) struct Packet {
+    pub(super) known: Known,
+    /// The payload.
     pub(super) bytes: Vec<u8>,
+    /// Of the first packet of a row the number of its last packet, of the last packet that of the first. Of the packets
+    /// between them it says nothing.
+    pub(super) other_end: u64,
+    /// Of the last packet of a row: the lowest number in the row of a packet that begins a unit.
+    pub(super) row_head: Option<u64>,
+    /// Whether it begins a unit. The depacketizer was asked when the packet came.
     pub(super) head: bool,
+    /// Whether it ends a unit.
     pub(super) tail: bool,
-    ghost numbered: { number ≡ meta.value.seq_no.0 },
+}
+
+/// What a held packet takes besides its payload and its entry.
+const _: () = prove!(size_of::<Packet>() <= 128);
+
+impl Packet {
+    /// A packet that is a row by itself. Takes memory for what few packets have alone.
+    pub(super) fn of(
+        alloc: Global,
+        meta: RtpMeta,
+        bytes: Vec<u8>,
+        head: bool,
+        tail: bool,
+    ) -> Result<Self, AllocError>
+        ensures known { IfOk result (λ packet. packet.known ≡ meta) }
+        ensures bytes { IfOk result (λ packet. packet.bytes.items ≡ bytes.items) }
+        ensures head { IfOk result (λ packet. packet.head ≡ head) }
+        ensures tail { IfOk result (λ packet. packet.tail ≡ tail) }
+        ensures other_end { IfOk result (λ packet. packet.other_end ≡ meta.seq_no.0) }
+        ensures row_head { IfOk result (λ packet. packet.row_head ≡ if head then Option.Some meta.seq_no.0 else Option.None) }
+    {
+        let number = meta.seq_no.0;
+        Ok(Packet {
+            known: Known::of(alloc, meta)?,
+            bytes,
+            other_end: number,
+            row_head: if head { Some(number) } else { None },
+            head,
+            tail,
+        })
+    }
 }
 
 /// What tells something of itself, made anew each time.
@@ -34,150 +75,12 @@ pub(super) trait Tells<T> {
 
 /// What is known of it, as users are told it.
 impl Tells<RtpMeta> for HeldPacket {
-    ghost told = { λ packet. packet.meta.value };
+    ghost told = { λ entry. entry.packet.value.known };
 
     fn tell(&self) -> RtpMeta {
-        self.meta.meta()
+        self.packet.known.meta()
     }
 }
 
 /// A push that is far from both ends moves as many entries as half of the packets that are held.
-const _: () = prove!(size_of::<HeldPacket>() <= 48);
-
-/// What is known of a packet. A layers allocation, which few packets have, stands apart: it takes more than all the rest.
-#[derive(Debug, Drop)]
-pub(super) struct Known {
-    received: Ticks,
-    time: MediaTime,
-    seq_no: SeqNo,
-    payload_type: Pt,
-    sequence_number: u16,
-    timestamp: u32,
-    ssrc: u32,
-    marker: bool,
-    abs_capture_time: Option<AbsCaptureTime>,
-    video_orientation: Option<u8>,
-    video_content_type: Option<u8>,
-    video_timing: Option<VideoTiming>,
-    layers_allocation: Option<Box<VideoLayersAllocation>>,
-    audio_level: Option<i8>,
-    voice_activity: Option<bool>,
-    last_sender_info: Option<SenderInfo>,
-}
-
-/// What a held packet takes besides its payload and its entry.
-const _: () = prove!(size_of::<Known>() <= 176);
-
-impl Model for Known {
-    ghost use Rattle.std.specs.Option.{option_map};
-    ghost use Rattle.codec_payload_buffer.specs.declared.buffer.unit.RtpMeta.{RtpMeta as Meta};
-
-    ghost Value = { Meta };
-
-    ghost view = { λ k. record {
-      received = k.received;
-      time = k.time;
-      seq_no = k.seq_no;
-      header = record {
-        payload_type = k.payload_type;
-        sequence_number = k.sequence_number;
-        timestamp = k.timestamp;
-        ssrc = k.ssrc;
-        marker = k.marker;
-        ext_vals = record {
-          abs_capture_time = k.abs_capture_time;
-          video_orientation = k.video_orientation;
-          video_content_type = k.video_content_type;
-          video_timing = k.video_timing;
-          layers_allocation = option_map (λ b. b.value) k.layers_allocation;
-          audio_level = k.audio_level;
-          voice_activity = k.voice_activity;
-        };
-      };
-      last_sender_info = k.last_sender_info;
-    } };
-}
-
-impl Known {
-    /// What is known of a packet, as it is kept. Takes memory for a layers allocation alone.
-    pub(super) fn of(alloc: Global, meta: RtpMeta) -> Result<Self, AllocError>
-        ensures { IfOk result (λ known. known ≡ meta) }
-    {
-        let header = meta.header;
-        let values = header.ext_vals;
-        let layers_allocation = match values.layers_allocation {
-            Some(layers) => Some(Box::new(alloc, layers)?),
-            None => None,
-        };
-        Ok(Known {
-            received: meta.received,
-            time: meta.time,
-            seq_no: meta.seq_no,
-            payload_type: header.payload_type,
-            sequence_number: header.sequence_number,
-            timestamp: header.timestamp,
-            ssrc: header.ssrc,
-            marker: header.marker,
-            abs_capture_time: values.abs_capture_time,
-            video_orientation: values.video_orientation,
-            video_content_type: values.video_content_type,
-            video_timing: values.video_timing,
-            layers_allocation,
-            audio_level: values.audio_level,
-            voice_activity: values.voice_activity,
-            last_sender_info: meta.last_sender_info,
-        })
-    }
-
-    /// The RTP time.
-    pub(super) fn time(&self) -> MediaTime
-        ensures { result ≡ self.now.time }
-    {
-        self.time
-    }
-
-    /// When the packet was received.
-    pub(super) fn received(&self) -> Ticks
-        ensures { result ≡ self.now.received }
-    {
-        self.received
-    }
-
-    /// What is known of the packet, as users are told it.
-    pub(super) fn meta(&self) -> RtpMeta
-        ensures { result ≡ self.now }
-    {
-        RtpMeta {
-            received: self.received,
-            time: self.time,
-            seq_no: self.seq_no,
-            header: RtpHeader {
-                payload_type: self.payload_type,
-                sequence_number: self.sequence_number,
-                timestamp: self.timestamp,
-                ssrc: self.ssrc,
-                marker: self.marker,
-                ext_vals: self.values(),
-            },
-            last_sender_info: self.last_sender_info,
-        }
-    }
-
-    /// The values of its header extensions.
-    fn values(&self) -> ExtensionValues
-        ensures { result ≡ self.now.header.ext_vals }
-    {
-        ExtensionValues {
-            abs_capture_time: self.abs_capture_time,
-            video_orientation: self.video_orientation,
-            video_content_type: self.video_content_type,
-            video_timing: self.video_timing,
-            layers_allocation: match &self.layers_allocation {
-                Some(layers) => Some(**layers),
-                None => None,
-            },
-            audio_level: self.audio_level,
-            voice_activity: self.voice_activity,
-        }
-    }
-}
+const _: () = prove!(size_of::<HeldPacket>() <= 16);

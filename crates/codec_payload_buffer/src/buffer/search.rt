@@ -7,7 +7,6 @@ ghost use Rattle.std.specs.VecDeque.{deque_len};
 
 use super::frames::CompleteFrame;
 use super::held_packet::HeldPacket;
-use super::rows::Row;
 use std::collections::VecDeque;
 
 /// What stands in a queue in rising order of a number.
@@ -23,15 +22,6 @@ impl Numbered for HeldPacket {
 
     fn number(&self) -> u64 {
         self.number
-    }
-}
-
-/// By their beginnings.
-impl Numbered for Row {
-    ghost number_of = { λ row. row.first };
-
-    fn number(&self) -> u64 {
-        self.first
     }
 }
 

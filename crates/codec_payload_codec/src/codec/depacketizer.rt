@@ -1,4 +1,4 @@
-//! A depacketizer of any codec that is there.
+//! A depacketizer of any supported codec.
 
 ghost use Rattle.std.specs.Prelude.{◌≡◌, option_map, true};
 ghost use Rattle.codec_payload_codec.specs.Depacketizers.{depacketizer_state_of, depacketizer_state_for, configured_depacketizer, kind_of_depacketizer, is_built_in_depacketizer, DepacketizerStep, DepacketizerStepTo, numbers_of_depacketizer, head_of, tail_of, hint_of};
@@ -18,8 +18,8 @@ use codec_payload_vp9::vp9::Vp9Depacketizer;
 use std::alloc::Global;
 use std::fmt;
 
-/// A depacketizer of a built-in codec, or one that the caller brings, of type `B`: with [`NoBox`], which is the default,
-/// there is none; with [`BoxedDepacketizer`] it is in a box.
+/// A depacketizer of a built-in codec, or a custom one of type `B`: the default [`NoBox`] means no custom codec;
+/// [`BoxedDepacketizer`] means one in a box.
 #[derive(Drop)]
 pub enum CodecDepacketizer<B = NoBox> {
     G711(G711Depacketizer),
@@ -31,11 +31,11 @@ pub enum CodecDepacketizer<B = NoBox> {
     Av1(Av1Depacketizer),
     AmrWb(AmrWbDepacketizer),
     Null(NullDepacketizer),
-    /// One that the caller brings. Nothing is taken for granted of its answers.
+    /// A custom depacketizer. The library relies on none of its results.
     Boxed(B),
 }
 
-/// Names the codec. What is in a box is not shown.
+/// Prints the name of the codec. The contents of a box are not printed.
 impl<B> fmt::Debug for CodecDepacketizer<B> {
     fn fmt<W: fmt::Write>(&self, f: &mut fmt::Formatter<W>) -> fmt::Result {
         match self {
@@ -54,7 +54,7 @@ impl<B> fmt::Debug for CodecDepacketizer<B> {
 }
 
 impl CodecDepacketizer {
-    /// The depacketizer of a codec, or `None` where the codec has none. G.722 is put together as G.711 is.
+    /// The depacketizer of a codec; `None` if the codec is unsupported. G.722 uses the depacketizer of G.711.
     pub fn from_codec(alloc: Global, codec: Codec) -> Option<Self>
         ensures { option_map depacketizer_state_of result ≡ depacketizer_state_for codec }
     {
@@ -89,7 +89,7 @@ impl<B> CodecDepacketizer<B> {
     }
 }
 
-/// Each call is that of the chosen depacketizer.
+/// Each call is forwarded to the selected depacketizer.
 impl<B: Depacketizer> Depacketizer for CodecDepacketizer<B> {
     ghost use Rattle.codec_payload_codec.specs.declared.codec.depacketizer.CodecDepacketizer.TheVariants.{Boxed as BoxedIn};
 

@@ -1,4 +1,4 @@
-//! A packetizer of any codec that is there.
+//! A packetizer of any supported codec.
 
 ghost use Rattle.std.specs.Prelude.{◌≡◌, ◌≤◌, [], option_map, OnErr, true};
 ghost use Rattle.std.specs.Option.{option_copied};
@@ -23,8 +23,8 @@ use codec_payload_vp9::vp9::Vp9Packetizer;
 use std::alloc::Global;
 use std::fmt;
 
-/// A packetizer of a built-in codec, or one that the caller brings, of type `B`: with [`NoBox`], which is the default, there
-/// is none; with [`BoxedPacketizer`] it is in a box.
+/// A packetizer of a built-in codec, or a custom one of type `B`: the default [`NoBox`] means no custom codec; [`BoxedPacketizer`]
+/// means one in a box.
 #[derive(Drop)]
 pub enum CodecPacketizer<B = NoBox> {
     G711(G711Packetizer),
@@ -37,11 +37,11 @@ pub enum CodecPacketizer<B = NoBox> {
     Av1(Av1Packetizer),
     AmrWb(AmrWbPacketizer),
     Null(NullPacketizer),
-    /// One that the caller brings. Nothing is taken for granted of its answers: packets of any size are sent as they are.
+    /// A custom packetizer. The library relies on none of its results: packets of any size are sent unchanged.
     Boxed(B),
 }
 
-/// Names the codec. What is in a box is not shown.
+/// Prints the name of the codec. The contents of a box are not printed.
 impl<B> fmt::Debug for CodecPacketizer<B> {
     fn fmt<W: fmt::Write>(&self, f: &mut fmt::Formatter<W>) -> fmt::Result {
         match self {
@@ -61,9 +61,8 @@ impl<B> fmt::Debug for CodecPacketizer<B> {
 }
 
 impl CodecPacketizer {
-    /// The packetizer of a codec, or `None` where the codec has none. `mode` and `first_id` are those of VP9: its mode,
-    /// and the picture id of the first frame, of at most 15 bits, which is asked for whatever the codec. VP8 sends no
-    /// picture ids.
+    /// The packetizer of a codec; `None` if the codec is unsupported. `mode` and `first_id` are for VP9: its mode, and the picture
+    /// id of the first frame. `first_id` must be below 2^15 for every codec. VP8 sends no picture ids.
     pub fn new(codec: Codec, mode: Vp9PacketizerMode, first_id: u16) -> Option<Self>
         requires { first_id ≤ 32767 }
         ensures { option_map packetizer_state_of result ≡ packetizer_state_for mode first_id codec }
@@ -102,7 +101,7 @@ impl<B> CodecPacketizer<B> {
     }
 }
 
-/// Each call is that of the chosen packetizer.
+/// Each call is forwarded to the selected packetizer.
 impl<B: Packetizer> Packetizer for CodecPacketizer<B> {
     ghost use Rattle.codec_payload_codec.specs.declared.codec.packetizer.CodecPacketizer.TheVariants.{Boxed};
 

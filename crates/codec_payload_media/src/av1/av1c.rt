@@ -7,7 +7,7 @@ ghost use Rattle.codec_payload_vpx.specs.BitFields.{bit_if};
 use crate::av1::sequence_header::Av1SequenceHeader;
 use std::alloc::AllocError;
 
-/// How many bytes stand before the sequence header OBU of a record.
+/// The number of bytes before the sequence header OBU of a record.
 pub const AV1C_FRONT_LEN: usize = 4;
 
 /// A bit, if it is set.

@@ -27,13 +27,13 @@ pub struct Av1Obu<'a> {
     /// The type, 0 to 15: 1 a sequence header, 2 a temporal delimiter, 3 a frame header, 4 a tile group, 5 metadata, 6 a frame,
     /// 7 a redundant frame header, 8 a tile list, 15 padding; the others are reserved.
     pub obu_type: u8,
-    /// The layers, if they are told.
+    /// The layers, if the OBU has an extension.
     pub extension: Option<Av1Extension>,
-    /// What stands behind the header and the size.
+    /// The bytes after the header and the size.
     pub payload: &'a [u8],
 }
 
-/// A number of at most `more` + 1 bytes in LEB128 at the front, and what follows it.
+/// A LEB128 number of at most `more` + 1 bytes at the front, and the bytes after it.
 fn number_front(more: u32, bytes: &[u8]) -> Option<(u64, &[u8])>
     ensures { Finds (λ x. (x.0, x.1.now)) result (leb_low more bytes.now) }
 {
@@ -49,7 +49,7 @@ fn number_front(more: u32, bytes: &[u8]) -> Option<(u64, &[u8])>
     Some((low + high.wrapping_mul(128), rest))
 }
 
-/// The extension byte, if there is one, and what is behind it.
+/// The extension byte, if present, and the bytes after it.
 fn read_extension(there: bool, bytes: &[u8]) -> Result<(Option<Av1Extension>, &[u8]), MediaError>
     ensures { told (λ x. (x.0, x.1.now)) result ≡ extension_at there bytes.now }
 {
@@ -66,7 +66,7 @@ fn read_extension(there: bool, bytes: &[u8]) -> Result<(Option<Av1Extension>, &[
     Ok((Some(extension), rest))
 }
 
-/// The OBU of that type and extension, whose size stands at the front, and what is behind it.
+/// The OBU of this type and extension, whose size is at the front, and the bytes after it.
 fn read_sized(
     obu_type: u8,
     extension: Option<Av1Extension>,
@@ -89,8 +89,8 @@ fn read_sized(
     Ok((obu, rest))
 }
 
-/// The OBU at the front, and what is behind it. A fault is that of [`Av1Obus`]; of no bytes it is `MissingBytes`. It takes no
-/// memory.
+/// The OBU at the front, and the bytes after it. The errors are those of [`Av1Obus`]; `MissingBytes` for an empty slice. Does not
+/// allocate.
 pub fn front_obu(bytes: &[u8]) -> Result<(Av1Obu<'_>, &[u8]), MediaError>
     ensures { told (λ x. (obu_of x.0, x.1.now)) result ≡ obu_at bytes.now }
 {
@@ -104,11 +104,11 @@ pub fn front_obu(bytes: &[u8]) -> Result<(Av1Obu<'_>, &[u8]), MediaError>
     read_sized(header / 8 % 16, extension, rest)
 }
 
-/// The OBUs of a temporal unit, in order, up to the first that is malformed, of which the fault is given. No step takes memory.
+/// The OBUs of a temporal unit, in order, up to the first malformed one, whose fault is returned. No step allocates.
 ///
-/// Each OBU has a size field, as units that are put together from packets have them. A fault is `ReservedValue` where the
-/// forbidden bit is set or there is no size field, `MissingBytes` where the header is cut off or no byte below 0x80 ends the
-/// size within eight, and `SizesDoNotFit` where the payload is cut off.
+/// Each OBU must have a size field, as in units that were reassembled from packets. `ReservedValue`: the forbidden bit is set, or
+/// the size field is missing. `MissingBytes`: the header is cut off, or no byte below 0x80 ends the size within eight.
+/// `SizesDoNotFit`: the payload is cut off.
 #[derive(Debug, Drop)]
 pub struct Av1Obus<'a> {
     bytes: &'a [u8],
@@ -123,7 +123,7 @@ impl<'a> Model for Av1Obus<'a> {
 }
 
 impl<'a> Av1Obus<'a> {
-    /// The OBUs of these bytes.
+    /// The OBUs in these bytes.
     pub fn new(unit: &'a [u8]) -> Av1Obus<'a>
         ensures { result ≡ record { bytes = unit.now } }
     {

@@ -14,7 +14,7 @@ use codec_payload_vpx::error::MediaError;
 use codec_payload_vpx::fields::{read_field, read_flag};
 use codec_payload_vpx::reader::FieldReader;
 
-/// The operating point behind so many.
+/// The operating point after `index` others.
 fn read_point_behind(
     reader: &mut FieldReader<'_>,
     index: u8,
@@ -81,16 +81,16 @@ fn read_payload(payload: &[u8], index: u8) -> Result<Option<Av1OperatingPoint>, 
     read_numbered_point(&mut reader, index)
 }
 
-/// The operating point of an index, 0 for the first, that the payload of a sequence header OBU tells; `None` behind the last. What
-/// stands behind it is not looked at. It takes no memory, and time in proportion to the index, which is at most 31.
+/// Operating point `index`, from 0, in the payload of a sequence header OBU; `None` after the last. Later bytes are ignored. Does
+/// not allocate; takes time in proportion to the index, which is at most 31.
 ///
-/// A fault is that of [`Av1SequenceHeader::parse`] up to there.
+/// The errors are those of [`Av1SequenceHeader::parse`] up to this point.
 ///
 /// [`Av1SequenceHeader::parse`]: crate::av1::sequence_header::Av1SequenceHeader::parse
 pub fn operating_point(payload: &[u8], index: u8) -> Result<Option<Av1OperatingPoint>, MediaError>
-    // What is read is spelled so.
+    // A value that was read has this spelling.
     ensures spelled { IfOk result (λ point. IsSpelled (numbered_point index) (bits_of payload.now) point) }
-    // What is spelled so is read.
+    // Everything with this spelling is read.
     ensures accepted { (point : Option Av1OperatingPoint) → IsSpelled (numbered_point index) (bits_of payload.now) point → result ≡ Ok point }
     // Which fault comes first.
     ensures exact { result ≡ told_by (numbered_point index) (bits_of payload.now) }

@@ -13,16 +13,15 @@ use codec_payload_vpx::reader::FieldReader;
 /// An operating point: which layers are decoded, and what a decoder has to be capable of for them.
 #[derive(Clone, Copy, Debug, PartialEq, Eq)]
 pub struct Av1OperatingPoint {
-    /// A bit for each temporal layer in the low eight, and one for each spatial layer in the four above; 0 where there are no
-    /// layers.
+    /// A bit for each temporal layer in the low eight, and one for each spatial layer in the four above; 0 without layers.
     pub idc: u16,
-    /// The level, 0 to 31: 31 stands for no limits.
+    /// The level, 0 to 31; 31 means no limits.
     pub level: u8,
     /// Whether the tier is High, and not Main.
     pub high_tier: bool,
 }
 
-/// Where colors stand, by the numbers of ISO/IEC 23091-2; each is 2 where it is not told.
+/// Color description, by the numbers of ISO/IEC 23091-2; each is 2 if unspecified.
 #[derive(Clone, Copy, Debug, PartialEq, Eq)]
 pub struct Av1ColorDescription {
     /// The color primaries.
@@ -33,12 +32,12 @@ pub struct Av1ColorDescription {
     pub matrix: u8,
 }
 
-/// How the colors of pictures are told.
+/// The color format of pictures.
 #[derive(Clone, Copy, Debug, PartialEq, Eq)]
 pub struct Av1Color {
     /// 8, 10 or 12 bits.
     pub bit_depth: u8,
-    /// Whether there is no color.
+    /// Whether the picture has luma only.
     pub monochrome: bool,
     pub description: Av1ColorDescription,
     /// Whether values take the full range, and not the studio's.
@@ -47,11 +46,11 @@ pub struct Av1Color {
     pub subsampling_x: bool,
     /// Whether there is one color value for two pixels in height.
     pub subsampling_y: bool,
-    /// Where color samples lie in 4:2:0: 0 unknown, 1 vertical, 2 colocated, 3 reserved.
+    /// The place of chroma samples in 4:2:0: 0 unknown, 1 vertical, 2 colocated, 3 reserved.
     pub chroma_sample_position: u8,
 }
 
-/// What a sequence header tells.
+/// The fields of a sequence header.
 #[derive(Clone, Copy, Debug, PartialEq, Eq)]
 pub struct Av1SequenceHeader {
     /// 0 Main, 1 High, 2 Professional.
@@ -60,7 +59,7 @@ pub struct Av1SequenceHeader {
     pub still_picture: bool,
     /// Whether the header is of the short form for one picture.
     pub reduced: bool,
-    /// The first operating point, which a decoder takes that is not told another.
+    /// The first operating point, which a decoder uses by default.
     pub operating_point: Av1OperatingPoint,
     /// How many operating points there are, 1 to 32.
     pub operating_points: u8,
@@ -69,11 +68,11 @@ pub struct Av1SequenceHeader {
     /// The largest height of a frame in pixels, 1 to 65,536.
     pub max_height: u32,
     pub color: Av1Color,
-    /// Whether frames may tell film grain.
+    /// Whether frames may have film grain.
     pub film_grain: bool,
 }
 
-/// A number of unknown length behind so many zeros.
+/// A number of variable length after `zeros` zeros.
 fn skip_uvlc(reader: &mut FieldReader<'_>, most: u8, zeros: usize) -> Result<u8, MediaError>
     requires { most + zeros ≤ 32 }
     ensures { paired result (left reader.new) ≡ read (uvlc_from most zeros) (left reader.old) }
@@ -87,7 +86,7 @@ fn skip_uvlc(reader: &mut FieldReader<'_>, most: u8, zeros: usize) -> Result<u8,
     skip_uvlc(reader, most - 1, zeros + 1)
 }
 
-/// Bits that are passed over, if they are there.
+/// Skips bits, if they are present.
 fn skip_if(reader: &mut FieldReader<'_>, there: bool, bits: usize) -> Result<u8, MediaError>
     ensures { paired result (left reader.new) ≡ read (branch there (skips bits) (tells 0)) (left reader.old) }
 {
@@ -98,14 +97,14 @@ fn skip_if(reader: &mut FieldReader<'_>, there: bool, bits: usize) -> Result<u8,
     }
 }
 
-/// A bit, if it is there.
+/// A bit, if present.
 fn read_flag_if(reader: &mut FieldReader<'_>, there: bool) -> Result<bool, MediaError>
     ensures { paired result (left reader.new) ≡ read (branch there flag (tells false)) (left reader.old) }
 {
     if there { read_flag(reader) } else { Ok(false) }
 }
 
-/// The decoder model, of which the length of delays is told.
+/// The decoder model; returns the length of delays in bits.
 fn read_decoder_model(reader: &mut FieldReader<'_>) -> Result<u8, MediaError>
     ensures value { paired result (left reader.new) ≡ read decoder_model (left reader.old) }
     ensures most { IfOk result (λ n. n ≤ 32) }
@@ -115,7 +114,7 @@ fn read_decoder_model(reader: &mut FieldReader<'_>) -> Result<u8, MediaError>
     Ok(less + 1)
 }
 
-/// The length of delays, or 0 where there is no decoder model.
+/// The length of delays in bits, or 0 without a decoder model.
 fn read_decoder_model_if(reader: &mut FieldReader<'_>, there: bool) -> Result<u8, MediaError>
     ensures value { paired result (left reader.new) ≡ read (decoder_model_if there) (left reader.old) }
     ensures most { IfOk result (λ n. n ≤ 32) }
@@ -127,7 +126,7 @@ fn read_decoder_model_if(reader: &mut FieldReader<'_>, there: bool) -> Result<u8
     }
 }
 
-/// A number of unknown length, if it is there.
+/// A number of variable length, if present.
 fn skip_uvlc_if(reader: &mut FieldReader<'_>, there: bool) -> Result<u8, MediaError>
     ensures { paired result (left reader.new) ≡ read (branch there (uvlc_from 32 0) (tells 0)) (left reader.old) }
 {
@@ -150,7 +149,7 @@ fn read_timing(reader: &mut FieldReader<'_>) -> Result<u8, MediaError>
     read_decoder_model_if(reader, model)
 }
 
-/// The length of delays, or 0 where there is no timing.
+/// The length of delays in bits, or 0 without timing information.
 pub(crate) fn read_timing_if(reader: &mut FieldReader<'_>, there: bool) -> Result<u8, MediaError>
     ensures value { paired result (left reader.new) ≡ read (timing_if there) (left reader.old) }
     ensures most { IfOk result (λ n. n ≤ 32) }
@@ -170,7 +169,7 @@ fn skip_parameters_if(reader: &mut FieldReader<'_>, delay: u8) -> Result<u8, Med
     skip_if(reader, there, 2 * usize::from(delay) + 1)
 }
 
-/// The delay of an operating point, if delays are told.
+/// The delay of an operating point, if delays are present.
 fn skip_display_delay_if(reader: &mut FieldReader<'_>, told: bool) -> Result<u8, MediaError>
     ensures { paired result (left reader.new) ≡ read (branch told display_delay (tells 0)) (left reader.old) }
 {
@@ -203,7 +202,7 @@ pub(crate) fn read_operating_point(
     })
 }
 
-/// So many operating points are passed over.
+/// Skips `count` operating points.
 pub(crate) fn skip_operating_points(
     reader: &mut FieldReader<'_>,
     count: u8,
@@ -272,7 +271,7 @@ fn skip_frame_ids(reader: &mut FieldReader<'_>, reduced: bool) -> Result<u8, Med
     skip_if(reader, there, 7)
 }
 
-/// Whether motion vectors are whole, if it is told.
+/// Whether motion vectors are whole numbers, if the field is present.
 fn skip_integer_vectors_if(reader: &mut FieldReader<'_>, there: bool) -> Result<u8, MediaError>
     ensures { paired result (left reader.new) ≡ read (branch there integer_vectors (tells 0)) (left reader.old) }
 {
@@ -321,7 +320,7 @@ fn read_bit_depth(reader: &mut FieldReader<'_>, profile: u8) -> Result<u8, Media
     Ok(if high { 10 } else { 8 })
 }
 
-/// Where colors stand.
+/// The color description.
 fn read_description(reader: &mut FieldReader<'_>) -> Result<Av1ColorDescription, MediaError>
     ensures { paired result (left reader.new) ≡ read color_description (left reader.old) }
 {
@@ -364,7 +363,7 @@ fn read_subsampling(
     Ok((x, y))
 }
 
-/// A field of two bits, if it is there.
+/// A field of two bits, if present.
 fn read_position_if(reader: &mut FieldReader<'_>, there: bool) -> Result<u8, MediaError>
     ensures { paired result (left reader.new) ≡ read (branch there (field 2) (tells 0)) (left reader.old) }
 {
@@ -435,7 +434,7 @@ fn read_chroma(
     })
 }
 
-/// Whether a description is that of sRGB.
+/// Whether a description is sRGB.
 fn is_srgb(description: Av1ColorDescription) -> bool
     ensures { result ≡ is_srgb description }
 {
@@ -459,7 +458,7 @@ fn read_color(reader: &mut FieldReader<'_>, profile: u8) -> Result<Av1Color, Med
     }
 }
 
-/// What the front of a header tells.
+/// The fields at the front of a header.
 #[derive(Clone, Copy)]
 pub(crate) struct Front {
     pub(crate) profile: u8,
@@ -484,7 +483,7 @@ pub(crate) fn read_front(reader: &mut FieldReader<'_>) -> Result<Front, MediaErr
     })
 }
 
-/// The operating points of a header of that form.
+/// The operating points of a header with this front.
 fn read_points(
     reader: &mut FieldReader<'_>,
     reduced: bool,
@@ -499,7 +498,7 @@ fn read_points(
 }
 
 impl Av1SequenceHeader {
-    /// What stands behind the operating points.
+    /// The fields after the operating points.
     fn read_behind(
         reader: &mut FieldReader<'_>,
         fields: Front,
@@ -545,14 +544,14 @@ impl Av1SequenceHeader {
         Av1SequenceHeader::read_fields(&mut reader)
     }
 
-    /// What the payload of a sequence header OBU tells. What stands behind it is not looked at. It takes no memory.
+    /// Reads the payload of a sequence header OBU. Later bytes are ignored. Does not allocate.
     ///
-    /// A fault is the first one from left to right: `MissingBytes` where the header is cut off, and `ReservedValue` where the
-    /// profile is above 2, or the number of ticks for a picture has 32 zeros at its front.
+    /// The first fault from left to right. `MissingBytes`: the header is cut off. `ReservedValue`: the profile is above 2, or the
+    /// number of ticks per picture begins with 32 zeros.
     pub fn parse(payload: &[u8]) -> Result<Av1SequenceHeader, MediaError>
-        // What is read is spelled so.
+        // A value that was read has this spelling.
         ensures spelled { IfOk result (λ h. IsSpelled sequence_header (bits_of payload.now) h) }
-        // What is spelled so is read.
+        // Everything with this spelling is read.
         ensures accepted { (h : Av1SequenceHeader) → IsSpelled sequence_header (bits_of payload.now) h → result ≡ Ok h }
         // Which fault comes first.
         ensures exact { result ≡ told_by sequence_header (bits_of payload.now) }

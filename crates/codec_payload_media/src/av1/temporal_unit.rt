@@ -1,5 +1,4 @@
-//! AV1: what a temporal unit tells up to its first frame header (sections 5.3, 5.9.2 and 7.5; docs/FORMATS.md, "What a
-//! frame says").
+//! AV1: reads a temporal unit up to its first frame header (sections 5.3, 5.9.2 and 7.5; docs/FORMATS.md, "What a frame says").
 
 ghost use Rattle.std.specs.Prelude.{◌≡◌};
 ghost use Rattle.codec_payload_base.specs.Bits.{bits_of};
@@ -23,13 +22,13 @@ pub const OBU_FRAME: u8 = 6;
 /// How a frame header begins.
 #[derive(Clone, Copy, Debug, PartialEq, Eq)]
 pub struct Av1FrameStart {
-    /// Whether it shows a frame that was decoded before. Of which kind that is, it does not tell.
+    /// Whether it shows a frame that was decoded before. The header does not say the type of that frame.
     pub existing: bool,
     /// Whether it is a new keyframe.
     pub keyframe: bool,
     /// Whether the frame is shown, now and not later by another header.
     pub shown: bool,
-    /// The temporal layer, 0 to 7; 0 where the OBU does not tell.
+    /// The temporal layer, 0 to 7; 0 if the OBU has no extension.
     pub temporal_id: u8,
 }
 
@@ -101,7 +100,7 @@ impl Av1FrameStart {
     }
 }
 
-/// The temporal layer that an extension tells.
+/// The temporal layer in an extension.
 fn temporal_layer(extension: Option<Av1Extension>) -> u8
     ensures { result ≡ temporal_layer extension }
 {
@@ -111,7 +110,7 @@ fn temporal_layer(extension: Option<Av1Extension>) -> u8
     }
 }
 
-/// What a temporal unit tells up to its first frame header.
+/// The facts about a temporal unit up to its first frame header.
 #[derive(Clone, Copy, Debug, PartialEq, Eq)]
 pub struct Av1TemporalUnit {
     /// The last sequence header before the first frame header, if there is one.
@@ -141,7 +140,7 @@ impl Av1TemporalUnit {
         }
     }
 
-    /// What it tells with one OBU more.
+    /// The facts with one more OBU.
     fn with(self, obu: &Av1Obu<'_>) -> Result<Av1TemporalUnit, MediaError>
         ensures { result ≡ with_obu self (obu_of obu.now) }
     {
@@ -163,9 +162,9 @@ impl Av1TemporalUnit {
         })
     }
 
-    /// What a temporal unit tells, or the first fault up to its first frame header: that of [`Av1Obus`] or of
-    /// [`Av1SequenceHeader::parse`], or `MissingBytes` where a frame header is empty. What stands behind the front of the first
-    /// frame header is not looked at. It takes no memory.
+    /// Reads a temporal unit up to its first frame header. The first fault is that of [`Av1Obus`] or of
+    /// [`Av1SequenceHeader::parse`], or `MissingBytes` if a frame header is empty. Bytes after the front of the first frame header
+    /// are ignored. Does not allocate.
     ///
     /// [`Av1Obus`]: crate::av1::obu::Av1Obus
     pub fn parse(unit: &[u8]) -> Result<Av1TemporalUnit, MediaError>
@@ -184,8 +183,8 @@ impl Av1TemporalUnit {
         Ok(told)
     }
 
-    /// Whether a coded video sequence starts with it (section 7.5), so that decoding can start here: a sequence header stands
-    /// before its first frame header, which is that of a keyframe of temporal layer 0 that is shown at once.
+    /// Whether a coded video sequence starts with this unit (section 7.5), so that decoding can start here: a sequence header
+    /// precedes its first frame header, and that frame is a keyframe of temporal layer 0 that is shown at once.
     pub fn begins_sequence(&self) -> bool
         ensures { result ≡ begins_sequence self.now.sequence_header self.now.frame }
     {

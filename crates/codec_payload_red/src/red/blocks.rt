@@ -19,7 +19,7 @@ pub(crate) const MAX_OFFSET: u32 = 16_383;
 /// The greatest block length that 10 bits hold, in bytes.
 const MAX_BLOCK_LEN: usize = 1_023;
 
-/// The bit F, the highest of a header: set in that of a redundant block, clear in that of the primary one.
+/// The bit F, the highest of a header: set for a redundant block, clear for the primary block.
 const F_BIT: u8 = 0x80;
 
 /// How many redundant blocks a payload has at most. RFC 2198 names no limit.
@@ -70,8 +70,8 @@ pub struct RedBlock<'a> {
     pub is_primary: bool,
 }
 
-/// How many redundant headers stand before the primary one, or `None` where the bytes end inside the headers or there
-/// are more than `most`.
+/// The number of redundant headers before the primary one; `None` if the bytes end inside the headers or there are more than
+/// `most`.
 #[tactic(auto, unfolding(crate::specs::RedReading::count_at))]
 fn count_of(most: u32, bytes: &[u8]) -> Option<usize>
     ensures found { result ≡ count_at most bytes.now }
@@ -90,7 +90,7 @@ fn count_of(most: u32, bytes: &[u8]) -> Option<usize>
     Some(count + 1)
 }
 
-/// The block whose header stands first in `headers`, taken from the front of `bodies`, and what stands behind it there.
+/// The block whose header is first in `headers`, taken from the front of `bodies`, and the bytes after it.
 #[tactic(auto, unfolding(crate::specs::RedReading::block_at))]
 fn block_of_header<'a>(headers: &[u8], bodies: &'a [u8]) -> Option<(RedBlock<'a>, &'a [u8])>
     requires { 4 ≤ length headers.now }
@@ -162,7 +162,7 @@ fn blocks_from<'a>(
     Ok(found)
 }
 
-/// What is written of a block: a payload has the headers of all blocks before the bytes of all.
+/// The parts of a block that are written: a payload has the headers of all blocks before the bytes of all.
 #[derive(Clone, Copy, Debug)]
 pub(crate) enum BlockPart {
     Header,
@@ -240,9 +240,9 @@ fn encoded_bytes(
 pub struct RedEncoder;
 
 impl RedEncoder {
-    /// A payload of the first 32 redundant blocks that fit (see [`RedundantBlock::fits`]), in order, and of the primary
-    /// block, which may be empty and as long as it likes (RFC 2198, section 3). Blocks that do not fit, and those past
-    /// the 32nd that does, are left out. Payload types are written in 7 bits, the eighth is dropped.
+    /// A payload of the first 32 redundant blocks that fit (see [`RedundantBlock::fits`]), in order, and of the primary block,
+    /// which may have any length, including 0 (RFC 2198, section 3). Other blocks are left out: those that do not fit, and those
+    /// after the 32nd that does. Payload types are written in 7 bits; the eighth bit is dropped.
     ///
     /// The only fault is 17, `OutOfMemory`.
     pub fn encode(
@@ -254,7 +254,7 @@ impl RedEncoder {
         ensures written { IfOk result (λ v. v.items ≡ encoded primary_pt primary.now (map redundant_of redundant.now)) }
         ensures payload { IfOk result (λ v. IsRed v.items (kept_of primary_pt primary.now (map redundant_of redundant.now))) }
 
-        // What `decode` reads in the bytes is what was kept.
+        // `decode` of the bytes returns the kept blocks.
         ensures comes_back { IfOk result (λ v. red_at v.items ≡ Some (kept_of primary_pt primary.now (map redundant_of redundant.now))) }
         ensures fault { IfErr result (λ e. e ≡ OutOfMemory) }
     {
@@ -284,12 +284,11 @@ impl RedDecoder {
     /// The blocks of a payload in the order of their headers, so the primary one is last. Each borrows its bytes from
     /// the payload; nothing is copied (RFC 2198, section 3).
     ///
-    /// Fault 14, `ErrRedCorruptedPacket`, comes for all that is no RED payload: where the bytes end inside the headers,
-    /// where more than 32 redundant blocks are announced, and where a redundant block goes past the end; no memory is
-    /// asked for then. Any other bytes are a RED payload, whatever was meant by them. Fault 17, `OutOfMemory`, comes
-    /// where the list of blocks of such a payload finds no memory.
+    /// `ErrRedCorruptedPacket` (14): the bytes are not a RED payload. They end inside the headers, announce more than 32 redundant
+    /// blocks, or a redundant block extends beyond the end; nothing is allocated then. Any other bytes are accepted as a RED
+    /// payload, even if the sender meant something else. `OutOfMemory` (17): the allocation of the list of blocks fails.
     pub fn decode<'a>(alloc: Global, payload: &'a [u8]) -> Result<Vec<RedBlock<'a>>, PacketError>
-        // The blocks are those of the payload, and encoding them gives its bytes.
+        // The blocks are those of the payload; encoding them gives its bytes.
         ensures payload { IfOk result (λ v. (r : Red) × IsRed payload.now r × (blocks_of v.items ≡ blocks_in r) × (encoded r.pt r.primary r.redundant ≡ payload.now)) }
         ensures refused { IsErrOf result ErrRedCorruptedPacket → (r : Red) → ¬ IsRed payload.now r }
         ensures exact { MatchResult result (λ v. Decodes (red_at payload.now) (blocks_of v.items)) (λ e. Fails e (red_at payload.now)) }
@@ -316,7 +315,7 @@ impl<'a> Model for SamePtBlocks<'a> {
     ghost view = { λ s. same_pt s.pt (drop s.at s.blocks.now) };
 }
 
-/// Those of the blocks that have the payload type and a timestamp offset above 0, in order. It takes no memory.
+/// The blocks of this payload type with a timestamp offset above 0, in order. Does not allocate.
 pub fn red_same_pt_blocks<'a>(blocks: &'a [RedBlock<'a>], pt: u8) -> SamePtBlocks<'a>
     ensures { result ≡ same_pt pt blocks.now }
 {

@@ -1,14 +1,14 @@
-//! RED: what holds of a sender and a receiver (docs/FORMATS.md, "RED"). The function exists for what it proves, and does nothing.
+//! RED: a theorem on a sender and a receiver (docs/FORMATS.md, "RED"). The function exists for its proof and does nothing.
 
 ghost use Rattle.codec_payload_red.specs.RedRun.{RecoversSent};
 
-/// What is recovered was sent. Let a new sender wrap payloads whose RTP times are a fixed step of 1 to 16,383 ticks apart,
-/// modulo 2^32, each shorter than the budget, and let the packets be numbered one by one. A receiver of the sender's primary
-/// type and of that step is handed what the sender made of one packet, with that packet's number and RTP time. Then it
-/// answers that packet, last, and before it just those earlier ones whose payload stands in a level that the budget left to
-/// it, each with the number, the RTP time and the payload that it was sent with.
+/// Every recovered packet was sent. Let a new sender wrap payloads whose RTP times are a fixed step of 1 to 16,383 ticks apart,
+/// modulo 2^32, each shorter than the budget. Let the packets have consecutive numbers. A receiver with the sender's primary type
+/// and that step gets one packet's output with its number and RTP time. Then it returns that packet, last, and before it exactly
+/// the earlier packets whose payload is in a level that fitted the budget. Each has the number, RTP time and payload that it was
+/// sent with.
 ///
-/// No step of 0 is granted: packets of one RTP time, as those of a frame that was cut, have one offset for several numbers.
+/// A step of 0 is excluded: packets with one RTP time, such as the packets of one frame, have one offset for several numbers.
 pub fn recovered_were_sent()
     ensures { RecoversSent }
 {}

@@ -10,7 +10,7 @@ use codec_payload_base::error::PacketError;
 use codec_payload_base::picture_id::PictureId;
 use codec_payload_base::wire::extend_u8;
 
-/// I of the first byte (RFC 9628, section 4.2): the picture id is there.
+/// I of the first byte (RFC 9628, section 4.2): the picture id is present.
 pub(crate) const PICTURE_ID_PRESENT: u8 = 0x80;
 
 /// P of the first byte: the frame refers to others.
@@ -28,7 +28,7 @@ pub(crate) const START_OF_FRAME: u8 = 0x08;
 /// E of the first byte: a frame ends here.
 pub(crate) const END_OF_FRAME: u8 = 0x04;
 
-/// V of the first byte: a scalability structure is there.
+/// V of the first byte: a scalability structure is present.
 pub(crate) const STRUCTURE_PRESENT: u8 = 0x02;
 
 /// Z of the first byte: upper spatial layers do without this frame.
@@ -49,7 +49,7 @@ const SIZES_PRESENT: u8 = 0x10;
 /// G of a structure: groups of pictures are there.
 const GROUPS_PRESENT: u8 = 0x08;
 
-/// A number of 16 bits at the front, and what is behind it.
+/// The number of 16 bits at the front, and the bytes after it.
 fn u16_of(bytes: &[u8]) -> Result<(u16, &[u8]), PacketError>
     ensures { seen (λ x. (x.0, x.1.now)) result ≡ number_at bytes.now }
 {
@@ -74,7 +74,7 @@ impl Vp9Depacketizer {
         self.z = flags & NO_UPPER_REFERENCE != 0;
     }
 
-    /// Reads the picture id, if it is there, and answers what is behind it.
+    /// Reads the picture id, if present, and returns the bytes after it.
     fn read_id<'a>(&mut self, bytes: &'a [u8]) -> Result<&'a [u8], PacketError>
         ensures fields { fields_of self.new ≡ (read_id (fields_of self.old) bytes.now).fields }
         ensures rest { seen (λ r. r.now) result ≡ (read_id (fields_of self.old) bytes.now).rest }
@@ -141,7 +141,7 @@ impl Vp9Depacketizer {
         Err(PacketError::ErrTooManyPDiff)
     }
 
-    /// Reads all that is before the scalability structure.
+    /// Reads the fields before the scalability structure.
     fn read_before<'a>(&mut self, bytes: &'a [u8]) -> Result<&'a [u8], PacketError>
         ensures fields { fields_of self.new ≡ (read_before (fields_of self.old) bytes.now).fields }
         ensures rest { seen (λ r. r.now) result ≡ (read_before (fields_of self.old) bytes.now).rest }
@@ -190,7 +190,7 @@ impl Vp9Depacketizer {
         Ok(rest)
     }
 
-    /// Reads the number of pictures in a group, if it is there.
+    /// Reads the number of pictures in a group, if present.
     fn read_group_count<'a>(&mut self, bytes: &'a [u8]) -> Result<&'a [u8], PacketError>
         ensures fields { fields_of self.new ≡ (read_group_count (fields_of self.old) bytes.now).fields }
         ensures rest { seen (λ r. r.now) result ≡ (read_group_count (fields_of self.old) bytes.now).rest }
@@ -205,7 +205,7 @@ impl Vp9Depacketizer {
         Ok(rest)
     }
 
-    /// Reads a scalability structure but for its groups.
+    /// Reads a scalability structure without its groups.
     fn read_head<'a>(&mut self, bytes: &'a [u8]) -> Result<&'a [u8], PacketError>
         ensures fields { fields_of self.new ≡ (head_at (fields_of self.old) bytes.now).fields }
         ensures rest { seen (λ r. r.now) result ≡ (head_at (fields_of self.old) bytes.now).rest }
@@ -231,8 +231,8 @@ impl Vp9Depacketizer {
         self.pgpdiff.clear();
     }
 
-    /// Reads a scalability structure, if it is there, but for its groups. Those of an earlier one are gone once its first byte
-    /// was read.
+    /// Reads a scalability structure, if present, without its groups. The groups of an earlier structure are discarded once the
+    /// first byte is read.
     fn read_structure<'a>(&mut self, bytes: &'a [u8]) -> Result<&'a [u8], PacketError>
         ensures kept { SameButGroups (fields_of self.new) (read_head (fields_of self.old) bytes.now).fields }
         ensures groups { read_groups (fields_of self.old) bytes.now ≡ groups_from (groups_of (fields_of self.new)) (read_head (fields_of self.old) bytes.now).rest (groups_at (group_count (fields_of self.new))) }
@@ -248,7 +248,7 @@ impl Vp9Depacketizer {
         read
     }
 
-    /// Reads what is behind the first byte but for the groups, and answers what is behind: the groups, and the rest.
+    /// Reads the fields after the first byte, without the groups. Returns the rest: the groups, and the frame's bytes.
     pub(crate) fn read_fields<'a>(&mut self, bytes: &'a [u8]) -> Result<&'a [u8], PacketError>
         ensures kept { SameButGroups (fields_of self.new) (read_all (fields_of self.old) bytes.now).fields }
         ensures groups { all_groups (fields_of self.old) bytes.now ≡ groups_from (groups_of (fields_of self.new)) (read_all (fields_of self.old) bytes.now).rest (groups_at (group_count (fields_of self.new))) }
@@ -258,14 +258,14 @@ impl Vp9Depacketizer {
         self.read_structure(rest)
     }
 
-    /// The number of groups of the structure, of which there are none without one.
+    /// The number of groups of the structure; 0 without a structure.
     pub(crate) fn group_count(&self) -> u8
         ensures { result ≡ group_count (fields_of self.now) }
     {
         if self.v { self.ng } else { 0 }
     }
 
-    /// Reads a group. Where memory is refused, nothing has changed.
+    /// Reads a group. If memory is refused, nothing changes.
     fn read_group<'a>(&mut self, bytes: &'a [u8]) -> Result<&'a [u8], PacketError>
         ensures kept { SameButGroups (fields_of self.new) (fields_of self.old) }
         ensures groups { is_no_memory result ≡ false → groups_of (fields_of self.new) ≡ (group_at (groups_of (fields_of self.old)) bytes.now).groups }
@@ -290,7 +290,7 @@ impl Vp9Depacketizer {
         Ok(others)
     }
 
-    /// Reads so many groups. Where memory is refused, those before are there.
+    /// Reads `count` groups. If memory is refused, the groups before are kept.
     pub(crate) fn read_groups<'a>(
         &mut self,
         count: u8,
@@ -310,7 +310,7 @@ impl Vp9Depacketizer {
     }
 }
 
-/// What is behind a group.
+/// The bytes after a group.
 fn behind_group(bytes: &[u8]) -> Result<&[u8], PacketError>
     ensures { (groups : Groups) → seen (λ r. r.now) result ≡ (group_at groups bytes.now).rest }
 {
@@ -325,7 +325,7 @@ fn behind_group(bytes: &[u8]) -> Result<&[u8], PacketError>
     Ok(others)
 }
 
-/// What is behind so many groups.
+/// The bytes after `count` groups.
 pub(crate) fn behind_groups(count: u8, bytes: &[u8]) -> Result<&[u8], PacketError>
     ensures { (groups : Groups) → seen (λ r. r.now) result ≡ (groups_at count groups bytes.now).rest }
 {

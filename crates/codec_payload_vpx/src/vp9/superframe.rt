@@ -1,5 +1,4 @@
-//! VP9: superframes, units that hold several frames, of which all but the last are not shown (Annex B; docs/FORMATS.md,
-//! "What a frame says").
+//! VP9: superframes, units of several frames, of which only the last is shown (Annex B; docs/FORMATS.md, "What a frame says").
 
 ghost use Rattle.std.specs.Prelude.{◌≡◌, ◌<◌, ◌≤◌, ◌∷◌, [], length, option_map, take, drop};
 ghost use Rattle.codec_payload_vpx.specs.Reading.{told};
@@ -55,7 +54,7 @@ fn has_index(unit: &[u8]) -> bool
     byte / 32 == 6 && length <= unit.len() && unit[unit.len() - length] == byte
 }
 
-/// So many bytes from the front, or all where there are fewer, and what is behind them.
+/// `count` bytes from the front, or all if there are fewer, and the bytes after them.
 fn cut_front(count: usize, bytes: &[u8]) -> (&[u8], &[u8])
     ensures front { result.0.now ≡ take count bytes.now }
     ensures rest { result.1.now ≡ drop count bytes.now }
@@ -66,7 +65,7 @@ fn cut_front(count: usize, bytes: &[u8]) -> (&[u8], &[u8])
     bytes.split_at(count)
 }
 
-/// The size at the front of an index, and what is behind it.
+/// The size at the front of an index, and the bytes after it.
 fn front_size(width: usize, sizes: &[u8]) -> (u32, &[u8])
     requires { width ≤ 4 }
     ensures size { result.0 ≡ next_size width sizes.now }
@@ -77,7 +76,7 @@ fn front_size(width: usize, sizes: &[u8]) -> (u32, &[u8])
     (le_number(size), rest)
 }
 
-/// What so many frames have together, by their sizes.
+/// The sum of the sizes of `count` frames.
 fn size_sum(count: usize, width: usize, sizes: &[u8]) -> u64
     requires count { count ≤ 8 }
     requires width { width ≤ 4 }
@@ -93,15 +92,16 @@ fn size_sum(count: usize, width: usize, sizes: &[u8]) -> u64
     sum
 }
 
-/// A frame of a unit, and where it lies.
+/// A frame of a unit, and its place.
 #[derive(Clone, Copy, Debug, PartialEq, Eq)]
 pub struct Vp9FrameAt<'a> {
-    /// How many bytes of the unit stand before it.
+    /// The number of bytes of the unit before this frame.
     pub start: usize,
     pub frame: &'a [u8],
 }
 
-/// The frames of a unit, in order: of a superframe those of its index, hidden ones too, else the unit. No step takes memory.
+/// The frames of a unit, in order: for a superframe the frames of its index, hidden ones included; otherwise the unit itself. No
+/// step allocates.
 #[derive(Debug, Drop)]
 pub struct Vp9Frames<'a> {
     /// A frame without an index.
@@ -160,11 +160,11 @@ impl<'a> Vp9Frames<'a> {
         })
     }
 
-    /// The frames of a unit. It reads the index at the end, if there is one, and takes no memory.
+    /// The frames of a unit. Reads the index at the end, if there is one, and does not allocate.
     ///
-    /// An index stands there where the last byte is `110` in its high bits and stands at the front of the index too. Behind
-    /// the frames, and before the index, bytes that belong to none may stand. A fault is `MissingBytes` of no bytes, and
-    /// `SizesDoNotFit` where the frames have more bytes together than stand before the index.
+    /// The unit has an index if its last byte has `110` in the high bits and the same byte is at the front of the index. Between
+    /// the frames and the index there may be bytes of no frame. `MissingBytes`: the unit is empty. `SizesDoNotFit`: the frames
+    /// together are longer than the bytes before the index.
     pub fn parse(unit: &'a [u8]) -> Result<Vp9Frames<'a>, MediaError>
         ensures { told frames_left result ≡ unit_frames unit.now }
     {
@@ -177,7 +177,7 @@ impl<'a> Vp9Frames<'a> {
         Ok(Vp9Frames::alone(unit))
     }
 
-    /// The frame of that number among those that are left, behind the bytes of the ones before it.
+    /// Frame `number` among the remaining frames, after the bytes of the frames before it.
     fn placed(&self, number: usize) -> Option<Vp9FrameAt<'a>>
         ensures { option_map (λ f. (f.start, f.frame.now)) result ≡ placed_in number (frames_left self.now) }
     {
@@ -200,8 +200,8 @@ impl<'a> Vp9Frames<'a> {
     }
 }
 
-/// The frame of that number, counted from 0, of a unit whose frames are those of [`Vp9Frames`], or `None` where there are not as
-/// many. It reads the index at the end, if there is one, and takes no memory. A fault is that of [`Vp9Frames::parse`].
+/// Frame `number`, from 0, of a unit, with the frames of [`Vp9Frames`]; `None` if there are fewer. Reads the index at the end, if
+/// there is one, and does not allocate. The errors are those of [`Vp9Frames::parse`].
 pub fn frame_at(unit: &[u8], number: usize) -> Result<Option<Vp9FrameAt<'_>>, MediaError>
     ensures { told (option_map (λ f. (f.start, f.frame.now))) result ≡ told (placed_in number) (unit_frames unit.now) }
 {

@@ -1,4 +1,4 @@
-//! What is done to a buffer, and what it must answer.
+//! A step with a buffer, and its expected result.
 
 use codec_payload_core::wire::Codec;
 
@@ -10,7 +10,7 @@ pub struct Packet {
     pub payload: &'static [u8],
 }
 
-/// A unit that comes out.
+/// A released unit.
 pub struct Unit {
     pub bytes: &'static [u8],
     /// The numbers of its first packet and its last.
@@ -19,10 +19,10 @@ pub struct Unit {
     pub contiguous: bool,
 }
 
-/// What is done to a buffer, and what it must answer.
+/// A step with a buffer, and its expected result.
 pub enum Step {
     Push(Packet),
-    /// The unit that comes out, if one does.
+    /// The released unit, if there is one.
     Pop(Option<Unit>),
     /// How many packets are held.
     Held(usize),
@@ -311,8 +311,8 @@ pub const STEPS: [StepsRow; 14] = [
             Step::Held(0),
         ],
     },
-    // Keyframes that go back start again: they go out, and do not follow. The first byte tells of a picture id, of layers,
-    // and that a frame begins and ends; with 0x40 that it is no keyframe.
+    // Keyframes whose ids go back restart: they are released, and are not contiguous. The first byte announces a picture id,
+    // layers, and that a frame begins and ends; with 0x40 the frame is not a keyframe.
     StepsRow {
         name: "vp9-contiguity-three-keyframes",
         codec: Codec::Vp9,

@@ -1,4 +1,4 @@
-//! What units tell of their packets, and units in memory that is used again.
+//! What units report about their packets, and units in reused memory.
 
 use crate::asserts::{assert_bytes, assert_same};
 use crate::buffer::meta;
@@ -39,7 +39,7 @@ fn first_ntp_time(unit: &Depacketized) -> Option<u64> {
     }
 }
 
-/// A VP8 frame in three packets, of which the second and the third were received first.
+/// A VP8 frame in three packets; the second and the third were received first.
 #[test]
 fn unit_tells_of_its_packets(rt: HostRuntime) -> Result<(), Fail> {
     let mut buffer = buffer_of(rt.alloc(), Codec::Vp8)?;
@@ -60,7 +60,7 @@ fn unit_tells_of_its_packets(rt: HostRuntime) -> Result<(), Fail> {
     Ok(())
 }
 
-/// The unit of that number, of one packet, is the next, in this memory.
+/// Asserts that the unit with that number, of one packet, is the next, in this memory.
 fn assert_next(
     rt: &impl Abort,
     buffer: &mut DepacketizingBuffer,

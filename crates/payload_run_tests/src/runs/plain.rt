@@ -76,7 +76,7 @@ fn payloads_of(alloc: Global, sink: &MemorySink) -> Result<Vec<&[u8]>, AllocErro
     Ok(payloads)
 }
 
-/// A payloader of VP8 that sends picture ids, of which this is the first.
+/// A payloader of VP8 that sends picture ids, starting with this one.
 fn vp8_payloader(first_id: u16) -> Result<Payloader, Fail> {
     if first_id > 0x7fff {
         return Err("no picture id".into());
@@ -131,7 +131,7 @@ fn runs_of_built_in_codecs(rt: HostRuntime) -> Result<(), Fail> {
     Ok(())
 }
 
-/// Sends the sample at an MTU of 2, pushes these packets, and pops so many times.
+/// Sends the sample at an MTU of 2, pushes these packets, and pops `pops` times.
 fn steps_of(alloc: Global, packets: &[usize], pops: usize) -> Result<Vec<Step>, AllocError> {
     let mut steps = Vec::new(alloc);
     steps.push(Step::Send { sample: 0, mtu: 2 })?;
@@ -186,7 +186,7 @@ fn vp8_4097_packets_evicts(rt: HostRuntime) -> Result<(), Fail> {
     Ok(())
 }
 
-/// So many packets were sent, and so many the buffer holds.
+/// Asserts the number of packets sent, and the number that the buffer holds.
 fn assert_left(rt: &impl Abort, name: &str, ended: &Ended, sent: usize, held: usize) {
     let got = (ended.sink.packets().len(), ended.held);
     assert_same(rt, name, &got, &(sent, held));

@@ -52,14 +52,14 @@ fn run_in_red(alloc: Global, frames: &[&[u8]]) -> Result<Ended, Fail> {
     )?)
 }
 
-/// What is sent in three packets.
+/// The payloads sent in three packets.
 const PACKETS: [&[u8]; 3] = [
     &[0x60, 1, 2],
     &[0xe0, 0x0f, 0, 2, 0x60, 1, 2, 3, 4],
     &[0xe0, 0x0f, 0, 2, 0x60, 3, 4, 5],
 ];
 
-/// Time, marker and number of each unit's packet: the samples start talk spurts, and a recovered packet is told without marker.
+/// Time, marker and number of each unit's packet: the samples start talk spurts, and a recovered packet has no marker.
 const TOLD: [(u32, bool, u64); 3] = [(960, false, 10), (1_920, true, 11), (2_880, true, 12)];
 
 #[test]

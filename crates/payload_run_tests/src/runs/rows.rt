@@ -1,10 +1,10 @@
-//! Runs of built-in codecs, and what comes of them.
+//! Runs of built-in codecs, and their results.
 
 use codec_payload_core::codec::Vp9PacketizerMode;
 use codec_payload_core::schedule::Step;
 use codec_payload_core::wire::Codec;
 
-/// What the extra of a unit tells.
+/// The codec-specific data of a unit.
 #[derive(Clone, Copy, Debug, PartialEq, Eq)]
 pub enum Told {
     Nothing,
@@ -13,7 +13,7 @@ pub enum Told {
     IsKeyframe(bool),
 }
 
-/// A unit that comes out.
+/// A released unit.
 #[derive(Drop)]
 pub struct Unit<'a> {
     pub bytes: &'a [u8],
@@ -27,7 +27,7 @@ pub struct Unit<'a> {
 #[derive(Drop)]
 pub enum Popped<'a> {
     Unit(Unit<'a>),
-    /// A fault of that number.
+    /// A fault with that number.
     Fault(u8),
     Nothing,
 }
@@ -36,9 +36,9 @@ pub enum Popped<'a> {
 pub enum Sender {
     /// The packetizer of a codec by its default.
     OfCodec(Codec),
-    /// That of VP8 with picture ids, of which this is the first.
+    /// VP8 with picture ids, starting with this one.
     Vp8WithIds(u16),
-    /// That of VP9 in this mode, with this first picture id.
+    /// VP9 in this mode, starting with this picture id.
     Vp9(Vp9PacketizerMode, u16),
 }
 
@@ -205,7 +205,7 @@ pub const RUNS: [RunRow; 19] = [
             Popped::Nothing,
         ],
     },
-    // An empty payload, as Null sends it, is no comfort noise: its frame is refused, and has left.
+    // An empty payload, as Null sends it, is not comfort noise: its frame is refused and discarded.
     RunRow {
         name: "cn-empty-fault",
         sender: Sender::OfCodec(Codec::Null),
@@ -436,8 +436,8 @@ pub const RUNS: [RunRow; 19] = [
             Popped::Nothing,
         ],
     },
-    // A frame that no packet is sent of, since the MTU is its descriptor's length, has used a TL0PICIDX: so the frame after it
-    // does not follow, though its number does.
+    // A frame that gives no packet, since the MTU is the length of its descriptor, uses a TL0PICIDX: so the next frame is not
+    // contiguous, though its number follows.
     RunRow {
         name: "vp9-skipped-frame",
         sender: Sender::Vp9(Vp9PacketizerMode::NonFlexible, 0),

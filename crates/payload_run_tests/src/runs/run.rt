@@ -8,7 +8,7 @@ use codec_payload_core::wire::{Codec, CodecSpec, Frequency};
 use std::alloc::Global;
 use std::test::Fail;
 
-/// A frame of mode 0, with 132 bits behind its header.
+/// A frame of mode 0, with 132 bits after its header.
 const SPEECH: [u8; 18] = [
     0x04, 1, 2, 3, 4, 5, 6, 7, 8, 9, 10, 11, 12, 13, 14, 15, 16, 0xf0,
 ];
@@ -28,7 +28,7 @@ const SEND_AND_POP: [Step; 4] = [
     Step::Pop,
 ];
 
-/// A run of a stream of that codec with an RTP clock of 16 kHz, whose first packet has the number 7, over one sample.
+/// A run over one sample, for a stream of that codec with an RTP clock of 16 kHz whose first packet has the number 7.
 fn run_of(alloc: Global, codec: Codec, octet_align: bool) -> Result<Option<Run>, Fail> {
     let spec = CodecSpec {
         codec,
@@ -47,7 +47,7 @@ fn run_of(alloc: Global, codec: Codec, octet_align: bool) -> Result<Option<Run>,
     Ok(run_stream(alloc, stream, &samples, &SEND_AND_POP)?)
 }
 
-/// The frame comes back in either layout of AMR-WB: sender and receiver are both told the layout. RED has no packetizer.
+/// The frame is received in either layout of AMR-WB: sender and receiver are both configured. RED has no packetizer.
 #[test]
 fn amr_wb_in_either_layout(rt: HostRuntime) -> Result<(), Fail> {
     for octet_align in [false, true] {

@@ -1,4 +1,4 @@
-//! Which values of header extensions go on which packets, and what a unit tells of them.
+//! Which values of header extensions go on which packets, and the values that a unit reports.
 
 use crate::asserts::assert_same;
 use crate::library::{Ended, buffer_of, payloader_of, run_steps, sample};

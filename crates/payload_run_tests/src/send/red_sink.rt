@@ -1,4 +1,4 @@
-//! What a sink of RED sends, and that its contract tells a caller what became of both that it borrows.
+//! What a sink of RED sends, and that its contract gives a caller the state of both values that it borrows.
 
 ghost use Rattle.std.specs.Prelude.{◌≡◌, ◌∷◌, ◌++◌, ◌<◌, [], length, OnOk, IfErr};
 ghost use Rattle.codec_payload_base.specs.declared.error.PacketError.TheVariants.{OutOfMemory};
@@ -45,7 +45,7 @@ fn send_in_red(
     sink.send(packet)
 }
 
-/// The number of the next packet, and whether there is a last one, as a sink of RED tells them.
+/// The number of the next packet, and whether there is a last one, as a sink of RED reports them.
 fn told(stream: &mut MemorySink, red: &mut RedSender) -> (SeqNo, bool) {
     let mut sink = RedSink::new(stream, red, 1_200);
     (sink.next_seq_no(), sink.last_packet().is_some())

@@ -6,7 +6,7 @@ use crate::media::av1::sequence_header::Av1SequenceHeader;
 use crate::memory::{AllocError, TryVec};
 use alloc::vec::Vec;
 
-/// How many bytes stand before the sequence header OBU of a record.
+/// The number of bytes before the sequence header OBU of a record.
 pub const AV1C_FRONT_LEN: usize = 4;
 
 /// A bit, if it is set.

@@ -10,7 +10,7 @@ use crate::media::vpx::error::MediaError;
 use crate::media::vpx::fields::{read_field, read_flag};
 use crate::media::vpx::reader::FieldReader;
 
-/// The operating point behind so many.
+/// The operating point after `index` others.
 fn read_point_behind(
     reader: &mut FieldReader<'_>,
     index: u8,
@@ -65,10 +65,10 @@ fn read_payload(payload: &[u8], index: u8) -> Result<Option<Av1OperatingPoint>, 
     read_numbered_point(&mut reader, index)
 }
 
-/// The operating point of an index, 0 for the first, that the payload of a sequence header OBU tells; `None` behind the last. What
-/// stands behind it is not looked at. It takes no memory, and time in proportion to the index, which is at most 31.
+/// Operating point `index`, from 0, in the payload of a sequence header OBU; `None` after the last. Later bytes are ignored. Does
+/// not allocate; takes time in proportion to the index, which is at most 31.
 ///
-/// A fault is that of [`Av1SequenceHeader::parse`] up to there.
+/// The errors are those of [`Av1SequenceHeader::parse`] up to this point.
 ///
 /// [`Av1SequenceHeader::parse`]: crate::media::av1::sequence_header::Av1SequenceHeader::parse
 pub fn operating_point(payload: &[u8], index: u8) -> Result<Option<Av1OperatingPoint>, MediaError> {

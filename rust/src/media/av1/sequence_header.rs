@@ -9,16 +9,15 @@ use crate::media::vpx::reader::FieldReader;
 /// An operating point: which layers are decoded, and what a decoder has to be capable of for them.
 #[derive(Clone, Copy, Debug, PartialEq, Eq)]
 pub struct Av1OperatingPoint {
-    /// A bit for each temporal layer in the low eight, and one for each spatial layer in the four above; 0 where there are no
-    /// layers.
+    /// A bit for each temporal layer in the low eight, and one for each spatial layer in the four above; 0 without layers.
     pub idc: u16,
-    /// The level, 0 to 31: 31 stands for no limits.
+    /// The level, 0 to 31; 31 means no limits.
     pub level: u8,
     /// Whether the tier is High, and not Main.
     pub high_tier: bool,
 }
 
-/// Where colors stand, by the numbers of ISO/IEC 23091-2; each is 2 where it is not told.
+/// Color description, by the numbers of ISO/IEC 23091-2; each is 2 if unspecified.
 #[derive(Clone, Copy, Debug, PartialEq, Eq)]
 pub struct Av1ColorDescription {
     /// The color primaries.
@@ -29,12 +28,12 @@ pub struct Av1ColorDescription {
     pub matrix: u8,
 }
 
-/// How the colors of pictures are told.
+/// The color format of pictures.
 #[derive(Clone, Copy, Debug, PartialEq, Eq)]
 pub struct Av1Color {
     /// 8, 10 or 12 bits.
     pub bit_depth: u8,
-    /// Whether there is no color.
+    /// Whether the picture has luma only.
     pub monochrome: bool,
     pub description: Av1ColorDescription,
     /// Whether values take the full range, and not the studio's.
@@ -43,11 +42,11 @@ pub struct Av1Color {
     pub subsampling_x: bool,
     /// Whether there is one color value for two pixels in height.
     pub subsampling_y: bool,
-    /// Where color samples lie in 4:2:0: 0 unknown, 1 vertical, 2 colocated, 3 reserved.
+    /// The place of chroma samples in 4:2:0: 0 unknown, 1 vertical, 2 colocated, 3 reserved.
     pub chroma_sample_position: u8,
 }
 
-/// What a sequence header tells.
+/// The fields of a sequence header.
 #[derive(Clone, Copy, Debug, PartialEq, Eq)]
 pub struct Av1SequenceHeader {
     /// 0 Main, 1 High, 2 Professional.
@@ -56,7 +55,7 @@ pub struct Av1SequenceHeader {
     pub still_picture: bool,
     /// Whether the header is of the short form for one picture.
     pub reduced: bool,
-    /// The first operating point, which a decoder takes that is not told another.
+    /// The first operating point, which a decoder uses by default.
     pub operating_point: Av1OperatingPoint,
     /// How many operating points there are, 1 to 32.
     pub operating_points: u8,
@@ -65,11 +64,11 @@ pub struct Av1SequenceHeader {
     /// The largest height of a frame in pixels, 1 to 65,536.
     pub max_height: u32,
     pub color: Av1Color,
-    /// Whether frames may tell film grain.
+    /// Whether frames may have film grain.
     pub film_grain: bool,
 }
 
-/// A number of unknown length behind so many zeros.
+/// A number of variable length after `zeros` zeros.
 fn skip_uvlc(reader: &mut FieldReader<'_>, most: u8, zeros: usize) -> Result<u8, MediaError> {
     if most == 0 {
         return Err(MediaError::ReservedValue);
@@ -80,7 +79,7 @@ fn skip_uvlc(reader: &mut FieldReader<'_>, most: u8, zeros: usize) -> Result<u8,
     skip_uvlc(reader, most - 1, zeros + 1)
 }
 
-/// Bits that are passed over, if they are there.
+/// Skips bits, if they are present.
 fn skip_if(reader: &mut FieldReader<'_>, there: bool, bits: usize) -> Result<u8, MediaError> {
     if there {
         skip_bits(reader, bits)
@@ -89,19 +88,19 @@ fn skip_if(reader: &mut FieldReader<'_>, there: bool, bits: usize) -> Result<u8,
     }
 }
 
-/// A bit, if it is there.
+/// A bit, if present.
 fn read_flag_if(reader: &mut FieldReader<'_>, there: bool) -> Result<bool, MediaError> {
     if there { read_flag(reader) } else { Ok(false) }
 }
 
-/// The decoder model, of which the length of delays is told.
+/// The decoder model; returns the length of delays in bits.
 fn read_decoder_model(reader: &mut FieldReader<'_>) -> Result<u8, MediaError> {
     let less = read_field(reader, 5)?;
     skip_bits(reader, 42)?;
     Ok(less + 1)
 }
 
-/// The length of delays, or 0 where there is no decoder model.
+/// The length of delays in bits, or 0 without a decoder model.
 fn read_decoder_model_if(reader: &mut FieldReader<'_>, there: bool) -> Result<u8, MediaError> {
     if there {
         read_decoder_model(reader)
@@ -110,7 +109,7 @@ fn read_decoder_model_if(reader: &mut FieldReader<'_>, there: bool) -> Result<u8
     }
 }
 
-/// A number of unknown length, if it is there.
+/// A number of variable length, if present.
 fn skip_uvlc_if(reader: &mut FieldReader<'_>, there: bool) -> Result<u8, MediaError> {
     if there {
         skip_uvlc(reader, 32, 0)
@@ -128,7 +127,7 @@ fn read_timing(reader: &mut FieldReader<'_>) -> Result<u8, MediaError> {
     read_decoder_model_if(reader, model)
 }
 
-/// The length of delays, or 0 where there is no timing.
+/// The length of delays in bits, or 0 without timing information.
 pub(crate) fn read_timing_if(reader: &mut FieldReader<'_>, there: bool) -> Result<u8, MediaError> {
     if there { read_timing(reader) } else { Ok(0) }
 }
@@ -142,7 +141,7 @@ fn skip_parameters_if(reader: &mut FieldReader<'_>, delay: u8) -> Result<u8, Med
     skip_if(reader, there, 2 * usize::from(delay) + 1)
 }
 
-/// The delay of an operating point, if delays are told.
+/// The delay of an operating point, if delays are present.
 fn skip_display_delay_if(reader: &mut FieldReader<'_>, told: bool) -> Result<u8, MediaError> {
     if !told {
         return Ok(0);
@@ -169,7 +168,7 @@ pub(crate) fn read_operating_point(
     })
 }
 
-/// So many operating points are passed over.
+/// Skips `count` operating points.
 pub(crate) fn skip_operating_points(
     reader: &mut FieldReader<'_>,
     count: u8,
@@ -227,7 +226,7 @@ fn skip_frame_ids(reader: &mut FieldReader<'_>, reduced: bool) -> Result<u8, Med
     skip_if(reader, there, 7)
 }
 
-/// Whether motion vectors are whole, if it is told.
+/// Whether motion vectors are whole numbers, if the field is present.
 fn skip_integer_vectors_if(reader: &mut FieldReader<'_>, there: bool) -> Result<u8, MediaError> {
     if !there {
         return Ok(0);
@@ -267,7 +266,7 @@ fn read_bit_depth(reader: &mut FieldReader<'_>, profile: u8) -> Result<u8, Media
     Ok(if high { 10 } else { 8 })
 }
 
-/// Where colors stand.
+/// The color description.
 fn read_description(reader: &mut FieldReader<'_>) -> Result<Av1ColorDescription, MediaError> {
     if !read_flag(reader)? {
         return Ok(Av1ColorDescription {
@@ -306,7 +305,7 @@ fn read_subsampling(
     Ok((x, y))
 }
 
-/// A field of two bits, if it is there.
+/// A field of two bits, if present.
 fn read_position_if(reader: &mut FieldReader<'_>, there: bool) -> Result<u8, MediaError> {
     if there { read_field(reader, 2) } else { Ok(0) }
 }
@@ -369,7 +368,7 @@ fn read_chroma(
     })
 }
 
-/// Whether a description is that of sRGB.
+/// Whether a description is sRGB.
 fn is_srgb(description: Av1ColorDescription) -> bool {
     description.primaries == 1 && description.transfer == 13 && description.matrix == 0
 }
@@ -388,7 +387,7 @@ fn read_color(reader: &mut FieldReader<'_>, profile: u8) -> Result<Av1Color, Med
     }
 }
 
-/// What the front of a header tells.
+/// The fields at the front of a header.
 #[derive(Clone, Copy, Debug)]
 pub(crate) struct Front {
     pub(crate) profile: u8,
@@ -411,7 +410,7 @@ pub(crate) fn read_front(reader: &mut FieldReader<'_>) -> Result<Front, MediaErr
     })
 }
 
-/// The operating points of a header of that form.
+/// The operating points of a header with this front.
 fn read_points(
     reader: &mut FieldReader<'_>,
     reduced: bool,
@@ -424,7 +423,7 @@ fn read_points(
 }
 
 impl Av1SequenceHeader {
-    /// What stands behind the operating points.
+    /// The fields after the operating points.
     fn read_behind(
         reader: &mut FieldReader<'_>,
         fields: Front,
@@ -463,10 +462,10 @@ impl Av1SequenceHeader {
         Av1SequenceHeader::read_fields(&mut reader)
     }
 
-    /// What the payload of a sequence header OBU tells. What stands behind it is not looked at. It takes no memory.
+    /// Reads the payload of a sequence header OBU. Later bytes are ignored. Does not allocate.
     ///
-    /// A fault is the first one from left to right: `MissingBytes` where the header is cut off, and `ReservedValue` where the
-    /// profile is above 2, or the number of ticks for a picture has 32 zeros at its front.
+    /// The first fault from left to right. `MissingBytes`: the header is cut off. `ReservedValue`: the profile is above 2, or the
+    /// number of ticks per picture begins with 32 zeros.
     pub fn parse(payload: &[u8]) -> Result<Av1SequenceHeader, MediaError> {
         Av1SequenceHeader::read(payload)
     }

@@ -13,24 +13,24 @@ pub struct Vp8Keyframe {
     pub horizontal_scale: u8,
     /// The height in pixels, 0 to 16,383.
     pub height: u16,
-    /// How far the picture is to be scaled in height, likewise.
+    /// How the picture is to be scaled in height, with the same values.
     pub vertical_scale: u8,
 }
 
-/// The header of a frame, which stands before its partitions.
+/// The header of a frame, before its partitions.
 #[derive(Clone, Copy, Debug, PartialEq, Eq)]
 pub struct Vp8FrameHeader {
-    /// Which filters the decoder takes, 0 to 7, of which 4 to 7 are reserved.
+    /// Which filters the decoder uses, 0 to 7; 4 to 7 are reserved.
     pub version: u8,
     /// Whether the frame is shown.
     pub shown: bool,
     /// The size of the first partition in bytes, at most 524,287.
     pub first_partition_size: u32,
-    /// What is told of a keyframe; `None` for a frame that needs earlier ones.
+    /// The fields of a keyframe; `None` for a frame that depends on earlier ones.
     pub keyframe: Option<Vp8Keyframe>,
 }
 
-/// What stands behind the tag of a keyframe, and what is behind that.
+/// The fields after the tag of a keyframe, and the bytes after them.
 fn read_keyframe(bytes: &[u8]) -> Result<(Vp8Keyframe, &[u8]), MediaError> {
     let [s0, s1, s2, w0, w1, h0, h1, rest @ ..] = bytes else {
         return Err(MediaError::MissingBytes);
@@ -49,7 +49,7 @@ fn read_keyframe(bytes: &[u8]) -> Result<(Vp8Keyframe, &[u8]), MediaError> {
     Ok((keyframe, rest))
 }
 
-/// What stands behind the tag of a frame, of a keyframe or not, and what is behind that.
+/// The fields after the tag of any frame, and the bytes after them.
 fn read_behind_tag(
     is_keyframe: bool,
     bytes: &[u8],
@@ -81,11 +81,10 @@ impl Vp8FrameHeader {
         })
     }
 
-    /// The header of a whole frame. It reads 3 bytes, of a keyframe 10, and takes no memory.
+    /// Reads the header of a whole frame: 3 bytes, or 10 for a keyframe. Does not allocate.
     ///
-    /// A fault is the first one from left to right: `MissingBytes` where the header is cut off, `WrongMarker` where the start
-    /// code of a keyframe is not `9d 01 2a`, and `SizesDoNotFit` where the first partition is longer than what is behind the
-    /// header.
+    /// The first fault from left to right. `MissingBytes`: the header is cut off. `WrongMarker`: the start code of a keyframe is
+    /// not `9d 01 2a`. `SizesDoNotFit`: the first partition is longer than the bytes after the header.
     pub fn parse(frame: &[u8]) -> Result<Vp8FrameHeader, MediaError> {
         Vp8FrameHeader::read(frame)
     }

@@ -124,7 +124,7 @@ static SENT: [SentRow; 9] = [
     },
 ];
 
-/// Payloads as they are sent; what comes out is the header of each frame and its speech bits.
+/// Payloads as they are sent; the result is the header of each frame and its speech bits.
 static RECEIVED: [ReceivedRow; 8] = [
     ReceivedRow {
         name: "amr-wb-two-frames-received",

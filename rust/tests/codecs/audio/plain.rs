@@ -68,7 +68,7 @@ static SENT: [SentRow; 6] = [
     },
 ];
 
-/// What comes out is the payload.
+/// The result is the payload.
 static RECEIVED: [ReceivedRow; 5] = [
     ReceivedRow {
         name: "cn-one-packet-no-marker",

@@ -31,7 +31,7 @@ static SENT: [SentRow; 1] = [SentRow {
     },
 }];
 
-/// What comes out is the first report.
+/// The result is the first report.
 static RECEIVED: [ReceivedRow; 2] = [
     ReceivedRow {
         name: "tele-two-reports",
@@ -78,7 +78,7 @@ const EVENTS: [TelephoneEvent; 2] = [
     },
 ];
 
-/// The first report is told, and both are read.
+/// The unit has the first report, and both reports can be read.
 #[test]
 fn tele_two_reports() -> Result<(), Fail> {
     let name = "tele-two-reports";

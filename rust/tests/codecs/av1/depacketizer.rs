@@ -1,4 +1,4 @@
-//! Units that are put together, payloads that are refused, and what is left where memory is refused.
+//! Units that are reassembled, payloads that are refused, and the state after an allocation fails.
 
 use crate::Fail;
 use crate::asserts::{assert_bytes, assert_same};
@@ -117,8 +117,8 @@ fn a_keyframe_stays_one() -> Result<(), Fail> {
 /// A payload whose last element goes on.
 const GOES_ON: [u8; 7] = [0x68, 0x02, 0x08, 0xaa, 0x30, 0xbb, 0xcc];
 
-/// With each allocation refused in turn: the right answer or want of memory, and then `out` and the extra as before and
-/// nothing pending.
+/// With each allocation refused in turn: the right answer or out of memory. After out of memory `out` and the codec-specific data are
+/// unchanged, and nothing is pending.
 #[test]
 fn memory_is_refused() -> Result<(), Fail> {
     let name = "memory-is-refused";

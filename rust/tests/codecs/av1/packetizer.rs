@@ -25,7 +25,7 @@ struct SentRow {
 }
 
 /// A frame is OBUs with their sizes. A packet is the byte Z Y W W N (version 1.0.0 of AV1's RTP format, section 4.4) and
-/// elements, which are OBUs without sizes or pieces of these; each has its length in front, but for the last where W counts
+/// elements, which are OBUs without sizes or pieces of these; each has its length in front, except the last one if W counts
 /// the elements.
 static SENT: [SentRow; 10] = [
     SentRow {
@@ -126,7 +126,7 @@ fn frames_are_sent() {
     }
 }
 
-/// Bytes with a filling byte `bb`, so many times, in the middle.
+/// Bytes with a number of filling bytes `bb` in the middle.
 struct Filled {
     front: &'static [u8],
     count: usize,

@@ -6,7 +6,7 @@ use codec_payload::bits::{BitRead, BitReader};
 
 /// What is read, and the answer.
 enum Read {
-    /// So many bits.
+    /// The given number of bits.
     Bits(usize, Option<u8>),
     Leb128(Option<u64>),
     ByteOffset(usize),
@@ -22,7 +22,7 @@ struct ReadRow {
 
 const READS: [ReadRow; 3] = [
     ReadRow {
-        // 10101100 01010000, of which the first four bits are passed over.
+        // 10101100 01010000, of which the first four bits are skipped.
         name: "bits-reads-and-refusals",
         bytes: &[0xac, 0x50],
         place_in_bits: 4,

@@ -9,7 +9,7 @@ use codec_payload::media::opus::{OpusBandwidth, OpusHead, OpusMode, OpusPacket};
 use codec_payload::media::vpx::error::MediaError;
 use codec_payload::memory::AllocError;
 
-/// An Opus packet: its first bytes, and so many behind them.
+/// An Opus packet: its first bytes, and the number of bytes after them.
 struct OpusRow {
     name: &'static str,
     front: &'static [u8],
@@ -145,7 +145,7 @@ fn opus_each_byte_alone() {
 
 /// How many strings of two bytes are packets, counted by the rules of RFC 6716, section 3.2, for each of the 64 first bytes
 /// of a code: all 256 of code 0; none of code 1, whose frames are of one length; that of a first frame of no bytes of code 2;
-/// of code 3 without padding each count of at most 120 ms, and one frame of told length. The 32 configurations have 497 of
+/// of code 3 without padding each count of at most 120 ms, and one frame whose length is in the packet. The 32 configurations have 497 of
 /// these.
 #[test]
 fn opus_each_two_bytes() {

@@ -7,7 +7,7 @@ use codec_payload::error::PacketError;
 use codec_payload::memory::{AllocError, TryVec};
 use codec_payload::red::{RedBlock, RedDecoder, RedEncoder, RedundantBlock, red_same_pt_blocks};
 
-/// So many headers of empty redundant blocks, and that of the primary block, of type 96.
+/// A number of headers of empty redundant blocks, and the header of the primary block, of type 96.
 fn empty_blocks(count: usize) -> Result<Vec<u8>, AllocError> {
     let mut bytes = Vec::new();
     for _ in 0..count {

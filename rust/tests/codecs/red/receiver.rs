@@ -219,7 +219,7 @@ static RECOVERED: [RecoveredRow; 13] = [
             is_primary: true,
         }]),
     },
-    // A block of another type is passed over, whichever it is, and those around it are not.
+    // A block of another type is skipped, and the blocks around it are not.
     RecoveredRow {
         name: "each-block-is-looked-at-by-itself, 96",
         primary_pt: 96,

@@ -1,4 +1,4 @@
-//! What payloads tell, and copies of depacketizers.
+//! Fields of payloads, and copies of depacketizers.
 
 use crate::Fail;
 use crate::asserts::{assert_bytes, assert_other, assert_same};
@@ -8,7 +8,7 @@ use codec_payload::error::PacketError;
 use codec_payload::interface::CodecExtra;
 use codec_payload::vp8::{Vp8CodecExtra, Vp8Depacketizer};
 
-/// The extended picture id that a payload tells.
+/// The extended picture id of a payload.
 fn told(depacketizer: &mut Vp8Depacketizer, payload: &[u8]) -> Result<Option<u64>, PacketError> {
     let received = receive(depacketizer, payload)?;
     received.answer?;
@@ -18,7 +18,7 @@ fn told(depacketizer: &mut Vp8Depacketizer, payload: &[u8]) -> Result<Option<u64
     }
 }
 
-/// Payloads that one depacketizer is given one after another, each with the extended picture id that it tells.
+/// Payloads that one depacketizer gets one after another, each with its extended picture id.
 struct ToldRow {
     name: &'static str,
     /// The picture id before, and the extended one.
@@ -58,7 +58,7 @@ const TOLD: [ToldRow; 3] = [
     },
 ];
 
-/// The extended picture ids that the payloads of a row tell.
+/// The extended picture ids of the payloads of a row.
 fn assert_ids(row: &ToldRow) {
     let mut depacketizer = Vp8Depacketizer {
         picture_id: row.picture_id,

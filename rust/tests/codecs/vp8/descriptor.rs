@@ -283,9 +283,9 @@ const DESCRIPTORS: [Row; 25] = [
 struct Worked {
     name: &'static str,
     payload: &'static [u8],
-    /// The length of its descriptor in bytes, whichever fields stand together.
+    /// The length of its descriptor in bytes, for any combination of fields.
     descriptor: usize,
-    /// Whether TL0PICIDX stands without a temporal layer.
+    /// Whether TL0PICIDX is present without a temporal layer.
     malformed: bool,
     /// Whether a keyframe starts there: S is set, the partition is the first, and P of the frame's first byte is clear.
     keyframe: bool,
@@ -441,7 +441,7 @@ const PAYLOADS: [Worked; 21] = [
     },
 ];
 
-/// What stands behind the descriptor in a beginning of a payload. It is too short up to its descriptor's last byte, unless
+/// The bytes after the descriptor in a beginning of a payload. It is too short up to its descriptor's last byte, unless
 /// its second byte made it malformed.
 fn expected<'a>(payload: &'a [u8], worked: &Worked) -> Result<&'a [u8], Vp8DescriptorError> {
     if worked.malformed && 2 <= payload.len() {
@@ -505,7 +505,7 @@ fn cut_off(worked: &Worked) -> Result<(), AllocError> {
 /// The picture id, TL0PICIDX and KEYIDX of a payload.
 type Ids = (Option<u16>, Option<u8>, Option<u8>);
 
-/// What `parse` tells of a payload.
+/// The result of `parse` for a payload.
 fn parsed(payload: &[u8]) -> Result<Ids, Vp8DescriptorError> {
     let descriptor = Vp8Descriptor::parse(payload)?;
     Ok((
@@ -550,7 +550,7 @@ fn extra_of(fields: &Fields) -> CodecExtra {
     })
 }
 
-/// The fields of a descriptor, as `parse` and the depacketizer tell them.
+/// The fields of a descriptor, from `parse` and from the depacketizer.
 fn assert_fields(row: &Row, fields: &Fields) -> Result<(), AllocError> {
     let ids = (fields.picture_id, fields.tl0_pic_idx, fields.key_idx);
     assert_same(row.name, &parsed(row.payload), &Ok(ids));

@@ -453,7 +453,7 @@ fn assert_groups(name: &str, depacketizer: &Vp9Depacketizer, structure: bool) {
     assert_parts(name, &depacketizer.pgpdiff, &[&[1], &[]]);
 }
 
-/// What a payload under these flags that was taken told, with the bytes so far.
+/// The result of an accepted payload with these flags, with the bytes so far.
 fn assert_told(
     name: &str,
     received: &Received,

@@ -7,7 +7,7 @@ use codec_payload::media::vpx::error::MediaError;
 use codec_payload::media::vpx::vp8::{Vp8FrameHeader, Vp8Keyframe};
 use codec_payload::memory::AllocError;
 
-/// A VP8 frame: its header, and so many bytes behind it.
+/// A VP8 frame: its header, and the number of bytes after it.
 struct Vp8Row {
     name: &'static str,
     header: &'static [u8],

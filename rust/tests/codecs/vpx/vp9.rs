@@ -13,7 +13,7 @@ struct Vp9Row {
     found: Result<Vp9Told, MediaError>,
 }
 
-/// What is told of a VP9 frame that is neither error resilient nor intra-only.
+/// The facts of a VP9 frame that is neither error resilient nor intra-only.
 #[derive(Clone, Copy)]
 struct Vp9Told {
     profile: u8,

@@ -10,7 +10,7 @@ pub struct Packet {
     pub payload: &'static [u8],
 }
 
-/// A unit that comes out.
+/// A unit that is released.
 pub struct Unit {
     pub bytes: &'static [u8],
     /// The numbers of its first packet and its last.
@@ -22,7 +22,7 @@ pub struct Unit {
 /// What is done to a buffer, and what it must answer.
 pub enum Step {
     Push(Packet),
-    /// The unit that comes out, if one does.
+    /// The released unit, if there is one.
     Pop(Option<Unit>),
     /// How many packets are held.
     Held(usize),
@@ -344,8 +344,8 @@ pub const STEPS: [StepsRow; 15] = [
             Step::Held(0),
         ],
     },
-    // Keyframes that go back start again: they go out, and do not follow. The first byte tells of a picture id, of layers,
-    // and that a frame begins and ends; with 0x40 that it is no keyframe.
+    // Keyframes with lower ids restart: they are released, and are not contiguous. The first byte has the bits for a picture id, for
+    // layers, and for the begin and the end of a frame; 0x40 marks a delta frame.
     StepsRow {
         name: "vp9-contiguity-three-keyframes",
         codec: Codec::Vp9,

@@ -15,7 +15,7 @@ struct OddRun {
     hold_back: usize,
     /// How far apart the numbers of pushes lie that follow one another, at most.
     window: u64,
-    /// A pop stands behind so many pushes.
+    /// The number of pushes before each pop.
     pushes_a_pop: u64,
     pushes: u64,
 }
@@ -98,7 +98,7 @@ impl PlainBuffer {
         Ok(true)
     }
 
-    /// Takes the lowest frame where its turn has come.
+    /// Takes the first frame if it is due.
     fn pop(&mut self) -> Result<Option<Frame>, Fail> {
         let frames = self.frames()?;
         let Some((first, last)) = frames.first().copied() else {

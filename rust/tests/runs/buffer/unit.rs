@@ -1,4 +1,4 @@
-//! What units tell of their packets, and units in memory that is used again.
+//! The packets' data in units, and units in memory that is used again.
 
 use crate::Fail;
 use crate::asserts::{assert_bytes, assert_count, assert_same};
@@ -225,8 +225,8 @@ fn next_number(buffer: &mut DepacketizingBuffer) -> Result<Option<u64>, PacketEr
     }
 }
 
-/// A burst of packets from that number on goes through a buffer, which gives memory back on the way. How many units come out
-/// in order.
+/// A burst of packets from that number on goes through a buffer, which gives memory back on the way. Returns the number of units
+/// that are released in order.
 fn burst(buffer: &mut DepacketizingBuffer, from: u64) -> Result<u64, PacketError> {
     for place in 0..1_000u64 {
         push_number(buffer, from.wrapping_add(place))?;

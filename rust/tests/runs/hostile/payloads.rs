@@ -100,9 +100,9 @@ pub const PAYLOADS: [&[u8]; 82] = [
     &[0x20, 0x06],
     // vp9-four-layers-fault: V, and a structure of four layers.
     &[0x02, 0x60],
-    // vp9-structure-read-anew, refused: V, and a structure that is cut off behind its count of 255 groups.
+    // `vp9-structure-read-anew`, refused: V, and a structure that ends after its count of 255 groups.
     &[0x02, 0x08, 0xff],
-    // vp9-structure-read-anew, taken: V, a structure of one layer, and a byte of the frame.
+    // `vp9-structure-read-anew`, accepted: V, a structure of one layer, and a byte of the frame.
     &[0x02, 0x00, 0xaa],
     // vp9-skipped-frame, the first packet: a keyframe.
     &[0xae, 0x80, 0x00, 0x10, 0x01, 0x00, 0x82, 0x49, 0x83],

@@ -1,4 +1,4 @@
-//! Packetizers at odd MTUs, over frames of their own and of others.
+//! Packetizers at odd MTUs, over frames of their codec and of other codecs.
 
 use super::payloads::{FRAMES, LONG_PAYLOADS, PAYLOADS};
 use crate::Fail;
@@ -61,8 +61,8 @@ fn names_fault(codec: Codec, fault: &PacketError) -> bool {
     }
 }
 
-/// Each packet has a byte and none more than the MTU, but of Null, which looks at no MTU. At the greatest MTU there is one
-/// packet at most, which can be received.
+/// Each packet has at least one byte and at most the MTU; Null ignores the MTU. At the largest MTU there is at most one packet, which
+/// can be received.
 fn packets_fit(kind: Kind, mtu: usize, frame: &[u8], packets: &[Vec<u8>]) -> Result<(), Fail> {
     let (codec, _, _) = kind;
     if codec == Codec::Null {
@@ -83,7 +83,7 @@ fn packets_fit(kind: Kind, mtu: usize, frame: &[u8], packets: &[Vec<u8>]) -> Res
     }
 }
 
-/// The only packet of a frame is received, and of VP9 in the non-flexible mode it tells a keyframe where the frame is one.
+/// The only packet of a frame is received, and for VP9 in the non-flexible mode it marks a keyframe if the frame is one.
 fn is_received(kind: Kind, frame: &[u8], packet: &[u8]) -> Result<(), Fail> {
     let (codec, mode, _) = kind;
     let (out, extra) = received(&specification(kind), packet)?;

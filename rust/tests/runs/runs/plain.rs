@@ -127,7 +127,7 @@ fn runs_of_built_in_codecs() -> Result<(), Fail> {
     Ok(())
 }
 
-/// Sends the sample at an MTU of 2, pushes these packets, and pops so many times.
+/// Sends the sample at an MTU of 2, pushes these packets, and pops the given number of times.
 fn steps_of(packets: &[usize], pops: usize) -> Result<Vec<Step>, AllocError> {
     let mut steps = Vec::new();
     steps.try_push(Step::Send { sample: 0, mtu: 2 })?;
@@ -175,7 +175,7 @@ fn vp8_4097_packets_evicts() -> Result<(), Fail> {
     Ok(())
 }
 
-/// So many packets were sent, and so many the buffer holds.
+/// Fails if the numbers of sent and of held packets differ.
 fn assert_left(name: &str, ended: &Ended, sent: usize, held: usize) {
     let got = (ended.sink.packets().len(), ended.held);
     assert_same(name, &got, &(sent, held));

@@ -88,7 +88,7 @@ fn payloads_in_red(sink: &MemorySink) -> Result<Vec<u8>, Fail> {
 /// When a packet was received, its number, its RTP time and its marker.
 type Told = (Ticks, u64, u32, bool);
 
-/// What is told of a packet, which has type 96 and no values of header extensions.
+/// The data of a packet, which has type 96 and no values of header extensions.
 fn told_of(meta: &RtpMeta) -> Told {
     let header = &meta.header;
     let got = (header.payload_type, header.ext_vals);
@@ -102,7 +102,7 @@ fn told_of(meta: &RtpMeta) -> Told {
     )
 }
 
-/// What is told of the packets of all units.
+/// The data of the packets of all units.
 fn told_of_units(run: &Run) -> Result<Vec<Told>, AllocError> {
     let mut told = Vec::new();
     for pop in &run.pops {
@@ -131,7 +131,7 @@ fn program_red_run() -> Result<(), Fail> {
     assert_bytes("what is sent", &sent, &wanted);
     let units = bytes_of_units(&ended.run)?;
     assert_bytes("what comes out", &units, &[1, 2, 3, 4, 5, 255]);
-    // The samples start talk spurts: their packets have the marker, which a recovered packet is not told with.
+    // The samples start talk spurts: their packets have the marker, which a recovered packet does not have.
     let wanted = [
         (Ticks(3), 10u64, 960u32, false),
         (Ticks(3), 11, 1_920, true),
@@ -182,7 +182,7 @@ impl Burst {
     }
 }
 
-/// Whether the sample of that place comes out: its packet comes, or one that has it in a block.
+/// Whether the sample at this place is released: its packet arrives, or a packet that has it in a block.
 fn comes_out(protection: Protection<'_>, burst: Burst, place: usize) -> bool {
     for comes in 0..LENGTHS.len() {
         if burst.spares(comes) && (comes == place || has_block(protection, comes, place)) {
@@ -192,7 +192,7 @@ fn comes_out(protection: Protection<'_>, burst: Burst, place: usize) -> bool {
     false
 }
 
-/// Which of the ten samples come out, each told by its place.
+/// The places of the samples that are released, of ten.
 fn wanted_units(protection: Protection<'_>, burst: Burst) -> Result<Vec<u8>, AllocError> {
     let mut units = Vec::new();
     for place in 0..LENGTHS.len() {
@@ -232,7 +232,7 @@ fn steps_of(mtu: usize, burst: Burst) -> Result<Vec<Step>, AllocError> {
     Ok(steps)
 }
 
-/// The places of the samples that came out, and 255 for one that is not whole.
+/// The places of the released samples, and 255 for one that is not whole.
 fn places_of(run: &Run) -> Result<Vec<u8>, AllocError> {
     let mut places = Vec::new();
     for pop in &run.pops {
@@ -249,7 +249,7 @@ fn place_of(unit: &[u8]) -> u8 {
     if whole { place } else { 255 }
 }
 
-/// What comes out.
+/// The released units.
 fn units_of(protection: Protection<'_>, burst: Burst) -> Result<Vec<u8>, Fail> {
     let samples = ten_samples(protection.step)?;
     let steps = steps_of(protection.budget.saturating_sub(1), burst)?;

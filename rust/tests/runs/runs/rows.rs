@@ -1,10 +1,10 @@
-//! Runs of built-in codecs, and what comes of them.
+//! Runs of built-in codecs, and their results.
 
 use codec_payload::codec::Vp9PacketizerMode;
 use codec_payload::schedule::Step;
 use codec_payload::wire::Codec;
 
-/// What the extra of a unit tells.
+/// The codec-specific data of a unit.
 #[derive(Clone, Copy, Debug, PartialEq, Eq)]
 pub enum Told {
     Nothing,
@@ -13,7 +13,7 @@ pub enum Told {
     IsKeyframe(bool),
 }
 
-/// A unit that comes out.
+/// A unit that is released.
 pub struct Unit<'a> {
     pub bytes: &'a [u8],
     /// The numbers of its first packet and its last.

@@ -47,7 +47,7 @@ fn samples_of(bytes: &[u8]) -> Result<Vec<ToPayload>, Fail> {
     Ok(samples)
 }
 
-/// For each pop the number of the first packet of the unit that came out.
+/// For each pop the number of the first packet of the released unit.
 fn numbers_of(run: &Run) -> Result<Vec<Option<u64>>, Fail> {
     let mut numbers = Vec::new();
     for pop in &run.pops {
@@ -83,7 +83,7 @@ const SEND_AND_POP: [Step; 4] = [
     Step::Pop,
 ];
 
-/// The frame comes back in either layout of AMR-WB: sender and receiver are both told the layout.
+/// The frame comes back in either layout of AMR-WB: sender and receiver both know the layout.
 #[test]
 fn amr_wb_in_either_layout() -> Result<(), Fail> {
     for octet_align in [false, true] {

@@ -1,4 +1,4 @@
-//! Which values of header extensions go on which packets, and what a unit tells of them.
+//! The values of header extensions on each packet, and the values of a unit.
 
 use crate::Fail;
 use crate::asserts::assert_same;

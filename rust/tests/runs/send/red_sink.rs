@@ -1,4 +1,4 @@
-//! What a sink of RED sends, and that its contract tells a caller what became of both that it borrows.
+//! The packets that a sink of RED sends, and the state of both values that it borrows.
 
 use crate::Fail;
 use crate::asserts::{assert_bytes, assert_count, assert_same};
@@ -33,7 +33,7 @@ fn send_in_red(
     sink.send(packet)
 }
 
-/// The number of the next packet, and whether there is a last one, as a sink of RED tells them.
+/// The number of the next packet, and whether a last packet exists, from a sink of RED.
 fn told(stream: &mut MemorySink, red: &mut RedSender) -> (SeqNo, bool) {
     let mut sink = RedSink::new(stream, red, 1_200);
     (sink.next_seq_no(), sink.last_packet().is_some())

@@ -1,4 +1,4 @@
-//! Reads a codec, samples and steps from standard input, runs the steps, and prints what was sent and what came out.
+//! Reads a codec, samples and steps from standard input, runs the steps, and prints the sent packets and the released units.
 //! `run_lines` does the work, `finish` reports how it ended, and this file has the streams alone.
 
 mod fields;

@@ -4,7 +4,7 @@ use Rattle.codec_payload_send.specs.Sending.{sample_of}
 use Rattle.codec_payload_runs.specs.declared.run.Sent.{Sent}
 use Rattle.codec_payload_runs.proofs.plain.run_plain.Given as goal
 
--- whatever comes of the steps that are left completes what comes of all
+-- any result of the remaining steps completes the result of all steps
 abbrev pub invariant-loop-place : goal.invariant-loop-place
 invariant-loop-place g l =
     let samples = map sample_of l.samples in

@@ -22,7 +22,7 @@ invariant-loop-payload g l =
           (packets_for (packetizer_state_of l.initial.packetizer) (sample_of l.sample) l.rtp_time (sink.next l.fn.sink) (map (λ p. p.items) (into_iter_items l.initial.payload-iterator)))
           (packets_from (packetizer_state_of l.initial.packetizer) (sample_of l.sample) l.rtp_time (sink.next l.sink) l.place (map (λ p. p.items) (into_iter_items l.payload-iterator)))
           l.sink;
-      -- what a packetizer that a caller brings does with the rest is what it does with all
+      -- the effect of a custom packetizer on the rest completes its effect on all
       own : (b : g.row.B.Denot) → l.initial.packetizer ≡ Boxed b → (now : g.row.B.Denot) × (l.packetizer ≡ Boxed now) × ((fault : Option PacketError) (b' : g.row.B.Denot) (after : g.row.S.Denot)
           → OwnSends packetizer.state packetizer.marker_step packetizer.marks_spurts packetizer.may_be_asked_for sink.accepts sink.refuses sink.sent sink.next
           (sample_of l.sample) l.rtp_time l.place now l.sink (map (λ p. p.items) (into_iter_items l.payload-iterator)) fault b' after

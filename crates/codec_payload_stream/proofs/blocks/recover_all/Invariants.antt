@@ -1,13 +1,12 @@
-use Rattle.std.proofs.Common.{ℕ, Bool, map, length}
-use Rattle.codec_payload_jitter.specs.Receiving.{Receiving}
-use Rattle.codec_payload_stream.specs.Sessions.{RecoversAll, copied}
+use Rattle.std.proofs.Common.{Bool, map, length}
+use Rattle.codec_payload_stream.specs.Sessions.{Holding, RecoversAll, copied}
 use Rattle.codec_payload_stream.proofs.blocks.recover_all.Given as goal
 
 -- wherever the packets that are left lead to, all of them lead to
 abbrev pub invariant-loop-copy : goal.invariant-loop-copy
 invariant-loop-copy g l =
-    (whole : Bool) (t : Receiving) → RecoversAll whole (map (copied l.now) l.copies.items) l.packets t
-    → RecoversAll whole (map (copied l.now) l.initial.copies.items) l.initial.packets t
+    (whole : Bool) (t : Holding) → RecoversAll whole (map (copied l.now) l.copies.items) (record { packets = l.packets; seen = l.seen }) t
+    → RecoversAll whole (map (copied l.now) l.initial.copies.items) (record { packets = l.initial.packets; seen = l.initial.seen }) t
 
 abbrev pub decreases-loop-copy : goal.decreases-loop-copy
 decreases-loop-copy g l = length l.copies.items

@@ -13,7 +13,7 @@ struct PointRow {
     found: Result<Option<(u16, u8, bool)>, MediaError>,
 }
 
-/// Two temporal layers, and one of them at a level that tells its tier.
+/// Two temporal layers, one of them at a level that has a tier bit.
 const LAYERS: &[u8] = &[0x00, 0x11, 0x03, 0x20, 0x80, 0xa2];
 
 static POINTS: [PointRow; 6] = [

@@ -4,7 +4,7 @@ use crate::asserts::assert_same;
 use codec_payload::media::av1::sequence_header::Av1SequenceHeader;
 use codec_payload::media::vpx::error::MediaError;
 
-/// A sequence header OBU's payload, and what is told of it: the profile, the bit depth, the subsampling in both directions,
+/// A sequence header OBU's payload, and its fields: the profile, the bit depth, the subsampling in both directions,
 /// and the largest width and height.
 struct Av1Row {
     name: &'static str,

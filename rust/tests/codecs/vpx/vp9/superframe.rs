@@ -10,7 +10,7 @@ use codec_payload::memory::{AllocError, TryVec};
 /// How long the frames of a unit are.
 struct Superframe {
     name: &'static str,
-    /// So many bytes of frames before the index.
+    /// The number of bytes of frames before the index.
     frames: usize,
     index: &'static [u8],
     lengths: Result<&'static [usize], MediaError>,

@@ -4,7 +4,9 @@ use Rattle.codec_payload_buffer.specs.Buffer.{state_of}
 use Rattle.codec_payload_buffer.specs.Held.{Held, held_of, above}
 use Rattle.codec_payload_buffer.specs.Scan.{end_of}
 use Rattle.codec_payload_buffer.specs.Steps.{State, due_of}
-use Rattle.codec_payload_buffer.proofs.IndexLemmas.{left_index_of}
+use Rattle.codec_payload_buffer.proofs.IndexLemmas.{left_index}
+use Rattle.codec_payload_buffer.proofs.RowEnds.{left_told}
+use Rattle.codec_payload_buffer.specs.Frames.{frames}
 use Rattle.codec_payload_buffer.proofs.PopLemmas.{due_is_first, sound_left}
 use Rattle.codec_payload_buffer.proofs.RangeLemmas.{end_within, drop_above}
 use Rattle.codec_payload_buffer.proofs.buffer.DepacketizingBuffer.leave.Goals as goal
@@ -23,11 +25,17 @@ invariant_of-self g c =
     let left : map held_of c.give_back.new.queue.items ≡ above last s.held =
     ap (map held_of) (c.give_back.ensures ∙ c.drop_front.ensures) ∙ sym (drop-map held_of c.args.count c.self.inside.packets.items)
     ∙ ap (λ k. drop k s.held) (c.requires.count ∙ ap (λ (t : State). end_of last t.held) (sym c.self.view_is)) ∙ drop_above last s.held c.self.invariant.sound.rises in
-    let index = left_index_of s.held (map held_of c.give_back.new.queue.items) c.args.frame c.self.inside.rows.items c.give_back-2.new.queue.items
-    c.self.inside.complete_frames.items c.give_back-3.new.queue.items
-    c.self.invariant.sound.rises (due_is_first s c.args.frame due) c.self.invariant.rows_are c.self.invariant.frames_are left
-    (c.give_back-2.ensures ∙ c.remove_rows.ensures) (c.give_back-3.ensures ∙ c.pop_front.ensures.rest) in
-    record { sound = sound_left s _ last c.self.invariant.sound left refl refl; least = c.self.invariant.least; most = c.self.invariant.most; rows_are = index.rows_are; frames_are = index.frames_are }
+    let count : c.args.count ≡ end_of last s.held = c.requires.count ∙ ap (λ (t : State). end_of last t.held) (sym c.self.view_is) in
+    let drops : c.give_back.new.queue.items ≡ drop (end_of last s.held) c.self.inside.packets.items = c.give_back.ensures ∙ c.drop_front.ensures ∙ ap (λ k. drop k c.self.inside.packets.items) count in
+    let first = due_is_first s c.args.frame due in
+    let index = left_index s.held c.args.frame c.self.invariant.sound.rises first in
+    record {
+      sound = sound_left s _ last c.self.invariant.sound left refl refl;
+      least = c.self.invariant.least;
+      most = c.self.invariant.most;
+      told = left_told c.self.inside.packets.items c.give_back.new.queue.items c.args.frame c.self.invariant.sound.rises c.self.invariant.told first drops left;
+      frames_are = c.give_back-2.ensures ∙ c.pop_front.ensures.rest ∙ ap (drop 1) c.self.invariant.frames_are ∙ index.1 ∙ sym (ap frames left);
+    }
 
 pub returns : goal.returns
 returns g c =

@@ -16,6 +16,6 @@ invariant_of-self g c =
       sound = sound_passed s n c.self.invariant.sound next fresh;
       least = c.self.invariant.least;
       most = c.self.invariant.most;
-      rows_are = c.self.invariant.rows_are;
+      told = c.self.invariant.told;
       frames_are = c.self.invariant.frames_are;
     }

@@ -1,100 +1,115 @@
-use Rattle.std.proofs.Common.{rules, refl, ap, map, ◌≡◌, ◌∙◌, arith, sym, false, Bool}
+use Rattle.std.proofs.Common.{List, rules, refl, ap, map, ◌≡◌, ◌∙◌, arith, sym, false, Bool}
 use Rattle.std.proofs.lemmas.List.{length-map}
 use Rattle.codec_payload_buffer.specs.Buffer.{state_of}
 use Rattle.codec_payload_codec.specs.Depacketizers.{depacketizer_state_of, is_built_in_depacketizer}
 use Rattle.codec_payload_buffer.specs.Steps.{State, arrived, arrived_by, pushed, is_at_most}
 use Rattle.codec_payload_buffer.specs.Held.{Held, held_of, has_number, placed}
-use Rattle.codec_payload_buffer.proofs.OwnLemmas.{own_of}
+use Rattle.codec_payload_buffer.specs.Frames.{frames}
+use Rattle.codec_payload_buffer.specs.declared.buffer.held_packet.HeldPacket.{HeldPacket}
+use Rattle.codec_payload_buffer.specs.declared.buffer.held_packet.Packet.{Packet}
+use Rattle.codec_payload_buffer.specs.declared.buffer.rows.Row.{Row}
+use Rattle.codec_payload_codec.proofs.CodecLemmas.{own_depacketizer}
 use Rattle.codec_payload_buffer.proofs.PushLemmas.{is_arrived, pushed_over, pushed_within}
-use Rattle.codec_payload_buffer.specs.Rows.{row_of}
+use Rattle.codec_payload_buffer.specs.Rows.{row_of, rows, merged, first_mended}
 use Rattle.codec_payload_buffer.proofs.PlaceLemmas.{lowest_out, with_new}
-use Rattle.codec_payload_buffer.proofs.IndexLemmas.{pushed_index, evict_short, evict_some, evicted_index, complete_frames_rise}
-use Rattle.codec_payload_buffer.proofs.RowListLemmas.{are_longest, rows_rise}
-use Rattle.codec_payload_buffer.proofs.buffer.DepacketizingBuffer.store.Goals as goal
+use Rattle.codec_payload_buffer.proofs.IndexLemmas.{pushed_frames, some_frames, complete_frames_rise}
 use Rattle.codec_payload_buffer.proofs.buffer.DepacketizingBuffer.store.Goals.{then-len-self, else-len-self}
-
-pub add_row-row-requires-clause-normal : goal.add_row-row-requires-clause-normal
-add_row-row-requires-clause-normal g c = rw (c.reserve.ensures.items, c.self.invariant.rows_are) (are_longest (map held_of c.self.inside.packets.items))
-
-pub add_row-row-requires-clause-rises : goal.add_row-row-requires-clause-rises
-add_row-row-requires-clause-rises g c = rw (c.reserve.ensures.items, c.self.invariant.rows_are) (rows_rise (map held_of c.self.inside.packets.items) c.self.invariant.sound.rises)
+use Rattle.codec_payload_buffer.proofs.buffer.DepacketizingBuffer.store.Goals as goal
 
 pub note-requires-clause-rises : goal.note-requires-clause-rises
 note-requires-clause-rises g c = complete_frames_rise (map held_of c.self.inside.packets.items) c.reserve-2.new.self.items c.self.invariant.sound.rises
     (c.reserve-2.ensures.items ∙ c.self.invariant.frames_are)
 
-pub shorten_first-before-requires : goal.shorten_first-before-requires
-shorten_first-before-requires g c =
+pub evict-number-requires-clause-rises : goal.evict-number-requires-clause-rises
+evict-number-requires-clause-rises g c =
     let items = c.self.inside.packets.items in
+    let hs = map held_of items in
     let new = c.place_at.new.packets.items in
     let packet : Held = record { meta = c.args.meta; bytes = c.args.«data».items; head = c.is_partition_head-head.result; tail = c.is_partition_tail-tail.result } in
-    let put : map held_of new ≡ placed packet (map held_of items) = c.in_ok-place_at.ensures.ok ∙ ap (λ (p : Held). placed p (map held_of items)) c.in_ok-packet.ensures in
-    let fresh : has_number c.args.meta.seq_no.0 (map held_of items) ≡ false = sym c.is_at.ensures ∙ c.if-is_at.false in
-    let with = with_new items new packet c.self.inside.cutoff c.self.invariant.sound.rises c.self.invariant.sound.above fresh (sym c.is_too_late.ensures ∙ c.if-is_too_late.false) put in
-    let index = pushed_index packet (map held_of items) (map held_of new) c.reserve.new.self.items c.add_row-row.new.rows.items c.row_of_packet-row.result
-    c.add_row-row.result c.frame_of.result c.reserve-2.new.self.items c.note.new.complete_frames.items
-    c.self.invariant.sound.rises fresh (c.reserve.ensures.items ∙ c.self.invariant.rows_are) (c.reserve-2.ensures.items ∙ c.self.invariant.frames_are) put
-    (c.row_of_packet-row.ensures ∙ ap row_of c.in_ok-packet.ensures) c.add_row-row.ensures.rows c.add_row-row.ensures.row c.frame_of.ensures c.note.ensures in
-    evict_short (map held_of new) (map held_of c.take_lowest.new.packets.items) c.take_lowest.result c.add_row-row.new.rows.items with.rises c.take_lowest.ensures index.rows_are
+    let as_held : Packet → Held = λ p. record { meta = p.known; bytes = p.bytes.items; head = p.head; tail = p.tail } in
+    let told : as_held c.in_ok-packet.packet ≡ packet = rw (c.in_ok-packet.ensures.known, c.in_ok-packet.ensures.bytes, c.in_ok-packet.ensures.head, c.in_ok-packet.ensures.tail) refl in
+    let is : held_of c.in_ok-entry.entry ≡ packet = ap as_held c.in_ok-entry.ensures.packet ∙ told in
+    let put : map held_of new ≡ placed packet hs = c.place_at.ensures.held ∙ ap (λ (p : Held). placed p (map held_of c.reserve.new.self.items)) is
+    ∙ ap (λ (xs : List HeldPacket). placed packet (map held_of xs)) c.reserve.ensures.items in
+    let fresh : has_number c.args.meta.seq_no.0 hs ≡ false = sym c.is_at.ensures ∙ c.if-is_at.false in
+    let late : is_at_most c.self.inside.cutoff c.args.meta.seq_no.0 ≡ false = sym c.is_too_late.ensures ∙ c.if-is_too_late.false in
+    let with = with_new items new packet c.self.inside.cutoff c.self.invariant.sound.rises c.self.invariant.sound.above fresh late put in
+    with.rises
 
 pub mend_first-requires : goal.mend_first-requires
 mend_first-requires g c =
     let items = c.self.inside.packets.items in
+    let hs = map held_of items in
     let new = c.place_at.new.packets.items in
     let packet : Held = record { meta = c.args.meta; bytes = c.args.«data».items; head = c.is_partition_head-head.result; tail = c.is_partition_tail-tail.result } in
-    let put : map held_of new ≡ placed packet (map held_of items) = c.in_ok-place_at.ensures.ok ∙ ap (λ (p : Held). placed p (map held_of items)) c.in_ok-packet.ensures in
-    let fresh : has_number c.args.meta.seq_no.0 (map held_of items) ≡ false = sym c.is_at.ensures ∙ c.if-is_at.false in
-    let with = with_new items new packet c.self.inside.cutoff c.self.invariant.sound.rises c.self.invariant.sound.above fresh (sym c.is_too_late.ensures ∙ c.if-is_too_late.false) put in
-    let index = pushed_index packet (map held_of items) (map held_of new) c.reserve.new.self.items c.add_row-row.new.rows.items c.row_of_packet-row.result
-    c.add_row-row.result c.frame_of.result c.reserve-2.new.self.items c.note.new.complete_frames.items
-    c.self.invariant.sound.rises fresh (c.reserve.ensures.items ∙ c.self.invariant.rows_are) (c.reserve-2.ensures.items ∙ c.self.invariant.frames_are) put
-    (c.row_of_packet-row.ensures ∙ ap row_of c.in_ok-packet.ensures) c.add_row-row.ensures.rows c.add_row-row.ensures.row c.frame_of.ensures c.note.ensures in
-    evict_some (map held_of new) (map held_of c.take_lowest.new.packets.items) c.add_row-row.new.rows.items c.shorten_first-before.new.rows.items
-    c.note.new.complete_frames.items _ c.shorten_first-before.result.0 c.shorten_first-before.result.1
-    index.rows_are index.frames_are c.note.new.complete_frames.ok.0 c.shorten_first-before.ensures
+    let as_held : Packet → Held = λ p. record { meta = p.known; bytes = p.bytes.items; head = p.head; tail = p.tail } in
+    let told : as_held c.in_ok-packet.packet ≡ packet = rw (c.in_ok-packet.ensures.known, c.in_ok-packet.ensures.bytes, c.in_ok-packet.ensures.head, c.in_ok-packet.ensures.tail) refl in
+    let is : held_of c.in_ok-entry.entry ≡ packet = ap as_held c.in_ok-entry.ensures.packet ∙ told in
+    let put : map held_of new ≡ placed packet hs = c.place_at.ensures.held ∙ ap (λ (p : Held). placed p (map held_of c.reserve.new.self.items)) is
+    ∙ ap (λ (xs : List HeldPacket). placed packet (map held_of xs)) c.reserve.ensures.items in
+    let fresh : has_number c.args.meta.seq_no.0 hs ≡ false = sym c.is_at.ensures ∙ c.if-is_at.false in
+    let late : is_at_most c.self.inside.cutoff c.args.meta.seq_no.0 ≡ false = sym c.is_too_late.ensures ∙ c.if-is_too_late.false in
+    let with = with_new items new packet c.self.inside.cutoff c.self.invariant.sound.rises c.self.invariant.sound.above fresh late put in
+    let whole : c.row_with-row.result ≡ merged (row_of packet) (rows hs) = c.row_with-row.ensures
+    ∙ ap (λ (r : Row). merged r (rows (map held_of c.reserve.new.self.items))) (c.row_of_packet.ensures ∙ ap row_of is)
+    ∙ ap (λ (xs : List HeldPacket). merged (row_of packet) (rows (map held_of xs))) c.reserve.ensures.items in
+    let frames_are : c.note.new.complete_frames.items ≡ frames (map held_of new) = pushed_frames packet hs (map held_of new) c.row_with-row.result c.frame_of.result c.reserve-2.new.self.items
+    c.note.new.complete_frames.items c.self.invariant.sound.rises fresh (c.reserve-2.ensures.items ∙ c.self.invariant.frames_are) put whole c.frame_of.ensures c.note.ensures in
+    some_frames c.evict-number.result.1 (map held_of new) c.note.new.complete_frames.items _ c.note.new.complete_frames.ok.0 frames_are c.evict-number.ensures.some
 
 pub invariant_of-self-then-len-self : goal.invariant_of-self-then-len-self
 invariant_of-self-then-len-self g c =
     let items = c.self.inside.packets.items in
+    let hs = map held_of items in
     let new = c.place_at.new.packets.items in
     let packet : Held = record { meta = c.args.meta; bytes = c.args.«data».items; head = c.is_partition_head-head.result; tail = c.is_partition_tail-tail.result } in
-    let put : map held_of new ≡ placed packet (map held_of items) = c.in_ok-place_at.ensures.ok ∙ ap (λ (p : Held). placed p (map held_of items)) c.in_ok-packet.ensures in
-    let fresh : has_number c.args.meta.seq_no.0 (map held_of items) ≡ false = sym c.is_at.ensures ∙ c.if-is_at.false in
-    let with = with_new items new packet c.self.inside.cutoff c.self.invariant.sound.rises c.self.invariant.sound.above fresh (sym c.is_too_late.ensures ∙ c.if-is_too_late.false) put in
-    let index = pushed_index packet (map held_of items) (map held_of new) c.reserve.new.self.items c.add_row-row.new.rows.items c.row_of_packet-row.result
-    c.add_row-row.result c.frame_of.result c.reserve-2.new.self.items c.note.new.complete_frames.items
-    c.self.invariant.sound.rises fresh (c.reserve.ensures.items ∙ c.self.invariant.rows_are) (c.reserve-2.ensures.items ∙ c.self.invariant.frames_are) put
-    (c.row_of_packet-row.ensures ∙ ap row_of c.in_ok-packet.ensures) c.add_row-row.ensures.rows c.add_row-row.ensures.row c.frame_of.ensures c.note.ensures in
-    let out = lowest_out _ _ _ c.take_lowest.ensures with.rises in
-    let left = evicted_index (map held_of new) (map held_of c.take_lowest.new.packets.items) c.take_lowest.result c.add_row-row.new.rows.items
-    c.shorten_first-before.new.rows.items c.note.new.complete_frames.items c.mend_first.new.complete_frames.items c.shorten_first-before.result.0 c.shorten_first-before.result.1
-    with.rises c.take_lowest.ensures index.rows_are index.frames_are c.shorten_first-before.ensures c.mend_first.ensures in
+    let as_held : Packet → Held = λ p. record { meta = p.known; bytes = p.bytes.items; head = p.head; tail = p.tail } in
+    let told : as_held c.in_ok-packet.packet ≡ packet = rw (c.in_ok-packet.ensures.known, c.in_ok-packet.ensures.bytes, c.in_ok-packet.ensures.head, c.in_ok-packet.ensures.tail) refl in
+    let is : held_of c.in_ok-entry.entry ≡ packet = ap as_held c.in_ok-entry.ensures.packet ∙ told in
+    let put : map held_of new ≡ placed packet hs = c.place_at.ensures.held ∙ ap (λ (p : Held). placed p (map held_of c.reserve.new.self.items)) is
+    ∙ ap (λ (xs : List HeldPacket). placed packet (map held_of xs)) c.reserve.ensures.items in
+    let fresh : has_number c.args.meta.seq_no.0 hs ≡ false = sym c.is_at.ensures ∙ c.if-is_at.false in
+    let late : is_at_most c.self.inside.cutoff c.args.meta.seq_no.0 ≡ false = sym c.is_too_late.ensures ∙ c.if-is_too_late.false in
+    let with = with_new items new packet c.self.inside.cutoff c.self.invariant.sound.rises c.self.invariant.sound.above fresh late put in
+    let whole : c.row_with-row.result ≡ merged (row_of packet) (rows hs) = c.row_with-row.ensures
+    ∙ ap (λ (r : Row). merged r (rows (map held_of c.reserve.new.self.items))) (c.row_of_packet.ensures ∙ ap row_of is)
+    ∙ ap (λ (xs : List HeldPacket). merged (row_of packet) (rows (map held_of xs))) c.reserve.ensures.items in
+    let frames_are : c.note.new.complete_frames.items ≡ frames (map held_of new) = pushed_frames packet hs (map held_of new) c.row_with-row.result c.frame_of.result c.reserve-2.new.self.items
+    c.note.new.complete_frames.items c.self.invariant.sound.rises fresh (c.reserve-2.ensures.items ∙ c.self.invariant.frames_are) put whole c.frame_of.ensures c.note.ensures in
+    let out = lowest_out _ _ _ c.evict-number.ensures.lowest with.rises in
     record {
       sound = record { rises = out.rises; above = out.above; few = omega (arith, with.long, out.shorter, c.self.invariant.sound.few, length-map new held_of, length-map items held_of) };
       least = c.self.invariant.least;
       most = c.self.invariant.most;
-      rows_are = left.rows_are;
-      frames_are = left.frames_are;
+      told = c.evict-number.ensures.told;
+      frames_are = c.mend_first.ensures ∙ ap (first_mended c.evict-number.result.1 c.evict-number.result.2) frames_are ∙ c.evict-number.ensures.frames;
     }
 
 pub invariant_of-self-else-len-self : goal.invariant_of-self-else-len-self
 invariant_of-self-else-len-self g c =
     let items = c.self.inside.packets.items in
+    let hs = map held_of items in
     let new = c.place_at.new.packets.items in
     let packet : Held = record { meta = c.args.meta; bytes = c.args.«data».items; head = c.is_partition_head-head.result; tail = c.is_partition_tail-tail.result } in
-    let put : map held_of new ≡ placed packet (map held_of items) = c.in_ok-place_at.ensures.ok ∙ ap (λ (p : Held). placed p (map held_of items)) c.in_ok-packet.ensures in
-    let fresh : has_number c.args.meta.seq_no.0 (map held_of items) ≡ false = sym c.is_at.ensures ∙ c.if-is_at.false in
-    let with = with_new items new packet c.self.inside.cutoff c.self.invariant.sound.rises c.self.invariant.sound.above fresh (sym c.is_too_late.ensures ∙ c.if-is_too_late.false) put in
-    let index = pushed_index packet (map held_of items) (map held_of new) c.reserve.new.self.items c.add_row-row.new.rows.items c.row_of_packet-row.result
-    c.add_row-row.result c.frame_of.result c.reserve-2.new.self.items c.note.new.complete_frames.items
-    c.self.invariant.sound.rises fresh (c.reserve.ensures.items ∙ c.self.invariant.rows_are) (c.reserve-2.ensures.items ∙ c.self.invariant.frames_are) put
-    (c.row_of_packet-row.ensures ∙ ap row_of c.in_ok-packet.ensures) c.add_row-row.ensures.rows c.add_row-row.ensures.row c.frame_of.ensures c.note.ensures in
+    let as_held : Packet → Held = λ p. record { meta = p.known; bytes = p.bytes.items; head = p.head; tail = p.tail } in
+    let told : as_held c.in_ok-packet.packet ≡ packet = rw (c.in_ok-packet.ensures.known, c.in_ok-packet.ensures.bytes, c.in_ok-packet.ensures.head, c.in_ok-packet.ensures.tail) refl in
+    let is : held_of c.in_ok-entry.entry ≡ packet = ap as_held c.in_ok-entry.ensures.packet ∙ told in
+    let put : map held_of new ≡ placed packet hs = c.place_at.ensures.held ∙ ap (λ (p : Held). placed p (map held_of c.reserve.new.self.items)) is
+    ∙ ap (λ (xs : List HeldPacket). placed packet (map held_of xs)) c.reserve.ensures.items in
+    let fresh : has_number c.args.meta.seq_no.0 hs ≡ false = sym c.is_at.ensures ∙ c.if-is_at.false in
+    let late : is_at_most c.self.inside.cutoff c.args.meta.seq_no.0 ≡ false = sym c.is_too_late.ensures ∙ c.if-is_too_late.false in
+    let with = with_new items new packet c.self.inside.cutoff c.self.invariant.sound.rises c.self.invariant.sound.above fresh late put in
+    let whole : c.row_with-row.result ≡ merged (row_of packet) (rows hs) = c.row_with-row.ensures
+    ∙ ap (λ (r : Row). merged r (rows (map held_of c.reserve.new.self.items))) (c.row_of_packet.ensures ∙ ap row_of is)
+    ∙ ap (λ (xs : List HeldPacket). merged (row_of packet) (rows (map held_of xs))) c.reserve.ensures.items in
+    let frames_are : c.note.new.complete_frames.items ≡ frames (map held_of new) = pushed_frames packet hs (map held_of new) c.row_with-row.result c.frame_of.result c.reserve-2.new.self.items
+    c.note.new.complete_frames.items c.self.invariant.sound.rises fresh (c.reserve-2.ensures.items ∙ c.self.invariant.frames_are) put whole c.frame_of.ensures c.note.ensures in
     record {
       sound = record { rises = with.rises; above = with.above; few = omega (arith, c.if-len-self.false, c.len.ensures, length-map new held_of, c.place_at.new.packets.ok.0) };
       least = c.self.invariant.least;
       most = c.self.invariant.most;
-      rows_are = index.rows_are;
-      frames_are = index.frames_are;
+      told = c.place_at.ensures.told;
+      frames_are = frames_are;
     }
 
 -- a packet that is dropped may be any
@@ -106,16 +121,23 @@ returns-then-is_at-clause-ok g c = (arrived c.args.self.now.depacketizer c.args.
 
 pub returns-clause-ok : goal.returns-clause-ok
 returns-clause-ok g c =
+    let items = c.self.inside.packets.items in
+    let hs = map held_of items in
+    let new = c.place_at.new.packets.items in
     let packet : Held = record { meta = c.args.meta; bytes = c.args.«data».items; head = c.is_partition_head-head.result; tail = c.is_partition_tail-tail.result } in
+    let as_held : Packet → Held = λ p. record { meta = p.known; bytes = p.bytes.items; head = p.head; tail = p.tail } in
+    let told : as_held c.in_ok-packet.packet ≡ packet = rw (c.in_ok-packet.ensures.known, c.in_ok-packet.ensures.bytes, c.in_ok-packet.ensures.head, c.in_ok-packet.ensures.tail) refl in
+    let is : held_of c.in_ok-entry.entry ≡ packet = ap as_held c.in_ok-entry.ensures.packet ∙ told in
+    let put : map held_of new ≡ placed packet hs = c.place_at.ensures.held ∙ ap (λ (p : Held). placed p (map held_of c.reserve.new.self.items)) is
+    ∙ ap (λ (xs : List HeldPacket). placed packet (map held_of xs)) c.reserve.ensures.items in
+    let fresh : has_number c.args.meta.seq_no.0 hs ≡ false = sym c.is_at.ensures ∙ c.if-is_at.false in
+    let late : is_at_most c.self.inside.cutoff c.args.meta.seq_no.0 ≡ false = sym c.is_too_late.ensures ∙ c.if-is_too_late.false in
+    let with = with_new items new packet c.self.inside.cutoff c.self.invariant.sound.rises c.self.invariant.sound.above fresh late put in
     let view : depacketizer_state_of c.self.inside.depacketizer ≡ c.args.self.now.depacketizer = ap (λ (s : State). s.depacketizer) c.self.view_is in
     let before = state_of c.self.inside in
-    let late : is_at_most c.self.inside.cutoff c.args.meta.seq_no.0 ≡ false = sym c.is_too_late.ensures ∙ c.if-is_too_late.false in
-    let fresh : has_number c.args.meta.seq_no.0 (map held_of c.self.inside.packets.items) ≡ false = sym c.is_at.ensures ∙ c.if-is_at.false in
-    let put : map held_of c.place_at.new.packets.items ≡ placed packet (map held_of c.self.inside.packets.items) = c.in_ok-place_at.ensures.ok
-    ∙ ap (λ (p : Held). placed p (map held_of c.self.inside.packets.items)) c.in_ok-packet.ensures in
     let whole : c.if-len-self.self ≡ pushed before packet = elim c.if-len-self.branch [
       | then-len-self w ↦ w.self-is ∙ sym (pushed_over before packet _ _ _ late fresh put
-          (omega (arith, w.if-len-self.true, c.len.ensures, length-map c.place_at.new.packets.items held_of)) w.take_lowest.ensures)
+          (omega (arith, w.if-len-self.true, c.len.ensures, length-map c.place_at.new.packets.items held_of)) w.evict-number.ensures.lowest)
       | else-len-self w ↦ w.self-is ∙ sym (pushed_within before packet _ late fresh put (omega (arith, w.if-len-self.false, c.len.ensures, length-map c.place_at.new.packets.items held_of)))
     ] in (
       packet,
@@ -128,34 +150,41 @@ returns-clause-ok g c =
 pub returns-then-is_too_late-clause-own : goal.returns-then-is_too_late-clause-own
 returns-then-is_too_late-clause-own g c = λ other.
     let view : depacketizer_state_of c.self.inside.depacketizer ≡ c.args.self.now.depacketizer = ap (λ (s : State). s.depacketizer) c.self.view_is in
-    let b = own_of c.self.inside.depacketizer (ap is_built_in_depacketizer view ∙ other) in
+    let b = own_depacketizer c.self.inside.depacketizer (ap is_built_in_depacketizer view ∙ other) in
     (b.0, search rules)
 
 pub returns-then-is_at-clause-own : goal.returns-then-is_at-clause-own
 returns-then-is_at-clause-own g c = λ other.
     let view : depacketizer_state_of c.self.inside.depacketizer ≡ c.args.self.now.depacketizer = ap (λ (s : State). s.depacketizer) c.self.view_is in
-    let b = own_of c.self.inside.depacketizer (ap is_built_in_depacketizer view ∙ other) in
+    let b = own_depacketizer c.self.inside.depacketizer (ap is_built_in_depacketizer view ∙ other) in
     (b.0, search rules)
 
 pub returns-clause-own : goal.returns-clause-own
 returns-clause-own g c = λ other.
+    let items = c.self.inside.packets.items in
+    let hs = map held_of items in
+    let new = c.place_at.new.packets.items in
     let packet : Held = record { meta = c.args.meta; bytes = c.args.«data».items; head = c.is_partition_head-head.result; tail = c.is_partition_tail-tail.result } in
+    let as_held : Packet → Held = λ p. record { meta = p.known; bytes = p.bytes.items; head = p.head; tail = p.tail } in
+    let told : as_held c.in_ok-packet.packet ≡ packet = rw (c.in_ok-packet.ensures.known, c.in_ok-packet.ensures.bytes, c.in_ok-packet.ensures.head, c.in_ok-packet.ensures.tail) refl in
+    let is : held_of c.in_ok-entry.entry ≡ packet = ap as_held c.in_ok-entry.ensures.packet ∙ told in
+    let put : map held_of new ≡ placed packet hs = c.place_at.ensures.held ∙ ap (λ (p : Held). placed p (map held_of c.reserve.new.self.items)) is
+    ∙ ap (λ (xs : List HeldPacket). placed packet (map held_of xs)) c.reserve.ensures.items in
+    let fresh : has_number c.args.meta.seq_no.0 hs ≡ false = sym c.is_at.ensures ∙ c.if-is_at.false in
+    let late : is_at_most c.self.inside.cutoff c.args.meta.seq_no.0 ≡ false = sym c.is_too_late.ensures ∙ c.if-is_too_late.false in
+    let with = with_new items new packet c.self.inside.cutoff c.self.invariant.sound.rises c.self.invariant.sound.above fresh late put in
     let view : depacketizer_state_of c.self.inside.depacketizer ≡ c.args.self.now.depacketizer = ap (λ (s : State). s.depacketizer) c.self.view_is in
     let before = state_of c.self.inside in
-    let late : is_at_most c.self.inside.cutoff c.args.meta.seq_no.0 ≡ false = sym c.is_too_late.ensures ∙ c.if-is_too_late.false in
-    let fresh : has_number c.args.meta.seq_no.0 (map held_of c.self.inside.packets.items) ≡ false = sym c.is_at.ensures ∙ c.if-is_at.false in
-    let put : map held_of c.place_at.new.packets.items ≡ placed packet (map held_of c.self.inside.packets.items) = c.in_ok-place_at.ensures.ok
-    ∙ ap (λ (p : Held). placed p (map held_of c.self.inside.packets.items)) c.in_ok-packet.ensures in
     let whole : c.if-len-self.self ≡ pushed before packet = elim c.if-len-self.branch [
       | then-len-self w ↦ w.self-is ∙ sym (pushed_over before packet _ _ _ late fresh put
-          (omega (arith, w.if-len-self.true, c.len.ensures, length-map c.place_at.new.packets.items held_of)) w.take_lowest.ensures)
+          (omega (arith, w.if-len-self.true, c.len.ensures, length-map c.place_at.new.packets.items held_of)) w.evict-number.ensures.lowest)
       | else-len-self w ↦ w.self-is ∙ sym (pushed_within before packet _ late fresh put (omega (arith, w.if-len-self.false, c.len.ensures, length-map c.place_at.new.packets.items held_of)))
     ] in
-    let b = own_of c.self.inside.depacketizer (ap is_built_in_depacketizer view ∙ other) in
+    let b = own_depacketizer c.self.inside.depacketizer (ap is_built_in_depacketizer view ∙ other) in
     let head : c.is_partition_head-head.result ≡ g.B.Depacketizer.is_head b.0 c.args.«data».items = rw (c.deref.ensures.value, b.1) at c.is_partition_head-head.ensures.step in
     let tail : c.is_partition_tail-tail.result ≡ g.B.Depacketizer.is_tail b.0 c.args.meta.header.marker c.args.«data».items = rw
     (c.deref-2.ensures.value, b.1) at c.is_partition_tail-tail.ensures.step in
-    let told : packet ≡ arrived_by (g.B.Depacketizer.is_head b.0) (g.B.Depacketizer.is_tail b.0) c.args.meta c.args.«data».items =
+    let by_box : packet ≡ arrived_by (g.B.Depacketizer.is_head b.0) (g.B.Depacketizer.is_tail b.0) c.args.meta c.args.«data».items =
     ap (λ (h : Bool). record { meta = c.args.meta; bytes = c.args.«data».items; head = h; tail = c.is_partition_tail-tail.result }) head
     ∙ ap (λ (t : Bool). record { meta = c.args.meta; bytes = c.args.«data».items; head = g.B.Depacketizer.is_head b.0 c.args.«data».items; tail = t }) tail in
-    (b.0, whole ∙ (ap (λ (s : State). pushed s packet) c.self.view_is ∙ ap (pushed c.args.self.now) told))
+    (b.0, whole ∙ (ap (λ (s : State). pushed s packet) c.self.view_is ∙ ap (pushed c.args.self.now) by_box))

@@ -1,5 +1,5 @@
 use Rattle.std.proofs.Common.{arith}
-use Rattle.codec_payload_buffer.proofs.RowPlaces.{frames_by_end, end_from_point}
+use Rattle.codec_payload_buffer.proofs.FramePlaces.{frames_by_end, end_from_point}
 use Rattle.codec_payload_buffer.proofs.buffer.frames.find_end.Goals as goal
 
 pub place_of_number-requires : goal.place_of_number-requires

@@ -1,6 +1,6 @@
 use Rattle.std.proofs.Common.{◌∙◌, arith, length, ◌<◌, ◌≤◌}
 use Rattle.codec_payload_codec.proofs.CaseLemmas.{on_ok}
-use Rattle.codec_payload_buffer.proofs.RowPlaces.{frame_place_within, note_over, note_new}
+use Rattle.codec_payload_buffer.proofs.FramePlaces.{frame_place_within, note_over, note_new}
 use Rattle.codec_payload_buffer.proofs.buffer.frames.note.Goals.{else-place-len-via-then-place-len+else-index-frame, else-place-len-via-else-place-len}
 use Rattle.codec_payload_buffer.proofs.buffer.frames.note.Goals as goal
 

@@ -2,7 +2,7 @@ use Rattle.std.proofs.Common.{◌≡◌, ◌∙◌, ap, subst, ℕ}
 use Rattle.codec_payload_codec.specs.Packetizers.{packetizer_state_of, is_built_in}
 use Rattle.codec_payload_send.specs.OwnSending.{OwnSample}
 use Rattle.codec_payload_send.specs.Sending.{sample_of}
-use Rattle.codec_payload_send.proofs.OwnSendLemmas.{own_packetizer}
+use Rattle.codec_payload_codec.proofs.CodecLemmas.{own_packetizer}
 use Rattle.codec_payload_send.proofs.payloader.Payloader.push_sample.Goals as goal
 
 pub returns-clause-own : goal.returns-clause-own

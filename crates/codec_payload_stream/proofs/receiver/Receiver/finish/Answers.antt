@@ -15,6 +15,8 @@ returns g c =
       reception = c.self.inside.statistics;
       no_reception = c.self.inside.no_statistics;
       choice = c.self.inside.choice;
+      seen = c.self.inside.seen;
+      gates = c.self.inside.gates;
     } in (
       c.settle_first-with_memory.result,
       c.settle_first-with_memory.new.self,

@@ -1,4 +1,4 @@
-use Rattle.std.proofs.Common.{◌≡◌, ◌∙◌, ℕ, Bool, true, false, refl, sym, ap}
+use Rattle.std.proofs.Common.{◌∙◌, ℕ, Bool, true, false, refl, sym, ap}
 use Rattle.std.specs.Option.{is_some}
 use Rattle.codec_payload_stream.specs.Choice.{Choosing, leaving, waiting_with}
 use Rattle.codec_payload_stream.specs.Sessions.{Session, turned_away_if}
@@ -16,6 +16,8 @@ returns-then-left g c =
       reception = c.self.inside.statistics;
       no_reception = c.self.inside.no_statistics;
       choice = c.self.inside.choice;
+      seen = c.self.inside.seen;
+      gates = c.self.inside.gates;
     } in
     let ok = c.in-Ok.ensures.ok in
     let ssrc : ℕ = c.args.origin.ssrc in (
@@ -41,6 +43,8 @@ returns-else-left g c =
       reception = c.self.inside.statistics;
       no_reception = c.self.inside.no_statistics;
       choice = c.self.inside.choice;
+      seen = c.self.inside.seen;
+      gates = c.self.inside.gates;
     } in
     let ok = c.in-Ok.ensures.ok in
     let ssrc : ℕ = c.args.origin.ssrc in (

@@ -3,6 +3,6 @@ use Rattle.codec_payload_vp9.specs.Vp9Fields.{Groups}
 use Rattle.codec_payload_vp9.specs.Vp9Reading.{groups_at}
 use Rattle.codec_payload_vp9.proofs.vp9.descriptor.behind_groups.Given as goal
 
--- what is read from here on, behind some groups, is what is read from the start
+-- the result of reading from here on, after some groups, is the result of reading from the start
 abbrev pub invariant-loop : goal.invariant-loop
 invariant-loop l = (groups : Groups) → (now : Groups) × (groups_at (l.count - l.counter) now l.rest ≡ groups_at l.count groups l.initial.rest)

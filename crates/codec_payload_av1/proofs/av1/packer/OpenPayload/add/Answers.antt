@@ -7,7 +7,7 @@ use Rattle.codec_payload_av1.proofs.Av1PacketGrowth.{has_room, less_left, own_ei
 use Rattle.codec_payload_av1.proofs.av1.packer.OpenPayload.add.Goals as goal
 use Rattle.codec_payload_av1.proofs.av1.packer.OpenPayload.add.Goals.{then-len-lt3, else-len-lt3, In_ok-push}
 
--- what the two lengths are, over plain variables
+-- the two lengths, over plain variables
 chosen : (es : List ℕ) (n count len own_len : ℕ) (pair : ℕ × ℕ) → count ≡ length es → len ≡ n → own_len ≡ leb_len len → ((count < 3) × (pair ≡ (0, own_len))) ⊎ ((3 ≤ count) × (pair ≡ (own_len, 0)))
     → (pair.0 ≡ own leb_len es n) × (pair.1 ≡ deferred leb_len (es ++ n ∷ []))
 chosen es n count len own_len pair count-is len-is own-is either =

@@ -25,7 +25,7 @@ pub overflow_add-begun : goal.overflow_add-begun
 overflow_add-begun c =
     omega (arith, payload_within (goal.at.overflow_add-begun c).Then-is_kept, c.self.inside.bytes.ok.0, c.self.inside.bytes.ok.1, c.self.inside.bytes.small)
 
--- where what is pending becomes the unit
+-- if the pending memory becomes the unit
 placed : (out bytes end : List ℕ) (o : Obu) (room : ℕ) (front extended new : List ℕ) → drop room bytes ≡ (o.header ∷ o.extension) ++ o.payload → front ≡ out
     ++ (bit_or o.header 2 ∷ (o.extension ++ leb (length o.payload + length end)))
     → length o.payload + length front ≡ length bytes → extended ≡ bytes ++ end → new ≡ front ++ drop (length front) extended → new ≡ out ++ canonical (going_on o end)
@@ -33,7 +33,7 @@ placed out bytes end o room front extended new parts fronted fills more made =
     made ∙ ap (λ (t : List ℕ). front ++ drop (length front) t) more ∙ ap (λ (t : List ℕ). front ++ t) (behind_room bytes (o.header ∷ o.extension) o.payload end room (length front) parts fills)
     ∙ ap (λ (t : List ℕ). t ++ (o.payload ++ end)) fronted ∙ canonical_parts out o end
 
--- where it is copied
+-- if it is copied
 copied : (out end : List ℕ) (o : Obu) (front middle new : List ℕ) → front ≡ out ++ (bit_or o.header 2 ∷ (o.extension ++ leb (length o.payload + length end)))
     → middle ≡ front ++ o.payload → new ≡ middle ++ end → new ≡ out ++ canonical (going_on o end)
 copied out end o front middle new fronted more made =

@@ -1,0 +1,593 @@
+/* Reads session descriptions (SDP, RFC 8866): codec_payload_sdp.h. Plain C, by hand, without allocation; not proved.
+ *
+ * A section is read twice: first its `m=` and `a=rtpmap` lines, which say what each payload type is, then all others. So the order of
+ * the lines does not matter. */
+#include "codec_payload_sdp.h"
+
+#include <string.h>
+
+enum { PAYLOAD_TYPES = 128, DEFAULT_PACKET_TIME = 20000, MOST_PACKET_TIME = 100000000, MOST_RED_STEP = 16383 };
+
+typedef struct {
+    const char *at;
+    size_t left;
+} text;
+
+/* ---- Text ---- */
+
+static bool is_space(char it) { return it == ' ' || it == '\t'; }
+
+static char lower(char it) { return it >= 'A' && it <= 'Z' ? (char)(it - 'A' + 'a') : it; }
+
+static text front(text it, size_t size) {
+    it.left = size;
+    return it;
+}
+
+static void skip(text *it, size_t size) {
+    it->at += size;
+    it->left -= size;
+}
+
+/* The text up to the first `separator`, which is skipped too. */
+static text part(text *it, char separator) {
+    size_t size = 0;
+    while (size < it->left && it->at[size] != separator) size++;
+    text found = front(*it, size);
+    skip(it, size < it->left ? size + 1 : size);
+    return found;
+}
+
+/* The next line, without its end. */
+static text line_of(text *it) {
+    text found = part(it, '\n');
+    if (found.left > 0 && found.at[found.left - 1] == '\r') found.left--;
+    return found;
+}
+
+/* The next word; empty at the end. */
+static text word(text *it) {
+    size_t size = 0;
+    while (it->left > 0 && is_space(*it->at)) skip(it, 1);
+    while (size < it->left && !is_space(it->at[size])) size++;
+    text found = front(*it, size);
+    skip(it, size);
+    return found;
+}
+
+static text trimmed(text it) {
+    while (it.left > 0 && is_space(*it.at)) skip(&it, 1);
+    while (it.left > 0 && is_space(it.at[it.left - 1])) it.left--;
+    return it;
+}
+
+/* Whether two texts are equal if case is ignored. */
+static bool same(text it, const char *other) {
+    size_t size = strlen(other);
+    if (it.left != size) return false;
+    for (size_t i = 0; i < size; i++)
+        if (lower(it.at[i]) != lower(other[i])) return false;
+    return true;
+}
+
+/* Whether two texts are the same, case too. */
+static bool equals(text it, const char *other) { return it.left == strlen(other) && memcmp(it.at, other, it.left) == 0; }
+
+static bool begins(text it, const char *other) {
+    size_t size = strlen(other);
+    return it.left >= size && memcmp(it.at, other, size) == 0;
+}
+
+static bool skips(text *it, const char *prefix) {
+    bool found = begins(*it, prefix);
+    if (found) skip(it, strlen(prefix));
+    return found;
+}
+
+/* A number of digits alone, at most `most`. */
+static bool number(text it, uint32_t most, uint32_t *value) {
+    uint64_t found = 0;
+    if (it.left == 0) return false;
+    for (size_t i = 0; i < it.left; i++) {
+        if (it.at[i] < '0' || it.at[i] > '9') return false;
+        found = 10 * found + (uint64_t)(it.at[i] - '0');
+        if (found > most) return false;
+    }
+    *value = (uint32_t)found;
+    return true;
+}
+
+/* ---- Formats ---- */
+
+static const struct {
+    const char *name;
+    uint32_t codec;
+    uint8_t role;
+} encodings[] = {
+    {"opus", CPAY_OPUS, CPAY_SDP_MEDIA},
+    {"PCMU", CPAY_PCMU, CPAY_SDP_MEDIA},
+    {"PCMA", CPAY_PCMA, CPAY_SDP_MEDIA},
+    {"G722", CPAY_G722, CPAY_SDP_MEDIA},
+    {"AMR-WB", CPAY_AMR_WB, CPAY_SDP_MEDIA},
+    {"VP8", CPAY_VP8, CPAY_SDP_MEDIA},
+    {"VP9", CPAY_VP9, CPAY_SDP_MEDIA},
+    {"AV1", CPAY_AV1, CPAY_SDP_MEDIA},
+    {"red", CPAY_NULL, CPAY_SDP_RED},
+    {"rtx", CPAY_NULL, CPAY_SDP_RETRANSMISSION},
+    {"telephone-event", CPAY_TELE, CPAY_SDP_EVENTS},
+    {"CN", CPAY_CN, CPAY_SDP_COMFORT_NOISE},
+    {"ulpfec", CPAY_NULL, CPAY_SDP_FEC},
+    {"parityfec", CPAY_NULL, CPAY_SDP_FEC},
+    {"flexfec", CPAY_NULL, CPAY_SDP_FEC},
+    {"flexfec-03", CPAY_NULL, CPAY_SDP_FEC},
+};
+
+/* Payload types that need no `a=rtpmap` (RFC 3551, section 6). */
+static const struct {
+    uint8_t payload_type;
+    const char *name;
+    uint32_t clock_rate, channels;
+} static_types[] = {
+    {0, "PCMU", 8000, 1},   {3, "GSM", 8000, 1},    {4, "G723", 8000, 1},   {5, "DVI4", 8000, 1},   {6, "DVI4", 16000, 1},
+    {7, "LPC", 8000, 1},    {8, "PCMA", 8000, 1},   {9, "G722", 8000, 1},   {10, "L16", 44100, 2},  {11, "L16", 44100, 1},
+    {12, "QCELP", 8000, 1}, {13, "CN", 8000, 1},    {14, "MPA", 90000, 1},  {15, "G728", 8000, 1},  {16, "DVI4", 11025, 1},
+    {17, "DVI4", 22050, 1}, {18, "G729", 8000, 1},  {25, "CelB", 90000, 1}, {26, "JPEG", 90000, 1}, {28, "nv", 90000, 1},
+    {31, "H261", 90000, 1}, {32, "MPV", 90000, 1},  {33, "MP2T", 90000, 1}, {34, "H263", 90000, 1},
+};
+
+static void describe(cpay_sdp_format *it, text name, uint32_t clock_rate, uint32_t channels) {
+    size_t size = name.left < CPAY_SDP_NAME ? name.left : CPAY_SDP_NAME - 1;
+    it->codec = CPAY_NULL;
+    it->role = CPAY_SDP_IGNORED;
+    for (size_t i = 0; i < sizeof encodings / sizeof *encodings; i++) {
+        if (!same(name, encodings[i].name)) continue;
+        it->codec = encodings[i].codec;
+        it->role = encodings[i].role;
+    }
+    it->clock_rate = clock_rate;
+    it->channels = channels;
+    memset(it->name, 0, sizeof it->name);
+    memcpy(it->name, name.at, size);
+}
+
+static void describe_static(cpay_sdp_format *it) {
+    it->codec = CPAY_NULL;
+    it->channels = 1;
+    for (size_t i = 0; i < sizeof static_types / sizeof *static_types; i++) {
+        text name = {static_types[i].name, strlen(static_types[i].name)};
+        if (static_types[i].payload_type == it->payload_type)
+            describe(it, name, static_types[i].clock_rate, static_types[i].channels);
+    }
+}
+
+static cpay_sdp_format *format_of(cpay_sdp_media *media, uint32_t payload_type) {
+    for (size_t i = 0; i < media->format_count; i++)
+        if (media->formats[i].payload_type == payload_type) return &media->formats[i];
+    return NULL;
+}
+
+const cpay_sdp_format *cpay_sdp_format_of(const cpay_sdp_media *media, uint8_t payload_type) {
+    for (size_t i = 0; i < media->format_count; i++)
+        if (media->formats[i].payload_type == payload_type) return &media->formats[i];
+    return NULL;
+}
+
+/* ---- The lines of a section ---- */
+
+/* A section that is read, or what precedes the first one. */
+typedef struct {
+    cpay_sdp_media *media;
+    uint32_t repair[CPAY_SDP_MAX_SOURCES]; /* SSRCs of repair alone */
+    size_t repair_count;
+} section;
+
+/* `audio 49170/2 UDP/TLS/RTP/SAVPF 111 0` */
+static cpay_sdp_error read_media(section *it, text line) {
+    cpay_sdp_media *media = it->media;
+    text kind = word(&line), ports = word(&line), protocol = word(&line);
+    uint32_t port = 0;
+    if (kind.left == 0 || protocol.left == 0 || !number(part(&ports, '/'), UINT16_MAX, &port)) return CPAY_SDP_BAD_MEDIA;
+    media->port = (uint16_t)port;
+    media->kind = same(kind, "audio") ? CPAY_SDP_AUDIO : same(kind, "video") ? CPAY_SDP_VIDEO : CPAY_SDP_OTHER;
+    while (protocol.left > 0) {
+        text layer = part(&protocol, '/');
+        media->is_rtp |= same(layer, "RTP");
+        media->encrypted |= begins(layer, "SAVP");
+    }
+    if (!media->is_rtp) return CPAY_SDP_NO_ERROR;
+    for (text type = word(&line); type.left > 0; type = word(&line)) {
+        uint32_t payload_type = 0;
+        if (!number(type, PAYLOAD_TYPES - 1, &payload_type)) return CPAY_SDP_BAD_PAYLOAD_TYPE;
+        if (format_of(media, payload_type)) continue;
+        cpay_sdp_format *format = &media->formats[media->format_count++];
+        format->payload_type = (uint8_t)payload_type;
+        describe_static(format);
+    }
+    return media->format_count > 0 ? CPAY_SDP_NO_ERROR : CPAY_SDP_BAD_MEDIA;
+}
+
+/* `111 opus/48000/2` */
+static cpay_sdp_error read_rtpmap(section *it, text value) {
+    uint32_t payload_type = 0, clock_rate = 0, channels = 1;
+    if (!number(word(&value), PAYLOAD_TYPES - 1, &payload_type)) return CPAY_SDP_BAD_PAYLOAD_TYPE;
+    text encoding = word(&value);
+    text name = part(&encoding, '/'), rate = part(&encoding, '/');
+    if (name.left == 0 || !number(rate, UINT32_MAX, &clock_rate) || clock_rate == 0) return CPAY_SDP_BAD_RTPMAP;
+    if (encoding.left > 0 && (!number(encoding, UINT8_MAX, &channels) || channels == 0)) return CPAY_SDP_BAD_RTPMAP;
+    cpay_sdp_format *format = format_of(it->media, payload_type);
+    if (format) describe(format, name, clock_rate, channels);
+    return CPAY_SDP_NO_ERROR;
+}
+
+/* The first payload type of `111/111`, the list of RED (RFC 2198, section 5). */
+static cpay_sdp_error read_red(cpay_sdp_format *format, text list) {
+    uint32_t primary = 0, other = 0;
+    if (!number(part(&list, '/'), PAYLOAD_TYPES - 1, &primary)) return CPAY_SDP_BAD_FMTP;
+    while (list.left > 0)
+        if (!number(part(&list, '/'), PAYLOAD_TYPES - 1, &other)) return CPAY_SDP_BAD_FMTP;
+    format->of = (uint8_t)primary;
+    format->has_of = true;
+    return CPAY_SDP_NO_ERROR;
+}
+
+/* A parameter of AMR-WB. CRCs, sorting and interleaving (RFC 4867, section 8.1) are payloads that the library does not read. */
+static cpay_sdp_error read_amr_wb(cpay_sdp_format *format, text key, text value) {
+    uint32_t found = 0;
+    bool is_flag = same(key, "octet-align") || same(key, "crc") || same(key, "robust-sorting");
+    if (is_flag && !number(value, 1, &found)) return CPAY_SDP_BAD_FMTP;
+    if (same(key, "octet-align")) format->octet_align = found == 1;
+    else if ((is_flag && found == 1) || same(key, "interleaving")) {
+        format->role = CPAY_SDP_IGNORED;
+        format->codec = CPAY_NULL;
+        format->octet_align = false;
+    }
+    return CPAY_SDP_NO_ERROR;
+}
+
+static cpay_sdp_error read_parameter(cpay_sdp_format *format, text key, text value) {
+    uint32_t found = 0;
+    if (format->role == CPAY_SDP_RETRANSMISSION && same(key, "apt")) {
+        if (!number(value, PAYLOAD_TYPES - 1, &found)) return CPAY_SDP_BAD_FMTP;
+        format->of = (uint8_t)found;
+        format->has_of = true;
+    }
+    bool is_profile = (format->codec == CPAY_VP9 && same(key, "profile-id")) || (format->codec == CPAY_AV1 && same(key, "profile"));
+    if (is_profile && !number(value, UINT8_MAX, &format->profile)) return CPAY_SDP_BAD_FMTP;
+    return format->codec == CPAY_AMR_WB ? read_amr_wb(format, key, value) : CPAY_SDP_NO_ERROR;
+}
+
+/* `97 apt=96`, `111 minptime=10;useinbandfec=1` */
+static cpay_sdp_error read_fmtp(section *it, text value) {
+    uint32_t payload_type = 0;
+    if (!number(word(&value), PAYLOAD_TYPES - 1, &payload_type)) return CPAY_SDP_BAD_PAYLOAD_TYPE;
+    cpay_sdp_format *format = format_of(it->media, payload_type);
+    if (!format) return CPAY_SDP_NO_ERROR;
+    if (format->role == CPAY_SDP_RED) return read_red(format, word(&value));
+    while (value.left > 0) {
+        text parameter = part(&value, ';');
+        text key = trimmed(part(&parameter, '='));
+        cpay_sdp_error error = read_parameter(format, key, trimmed(parameter));
+        if (error) return error;
+    }
+    return CPAY_SDP_NO_ERROR;
+}
+
+static void add_feedback(cpay_sdp_format *format, text type, text parameter) {
+    if (same(type, "nack") && parameter.left == 0) format->nack = true;
+    if (same(type, "nack") && same(parameter, "pli")) format->pli = true;
+    if (same(type, "ccm") && same(parameter, "fir")) format->fir = true;
+    if (same(type, "transport-cc")) format->transport_cc = true;
+    if (same(type, "goog-remb")) format->remb = true;
+}
+
+/* `96 nack pli`, `* nack` (RFC 4585, section 4.2) */
+static cpay_sdp_error read_feedback(section *it, text value) {
+    text types = word(&value), type = word(&value), parameter = word(&value);
+    uint32_t payload_type = 0;
+    bool all = same(types, "*");
+    if (!all && !number(types, PAYLOAD_TYPES - 1, &payload_type)) return CPAY_SDP_BAD_PAYLOAD_TYPE;
+    if (type.left == 0) return CPAY_SDP_BAD_RTCP_FB;
+    for (size_t i = 0; i < it->media->format_count; i++) {
+        cpay_sdp_format *format = &it->media->formats[i];
+        if (all || format->payload_type == payload_type) add_feedback(format, type, parameter);
+    }
+    return CPAY_SDP_NO_ERROR;
+}
+
+/* ---- Ids of header extensions (RFC 8285) ---- */
+
+enum { EXTENSIONS = 12, MOST_ID = 255, FIRST_UNASSIGNED_ID = 4096, LAST_UNASSIGNED_ID = 4351 };
+
+static const char *const uris[EXTENSIONS] = {
+    "http://www.webrtc.org/experiments/rtp-hdrext/abs-capture-time",
+    "urn:3gpp:video-orientation",
+    "http://www.webrtc.org/experiments/rtp-hdrext/video-content-type",
+    "http://www.webrtc.org/experiments/rtp-hdrext/video-timing",
+    "http://www.webrtc.org/experiments/rtp-hdrext/video-layers-allocation00",
+    "urn:ietf:params:rtp-hdrext:ssrc-audio-level",
+    "urn:ietf:params:rtp-hdrext:sdes:mid",
+    "urn:ietf:params:rtp-hdrext:sdes:rtp-stream-id",
+    "urn:ietf:params:rtp-hdrext:sdes:repaired-rtp-stream-id",
+    "http://www.ietf.org/id/draft-holmer-rmcat-transport-wide-cc-extensions-01",
+    "http://www.webrtc.org/experiments/rtp-hdrext/abs-send-time",
+    "urn:ietf:params:rtp-hdrext:toffset",
+};
+
+/* Where the id of each URI is. */
+static void ids_of(cpay_sdp_media *media, uint8_t *ids[EXTENSIONS]) {
+    cpay_extension_ids *known = &media->extension_ids;
+    uint8_t *const found[EXTENSIONS] = {
+        &known->abs_capture_time, &known->video_orientation, &known->video_content_type, &known->video_timing,
+        &known->layers_allocation, &known->audio_level, &media->mid_id, &media->rid_id, &media->repaired_rid_id,
+        &media->transport_cc_id, &media->send_time_id, &media->offset_id,
+    };
+    memcpy(ids, found, sizeof found);
+}
+
+static bool has_id(uint8_t *const ids[EXTENSIONS], uint32_t id) {
+    for (size_t i = 0; i < EXTENSIONS; i++)
+        if (*ids[i] == id) return true;
+    return false;
+}
+
+/* `3/sendonly urn:3gpp:video-orientation`. If one extension has two ids, the first counts. Ids from 4096 on are for an
+ * offer, whose answer chooses an id (RFC 8285, section 6). */
+static cpay_sdp_error read_extmap(section *it, text value) {
+    text mapped = word(&value), uri = word(&value);
+    uint32_t id = 0;
+    uint8_t *ids[EXTENSIONS];
+    if (uri.left == 0 || !number(part(&mapped, '/'), LAST_UNASSIGNED_ID, &id) || id == 0) return CPAY_SDP_BAD_EXTMAP;
+    if (id > MOST_ID) return id >= FIRST_UNASSIGNED_ID ? CPAY_SDP_NO_ERROR : CPAY_SDP_BAD_EXTMAP;
+    ids_of(it->media, ids);
+    for (size_t i = 0; i < EXTENSIONS; i++) {
+        if (!equals(uri, uris[i]) || *ids[i] != 0) continue;
+        if (has_id(ids, id)) return CPAY_SDP_BAD_EXTMAP;
+        *ids[i] = (uint8_t)id;
+    }
+    return CPAY_SDP_NO_ERROR;
+}
+
+/* A section takes the ids of the session for extensions that have no id in the section. */
+static void inherit_ids(cpay_sdp_media *media, cpay_sdp_media *session) {
+    uint8_t *ids[EXTENSIONS], *inherited[EXTENSIONS];
+    ids_of(media, ids);
+    ids_of(session, inherited);
+    for (size_t i = 0; i < EXTENSIONS; i++)
+        if (*ids[i] == 0 && *inherited[i] != 0 && !has_id(ids, *inherited[i])) *ids[i] = *inherited[i];
+}
+
+/* ---- SSRCs (RFC 5576) ---- */
+
+/* Finds a source, and adds it if there is room. */
+static cpay_sdp_source *source_of(cpay_sdp_media *media, uint32_t ssrc) {
+    for (size_t i = 0; i < media->source_count; i++)
+        if (media->sources[i].ssrc == ssrc) return &media->sources[i];
+    if (media->source_count == CPAY_SDP_MAX_SOURCES) return NULL;
+    cpay_sdp_source *source = &media->sources[media->source_count++];
+    *source = (cpay_sdp_source){ssrc, 0, false};
+    return source;
+}
+
+/* `7 cname:..` */
+static cpay_sdp_error read_ssrc(section *it, text value) {
+    uint32_t ssrc = 0;
+    if (!number(word(&value), UINT32_MAX, &ssrc)) return CPAY_SDP_BAD_SSRC;
+    return source_of(it->media, ssrc) ? CPAY_SDP_NO_ERROR : CPAY_SDP_TOO_MANY_SOURCES;
+}
+
+/* `FID 7 9`: after the first SSRC of FID (retransmissions), FEC and FEC-FR (RFC 5956) repair alone follows. */
+static cpay_sdp_error read_group(section *it, text value) {
+    text semantics = word(&value);
+    bool is_fid = same(semantics, "FID");
+    bool repairs = is_fid || same(semantics, "FEC") || same(semantics, "FEC-FR");
+    cpay_sdp_source *first = NULL;
+    for (text one = word(&value); one.left > 0; one = word(&value)) {
+        uint32_t ssrc = 0;
+        if (!number(one, UINT32_MAX, &ssrc)) return CPAY_SDP_BAD_SSRC;
+        if (!first || !repairs) {
+            first = source_of(it->media, ssrc);
+            if (!first) return CPAY_SDP_TOO_MANY_SOURCES;
+            continue;
+        }
+        if (it->repair_count == CPAY_SDP_MAX_SOURCES) return CPAY_SDP_TOO_MANY_SOURCES;
+        it->repair[it->repair_count++] = ssrc;
+        if (!is_fid || first->has_rtx) continue;
+        first->rtx_ssrc = ssrc;
+        first->has_rtx = true;
+    }
+    return CPAY_SDP_NO_ERROR;
+}
+
+static bool is_repair(const section *it, uint32_t ssrc) {
+    for (size_t i = 0; i < it->repair_count; i++)
+        if (it->repair[i] == ssrc) return true;
+    return false;
+}
+
+/* SSRCs of repair leave the sources. */
+static void drop_repair(section *it) {
+    size_t kept = 0;
+    for (size_t i = 0; i < it->media->source_count; i++)
+        if (!is_repair(it, it->media->sources[i].ssrc)) it->media->sources[kept++] = it->media->sources[i];
+    it->media->source_count = kept;
+}
+
+/* ---- A description ---- */
+
+/* Milliseconds, with a fraction or without, in microseconds. */
+static cpay_sdp_error read_packet_time(section *it, text value) {
+    text time = word(&value);
+    uint32_t whole = 0, found = 0, digit = 0;
+    if (!number(part(&time, '.'), MOST_PACKET_TIME / 1000, &whole)) return CPAY_SDP_BAD_PTIME;
+    found = 1000 * whole;
+    for (uint32_t unit = 100; time.left > 0; skip(&time, 1), unit /= 10) {
+        if (!number(front(time, 1), 9, &digit)) return CPAY_SDP_BAD_PTIME;
+        found += digit * unit;
+    }
+    if (found == 0 || found > MOST_PACKET_TIME) return CPAY_SDP_BAD_PTIME;
+    it->media->packet_time = found;
+    return CPAY_SDP_NO_ERROR;
+}
+
+/* What says the formats: the first pass. */
+static cpay_sdp_error read_formats(section *it, text line) {
+    if (skips(&line, "m=")) return read_media(it, line);
+    return it->media->is_rtp && skips(&line, "a=rtpmap:") ? read_rtpmap(it, line) : CPAY_SDP_NO_ERROR;
+}
+
+/* All else: the second pass. */
+static cpay_sdp_error read_attribute(section *it, text line) {
+    if (line.left == 0) return CPAY_SDP_NO_ERROR;
+    if (line.left < 2 || line.at[1] != '=' || !memchr("vosiuepcbtrzkam", line.at[0], 15)) return CPAY_SDP_BAD_LINE;
+    if (begins(line, "a=crypto:") || begins(line, "a=fingerprint:")) it->media->encrypted = true;
+    if (skips(&line, "a=extmap:")) return read_extmap(it, line);
+    if (!it->media->is_rtp) return CPAY_SDP_NO_ERROR;
+    if (equals(line, "a=rtcp-mux")) it->media->rtcp_mux = true;
+    if (skips(&line, "a=fmtp:")) return read_fmtp(it, line);
+    if (skips(&line, "a=rtcp-fb:")) return read_feedback(it, line);
+    if (skips(&line, "a=ssrc:")) return read_ssrc(it, line);
+    if (skips(&line, "a=ssrc-group:")) return read_group(it, line);
+    return skips(&line, "a=ptime:") ? read_packet_time(it, line) : CPAY_SDP_NO_ERROR;
+}
+
+/* The lines up to the next `m=` line, and how many they are. The first line belongs to the section whatever it is. */
+static text section_of(text *it, size_t *lines) {
+    text rest = *it;
+    *lines = 0;
+    while (rest.left > 0 && (*lines == 0 || !begins(rest, "m="))) {
+        line_of(&rest);
+        ++*lines;
+    }
+    text found = front(*it, it->left - rest.left);
+    *it = rest;
+    return found;
+}
+
+/* Calls `read` with each line. On an error *line is the number of the line at fault. */
+static cpay_sdp_error read_lines(section *it, text lines, size_t *line, cpay_sdp_error (*read)(section *, text)) {
+    size_t first = *line;
+    while (lines.left > 0) {
+        cpay_sdp_error error = read(it, line_of(&lines));
+        if (error) return error;
+        ++*line;
+    }
+    *line = first;
+    return CPAY_SDP_NO_ERROR;
+}
+
+static cpay_sdp_error read_section(cpay_sdp_media *media, cpay_sdp_media *session, text lines, size_t *line) {
+    section it = {.media = media, .repair_count = 0};
+    memset(media, 0, sizeof *media);
+    media->line = *line;
+    cpay_sdp_error error = read_lines(&it, lines, line, read_formats);
+    if (!error) error = read_lines(&it, lines, line, read_attribute);
+    drop_repair(&it);
+    if (session) {
+        inherit_ids(media, session);
+        media->encrypted |= session->encrypted;
+    }
+    return error;
+}
+
+/* Reads a whole description. Sections beyond `media_len` are read into `spare`, and counted. */
+static cpay_sdp_error read_all(text it, cpay_sdp_media *media, size_t media_len, size_t *count, size_t *line) {
+    static const cpay_sdp_media none;
+    cpay_sdp_media session = none, spare = none;
+    cpay_sdp_error error = CPAY_SDP_NO_ERROR;
+    size_t lines = 0;
+    *line = 1;
+    *count = 0;
+    if (!begins(it, "m=")) {
+        error = read_section(&session, NULL, section_of(&it, &lines), line);
+        /* an `m=` line cannot be first here, so this part has no formats */
+        if (!error) *line += lines;
+    }
+    while (!error && it.left > 0) {
+        if (*count == CPAY_SDP_MAX_MEDIA) return CPAY_SDP_TOO_MANY_MEDIA;
+        error = read_section(*count < media_len ? &media[*count] : &spare, &session, section_of(&it, &lines), line);
+        if (!error) *line += lines;
+        ++*count;
+    }
+    return error;
+}
+
+cpay_status cpay_sdp_read(const char *text_at, size_t text_len, cpay_sdp_media *media, size_t media_len, size_t *count,
+                          cpay_sdp_fault *fault) {
+    text all = {text_at, text_len};
+    size_t line = 0, found = 0;
+    if ((!text_at && text_len) || (!media && media_len)) return CPAY_INVALID;
+    cpay_sdp_error error = read_all(all, NULL, 0, &found, &line);
+    if (error) {
+        *fault = (cpay_sdp_fault){line, error};
+        return CPAY_INVALID;
+    }
+    *count = found;
+    if (found > media_len) return CPAY_TOO_SMALL;
+    (void)read_all(all, media, media_len, &found, &line);
+    return CPAY_OK;
+}
+
+/* ---- Settings ---- */
+
+static cpay_receiver_settings settings_for(const cpay_sdp_media *media, const cpay_sdp_format *format) {
+    static const cpay_receiver_settings audio = CPAY_LIVE_AUDIO, video = CPAY_LIVE_VIDEO;
+    static const cpay_receiver_settings audio_with_nack = CPAY_LIVE_AUDIO_WITH_NACK, video_with_nack = CPAY_LIVE_VIDEO_WITH_NACK;
+    if (media->kind == CPAY_SDP_VIDEO) return format->nack ? video_with_nack : video;
+    return format->nack ? audio_with_nack : audio;
+}
+
+/* The packet time in ticks of the RTP clock, within what RED can express (RFC 2198, section 3: 14 bits). */
+static uint32_t red_step(const cpay_sdp_media *media, uint32_t clock_rate) {
+    uint64_t time = media->packet_time > 0 ? media->packet_time : DEFAULT_PACKET_TIME;
+    uint64_t step = time * clock_rate / 1000000;
+    return step < 1 ? 1 : step > MOST_RED_STEP ? MOST_RED_STEP : (uint32_t)step;
+}
+
+/* RED over the payload type, or RED that names no payload type. */
+static const cpay_sdp_format *red_over(const cpay_sdp_media *media, uint8_t payload_type) {
+    const cpay_sdp_format *other = NULL;
+    for (size_t i = 0; i < media->format_count; i++) {
+        const cpay_sdp_format *format = &media->formats[i];
+        if (format->role != CPAY_SDP_RED) continue;
+        if (format->has_of && format->of == payload_type) return format;
+        if (!format->has_of && !other) other = format;
+    }
+    return other;
+}
+
+static void set_source(cpay_receiver_settings *settings, const cpay_sdp_media *media, uint8_t payload_type) {
+    if (media->source_count != 1) return;
+    settings->has_ssrc = true;
+    settings->ssrc = media->sources[0].ssrc;
+    for (size_t i = 0; i < media->format_count && media->sources[0].has_rtx && !settings->has_rtx; i++) {
+        const cpay_sdp_format *format = &media->formats[i];
+        if (format->role != CPAY_SDP_RETRANSMISSION || !format->has_of || format->of != payload_type) continue;
+        settings->has_rtx = true;
+        settings->rtx_payload_type = format->payload_type;
+        settings->rtx_ssrc = media->sources[0].rtx_ssrc;
+    }
+}
+
+cpay_status cpay_sdp_receiver(const cpay_sdp_media *media, uint8_t payload_type, cpay_receiver_settings *settings,
+                              uint8_t no_media[CPAY_SDP_MAX_FORMATS], size_t *no_media_len) {
+    const cpay_sdp_format *format = cpay_sdp_format_of(media, payload_type);
+    if (!format || format->role != CPAY_SDP_MEDIA) return CPAY_INVALID;
+    const cpay_sdp_format *red = red_over(media, payload_type);
+    size_t count = 0;
+    *settings = settings_for(media, format);
+    settings->spec.codec = format->codec;
+    settings->spec.rate = format->clock_rate;
+    settings->spec.octet_align = format->octet_align;
+    settings->payload_type = payload_type;
+    settings->extension_ids = media->extension_ids;
+    if (red) {
+        settings->has_red = true;
+        settings->red_payload_type = red->payload_type;
+        settings->red_step = red_step(media, format->clock_rate);
+    }
+    set_source(settings, media, payload_type);
+    for (size_t i = 0; i < media->format_count; i++)
+        if (media->formats[i].role >= CPAY_SDP_EVENTS) no_media[count++] = media->formats[i].payload_type;
+    *no_media_len = count;
+    return CPAY_OK;
+}

@@ -1,0 +1,27 @@
+-- What few packets have, as contracts see it.
+use Rattle.std.specs.Prelude.{ℕ, List, Option, Some, None}
+use Rattle.std.specs.Option.{option_map}
+use Rattle.codec_payload_base.specs.declared.wire.SenderInfo.{SenderInfo}
+use Rattle.codec_payload_base.specs.declared.wire.extension.AbsCaptureTime.{AbsCaptureTime}
+use Rattle.codec_payload_base.specs.declared.wire.extension.VideoTiming.{VideoTiming}
+use Rattle.codec_payload_buffer.specs.declared.buffer.known.Rare.{Rare}
+
+-- the capture time, if there is one
+abbrev pub capture_of : Option Rare → Option AbsCaptureTime
+capture_of None = None
+capture_of (Some r) = r.abs_capture_time
+
+-- the timing of a video frame
+abbrev pub timing_of : Option Rare → Option VideoTiming
+timing_of None = None
+timing_of (Some r) = r.video_timing
+
+-- the bytes of a layers allocation
+abbrev pub layers_of : Option Rare → Option (List ℕ)
+layers_of None = None
+layers_of (Some r) = option_map (λ b. b.value) r.layers_allocation
+
+-- what the latest sender report said
+abbrev pub sender_info_of : Option Rare → Option SenderInfo
+sender_info_of None = None
+sender_info_of (Some r) = r.last_sender_info

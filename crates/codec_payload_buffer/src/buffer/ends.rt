@@ -1,0 +1,203 @@
+//! The rows of held packets, as their packets tell them: the first packet of a row and the last say where the other is.
+//!
+//! So no list of rows is kept. A push, an eviction and a pop write to the ends of the rows that they change.
+
+ghost use Rattle.std.specs.Prelude.{◌≡◌, ◌≢◌, ◌<◌, ◌+◌, ◌==◌, true, false, ℕ, IfSome, length, map, slice_index_or, slice_set};
+ghost use Rattle.std.specs.VecDeque.{deque_len, deque_capacity};
+ghost use Rattle.codec_payload_buffer.specs.Held.{held_of, Rises, TakesLowest, has_number, placed};
+ghost use Rattle.codec_payload_buffer.specs.Frames.{frames};
+ghost use Rattle.codec_payload_buffer.specs.Scan.{place_of};
+ghost use Rattle.codec_payload_buffer.specs.Rows.{row_of, rows, merged, first_mended};
+ghost use Rattle.codec_payload_buffer.specs.Ends.{mark_of, mark_at, no_mark, IsTold, AreTold, next_of, previous_of, ahead, behind, row_ending, marked, IsLowestRow, IsBeyond};
+ghost use Rattle.codec_payload_buffer.specs.declared.buffer.held_packet.HeldPacket.{HeldPacket as Entry};
+
+use super::frames::{CompleteFrame, frame_of};
+use super::held_packet::{HeldPacket, Packet};
+use super::packets::take_lowest;
+use super::rows::{Row, frame_of_left, join, meets, shorten};
+use std::collections::VecDeque;
+
+/// The row from a number to the packet at a place, its last.
+fn row_to(packets: &VecDeque<HeldPacket>, first: u64, place: usize) -> Row
+    requires { place < deque_len packets.now }
+    ensures { (x : Entry) × (x ≡ slice_index_or packets.now.items place x) × (result ≡ row_ending first x) }
+{
+    let last = &packets[place];
+    Row {
+        first,
+        last: last.number,
+        time: last.packet.known.time(),
+        head: last.packet.row_head,
+        tail: last.packet.tail,
+    }
+}
+
+/// Whether a number is the one after another.
+fn is_next(earlier: u64, later: u64) -> bool
+    ensures { result ≡ (earlier + 1 == later) }
+{
+    earlier < later && later - earlier == 1
+}
+
+/// A row with the row that begins at a place, where they meet.
+fn join_next(packets: &VecDeque<HeldPacket>, place: usize, row: Row) -> Row
+    requires rises { Rises (map held_of packets.now.items) }
+    requires told { AreTold (rows (map held_of packets.now.items)) (map mark_of packets.now.items) }
+    requires place { place ≡ place_of row.last (map held_of packets.now.items) }
+    requires fresh { has_number row.last (map held_of packets.now.items) ≡ false }
+    ensures { result ≡ ahead row (next_of row.last (rows (map held_of packets.now.items))) }
+{
+    if place == packets.len() {
+        return row;
+    }
+    let entry = &packets[place];
+    if !is_next(row.last, entry.number) {
+        return row;
+    }
+    let after = (entry.packet.other_end - entry.number) as usize;
+    let next = row_to(packets, entry.number, place + after);
+    if meets(&row, &next) {
+        join(row, next)
+    } else {
+        row
+    }
+}
+
+/// A row with the row that ends before a place, where they meet.
+fn join_previous(packets: &VecDeque<HeldPacket>, place: usize, row: Row) -> Row
+    requires rises { Rises (map held_of packets.now.items) }
+    requires told { AreTold (rows (map held_of packets.now.items)) (map mark_of packets.now.items) }
+    requires place { place ≡ place_of row.first (map held_of packets.now.items) }
+    requires fresh { has_number row.first (map held_of packets.now.items) ≡ false }
+    ensures { result ≡ behind row (previous_of row.first (rows (map held_of packets.now.items))) }
+{
+    if place == 0 {
+        return row;
+    }
+    let entry = &packets[place - 1];
+    if !is_next(entry.number, row.first) {
+        return row;
+    }
+    let previous = row_to(packets, entry.packet.other_end, place - 1);
+    if meets(&previous, &row) {
+        join(previous, row)
+    } else {
+        row
+    }
+}
+
+/// The row that a packet is in once it stands at its place: `row` is the packet alone.
+pub(super) fn row_with(packets: &VecDeque<HeldPacket>, place: usize, row: Row) -> Row
+    requires rises { Rises (map held_of packets.now.items) }
+    requires told { AreTold (rows (map held_of packets.now.items)) (map mark_of packets.now.items) }
+    requires one { row.first ≡ row.last }
+    requires place { place ≡ place_of row.last (map held_of packets.now.items) }
+    requires fresh { has_number row.last (map held_of packets.now.items) ≡ false }
+    ensures { result ≡ merged row (rows (map held_of packets.now.items)) }
+{
+    let row = join_next(packets, place, row);
+    join_previous(packets, place, row)
+}
+
+/// What a packet says of its row.
+fn mark(entry: &mut HeldPacket, other_end: u64, row_head: Option<u64>)
+    ensures held { held_of entry.new ≡ held_of entry.old }
+    ensures mark { mark_of entry.new ≡ marked (mark_of entry.old) other_end row_head }
+{
+    entry.packet.other_end = other_end;
+    entry.packet.row_head = row_head;
+}
+
+/// What the packet at a place says of its row.
+fn set_mark(packets: &mut VecDeque<HeldPacket>, place: usize, other_end: u64, row_head: Option<u64>)
+    requires { place < deque_len packets.old }
+    ensures held { map held_of packets.new.items ≡ map held_of packets.old.items }
+    ensures marks { map mark_of packets.new.items ≡ slice_set (map mark_of packets.old.items) place (marked (slice_index_or (map mark_of packets.old.items) place no_mark) other_end row_head) }
+{
+    mark(&mut packets[place], other_end, row_head);
+}
+
+/// The packets at two places are the ends of a row from now on.
+fn set_ends(packets: &mut VecDeque<HeldPacket>, from: usize, to: usize, row: Row)
+    requires rises { Rises (map held_of packets.old.items) }
+    requires from { from ≡ place_of row.first (map held_of packets.old.items) }
+    requires to { to ≡ place_of row.last (map held_of packets.old.items) }
+    requires first { has_number row.first (map held_of packets.old.items) ≡ true }
+    requires last { has_number row.last (map held_of packets.old.items) ≡ true }
+    ensures held { map held_of packets.new.items ≡ map held_of packets.old.items }
+    ensures told { IsTold row (map mark_of packets.new.items) }
+    ensures others { (k : ℕ) → k ≢ row.first → k ≢ row.last → mark_at k (map mark_of packets.new.items) ≡ mark_at k (map mark_of packets.old.items) }
+{
+    set_mark(packets, from, row.last, None);
+    set_mark(packets, to, row.first, row.head);
+}
+
+/// Puts a packet at its place; `row` is the row that it is in then. The room was found before. Nothing moves where it is
+/// the last.
+pub(super) fn place_at(
+    packets: &mut VecDeque<HeldPacket>,
+    place: usize,
+    packet: HeldPacket,
+    row: Row,
+)
+    requires rises { Rises (map held_of packets.old.items) }
+    requires told { AreTold (rows (map held_of packets.old.items)) (map mark_of packets.old.items) }
+    requires place { place ≡ place_of packet.number (map held_of packets.old.items) }
+    requires fresh { has_number packet.number (map held_of packets.old.items) ≡ false }
+    requires room { deque_len packets.old < deque_capacity packets.old }
+    requires row { row ≡ merged (row_of (held_of packet)) (rows (map held_of packets.old.items)) }
+    ensures held { map held_of packets.new.items ≡ placed (held_of packet) (map held_of packets.old.items) }
+    ensures told { AreTold (rows (map held_of packets.new.items)) (map mark_of packets.new.items) }
+{
+    let number = packet.number;
+    packets.insert(place, packet).unwrap();
+    let from = place - (number - row.first) as usize;
+    let to = place + (row.last - number) as usize;
+    set_ends(packets, from, to, row);
+}
+
+/// The lowest row.
+fn lowest_row(packets: &VecDeque<HeldPacket>) -> Row
+    requires rises { Rises (map held_of packets.now.items) }
+    requires told { AreTold (rows (map held_of packets.now.items)) (map mark_of packets.now.items) }
+    requires some { 0 < deque_len packets.now }
+    ensures { IsLowestRow (rows (map held_of packets.now.items)) result }
+{
+    let entry = &packets[0];
+    let after = (entry.packet.other_end - entry.number) as usize;
+    row_to(packets, entry.number, after)
+}
+
+/// The packets of what is left of the lowest row tell it from now on.
+fn set_lowest_ends(packets: &mut VecDeque<HeldPacket>, rest: &Option<Row>)
+    requires rises { Rises (map held_of packets.old.items) }
+    requires lowest { IfSome rest.now (λ row. IsLowestRow (rows (map held_of packets.old.items)) row) }
+    ensures held { map held_of packets.new.items ≡ map held_of packets.old.items }
+    ensures told { IfSome rest.now (λ row. IsTold row (map mark_of packets.new.items)) }
+    ensures others { (k : ℕ) → IsBeyond rest.now k → mark_at k (map mark_of packets.new.items) ≡ mark_at k (map mark_of packets.old.items) }
+{
+    match rest {
+        Some(row) => set_ends(packets, 0, (row.last - row.first) as usize, *row),
+        None => {}
+    }
+}
+
+/// The lowest packet leaves. Says its number, and which frame its row had before and which it has after.
+pub(super) fn evict(
+    packets: &mut VecDeque<HeldPacket>,
+    spare: &mut Vec<Box<Packet>>,
+) -> (u64, Option<CompleteFrame>, Option<CompleteFrame>)
+    requires rises { Rises (map held_of packets.old.items) }
+    requires told { AreTold (rows (map held_of packets.old.items)) (map mark_of packets.old.items) }
+    requires some { 0 < deque_len packets.old }
+    ensures lowest { TakesLowest (map held_of packets.old.items) result.0 (map held_of packets.new.items) }
+    ensures frames { first_mended result.1 result.2 (frames (map held_of packets.old.items)) ≡ frames (map held_of packets.new.items) }
+    ensures some { IfSome result.1 (λ _. 0 < length (frames (map held_of packets.old.items))) }
+    ensures told { AreTold (rows (map held_of packets.new.items)) (map mark_of packets.new.items) }
+{
+    let row = lowest_row(packets);
+    let number = take_lowest(packets, spare);
+    let rest = shorten(&row, packets);
+    set_lowest_ends(packets, &rest);
+    (number, frame_of(&row), frame_of_left(&rest))
+}

@@ -1,0 +1,96 @@
+-- What each call of a history does (RFC 4588, section 4).
+use Rattle.std.specs.Prelude.{◌≡◌, ◌≢◌, ℕ, ◌+◌, ◌-◌, ◌%◌, ◌==◌, nat_lt, ◌||◌, not, if◌then◌else◌, Bool, true, false, List, [], ◌∷◌, ◌++◌, take, slice_get, slice_set, Option, Some, None, Result, Ok, Err}
+use Rattle.std.specs.Int.{w16, to_be_bytes}
+use Rattle.codec_payload_base.specs.declared.wire.Ticks.{Ticks}
+use Rattle.codec_payload_rtp.specs.RtpPackets.{Packet}
+use Rattle.codec_payload_rtp.specs.RtpReading.{rtp_at}
+use Rattle.codec_payload_history.specs.Packets.{Past, Sent, number_in, stream_fits}
+use Rattle.codec_payload_history.specs.declared.retransmission.HistoryError.{HistoryError}
+use Rattle.codec_payload_history.specs.declared.retransmission.HistoryError.TheVariants as errors
+use Rattle.codec_payload_history.specs.declared.retransmission.HistorySettings.{HistorySettings}
+use Rattle.codec_payload_history.specs.declared.retransmission.KeepError.{KeepError}
+use Rattle.codec_payload_history.specs.declared.retransmission.KeepError.TheVariants as faults
+use Rattle.codec_payload_history.specs.declared.retransmission.Resent.{Resent}
+use Rattle.codec_payload_history.specs.declared.retransmission.Resent.TheVariants as results
+use Rattle.codec_payload_history.specs.declared.retransmission.RetransmissionStream.{RetransmissionStream}
+
+-- ---- settings
+
+abbrev pub first_of : Option RetransmissionStream → ℕ
+first_of None = 0
+first_of (Some stream) = stream.first_number
+
+-- an empty history, or the first setting that is out of range
+abbrev pub history_by : HistorySettings → Result Past HistoryError
+history_by s =
+    if (s.limit == 0) || nat_lt 32768 s.limit then Err errors.Limit
+    else if not (stream_fits s.stream) then Err errors.PayloadType
+    else Ok (record { limit = s.limit; interval = s.interval; stream = s.stream; next = first_of s.stream; newest = 0; packets = [] })
+
+-- ---- keeping
+
+-- how many packets are kept once that number is the newest: those before it leave if it does not follow them
+abbrev pub count_with : Past → ℕ → ℕ
+count_with h number = if number == (h.newest + 1) % 65536 then h.limit else 1
+
+-- the datagram is a packet, and becomes the newest of the history, which the oldest leave
+pub record Keeps (h : Past) (datagram : List ℕ) (t : Past) : Type 0 where
+  pub packet : Packet
+  pub reads : rtp_at datagram ≡ Ok packet
+  pub left : t ≡ record h {
+    newest = packet.header.sequence_number;
+    packets = take (count_with h packet.header.sequence_number) (record { bytes = datagram; resent = None } ∷ h.packets);
+  }
+
+-- why a datagram is not kept
+abbrev pub IsFault : List ℕ → KeepError → Type 0
+IsFault datagram (faults.Rtp fault) = rtp_at datagram ≡ Err fault
+IsFault datagram faults.OutOfMemory = (packet : Packet) × (rtp_at datagram ≡ Ok packet)
+
+-- ---- resending
+
+-- that packet of the history has the number
+pub record IsAt (h : Past) (number place : ℕ) (p : Sent) : Type 0 where
+  pub found : slice_get h.packets place ≡ Some p
+  pub numbered : number_in p.bytes ≡ Some number
+
+-- no packet of the history has the number
+abbrev pub HasNot : Past → ℕ → Type 0
+HasNot h number = (place : ℕ) (p : Sent) → slice_get h.packets place ≡ Some p → number_in p.bytes ≢ Some number
+
+-- it was resent less than the interval ago
+abbrev pub is_too_soon : ℕ → Ticks → Option Ticks → Bool
+is_too_soon interval now None = false
+is_too_soon interval now (Some last) = nat_lt (now.0 - last.0) interval
+
+-- the bytes are the retransmission of a packet, with that number of the stream of retransmissions: the same header under the SSRC,
+-- the payload type and that number, and in front of the payload the number that the packet had first; padding is left out
+pub record IsRetransmission (stream : RetransmissionStream) (next : ℕ) (packet bytes : List ℕ) : Type 0 where
+  pub original : Packet
+  pub was : rtp_at packet ≡ Ok original
+  pub reads : rtp_at bytes ≡ Ok (record {
+    header = record original.header { payload_type = stream.payload_type; sequence_number = next; ssrc = stream.ssrc };
+    payload = to_be_bytes w16 original.header.sequence_number ++ original.payload;
+    padding = 0;
+  })
+
+-- a packet is resent as a retransmission, or as it was
+abbrev pub Repeats : Option RetransmissionStream → ℕ → List ℕ → List ℕ → Type 0
+Repeats None next packet bytes = bytes ≡ packet
+Repeats (Some stream) next packet bytes = IsRetransmission stream next packet bytes
+
+abbrev pub next_after : Option RetransmissionStream → ℕ → ℕ
+next_after None next = next
+next_after (Some stream) next = (next + 1) % 65536
+
+-- after the packet at a place was resent
+abbrev pub resent_at : Ticks → ℕ → Sent → Past → Past
+resent_at now place p h = record h { next = next_after h.stream h.next; packets = slice_set h.packets place (record p { resent = Some now }) }
+
+-- what a request for a number writes in the place of what was there, and what it leaves
+abbrev pub Resends : Ticks → ℕ → Past → List ℕ → Resent → List ℕ → Past → Type 0
+Resends now number h before results.Written bytes t =
+    (place : ℕ) × (p : Sent) × IsAt h number place p × (is_too_soon h.interval now p.resent ≡ false) × Repeats h.stream h.next p.bytes bytes × (t ≡ resent_at now place p h)
+Resends now number h before results.NotKept bytes t = HasNot h number × (bytes ≡ before) × (t ≡ h)
+Resends now number h before results.TooSoon bytes t =
+    (place : ℕ) × (p : Sent) × IsAt h number place p × (is_too_soon h.interval now p.resent ≡ true) × (bytes ≡ before) × (t ≡ h)

@@ -1,0 +1,4 @@
+mod KeyframeLemmas
+mod MomentLemmas
+mod NackLemmas
+mod NackRunLemmas

@@ -1,0 +1,4 @@
+pub mod KeyframeRequests
+pub mod NackRuns
+pub mod NackSchedule
+pub mod Requests

@@ -1,0 +1,5 @@
+//! When a receiver requests missing packets and keyframes.
+#![tactic(auto)]
+
+pub mod keyframe;
+pub mod nack;

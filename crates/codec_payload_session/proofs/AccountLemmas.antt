@@ -1,0 +1,274 @@
+-- Every datagram is accounted for.
+use Rattle.std.proofs.Common.{◌≡◌, ◌≤◌, ◌<◌, inl, inr, ◌∙◌, ℕ, zero, suc, ◌+◌, ◌%◌, ◌^◌, ◌&&◌, ◌||◌, not, List, [], ◌∷◌, ◌++◌, length, Bool, true, false, cond, Option, Some, None, Result, Ok, Err, ap, refl, sym, subst, arith, nat_lt, slice_get, slice_set}
+use Rattle.std.specs.List.{position, remove}
+use Rattle.std.specs.Option.{is_some}
+use Rattle.std.specs.declared.alloc.AllocError.{AllocError}
+use Rattle.std.proofs.lemmas.Bool.Decides.{nat_tests}
+use Rattle.std.proofs.lemmas.List.Quantifiers.{position-Some}
+use Rattle.codec_payload_base.specs.declared.wire.Ticks.{Ticks}
+use Rattle.codec_payload_jitter.specs.Receiving.{next}
+use Rattle.codec_payload_jitter.specs.declared.outcome.Outcome.{Outcome}
+use Rattle.codec_payload_stream.specs.declared.receiver.ReceiveError.{ReceiveError}
+use Rattle.codec_payload_session.proofs.QuietLemmas.{quiet_length}
+use Rattle.codec_payload_session.specs.Arrivals.{Arrives, BeginsIf, BeginsOrFeeds, BeginsWith, Feeds, FeedsIf, Port, StaysEmpty, TakesIn, TakesInAs, added, has_place, left_if, left_where, on_probation, taken_of, without}
+use Rattle.codec_payload_session.specs.Ports.{IsSession, Session, counted_if, taken_in}
+use Rattle.codec_payload_session.specs.Sorting.{sorted_at}
+use Rattle.codec_payload_session.specs.Streams.{Drains, Plays, Steps, StepsBy, Takes, end_of, heard_unless, is_accepted, is_no_memory, is_probation, left_when}
+use Rattle.codec_payload_session.specs.Turns.{AreQuiet, TakesTurn, ended_after, kept_after}
+use Rattle.codec_payload_session.specs.declared.formats.Format.{Format}
+use Rattle.codec_payload_session.specs.declared.formats.SessionSettings.{SessionSettings}
+use Rattle.codec_payload_session.specs.declared.session.Arrival.{Arrival}
+use Rattle.codec_payload_session.specs.declared.session.Arrival.TheVariants as arrivals
+use Rattle.codec_payload_session.specs.declared.session.ArrivalCounts.{ArrivalCounts}
+use Rattle.codec_payload_session.specs.declared.session.Event.{Event}
+use Rattle.codec_payload_session.specs.declared.sort.Sorted.{Sorted}
+use Rattle.codec_payload_session.specs.declared.sort.Sorted.TheVariants as sorted
+use Rattle.codec_payload_session.specs.declared.stream.Ending.{Ending}
+use Rattle.codec_payload_session.specs.declared.stream.Step.{Step}
+use Rattle.codec_payload_session.specs.declared.stream.Step.TheVariants as steps
+use Rattle.codec_payload_session.specs.declared.stream.Stream.{Stream}
+
+-- ---- what the streams took, and how many there are
+
+taken_set : (ss : List Stream) (i : ℕ) (s t : Stream) → slice_get ss i ≡ Some s → taken_in (slice_set ss i t) + s.taken ≡ taken_in ss + t.taken
+taken_set [] i s t is = absurd (cc)
+taken_set (x ∷ xs) zero s t is = omega (arith, ap taken_of is)
+taken_set (x ∷ xs) (suc i) s t is = omega (arith, taken_set xs i s t is)
+
+length_set : (ss : List Stream) (i : ℕ) (t : Stream) → length (slice_set ss i t) ≡ length ss
+length_set [] i t = refl
+length_set (x ∷ xs) zero t = refl
+length_set (x ∷ xs) (suc i) t = ap suc (length_set xs i t)
+
+taken_removed : (ss : List Stream) (i : ℕ) → taken_in (remove ss i) + taken_of (slice_get ss i) ≡ taken_in ss
+taken_removed [] zero = refl
+taken_removed [] (suc i) = refl
+taken_removed (x ∷ xs) zero = omega arith
+taken_removed (x ∷ xs) (suc i) = omega (arith, taken_removed xs i)
+
+length_removed : (ss : List Stream) (i : ℕ) → i < length ss → length (remove ss i) + 1 ≡ length ss
+length_removed [] i within = absurd (omega (arith, within))
+length_removed (x ∷ xs) zero within = omega arith
+length_removed (x ∷ xs) (suc i) within = omega (arith, length_removed xs i (omega (arith, within)))
+
+taken_appended : (ss ts : List Stream) → taken_in (ss ++ ts) ≡ taken_in ss + taken_in ts
+taken_appended [] ts = omega arith
+taken_appended (x ∷ xs) ts = omega (arith, taken_appended xs ts)
+
+length_appended : (ss ts : List Stream) → length (ss ++ ts) ≡ length ss + length ts
+length_appended [] ts = omega arith
+length_appended (x ∷ xs) ts = omega (arith, length_appended xs ts)
+
+taken_left_if : (who : ℕ → Bool) (why : Ending) (at : ℕ) (s : Stream) → (left_if who why at s).taken ≡ s.taken
+taken_left_if who why at s = by_test (who s.ssrc)
+  where
+    by_test : (b : Bool) → (left_when b why at s).taken ≡ s.taken
+    by_test true = refl
+    by_test false = refl
+
+taken_left : (who : ℕ → Bool) (why : Ending) (at : ℕ) (ss : List Stream) → taken_in (left_where who why at ss) ≡ taken_in ss
+taken_left who why at [] = refl
+taken_left who why at (x ∷ xs) = omega (arith, taken_left_if who why at x, taken_left who why at xs)
+
+length_left : (who : ℕ → Bool) (why : Ending) (at : ℕ) (ss : List Stream) → length (left_where who why at ss) ≡ length ss
+length_left who why at [] = refl
+length_left who why at (x ∷ xs) = ap suc (length_left who why at xs)
+
+-- ---- a datagram that a stream takes
+
+abbrev taken_unless : Bool → ℕ → ℕ
+taken_unless true n = n
+taken_unless false n = next n
+
+takes_taken : (now : Ticks) (probation : ℕ) (bytes : List ℕ) (s : Stream) (told : Result Outcome ReceiveError) (t : Stream) → Takes now probation bytes s told t
+    → t.taken ≡ taken_unless (is_no_memory told) s.taken
+takes_taken now probation bytes s told t got = ap (λ (x : Stream). x.taken) got.2 ∙ by_test (is_no_memory told)
+  where
+    by_test : (b : Bool) → (heard_unless b now.0 probation (is_accepted told) (record s { receiver = got.0 })).taken ≡ taken_unless b s.taken
+    by_test true = refl
+    by_test false = refl
+
+abbrev with_all : SessionSettings → Port → ArrivalCounts → Session
+with_all settings p c = record { settings = settings; port = p; counts = c }
+
+-- the port after the datagram, which came to that
+abbrev Keeps : SessionSettings → ArrivalCounts → Port → Result Arrival AllocError → Type 0
+Keeps settings c q answer = IsSession (with_all settings q (counted_if answer c))
+
+keeps_by : (settings : SessionSettings) (c : ArrivalCounts) (p q : Port) (answer told : Result Arrival AllocError) → answer ≡ told → q ≡ p → Keeps settings c p told → Keeps settings c q answer
+keeps_by settings c p q answer told is same kept =
+    subst (λ (a : Result Arrival AllocError). Keeps settings c q a) (sym is) (subst (λ (x : Port). Keeps settings c x told) (sym same) kept)
+
+feeds_keep : (settings : SessionSettings) (c : ArrivalCounts) (place : ℕ) (now : Ticks) (bytes : List ℕ) (p : Port) (answer : Result Arrival AllocError) (q : Port)
+    → Feeds settings.probation place now bytes p answer q → IsSession (with_all settings p c) → Keeps settings c q answer
+feeds_keep settings c place now bytes p answer q got kept =
+    subst (λ (x : Port). Keeps settings c x answer) (sym got.left)
+    (by_test (is_no_memory got.told) answer got.arrives (takes_taken now settings.probation bytes got.stream got.told got.after got.takes))
+  where
+    by_test : (b : Bool) (a : Result Arrival AllocError) → Arrives b (arrivals.Stream got.stream.ssrc got.stream.format.payload_type got.told) a
+        → got.after.taken ≡ taken_unless b got.stream.taken → Keeps settings c (record p { streams = slice_set p.streams place got.after }) a
+    by_test false a is taken =
+        subst (λ (x : Result Arrival AllocError). Keeps settings c (record p { streams = slice_set p.streams place got.after }) x) (sym is)
+        (record {
+          accounted = omega (arith, kept.accounted, taken, taken_set p.streams place got.stream got.after got.there);
+          bounded = omega (arith, kept.bounded, length_set p.streams place got.after);
+        })
+    by_test true (Ok arrival) is taken = absurd (cc)
+    by_test true (Err e) is taken = record {
+      accounted = omega (arith, kept.accounted, taken, taken_set p.streams place got.stream got.after got.there);
+      bounded = omega (arith, kept.bounded, length_set p.streams place got.after);
+    }
+
+rtcp_keeps : (settings : SessionSettings) (c : ArrivalCounts) (who : ℕ → Bool) (why : Ending) (at : ℕ) (p : Port) → IsSession (with_all settings p c)
+    → Keeps settings c (record p { streams = left_where who why at p.streams }) (Ok arrivals.Rtcp)
+rtcp_keeps settings c who why at p kept = record {
+  accounted = omega (arith, kept.accounted, taken_left who why at p.streams);
+  bounded = omega (arith, kept.bounded, length_left who why at p.streams);
+}
+
+malformed_keeps : (settings : SessionSettings) (c : ArrivalCounts) (p : Port) → IsSession (with_all settings p c) → Keeps settings c p (Ok arrivals.Malformed)
+malformed_keeps settings c p kept = record { accounted = omega (arith, kept.accounted); bounded = kept.bounded }
+
+unknown_keeps : (settings : SessionSettings) (c : ArrivalCounts) (p : Port) → IsSession (with_all settings p c) → Keeps settings c p (Ok arrivals.Unknown)
+unknown_keeps settings c p kept = record { accounted = omega (arith, kept.accounted); bounded = kept.bounded }
+
+refused_keeps : (settings : SessionSettings) (c : ArrivalCounts) (p : Port) → IsSession (with_all settings p c) → Keeps settings c p (Ok arrivals.Refused)
+refused_keeps settings c p kept = record { accounted = omega (arith, kept.accounted); bounded = kept.bounded }
+
+unassociated_keeps : (settings : SessionSettings) (c : ArrivalCounts) (p : Port) → IsSession (with_all settings p c) → Keeps settings c p (Ok arrivals.Unassociated)
+unassociated_keeps settings c p kept = record { accounted = omega (arith, kept.accounted); bounded = kept.bounded }
+
+-- ---- a datagram that begins a stream
+
+-- the sum, and how many there are, after a stream was added
+abbrev Adds : ℕ → Stream → Port → Port → Type 0
+Adds most s p q = ((q.ended + taken_in q.streams) % 2 ^ 64 ≡ (p.ended + taken_in p.streams + s.taken) % 2 ^ 64) × (length q.streams ≤ most)
+
+adds_by : (b : Bool) (o : Option ℕ) (most : ℕ) (s : Stream) (p : Port) → nat_lt (length p.streams) most ≡ b → position on_probation p.streams ≡ o → (b || is_some o) ≡ true → length p.streams ≤ most
+    → Adds most s p (without (cond b None o) (record p { streams = p.streams ++ s ∷ [] }))
+adds_by true o most s p less at place within =
+    let there_is : length p.streams < most = grind (arith, nat_tests) in
+    (omega (arith, taken_appended p.streams (s ∷ [])), omega (arith, length_appended p.streams (s ∷ []), there_is))
+adds_by false (Some i) most s p less at place within =
+    let there_is : i < length p.streams = (position-Some on_probation p.streams i s at).0 in
+    let longer : length (p.streams ++ s ∷ []) ≡ length p.streams + length (s ∷ []) = length_appended p.streams (s ∷ []) in
+    (omega (arith, taken_appended p.streams (s ∷ []), taken_removed (p.streams ++ s ∷ []) i), omega (arith, within, longer, length_removed (p.streams ++ s ∷ []) i (omega (arith, longer, there_is))))
+adds_by false None most s p less at place within = absurd (cc)
+
+has_place_by : (f : Bool) (b : Bool) → (not f && b) ≡ true → b ≡ true
+has_place_by true b is = absurd (cc)
+has_place_by false b is = is
+
+adds : (most : ℕ) (s : Stream) (p : Port) → has_place most p ≡ true → length p.streams ≤ most → Adds most s p (added most s p)
+adds most s p place within =
+    adds_by (nat_lt (length p.streams) most) (position on_probation p.streams) most s p refl refl (has_place_by p.finished _ place) within
+
+begins_keep : (settings : SessionSettings) (c : ArrivalCounts) (ssrc : ℕ) (f : Format) (now : Ticks) (bytes : List ℕ) (p : Port) (answer : Result Arrival AllocError) (q : Port)
+    → has_place settings.max_streams p ≡ true → BeginsWith settings ssrc f now bytes p answer q → IsSession (with_all settings p c) → Keeps settings c q answer
+begins_keep settings c ssrc f now bytes p answer q place got kept =
+    let taken : got.after.taken ≡ taken_unless (is_no_memory got.told) got.stream.taken = takes_taken now settings.probation bytes got.stream got.told got.after got.takes in
+    let one : got.after.taken ≡ 1 = taken ∙ ap (λ (b : Bool). taken_unless b got.stream.taken) got.received ∙ ap next got.begins.taken in
+    let it : Adds settings.max_streams got.after p (added settings.max_streams got.after p) = adds settings.max_streams got.after p place kept.bounded in
+    keeps_by settings c (added settings.max_streams got.after p) q answer (Ok (arrivals.Stream ssrc f.payload_type got.told)) got.answers got.left
+    (record { accounted = omega (arith, kept.accounted, one, it.0); bounded = it.1 })
+
+stays_keep : (settings : SessionSettings) (c : ArrivalCounts) (p : Port) (answer : Result Arrival AllocError) (q : Port) → StaysEmpty p answer q → IsSession (with_all settings p c) → Keeps settings c q answer
+stays_keep settings c p (Ok arrival) q got kept = keeps_by settings c p q (Ok arrival) (Ok arrivals.Unknown) (ap (λ (a : Arrival). Ok a) got.0) got.1 (unknown_keeps settings c p kept)
+stays_keep settings c p (Err e) q got kept = keeps_by settings c p q (Err e) (Err e) refl got kept
+
+begins_if_keeps : (b : Bool) (settings : SessionSettings) (c : ArrivalCounts) (ssrc : ℕ) (f : Format) (now : Ticks) (bytes : List ℕ) (p : Port) (answer : Result Arrival AllocError) (q : Port)
+    → has_place settings.max_streams p ≡ b → BeginsIf b settings ssrc f now bytes p answer q → IsSession (with_all settings p c) → Keeps settings c q answer
+begins_if_keeps false settings c ssrc f now bytes p answer q place got kept = keeps_by settings c p q answer (Ok arrivals.Refused) got.0 got.1 (refused_keeps settings c p kept)
+begins_if_keeps true settings c ssrc f now bytes p answer q place (inl got) kept = begins_keep settings c ssrc f now bytes p answer q place got kept
+begins_if_keeps true settings c ssrc f now bytes p answer q place (inr got) kept = stays_keep settings c p answer q got kept
+
+begins_or_feeds_keeps : (o : Option ℕ) (settings : SessionSettings) (c : ArrivalCounts) (ssrc : ℕ) (f : Format) (now : Ticks) (bytes : List ℕ) (p : Port) (answer : Result Arrival AllocError) (q : Port)
+    → BeginsOrFeeds o settings ssrc f now bytes p answer q → IsSession (with_all settings p c) → Keeps settings c q answer
+begins_or_feeds_keeps None settings c ssrc f now bytes p answer q got kept = begins_if_keeps (has_place settings.max_streams p) settings c ssrc f now bytes p answer q refl got kept
+begins_or_feeds_keeps (Some place) settings c ssrc f now bytes p answer q got kept = feeds_keep settings c place now bytes p answer q got kept
+
+feeds_if_unassociated : (o : Option ℕ) (settings : SessionSettings) (c : ArrivalCounts) (now : Ticks) (bytes : List ℕ) (p : Port) (answer : Result Arrival AllocError) (q : Port)
+    → FeedsIf o arrivals.Unassociated settings.probation now bytes p answer q → IsSession (with_all settings p c) → Keeps settings c q answer
+feeds_if_unassociated None settings c now bytes p answer q got kept = keeps_by settings c p q answer (Ok arrivals.Unassociated) got.0 got.1 (unassociated_keeps settings c p kept)
+feeds_if_unassociated (Some place) settings c now bytes p answer q got kept = feeds_keep settings c place now bytes p answer q got kept
+
+feeds_if_unknown : (o : Option ℕ) (settings : SessionSettings) (c : ArrivalCounts) (now : Ticks) (bytes : List ℕ) (p : Port) (answer : Result Arrival AllocError) (q : Port)
+    → FeedsIf o arrivals.Unknown settings.probation now bytes p answer q → IsSession (with_all settings p c) → Keeps settings c q answer
+feeds_if_unknown None settings c now bytes p answer q got kept = keeps_by settings c p q answer (Ok arrivals.Unknown) got.0 got.1 (unknown_keeps settings c p kept)
+feeds_if_unknown (Some place) settings c now bytes p answer q got kept = feeds_keep settings c place now bytes p answer q got kept
+
+keeps_as : (d : Sorted) (settings : SessionSettings) (now : Ticks) (bytes : List ℕ) (c : ArrivalCounts) (p q : Port) (answer : Result Arrival AllocError)
+    → TakesInAs d settings now bytes p answer q → IsSession (with_all settings p c) → Keeps settings c q answer
+keeps_as sorted.Rtcp settings now bytes c p q answer got kept = keeps_by settings c _ q answer (Ok arrivals.Rtcp) got.0 got.1 (rtcp_keeps settings c _ _ _ p kept)
+keeps_as sorted.Malformed settings now bytes c p q answer got kept = keeps_by settings c p q answer (Ok arrivals.Malformed) got.0 got.1 (malformed_keeps settings c p kept)
+keeps_as sorted.Unknown settings now bytes c p q answer got kept = keeps_by settings c p q answer (Ok arrivals.Unknown) got.0 got.1 (unknown_keeps settings c p kept)
+keeps_as sorted.Unassociated settings now bytes c p q answer got kept = keeps_by settings c p q answer (Ok arrivals.Unassociated) got.0 got.1 (unassociated_keeps settings c p kept)
+keeps_as (sorted.Media ssrc f) settings now bytes c p q answer got kept = begins_or_feeds_keeps _ settings c ssrc f now bytes p answer q got kept
+keeps_as (sorted.Retransmission ssrc payload_type) settings now bytes c p q answer got kept = feeds_if_unassociated _ settings c now bytes p answer q got kept
+keeps_as (sorted.NoMedia ssrc) settings now bytes c p q answer got kept = feeds_if_unknown _ settings c now bytes p answer q got kept
+
+-- each datagram is counted once
+pub takes_in_keeps : (settings : SessionSettings) (now : Ticks) (bytes : List ℕ) (c : ArrivalCounts) (p q : Port) (answer : Result Arrival AllocError)
+    → TakesIn settings now bytes p answer q → IsSession (with_all settings p c) → IsSession (with_all settings q (counted_if answer c))
+takes_in_keeps settings now bytes c p q answer got kept = keeps_as (sorted_at settings bytes) settings now bytes c p q answer got kept
+
+-- streams that are to end take nothing
+pub left_keeps : (settings : SessionSettings) (c : ArrivalCounts) (who : ℕ → Bool) (why : Ending) (at : ℕ) (finished : Bool) (p : Port) → IsSession (with_all settings p c)
+    → IsSession (with_all settings (record p { streams = left_where who why at p.streams; finished = finished }) c)
+left_keeps settings c who why at finished p kept = record {
+  accounted = omega (arith, kept.accounted, taken_left who why at p.streams);
+  bounded = omega (arith, kept.bounded, length_left who why at p.streams);
+}
+
+-- ---- turns
+
+drains_taken : (o : Option Ending) (s t : Stream) → Drains o s t → t.taken ≡ s.taken
+drains_taken None s t got = ap (λ (x : Stream). x.taken) got
+drains_taken (Some why) s t got = ap (λ (x : Stream). x.taken) got.2
+
+plays_taken : (now : Ticks) (idle : ℕ) (s : Stream) (step : Step) (t : Stream) → Plays now idle s step t → t.taken ≡ s.taken
+plays_taken now idle s step t got = ap (λ (x : Stream). x.taken) got.2.after ∙ drains_taken (end_of now.0 idle s) s got.0 got.1
+
+steps_by_taken : (b told : Bool) (now : Ticks) (idle : ℕ) (s : Stream) (step : Step) (t : Stream) → StepsBy b told now idle s step t → t.taken ≡ s.taken
+steps_by_taken true told now idle s step t got = ap (λ (x : Stream). x.taken) got.1
+steps_by_taken false false now idle s step t got = ap (λ (x : Stream). x.taken) got.1
+steps_by_taken false true now idle s step t got = plays_taken now idle s step t got
+
+steps_taken : (now : Ticks) (idle : ℕ) (s : Stream) (step : Step) (t : Stream) → Steps now idle s step t → t.taken ≡ s.taken
+steps_taken now idle s step t got = steps_by_taken (is_probation s.stage) s.told now idle s step t got
+
+quiet_taken : (now : Ticks) (idle : ℕ) (ss ts : List Stream) → AreQuiet now idle ss ts → taken_in ts ≡ taken_in ss
+quiet_taken now idle [] [] got = refl
+quiet_taken now idle [] (t ∷ ts) got = absurd got
+quiet_taken now idle (s ∷ ss) [] got = absurd got
+quiet_taken now idle (s ∷ ss) (t ∷ ts) got = omega (arith, steps_taken now idle s steps.Nothing t got.0, quiet_taken now idle ss ts got.1)
+
+-- a stream that ended is counted among those that did
+kept_taken : (step : Step) (t : Stream) (rest : List Stream) (ended : ℕ)
+    → ((ended_after step t ended + taken_in (kept_after step t rest)) % 2 ^ 64 ≡ (ended + t.taken + taken_in rest) % 2 ^ 64) × (length (kept_after step t rest) ≤ 1 + length rest)
+kept_taken steps.Begun t rest ended = (omega arith, omega arith)
+kept_taken (steps.Unit unit) t rest ended = (omega arith, omega arith)
+kept_taken (steps.Ended why) t rest ended = (omega arith, omega arith)
+kept_taken steps.Nothing t rest ended = (omega arith, omega arith)
+
+-- each datagram stays counted once
+pub turn_keeps : (now : Ticks) (idle : ℕ) (settings : SessionSettings) (c : ArrivalCounts) (p q : Port) (event : Option Event) → TakesTurn now idle p event q → IsSession (with_all settings p c)
+    → IsSession (with_all settings q c)
+turn_keeps now idle settings c p q None got kept =
+    subst (λ (x : Port). IsSession (with_all settings x c)) (sym got.2)
+    (record {
+      accounted = omega (arith, kept.accounted, quiet_taken now idle p.streams got.0 got.1);
+      bounded = omega (arith, kept.bounded, quiet_length now idle p.streams got.0 got.1);
+    })
+turn_keeps now idle settings c p q (Some event) got kept =
+    let there_taken : taken_in p.streams ≡ taken_in got.front + (got.stream.taken + taken_in got.rest) = ap taken_in got.there ∙ taken_appended got.front (got.stream ∷ got.rest) in
+    let there_length : length p.streams ≡ length got.front + length (got.stream ∷ got.rest) = ap (λ (l : List Stream). length l) got.there ∙ length_appended got.front (got.stream ∷ got.rest) in
+    let one = steps_taken now idle got.stream got.step got.stepped got.steps in
+    let kept_one = kept_taken got.step got.stepped got.rest p.ended in
+    let after_taken = taken_appended got.quiet (kept_after got.step got.stepped got.rest) in
+    let after_length = length_appended got.quiet (kept_after got.step got.stepped got.rest) in
+    subst (λ (x : Port). IsSession (with_all settings x c)) (sym got.left)
+    (record {
+      accounted = omega (arith, kept.accounted, there_taken, one, kept_one.0, after_taken, quiet_taken now idle got.front got.quiet got.are_quiet);
+      bounded = omega (arith, kept.bounded, there_length, kept_one.1, after_length, quiet_length now idle got.front got.quiet got.are_quiet);
+    })

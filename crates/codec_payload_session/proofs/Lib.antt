@@ -1,0 +1,3 @@
+mod AccountLemmas
+mod QuietLemmas
+mod SourceLemmas

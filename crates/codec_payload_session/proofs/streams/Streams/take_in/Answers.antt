@@ -1,0 +1,13 @@
+use Rattle.std.proofs.Common.{◌≡◌, ◌∙◌, ◌+◌, ◌-◌, ◌^◌, ℕ, Ok, ap, min, refl, rules, subst}
+use Rattle.codec_payload_session.specs.Arrivals.{Port, TakesInAs, goodbye_at, left_where}
+use Rattle.codec_payload_session.specs.declared.session.Arrival.TheVariants as arrivals
+use Rattle.codec_payload_session.specs.declared.sort.Sorted.{Sorted}
+use Rattle.codec_payload_session.specs.declared.stream.Ending.TheVariants as endings
+use Rattle.codec_payload_session.proofs.streams.Streams.take_in.Goals as goal
+
+pub returns-in-Rtcp : goal.returns-in-Rtcp
+returns-in-Rtcp c =
+    let p : Port = c.args.self.now in
+    let at : c.saturating_add-at.result ≡ min (c.args.now.0 + c.args.settings.now.bye_wait) (2 ^ 64 - 1) = search rules in
+    subst (λ (d : Sorted). TakesInAs d c.args.settings.now c.args.now c.args.datagram.now p (Ok arrivals.Rtcp) c.leave.new.self) c.in-Rtcp.ensures
+    (refl, c.leave.ensures ∙ ap (λ (n : ℕ). record p { streams = left_where (goodbye_at c.args.datagram.now) endings.Bye n p.streams }) at)

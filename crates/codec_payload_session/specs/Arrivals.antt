@@ -1,0 +1,176 @@
+-- What becomes of a datagram.
+use Rattle.std.specs.Prelude.{◌≡◌, ◌⊎◌, ℕ, min, ◌+◌, ◌-◌, ◌%◌, ◌^◌, ◌==◌, ◌&&◌, ◌||◌, not, IsErr, nat_lt, if◌then◌else◌, Bool, true, false, List, [], ◌∷◌, ◌++◌, map, Option, Some, None, Result, Ok, Err, length, slice_get, slice_set}
+use Rattle.std.specs.Int.{w32, from_be_bytes}
+use Rattle.std.specs.List.{position, remove}
+use Rattle.std.specs.Option.{is_some}
+use Rattle.std.specs.declared.alloc.AllocError.{AllocError}
+use Rattle.codec_payload_base.specs.declared.wire.Ticks.{Ticks}
+use Rattle.codec_payload_jitter.specs.declared.outcome.Outcome.{Outcome}
+use Rattle.codec_payload_rtcp.specs.RtcpPackets.{Packet, sender_report, receiver_report, source_description, goodbye, nack, picture_loss, full_intra, other}
+use Rattle.codec_payload_rtcp.specs.RtcpReading.{compound_at}
+use Rattle.codec_payload_rtcp.specs.declared.packet.RtcpError.{RtcpError}
+use Rattle.codec_payload_stream.specs.declared.receiver.ReceiveError.{ReceiveError}
+use Rattle.codec_payload_session.specs.Streams.{Begins, Takes, is_no_memory, is_of, is_probation, left_when}
+use Rattle.codec_payload_session.specs.declared.formats.Format.{Format}
+use Rattle.codec_payload_session.specs.declared.formats.SessionSettings.{SessionSettings}
+use Rattle.codec_payload_session.specs.declared.session.Arrival.{Arrival}
+use Rattle.codec_payload_session.specs.declared.session.Arrival.TheVariants as arrivals
+use Rattle.codec_payload_session.specs.Sorting.{sorted_at}
+use Rattle.codec_payload_session.specs.declared.sort.Sorted.{Sorted}
+use Rattle.codec_payload_session.specs.declared.sort.Sorted.TheVariants as sorted
+use Rattle.codec_payload_session.specs.declared.stream.Ending.{Ending}
+use Rattle.codec_payload_session.specs.declared.stream.Ending.TheVariants as endings
+use Rattle.codec_payload_session.specs.declared.stream.Stream.{Stream}
+use Rattle.codec_payload_session.specs.declared.streams.Who.{Who}
+use Rattle.codec_payload_session.specs.declared.streams.Who.TheVariants as whos
+
+abbrev pub sum_wrapped : ℕ → ℕ → ℕ
+sum_wrapped m n = (m + n) % 2 ^ 64
+
+-- the streams in the order in which they began, whether new ones are refused, and how many datagrams the removed streams took
+pub record Port : Type 0 where
+  pub streams : List Stream
+  pub finished : Bool
+  pub ended : ℕ
+
+-- ---- streams that end
+
+-- the SSRC at the front, and those after it
+unfoldable pub source_at_front : List ℕ → Option (ℕ × List ℕ)
+source_at_front (s3 ∷ s2 ∷ s1 ∷ s0 ∷ ssrcs) = Some (from_be_bytes w32 (s3 ∷ s2 ∷ s1 ∷ s0 ∷ []), ssrcs)
+source_at_front bytes = None
+
+-- the SSRC is one of these, which have four bytes each
+unfoldable pub names : ℕ → List ℕ → Bool
+names ssrc (s3 ∷ s2 ∷ s1 ∷ s0 ∷ ssrcs) = (from_be_bytes w32 (s3 ∷ s2 ∷ s1 ∷ s0 ∷ []) == ssrc) || names ssrc ssrcs
+names ssrc bytes = false
+
+-- a BYE among the packets names the SSRC
+abbrev pub says_goodbye : ℕ → Packet → Bool
+says_goodbye ssrc (goodbye g) = names ssrc g.ssrcs
+says_goodbye ssrc (sender_report s) = false
+says_goodbye ssrc (receiver_report r) = false
+says_goodbye ssrc (source_description cs) = false
+says_goodbye ssrc (nack f) = false
+says_goodbye ssrc (picture_loss f) = false
+says_goodbye ssrc (full_intra f) = false
+says_goodbye ssrc (other p) = false
+
+abbrev pub say_goodbye : ℕ → List Packet → Bool
+say_goodbye ssrc [] = false
+say_goodbye ssrc (p ∷ ps) = says_goodbye ssrc p || say_goodbye ssrc ps
+
+-- nothing of a compound packet with a fault counts
+abbrev pub goodbye_in : ℕ → Result (List Packet) RtcpError → Bool
+goodbye_in ssrc (Ok packets) = say_goodbye ssrc packets
+goodbye_in ssrc (Err e) = false
+
+-- those whose BYE the bytes carry
+abbrev pub goodbye_at : List ℕ → ℕ → Bool
+goodbye_at bytes ssrc = goodbye_in ssrc (compound_at false bytes)
+
+-- the streams that are to end: all of them, those of an SSRC, or those that a compound packet names
+abbrev pub includes : Who → ℕ → Bool
+includes whos.All ssrc = true
+includes (whos.Of own) ssrc = own == ssrc
+includes (whos.Named bytes) ssrc = goodbye_at bytes.now ssrc
+
+abbrev pub left_if : (ℕ → Bool) → Ending → ℕ → Stream → Stream
+left_if who why at s = left_when (who s.ssrc) why at s
+
+abbrev pub left_where : (ℕ → Bool) → Ending → ℕ → List Stream → List Stream
+left_where who why at ss = map (left_if who why at) ss
+
+-- ---- a datagram for a stream that is there
+
+-- with no memory for the datagram there is no answer
+abbrev pub Arrives : Bool → Arrival → Result Arrival AllocError → Type 0
+Arrives false arrival answer = answer ≡ Ok arrival
+Arrives true arrival answer = IsErr answer
+
+-- the stream at a place receives it, and no other stream changes
+pub record Feeds (probation place : ℕ) (now : Ticks) (bytes : List ℕ) (p : Port) (answer : Result Arrival AllocError) (q : Port) : Type 0 where
+  pub stream : Stream
+  pub after : Stream
+  pub told : Result Outcome ReceiveError
+  pub there : slice_get p.streams place ≡ Some stream
+  pub takes : Takes now probation bytes stream told after
+  pub arrives : Arrives (is_no_memory told) (arrivals.Stream stream.ssrc stream.format.payload_type told) answer
+  pub left : q ≡ record p { streams = slice_set p.streams place after }
+
+-- a stream that is not there receives nothing
+abbrev pub FeedsIf : Option ℕ → Arrival → ℕ → Ticks → List ℕ → Port → Result Arrival AllocError → Port → Type 0
+FeedsIf None arrival probation now bytes p answer q = (answer ≡ Ok arrival) × (q ≡ p)
+FeedsIf (Some place) arrival probation now bytes p answer q = Feeds probation place now bytes p answer q
+
+-- ---- a datagram that begins a stream
+
+abbrev pub on_probation : Stream → Bool
+on_probation s = is_probation s.stage
+
+-- the stream that is removed for a new one: if there are too many, the first in probation
+abbrev pub leaving : ℕ → List Stream → Option ℕ
+leaving most ss = if nat_lt (length ss) most then None else position on_probation ss
+
+abbrev pub has_place : ℕ → Port → Bool
+has_place most p = not p.finished && (nat_lt (length p.streams) most || is_some (position on_probation p.streams))
+
+abbrev pub taken_of : Option Stream → ℕ
+taken_of None = 0
+taken_of (Some s) = s.taken
+
+-- the stream at a place is removed
+abbrev pub removed : ℕ → Port → Port
+removed place p = record p { streams = remove p.streams place; ended = sum_wrapped p.ended (taken_of (slice_get p.streams place)) }
+
+abbrev pub without : Option ℕ → Port → Port
+without None p = p
+without (Some place) p = removed place p
+
+abbrev pub added : ℕ → Stream → Port → Port
+added most s p = without (leaving most p.streams) (record p { streams = p.streams ++ s ∷ [] })
+
+-- a new stream receives the datagram, and is added
+pub record BeginsWith (settings : SessionSettings) (ssrc : ℕ) (f : Format) (now : Ticks) (bytes : List ℕ) (p : Port) (answer : Result Arrival AllocError) (q : Port) : Type 0 where
+  pub stream : Stream
+  pub after : Stream
+  pub told : Result Outcome ReceiveError
+  pub begins : Begins settings ssrc f stream
+  pub takes : Takes now settings.probation bytes stream told after
+  pub received : is_no_memory told ≡ false
+  pub answers : answer ≡ Ok (arrivals.Stream ssrc f.payload_type told)
+  pub left : q ≡ added settings.max_streams after p
+
+-- nothing has changed: there is no memory, or no receiver for these settings
+abbrev pub StaysEmpty : Port → Result Arrival AllocError → Port → Type 0
+StaysEmpty p (Ok arrival) q = (arrival ≡ arrivals.Unknown) × (q ≡ p)
+StaysEmpty p (Err e) q = q ≡ p
+
+abbrev pub BeginsIf : Bool → SessionSettings → ℕ → Format → Ticks → List ℕ → Port → Result Arrival AllocError → Port → Type 0
+BeginsIf false settings ssrc f now bytes p answer q = (answer ≡ Ok arrivals.Refused) × (q ≡ p)
+BeginsIf true settings ssrc f now bytes p answer q = BeginsWith settings ssrc f now bytes p answer q ⊎ StaysEmpty p answer q
+
+abbrev pub BeginsOrFeeds : Option ℕ → SessionSettings → ℕ → Format → Ticks → List ℕ → Port → Result Arrival AllocError → Port → Type 0
+BeginsOrFeeds None settings ssrc f now bytes p answer q = BeginsIf (has_place settings.max_streams p) settings ssrc f now bytes p answer q
+BeginsOrFeeds (Some place) settings ssrc f now bytes p answer q = Feeds settings.probation place now bytes p answer q
+
+-- ---- any datagram
+
+abbrev pub has_ssrc : ℕ → Stream → Bool
+has_ssrc ssrc s = s.ssrc == ssrc
+
+abbrev pub TakesInAs : Sorted → SessionSettings → Ticks → List ℕ → Port → Result Arrival AllocError → Port → Type 0
+TakesInAs sorted.Rtcp settings now bytes p answer q =
+    (answer ≡ Ok arrivals.Rtcp) × (q ≡ record p { streams = left_where (goodbye_at bytes) endings.Bye (min (now.0 + settings.bye_wait) (2 ^ 64 - 1)) p.streams })
+TakesInAs sorted.Malformed settings now bytes p answer q = (answer ≡ Ok arrivals.Malformed) × (q ≡ p)
+TakesInAs sorted.Unknown settings now bytes p answer q = (answer ≡ Ok arrivals.Unknown) × (q ≡ p)
+TakesInAs sorted.Unassociated settings now bytes p answer q = (answer ≡ Ok arrivals.Unassociated) × (q ≡ p)
+TakesInAs (sorted.Media ssrc f) settings now bytes p answer q =
+    BeginsOrFeeds (position (is_of ssrc f.payload_type) p.streams) settings ssrc f now bytes p answer q
+TakesInAs (sorted.Retransmission ssrc payload_type) settings now bytes p answer q =
+    FeedsIf (position (is_of ssrc payload_type) p.streams) arrivals.Unassociated settings.probation now bytes p answer q
+TakesInAs (sorted.NoMedia ssrc) settings now bytes p answer q =
+    FeedsIf (position (has_ssrc ssrc) p.streams) arrivals.Unknown settings.probation now bytes p answer q
+
+abbrev pub TakesIn : SessionSettings → Ticks → List ℕ → Port → Result Arrival AllocError → Port → Type 0
+TakesIn settings now bytes p answer q = TakesInAs (sorted_at settings bytes) settings now bytes p answer q

@@ -1,0 +1,107 @@
+-- The payload types of a port, and the settings of its streams.
+use Rattle.std.specs.Prelude.{◌≡◌, ℕ, ◌==◌, if◌then◌else◌, Bool, true, false, List, [], ◌∷◌, Option, Some, None}
+use Rattle.codec_payload_base.specs.declared.wire.Codec.{Codec}
+use Rattle.codec_payload_base.specs.declared.wire.Codec.TheVariants as codecs
+use Rattle.codec_payload_jitter.specs.declared.waiting.WaitLimits.{WaitLimits}
+use Rattle.codec_payload_stream.specs.Kinds.{is_among}
+use Rattle.codec_payload_stream.specs.declared.receiver.RedSettings.{RedSettings}
+use Rattle.codec_payload_stream.specs.declared.receiver.Retransmission.{Retransmission}
+use Rattle.codec_payload_stream.specs.declared.receiver.Settings.{Settings}
+use Rattle.codec_payload_session.specs.declared.formats.Format.{Format}
+use Rattle.codec_payload_session.specs.declared.formats.Role.{Role}
+use Rattle.codec_payload_session.specs.declared.formats.Role.TheVariants as roles
+use Rattle.codec_payload_session.specs.declared.formats.SessionSettings.{SessionSettings}
+use Rattle.codec_payload_session.specs.declared.formats.SsrcPair.{SsrcPair}
+
+-- ---- payload types
+
+abbrev pub is_type : Option ℕ → ℕ → Bool
+is_type None payload_type = false
+is_type (Some own) payload_type = own == payload_type
+
+abbrev pub is_red_type : Option RedSettings → ℕ → Bool
+is_red_type None payload_type = false
+is_red_type (Some red) payload_type = red.payload_type == payload_type
+
+-- packets of that type carry media of the format, in RED or not
+abbrev pub has_type : Format → ℕ → Bool
+has_type f payload_type = if f.payload_type == payload_type then true else is_red_type f.red payload_type
+
+-- packets of that type are retransmissions of the format
+abbrev pub resends : Format → ℕ → Bool
+resends f payload_type = is_type f.retransmission payload_type
+
+-- by the first format that names the type, or by the types without media
+abbrev pub role_by : List Format → List ℕ → ℕ → Role
+role_by [] no_media payload_type = if is_among payload_type no_media then roles.NoMedia else roles.Unknown
+role_by (f ∷ fs) no_media payload_type =
+    if has_type f payload_type then roles.Media f else (if resends f payload_type then roles.Retransmission f else role_by fs no_media payload_type)
+
+abbrev pub role_of : SessionSettings → ℕ → Role
+role_of s payload_type = role_by s.formats.items s.no_media.items payload_type
+
+-- ---- pairs of SSRCs
+
+-- the SSRC of the stream whose packets are retransmitted under that SSRC
+abbrev pub stream_of : ℕ → List SsrcPair → Option ℕ
+stream_of retransmission [] = None
+stream_of retransmission (p ∷ ps) = if p.retransmission == retransmission then Some p.ssrc else stream_of retransmission ps
+
+abbrev pub retransmission_of : ℕ → ℕ → List SsrcPair → Option Retransmission
+retransmission_of ssrc payload_type [] = None
+retransmission_of ssrc payload_type (p ∷ ps) =
+    if p.ssrc == ssrc then Some (record { ssrc = p.retransmission; payload_type = payload_type }) else retransmission_of ssrc payload_type ps
+
+-- of a stream whose format has a type of retransmissions
+abbrev pub retransmission_for : ℕ → Option ℕ → List SsrcPair → Option Retransmission
+retransmission_for ssrc None pairs = None
+retransmission_for ssrc (Some payload_type) pairs = retransmission_of ssrc payload_type pairs
+
+-- ---- settings of receivers
+
+abbrev pub is_video : Codec → Bool
+is_video codecs.Vp8 = true
+is_video codecs.Vp9 = true
+is_video codecs.Av1 = true
+is_video codecs.Opus = false
+is_video codecs.PCMU = false
+is_video codecs.PCMA = false
+is_video codecs.G722 = false
+is_video codecs.CN = false
+is_video codecs.AmrWb = false
+is_video codecs.H264 = false
+is_video codecs.H265 = false
+is_video codecs.H266 = false
+is_video codecs.Null = false
+is_video codecs.Tele = false
+is_video codecs.Rtx = false
+is_video codecs.Red = false
+is_video codecs.Unknown = false
+
+abbrev pub limits_for : SessionSettings → Bool → WaitLimits
+limits_for s true = s.video
+limits_for s false = s.audio
+
+-- the windows of video and of audio
+abbrev pub forward_for : Bool → ℕ
+forward_for true = 12000
+forward_for false = 3000
+
+abbrev pub backward_for : Bool → ℕ
+backward_for true = 5000
+backward_for false = 1000
+
+-- a stream's receiver has the SSRC and the format of the stream, and all else as the session has it
+pub record HasSettings (s : SessionSettings) (ssrc : ℕ) (f : Format) (r : Settings) : Type 0 where
+  pub payload_type : r.payload_type ≡ f.payload_type
+  pub no_media : r.no_media.items ≡ s.no_media.items
+  pub ssrc_is : r.ssrc ≡ Some ssrc
+  pub red : r.red ≡ f.red
+  pub retransmission : r.retransmission ≡ retransmission_for ssrc f.retransmission s.pairs.items
+  pub extension_ids : r.extension_ids ≡ s.extension_ids
+  pub clock_rate : r.clock_rate ≡ f.spec.clock_rate
+  pub tick_rate : r.tick_rate ≡ s.tick_rate
+  pub wait_limits : r.wait_limits ≡ limits_for s (is_video f.spec.codec)
+  pub limit : r.limit ≡ s.limit
+  pub forward : r.forward ≡ forward_for (is_video f.spec.codec)
+  pub backward : r.backward ≡ backward_for (is_video f.spec.codec)

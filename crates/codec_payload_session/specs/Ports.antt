@@ -1,0 +1,94 @@
+-- A session, and that every datagram is accounted for.
+use Rattle.std.specs.Prelude.{◌≡◌, ◌≤◌, ℕ, ◌+◌, ◌%◌, ◌^◌, ◌==◌, Bool, true, false, List, [], ◌∷◌, Option, Some, None, Result, Ok, Err, length}
+use Rattle.std.specs.declared.alloc.AllocError.{AllocError}
+use Rattle.codec_payload_base.specs.declared.wire.Ticks.{Ticks}
+use Rattle.codec_payload_jitter.specs.Receiving.{next}
+use Rattle.codec_payload_session.specs.Arrivals.{Port, TakesIn, left_where}
+use Rattle.codec_payload_session.specs.Streams.{IsInfo}
+use Rattle.codec_payload_session.specs.declared.formats.SessionSettings.{SessionSettings}
+use Rattle.codec_payload_session.specs.declared.session.Arrival.{Arrival}
+use Rattle.codec_payload_session.specs.declared.session.Arrival.TheVariants as arrivals
+use Rattle.codec_payload_session.specs.declared.session.ArrivalCounts.{ArrivalCounts}
+use Rattle.codec_payload_session.specs.declared.session.SessionCounts.{SessionCounts}
+use Rattle.codec_payload_session.specs.declared.stream.Ending.TheVariants as endings
+use Rattle.codec_payload_session.specs.declared.stream.StreamInfo.{StreamInfo}
+use Rattle.codec_payload_session.specs.declared.stream.Stream.{Stream}
+
+-- the settings, the streams, and how many datagrams came to what
+pub record Session : Type 0 where
+  pub settings : SessionSettings
+  pub port : Port
+  pub counts : ArrivalCounts
+
+abbrev pub no_port : Port
+no_port = record { streams = []; finished = false; ended = 0 }
+
+abbrev pub no_counts : ArrivalCounts
+no_counts = record { received = 0; rtcp = 0; malformed = 0; unknown = 0; refused = 0; unassociated = 0 }
+
+abbrev pub new_session : SessionSettings → Session
+new_session settings = record { settings = settings; port = no_port; counts = no_counts }
+
+-- one more datagram came to that
+abbrev pub counted : Arrival → ArrivalCounts → ArrivalCounts
+counted arrivals.Rtcp c = record c { received = next c.received; rtcp = next c.rtcp }
+counted arrivals.Malformed c = record c { received = next c.received; malformed = next c.malformed }
+counted arrivals.Unknown c = record c { received = next c.received; unknown = next c.unknown }
+counted arrivals.Refused c = record c { received = next c.received; refused = next c.refused }
+counted arrivals.Unassociated c = record c { received = next c.received; unassociated = next c.unassociated }
+counted (arrivals.Stream ssrc payload_type answer) c = record c { received = next c.received }
+
+abbrev pub counted_if : Result Arrival AllocError → ArrivalCounts → ArrivalCounts
+counted_if (Ok arrival) c = counted arrival c
+counted_if (Err e) c = c
+
+-- how many datagrams the streams took
+abbrev pub taken_in : List Stream → ℕ
+taken_in [] = 0
+taken_in (s ∷ ss) = s.taken + taken_in ss
+
+-- each datagram that was received is counted once: as RTCP, malformed, unknown, refused or unassociated, or by the stream that took
+-- it, which may have ended; counted modulo 2^64
+abbrev pub IsAccountedFor : ArrivalCounts → Port → Type 0
+IsAccountedFor c p =
+    c.received % 2 ^ 64 ≡ (c.rtcp + c.malformed + c.unknown + c.refused + c.unassociated + p.ended + taken_in p.streams) % 2 ^ 64
+
+-- every datagram is accounted for, and there are at most so many streams
+pub record IsSession (s : Session) : Type 0 where
+  pub accounted : IsAccountedFor s.counts s.port
+  pub bounded : length s.port.streams ≤ s.settings.max_streams
+
+abbrev pub Receives : Ticks → List ℕ → Session → Result Arrival AllocError → Session → Type 0
+Receives now bytes s answer t = (port : Port) × TakesIn s.settings now bytes s.port answer port × (t ≡ record s { port = port; counts = counted_if answer s.counts })
+
+-- ---- calls
+
+abbrev pub ends_of : ℕ → ℕ → Session → Session
+ends_of ssrc at s = record s { port = record s.port { streams = left_where (λ own. ssrc == own) endings.Told at s.port.streams } }
+
+abbrev pub everyone : ℕ → Bool
+everyone ssrc = true
+
+abbrev pub ends_all : ℕ → Session → Session
+ends_all at s = record s { port = record s.port { streams = left_where everyone endings.Told at s.port.streams; finished = true } }
+
+abbrev pub told_counts : ArrivalCounts → ℕ → SessionCounts
+told_counts c ended = record {
+  received = c.received;
+  rtcp = c.rtcp;
+  malformed = c.malformed;
+  unknown = c.unknown;
+  refused = c.refused;
+  unassociated = c.unassociated;
+  ended = ended;
+}
+
+-- the datagrams are those that came to something, and those that the streams took, modulo 2^64
+abbrev pub IsSum : SessionCounts → ℕ → Type 0
+IsSum c taken = c.received % 2 ^ 64 ≡ (c.rtcp + c.malformed + c.unknown + c.refused + c.unassociated + c.ended + taken) % 2 ^ 64
+
+abbrev pub MatchInfo : Option Stream → Option StreamInfo → Type 0
+MatchInfo None None = Unit {0}
+MatchInfo None (Some i) = ⊥
+MatchInfo (Some s) None = ⊥
+MatchInfo (Some s) (Some i) = IsInfo s i

@@ -1,0 +1,204 @@
+-- One stream of a session: what its receiver is given and asked, and when it begins and ends.
+use Rattle.std.specs.Prelude.{◌≡◌, ℕ, min, ◌+◌, ◌-◌, ◌^◌, ◌==◌, ◌&&◌, nat_lt, nat_le, if◌then◌else◌, Bool, true, false, List, [], ◌∷◌, Option, Some, None, Result, Ok, Err, length}
+use Rattle.codec_payload_base.specs.declared.error.PacketError.{PacketError}
+use Rattle.codec_payload_base.specs.declared.wire.Ticks.{Ticks}
+use Rattle.codec_payload_codec.specs.Depacketizers.{DepacketizerState, configured_depacketizer, depacketizer_state_for}
+use Rattle.codec_payload_buffer.specs.Release.{Release}
+use Rattle.codec_payload_jitter.specs.Receiving.{deadline_of, next}
+use Rattle.codec_payload_jitter.specs.declared.outcome.Outcome.{Outcome}
+use Rattle.codec_payload_jitter.specs.declared.outcome.Outcome.TheVariants as outcomes
+use Rattle.codec_payload_stream.specs.Pops.{PopsGated}
+use Rattle.codec_payload_stream.specs.Sessions.{Finishes, ReceivesBytes, Session as Receiver, session_by}
+use Rattle.codec_payload_stream.specs.declared.receiver.ReceiveError.{ReceiveError}
+use Rattle.codec_payload_stream.specs.declared.receiver.ReceiveError.TheVariants as errors
+use Rattle.codec_payload_stream.specs.declared.receiver.Settings.{Settings}
+use Rattle.codec_payload_session.specs.Formats.{HasSettings}
+use Rattle.codec_payload_session.specs.declared.formats.Format.{Format}
+use Rattle.codec_payload_session.specs.declared.formats.SessionSettings.{SessionSettings}
+use Rattle.codec_payload_session.specs.declared.stream.Ending.{Ending}
+use Rattle.codec_payload_session.specs.declared.stream.Ending.TheVariants as endings
+use Rattle.codec_payload_session.specs.declared.stream.Stage.{Stage}
+use Rattle.codec_payload_session.specs.declared.stream.Stage.TheVariants as stages
+use Rattle.codec_payload_session.specs.declared.stream.Step.{Step}
+use Rattle.codec_payload_session.specs.declared.stream.Step.TheVariants as steps
+use Rattle.codec_payload_session.specs.declared.stream.Stream.{Stream}
+use Rattle.codec_payload_session.specs.declared.stream.StreamInfo.{StreamInfo}
+
+-- the stream has this SSRC and payload type
+abbrev pub is_of : ℕ → ℕ → Stream → Bool
+is_of ssrc payload_type s = (s.ssrc == ssrc) && (s.format.payload_type == payload_type)
+
+-- a stream without datagrams; its receiver is a new one with the stream's settings
+pub record Begins (settings : SessionSettings) (ssrc : ℕ) (f : Format) (s : Stream) : Type 0 where
+  pub ssrc_is : s.ssrc ≡ ssrc
+  pub format : s.format ≡ f
+  pub stage : s.stage ≡ stages.Probation
+  pub told : s.told ≡ false
+  pub taken : s.taken ≡ 0
+  pub accepted : s.accepted ≡ 0
+  pub last : s.last ≡ 0
+  pub depacketizer : DepacketizerState
+  pub known : depacketizer_state_for f.spec.codec ≡ Some depacketizer
+  pub receiver_settings : Settings
+  pub has_settings : HasSettings settings ssrc f receiver_settings
+  pub receiver : session_by receiver_settings (configured_depacketizer f.spec.octet_align f.spec.clock_rate depacketizer) ≡ Ok s.receiver
+
+-- ---- datagrams
+
+abbrev pub is_no_memory : Result Outcome ReceiveError → Bool
+is_no_memory (Ok outcome) = false
+is_no_memory (Err (errors.Rtp e)) = false
+is_no_memory (Err errors.Red) = false
+is_no_memory (Err errors.Retransmission) = false
+is_no_memory (Err errors.OutOfMemory) = true
+is_no_memory (Err errors.BlocksOutOfMemory) = false
+
+-- the packet came in, so that it is a sign of the stream
+abbrev pub is_accepted : Result Outcome ReceiveError → Bool
+is_accepted (Ok outcomes.Held) = true
+is_accepted (Ok outcomes.HeldAndEvicted) = true
+is_accepted (Ok (outcomes.Restarted with_kept)) = true
+is_accepted (Ok outcomes.NoMedia) = true
+is_accepted (Ok outcomes.Duplicate) = false
+is_accepted (Ok outcomes.Late) = false
+is_accepted (Ok outcomes.Suspect) = false
+is_accepted (Ok outcomes.OtherStream) = false
+is_accepted (Ok outcomes.Undecided) = false
+is_accepted (Ok outcomes.Rtcp) = false
+is_accepted (Err e) = false
+
+abbrev pub is_probation : Stage → Bool
+is_probation stages.Probation = true
+is_probation stages.Playing = false
+is_probation (stages.Leaving why at) = false
+is_probation (stages.Draining why) = false
+
+abbrev pub accepted_after : Bool → ℕ → ℕ
+accepted_after true n = min (n + 1) (2 ^ 64 - 1)
+accepted_after false n = n
+
+-- probation ends once so many came in
+abbrev pub stage_after : ℕ → ℕ → Stage → Stage
+stage_after probation accepted stage = if is_probation stage && nat_le probation accepted then stages.Playing else stage
+
+-- one more datagram was received at that time
+abbrev pub heard : ℕ → ℕ → Bool → Stream → Stream
+heard now probation accepted s = record s {
+  taken = next s.taken;
+  last = now;
+  accepted = accepted_after accepted s.accepted;
+  stage = stage_after probation (accepted_after accepted s.accepted) s.stage;
+}
+
+abbrev pub heard_unless : Bool → ℕ → ℕ → Bool → Stream → Stream
+heard_unless true now probation accepted s = s
+heard_unless false now probation accepted s = heard now probation accepted s
+
+-- the receiver receives the datagram; with no memory for it nothing is counted
+abbrev pub Takes : Ticks → ℕ → List ℕ → Stream → Result Outcome ReceiveError → Stream → Type 0
+Takes now probation bytes s answer t =
+    (r : Receiver) × ReceivesBytes now bytes s.receiver answer r
+    × (t ≡ heard_unless (is_no_memory answer) now.0 probation (is_accepted answer) (record s { receiver = r }))
+
+-- ---- the end
+
+-- an earlier end stays
+abbrev pub stage_left : Ending → ℕ → Stage → Stage
+stage_left why at stages.Probation = stages.Leaving why at
+stage_left why at stages.Playing = stages.Leaving why at
+stage_left why at (stages.Leaving first before) = stages.Leaving first (min before at)
+stage_left why at (stages.Draining first) = stages.Draining first
+
+abbrev pub left : Ending → ℕ → Stream → Stream
+left why at s = record s { stage = stage_left why at s.stage }
+
+abbrev pub left_when : Bool → Ending → ℕ → Stream → Stream
+left_when true why at s = left why at s
+left_when false why at s = s
+
+-- why the stream ends at that time, if it does
+abbrev pub end_by : ℕ → ℕ → ℕ → Stage → Option Ending
+end_by now idle last stages.Probation = None
+end_by now idle last stages.Playing = if nat_le idle (now - last) then Some endings.Timeout else None
+end_by now idle last (stages.Leaving why at) = if nat_le at now then Some why else None
+end_by now idle last (stages.Draining why) = None
+
+abbrev pub end_of : ℕ → ℕ → Stream → Option Ending
+end_of now idle s = end_by now idle s.last s.stage
+
+-- the receiver is finished, so that pops wait for nothing
+abbrev pub Drains : Option Ending → Stream → Stream → Type 0
+Drains None s t = t ≡ s
+Drains (Some why) s t = (r : Receiver) × Finishes s.receiver r × (t ≡ record s { receiver = r; stage = stages.Draining why })
+
+-- ---- events
+
+abbrev pub ended_or_nothing : Stage → Step
+ended_or_nothing stages.Probation = steps.Nothing
+ended_or_nothing stages.Playing = steps.Nothing
+ended_or_nothing (stages.Leaving why at) = steps.Nothing
+ended_or_nothing (stages.Draining why) = steps.Ended why
+
+abbrev pub told_of : Stage → Option (Result Release PacketError) → Step
+told_of stage None = ended_or_nothing stage
+told_of stage (Some unit) = steps.Unit unit
+
+-- what a pop of the stream's receiver answers
+pub record Pops (now : Ticks) (s : Stream) (answer : Step) (t : Stream) : Type 0 where
+  pub popped : Option (Result Release PacketError)
+  pub receiver : Receiver
+  pub pops : PopsGated now.0 s.receiver popped receiver
+  pub told : answer ≡ told_of s.stage popped
+  pub after : t ≡ record s { receiver = receiver }
+
+-- an announced stream ends first, if its time has come
+abbrev pub Plays : Ticks → ℕ → Stream → Step → Stream → Type 0
+Plays now idle s answer t = (mid : Stream) × Drains (end_of now.0 idle s) s mid × Pops now mid answer t
+
+abbrev pub StepsBy : Bool → Bool → Ticks → ℕ → Stream → Step → Stream → Type 0
+StepsBy true told now idle s answer t = (answer ≡ steps.Nothing) × (t ≡ s)
+StepsBy false false now idle s answer t = (answer ≡ steps.Begun) × (t ≡ record s { told = true })
+StepsBy false true now idle s answer t = Plays now idle s answer t
+
+-- what the stream has to tell: nothing in probation, and its beginning before all else
+abbrev pub Steps : Ticks → ℕ → Stream → Step → Stream → Type 0
+Steps now idle s answer t = StepsBy (is_probation s.stage) s.told now idle s answer t
+
+-- ---- deadlines
+
+-- the moment that comes `ticks` after now, if the clock gets there
+abbrev pub later : ℕ → ℕ → Option ℕ
+later now ticks = if nat_lt (now + ticks) (2 ^ 64) then Some (now + ticks) else None
+
+abbrev pub earlier : Option ℕ → Option ℕ → Option ℕ
+earlier None b = b
+earlier (Some a) None = Some a
+earlier (Some a) (Some b) = Some (min a b)
+
+abbrev pub due_told : Bool → Option ℕ → Option ℕ → Option ℕ
+due_told false end deadline = Some 0
+due_told true end deadline = earlier end deadline
+
+abbrev pub due_by : ℕ → Bool → Option ℕ → ℕ → Stage → Option ℕ
+due_by idle told deadline last stages.Probation = None
+due_by idle told deadline last stages.Playing = due_told told (later last idle) deadline
+due_by idle told deadline last (stages.Leaving why at) = due_told told (Some at) deadline
+due_by idle told deadline last (stages.Draining why) = Some 0
+
+-- when the stream may have something to tell without a datagram
+abbrev pub due_of : ℕ → Stream → Option ℕ
+due_of idle s = due_by idle s.told (deadline_of s.receiver.packets) s.last s.stage
+
+-- when any of these may
+abbrev pub due_in : ℕ → List Stream → Option ℕ
+due_in idle [] = None
+due_in idle (s ∷ ss) = earlier (due_of idle s) (due_in idle ss)
+
+-- what a caller sees of the stream
+pub record IsInfo (s : Stream) (i : StreamInfo) : Type 0 where
+  pub ssrc_is : i.ssrc ≡ s.ssrc
+  pub payload_type : i.payload_type ≡ s.format.payload_type
+  pub stage : i.stage ≡ s.stage
+  pub taken : i.taken ≡ s.taken
+  pub held : i.held ≡ length s.receiver.packets.buffer.held
+  pub packets : i.counters.packets ≡ s.receiver.packets.counters

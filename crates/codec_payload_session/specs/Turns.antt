@@ -1,0 +1,94 @@
+-- The streams have their turn, in the order in which they began, up to the first that has something to tell.
+use Rattle.std.specs.Prelude.{◌≡◌, ℕ, Bool, true, false, List, [], ◌∷◌, ◌++◌, Option, Some, None, length}
+use Rattle.codec_payload_base.specs.declared.wire.Ticks.{Ticks}
+use Rattle.codec_payload_session.specs.Arrivals.{Port, removed, sum_wrapped}
+use Rattle.codec_payload_session.specs.Streams.{Steps}
+use Rattle.codec_payload_session.specs.declared.session.Event.{Event}
+use Rattle.codec_payload_session.specs.declared.session.Event.TheVariants as events
+use Rattle.codec_payload_session.specs.declared.stream.Step.{Step}
+use Rattle.codec_payload_session.specs.declared.stream.Step.TheVariants as steps
+use Rattle.codec_payload_session.specs.declared.stream.Stream.{Stream}
+use Rattle.codec_payload_session.specs.declared.streams.Turn.{Turn}
+
+-- each of these had its turn, and nothing to tell
+abbrev pub AreQuiet : Ticks → ℕ → List Stream → List Stream → Type 0
+AreQuiet now idle [] [] = Unit {0}
+AreQuiet now idle [] (t ∷ ts) = ⊥
+AreQuiet now idle (s ∷ ss) [] = ⊥
+AreQuiet now idle (s ∷ ss) (t ∷ ts) = Steps now idle s steps.Nothing t × AreQuiet now idle ss ts
+
+abbrev pub is_nothing : Step → Bool
+is_nothing steps.Begun = false
+is_nothing (steps.Unit unit) = false
+is_nothing (steps.Ended why) = false
+is_nothing steps.Nothing = true
+
+-- those before one were quiet, this one had something to tell, and those after it had no turn
+pub record FirstSteps (now : Ticks) (idle : ℕ) (ss : List Stream) (turn : Turn) (ts : List Stream) : Type 0 where
+  pub front : List Stream
+  pub quiet : List Stream
+  pub stream : Stream
+  pub stepped : Stream
+  pub rest : List Stream
+  pub before : ss ≡ front ++ stream ∷ rest
+  pub are_quiet : AreQuiet now idle front quiet
+  pub place : turn.place ≡ length quiet
+  pub steps : Steps now idle stream turn.step stepped
+  pub tells : is_nothing turn.step ≡ false
+  pub after : ts ≡ quiet ++ stepped ∷ rest
+
+abbrev pub StepsFirst : Ticks → ℕ → List Stream → Option Turn → List Stream → Type 0
+StepsFirst now idle ss None ts = AreQuiet now idle ss ts
+StepsFirst now idle ss (Some turn) ts = FirstSteps now idle ss turn ts
+
+-- ---- events
+
+-- the event of a stream; a unit with its RTP time
+abbrev pub event_of : Stream → Step → Option Event
+event_of s steps.Begun = Some (events.Begun s.ssrc s.format.payload_type)
+event_of s (steps.Unit unit) = Some (events.Unit s.ssrc s.format.payload_type s.receiver.time unit)
+event_of s (steps.Ended why) = Some (events.Ended s.ssrc s.format.payload_type why)
+event_of s steps.Nothing = None
+
+-- a stream that ended is removed
+abbrev pub kept_after : Step → Stream → List Stream → List Stream
+kept_after steps.Begun s rest = s ∷ rest
+kept_after (steps.Unit unit) s rest = s ∷ rest
+kept_after (steps.Ended why) s rest = rest
+kept_after steps.Nothing s rest = s ∷ rest
+
+abbrev pub ended_after : Step → Stream → ℕ → ℕ
+ended_after steps.Begun s ended = ended
+ended_after (steps.Unit unit) s ended = ended
+ended_after (steps.Ended why) s ended = sum_wrapped ended s.taken
+ended_after steps.Nothing s ended = ended
+
+-- what the stream at a place tells, and what is left then
+abbrev pub told_by : Option Stream → Step → Option Event
+told_by None step = None
+told_by (Some s) step = event_of s step
+
+abbrev pub after_step : Step → ℕ → Port → Port
+after_step steps.Begun place p = p
+after_step (steps.Unit unit) place p = p
+after_step (steps.Ended why) place p = removed place p
+after_step steps.Nothing place p = p
+
+-- the first of the streams that has something to tell tells it; the others before it are quiet
+pub record Tells (now : Ticks) (idle : ℕ) (before : Port) (event : Event) (after : Port) : Type 0 where
+  pub front : List Stream
+  pub quiet : List Stream
+  pub stream : Stream
+  pub stepped : Stream
+  pub rest : List Stream
+  pub step : Step
+  pub there : before.streams ≡ front ++ stream ∷ rest
+  pub are_quiet : AreQuiet now idle front quiet
+  pub steps : Steps now idle stream step stepped
+  pub tells : Some event ≡ event_of stepped step
+  pub left : after ≡ record before { streams = quiet ++ kept_after step stepped rest; ended = ended_after step stepped before.ended }
+
+-- without an event all were quiet
+abbrev pub TakesTurn : Ticks → ℕ → Port → Option Event → Port → Type 0
+TakesTurn now idle before None after = (quiet : List Stream) × AreQuiet now idle before.streams quiet × (after ≡ record before { streams = quiet })
+TakesTurn now idle before (Some event) after = Tells now idle before event after

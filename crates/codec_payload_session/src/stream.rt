@@ -1,0 +1,293 @@
+//! One stream of a session: its receiver, and when it begins and ends.
+
+ghost use Rattle.std.specs.Prelude.{◌≡◌, IfOk, IfSome};
+ghost use Rattle.std.specs.Option.{option_map};
+ghost use Rattle.codec_payload_session.specs.Streams.{Begins, Drains, IsInfo, Steps, Takes, due_of, earlier, end_of, ended_or_nothing, heard, is_accepted, is_no_memory, is_of, is_probation, left, left_when};
+
+use crate::formats::{Format, SessionSettings};
+use codec_payload_base::error::PacketError;
+use codec_payload_base::wire::Ticks;
+use codec_payload_buffer::buffer::Depacketized;
+use codec_payload_codec::codec::CodecDepacketizer;
+use codec_payload_jitter::outcome::Outcome;
+use codec_payload_stream::receiver::{Counters, ReceiveError, Receiver};
+use std::alloc::{AllocError, Global};
+
+/// Why a stream ended.
+#[derive(Clone, Copy, Debug, PartialEq, Eq)]
+pub enum Ending {
+    /// Its sender left by a BYE (RFC 3550, section 6.6).
+    Bye,
+    /// No datagram came for the idle timeout.
+    Timeout,
+    /// The caller ended it.
+    Told,
+}
+
+/// Where a stream is in its life.
+#[derive(Clone, Copy, Debug, PartialEq, Eq)]
+pub enum Stage {
+    /// Too few datagrams came in so far, and it is not announced.
+    Probation,
+    Playing,
+    /// It takes datagrams until this time, and then ends.
+    Leaving(Ending, u64),
+    /// The frames that it holds go out, and then it is removed.
+    Draining(Ending),
+}
+
+/// A stream of a session, as [`Session::stream_at`] reports it.
+///
+/// [`Session::stream_at`]: crate::session::Session::stream_at
+#[derive(Clone, Copy, Debug)]
+pub struct StreamInfo {
+    pub ssrc: u32,
+    /// The payload type of its format.
+    pub payload_type: u8,
+    pub stage: Stage,
+    /// How many datagrams it took, modulo 2^64.
+    pub taken: u64,
+    /// How many packets are held.
+    pub held: usize,
+    /// What became of its datagrams.
+    pub counters: Counters,
+}
+
+/// A stream of a session.
+#[derive(Debug, Drop)]
+pub(crate) struct Stream {
+    pub(crate) ssrc: u32,
+    pub(crate) format: Format,
+    pub(crate) receiver: Receiver,
+    pub(crate) stage: Stage,
+    /// Whether it was announced.
+    pub(crate) told: bool,
+    pub(crate) taken: u64,
+    /// How many of these datagrams came in.
+    pub(crate) accepted: u64,
+    /// When the latest of them came.
+    pub(crate) last: u64,
+}
+
+/// What a stream has to tell.
+#[derive(Debug, Drop)]
+pub(crate) enum Step {
+    Begun,
+    Unit(Result<Depacketized, PacketError>),
+    Ended(Ending),
+    Nothing,
+}
+
+impl Stream {
+    /// A stream without datagrams. `None`: no receiver can be made by these settings.
+    pub(crate) fn begin(
+        alloc: Global,
+        settings: &SessionSettings,
+        ssrc: u32,
+        format: &Format,
+    ) -> Result<Option<Stream>, AllocError>
+        ensures { IfOk result (λ stream. IfSome stream (Begins settings.now ssrc format.now)) }
+    {
+        let Some(mut depacketizer) = CodecDepacketizer::from_codec(alloc, format.spec.codec) else {
+            return Ok(None);
+        };
+        depacketizer.configure_for(&format.spec);
+        let settings = settings.receiver(alloc, ssrc, format)?;
+        let Ok(receiver) = Receiver::new(alloc, depacketizer, settings) else {
+            return Ok(None);
+        };
+        Ok(Some(Stream {
+            ssrc,
+            format: *format,
+            receiver,
+            stage: Stage::Probation,
+            told: false,
+            taken: 0,
+            accepted: 0,
+            last: 0,
+        }))
+    }
+
+    /// Whether it has this SSRC and payload type.
+    pub(crate) fn is_of(&self, ssrc: u32, payload_type: u8) -> bool
+        ensures { result ≡ is_of ssrc payload_type self.now }
+    {
+        self.ssrc == ssrc && self.format.payload_type == payload_type
+    }
+
+    /// Whether it is in probation.
+    pub(crate) fn is_on_probation(&self) -> bool
+        ensures { result ≡ is_probation self.now.stage }
+    {
+        is_probation(self.stage)
+    }
+
+    /// Gives a datagram to the receiver. If memory runs out, only the receiver may have changed.
+    pub(crate) fn take(
+        &mut self,
+        now: Ticks,
+        probation: u64,
+        datagram: &[u8],
+    ) -> Result<Outcome, ReceiveError>
+        ensures { Takes now probation datagram.now self.old result self.new }
+    {
+        let answer = self.receiver.receive(now, datagram);
+        if !is_no_memory(&answer) {
+            self.note(now, probation, is_accepted(&answer));
+        }
+        answer
+    }
+
+    /// One more datagram was received.
+    fn note(&mut self, now: Ticks, probation: u64, accepted: bool)
+        ensures { self.new ≡ heard now.0 probation accepted self.old }
+    {
+        self.taken = self.taken.wrapping_add(1);
+        self.last = now.0;
+        if accepted {
+            self.accepted = self.accepted.saturating_add(1);
+        }
+        if is_probation(self.stage) && self.accepted >= probation {
+            self.stage = Stage::Playing;
+        }
+    }
+
+    /// The stream is to end at that time. An earlier end stays.
+    fn leave(&mut self, why: Ending, at: u64)
+        ensures { self.new ≡ left why at self.old }
+    {
+        match self.stage {
+            Stage::Draining(_) => {}
+            Stage::Leaving(first, before) => self.stage = Stage::Leaving(first, before.min(at)),
+            _ => self.stage = Stage::Leaving(why, at),
+        }
+    }
+
+    /// The same, if it is one of those that are to end.
+    pub(crate) fn leave_if(&mut self, leaves: bool, why: Ending, at: u64)
+        ensures { self.new ≡ left_when leaves why at self.old }
+    {
+        if leaves {
+            self.leave(why, at);
+        }
+    }
+
+    /// Why the stream ends now, if it does.
+    fn end_at(&self, now: u64, idle_timeout: u64) -> Option<Ending>
+        ensures { result ≡ end_of now idle_timeout self.now }
+    {
+        match self.stage {
+            Stage::Leaving(why, at) if at <= now => Some(why),
+            Stage::Playing if idle_timeout <= now.saturating_sub(self.last) => Some(
+                Ending::Timeout,
+            ),
+            _ => None,
+        }
+    }
+
+    /// If the stream ends now, pops wait for nothing from now on.
+    fn drain(&mut self, now: u64, idle_timeout: u64)
+        ensures { Drains (end_of now idle_timeout self.old) self.old self.new }
+    {
+        if let Some(why) = self.end_at(now, idle_timeout) {
+            self.receiver.finish();
+            self.stage = Stage::Draining(why);
+        }
+    }
+
+    /// What the stream has to tell now.
+    pub(crate) fn step(&mut self, now: Ticks, idle_timeout: u64) -> Step
+        ensures { Steps now idle_timeout self.old result self.new }
+    {
+        if is_probation(self.stage) {
+            return Step::Nothing;
+        }
+        if !self.told {
+            self.told = true;
+            return Step::Begun;
+        }
+        self.drain(now.0, idle_timeout);
+        match self.receiver.pop(now) {
+            Some(unit) => Step::Unit(unit),
+            None => ended_or_nothing(self.stage),
+        }
+    }
+
+    /// When the stream may have something to tell without a datagram.
+    pub(crate) fn due(&self, idle_timeout: u64) -> Option<u64>
+        ensures { result ≡ due_of idle_timeout self.now }
+    {
+        let end = match self.stage {
+            Stage::Probation => return None,
+            Stage::Draining(_) => return Some(0),
+            Stage::Playing => self.last.checked_add(idle_timeout),
+            Stage::Leaving(_, at) => Some(at),
+        };
+        if !self.told {
+            return Some(0);
+        }
+        match self.receiver.next_deadline() {
+            Some(at) => earlier(end, Some(at.0)),
+            None => end,
+        }
+    }
+
+    /// What a caller sees of it.
+    pub(crate) fn info(&self) -> StreamInfo
+        ensures { IsInfo self.now result }
+    {
+        StreamInfo {
+            ssrc: self.ssrc,
+            payload_type: self.format.payload_type,
+            stage: self.stage,
+            taken: self.taken,
+            held: self.receiver.held(),
+            counters: self.receiver.counters(),
+        }
+    }
+}
+
+/// Whether it is probation.
+fn is_probation(stage: Stage) -> bool
+    ensures { result ≡ is_probation stage }
+{
+    matches!(stage, Stage::Probation)
+}
+
+/// What is told if no unit comes out.
+fn ended_or_nothing(stage: Stage) -> Step
+    ensures { result ≡ ended_or_nothing stage }
+{
+    match stage {
+        Stage::Draining(why) => Step::Ended(why),
+        _ => Step::Nothing,
+    }
+}
+
+/// Whether memory ran out.
+pub(crate) fn is_no_memory(answer: &Result<Outcome, ReceiveError>) -> bool
+    ensures { result ≡ is_no_memory answer.now }
+{
+    matches!(answer, Err(ReceiveError::OutOfMemory))
+}
+
+/// Whether a packet came in, so that it is a sign of its stream.
+fn is_accepted(answer: &Result<Outcome, ReceiveError>) -> bool
+    ensures { result ≡ is_accepted answer.now }
+{
+    matches!(
+        answer,
+        Ok(Outcome::Held | Outcome::HeldAndEvicted | Outcome::Restarted(_) | Outcome::NoMedia)
+    )
+}
+
+/// The earlier of two moments.
+pub(crate) fn earlier(one: Option<u64>, other: Option<u64>) -> Option<u64>
+    ensures { result ≡ earlier one other }
+{
+    match (one, other) {
+        (Some(one), Some(other)) => Some(one.min(other)),
+        (Some(one), None) => Some(one),
+        (None, other) => other,
+    }
+}

@@ -1,0 +1,413 @@
+//! The streams of a session, in the order in which they began.
+
+ghost use Rattle.std.specs.Prelude.{◌≡◌, ◌<◌, IfOk, IfSome, OnErr, OnOk, length, slice_get, true, false};
+ghost use Rattle.std.specs.List.{position};
+ghost use Rattle.std.specs.Option.{is_some};
+ghost use Rattle.codec_payload_base.specs.Answers.{Finds};
+ghost use Rattle.codec_payload_rtcp.specs.RtcpReading.{compound_at, packets_left};
+ghost use Rattle.codec_payload_rtcp.specs.RtcpValues.{packet_of};
+ghost use Rattle.codec_payload_session.specs.Streams.{due_in, is_of};
+ghost use Rattle.codec_payload_session.specs.Turns.{StepsFirst, TakesTurn, after_step, is_nothing, told_by};
+ghost use Rattle.codec_payload_session.specs.Arrivals.{BeginsIf, BeginsOrFeeds, Feeds, TakesIn, added, goodbye_in, has_place, has_ssrc, includes, leaving, left_if, left_where, names, on_probation, removed, say_goodbye, says_goodbye, source_at_front};
+ghost use Rattle.codec_payload_session.specs.Ports.{everyone, no_port};
+ghost use Rattle.codec_payload_session.specs.declared.stream.Ending.TheVariants as endings;
+
+use crate::formats::{Format, SessionSettings};
+use crate::session::{Arrival, Event};
+use crate::sort::{Sorted, sort};
+use crate::stream::{Ending, Step, Stream, earlier, is_no_memory};
+use codec_payload_base::wire::Ticks;
+use codec_payload_rtcp::compound::{CompoundRule, Packets, read_compound};
+use codec_payload_rtcp::packet::RtcpPacket;
+use std::alloc::{AllocError, Global};
+use std::marker::Model;
+
+/// The streams of a session.
+#[derive(Debug, Drop)]
+pub(crate) struct Streams {
+    alloc: Global,
+    pub(crate) list: Vec<Stream>,
+    /// Whether new streams are refused.
+    pub(crate) finished: bool,
+    /// How many datagrams the removed streams took.
+    pub(crate) ended: u64,
+}
+
+/// What the stream at a place has to tell.
+#[derive(Debug, Drop)]
+pub(crate) struct Turn {
+    place: usize,
+    step: Step,
+}
+
+/// Which streams are to end.
+#[derive(Clone, Copy, Debug)]
+pub(crate) enum Who<'a> {
+    All,
+    /// Those of this SSRC.
+    Of(u32),
+    /// Those whose BYE this compound packet carries.
+    Named(&'a [u8]),
+}
+
+impl Model for Streams {
+    ghost use Rattle.codec_payload_session.specs.Arrivals.{Port};
+
+    ghost Value = { Port };
+
+    ghost view = { λ s. record { streams = s.list.items; finished = s.finished; ended = s.ended } };
+}
+
+impl Streams {
+    /// No streams.
+    pub(crate) fn none(alloc: Global) -> Streams
+        ensures { result ≡ no_port }
+    {
+        Streams {
+            alloc,
+            list: Vec::new(alloc),
+            finished: false,
+            ended: 0,
+        }
+    }
+
+    /// Takes a datagram in.
+    pub(crate) fn take_in(
+        &mut self,
+        settings: &SessionSettings,
+        now: Ticks,
+        datagram: &[u8],
+    ) -> Result<Arrival, AllocError>
+        ensures { TakesIn settings.now now datagram.now self.old result self.new }
+    {
+        match sort(settings, datagram) {
+            Sorted::Rtcp => {
+                let at = now.0.saturating_add(settings.bye_wait);
+                self.leave(Who::Named(datagram), Ending::Bye, at);
+                Ok(Arrival::Rtcp)
+            }
+            Sorted::Malformed => Ok(Arrival::Malformed),
+            Sorted::Unknown => Ok(Arrival::Unknown),
+            Sorted::Unassociated => Ok(Arrival::Unassociated),
+            Sorted::Media(ssrc, format) => {
+                self.feed_or_begin(settings, (ssrc, format), now, datagram)
+            }
+            Sorted::Retransmission(ssrc, payload_type) => {
+                match place_of(&self.list, ssrc, payload_type) {
+                    Some(place) => self.feed(place, settings.probation, now, datagram),
+                    None => Ok(Arrival::Unassociated),
+                }
+            }
+            Sorted::NoMedia(ssrc) => match place_of_ssrc(&self.list, ssrc) {
+                Some(place) => self.feed(place, settings.probation, now, datagram),
+                None => Ok(Arrival::Unknown),
+            },
+        }
+    }
+
+    /// Gives a datagram to its stream, or begins a stream with it.
+    fn feed_or_begin(
+        &mut self,
+        settings: &SessionSettings,
+        of: (u32, Format),
+        now: Ticks,
+        datagram: &[u8],
+    ) -> Result<Arrival, AllocError>
+        ensures { BeginsOrFeeds (position (is_of of.0 of.1.payload_type) self.old.streams) settings.now of.0 of.1 now datagram.now self.old result self.new }
+    {
+        match place_of(&self.list, of.0, of.1.payload_type) {
+            Some(place) => self.feed(place, settings.probation, now, datagram),
+            None => self.begin(settings, of, now, datagram),
+        }
+    }
+
+    /// Gives a datagram to the stream at this place.
+    fn feed(
+        &mut self,
+        place: usize,
+        probation: u64,
+        now: Ticks,
+        datagram: &[u8],
+    ) -> Result<Arrival, AllocError>
+        requires { place < length self.old.streams }
+        ensures { Feeds probation place now datagram.now self.old result self.new }
+    {
+        let stream = &self.list[place];
+        let (ssrc, payload_type) = (stream.ssrc, stream.format.payload_type);
+        let answer = self.list[place].take(now, probation, datagram);
+        if is_no_memory(&answer) {
+            return Err(AllocError);
+        }
+        Ok(Arrival::Stream {
+            ssrc,
+            payload_type,
+            answer,
+        })
+    }
+
+    /// Begins a stream with a datagram, if there is a place for it.
+    fn begin(
+        &mut self,
+        settings: &SessionSettings,
+        of: (u32, Format),
+        now: Ticks,
+        datagram: &[u8],
+    ) -> Result<Arrival, AllocError>
+        ensures { BeginsIf (has_place settings.now.max_streams self.old) settings.now of.0 of.1 now datagram.now self.old result self.new }
+    {
+        if !self.has_place(settings.max_streams) {
+            return Ok(Arrival::Refused);
+        }
+        let (ssrc, format) = of;
+        let Some(mut stream) = Stream::begin(self.alloc, settings, ssrc, &format)? else {
+            return Ok(Arrival::Unknown);
+        };
+        let answer = stream.take(now, settings.probation, datagram);
+        if is_no_memory(&answer) {
+            return Err(AllocError);
+        }
+        self.add(settings.max_streams, stream)?;
+        Ok(Arrival::Stream {
+            ssrc,
+            payload_type: format.payload_type,
+            answer,
+        })
+    }
+
+    /// Whether there is a place for one more stream.
+    fn has_place(&self, max_streams: usize) -> bool
+        ensures { result ≡ has_place max_streams self.now }
+    {
+        !self.finished && (self.list.len() < max_streams || on_probation(&self.list).is_some())
+    }
+
+    /// Adds a stream. If there are too many, the first in probation is removed.
+    fn add(&mut self, max_streams: usize, stream: Stream) -> Result<(), AllocError>
+        ensures ok { OnOk result (self.new ≡ added max_streams stream self.old) }
+        ensures err { OnErr result (self.new ≡ self.old) }
+    {
+        let place = leaving(max_streams, &self.list);
+        self.list.push(stream)?;
+        if let Some(place) = place {
+            self.remove(place);
+        }
+        Ok(())
+    }
+
+    /// Removes the stream at this place.
+    fn remove(&mut self, place: usize)
+        requires { place < length self.old.streams }
+        ensures { self.new ≡ removed place self.old }
+    {
+        let gone = self.list.remove(place);
+        self.ended = self.ended.wrapping_add(gone.taken);
+    }
+
+    /// The next event.
+    pub(crate) fn turn(&mut self, now: Ticks, idle_timeout: u64) -> Option<Event>
+        ensures { TakesTurn now idle_timeout self.old result self.new }
+    {
+        match step_first(&mut self.list, now, idle_timeout) {
+            Some(turn) => self.tell(turn),
+            None => None,
+        }
+    }
+
+    /// What the stream at a place tells. A stream that ended is removed.
+    fn tell(&mut self, turn: Turn) -> Option<Event>
+        requires { turn.place < length self.old.streams }
+        ensures told { result ≡ told_by (slice_get self.old.streams turn.place) turn.step }
+        ensures after { self.new ≡ after_step turn.step turn.place self.old }
+    {
+        let stream = &self.list[turn.place];
+        let (ssrc, payload_type) = (stream.ssrc, stream.format.payload_type);
+        match turn.step {
+            Step::Begun => Some(Event::Begun { ssrc, payload_type }),
+            Step::Unit(unit) => {
+                let rtp_time = stream.receiver.unit_time();
+                Some(Event::Unit {
+                    ssrc,
+                    payload_type,
+                    rtp_time,
+                    unit,
+                })
+            }
+            Step::Ended(why) => {
+                self.remove(turn.place);
+                Some(Event::Ended {
+                    ssrc,
+                    payload_type,
+                    why,
+                })
+            }
+            Step::Nothing => None,
+        }
+    }
+
+    /// These streams are to end at that time.
+    pub(crate) fn leave(&mut self, who: Who<'_>, why: Ending, at: u64)
+        ensures { self.new ≡ record self.old { streams = left_where (includes who.entry) why at self.old.streams } }
+    {
+        leave(&mut self.list, who, why, at);
+    }
+
+    /// From now on no stream begins, and all are to end at that time.
+    pub(crate) fn finish(&mut self, at: u64)
+        ensures { self.new ≡ record self.old { streams = left_where everyone endings.Told at self.old.streams; finished = true } }
+    {
+        self.finished = true;
+        leave(&mut self.list, Who::All, Ending::Told, at);
+    }
+}
+
+/// Where the stream with this SSRC and payload type is.
+fn place_of(streams: &[Stream], ssrc: u32, payload_type: u8) -> Option<usize>
+    ensures value { result ≡ position (is_of ssrc payload_type) streams.now }
+    ensures within { IfSome result (λ at. at < length streams.now) }
+{
+    streams.iter().position(|s| s.is_of(ssrc, payload_type))
+}
+
+/// Where the first stream of this SSRC is.
+fn place_of_ssrc(streams: &[Stream], ssrc: u32) -> Option<usize>
+    ensures value { result ≡ position (has_ssrc ssrc) streams.now }
+    ensures within { IfSome result (λ at. at < length streams.now) }
+{
+    streams.iter().position(|s| s.ssrc == ssrc)
+}
+
+/// Where the first stream in probation is.
+fn on_probation(streams: &[Stream]) -> Option<usize>
+    ensures value { result ≡ position on_probation streams.now }
+    ensures within { IfSome result (λ at. at < length streams.now) }
+{
+    streams.iter().position(|s| s.is_on_probation())
+}
+
+/// Which stream is removed for a new one.
+fn leaving(max_streams: usize, streams: &[Stream]) -> Option<usize>
+    ensures value { result ≡ leaving max_streams streams.now }
+    ensures within { IfSome result (λ at. at < length streams.now) }
+{
+    if streams.len() < max_streams {
+        None
+    } else {
+        on_probation(streams)
+    }
+}
+
+/// Lets the streams have their turn, in order, up to the first that has something to tell.
+fn step_first(streams: &mut [Stream], now: Ticks, idle_timeout: u64) -> Option<Turn>
+    ensures { StepsFirst now idle_timeout streams.old result streams.new }
+{
+    for place in 0..streams.len() {
+        let step = streams[place].step(now, idle_timeout);
+        if !is_nothing(&step) {
+            return Some(Turn { place, step });
+        }
+    }
+    None
+}
+
+/// Whether a stream has nothing to tell.
+fn is_nothing(step: &Step) -> bool
+    ensures { result ≡ is_nothing step.now }
+{
+    matches!(step, Step::Nothing)
+}
+
+/// When a stream may have something to tell without a datagram.
+pub(crate) fn due_in(streams: &[Stream], idle_timeout: u64) -> Option<u64>
+    ensures { result ≡ due_in idle_timeout streams.now }
+{
+    let mut due = None;
+    for stream in streams {
+        due = earlier(due, stream.due(idle_timeout));
+    }
+    due
+}
+
+/// These streams are to end at that time.
+fn leave(streams: &mut [Stream], who: Who<'_>, why: Ending, at: u64)
+    ensures { streams.new ≡ left_where (includes who.entry) why at streams.old }
+{
+    for place in 0..streams.len() {
+        leave_if(&mut streams[place], who, why, at);
+    }
+}
+
+/// The stream is to end at that time, if it is one of these.
+fn leave_if(stream: &mut Stream, who: Who<'_>, why: Ending, at: u64)
+    ensures { stream.new ≡ left_if (includes who.entry) why at stream.old }
+{
+    let leaves = includes(who, stream.ssrc);
+    stream.leave_if(leaves, why, at);
+}
+
+/// Whether the stream of this SSRC is one of them.
+fn includes(who: Who<'_>, ssrc: u32) -> bool
+    ensures { result ≡ includes who.entry ssrc }
+{
+    match who {
+        Who::All => true,
+        Who::Of(own) => own == ssrc,
+        Who::Named(compound) => says_goodbye(compound, ssrc),
+    }
+}
+
+/// Whether a BYE of the compound packet names the SSRC.
+fn says_goodbye(compound: &[u8], ssrc: u32) -> bool
+    ensures { result ≡ goodbye_in ssrc (compound_at false compound.now) }
+{
+    match read_compound(CompoundRule::ReducedSize, compound) {
+        Ok(packets) => any_says_goodbye(packets, ssrc),
+        Err(_) => false,
+    }
+}
+
+/// Whether a BYE among the packets names the SSRC.
+fn any_says_goodbye(mut packets: Packets<'_>, ssrc: u32) -> bool
+    ensures { result ≡ say_goodbye ssrc (packets_left packets.entry) }
+{
+    while let Some(packet) = packets.next() {
+        if is_goodbye(&packet, ssrc) {
+            return true;
+        }
+    }
+    false
+}
+
+/// Whether the packet is a BYE that names the SSRC.
+fn is_goodbye(packet: &RtcpPacket<'_>, ssrc: u32) -> bool
+    ensures { result ≡ says_goodbye ssrc (packet_of packet.now) }
+{
+    match packet {
+        RtcpPacket::Goodbye(goodbye) => names(goodbye.ssrcs, ssrc),
+        _ => false,
+    }
+}
+
+/// The SSRC at the front, and those after it.
+#[tactic(auto, unfolding(crate::specs::Arrivals::source_at_front))]
+fn front_source(ssrcs: &[u8]) -> Option<(u32, &[u8])>
+    ensures { Finds (λ x. (x.0, x.1.now)) result (source_at_front ssrcs.now) }
+{
+    let [s3, s2, s1, s0, rest @ ..] = ssrcs else {
+        return None;
+    };
+    Some((u32::from_be_bytes([*s3, *s2, *s1, *s0]), rest))
+}
+
+/// Whether the SSRC is one of these.
+fn names(ssrcs: &[u8], ssrc: u32) -> bool
+    ensures { result ≡ names ssrc ssrcs.now }
+{
+    let mut rest = ssrcs;
+    while let Some((named, others)) = front_source(rest) {
+        if named == ssrc {
+            return true;
+        }
+        rest = others;
+    }
+    false
+}

@@ -1,0 +1,76 @@
+//! What the keyframe gate of a receiver learns from each pop.
+
+ghost use Rattle.std.specs.Prelude.{◌≡◌, ℕ, List};
+ghost use Rattle.codec_payload_buffer.specs.Steps.{popped_into};
+ghost use Rattle.codec_payload_buffer.specs.declared.buffer.unit.RtpMeta.{RtpMeta};
+ghost use Rattle.codec_payload_codec.specs.Depacketizers.{depacketizer_state_of, kind_of_depacketizer};
+ghost use Rattle.codec_payload_keyframes.specs.UnitGates.{new_gating};
+ghost use Rattle.codec_payload_stream.specs.Pops.{gates_after, is_passed_on, without_unit};
+ghost use Rattle.codec_payload_stream.specs.Sessions.{video_codec};
+
+use codec_payload_base::error::PacketError;
+use codec_payload_base::wire::Codec;
+use codec_payload_buffer::buffer::{Depacketized, UnitInfo};
+use codec_payload_codec::codec::CodecDepacketizer;
+use codec_payload_keyframes::unit_gate::{FromKeyframe, UnitGate};
+
+/// Returns the gate of a receiver over this depacketizer. Units of a custom codec are not inspected, as those of audio.
+pub(crate) fn gate_for<B>(
+    depacketizer: &CodecDepacketizer<B>,
+    from_keyframe: FromKeyframe,
+) -> UnitGate
+    ensures { result ≡ new_gating (video_codec (kind_of_depacketizer (depacketizer_state_of depacketizer.now))) from_keyframe }
+{
+    let codec = match depacketizer {
+        CodecDepacketizer::Vp8(_) => Codec::Vp8,
+        CodecDepacketizer::Vp9(_) => Codec::Vp9,
+        CodecDepacketizer::Av1(_) => Codec::Av1,
+        _ => Codec::Null,
+    };
+    UnitGate::new(codec, from_keyframe)
+}
+
+/// The gate follows the answer of a pop. `has_left`: packets left with a frame, and not in a unit. Returns whether the answer is
+/// passed on.
+pub(crate) fn follow(
+    gates: &mut UnitGate,
+    answer: &Option<Result<Depacketized, PacketError>>,
+    has_left: bool,
+) -> bool
+    ensures after { gates.new ≡ gates_after gates.old has_left answer.now }
+    ensures passed { result ≡ is_passed_on gates.old answer.now }
+{
+    match answer {
+        Some(Ok(unit)) => return gates.release(&unit.bytes, unit.contiguous),
+        Some(Err(PacketError::OutOfMemory)) | None => follow_none(gates, has_left),
+        Some(Err(_)) => gates.lose(),
+    }
+    true
+}
+
+/// The same for a pop into the caller's memory, whose unit is in `bytes`.
+pub(crate) fn follow_into(
+    gates: &mut UnitGate,
+    answer: &Option<Result<UnitInfo, PacketError>>,
+    bytes: &[u8],
+    has_left: bool,
+) -> bool
+    ensures after { (metas : List RtpMeta) → gates.new ≡ gates_after gates.old has_left (popped_into answer.now bytes.now metas) }
+    ensures passed { (metas : List RtpMeta) → result ≡ is_passed_on gates.old (popped_into answer.now bytes.now metas) }
+{
+    match answer {
+        Some(Ok(unit)) => return gates.release(bytes, unit.contiguous),
+        Some(Err(PacketError::OutOfMemory)) | None => follow_none(gates, has_left),
+        Some(Err(_)) => gates.lose(),
+    }
+    true
+}
+
+/// A pop gave no unit.
+fn follow_none(gates: &mut UnitGate, has_left: bool)
+    ensures { gates.new ≡ without_unit gates.old has_left }
+{
+    if has_left {
+        gates.skip();
+    }
+}

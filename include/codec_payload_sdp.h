@@ -1,0 +1,157 @@
+/** @file
+ * codec_payload_sdp: from a session description (SDP, RFC 8866) to the settings of receivers, for C and C++.
+ *
+ * cpay_sdp_read reads the `m=` sections of a description: payload types and what each is for, ids of header extensions, SSRCs,
+ * feedback. cpay_sdp_receiver turns a section into settings of a receiver. Neither allocates. Any bytes may be given. This part is
+ * ordinary C, tested with sanitizers and by fuzzing; unlike the rest of the library it is not proved. codec_payload.h does not
+ * include this file. The rules of codec_payload.h for pointers and for failing calls apply. */
+#ifndef CODEC_PAYLOAD_SDP_H
+#define CODEC_PAYLOAD_SDP_H
+
+#include "codec_payload.h"
+
+#ifdef __cplusplus
+extern "C" {
+#endif
+
+/** Bounds. A description above one of them is refused. */
+enum {
+    CPAY_SDP_MAX_MEDIA = 1024,  /**< `m=` sections of a description */
+    CPAY_SDP_MAX_FORMATS = 128, /**< payload types of a section: all that exist */
+    CPAY_SDP_MAX_SOURCES = 128, /**< SSRCs of a section, and apart from them SSRCs of repair */
+    CPAY_SDP_NAME = 32          /**< bytes of an encoding name with the 0 at its end; a longer name is cut */
+};
+
+/** What a payload type is for: the field `role` of a cpay_sdp_format. */
+enum {
+    CPAY_SDP_IGNORED = 0,        /**< a codec that the library lacks, or a payload type without `a=rtpmap` */
+    CPAY_SDP_MEDIA = 1,          /**< media of a codec of the library */
+    CPAY_SDP_RED = 2,            /**< redundant audio, or video with error correction (RFC 2198) */
+    CPAY_SDP_RETRANSMISSION = 3, /**< retransmissions (RFC 4588) */
+    CPAY_SDP_EVENTS = 4,         /**< telephone events (RFC 4733) */
+    CPAY_SDP_COMFORT_NOISE = 5,  /**< comfort noise (RFC 3389) */
+    CPAY_SDP_FEC = 6             /**< forward error correction (RFC 5109, RFC 8627) */
+};
+
+/** A payload type of an `m=` line, with its `a=rtpmap`, `a=fmtp` and `a=rtcp-fb` lines. */
+typedef struct {
+    uint32_t codec;           /**< of media: CPAY_OPUS and so on; of events CPAY_TELE, of comfort noise CPAY_CN, else CPAY_NULL */
+    uint32_t clock_rate;      /**< of the RTP clock, in hertz; 0 if neither `a=rtpmap` nor RFC 3551 gives it */
+    uint32_t channels;        /**< of audio; 1 if the description gives none */
+    uint32_t profile;         /**< VP9: `profile-id` (RFC 9628, section 6); AV1: `profile`; 0 by default */
+    uint8_t payload_type;     /**< 0 to 127 */
+    uint8_t role;             /**< CPAY_SDP_MEDIA and so on */
+    uint8_t of;               /**< with has_of: the payload type that is retransmitted (`apt`), or of the primary block in RED */
+    bool has_of;              /**< the description gives `of`; only for RED and retransmissions */
+    bool octet_align;         /**< AMR-WB: `octet-align=1` (RFC 4867, section 8.1) */
+    bool nack;                /**< `nack`: packets may be requested (RFC 4585, section 4.2) */
+    bool pli;                 /**< `nack pli`: keyframes may be requested */
+    bool fir;                 /**< `ccm fir` (RFC 5104, section 7.1) */
+    bool transport_cc;        /**< `transport-cc` */
+    bool remb;                /**< `goog-remb` */
+    char name[CPAY_SDP_NAME]; /**< the encoding name, as it was written; empty if there is none */
+} cpay_sdp_format;
+
+/** An SSRC of media, by `a=ssrc` or `a=ssrc-group` (RFC 5576). SSRCs of repair alone are left out. */
+typedef struct {
+    uint32_t ssrc;
+    uint32_t rtx_ssrc; /**< with has_rtx: the second SSRC of its FID group, for retransmissions */
+    bool has_rtx;
+} cpay_sdp_source;
+
+/** The kind of media of a section. */
+enum { CPAY_SDP_OTHER = 0, CPAY_SDP_AUDIO = 1, CPAY_SDP_VIDEO = 2 };
+
+/** An `m=` section. About 10 kB. */
+typedef struct {
+    size_t line;                      /**< the number of its `m=` line, from 1 */
+    uint16_t port;                    /**< of RTP; 0: the section is refused, or bundled with another */
+    uint8_t kind;                     /**< CPAY_SDP_AUDIO and so on */
+    bool is_rtp;                      /**< its protocol is RTP; else it has no formats */
+    bool encrypted;                   /**< SRTP, by protocol (RFC 3711, RFC 5764), `a=crypto` or `a=fingerprint` */
+    bool rtcp_mux;                    /**< RTCP comes on the port of RTP (RFC 5761) */
+    uint32_t packet_time;             /**< `a=ptime`, in microseconds; 0 if absent */
+    cpay_extension_ids extension_ids; /**< ids of header extensions that the library reads and writes (RFC 8285); 0 if absent */
+    uint8_t mid_id;                   /**< the same for `sdes:mid` (RFC 9143) */
+    uint8_t rid_id;                   /**< `sdes:rtp-stream-id` (RFC 8852) */
+    uint8_t repaired_rid_id;          /**< `sdes:repaired-rtp-stream-id` (RFC 8852) */
+    uint8_t transport_cc_id;          /**< transport-wide sequence numbers */
+    uint8_t send_time_id;             /**< abs-send-time */
+    uint8_t offset_id;                /**< transmission time offset (RFC 5450) */
+    size_t format_count;
+    size_t source_count;
+    cpay_sdp_format formats[CPAY_SDP_MAX_FORMATS]; /**< in the order of the `m=` line */
+    cpay_sdp_source sources[CPAY_SDP_MAX_SOURCES]; /**< in the order of their first lines */
+} cpay_sdp_media;
+
+/** What is wrong with a description. */
+typedef enum {
+    CPAY_SDP_NO_ERROR = 0,
+    CPAY_SDP_BAD_LINE = 1,         /**< not a letter of RFC 8866, section 5, and `=` */
+    CPAY_SDP_BAD_MEDIA = 2,        /**< `m=` without media, port 0 to 65535, protocol, or formats of RTP */
+    CPAY_SDP_BAD_PAYLOAD_TYPE = 3, /**< a payload type is not a number from 0 to 127 */
+    CPAY_SDP_BAD_RTPMAP = 4,       /**< not NAME/RATE or NAME/RATE/CHANNELS, or a number in it is 0 */
+    CPAY_SDP_BAD_FMTP = 5,         /**< a parameter that is read has no value of its range */
+    CPAY_SDP_BAD_EXTMAP = 6,       /**< no id, an id above 255, no URI, or one id for two extensions */
+    CPAY_SDP_BAD_SSRC = 7,         /**< an SSRC is not a number of 32 bits */
+    CPAY_SDP_BAD_PTIME = 8,        /**< not a number of milliseconds above 0, at most 100000 */
+    CPAY_SDP_BAD_RTCP_FB = 9,      /**< `a=rtcp-fb` without a type */
+    CPAY_SDP_TOO_MANY_MEDIA = 10,  /**< more than CPAY_SDP_MAX_MEDIA sections */
+    CPAY_SDP_TOO_MANY_SOURCES = 11 /**< more than CPAY_SDP_MAX_SOURCES SSRCs in a section */
+} cpay_sdp_error;
+
+typedef struct {
+    size_t line; /**< from 1 */
+    cpay_sdp_error error;
+} cpay_sdp_fault;
+
+/** Reads all `m=` sections of a description of `text_len` bytes into `media`, in order, and writes their number to *count. Lines end
+ * with LF or CRLF. Attributes that the library does not need are ignored, as are attributes of a payload type that the `m=` line does
+ * not have. Cost: reads the text four times.
+ *
+ * CPAY_INVALID: a line is malformed; *fault has its number and the reason. CPAY_TOO_SMALL: `media_len` is too small; *count is the
+ * number of sections. If the call fails, all else is unchanged. */
+CPAY_CHECKED cpay_status cpay_sdp_read(const char *text, size_t text_len, cpay_sdp_media *media, size_t media_len, size_t *count,
+                                       cpay_sdp_fault *fault);
+
+/** Returns the format of a payload type, or NULL if the section has none. */
+const cpay_sdp_format *cpay_sdp_format_of(const cpay_sdp_media *media, uint8_t payload_type);
+
+/** Writes settings of a receiver for media of a payload type. The payload types without media (events, comfort noise, error
+ * correction) go to the front of `no_media`, and their number to *no_media_len. Pass both to cpay_receiver_new.
+ *
+ * - Wait limits: for live audio or video, with retransmission if `a=rtcp-fb` has nack for the payload type.
+ * - RED: the RED format over the payload type, or one that names no payload type. The step is `a=ptime`, 20 ms by default, in ticks
+ *   of the RTP clock, 1 to 16383.
+ * - If the section has exactly one SSRC of media, it is the SSRC of the stream. If it has retransmissions, and a format of RTX has the
+ *   payload type as `apt`, they are set too.
+ * - Ids of header extensions.
+ *
+ * CPAY_INVALID: the section has no media of this payload type. */
+CPAY_CHECKED cpay_status cpay_sdp_receiver(const cpay_sdp_media *media, uint8_t payload_type, cpay_receiver_settings *settings,
+                                           uint8_t no_media[CPAY_SDP_MAX_FORMATS], size_t *no_media_len);
+
+/** A text for each error, in English. */
+static inline const char *cpay_sdp_error_text(cpay_sdp_error error) {
+    switch (error) {
+    case CPAY_SDP_NO_ERROR: return "no error";
+    case CPAY_SDP_BAD_LINE: return "not a line of SDP";
+    case CPAY_SDP_BAD_MEDIA: return "m= line without media, port, protocol or formats";
+    case CPAY_SDP_BAD_PAYLOAD_TYPE: return "payload type is not 0 to 127";
+    case CPAY_SDP_BAD_RTPMAP: return "rtpmap is not NAME/RATE or NAME/RATE/CHANNELS";
+    case CPAY_SDP_BAD_FMTP: return "fmtp parameter out of range";
+    case CPAY_SDP_BAD_EXTMAP: return "extmap without id or URI, or id used twice";
+    case CPAY_SDP_BAD_SSRC: return "SSRC is not a number of 32 bits";
+    case CPAY_SDP_BAD_PTIME: return "ptime is not a time of at most 100000 milliseconds";
+    case CPAY_SDP_BAD_RTCP_FB: return "rtcp-fb without a type";
+    case CPAY_SDP_TOO_MANY_MEDIA: return "more than 1024 media sections";
+    case CPAY_SDP_TOO_MANY_SOURCES: return "more than 128 SSRCs in a section";
+    default: return "unknown error";
+    }
+}
+
+#ifdef __cplusplus
+}
+#endif
+
+#endif

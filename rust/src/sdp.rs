@@ -1,0 +1,339 @@
+//! From a session description (SDP, RFC 8866) to the settings of receivers.
+//!
+//! Written by hand and not proved. Any text may be given: [`read`] does not panic, and reads the text twice.
+//!
+//! ```
+//! use codec_payload::sdp::{self, Role};
+//!
+//! # fn main() -> Result<(), Box<dyn std::error::Error>> {
+//! let media = sdp::read("v=0\r\nm=audio 9 RTP/AVP 111 0\r\na=rtpmap:111 opus/48000/2\r\na=ptime:60\r\n")?;
+//! assert!(matches!(media[0].formats[0].role, Role::Media(spec) if spec.clock_rate.get() == 48_000));
+//! assert!(media[0].receiver_settings(111)?.is_some());
+//!
+//! let fault = sdp::read("v=0\r\nm=audio 9 RTP/AVP 128\r\n").unwrap_err();
+//! assert_eq!(fault.to_string(), "line 2: payload type is not 0 to 127");
+//! # Ok(())
+//! # }
+//! ```
+
+mod section;
+mod text;
+
+use crate::memory::{AllocError, TryVec};
+use crate::rtp::ExtensionIds;
+use crate::stream::{ReceiverSettings, RedSettings, Retransmission};
+use crate::wire::{CodecSpec, Frequency};
+use alloc::vec::Vec;
+use core::fmt;
+
+/// The highest number of `m=` sections of a description.
+pub const MAX_MEDIA: usize = 1_024;
+/// The highest number of SSRCs of a section, and of SSRCs of repair apart from them.
+pub const MAX_SOURCES: usize = 128;
+
+const DEFAULT_PACKET_TIME: u32 = 20_000;
+const MAX_RED_STEP: u64 = 16_383;
+
+/// What a payload type is for.
+#[derive(Clone, Copy, Debug, PartialEq, Eq)]
+#[non_exhaustive]
+pub enum Role {
+    /// Media of a codec of this crate.
+    Media(CodecSpec),
+    /// Redundant audio, or video with error correction (RFC 2198). `over` is the payload type of the primary block, if `a=fmtp`
+    /// gives it.
+    Red { over: Option<u8> },
+    /// Retransmissions (RFC 4588) of the payload type that `apt` gives.
+    Retransmission { of: Option<u8> },
+    /// Telephone events (RFC 4733).
+    TelephoneEvents,
+    /// Comfort noise (RFC 3389).
+    ComfortNoise,
+    /// Forward error correction (RFC 5109, RFC 8627).
+    ErrorCorrection,
+    /// A codec that this crate lacks, or a payload type without `a=rtpmap`.
+    Ignored,
+}
+
+/// Which feedback `a=rtcp-fb` agrees on for a payload type (RFC 4585, section 4.2).
+#[derive(Clone, Copy, Debug, Default, PartialEq, Eq)]
+pub struct Feedback {
+    /// `nack`: packets may be requested.
+    pub nack: bool,
+    /// `nack pli`: keyframes may be requested.
+    pub pli: bool,
+    /// `ccm fir` (RFC 5104, section 7.1).
+    pub fir: bool,
+    /// `transport-cc`.
+    pub transport_cc: bool,
+    /// `goog-remb`.
+    pub remb: bool,
+}
+
+/// A payload type of an `m=` line, with its `a=rtpmap`, `a=fmtp` and `a=rtcp-fb` lines.
+#[derive(Clone, Copy, Debug, PartialEq, Eq)]
+pub struct Format<'a> {
+    /// 0 to 127.
+    pub payload_type: u8,
+    pub role: Role,
+    /// The encoding name, as it was written; empty if there is none.
+    pub name: &'a str,
+    /// The rate of the RTP clock. `None` if neither `a=rtpmap` nor RFC 3551 gives it.
+    pub clock_rate: Option<Frequency>,
+    /// The channels of audio; 1 if the description gives none.
+    pub channels: u8,
+    /// VP9: `profile-id` (RFC 9628, section 6); AV1: `profile`. 0 by default.
+    pub profile: u8,
+    pub feedback: Feedback,
+}
+
+/// An SSRC of media, by `a=ssrc` or `a=ssrc-group` (RFC 5576). SSRCs of repair alone are left out.
+#[derive(Clone, Copy, Debug, PartialEq, Eq)]
+pub struct Source {
+    pub ssrc: u32,
+    /// The second SSRC of its FID group, for retransmissions.
+    pub retransmission: Option<u32>,
+}
+
+/// Ids of header extensions that this crate neither reads nor writes. `None` if absent.
+#[derive(Clone, Copy, Debug, Default, PartialEq, Eq)]
+pub struct OtherIds {
+    /// `sdes:mid` (RFC 9143).
+    pub mid: Option<u8>,
+    /// `sdes:rtp-stream-id` (RFC 8852).
+    pub rid: Option<u8>,
+    /// `sdes:repaired-rtp-stream-id` (RFC 8852).
+    pub repaired_rid: Option<u8>,
+    /// Transport-wide sequence numbers.
+    pub transport_cc: Option<u8>,
+    /// abs-send-time.
+    pub send_time: Option<u8>,
+    /// Transmission time offset (RFC 5450).
+    pub transmission_offset: Option<u8>,
+}
+
+/// The kind of media of a section.
+#[derive(Clone, Copy, Debug, Default, PartialEq, Eq)]
+pub enum Kind {
+    Audio,
+    Video,
+    #[default]
+    Other,
+}
+
+/// An `m=` section.
+#[derive(Clone, Debug, Default, PartialEq, Eq)]
+pub struct Media<'a> {
+    /// The number of its `m=` line, from 1.
+    pub line: usize,
+    pub kind: Kind,
+    /// The port of RTP. 0: the section is refused, or bundled with another.
+    pub port: u16,
+    /// Whether its protocol is RTP; else it has no formats.
+    pub is_rtp: bool,
+    /// SRTP, by protocol (RFC 3711, RFC 5764), `a=crypto` or `a=fingerprint`.
+    pub is_encrypted: bool,
+    /// Whether RTCP comes on the port of RTP (RFC 5761).
+    pub has_rtcp_mux: bool,
+    /// `a=ptime`, in microseconds.
+    pub packet_time: Option<u32>,
+    /// Ids of header extensions (RFC 8285).
+    pub extension_ids: ExtensionIds,
+    pub other_ids: OtherIds,
+    /// In the order of the `m=` line.
+    pub formats: Vec<Format<'a>>,
+    /// In the order of their first lines.
+    pub sources: Vec<Source>,
+}
+
+/// What is wrong with a line.
+#[derive(Clone, Copy, Debug, PartialEq, Eq)]
+#[non_exhaustive]
+pub enum ErrorKind {
+    /// Not a letter of RFC 8866, section 5, and `=`.
+    Line,
+    /// `m=` without media, port 0 to 65535, protocol, or formats of RTP.
+    Media,
+    /// A payload type is not a number from 0 to 127.
+    PayloadType,
+    /// Not NAME/RATE or NAME/RATE/CHANNELS, or a number in it is 0.
+    Rtpmap,
+    /// A parameter that is read has no value of its range.
+    Fmtp,
+    /// No id, an id above 255, no URI, or one id for two extensions.
+    Extmap,
+    /// An SSRC is not a number of 32 bits.
+    Ssrc,
+    /// Not a number of milliseconds above 0, at most 100,000.
+    Ptime,
+    /// `a=rtcp-fb` without a type.
+    RtcpFb,
+    /// More than [`MAX_MEDIA`] sections.
+    TooManyMedia,
+    /// More than [`MAX_SOURCES`] SSRCs in a section.
+    TooManySources,
+    /// Out of memory; only with the feature `fallible`.
+    OutOfMemory,
+}
+
+impl fmt::Display for ErrorKind {
+    fn fmt(&self, f: &mut fmt::Formatter<'_>) -> fmt::Result {
+        f.write_str(match self {
+            ErrorKind::Line => "not a line of SDP",
+            ErrorKind::Media => "m= line without media, port, protocol or formats",
+            ErrorKind::PayloadType => "payload type is not 0 to 127",
+            ErrorKind::Rtpmap => "rtpmap is not NAME/RATE or NAME/RATE/CHANNELS",
+            ErrorKind::Fmtp => "fmtp parameter out of range",
+            ErrorKind::Extmap => "extmap without id or URI, or id used twice",
+            ErrorKind::Ssrc => "SSRC is not a number of 32 bits",
+            ErrorKind::Ptime => "ptime is not a time of at most 100000 milliseconds",
+            ErrorKind::RtcpFb => "rtcp-fb without a type",
+            ErrorKind::TooManyMedia => "more than 1024 media sections",
+            ErrorKind::TooManySources => "more than 128 SSRCs in a section",
+            ErrorKind::OutOfMemory => "out of memory",
+        })
+    }
+}
+
+impl From<AllocError> for ErrorKind {
+    fn from(_: AllocError) -> Self {
+        ErrorKind::OutOfMemory
+    }
+}
+
+/// A line at fault.
+#[derive(Clone, Copy, Debug, PartialEq, Eq)]
+pub struct Error {
+    /// From 1.
+    pub line: usize,
+    pub kind: ErrorKind,
+}
+
+impl fmt::Display for Error {
+    fn fmt(&self, f: &mut fmt::Formatter<'_>) -> fmt::Result {
+        write!(f, "line {}: {}", self.line, self.kind)
+    }
+}
+
+impl core::error::Error for Error {}
+
+/// Reads all `m=` sections of a description, in order.
+///
+/// Lines end with LF or CRLF. Attributes that this crate does not need are ignored, as are attributes of a payload type that the
+/// `m=` line does not have.
+///
+/// # Errors
+///
+/// A line is malformed. If several are, the error names one of them.
+pub fn read(text: &str) -> Result<Vec<Media<'_>>, Error> {
+    let mut rest = text;
+    let mut line = 1;
+    let mut session = Media::default();
+    let mut found = Vec::new();
+    if !rest.starts_with("m=") {
+        let (lines, count) = text::section(&mut rest);
+        session = section::read(lines, line)?;
+        line += count;
+    }
+    while !rest.is_empty() {
+        if found.len() == MAX_MEDIA {
+            let kind = ErrorKind::TooManyMedia;
+            return Err(Error { line, kind });
+        }
+        let (lines, count) = text::section(&mut rest);
+        let mut media = section::read(lines, line)?;
+        section::inherit(&mut media, &mut session);
+        found.try_push(media).map_err(|fault| Error {
+            line,
+            kind: fault.into(),
+        })?;
+        line += count;
+    }
+    Ok(found)
+}
+
+impl<'a> Media<'a> {
+    /// Returns the format of a payload type.
+    #[must_use]
+    pub fn format(&self, payload_type: u8) -> Option<&Format<'a>> {
+        self.formats
+            .iter()
+            .find(|format| format.payload_type == payload_type)
+    }
+
+    /// Returns settings of a receiver for media of a payload type, or `None` if the section has no media of it.
+    ///
+    /// - Wait limits: for live audio or video, with retransmission if `a=rtcp-fb` has nack for the payload type.
+    /// - RED: the RED format over the payload type, or one that names no payload type. The step is `a=ptime`, 20 ms by default, in
+    ///   ticks of the RTP clock, 1 to 16,383.
+    /// - If the section has exactly one SSRC of media, it is the SSRC of the stream. If it has retransmissions, and a format of
+    ///   RTX has the payload type as `apt`, they are set too.
+    /// - Types without media: telephone events, comfort noise, error correction. Ids of header extensions.
+    ///
+    /// # Errors
+    ///
+    /// [`AllocError`] if memory runs out; only with the feature `fallible`.
+    pub fn receiver_settings(
+        &self,
+        payload_type: u8,
+    ) -> Result<Option<ReceiverSettings>, AllocError> {
+        let Some(format) = self.format(payload_type) else {
+            return Ok(None);
+        };
+        let Role::Media(spec) = format.role else {
+            return Ok(None);
+        };
+        let limits = match (self.kind, format.feedback.nack) {
+            (Kind::Video, true) => ReceiverSettings::live_video_with_nack,
+            (Kind::Video, false) => ReceiverSettings::live_video,
+            (_, true) => ReceiverSettings::live_audio_with_nack,
+            (_, false) => ReceiverSettings::live_audio,
+        };
+        let mut settings = limits(payload_type, spec.clock_rate);
+        settings.extension_ids = self.extension_ids;
+        settings.red = self.red_over(payload_type).map(|red| RedSettings {
+            payload_type: red.payload_type,
+            step: self.red_step(spec.clock_rate),
+        });
+        if let [source] = self.sources[..] {
+            settings.ssrc = Some(source.ssrc);
+            settings.retransmission = self.retransmission(source, payload_type);
+        }
+        for format in &self.formats {
+            if let Role::TelephoneEvents | Role::ComfortNoise | Role::ErrorCorrection = format.role
+            {
+                settings.no_media.try_push(format.payload_type)?;
+            }
+        }
+        Ok(Some(settings))
+    }
+
+    /// RED over the payload type, or RED that names no payload type.
+    fn red_over(&self, payload_type: u8) -> Option<&Format<'a>> {
+        let red = |over| {
+            self.formats
+                .iter()
+                .find(|format| format.role == Role::Red { over })
+        };
+        red(Some(payload_type)).or_else(|| red(None))
+    }
+
+    /// The packet time in ticks of the RTP clock, within what RED can express (RFC 2198, section 3: 14 bits).
+    fn red_step(&self, clock_rate: Frequency) -> u32 {
+        let time = self.packet_time.unwrap_or(DEFAULT_PACKET_TIME);
+        let step = u64::from(time) * u64::from(clock_rate.get()) / 1_000_000;
+        step.clamp(1, MAX_RED_STEP) as u32
+    }
+
+    fn retransmission(&self, source: Source, payload_type: u8) -> Option<Retransmission> {
+        let of = Some(payload_type);
+        let format = self
+            .formats
+            .iter()
+            .find(|format| format.role == Role::Retransmission { of })?;
+        Some(Retransmission {
+            ssrc: source.retransmission?,
+            payload_type: format.payload_type,
+        })
+    }
+}

@@ -1,0 +1,268 @@
+//! Retransmission: packets by RFC 4588, section 4, requests by the figures of RFC 4585 and RFC 5104, and whole loops of a sender, its
+//! history and a receiver.
+
+use codec_payload::history::*;
+use codec_payload::jitter::WaitLimits;
+use codec_payload::rtcp::{CompoundRule, Nack, RtcpError, pack_numbers};
+use codec_payload::rtp::RtpPacket;
+use codec_payload::sender::{Sample, Sender, SenderSettings};
+use codec_payload::stream::{Receiver, ReceiverSettings, Retransmission};
+use codec_payload::*;
+
+type Fail = Box<dyn std::error::Error>;
+
+const STREAM: RetransmissionStream = RetransmissionStream {
+    ssrc: 0x0708_090a,
+    payload_type: 97,
+    first_number: 0xffff,
+};
+
+/// A packet with the marker, payload type 96, number 0x1234, time 0x01020304, SSRC 0x05060708, a CSRC, an extension of one word, and
+/// four bytes of padding behind the payload "abc".
+const PACKET: [u8; 31] = [
+    0xb1, 0xe0, 0x12, 0x34, 1, 2, 3, 4, 5, 6, 7, 8, 9, 9, 9, 9, 0xbe, 0xde, 0, 1, 0x10, 0x42, 0, 0,
+    b'a', b'b', b'c', 0, 0, 0, 4,
+];
+
+/// Its retransmission: the SSRC, the payload type and the number are those of the stream of retransmissions; all other fields are the
+/// packet's; the number 0x1234 is in front of the payload; the padding is gone.
+const AGAIN: [u8; 29] = [
+    0x91, 0xe1, 0xff, 0xff, 1, 2, 3, 4, 7, 8, 9, 10, 9, 9, 9, 9, 0xbe, 0xde, 0, 1, 0x10, 0x42, 0,
+    0, 0x12, 0x34, b'a', b'b', b'c',
+];
+
+fn history(limit: usize, interval: u64, stream: Option<RetransmissionStream>) -> History {
+    History::new(HistorySettings {
+        limit,
+        interval,
+        stream,
+    })
+    .unwrap()
+}
+
+/// The smallest packet with that number.
+fn packet(number: u16) -> [u8; 12] {
+    let [high, low] = number.to_be_bytes();
+    [0x80, 96, high, low, 0, 0, 0, 0, 0, 0, 0, 7]
+}
+
+#[test]
+fn a_retransmission_by_the_standard() -> Result<(), Fail> {
+    let mut history = history(10, 0, Some(STREAM));
+    history.keep(&PACKET)?;
+    let mut out = b"what was there".to_vec();
+    assert_eq!(history.resend(Ticks(0), 0x1234, &mut out)?, Resent::Written);
+    assert_eq!(out, AGAIN);
+    // The next one has the next number, which wraps.
+    assert_eq!(history.resend(Ticks(0), 0x1234, &mut out)?, Resent::Written);
+    assert_eq!(RtpPacket::parse(&out)?.header.sequence_number, 0);
+    Ok(())
+}
+
+#[test]
+fn a_packet_as_it_was() -> Result<(), Fail> {
+    let mut history = history(10, 0, None);
+    history.keep(&PACKET)?;
+    let mut out = Vec::new();
+    assert_eq!(history.resend(Ticks(0), 0x1234, &mut out)?, Resent::Written);
+    assert_eq!(out, PACKET);
+    Ok(())
+}
+
+#[test]
+fn the_last_packets_are_kept() -> Result<(), Fail> {
+    let mut history = history(3, 0, None);
+    let mut out = Vec::new();
+    assert_eq!(history.resend(Ticks(0), 0, &mut out)?, Resent::NotKept);
+    for number in 65_533..65_540_u32 {
+        history.keep(&packet(number as u16))?;
+    }
+    let kept = |history: &mut History, number: u16| {
+        let mut out = Vec::new();
+        history
+            .resend(Ticks(0), number, &mut out)
+            .map(|it| (it, out))
+    };
+    for number in 1..=3 {
+        assert_eq!(
+            kept(&mut history, number)?,
+            (Resent::Written, packet(number).to_vec())
+        );
+    }
+    for number in [0, 4, 65_535, 32_770] {
+        assert_eq!(kept(&mut history, number)?, (Resent::NotKept, vec![]));
+    }
+    // A number that does not follow begins the history again.
+    history.keep(&packet(9))?;
+    assert_eq!(history.len(), 1);
+    assert_eq!(kept(&mut history, 3)?.0, Resent::NotKept);
+    assert_eq!(kept(&mut history, 9)?.0, Resent::Written);
+    Ok(())
+}
+
+#[test]
+fn not_again_within_the_interval() -> Result<(), Fail> {
+    let mut history = history(3, 100, None);
+    history.keep(&packet(7))?;
+    let mut out = Vec::new();
+    for (now, resent) in [
+        (50, Resent::Written),
+        (149, Resent::TooSoon),
+        (150, Resent::Written),
+        (249, Resent::TooSoon),
+        // A clock that goes back does not count.
+        (0, Resent::TooSoon),
+        (250, Resent::Written),
+    ] {
+        assert_eq!(history.resend(Ticks(now), 7, &mut out)?, resent, "{now}");
+    }
+    Ok(())
+}
+
+#[test]
+fn settings_and_faults() {
+    let new = |limit, stream| {
+        History::new(HistorySettings {
+            limit,
+            interval: 0,
+            stream,
+        })
+        .map(|_| ())
+    };
+    let above = Some(RetransmissionStream {
+        payload_type: 128,
+        ..STREAM
+    });
+    assert_eq!(new(0, above), Err(HistoryError::Limit));
+    assert_eq!(new(32_769, None), Err(HistoryError::Limit));
+    assert_eq!(new(32_768, above), Err(HistoryError::PayloadType));
+    assert_eq!(new(1, Some(STREAM)), Ok(()));
+    let mut history = history(1, 0, None);
+    history.keep(&packet(1)).unwrap();
+    assert!(matches!(history.keep(&[0x80; 11]), Err(KeepError::Rtp(_))));
+    assert_eq!(history.len(), 1);
+}
+
+fn requests(ssrc: u32, bytes: &[u8]) -> Result<Vec<Request>, RtcpError> {
+    Ok(read_requests(CompoundRule::ReducedSize, ssrc, bytes)?.collect())
+}
+
+/// An empty receiver report; a NACK for source 7 with PID 0xfffe and the bits of the second and the last number after it, and PID 5
+/// alone; a PLI for source 7; a FIR for sources 8 and 7; a NACK and a PLI for source 8.
+const FEEDBACK: [u8; 100] = [
+    0x80, 201, 0, 1, 0, 0, 0, 1, // RR
+    0x81, 205, 0, 4, 0, 0, 0, 1, 0, 0, 0, 7, 0xff, 0xfe, 0x80, 0x02, 0, 5, 0, 0, // NACK
+    0x81, 206, 0, 2, 0, 0, 0, 1, 0, 0, 0, 7, // PLI
+    0x84, 206, 0, 6, 0, 0, 0, 1, 0, 0, 0, 0, 0, 0, 0, 8, 3, 0, 0, 0, 0, 0, 0, 7, 4, 0, 0,
+    0, // FIR
+    0x81, 205, 0, 3, 0, 0, 0, 1, 0, 0, 0, 8, 0, 1, 0, 0, // NACK
+    0x81, 206, 0, 2, 0, 0, 0, 1, 0, 0, 0, 8, // PLI
+    0x80, 203, 0, 0, // BYE of nobody
+];
+
+#[test]
+fn requests_by_the_standards() {
+    use Request::{Keyframe, Packet};
+    assert_eq!(
+        requests(7, &FEEDBACK),
+        Ok(vec![
+            Packet(0xfffe),
+            Packet(0),
+            Packet(14),
+            Packet(5),
+            Keyframe,
+            Keyframe
+        ])
+    );
+    assert_eq!(
+        requests(8, &FEEDBACK),
+        Ok(vec![Keyframe, Packet(1), Keyframe])
+    );
+    assert_eq!(requests(9, &FEEDBACK), Ok(vec![]));
+    // A packet with a fault anywhere requests nothing.
+    assert_eq!(requests(7, &FEEDBACK[..99]), Err(RtcpError::HeaderTooShort));
+    assert_eq!(
+        read_requests(CompoundRule::Full, 7, &FEEDBACK[8..]).map(|_| ()),
+        Err(RtcpError::FirstNotReport)
+    );
+}
+
+fn nack(numbers: &[u16]) -> Result<Vec<u8>, Fail> {
+    let (mut pairs, mut packet) = (Vec::new(), Vec::new());
+    pack_numbers(numbers, &mut pairs)?;
+    Nack {
+        sender_ssrc: 1,
+        media_ssrc: 7,
+        pairs: &pairs,
+    }
+    .write(&mut packet)?;
+    Ok(packet)
+}
+
+/// Sends 200 frames of VP8 of which every fifth packet is lost, and answers the receiver's NACKs.
+fn all_frames_arrive(stream: Option<RetransmissionStream>) -> Result<(), Fail> {
+    let packetizer = CodecPacketizer::from_codec(Codec::Vp8).unwrap();
+    let mut settings = SenderSettings::for_stream(96, 7, Frequency::NINETY_KHZ);
+    settings.first_number = 65_500;
+    let mut sender: Sender = Sender::new(packetizer, settings)?;
+    let mut history = history(64, 0, stream);
+    let mut settings = ReceiverSettings::for_stream(96, Frequency::NINETY_KHZ);
+    settings.ssrc = Some(7);
+    settings.wait_limits = WaitLimits::for_round_trip(40);
+    settings.retransmission = stream.map(|it| Retransmission {
+        ssrc: it.ssrc,
+        payload_type: it.payload_type,
+    });
+    let depacketizer = CodecDepacketizer::from_codec(Codec::Vp8).unwrap();
+    let mut receiver: Receiver = Receiver::new(depacketizer, settings)?;
+    let (mut frames, mut count, mut again) = (0_u8, 0, Vec::new());
+    for frame in 0..200_u8 {
+        let now = Ticks(u64::from(frame) * 33);
+        sender.send(&Sample {
+            rtp_time: MediaTime::from_90khz(u64::from(frame) * 3_000),
+            bytes: &[frame; 3_000],
+            start_of_talk_spurt: false,
+            ext_vals: ExtensionValues::default(),
+        })?;
+        for datagram in sender.datagrams() {
+            history.keep(datagram)?;
+            count += 1;
+            if count % 5 != 3 {
+                receiver.receive(now, datagram)?;
+            }
+        }
+        let missing: Vec<u16> = receiver.missing(64).map(|number| number as u16).collect();
+        if !missing.is_empty() {
+            let nack = nack(&missing)?;
+            for request in read_requests(CompoundRule::ReducedSize, 7, &nack)? {
+                let Request::Packet(number) = request else {
+                    return Err("a NACK requests packets".into());
+                };
+                assert_eq!(history.resend(now, number, &mut again)?, Resent::Written);
+                receiver.receive(now, &again)?;
+            }
+        }
+        while let Some(unit) = receiver.pop(now) {
+            assert_eq!(unit?.bytes, [frames; 3_000]);
+            frames += 1;
+        }
+    }
+    receiver.finish();
+    while let Some(unit) = receiver.pop(Ticks(0)) {
+        assert_eq!(unit?.bytes, [frames; 3_000]);
+        frames += 1;
+    }
+    assert_eq!(frames, 200);
+    assert!(receiver.counters().packets.retransmitted >= 100 || stream.is_none());
+    Ok(())
+}
+
+#[test]
+fn lost_packets_are_resent_as_they_were() -> Result<(), Fail> {
+    all_frames_arrive(None)
+}
+
+#[test]
+fn lost_packets_are_resent_in_a_stream_of_their_own() -> Result<(), Fail> {
+    all_frames_arrive(Some(STREAM))
+}

@@ -1,0 +1,213 @@
+//! A description as text: what `c/descriptions.c` prints of it.
+
+use codec_payload::Codec;
+use codec_payload::sdp::{self, Format, Kind, Media, Role};
+use codec_payload::stream::Receiver;
+use codec_payload::{CodecDepacketizer, CodecSpec};
+use std::fmt::Write;
+
+/// The number of a codec in the library for C.
+fn number(codec: Codec) -> u32 {
+    match codec {
+        Codec::Opus => 0,
+        Codec::PCMU => 1,
+        Codec::PCMA => 2,
+        Codec::G722 => 3,
+        Codec::AmrWb => 5,
+        Codec::Vp8 => 9,
+        Codec::Vp9 => 10,
+        Codec::Av1 => 11,
+        _ => 12,
+    }
+}
+
+fn of(payload_type: Option<u8>) -> String {
+    payload_type.map_or(String::new(), |it| format!(" of {it}"))
+}
+
+fn role(format: &Format<'_>) -> String {
+    match format.role {
+        Role::Media(spec) => format!("media {}", number(spec.codec)),
+        Role::Red { over } => format!("RED{}", of(over)),
+        Role::Retransmission { of: media } => format!("retransmission{}", of(media)),
+        Role::TelephoneEvents => "events".into(),
+        Role::ComfortNoise => "comfort noise".into(),
+        Role::ErrorCorrection => "FEC".into(),
+        _ => "ignored".into(),
+    }
+}
+
+fn add_format(out: &mut String, format: &Format<'_>) -> std::fmt::Result {
+    let rate = format.clock_rate.map_or(0, |rate| rate.get());
+    // In C a name is cut after 31 bytes, and ends before a 0.
+    let name: String = format
+        .name
+        .chars()
+        .take_while(|&it| it != '\0')
+        .take(31)
+        .collect();
+    write!(
+        out,
+        "{} {name}/{rate}/{}: {}",
+        format.payload_type,
+        format.channels,
+        role(format)
+    )?;
+    if format.profile > 0 {
+        write!(out, " profile {}", format.profile)?;
+    }
+    let feedback = format.feedback;
+    let is_octet_aligned = matches!(
+        format.role,
+        Role::Media(CodecSpec {
+            octet_align: true,
+            ..
+        })
+    );
+    for (is_set, name) in [
+        (is_octet_aligned, "octet-align"),
+        (feedback.nack, "nack"),
+        (feedback.pli, "pli"),
+        (feedback.fir, "fir"),
+        (feedback.transport_cc, "transport-cc"),
+        (feedback.remb, "remb"),
+    ] {
+        if is_set {
+            write!(out, " {name}")?;
+        }
+    }
+    writeln!(out)
+}
+
+fn add_ids(out: &mut String, media: &Media<'_>) -> std::fmt::Result {
+    let (known, other) = (&media.extension_ids, &media.other_ids);
+    write!(out, "ids:")?;
+    for (name, id) in [
+        ("capture-time", known.abs_capture_time),
+        ("orientation", known.video_orientation),
+        ("content-type", known.video_content_type),
+        ("timing", known.video_timing),
+        ("layers", known.layers_allocation),
+        ("level", known.audio_level),
+        ("mid", other.mid),
+        ("rid", other.rid),
+        ("repaired-rid", other.repaired_rid),
+        ("transport-cc", other.transport_cc),
+        ("send-time", other.send_time),
+        ("toffset", other.transmission_offset),
+    ] {
+        if let Some(id) = id {
+            write!(out, " {name} {id}")?;
+        }
+    }
+    writeln!(out)
+}
+
+/// The settings of a receiver for media, which must be those of a receiver.
+fn add_receiver(out: &mut String, media: &Media<'_>, format: &Format<'_>) -> std::fmt::Result {
+    let Role::Media(spec) = format.role else {
+        return Ok(());
+    };
+    let settings = media
+        .receiver_settings(format.payload_type)
+        .unwrap()
+        .unwrap();
+    let wait = settings.wait_limits.max_wait.unwrap();
+    write!(out, "receiver of {}: wait {wait}", format.payload_type)?;
+    if let Some(red) = &settings.red {
+        write!(out, ", RED {} step {}", red.payload_type, red.step)?;
+    }
+    if let Some(ssrc) = settings.ssrc {
+        write!(out, ", SSRC {ssrc}")?;
+    }
+    if let Some(rtx) = &settings.retransmission {
+        write!(out, ", RTX {} SSRC {}", rtx.payload_type, rtx.ssrc)?;
+    }
+    if !settings.no_media.is_empty() {
+        write!(out, ", no media in")?;
+    }
+    for payload_type in &settings.no_media {
+        write!(out, " {payload_type}")?;
+    }
+    let depacketizer: CodecDepacketizer = CodecDepacketizer::from_codec(spec.codec).unwrap();
+    Receiver::new(depacketizer, settings).unwrap();
+    writeln!(out)
+}
+
+fn add_media(out: &mut String, media: &Media<'_>) -> std::fmt::Result {
+    let kind = match media.kind {
+        Kind::Audio => "audio",
+        Kind::Video => "video",
+        Kind::Other => "other",
+    };
+    write!(out, "line {}: {kind}, port {}", media.line, media.port)?;
+    for (is_set, name) in [
+        (!media.is_rtp, "not RTP"),
+        (media.is_encrypted, "encrypted"),
+        (media.has_rtcp_mux, "rtcp-mux"),
+    ] {
+        if is_set {
+            write!(out, ", {name}")?;
+        }
+    }
+    if let Some(time) = media.packet_time {
+        write!(out, ", ptime {time}")?;
+    }
+    writeln!(out)?;
+    for format in &media.formats {
+        add_format(out, format)?;
+    }
+    add_ids(out, media)?;
+    for source in &media.sources {
+        write!(out, "SSRC {}", source.ssrc)?;
+        if let Some(rtx) = source.retransmission {
+            write!(out, " RTX {rtx}")?;
+        }
+        writeln!(out)?;
+    }
+    for format in &media.formats {
+        add_receiver(out, media, format)?;
+    }
+    Ok(())
+}
+
+/// What was read of a description, or the fault.
+pub fn dump(text: &str) -> String {
+    let mut out = String::new();
+    match sdp::read(text) {
+        Ok(found) => {
+            for media in &found {
+                add_media(&mut out, media).unwrap();
+            }
+        }
+        Err(fault) => writeln!(out, "{fault}").unwrap(),
+    }
+    out
+}
+
+fn drawn(seed: &mut u32, below: usize) -> usize {
+    *seed = seed.wrapping_mul(1_664_525).wrapping_add(1_013_904_223);
+    (*seed >> 8) as usize % below
+}
+
+/// Copies a description with one to eight changes: those of `c/descriptions.c`.
+pub fn changed(given: &str, mut seed: u32) -> String {
+    const BYTES: &[u8] = b"0123456789:/;= *\n\ram\t-";
+    let mut bytes = given.as_bytes().to_vec();
+    for _ in 0..=drawn(&mut seed, 8) {
+        let size = bytes.len();
+        if size <= 64 {
+            break;
+        }
+        let at = drawn(&mut seed, size - 40);
+        let length = 1 + drawn(&mut seed, 32);
+        let from = drawn(&mut seed, size - 40);
+        match drawn(&mut seed, 4) {
+            0 => bytes[at] = BYTES[drawn(&mut seed, BYTES.len())],
+            1 => bytes[at] = drawn(&mut seed, 128) as u8,
+            2 => drop(bytes.drain(at..at + length)),
+            _ => bytes.copy_within(from..from + length, at),
+        }
+    }
+    String::from_utf8(bytes).unwrap()
+}
