@@ -1,6 +1,7 @@
-/** @file codec_payload: calls that read payloads and frames, for C and C++: VP8 descriptors, reports on telephone events,
- * keyframes, the first and last packets of units, and headers of frames. codec_payload.h includes this file; its rules for all
- * calls apply here. No call here allocates. */
+/** @file
+ * codec_payload: calls that read payloads and frames, for C and C++: VP8 descriptors, reports on telephone events, keyframes,
+ * the first and last packets of units, and headers of frames. codec_payload.h includes this file; its rules for all calls
+ * apply here. No call here allocates. */
 #ifndef CODEC_PAYLOAD_MEDIA_H
 #define CODEC_PAYLOAD_MEDIA_H
 

@@ -10,6 +10,7 @@
   over_a_copy        time over that of a copy, a dot a case, by the tables of docs/PERFORMANCE.md
   beside             time over that of str0m, by a table of docs/PERFORMANCE.md, and the recorder beside GStreamer, by its README
   receiver_life      a receiver from its first packet to its end: what arrives, what it reports, what the caller does
+  session_life       a session with two senders: what arrives, the stages of its streams, what polls return, what the caller does
   copies             where the bytes of a frame are copied
   descriptors        the bytes in front of a frame's: VP8, VP9, AV1 and RED, by their RFCs
 
@@ -402,7 +403,44 @@ def receiver_life():
     keep("receiver_life", figure)
 
 
-PICTURES = {it.__name__: it for it in (units_under_loss, crates, over_a_copy, beside, receiver_life, copies, descriptors)}
+# The life of a session: the moment, the datagrams with their colours, the stages of the streams A and B, the events, the caller's part.
+MOMENTS = (
+    ("first packet", (("A 7", BLUE),), ("probation", ""), "none: A may be\na stray packet", "receive, then poll\nuntil None"),
+    ("second packet", (("A 8", BLUE),), ("playing", ""), "Begun A,\nUnits A 7, A 8", "make a decoder\nfor A"),
+    ("another sender", (("B 40", ORANGE), ("B 41", ORANGE)), ("playing", "playing"), "Begun B,\nUnits B 40, B 41", "make a decoder\nfor B"),
+    ("A leaves", (("BYE A", RED), ("A 9", BLUE)), ("leaving", "playing"), "Unit A 9: packets\nmay come after BYE", "poll at\nnext_deadline"),
+    ("200 ms later", (), ("ended", "playing"), "the last units of A,\nEnded A", "drop the decoder\nof A"),
+    ("30 s without B", (), ("", "ended"), "Ended B", "drop the decoder\nof B"),
+    ("the end", (), ("", ""), "for each stream left:\nits units, Ended", "finish, then poll\nuntil None"),
+)
+
+
+def session_life():
+    pyplot = plotting()
+    figure, axes = bare(pyplot, 124, 31)
+    rows = ((2.4, ""), (8, "arrives"), (13.6, "stream A"), (17.6, "stream B"), (23, "polls give"), (28, "you"))
+    for top, title in rows:
+        axes.text(1, top, title, va="center", weight="bold")
+    for place, (name, datagrams, stages, events, calls) in enumerate(MOMENTS):
+        left = 13 + 16 * place
+        box(axes, left, 0.8, 13.4, 3.2, name, weight="bold", fontsize=10)
+        if place + 1 < len(MOMENTS):
+            arrow(axes, left + 13.7, left + 15.7, 2.4)
+        for number, (datagram, color) in enumerate(datagrams):
+            box(axes, left + 6.9 * number, 6.4, 6.4, 3.2, datagram, color=color, fontsize=9)
+        for top, stage, color in ((13.6, stages[0], BLUE), (17.6, stages[1], ORANGE)):
+            if stage:
+                box(axes, left, top - 1.5, 13.4, 3, stage, color=FAINT if stage == "ended" else color, fontsize=9)
+        for top, text in ((23, events), (28, calls)):
+            axes.text(left, top, text, va="center", fontsize=9)
+    for height in (11.2, 20.2):
+        axes.plot([1, 123], [height, height], color=FAINT, linewidth=0.8)
+    keep("session_life", figure)
+
+
+PICTURES = {
+    it.__name__: it for it in (units_under_loss, crates, over_a_copy, beside, receiver_life, session_life, copies, descriptors)
+}
 
 
 def main(words):

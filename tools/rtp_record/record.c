@@ -15,12 +15,11 @@ enum {
     MOST_HELD = 4 << 20, /* bytes of frames before the first keyframe, which has the size of the picture */
 };
 
-/* A frame before the first keyframe, in a list. */
+/* A video frame before the first keyframe, in a list. */
 typedef struct held {
     struct held *next;
     int64_t time;
     uint64_t received;
-    unit_facts facts;
     size_t size;
     uint8_t bytes[];
 } held;
@@ -42,7 +41,7 @@ struct record {
     int64_t last_time;
     int64_t last_duration;
     bool begun;
-    bool lacking; /* a frame is missing since the latest keyframe, so a decoder cannot show the next delta frame */
+    bool broken; /* a malformed frame of video was left out since the latest keyframe */
     bool failed;
 };
 
@@ -99,12 +98,10 @@ record *record_open(const record_stream *stream, writer *file, size_t track, con
     return NULL;
 }
 
-/* Whether a decoder can show a frame: a keyframe, or a frame that follows one that it can show. Also frames that lack their lower
- * layers do not follow. */
-static bool is_decodable(record *it, const unit_facts *facts, bool follows) {
-    if (facts->keyframe) it->lacking = false;
-    else if (!follows || !it->begun) it->lacking = true;
-    return !facts->video || !it->lacking;
+/* Whether a decoder can show a unit. The library reports it, but counts malformed frames as frames, and these are left out here. */
+static bool is_decodable(record *it, const cpay_unit *unit) {
+    if (unit->keyframe) it->broken = false;
+    return unit->decodable && !it->broken;
 }
 
 /* Whether a frame is left out, which is counted: before the first keyframe, and if a decoder cannot show it. */
@@ -133,33 +130,25 @@ static bool begin(record *it, const unit_facts *facts, uint64_t received, size_t
     return it->begun || fail(it, "the file has no track for it");
 }
 
-static bool put(record *it, int64_t time, int64_t duration, const unit_facts *facts, unit_part part) {
-    writer_frame frame = {
-        .time = time,
-        .duration = duration,
-        .keyframe = !facts->video || facts->keyframe,
-        .damaged = facts->video && it->lacking,
-        .bytes = part.bytes,
-        .size = part.size,
-    };
-    if (!writer_write(it->file, it->track, &frame)) return fail(it, "the file cannot be written any more");
+static bool put(record *it, const writer_frame *frame) {
+    if (!writer_write(it->file, it->track, frame)) return fail(it, "the file cannot be written any more");
     it->totals.frames++;
-    it->totals.damaged += frame.damaged;
-    it->totals.bytes += part.size;
-    it->totals.seconds = (double)(time + duration) / it->stream.use.rate;
-    it->last_time = time;
-    it->last_duration = duration;
+    it->totals.damaged += frame->damaged;
+    it->totals.bytes += frame->size;
+    it->totals.seconds = (double)(frame->time + frame->duration) / it->stream.use.rate;
+    it->last_time = frame->time;
+    it->last_duration = frame->duration;
     return true;
 }
 
 /* Keeps a frame until the first keyframe. If too many bytes wait, the frame is left out. */
-static bool hold(record *it, int64_t time, const unit_facts *facts, const cpay_unit *unit) {
+static bool hold(record *it, int64_t time, const cpay_unit *unit) {
     held *one = it->held_bytes + unit->bytes <= MOST_HELD ? malloc(sizeof *one + unit->bytes) : NULL;
     if (!one) {
         it->totals.skipped++;
         return true;
     }
-    *one = (held){.time = time, .received = unit->received, .facts = *facts, .size = unit->bytes};
+    *one = (held){.time = time, .received = unit->received, .size = unit->bytes};
     memcpy(one->bytes, it->bytes, unit->bytes);
     *it->end_held = one;
     it->end_held = &one->next;
@@ -179,53 +168,61 @@ static void drop_held(record *it) {
 
 /* Writes the frames before the first keyframe, as damaged ones. */
 static bool put_held(record *it) {
-    it->lacking = true;
-    for (const held *one = it->first_held; one; one = one->next)
-        if (!put(it, one->time, one->facts.duration, &one->facts, (unit_part){one->bytes, one->size})) return false;
-    it->lacking = false;
+    for (const held *one = it->first_held; one; one = one->next) {
+        writer_frame frame = {.time = one->time, .damaged = true, .bytes = one->bytes, .size = one->size};
+        if (!put(it, &frame)) return false;
+    }
     drop_held(it);
     return true;
 }
 
 /* Replaces lost frames by silence, if the codec has a frame for it. */
-static bool fill_gap(record *it, int64_t until, const unit_facts *facts) {
+static bool fill_gap(record *it, int64_t until) {
     unit_part part;
     int64_t duration = 0;
     if (!it->options.fill || it->totals.frames == 0 || !unit_silence(&it->stream.use, &part, &duration)) return true;
     for (int64_t time = it->last_time + it->last_duration; time + duration <= until; time += duration) {
         if (until - time > 60 * (int64_t)it->stream.use.rate) break; /* no gap, but a time that has jumped */
-        if (!put(it, time, duration, facts, part)) return false;
+        writer_frame frame = {.time = time, .duration = duration, .keyframe = true, .bytes = part.bytes, .size = part.size};
+        if (!put(it, &frame)) return false;
         it->totals.filled++;
     }
     return true;
 }
 
-/* A unit becomes frames of the track: one, but of AMR-WB as many as it has. */
+/* Writes a unit as frames of the track: one, or for AMR-WB each frame of the unit. */
+static bool put_unit(record *it, int64_t time, const cpay_unit *unit, bool damaged) {
+    unit_parts parts;
+    unit_split(&parts, &it->stream.use, it->bytes, unit->bytes);
+    for (unit_part part; unit_next(&parts, &part);) {
+        writer_frame frame = {.time = time, .duration = parts.duration, .damaged = damaged, .bytes = part.bytes, .size = part.size};
+        frame.keyframe = unit->keyframe || it->stream.use.codec->kind != CODEC_VIDEO;
+        if (!put(it, &frame)) return false;
+        time += parts.duration;
+    }
+    return true;
+}
+
+/* Writes a unit, unless it is left out or has to wait for the first keyframe. */
 static bool take_unit(record *it, const cpay_unit *unit) {
     unit_facts facts;
     if (!unit_look(&it->stream.use, it->bytes, unit->bytes, &facts)) {
         it->totals.refused++;
-        it->lacking = true;
+        it->broken = facts.video;
         return true;
     }
     bool follows = unit->contiguous && it->totals.frames + it->totals.skipped > 0;
     if (!follows && it->begun) it->totals.gaps++;
-    bool decodable = is_decodable(it, &facts, follows);
+    bool decodable = is_decodable(it, unit);
     bool holds = it->options.all && !it->begun && !decodable;
     if (!holds && is_left_out(it, decodable)) return true;
     int64_t time = timeline_at(&it->times, unit->rtp_time, unit->received), began;
-    if (holds) return hold(it, time, &facts, unit);
+    if (holds) return hold(it, time, unit);
     uint64_t first = it->first_held ? it->first_held->received : unit->received;
     if (!it->begun && !(begin(it, &facts, first, unit->bytes) && put_held(it))) return false;
     if (timeline_began(&it->times, &began)) writer_synchronize(it->file, it->track, began);
-    if (!follows && !fill_gap(it, time, &facts)) return false;
-    unit_parts parts;
-    unit_split(&parts, &it->stream.use, it->bytes, unit->bytes);
-    for (unit_part part; unit_next(&parts, &part);) {
-        if (!put(it, time, parts.duration, &facts, part)) return false;
-        time += parts.duration;
-    }
-    return true;
+    if (!follows && !fill_gap(it, time)) return false;
+    return put_unit(it, time, unit, !decodable);
 }
 
 /* Takes all units that are due. */
@@ -244,7 +241,6 @@ static bool take_units(record *it, uint64_t now) {
             if (!take_unit(it, &unit)) return false;
         } else {
             it->totals.refused++;
-            it->lacking = true;
         }
     }
     return false;

@@ -9,7 +9,6 @@ bool unit_look(const codec_use *use, const uint8_t *bytes, size_t size, unit_fac
     cpay_frame_facts found = {0};
     *facts = (unit_facts){.video = use->codec->kind == CODEC_VIDEO};
     if (cpay_frame_info(use->codec->library, bytes, size, &found) != CPAY_OK) return false;
-    facts->keyframe = found.has_keyframe && found.keyframe;
     if (found.has_size) {
         facts->width = found.width;
         facts->height = found.height;

@@ -1,4 +1,4 @@
-/* Facts about units of a codec: keyframes, sizes, durations, the frames in them, and the configuration for containers. */
+/* Facts about units of a codec: sizes, durations, the frames in them, and the configuration for containers. */
 #ifndef RTP_RECORD_UNIT_H
 #define RTP_RECORD_UNIT_H
 
@@ -11,7 +11,6 @@ enum { UNIT_CONFIGURATION = 512 }; /* the most bytes of a configuration */
 
 typedef struct {
     bool video;
-    bool keyframe;
     uint32_t width; /* in pixels, 0 if the frame does not have them */
     uint32_t height;
     int64_t duration; /* of audio, in ticks of the RTP clock */

@@ -155,6 +155,24 @@ def undecodable(folder):
         check(found["damaged"] == len(written) - len(shown) and found["undecodable"] == 0, f"{name}: --keep-undecodable: {found}")
 
 
+def malformed(folder):
+    """A VP8 frame whose first partition is longer than the frame (RFC 6386, section 9.1) is left out like a lost frame."""
+    stream = STREAMS["vp8"]
+    packets = stream.packets()
+    units, place = stream.units(packets), 5
+    places = units[place][0]
+    packet = packets[places[0]]
+    frame = len(packet.payload) - len(packet.media) + 4  # after ffmpeg's descriptor: 15 bits of PictureID
+    tag = bytes([packet.payload[frame] | 0xE0, 0xFF, 0xFF])
+    payload = packet.payload[:frame] + tag + packet.payload[frame + 3 :]
+    packets[places[0]] = replace(packet, payload=payload)
+    found = run(*stream.words, source_of(stream, folder, packets), "-o", f"{folder}/m.webm")["streams"][0]
+    wanted = stream.wanted(stream.packets(), set(range(len(packets))) - set(places))
+    left_out = min(key for key in stream.keyframes() if key > place) - place - 1
+    check(md5s_in(f"{folder}/m.webm") == wanted and len(wanted) == len(units) - 1 - left_out, "malformed: frames up to the next keyframe")
+    check((found["refused"], found["undecodable"]) == (1, left_out), f"malformed: counted: {found}")
+
+
 def layers(folder):
     """Without the first packet of a picture with spatial layers, the rest of the picture is not written as a frame."""
     for name in ("chromium-layers video", "chromium-av1-layers video"):
@@ -242,7 +260,7 @@ def guesses(folder):
 
 def main():
     with tempfile.TemporaryDirectory() as folder:
-        for test in [named_files, two_flows, reports, call, keyframe_lost, undecodable, layers, fill, red, keys, guesses]:
+        for test in [named_files, two_flows, reports, call, keyframe_lost, undecodable, malformed, layers, fill, red, keys, guesses]:
             test(folder)
     return status_of_checks()
 
