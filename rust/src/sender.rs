@@ -12,40 +12,40 @@ use crate::wire::{ExtensionValues, Frequency, MediaTime};
 use alloc::vec::Vec;
 use core::fmt;
 
-/// The most bytes of a header: 12, and an extension of 304 with each value that there is.
+/// The highest number of bytes of a header: 12, and 304 for an extension with all values.
 pub const HEADROOM: usize = 316;
 
-/// What a sender is made of.
+/// The settings of a sender.
 #[derive(Clone, Copy, Debug)]
 pub struct SenderSettings {
     /// The synchronization source: any number, chosen at random (RFC 3550, section 8).
     pub ssrc: u32,
     /// The payload type, 0 to 127.
     pub payload_type: u8,
-    /// The sequence number of the first packet (RFC 3550, section 5.1: at random).
+    /// The sequence number of the first packet: any number, chosen at random (RFC 3550, section 5.1).
     pub first_number: u16,
     /// The rate of the RTP clock.
     pub clock_rate: Frequency,
-    /// The most bytes of a payload, as packetizers have it. The header, of 12 bytes and at most 304 of an extension, and the tag
-    /// come on top.
+    /// The highest number of bytes of a payload. A datagram also has a header of 12 to 316 bytes, and the tag that you write after
+    /// the payload.
     pub mtu: usize,
-    /// How many bytes are kept free behind each datagram, for a tag (RFC 3711, section 3.1): 0 to 65,535.
+    /// The number of free bytes after each datagram, for a tag (RFC 3711, section 3.1): 0 to 65,535.
     pub tailroom: usize,
     /// The ids of header extensions. Values without an id are not sent.
     pub extension_ids: ExtensionIds,
 }
 
-/// Why a sender is not made.
+/// Why a sender was not made.
 #[derive(Clone, Copy, Debug, PartialEq, Eq)]
 #[non_exhaustive]
 pub enum SenderError {
     /// The payload type is above 127.
     PayloadType,
-    /// More than 65,535 bytes are to be free behind each datagram.
+    /// The tailroom is above 65,535 bytes.
     Tailroom,
-    /// An id of a header extension is 0, or two are the same.
+    /// The id of a header extension is 0, or two ids are equal.
     ExtensionIds,
-    /// Memory is wanting.
+    /// Out of memory.
     OutOfMemory,
 }
 
@@ -62,35 +62,36 @@ impl fmt::Display for SenderError {
 
 impl core::error::Error for SenderError {}
 
-/// What is sent at once: a media frame with its time.
+/// A media frame with its time, for one call of [`Sender::send`].
 #[derive(Clone, Copy, Debug)]
 pub struct Sample<'a> {
+    /// The time of the frame, by any clock rate.
     pub rtp_time: MediaTime,
-    /// The media frame.
+    /// The bytes of the frame.
     pub bytes: &'a [u8],
     /// Whether the sample is the first after a silence.
     pub start_of_talk_spurt: bool,
-    /// Which of them go on which packet, [`ExtensionValues::for_packet`] says.
+    /// The values of header extensions. [`ExtensionValues::for_packet`] says which packets carry a value.
     pub ext_vals: ExtensionValues,
 }
 
-/// What sender reports tell (RFC 3550, section 6.4.1).
+/// The counts of a sender report (RFC 3550, section 6.4.1).
 #[derive(Clone, Copy, Debug, PartialEq, Eq)]
 pub struct Counts {
-    /// How many packets were sent, modulo 2^32.
+    /// The number of sent packets, modulo 2^32.
     pub packets: u32,
-    /// How many bytes of payload, modulo 2^32.
+    /// The number of payload bytes, modulo 2^32.
     pub octets: u32,
-    /// The RTP time of the sample that was sent last.
+    /// The RTP time of the last sample, or `None` before the first.
     pub rtp_time: Option<u32>,
 }
 
-/// The fields of a sender report (RFC 3550, section 6.4.1), except its NTP time, which the caller's clock has.
+/// The fields of a sender report (RFC 3550, section 6.4.1), except the NTP time, which your clock has.
 #[derive(Clone, Copy, Debug, PartialEq, Eq)]
 pub struct Report {
     /// The SSRC of the sender.
     pub ssrc: u32,
-    /// The RTP time of the moment that was given.
+    /// The RTP time of the moment of the report.
     pub rtp_time: u32,
     /// The sender's packet count, modulo 2^32.
     pub packets: u32,
@@ -98,7 +99,7 @@ pub struct Report {
     pub octets: u32,
 }
 
-/// What the packets of a stream share, and the number of the next.
+/// The header fields that all packets of a stream share, and the number of the next packet.
 #[derive(Clone, Copy, Debug)]
 pub(crate) struct Stream {
     ssrc: u32,
@@ -108,7 +109,7 @@ pub(crate) struct Stream {
     number: u16,
 }
 
-/// What each packet has of its own.
+/// The header fields of one packet.
 #[derive(Clone, Copy, Debug)]
 pub(crate) struct Fields {
     marker: bool,
@@ -116,7 +117,7 @@ pub(crate) struct Fields {
     time: u32,
 }
 
-/// The payloads with their headers, and where a header and its extension are written first.
+/// The payloads with their headers, and two buffers in which a header and its extension are written first.
 #[derive(Debug)]
 struct Packets {
     out: Payloads,
@@ -124,11 +125,10 @@ struct Packets {
     extension: Vec<u8>,
 }
 
-/// Sends the samples of one stream: a sample goes in, and its datagrams stand in memory that is used again, until the next
-/// sample goes in.
+/// Turns the samples of one stream into datagrams. The datagrams of a sample stay available until the next sample is sent.
 ///
-/// Each is a packet of RFC 3550, without CSRCs and padding, its header written in front of its payload, in place. Once the
-/// memory has grown to the largest sample, no call takes any. It opens no socket and reads no clock.
+/// Each datagram is an RTP packet (RFC 3550) without CSRCs and padding. The sender writes the header in front of the payload, in
+/// place. It reuses its memory, so calls do not allocate after the largest sample was sent. It opens no socket and reads no clock.
 #[derive(Debug)]
 pub struct Sender<B = NoBox> {
     packetizer: CodecPacketizer<B>,
@@ -138,7 +138,7 @@ pub struct Sender<B = NoBox> {
     packets: Packets,
 }
 
-/// The extension of that profile, if there is one.
+/// Returns the extension with this profile, or `None` without a profile.
 fn extension_by(profile: Option<u16>, bytes: &[u8]) -> Option<HeaderExtension<'_>> {
     match profile {
         Some(profile) => Some(HeaderExtension { profile, bytes }),
@@ -146,7 +146,7 @@ fn extension_by(profile: Option<u16>, bytes: &[u8]) -> Option<HeaderExtension<'_
     }
 }
 
-/// The header of a packet of the stream, with that extension.
+/// Returns the header of a packet of the stream, with this extension.
 fn header_by<'a>(
     stream: &Stream,
     fields: Fields,
@@ -163,7 +163,7 @@ fn header_by<'a>(
     }
 }
 
-/// Writes the header of a packet of the stream in the place of what `out` has, and its extension in that of what `words` has.
+/// Writes the header of a packet of the stream to `out`, and its extension to `words`. Both replace the previous bytes.
 fn write_header(
     stream: &Stream,
     fields: Fields,
@@ -178,17 +178,17 @@ fn write_header(
     Ok(())
 }
 
-/// A time by the RTP clock of the stream, modulo 2^32.
+/// Returns a time by the RTP clock of the stream, modulo 2^32.
 fn rtp_time_at(stream: &Stream, time: MediaTime) -> u32 {
     (time.rebase(stream.clock_rate).numer() % (1 << 32)) as u32
 }
 
-/// The RTP time of a sample.
+/// Returns the RTP time of a sample.
 fn time_of(stream: &Stream, sample: &Sample<'_>) -> u32 {
     rtp_time_at(stream, sample.rtp_time)
 }
 
-/// Packetizes a frame into reused memory. A custom packetizer stays custom.
+/// Packetizes a frame into reused memory. A custom packetizer stays a custom packetizer.
 fn packetize_sample<B: Packetizer>(
     packetizer: &mut CodecPacketizer<B>,
     mtu: usize,
@@ -201,7 +201,7 @@ fn packetize_sample<B: Packetizer>(
     packetizer.packetize_into(mtu, bytes, out)
 }
 
-/// Whether the packet at a place is marked.
+/// Returns whether the packet at a place has the marker bit.
 fn is_marked<B: Packetizer>(
     packetizer: &mut CodecPacketizer<B>,
     sample: &Sample<'_>,
@@ -218,7 +218,7 @@ fn is_marked<B: Packetizer>(
     packetizer.is_marker(payload, Some(out.get(place - 1)), last) || starts
 }
 
-/// Puts the header of the packet at a place in front of its payload.
+/// Writes the header of the packet at a place in front of its payload.
 fn put_header<B: Packetizer>(
     packetizer: &mut CodecPacketizer<B>,
     stream: &Stream,
@@ -244,7 +244,7 @@ fn put_header<B: Packetizer>(
     Ok(())
 }
 
-/// Puts the headers of all packets of a sample in front of their payloads.
+/// Writes the headers of all packets of a sample in front of their payloads.
 fn put_headers<B: Packetizer>(
     packetizer: &mut CodecPacketizer<B>,
     stream: &Stream,
@@ -257,7 +257,7 @@ fn put_headers<B: Packetizer>(
     Ok(())
 }
 
-/// How many bytes the payloads have, modulo 2^32.
+/// Returns the number of bytes of all payloads, modulo 2^32.
 fn octets_in(out: &Payloads) -> u32 {
     let mut octets: u32 = 0;
     for place in 0..out.len() {
@@ -266,14 +266,20 @@ fn octets_in(out: &Payloads) -> u32 {
     octets
 }
 
-/// Lends the region from `front` on.
+/// Lends the region from `front` on to `change`, and returns the result of `change`.
 fn lend<R, F: FnOnce(&mut [u8]) -> R>(region: &mut [u8], front: usize, change: F) -> R {
     let from = front.min(region.len());
     change(&mut region[from..])
 }
 
 impl<B: Packetizer> Sender<B> {
-    /// A sender over that packetizer, by settings that are looked at in their order. It takes memory for the longest header.
+    /// Makes a sender with this packetizer. The sender checks the settings in their order, and allocates memory for the longest
+    /// header.
+    ///
+    /// # Errors
+    ///
+    /// - `PayloadType`, `Tailroom`, `ExtensionIds`: the first setting that is out of range.
+    /// - `OutOfMemory`: all settings are in range, but memory ran out.
     pub fn new(
         packetizer: CodecPacketizer<B>,
         settings: SenderSettings,
@@ -299,10 +305,13 @@ impl<B: Packetizer> Sender<B> {
         })
     }
 
-    /// Cuts a sample into packets. Its datagrams take the place of those of the sample before: see [`Sender::datagram`].
+    /// Packetizes a sample. Its datagrams replace the datagrams of the previous sample: see [`Sender::datagram`]. If the
+    /// packetizer skips the sample, the sender has no datagrams.
     ///
-    /// A sample that the packetizer skips has none. After a fault there are none, and the sequence number and the counts are as
-    /// before. Where memory was wanting, the packetizer may have gone on.
+    /// # Errors
+    ///
+    /// A fault of the packetizer, or out of memory. Then the sender has no datagrams, and the sequence number and the counts are
+    /// unchanged. If memory ran out, the packetizer may have advanced.
     pub fn send(&mut self, sample: &Sample<'_>) -> Result<(), PacketError> {
         packetize_sample(
             &mut self.packetizer,
@@ -330,12 +339,12 @@ impl<B: Packetizer> Sender<B> {
         Ok(())
     }
 
-    /// How many datagrams the sample has that was sent last.
+    /// Returns the number of datagrams of the last sample.
     pub fn len(&self) -> usize {
         self.packets.out.len()
     }
 
-    /// The datagram at a place.
+    /// Returns the datagram at a place: below [`len`](Self::len), from 0.
     ///
     /// # Panics
     ///
@@ -361,21 +370,21 @@ impl<B: Packetizer> Sender<B> {
             .with_packet(place, |region| lend(region, front, change))
     }
 
-    /// How many bytes are free behind each datagram.
+    /// Returns the number of free bytes after each datagram.
     pub fn tailroom(&self) -> usize {
         self.packets.out.tailroom()
     }
 
-    /// The sequence number of the next packet.
+    /// Returns the sequence number of the next packet.
     pub fn next_number(&self) -> u16 {
         self.stream.number
     }
 
     /// Continues the stream in another format: with this packetizer, payload type (0 to 127) and rate of the RTP clock. Sequence
-    /// numbers, SSRC, counts, MTU and extension ids go on, and the datagrams of the previous sample stay.
+    /// numbers, SSRC, counts, MTU and extension ids continue, and the datagrams of the previous sample stay.
     ///
-    /// RTP times are the times of the samples by the new rate. With the same rate they go on. With another rate receivers of the
-    /// stream lose its clock, so RFC 7160, section 4.1, wants another SSRC: make another sender.
+    /// RTP times are the times of the samples by the new rate. With the same rate they continue. With another rate receivers lose
+    /// the clock of the stream, so RFC 7160, section 4.1, requires another SSRC: make another sender.
     ///
     /// # Errors
     ///
@@ -397,8 +406,8 @@ impl<B: Packetizer> Sender<B> {
 
     /// Returns the fields of a sender report for the moment `now` on the time line of the samples.
     ///
-    /// RFC 3550, section 6.4.1: the RTP time of the report is of the same moment as its NTP time, which the caller's clock has. It
-    /// may lie before or after the last sample.
+    /// The RTP time of the report is the same moment as its NTP time (RFC 3550, section 6.4.1). Your clock has the NTP time. The
+    /// moment may be before or after the last sample.
     pub fn report(&self, now: MediaTime) -> Report {
         Report {
             ssrc: self.stream.ssrc,
@@ -408,13 +417,13 @@ impl<B: Packetizer> Sender<B> {
         }
     }
 
-    /// What sender reports tell.
+    /// Returns the counts for sender reports.
     pub fn counts(&self) -> Counts {
         self.counts
     }
 }
 
-/// What the packets share, by settings.
+/// Returns the shared fields of a stream with these settings.
 fn stream_by(settings: &SenderSettings) -> Stream {
     Stream {
         ssrc: settings.ssrc,
@@ -425,7 +434,7 @@ fn stream_by(settings: &SenderSettings) -> Stream {
     }
 }
 
-/// Nothing was sent so far.
+/// Returns the counts of a new sender.
 fn no_counts() -> Counts {
     Counts {
         packets: 0,
@@ -434,7 +443,7 @@ fn no_counts() -> Counts {
     }
 }
 
-/// No packets, with room for the longest header, and so many bytes free behind each packet that comes.
+/// Returns an empty list of packets, with room for the longest header, and `tailroom` free bytes after each packet.
 fn empty_packets(tailroom: usize) -> Result<Packets, PacketError> {
     Ok(Packets {
         out: Payloads::new(HEADROOM, tailroom)?,

@@ -1,4 +1,4 @@
-//! Whole runs, from samples to units, and theorems on them.
+//! Whole runs, from samples to units, and theorems about whole runs.
 #![tactic(auto)]
 
 mod plain;

@@ -19,7 +19,7 @@ use codec_payload_send::payloader::Payloader;
 use codec_payload_send::sink::OutgoingPacket;
 use std::alloc::Global;
 
-/// Does the steps in order, without RED.
+/// Does the steps of a run in order, without RED.
 pub(crate) fn run_plain<P: Packetizer, D: Depacketizer>(
     alloc: Global,
     payloader: &mut Payloader<P>,
@@ -44,7 +44,7 @@ pub(crate) fn run_plain<P: Packetizer, D: Depacketizer>(
     Ok(run)
 }
 
-/// Does one step, and records its result.
+/// Does one step of a run, and records the result.
 fn do_step<P: Packetizer, D: Depacketizer>(
     payloader: &mut Payloader<P>,
     buffer: &mut DepacketizingBuffer<D>,
@@ -104,7 +104,7 @@ fn send_step<P: Packetizer>(
     })
 }
 
-/// Pushes a copy of a packet that was sent.
+/// Pushes a copy of a sent packet.
 fn push_step<D: Depacketizer>(
     alloc: Global,
     clock_rate: Frequency,

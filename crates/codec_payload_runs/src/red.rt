@@ -1,4 +1,4 @@
-//! Runs with RED: samples are sent in RED, and a push pushes what a receiver finds in a packet (RFC 2198).
+//! Runs with RED (RFC 2198): samples are sent in RED, and a push pushes the packets that a receiver finds in a packet.
 
 ghost use Rattle.std.specs.Prelude.{◌≡◌, ◌≢◌, ◌++◌, ◌⊎◌, List, map, length, IfOk, IfErr, OnOk, OnErr, Option, Result};
 ghost use Rattle.codec_payload_base.specs.declared.error.PacketError.TheVariants.{OutOfMemory};
@@ -24,7 +24,7 @@ use codec_payload_send::red_sink::RedSink;
 use codec_payload_send::sink::OutgoingPacket;
 use std::alloc::Global;
 
-/// Pushes a copy of a packet that was recovered from `packet`.
+/// Pushes a copy of one packet that was recovered from `packet`.
 fn push_recovered<D: Depacketizer>(
     alloc: Global,
     clock_rate: Frequency,
@@ -50,7 +50,7 @@ fn push_recovered<D: Depacketizer>(
     push_copy(alloc, buffer, meta, recovered.payload)
 }
 
-/// Pushes packets that were recovered from `packet`, in order.
+/// Pushes the packets that were recovered from `packet`, in order.
 fn push_all_recovered<D: Depacketizer>(
     alloc: Global,
     clock_rate: Frequency,
@@ -72,7 +72,7 @@ fn push_all_recovered<D: Depacketizer>(
     push_all_recovered(alloc, clock_rate, buffer, packet, others, pt, place)
 }
 
-/// Pushes the packets that the receiver finds in a packet. An invalid RED payload is skipped.
+/// Pushes the packets that the RED receiver finds in a packet. An invalid RED payload is skipped.
 fn red_push_step<D: Depacketizer>(
     alloc: Global,
     clock_rate: Frequency,
@@ -128,7 +128,7 @@ fn red_send_step<P: Packetizer>(
     })
 }
 
-/// Does one step, and records its result.
+/// Does one step of a run, and records the result.
 fn do_red_step<P: Packetizer, D: Depacketizer>(
     payloader: &mut Payloader<P>,
     buffer: &mut DepacketizingBuffer<D>,
@@ -175,8 +175,8 @@ fn do_red_step<P: Packetizer, D: Depacketizer>(
     }
 }
 
-/// Does the work of [`run_schedule`](crate::run::run_schedule) with this [`RedRun`], passed by reference here so that the contract
-/// can say how its sender is left. Its budget and its receiver are unchanged.
+/// Does the work of [`run_schedule`](crate::run::run_schedule) with this [`RedRun`]. The contract states how the call changes the
+/// RED sender, so the `RedRun` is passed by reference. Its budget and its RED receiver are unchanged.
 pub fn run_in_red<P: Packetizer, D: Depacketizer>(
     alloc: Global,
     payloader: &mut Payloader<P>,
@@ -192,7 +192,7 @@ pub fn run_in_red<P: Packetizer, D: Depacketizer>(
     ensures fault { IfErr result (λ fault. fault ≡ OutOfMemory) }
     ensures stops { OnErr result ((sent : List Packet) × StopsInRed (protection_of red.old) (map sample_of samples.now) 0 steps.now
         (red_state payloader.old buffer.old sink.old sink.old.packets red.old.sender.now) (red_state payloader.new buffer.new sink.new sent red.new.sender.now)) }
-    // What it borrows, and budget and receiver.
+    // The borrows, the budget and the RED receiver stay.
     ensures loan { red.new.sender.ghost_name ≡ red.old.sender.ghost_name }
     ensures protection { protection_of red.new ≡ protection_of red.old }
 {
@@ -208,7 +208,7 @@ pub fn run_in_red<P: Packetizer, D: Depacketizer>(
     Ok(run)
 }
 
-/// Does the same with a sender, a budget and a receiver by themselves.
+/// Does the work of [`run_in_red`], with the three parts of a [`RedRun`] as arguments.
 pub(crate) fn run_with_sender<P: Packetizer, D: Depacketizer>(
     alloc: Global,
     payloader: &mut Payloader<P>,

@@ -1,4 +1,4 @@
-//! Whole runs: samples are sent, some of their packets are pushed, in any order, and units are popped.
+//! Whole runs: a run sends samples, pushes some of their packets in any order, and pops units.
 
 ghost use Rattle.std.specs.Prelude.{◌≡◌, ◌≢◌, ◌∷◌, ◌++◌, ◌⊎◌, [], List, ◌≤◌, ◌^◌, ◌↔◌, map, IfOk, IfErr, IfSome, IsNone, OnOk, OnErr, Option, Result};
 ghost use Rattle.std.specs.Result.{result_err};
@@ -29,51 +29,51 @@ use std::alloc::Global;
 /// One step of a run.
 #[derive(Clone, Copy, Debug, PartialEq, Eq)]
 pub enum Step {
-    /// Sends the sample with this index, cut for an MTU in bytes. Skipped if there is no such sample.
+    /// Packetizes the sample with this index for an MTU in bytes, and sends its packets. Skipped if the sample does not exist.
     Send { sample: usize, mtu: usize },
-    /// Pushes a copy of the packet with this index, from 0, that the sink holds. Skipped if there is no such packet.
+    /// Pushes a copy of the packet with this index in the sink, from 0. Skipped if the packet does not exist.
     Push(usize),
-    /// Pops.
+    /// Pops a unit from the buffer.
     Pop,
 }
 
-/// The results of the steps.
+/// The results of the steps of a run.
 #[derive(Debug, Drop)]
 pub struct Run {
     /// One entry for each `Send` step that names a sample, in order.
     pub sends: Vec<Sent>,
-    /// What each `Pop` step was answered, in order.
+    /// The answer of each `Pop` step, in order.
     pub pops: Vec<Option<Result<Depacketized, PacketError>>>,
 }
 
 /// The result of a `Send` step.
 #[derive(Debug, Drop)]
 pub struct Sent {
-    /// The place of the step, from 0.
+    /// The index of the step, from 0.
     pub step: usize,
-    /// How many packets the sink held before it.
+    /// The number of packets in the sink before the step.
     pub first: usize,
-    /// How many packets it sent.
+    /// The number of packets that the step sent.
     pub count: usize,
-    /// Why nothing was sent, if the sample was refused.
+    /// The fault of the packetizer, if it refused the sample. Then nothing was sent.
     pub fault: Option<PacketError>,
 }
 
 /// How a run uses RED (RFC 2198).
 #[derive(Drop)]
 pub struct RedRun<'a> {
-    /// Puts the packets in RED that are sent.
+    /// Puts sent packets in RED.
     pub sender: &'a mut RedSender,
-    /// The most bytes that a payload in RED may have: see [`RedSender::wrap`].
+    /// The highest number of bytes of a payload in RED: see [`RedSender::wrap`].
     pub budget: usize,
-    /// Finds what the pushed packets hold.
+    /// Finds the packets in a pushed packet.
     pub receiver: &'a RedReceiver,
 }
 
-/// How a stream is sent and received.
+/// The settings of both sides of a stream.
 #[derive(Clone, Copy, Debug, PartialEq, Eq)]
 pub struct Stream {
-    /// Its codec, its RTP clock and the layout of its payloads, for both sides.
+    /// The codec, the RTP clock and the layout of payloads, for both sides.
     pub spec: CodecSpec,
     /// The mode of a VP9 packetizer.
     pub mode: Vp9PacketizerMode,
@@ -81,25 +81,26 @@ pub struct Stream {
     pub first_id: u16,
     /// The number of the first packet: 0 to 2^62.
     pub first_number: u64,
-    /// How many complete frames may wait after a gap; with one more, the buffer stops waiting for the gap.
+    /// The number of complete frames that may wait after a gap. With one more, the buffer stops waiting for the gap.
     pub hold_back: usize,
-    /// How many packets the buffer holds at most: 1 to 65,536.
+    /// The highest number of packets in the buffer: 1 to 65,536.
     pub limit: usize,
 }
 
 /// Does the steps in order: sends samples into the sink, pushes packets that the sink holds into the buffer, and pops.
 ///
-/// A `Send` whose sample the packetizer refuses is recorded with the fault, and the run continues. Out of memory ends the run: the
-/// payloader, the buffer and the sink are then as the failed call left them, and the units popped before are discarded with the
-/// entries. Memory for an entry is allocated before its step begins, so every popped unit can be returned.
+/// If the packetizer refuses the sample of a `Send`, the run records the fault and continues. The run allocates an entry before its
+/// step begins, so it can return every popped unit. Each pushed packet is a copy. The cost of a run is the sum of its calls.
 ///
-/// Each pushed packet is a copy. The cost is the sum of the calls.
+/// With `red`, a `Send` goes through a [`RedSink`](codec_payload_send::red_sink::RedSink). A `Push` pushes, in payload order, each
+/// packet that the RED receiver recovers from the payload of the named packet. Each recovered packet has its own number and RTP
+/// time, and the payload type of the RED receiver. The named packet is pushed last, with its marker and its values of header
+/// extensions; recovered packets have neither. An invalid RED payload (fault 14) is skipped.
 ///
-/// With `red`, a `Send` goes through a [`RedSink`](codec_payload_send::red_sink::RedSink), and a `Push` pushes each packet that the
-/// receiver recovers from the named packet's payload, in payload order, instead of that packet. Each has its own number and RTP
-/// time, under the receiver's payload type. The packet itself comes last, with its marker and its values of header extensions;
-/// recovered packets have neither. An invalid RED payload (fault 14) is skipped. If memory runs out, the packets before the refused
-/// one stay pushed.
+/// # Errors
+///
+/// Out of memory ends the run. The payloader, the buffer and the sink are as the failed call left them. The popped units and the
+/// entries are discarded. With `red`, the packets that were pushed before the failed push stay in the buffer.
 pub fn run_schedule<P: Packetizer, D: Depacketizer>(
     alloc: Global,
     payloader: &mut Payloader<P>,
@@ -117,8 +118,7 @@ pub fn run_schedule<P: Packetizer, D: Depacketizer>(
     ensures stops { IsNone red.entry → OnErr result (Stops (map sample_of samples.now) 0 steps.now (run_state payloader.old buffer.old sink.old)
         (run_state payloader.new buffer.new sink.new)) }
     // With RED: run as steps, and the same guarantees with the recovered packets as further pushes: see `specs/RedPromises.antt`.
-    // They hold for the packets that were sent, as they were before RED. The sender is the one behind the reference, as the run
-    // leaves it.
+    // The guarantees are about the sent packets as they were before RED. `sender` is the RED sender at the end of the run.
     ensures red_promises { IfSome red.entry (λ lent. (sender : Sender) × LeavesSender red.exit sender × IfOk result (λ run. (sent : List Packet) × KeepsRedPromises (ran_in_red (protection_of lent) samples.now steps.now
         (red_state payloader.old buffer.old sink.old sink.old.packets lent.sender.now) run (red_state payloader.new buffer.new sink.new sent sender)))) }
     ensures red_stops { IfSome red.entry (λ lent. (sender : Sender) × LeavesSender red.exit sender × OnErr result ((sent : List Packet) × StopsInRed (protection_of lent) (map sample_of samples.now) 0 steps.now
@@ -136,8 +136,8 @@ pub fn run_schedule<P: Packetizer, D: Depacketizer>(
     }
 }
 
-/// Builds a payloader, a buffer and a sink for a stream, both sides configured by its specification, and runs the steps over them.
-/// `None` if the codec has no packetizer.
+/// Makes a payloader, a buffer and a sink for a stream, and runs the steps over them. The specification of the stream configures
+/// both sides. Returns `None` if the codec has no packetizer.
 pub fn run_stream(
     alloc: Global,
     stream: Stream,
@@ -178,7 +178,7 @@ pub fn run_stream(
     Ok(Some(run))
 }
 
-/// Why the sample was refused, if it was. Out of memory does not count as a refusal.
+/// Returns the fault of the packetizer, if it refused the sample. Out of memory does not count as a refusal.
 pub(crate) fn refusal(answer: Result<(), PacketError>) -> Result<Option<PacketError>, PacketError>
     ensures ok { IfOk result (λ fault. (fault ≡ result_err answer) × (fault ≢ Option.Some OutOfMemory)) }
     ensures fault { IfErr result (λ fault. fault ≡ OutOfMemory) }
@@ -190,7 +190,7 @@ pub(crate) fn refusal(answer: Result<(), PacketError>) -> Result<Option<PacketEr
     }
 }
 
-/// Pushes a copy of a payload, of whose packet this is known.
+/// Pushes a copy of a payload, with the metadata of its packet.
 pub(crate) fn push_copy<D: Depacketizer>(
     alloc: Global,
     buffer: &mut DepacketizingBuffer<D>,
@@ -206,7 +206,7 @@ pub(crate) fn push_copy<D: Depacketizer>(
     buffer.push(meta, payload)
 }
 
-/// Pops, and records the result, after it makes room for it. Out of memory is not recorded.
+/// Makes room for a result, pops, and records the result. Out of memory is not recorded.
 pub(crate) fn pop_step<D: Depacketizer>(
     buffer: &mut DepacketizingBuffer<D>,
     run: &mut Run,

@@ -1,4 +1,4 @@
-//! Samples become packets: a payloader cuts them, and a sink takes the packets.
+//! Turns samples into packets: a payloader packetizes each sample, and a sink accepts the packets.
 #![tactic(auto)]
 
 pub mod memory_sink;

@@ -28,8 +28,8 @@ impl Model for MemorySink {
 }
 
 impl MemorySink {
-    /// A sink without packets, whose first packet gets the number `first`. It asks for at most 2^62, so that no number is
-    /// too large for 64 bits.
+    /// Returns an empty sink, whose first packet gets the number `first`. `first` must be at most 2^62, so that each number
+    /// fits 64 bits.
     pub fn new(alloc: Global, first: u64) -> Self
         requires { first ≤ 2 ^ 62 }
         ensures { result ≡ record { first = first; packets = [] } }
@@ -40,7 +40,7 @@ impl MemorySink {
         }
     }
 
-    /// The packets that were sent, in order.
+    /// Returns the sent packets, in order.
     pub fn packets(&self) -> &[OutgoingPacket]
         ensures value { packets_in result.now ≡ self.now.packets }
         ensures few { length self.now.packets < 2 ^ 63 }

@@ -1,4 +1,4 @@
-//! Samples cut into packets and sent to a sink.
+//! Packetizes samples and sends the packets to a sink.
 
 ghost use Rattle.std.specs.Prelude.{◌≡◌, ◌∷◌, ◌++◌, ◌+◌, ◌%◌, ◌^◌, ◌<◌, ◌≤◌, ◌⊎◌, [], Option, option_map, OnOk, IfErr, Ok, false};
 ghost use Rattle.codec_payload_codec.specs.Packetizers.{packetizer_state_of, packetizer_state_for, configured, is_built_in};
@@ -14,7 +14,7 @@ use codec_payload_codec::codec::{CodecPacketizer, NoBox, Packetizer, Vp9Packetiz
 use std::alloc::Global;
 use std::marker::Model;
 
-/// Cuts samples of one codec into packets and sends them.
+/// Packetizes the samples of one codec and sends the packets.
 #[derive(Debug, Drop)]
 pub struct Payloader<B = NoBox> {
     packetizer: CodecPacketizer<B>,
@@ -32,9 +32,10 @@ impl<B> Model for Payloader<B> {
 }
 
 impl Payloader {
-    /// A payloader for a codec; `None` if the codec has no packetizer. The specification gives the rate of its RTP clock and the
-    /// layout of payloads. `mode` and `first_id` are for VP9: its mode, and the picture id of the first frame. `first_id` must be
-    /// below 2^15 for every codec.
+    /// Returns a payloader for a codec, or `None` if the codec has no packetizer.
+    ///
+    /// `spec` gives the rate of the RTP clock and the layout of payloads. VP9 uses `mode` and `first_id`, the picture id of the
+    /// first frame. `first_id` must be below 2^15 for every codec.
     pub fn new(spec: CodecSpec, mode: Vp9PacketizerMode, first_id: u16) -> Option<Self>
         requires { first_id ≤ 32767 }
         ensures { result ≡ option_map (λ packetizer. record { packetizer = configured spec.octet_align packetizer; clock_rate = spec.clock_rate }) (packetizer_state_for mode first_id spec.codec) }
@@ -46,7 +47,7 @@ impl Payloader {
 }
 
 impl<B: Packetizer> Payloader<B> {
-    /// A payloader over this packetizer, with an RTP clock of this rate.
+    /// Returns a payloader with this packetizer and this rate of the RTP clock.
     pub fn with_packetizer(packetizer: CodecPacketizer<B>, rate: Frequency) -> Self
         ensures { result ≡ record { packetizer = packetizer_state_of packetizer; clock_rate = rate } }
     {
@@ -56,18 +57,23 @@ impl<B: Packetizer> Payloader<B> {
         }
     }
 
-    /// The rate of the RTP clock.
+    /// Returns the rate of the RTP clock.
     pub fn clock_rate(&self) -> Frequency
         ensures { result ≡ self.now.clock_rate }
     {
         self.clock_rate
     }
 
-    /// Sends the packets of a sample, cut for an MTU in bytes, in order. Capture time and layers allocation go only on the first
-    /// packet; orientation, content type and timing only on the last; all other extension values on each. If the packetizer fails,
-    /// nothing is sent. If the sink refuses a packet, the packets before it are sent, and the packetizer has advanced.
+    /// Packetizes a sample for an MTU in bytes, and sends its packets in order.
     ///
-    /// Each payload byte is copied once, from the sample into its packet.
+    /// Only the first packet carries the capture time and the layers allocation. Only the last packet carries the orientation,
+    /// content type and timing. Each packet carries all other extension values. Each payload byte is copied once, from the sample
+    /// into its packet.
+    ///
+    /// # Errors
+    ///
+    /// - A fault of the packetizer: nothing is sent.
+    /// - A fault of the sink: the packets before the refused packet are sent, and the packetizer has advanced.
     pub fn push_sample<S: PacketSink>(
         &mut self,
         alloc: Global,
@@ -79,7 +85,7 @@ impl<B: Packetizer> Payloader<B> {
         ensures ok { OnOk result (SendsSample S.accepts S.sent S.next mtu (sample_of sample.now) self.old sink.old self.new sink.new) }
         ensures err { IfErr result (λ fault. SendsNothing mtu (sample_of sample.now) fault self.old sink.old self.new sink.new
             ⊎ SendsBeginning S.accepts S.refuses S.sent S.next mtu (sample_of sample.now) fault self.old sink.old self.new sink.new) }
-        // A packetizer that the caller brings is asked once for the payloads, and once for each marker.
+        // A custom packetizer is called once for the payloads, and once for each marker.
         ensures own { is_built_in self.old.packetizer ≡ false → (before : B) × (after : B)
             × OwnSample B.state B.packetize_step B.marker_step B.marks_spurts B.may_be_asked_for S.accepts S.refuses S.sent S.next self.old.clock_rate mtu (sample_of sample.now) before sink.old result after sink.new }
         ensures kept { S.keeps sink.old sink.new }
@@ -95,7 +101,7 @@ impl<B: Packetizer> Payloader<B> {
     }
 }
 
-/// Sends the packets that the packetizer makes of a sample, with an RTP clock of this rate.
+/// Packetizes a sample and sends its packets, with times by an RTP clock of this rate.
 fn send_sample<B: Packetizer, S: PacketSink>(
     packetizer: &mut CodecPacketizer<B>,
     clock_rate: Frequency,

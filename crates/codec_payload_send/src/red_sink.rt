@@ -1,4 +1,4 @@
-//! A sink that puts packets in RED and hands them on (RFC 2198).
+//! A sink that puts packets in RED (RFC 2198) and forwards them to another sink.
 
 ghost use Rattle.std.specs.Prelude.{◌≡◌, ◌∷◌, ◌++◌, ◌+◌, ◌%◌, ◌^◌, ◌<◌, ◌⊎◌, [], length, OnOk, IfErr, refl};
 ghost use Rattle.std.proofs.Common.{◌∙◌};
@@ -10,16 +10,16 @@ use codec_payload_base::error::PacketError;
 use codec_payload_base::wire::SeqNo;
 use codec_payload_red::red::RedSender;
 
-/// Forwards packets to another sink in RED: a sender wraps each payload, and the packet gets the sender's payload type. Number, RTP
-/// time, marker and all other fields are unchanged.
+/// Forwards packets to another sink in RED. The RED sender wraps each payload, and the packet gets the payload type of the RED
+/// sender. All other fields of the packet are unchanged.
 ///
-/// **A packet whose payload has `budget` bytes or more is sent with its payload unchanged, but under the payload type of RED**, and
-/// a receiver may read those bytes as RED. So packetize with an MTU of `budget - 1`, the `mtu` of
-/// [`Payloader::push_sample`](crate::payloader::Payloader::push_sample): then each payload fits after the one byte of its header.
+/// **If a payload has `budget` bytes or more, the sink forwards the payload unchanged, but under the payload type of RED.** A
+/// receiver may read such a payload as RED. So packetize with an MTU of `budget - 1`, the `mtu` of
+/// [`Payloader::push_sample`](crate::payloader::Payloader::push_sample). Then each payload fits after its RED header of one byte.
 /// See [`RedSender::wrap`].
 ///
-/// If the sender runs out of memory, sink and sender are unchanged. If the other sink refuses the packet, the sender has already
-/// remembered the payload as if it had been sent.
+/// If the RED sender runs out of memory, both sinks and the RED sender are unchanged. If the other sink refuses the packet, the
+/// RED sender has already stored the payload as if the packet had been sent.
 #[derive(Drop)]
 pub struct RedSink<'a, S> {
     stream: &'a mut S,
@@ -28,13 +28,13 @@ pub struct RedSink<'a, S> {
 }
 
 impl<'a, S: PacketSink> RedSink<'a, S> {
-    /// A sink that wraps by `red`, with a budget in bytes, and hands on to `stream`.
+    /// Returns a sink that wraps payloads by `red`, with a budget in bytes, and forwards packets to `stream`.
     pub fn new(stream: &'a mut S, red: &'a mut RedSender, budget: usize) -> Self
         ensures stream { stream_of result ≡ stream.old }
         ensures red { sender_of result ≡ red.old }
         ensures budget { budget_of result ≡ budget }
 
-        // What it borrows.
+        // The sink borrows the RED sender and the other sink.
         ensures stream_loan { result.stream.ghost_name ≡ stream.entry.ghost_name }
         ensures red_loan { result.red.ghost_name ≡ red.entry.ghost_name }
     {
@@ -70,7 +70,7 @@ impl<'a, S: PacketSink> PacketSink for RedSink<'a, S> {
         self.stream.last_packet()
     }
 
-    /// Wraps the payload and hands the packet on. The payload is copied once.
+    /// Wraps the payload and forwards the packet. The payload is copied once.
     fn send(&mut self, packet: OutgoingPacket) -> Result<(), PacketError>
         ensures ok { let sink = ⟦<RedSink<'a, S> as PacketSink>⟧ in
             OnOk result ((image : Packet) × sink.accepts self.old (packet_of packet) image self.new

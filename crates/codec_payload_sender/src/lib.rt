@@ -1,5 +1,5 @@
-//! Samples in, datagrams out: the packets of a sample in memory that is used again, each with its RTP header in front of its
-//! payload.
+//! Turns samples into datagrams. Each datagram is an RTP packet, with its header in front of its payload. The memory of the
+//! datagrams is reused.
 #![tactic(auto)]
 
 pub mod sender;

@@ -26,75 +26,76 @@ use std::alloc::Global;
 use std::marker::Model;
 use thiserror::Error;
 
-/// The most bytes of a header: 12, and an extension of 304 with each value that there is.
+/// The highest number of bytes of a header: 12, and 304 for an extension with all values.
 pub const HEADROOM: usize = 316;
 
-/// What a sender is made of.
+/// The settings of a sender.
 #[derive(Clone, Copy, Debug)]
 pub struct SenderSettings {
     /// The synchronization source: any number, chosen at random (RFC 3550, section 8).
     pub ssrc: u32,
     /// The payload type, 0 to 127.
     pub payload_type: u8,
-    /// The sequence number of the first packet (RFC 3550, section 5.1: at random).
+    /// The sequence number of the first packet: any number, chosen at random (RFC 3550, section 5.1).
     pub first_number: u16,
     /// The rate of the RTP clock.
     pub clock_rate: Frequency,
-    /// The most bytes of a payload, as packetizers have it. The header, of 12 bytes and at most 304 of an extension, and the tag
-    /// come on top.
+    /// The highest number of bytes of a payload. A datagram also has a header of 12 to 316 bytes, and the tag that you write after
+    /// the payload.
     pub mtu: usize,
-    /// How many bytes are kept free behind each datagram, for a tag (RFC 3711, section 3.1): 0 to 65,535.
+    /// The number of free bytes after each datagram, for a tag (RFC 3711, section 3.1): 0 to 65,535.
     pub tailroom: usize,
     /// The ids of header extensions. Values without an id are not sent.
     pub extension_ids: ExtensionIds,
 }
 
-/// Why a sender is not made.
+/// Why a sender was not made.
 #[derive(Clone, Copy, Debug, PartialEq, Eq, Error)]
 pub enum SenderError {
     /// The payload type is above 127.
     #[error("the payload type is above 127")]
     PayloadType,
-    /// More than 65,535 bytes are to be free behind each datagram.
+    /// The tailroom is above 65,535 bytes.
     #[error("tailroom exceeds 65535 bytes")]
     Tailroom,
-    /// An id of a header extension is 0, or two are the same.
+    /// The id of a header extension is 0, or two ids are equal.
     #[error("header extension id is 0 or used twice")]
     ExtensionIds,
-    /// Memory is wanting.
+    /// Out of memory.
     #[error("out of memory")]
     OutOfMemory,
 }
 
-/// What is sent at once: a media frame with its time.
+/// A media frame with its time, for one call of [`Sender::send`].
 #[derive(Clone, Copy, Debug)]
 pub struct Sample<'a> {
+    /// The time of the frame, by any clock rate.
     pub rtp_time: MediaTime,
-    /// The media frame.
+    /// The bytes of the frame.
     pub bytes: &'a [u8],
     /// Whether the sample is the first after a silence.
     pub start_of_talk_spurt: bool,
-    /// Which of them go on which packet, [`ExtensionValues::for_packet`] says.
+    /// The values of header extensions. [`ExtensionValues::for_packet`] says which packets carry a value.
     pub ext_vals: ExtensionValues,
 }
 
-/// What sender reports tell (RFC 3550, section 6.4.1).
+/// The counts of a sender report (RFC 3550, section 6.4.1).
 #[derive(Clone, Copy, Debug, PartialEq, Eq)]
 pub struct Counts {
-    /// How many packets were sent, modulo 2^32.
+    /// The number of sent packets, modulo 2^32.
     pub packets: u32,
-    /// How many bytes of payload, modulo 2^32.
+    /// The number of payload bytes, modulo 2^32.
     pub octets: u32,
-    /// The RTP time of the sample that was sent last.
+    /// The RTP time of the last sample, or `None` before the first.
     pub rtp_time: Option<u32>,
 }
 
-/// The fields of a sender report (RFC 3550, section 6.4.1), except its NTP time, which the caller's clock has.
+/// The fields of a sender report (RFC 3550, section 6.4.1), except the NTP time, which your clock has.
 #[derive(Clone, Copy, Debug, PartialEq, Eq)]
 pub struct Report {
     /// The SSRC of the sender.
     pub ssrc: u32,
-    /// The RTP time of the moment that was given.
+    /// The RTP time of the moment of the report.
     pub rtp_time: u32,
     /// The sender's packet count, modulo 2^32.
     pub packets: u32,
@@ -102,7 +103,7 @@ pub struct Report {
     pub octets: u32,
 }
 
-/// What the packets of a stream share, and the number of the next.
+/// The header fields that all packets of a stream share, and the number of the next packet.
 #[derive(Clone, Copy, Debug)]
 pub(crate) struct Stream {
     ssrc: u32,
@@ -112,7 +113,7 @@ pub(crate) struct Stream {
     number: u16,
 }
 
-/// What each packet has of its own.
+/// The header fields of one packet.
 #[derive(Clone, Copy, Debug)]
 pub(crate) struct Fields {
     marker: bool,
@@ -120,7 +121,7 @@ pub(crate) struct Fields {
     time: u32,
 }
 
-/// The payloads with their headers, and where a header and its extension are written first.
+/// The payloads with their headers, and two buffers in which a header and its extension are written first.
 #[derive(Drop)]
 struct Packets {
     out: Payloads,
@@ -128,11 +129,10 @@ struct Packets {
     extension: Vec<u8>,
 }
 
-/// Sends the samples of one stream: a sample goes in, and its datagrams stand in memory that is used again, until the next
-/// sample goes in.
+/// Turns the samples of one stream into datagrams. The datagrams of a sample stay available until the next sample is sent.
 ///
-/// Each is a packet of RFC 3550, without CSRCs and padding, its header written in front of its payload, in place. Once the
-/// memory has grown to the largest sample, no call takes any. It opens no socket and reads no clock.
+/// Each datagram is an RTP packet (RFC 3550) without CSRCs and padding. The sender writes the header in front of the payload, in
+/// place. It reuses its memory, so calls do not allocate after the largest sample was sent. It opens no socket and reads no clock.
 #[derive(Drop)]
 pub struct Sender<B = NoBox> {
     alloc: Global,
@@ -164,7 +164,7 @@ impl<B> Model for Sender<B> {
     ghost invariant = { λ s. (s.packets.out.headroom ≡ 316) × (s.stream.payload_type < 128) × IsTrue (ids_fit s.stream.ids) };
 }
 
-/// The extension of that profile, if there is one.
+/// Returns the extension with this profile, or `None` without a profile.
 fn extension_by(profile: Option<u16>, bytes: &[u8]) -> Option<HeaderExtension<'_>>
     ensures { extension_of result ≡ option_map (λ p. record { profile = p; bytes = bytes.now }) profile }
 {
@@ -174,7 +174,7 @@ fn extension_by(profile: Option<u16>, bytes: &[u8]) -> Option<HeaderExtension<'_
     }
 }
 
-/// The header of a packet of the stream, with that extension.
+/// Returns the header of a packet of the stream, with this extension.
 fn header_by<'a>(
     stream: &Stream,
     fields: Fields,
@@ -193,7 +193,7 @@ fn header_by<'a>(
     }
 }
 
-/// Writes the header of a packet of the stream in the place of what `out` has, and its extension in that of what `words` has.
+/// Writes the header of a packet of the stream to `out`, and its extension to `words`. Both replace the previous bytes.
 fn write_header(
     stream: &Stream,
     fields: Fields,
@@ -214,21 +214,21 @@ fn write_header(
     Ok(())
 }
 
-/// A time by the RTP clock of the stream, modulo 2^32.
+/// Returns a time by the RTP clock of the stream, modulo 2^32.
 fn rtp_time_at(stream: &Stream, time: MediaTime) -> u32
     ensures { result ≡ (rebased time stream.now.clock_rate).numer % 2 ^ 32 }
 {
     (time.rebase(stream.clock_rate).numer() % (1 << 32)) as u32
 }
 
-/// The RTP time of a sample.
+/// Returns the RTP time of a sample.
 fn time_of(stream: &Stream, sample: &Sample<'_>) -> u32
     ensures { result ≡ time_of stream.now (sample_of sample.now) }
 {
     rtp_time_at(stream, sample.rtp_time)
 }
 
-/// Packetizes a frame into reused memory. A custom packetizer stays custom.
+/// Packetizes a frame into reused memory. A custom packetizer stays a custom packetizer.
 fn packetize_sample<B: Packetizer>(
     packetizer: &mut CodecPacketizer<B>,
     alloc: Global,
@@ -248,7 +248,7 @@ fn packetize_sample<B: Packetizer>(
     packetizer.packetize_into(alloc, mtu, bytes, out)
 }
 
-/// Whether the packet at a place is marked.
+/// Returns whether the packet at a place has the marker bit.
 fn is_marked<B: Packetizer>(
     packetizer: &mut CodecPacketizer<B>,
     sample: &Sample<'_>,
@@ -271,7 +271,7 @@ fn is_marked<B: Packetizer>(
     packetizer.is_marker(payload, Some(out.get(place - 1)), last) || starts
 }
 
-/// Puts the header of the packet at a place in front of its payload.
+/// Writes the header of the packet at a place in front of its payload.
 fn put_header<B: Packetizer>(
     packetizer: &mut CodecPacketizer<B>,
     stream: &Stream,
@@ -311,7 +311,7 @@ fn put_header<B: Packetizer>(
     Ok(())
 }
 
-/// Puts the headers of all packets of a sample in front of their payloads.
+/// Writes the headers of all packets of a sample in front of their payloads.
 fn put_headers<B: Packetizer>(
     packetizer: &mut CodecPacketizer<B>,
     stream: &Stream,
@@ -338,7 +338,7 @@ fn put_headers<B: Packetizer>(
     Ok(())
 }
 
-/// How many bytes the payloads have, modulo 2^32.
+/// Returns the number of bytes of all payloads, modulo 2^32.
 fn octets_in(out: &Payloads) -> u32
     ensures { result ≡ octets_in out.now.payloads % 2 ^ 32 }
 {
@@ -349,7 +349,7 @@ fn octets_in(out: &Payloads) -> u32
     octets
 }
 
-/// Lends the region from `front` on.
+/// Lends the region from `front` on to `change`, and returns the result of `change`.
 fn lend<R, F: FnOnce(&mut [u8]) -> R>(region: &mut [u8], front: usize, change: F) -> R
     requires callable { F.IsAlwaysCallable change }
     ensures { IsLentFrom (FnOnceReturnsAtMut F.FnOnce change) front region.old result region.new }
@@ -359,16 +359,22 @@ fn lend<R, F: FnOnce(&mut [u8]) -> R>(region: &mut [u8], front: usize, change: F
 }
 
 impl<B: Packetizer> Sender<B> {
-    /// A sender over that packetizer, by settings that are looked at in their order. It takes memory for the longest header.
+    /// Makes a sender with this packetizer. The sender checks the settings in their order, and allocates memory for the longest
+    /// header.
+    ///
+    /// # Errors
+    ///
+    /// - `PayloadType`, `Tailroom`, `ExtensionIds`: the first setting that is out of range.
+    /// - `OutOfMemory`: all settings are in range, but memory ran out.
     pub fn new(
         alloc: Global,
         packetizer: CodecPacketizer<B>,
         settings: SenderSettings,
     ) -> Result<Self, SenderError>
         ensures ok { IfOk result (λ s. s ≡ sender_by settings (packetizer_state_of packetizer)) }
-        // Which setting is out of range.
+        // A setting is out of range.
         ensures refused { IfSome (refusal_of settings) (λ e. result ≡ Err e) }
-        // Where none is, it is made, if there is memory.
+        // All settings are in range.
         ensures made { refusal_of settings ≡ Option.None → IfErr result (λ e. e ≡ refusals.OutOfMemory) }
     {
         if settings.payload_type > 127 {
@@ -393,14 +399,17 @@ impl<B: Packetizer> Sender<B> {
         })
     }
 
-    /// Cuts a sample into packets. Its datagrams take the place of those of the sample before: see [`Sender::datagram`].
+    /// Packetizes a sample. Its datagrams replace the datagrams of the previous sample: see [`Sender::datagram`]. If the
+    /// packetizer skips the sample, the sender has no datagrams.
     ///
-    /// A sample that the packetizer skips has none. After a fault there are none, and the sequence number and the counts are as
-    /// before. Where memory was wanting, the packetizer may have gone on.
+    /// # Errors
+    ///
+    /// A fault of the packetizer, or out of memory. Then the sender has no datagrams, and the sequence number and the counts are
+    /// unchanged. If memory ran out, the packetizer may have advanced.
     pub fn send(&mut self, sample: &Sample<'_>) -> Result<(), PacketError>
         ensures ok { OnOk result (Sends self.old (sample_of sample.now) self.new) }
         ensures err { IfErr result (λ fault. Refuses self.old (sample_of sample.now) fault self.new) }
-        // A custom packetizer is asked once for the payloads, and once for each marker.
+        // A custom packetizer is called once for the payloads, and once for each marker.
         ensures own { is_built_in self.old.packetizer ≡ false → (before : B) × (after : B)
             × OwnSample B.state B.packetize_step B.marker_step B.marks_spurts self.old.mtu self.old.stream (sample_of sample.now) before result after self.new.datagrams }
     {
@@ -431,14 +440,14 @@ impl<B: Packetizer> Sender<B> {
         Ok(())
     }
 
-    /// How many datagrams the sample has that was sent last.
+    /// Returns the number of datagrams of the last sample.
     pub fn len(&self) -> usize
         ensures { result ≡ length self.now.datagrams }
     {
         self.packets.out.len()
     }
 
-    /// The datagram at a place.
+    /// Returns the datagram at a place: below [`len`](Self::len), from 0.
     pub fn datagram(&self, place: usize) -> &[u8]
         requires { place < length self.now.datagrams }
         ensures { result.now ≡ slice_index_or self.now.datagrams place [] }
@@ -468,14 +477,14 @@ impl<B: Packetizer> Sender<B> {
         )
     }
 
-    /// How many bytes are free behind each datagram.
+    /// Returns the number of free bytes after each datagram.
     pub fn tailroom(&self) -> usize
         ensures { result ≡ self.now.tailroom }
     {
         self.packets.out.tailroom()
     }
 
-    /// The sequence number of the next packet.
+    /// Returns the sequence number of the next packet.
     pub fn next_number(&self) -> u16
         ensures { result ≡ self.now.stream.number }
     {
@@ -483,10 +492,10 @@ impl<B: Packetizer> Sender<B> {
     }
 
     /// Continues the stream in another format: with this packetizer, payload type (0 to 127) and rate of the RTP clock. Sequence
-    /// numbers, SSRC, counts, MTU and extension ids go on, and the datagrams of the previous sample stay.
+    /// numbers, SSRC, counts, MTU and extension ids continue, and the datagrams of the previous sample stay.
     ///
-    /// RTP times are the times of the samples by the new rate. With the same rate they go on. With another rate receivers of the
-    /// stream lose its clock, so RFC 7160, section 4.1, wants another SSRC: make another sender.
+    /// RTP times are the times of the samples by the new rate. With the same rate they continue. With another rate receivers lose
+    /// the clock of the stream, so RFC 7160, section 4.1, requires another SSRC: make another sender.
     ///
     /// # Errors
     ///
@@ -512,8 +521,8 @@ impl<B: Packetizer> Sender<B> {
 
     /// Returns the fields of a sender report for the moment `now` on the time line of the samples.
     ///
-    /// RFC 3550, section 6.4.1: the RTP time of the report is of the same moment as its NTP time, which the caller's clock has. It
-    /// may lie before or after the last sample.
+    /// The RTP time of the report is the same moment as its NTP time (RFC 3550, section 6.4.1). Your clock has the NTP time. The
+    /// moment may be before or after the last sample.
     pub fn report(&self, now: MediaTime) -> Report
         ensures { result ≡ report_of self.now now }
     {
@@ -525,7 +534,7 @@ impl<B: Packetizer> Sender<B> {
         }
     }
 
-    /// What sender reports tell.
+    /// Returns the counts for sender reports.
     pub fn counts(&self) -> Counts
         ensures { result ≡ self.now.counts }
     {
@@ -533,7 +542,7 @@ impl<B: Packetizer> Sender<B> {
     }
 }
 
-/// What the packets share, by settings.
+/// Returns the shared fields of a stream with these settings.
 fn stream_by(settings: &SenderSettings) -> Stream
     ensures { result ≡ record { ssrc = settings.now.ssrc; payload_type = settings.now.payload_type; clock_rate = settings.now.clock_rate; ids = settings.now.extension_ids; number = settings.now.first_number } }
 {
@@ -546,7 +555,7 @@ fn stream_by(settings: &SenderSettings) -> Stream
     }
 }
 
-/// Nothing was sent so far.
+/// Returns the counts of a new sender.
 fn no_counts() -> Counts
     ensures { result ≡ nothing_sent }
 {
@@ -557,7 +566,7 @@ fn no_counts() -> Counts
     }
 }
 
-/// No packets, with room for the longest header, and so many bytes free behind each packet that comes.
+/// Returns an empty list of packets, with room for the longest header, and `tailroom` free bytes after each packet.
 fn empty_packets(alloc: Global, tailroom: usize) -> Result<Packets, PacketError>
     requires { tailroom ≤ 65535 }
     ensures { IfOk result (λ p. p.out ≡ record { headroom = 316; tailroom = tailroom; headers = []; payloads = []; begun = [] }) }

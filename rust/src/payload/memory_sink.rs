@@ -16,8 +16,8 @@ pub struct MemorySink {
 }
 
 impl MemorySink {
-    /// A sink without packets, whose first packet gets the number `first`. It asks for at most 2^62, so that no number is
-    /// too large for 64 bits.
+    /// Returns an empty sink, whose first packet gets the number `first`. `first` must be at most 2^62, so that each number
+    /// fits 64 bits.
     ///
     /// # Panics
     ///
@@ -30,7 +30,7 @@ impl MemorySink {
         }
     }
 
-    /// The packets that were sent, in order.
+    /// Returns the sent packets, in order.
     pub fn packets(&self) -> &[OutgoingPacket] {
         &self.kept
     }

@@ -6,17 +6,17 @@ use crate::error::PacketError;
 use crate::wire::{ExtensionValues, Pt, SeqNo, Ticks};
 use alloc::vec::Vec;
 
-/// A packet on its way out.
+/// A packet that a sink sends.
 #[derive(Debug, Clone)]
 pub struct OutgoingPacket {
     pub pt: Pt,
     pub seq_no: SeqNo,
-    /// In ticks of the RTP clock, modulo 2^32.
+    /// The RTP time, in ticks of the RTP clock, modulo 2^32.
     pub rtp_time: u32,
-    /// The time of the sample, by the caller's clock.
+    /// The time of the sample, by your clock.
     pub wallclock: Ticks,
     pub marker: bool,
-    /// Whether a receiver may ask for the packet again.
+    /// Whether a receiver may request a retransmission of the packet.
     pub nackable: bool,
     pub ext_vals: ExtensionValues,
     pub payload: Vec<u8>,
@@ -24,12 +24,12 @@ pub struct OutgoingPacket {
 
 /// The destination of packets.
 pub trait PacketSink {
-    /// The number that the next packet gets.
+    /// Returns the number of the next packet.
     fn next_seq_no(&mut self) -> SeqNo;
 
-    /// The payload of the packet that was sent last, if any was.
+    /// Returns the payload of the last sent packet, or `None` before the first.
     fn last_packet(&self) -> Option<&[u8]>;
 
-    /// Sends a packet. If it is refused, the sent packets and the next number are unchanged.
+    /// Sends a packet. If the sink refuses the packet, the sent packets and the next number are unchanged.
     fn send(&mut self, packet: OutgoingPacket) -> Result<(), PacketError>;
 }

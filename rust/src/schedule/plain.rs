@@ -13,7 +13,7 @@ use crate::schedule::run::{Run, Sent, Step, pop_step, push_copy, refusal};
 use crate::wire::{Frequency, MediaTime, Ticks, ToPayload};
 use alloc::vec::Vec;
 
-/// Does the steps in order, without RED.
+/// Does the steps of a run in order, without RED.
 pub(crate) fn run_plain<P: Packetizer, D: Depacketizer>(
     payloader: &mut Payloader<P>,
     buffer: &mut DepacketizingBuffer<D>,
@@ -31,7 +31,7 @@ pub(crate) fn run_plain<P: Packetizer, D: Depacketizer>(
     Ok(run)
 }
 
-/// Does one step, and records its result.
+/// Does one step of a run, and records the result.
 fn do_step<P: Packetizer, D: Depacketizer>(
     payloader: &mut Payloader<P>,
     buffer: &mut DepacketizingBuffer<D>,
@@ -79,7 +79,7 @@ fn send_step<P: Packetizer>(
     })
 }
 
-/// Pushes a copy of a packet that was sent.
+/// Pushes a copy of a sent packet.
 fn push_step<D: Depacketizer>(
     clock_rate: Frequency,
     buffer: &mut DepacketizingBuffer<D>,
