@@ -124,51 +124,55 @@ fn send_sample<B: Packetizer, S: PacketSink>(
     for payload in payloads {
         let ext_vals = sample.ext_vals.for_packet(place, count);
         place += 1;
-        send_payload(
-            packetizer,
-            sample,
+        let fields = Fields {
             rtp_time,
             ext_vals,
-            payload,
-            place == count,
-            sink,
-        )?;
+            last: place == count,
+        };
+        send_payload(packetizer, sample, fields, payload, sink)?;
     }
     Ok(())
+}
+
+/// What a packet of a sample has by its place.
+#[derive(Clone, Copy)]
+struct Fields {
+    rtp_time: u32,
+    ext_vals: ExtensionValues,
+    /// Whether it is the last packet of the sample.
+    last: bool,
 }
 
 /// Sends one payload of a sample, with the extension values for its place.
 fn send_payload<B: Packetizer, S: PacketSink>(
     packetizer: &mut CodecPacketizer<B>,
     sample: &ToPayload,
-    rtp_time: u32,
-    ext_vals: ExtensionValues,
+    fields: Fields,
     payload: Vec<u8>,
-    last: bool,
     sink: &mut S,
 ) -> Result<(), PacketError>
     ensures same { packetizer_state_of packetizer.new ≡ packetizer_state_of packetizer.old }
-    ensures ok { let told = packet_for (packetizer_state_of packetizer.old) (sample_of sample.now) rtp_time (S.next sink.old) ext_vals last payload.items in
+    ensures ok { let told = packet_for (packetizer_state_of packetizer.old) (sample_of sample.now) fields.rtp_time (S.next sink.old) fields.ext_vals fields.last payload.items in
         OnOk result ((packet : Packet) × IsAs (is_built_in (packetizer_state_of packetizer.old)) packet told × (image : Packet) × S.accepts sink.old packet image sink.new
         × (S.sent sink.new ≡ S.sent sink.old ++ image ∷ []) × (S.next sink.new ≡ (S.next sink.old + 1) % 2 ^ 64)) }
-    ensures err { let told = packet_for (packetizer_state_of packetizer.old) (sample_of sample.now) rtp_time (S.next sink.old) ext_vals last payload.items in
+    ensures err { let told = packet_for (packetizer_state_of packetizer.old) (sample_of sample.now) fields.rtp_time (S.next sink.old) fields.ext_vals fields.last payload.items in
         IfErr result (λ fault. (packet : Packet) × IsAs (is_built_in (packetizer_state_of packetizer.old)) packet told × S.refuses sink.old packet fault sink.new
         × (S.sent sink.new ≡ S.sent sink.old) × (S.next sink.new ≡ S.next sink.old)) }
     ensures own { (before : B) → packetizer.old ≡ Boxed before → (after : B) × (packetizer.new ≡ Boxed after)
-        × OwnPacket B.state B.marker_step B.marks_spurts B.may_be_asked_for S.accepts S.refuses S.sent S.next (sample_of sample.now) rtp_time ext_vals last payload.items before sink.old result after sink.new }
+        × OwnPacket B.state B.marker_step B.marks_spurts B.may_be_asked_for S.accepts S.refuses S.sent S.next (sample_of sample.now) fields.rtp_time fields.ext_vals fields.last payload.items before sink.old result after sink.new }
     ensures kept { S.keeps sink.old sink.new }
 {
     let starts = packetizer.marks_talkspurt() && sample.start_of_talk_spurt;
-    let marker = packetizer.is_marker(&payload, sink.last_packet(), last) || starts;
+    let marker = packetizer.is_marker(&payload, sink.last_packet(), fields.last) || starts;
     let seq_no = sink.next_seq_no();
     sink.send(OutgoingPacket {
         pt: sample.pt,
         seq_no,
-        rtp_time,
+        rtp_time: fields.rtp_time,
         wallclock: sample.wallclock,
         marker,
         nackable: packetizer.nackable(),
-        ext_vals,
+        ext_vals: fields.ext_vals,
         payload,
     })
 }

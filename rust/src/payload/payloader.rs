@@ -81,40 +81,44 @@ fn send_sample<B: Packetizer, S: PacketSink>(
     for payload in payloads {
         let ext_vals = sample.ext_vals.for_packet(place, count);
         place += 1;
-        send_payload(
-            packetizer,
-            sample,
+        let fields = Fields {
             rtp_time,
             ext_vals,
-            payload,
-            place == count,
-            sink,
-        )?;
+            last: place == count,
+        };
+        send_payload(packetizer, sample, fields, payload, sink)?;
     }
     Ok(())
+}
+
+/// What a packet of a sample has by its place.
+#[derive(Clone, Copy, Debug)]
+struct Fields {
+    rtp_time: u32,
+    ext_vals: ExtensionValues,
+    /// Whether it is the last packet of the sample.
+    last: bool,
 }
 
 /// Sends one payload of a sample, with the extension values for its place.
 fn send_payload<B: Packetizer, S: PacketSink>(
     packetizer: &mut CodecPacketizer<B>,
     sample: &ToPayload,
-    rtp_time: u32,
-    ext_vals: ExtensionValues,
+    fields: Fields,
     payload: Vec<u8>,
-    last: bool,
     sink: &mut S,
 ) -> Result<(), PacketError> {
     let starts = packetizer.marks_talkspurt() && sample.start_of_talk_spurt;
-    let marker = packetizer.is_marker(&payload, sink.last_packet(), last) || starts;
+    let marker = packetizer.is_marker(&payload, sink.last_packet(), fields.last) || starts;
     let seq_no = sink.next_seq_no();
     sink.send(OutgoingPacket {
         pt: sample.pt,
         seq_no,
-        rtp_time,
+        rtp_time: fields.rtp_time,
         wallclock: sample.wallclock,
         marker,
         nackable: packetizer.nackable(),
-        ext_vals,
+        ext_vals: fields.ext_vals,
         payload,
     })
 }

@@ -36,15 +36,21 @@ fn as_block_of(sent: &SentPayload, _pt: u8, time: u32) -> Option<(u32, &[u8])> {
     Some((offset, sent.bytes.as_slice()))
 }
 
-/// The level of a distance: the payload sent that many packets earlier, as the offset and bytes of a block.
-fn level_of(
-    history: &VecDeque<SentPayload>,
+/// The payloads before a packet, and what their blocks in the packet's payload depend on.
+#[derive(Debug)]
+struct Earlier<'a> {
+    /// Newest first.
+    history: &'a VecDeque<SentPayload>,
+    /// The payload type of the blocks: 0 to 127.
     pt: u8,
+    /// The RTP time of the packet.
     time: u32,
-    distance: u32,
-) -> Option<(u32, &[u8])> {
-    let sent = back_of(history, distance)?;
-    as_block_of(sent, pt, time)
+}
+
+/// The level of a distance: the payload sent that many packets earlier, as the offset and bytes of a block.
+fn level_of<'a>(earlier: &Earlier<'a>, distance: u32) -> Option<(u32, &'a [u8])> {
+    let sent = back_of(earlier.history, distance)?;
+    as_block_of(sent, earlier.pt, earlier.time)
 }
 
 /// The distances whose levels are sent: the first so many, shallowest first.
@@ -56,24 +62,18 @@ struct Chosen {
 }
 
 /// Chooses as many distances, from the shallowest on, as have levels that fit the room together.
-fn choose(
-    history: &VecDeque<SentPayload>,
-    pt: u8,
-    time: u32,
-    distances: &[u32],
-    room: usize,
-) -> Chosen {
+fn choose(earlier: &Earlier<'_>, distances: &[u32], room: usize) -> Chosen {
     let Some((first, deeper)) = distances.split_first() else {
         return Chosen { count: 0, size: 0 };
     };
-    let size = match level_of(history, pt, time, *first) {
+    let size = match level_of(earlier, *first) {
         None => 0,
         Some((_, bytes)) => REDUNDANT_HEADER_LEN + bytes.len(),
     };
     if room < size {
         return Chosen { count: 0, size: 0 };
     }
-    let others = choose(history, pt, time, deeper, room - size);
+    let others = choose(earlier, deeper, room - size);
     Chosen {
         count: others.count + 1,
         size: others.size + size,
@@ -84,17 +84,15 @@ fn choose(
 fn put_levels(
     out: &mut Vec<u8>,
     part: BlockPart,
-    history: &VecDeque<SentPayload>,
-    pt: u8,
-    time: u32,
+    earlier: &Earlier<'_>,
     distances: &[u32],
 ) -> Result<(), AllocError> {
     let Some((first, deeper)) = distances.split_first() else {
         return Ok(());
     };
-    put_levels(out, part, history, pt, time, deeper)?;
-    if let Some((offset, bytes)) = level_of(history, pt, time, *first) {
-        put_part(out, part, pt, offset, bytes)?;
+    put_levels(out, part, earlier, deeper)?;
+    if let Some((offset, bytes)) = level_of(earlier, *first) {
+        put_part(out, part, earlier.pt, offset, bytes)?;
     }
     Ok(())
 }
@@ -102,19 +100,17 @@ fn put_levels(
 /// Appends the levels that fit the budget, deepest first, and then the payload.
 fn put_wrapped(
     out: &mut Vec<u8>,
-    history: &VecDeque<SentPayload>,
-    pt: u8,
-    time: u32,
+    earlier: &Earlier<'_>,
     distances: &[u32],
     payload: &[u8],
     budget: usize,
 ) -> Result<(), AllocError> {
-    let chosen = choose(history, pt, time, distances, budget - payload.len() - 1);
+    let chosen = choose(earlier, distances, budget - payload.len() - 1);
     let (kept, _) = distances.split_at(chosen.count);
     out.try_room(chosen.size + 1 + payload.len())?;
-    put_levels(out, BlockPart::Header, history, pt, time, kept)?;
-    out.try_push(pt)?;
-    put_levels(out, BlockPart::Bytes, history, pt, time, kept)?;
+    put_levels(out, BlockPart::Header, earlier, kept)?;
+    out.try_push(earlier.pt)?;
+    put_levels(out, BlockPart::Bytes, earlier, kept)?;
     out.try_extend(payload)?;
     Ok(())
 }
@@ -239,15 +235,12 @@ impl RedSender {
         out: &mut Vec<u8>,
     ) -> Result<(), AllocError> {
         if payload.len() < budget {
-            put_wrapped(
-                out,
-                &self.history,
-                self.primary_pt.value() % 128,
+            let earlier = Earlier {
+                history: &self.history,
+                pt: self.primary_pt.value() % 128,
                 time,
-                self.distances.as_slice(),
-                payload,
-                budget,
-            )
+            };
+            put_wrapped(out, &earlier, self.distances.as_slice(), payload, budget)
         } else {
             out.try_extend(payload)
         }

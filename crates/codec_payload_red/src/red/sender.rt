@@ -52,19 +52,25 @@ fn as_block_of(sent: &SentPayload, pt: u8, time: u32) -> Option<(u32, &[u8])>
     Some((offset, sent.bytes.as_slice()))
 }
 
-/// The level of a distance: the payload sent that many packets earlier, as the offset and bytes of a block.
-fn level_of(
-    history: &VecDeque<SentPayload>,
+/// The payloads before a packet, and what their blocks in the packet's payload depend on.
+#[derive(Drop)]
+struct Earlier<'a> {
+    /// Newest first.
+    history: &'a VecDeque<SentPayload>,
+    /// The payload type of the blocks: 0 to 127.
     pt: u8,
+    /// The RTP time of the packet.
     time: u32,
-    distance: u32,
-) -> Option<(u32, &[u8])>
-    ensures found { Finds (λ x. record { pt = pt; offset = x.0; bytes = x.1.now }) result (level pt time (entries_of history.now.items) distance) }
+}
+
+/// The level of a distance: the payload sent that many packets earlier, as the offset and bytes of a block.
+fn level_of<'a>(earlier: &Earlier<'a>, distance: u32) -> Option<(u32, &'a [u8])>
+    ensures found { Finds (λ x. record { pt = earlier.now.pt; offset = x.0; bytes = x.1.now }) result (level earlier.now.pt earlier.now.time (entries_of earlier.now.history.now.items) distance) }
     ensures low { IfSome result (λ x. x.0 ≤ 16383) }
     ensures short { IfSome result (λ x. length x.1.now ≤ 1023) }
 {
-    let sent = back_of(history, distance)?;
-    as_block_of(sent, pt, time)
+    let sent = back_of(earlier.history, distance)?;
+    as_block_of(sent, earlier.pt, earlier.time)
 }
 
 /// The distances whose levels are sent: the first so many, shallowest first.
@@ -77,29 +83,23 @@ struct Chosen {
 
 /// Chooses as many distances, from the shallowest on, as have levels that fit the room together.
 #[tactic(auto, unfolding(crate::specs::RedLevels::levels, crate::specs::RedLevels::within))]
-fn choose(
-    history: &VecDeque<SentPayload>,
-    pt: u8,
-    time: u32,
-    distances: &[u32],
-    room: usize,
-) -> Chosen
-    ensures kept { within room (levels pt time (entries_of history.now.items) distances.now) ≡ levels pt time (entries_of history.now.items) (take result.count distances.now) }
+fn choose(earlier: &Earlier<'_>, distances: &[u32], room: usize) -> Chosen
+    ensures kept { within room (levels earlier.now.pt earlier.now.time (entries_of earlier.now.history.now.items) distances.now) ≡ levels earlier.now.pt earlier.now.time (entries_of earlier.now.history.now.items) (take result.count distances.now) }
     ensures count { result.count ≤ length distances.now }
-    ensures cost { result.size ≡ sum_by cost (levels pt time (entries_of history.now.items) (take result.count distances.now)) }
+    ensures cost { result.size ≡ sum_by cost (levels earlier.now.pt earlier.now.time (entries_of earlier.now.history.now.items) (take result.count distances.now)) }
     ensures fits { result.size ≤ room }
 {
     let Some((first, deeper)) = distances.split_first() else {
         return Chosen { count: 0, size: 0 };
     };
-    let size = match level_of(history, pt, time, *first) {
+    let size = match level_of(earlier, *first) {
         None => 0,
         Some((_, bytes)) => REDUNDANT_HEADER_LEN + bytes.len(),
     };
     if room < size {
         return Chosen { count: 0, size: 0 };
     }
-    let others = choose(history, pt, time, deeper, room - size);
+    let others = choose(earlier, deeper, room - size);
     Chosen {
         count: others.count + 1,
         size: others.size + size,
@@ -111,20 +111,18 @@ fn choose(
 fn put_levels(
     out: &mut Vec<u8>,
     part: BlockPart,
-    history: &VecDeque<SentPayload>,
-    pt: u8,
-    time: u32,
+    earlier: &Earlier<'_>,
     distances: &[u32],
 ) -> Result<(), AllocError>
-    requires { pt < 128 }
-    ensures { OnOk result (out.new.items ≡ out.old.items ++ flat_map (part_of part) (reverse (levels pt time (entries_of history.now.items) distances.now))) }
+    requires { earlier.now.pt < 128 }
+    ensures { OnOk result (out.new.items ≡ out.old.items ++ flat_map (part_of part) (reverse (levels earlier.now.pt earlier.now.time (entries_of earlier.now.history.now.items) distances.now))) }
 {
     let Some((first, deeper)) = distances.split_first() else {
         return Ok(());
     };
-    put_levels(out, part, history, pt, time, deeper)?;
-    if let Some((offset, bytes)) = level_of(history, pt, time, *first) {
-        put_part(out, part, pt, offset, bytes)?;
+    put_levels(out, part, earlier, deeper)?;
+    if let Some((offset, bytes)) = level_of(earlier, *first) {
+        put_part(out, part, earlier.pt, offset, bytes)?;
     }
     Ok(())
 }
@@ -133,23 +131,21 @@ fn put_levels(
 #[tactic(auto, using(crate::proofs::SenderOutputLemmas::appended_in_order))]
 fn put_wrapped(
     out: &mut Vec<u8>,
-    history: &VecDeque<SentPayload>,
-    pt: u8,
-    time: u32,
+    earlier: &Earlier<'_>,
     distances: &[u32],
     payload: &[u8],
     budget: usize,
 ) -> Result<(), AllocError>
     requires room { length payload.now < budget }
-    requires small { pt < 128 }
-    ensures { OnOk result (out.new.items ≡ out.old.items ++ spelling (record { redundant = reverse (within (budget - length payload.now - 1) (levels pt time (entries_of history.now.items) distances.now)); pt = pt; primary = payload.now })) }
+    requires small { earlier.now.pt < 128 }
+    ensures { OnOk result (out.new.items ≡ out.old.items ++ spelling (record { redundant = reverse (within (budget - length payload.now - 1) (levels earlier.now.pt earlier.now.time (entries_of earlier.now.history.now.items) distances.now)); pt = earlier.now.pt; primary = payload.now })) }
 {
-    let chosen = choose(history, pt, time, distances, budget - payload.len() - 1);
+    let chosen = choose(earlier, distances, budget - payload.len() - 1);
     let (kept, _) = distances.split_at(chosen.count);
     out.reserve(chosen.size + 1 + payload.len())?;
-    put_levels(out, BlockPart::Header, history, pt, time, kept)?;
-    out.push(pt)?;
-    put_levels(out, BlockPart::Bytes, history, pt, time, kept)?;
+    put_levels(out, BlockPart::Header, earlier, kept)?;
+    out.push(earlier.pt)?;
+    put_levels(out, BlockPart::Bytes, earlier, kept)?;
     out.extend_from_slice(payload)?;
     Ok(())
 }
@@ -312,15 +308,12 @@ impl RedSender {
         ensures accepted { IsTrue (is_accepted self.now.distances) }
     {
         if payload.len() < budget {
-            put_wrapped(
-                out,
-                &self.history,
-                self.primary_pt.value() % 128,
+            let earlier = Earlier {
+                history: &self.history,
+                pt: self.primary_pt.value() % 128,
                 time,
-                self.distances.as_slice(),
-                payload,
-                budget,
-            )
+            };
+            put_wrapped(out, &earlier, self.distances.as_slice(), payload, budget)
         } else {
             out.extend_from_slice(payload)
         }

@@ -9,20 +9,20 @@ use Rattle.codec_payload_send.proofs.payloader.send_payload.Goals as goal
 pub returns-clause-ok : goal.returns-clause-ok
 returns-clause-ok g c =
     let marker : is_built_in (packetizer_state_of c.args.packetizer.now) ≡ true
-    → c.if-is_marker.marker ≡ (marker_of (packetizer_state_of c.args.packetizer.now) c.args.last ||
+    → c.if-is_marker.marker ≡ (marker_of (packetizer_state_of c.args.packetizer.now) c.args.fields.last ||
     (talk_spurt_of (packetizer_state_of c.args.packetizer.now) && c.args.sample.now.start_of_talk_spurt)) = λ built_in. search rules in
     let nackable : is_built_in (packetizer_state_of c.args.packetizer.now) ≡ true → c.nackable.result ≡ nackable_of (packetizer_state_of c.args.packetizer.now) = λ built_in. search rules in
-    let told = as_for (packetizer_state_of c.args.packetizer.now) (sample_of c.args.sample.now) c.args.rtp_time _ _ c.args.ext_vals c.args.last _ _ c.args.payload.items
+    let told = as_for (packetizer_state_of c.args.packetizer.now) (sample_of c.args.sample.now) c.args.fields.rtp_time _ _ c.args.fields.ext_vals c.args.fields.last _ _ c.args.payload.items
     c.next_seq_no-seq_no.ensures.number marker nackable in
     on_ok c.send.result (λ sent. (_, told, sent.0, sent.1, sent.2, sent.3)) (rw c.next_seq_no-seq_no.ensures.same at c.send.ensures.ok)
 
 pub returns-clause-err : goal.returns-clause-err
 returns-clause-err g c =
     let marker : is_built_in (packetizer_state_of c.args.packetizer.now) ≡ true
-    → c.if-is_marker.marker ≡ (marker_of (packetizer_state_of c.args.packetizer.now) c.args.last ||
+    → c.if-is_marker.marker ≡ (marker_of (packetizer_state_of c.args.packetizer.now) c.args.fields.last ||
     (talk_spurt_of (packetizer_state_of c.args.packetizer.now) && c.args.sample.now.start_of_talk_spurt)) = λ built_in. search rules in
     let nackable : is_built_in (packetizer_state_of c.args.packetizer.now) ≡ true → c.nackable.result ≡ nackable_of (packetizer_state_of c.args.packetizer.now) = λ built_in. search rules in
-    let told = as_for (packetizer_state_of c.args.packetizer.now) (sample_of c.args.sample.now) c.args.rtp_time _ _ c.args.ext_vals c.args.last _ _ c.args.payload.items
+    let told = as_for (packetizer_state_of c.args.packetizer.now) (sample_of c.args.sample.now) c.args.fields.rtp_time _ _ c.args.fields.ext_vals c.args.fields.last _ _ c.args.payload.items
     c.next_seq_no-seq_no.ensures.number marker nackable in
     if_err c.send.result (λ fault sent. (_, told, sent.0, sent.1, sent.2)) (rw c.next_seq_no-seq_no.ensures.same at c.send.ensures.err)
 
@@ -33,7 +33,7 @@ returns-clause-own g c = λ before is.
     let talk = rw is at c.marks_talkspurt.ensures.step in
     let asks = rw asked.1 at c.nackable.ensures.step in
     let marks : c.if-is_marker.marker ≡ (c.is_marker.result || (c.marks_talkspurt.result && c.args.sample.now.start_of_talk_spurt)) = search rules in
-    let told = as_for BoxedPacketizing (sample_of c.args.sample.now) c.args.rtp_time _ _ c.args.ext_vals c.args.last c.if-is_marker.marker c.nackable.result
+    let told = as_for BoxedPacketizing (sample_of c.args.sample.now) c.args.fields.rtp_time _ _ c.args.fields.ext_vals c.args.fields.last c.if-is_marker.marker c.nackable.result
     c.args.payload.items c.next_seq_no-seq_no.ensures.number (λ built_in. absurd (cc)) (λ built_in. absurd (cc)) in (
       asked.0,
       asked.1,
