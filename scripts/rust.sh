@@ -8,8 +8,8 @@
 # - rustfmt, clippy and rustdoc have nothing to say, and all tests pass, with and without the feature `fallible`; the crate builds
 #   without `std`.
 # - The eraser refuses each plant of tools/eraser/plants.py.
-# - The package builds by itself, and each example ends well; docs/LIMITS.md has the tables that examples/waiting.rs and restarts.rs
-#   print.
+# - The package builds by itself, and each example ends well; docs/LIMITS.md has the tables that examples/waiting.rs, restarts.rs
+#   and adaptive_wait.rs print.
 # - The erased programs answer each test vector of the proved programs (scripts/rust_programs.py 0; scripts/test.sh compares random
 #   scripts once the programs are proved).
 #
@@ -47,7 +47,7 @@ for example in examples/*.rs; do
     step cargo run --quiet --example "$(basename "$example" .rs)"
 done
 # The tables of docs/LIMITS.md are what the examples print.
-for example in waiting restarts; do
+for example in waiting restarts adaptive_wait; do
     step cargo run --quiet --example $example
     while read -r row; do
         grep -qxF -- "$row" "$root/docs/LIMITS.md" || {
