@@ -8,8 +8,7 @@
 # - rustfmt, clippy and rustdoc have nothing to say, and all tests pass, with and without the feature `fallible`; the crate builds
 #   without `std`.
 # - The eraser refuses each plant of tools/eraser/plants.py.
-# - The package builds by itself, and each example ends well; docs/LIMITS.md has the tables that examples/waiting.rs and restarts.rs
-#   print.
+# - The package builds by itself, and each example ends well; docs/LIMITS.md and docs/SESSION.md have the tables that examples print.
 # - The erased programs answer each test vector of the proved programs (scripts/rust_programs.py 0; scripts/test.sh compares random
 #   scripts once the programs are proved).
 #
@@ -43,15 +42,21 @@ passed=$(sed -n 's/^test result: ok. \([0-9]*\) passed.*/\1/p' "$work/log" | awk
 step cargo test --quiet --features fallible
 fallible=$(sed -n 's/^test result: ok. \([0-9]*\) passed.*/\1/p' "$work/log" | awk '{ sum += $1 } END { print sum }')
 RUSTDOCFLAGS="-D warnings" step cargo doc --quiet --no-deps
+# Some examples print a table of a page.
+tables="waiting:LIMITS restarts:LIMITS adaptive_wait:LIMITS session_requests:SESSION"
 for example in examples/*.rs; do
-    step cargo run --quiet --example "$(basename "$example" .rs)"
+    example=$(basename "$example" .rs)
+    case " $tables " in
+    *" $example:"*) ;;
+    *) step cargo run --quiet --example "$example" ;;
+    esac
 done
-# The tables of docs/LIMITS.md are what the examples print.
-for example in waiting restarts; do
-    step cargo run --quiet --example $example
+for table in $tables; do
+    example=${table%:*} page=docs/${table#*:}.md
+    step cargo run --quiet --example "$example"
     while read -r row; do
-        grep -qxF -- "$row" "$root/docs/LIMITS.md" || {
-            echo "rust: docs/LIMITS.md lacks this row of examples/$example.rs: $row"
+        grep -qxF -- "$row" "$root/$page" || {
+            echo "rust: $page lacks this row of examples/$example.rs: $row"
             exit 1
         }
     done <"$work/log"

@@ -48,6 +48,7 @@
 //! | [`sdp`] | from a session description to the settings of receivers |
 //! | [`keyframes`] | which units of video a decoder can show, and when to request a keyframe |
 //! | [`requests`] | when to request missing packets by NACK, and keyframes |
+//! | [`waiting`] | a limit of waiting that follows how late missing packets arrive |
 //! | [`media`] | what frames say: keyframe, size, duration; OBUs, superframes, `av1C`, the Opus header |
 //! | [`red`], [`vp8`], [`vp9`], [`av1`], [`amr_wb`], [`tele`], [`plain`] | one format each |
 //! | [`payload`], [`payloads`] | samples become packets, in fresh memory or in memory that is used again |
@@ -131,6 +132,7 @@ pub mod stream;
 pub mod tele;
 pub mod vp8;
 pub mod vp9;
+pub mod waiting;
 mod whole;
 pub mod wire;
 

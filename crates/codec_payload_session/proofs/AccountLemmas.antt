@@ -8,12 +8,13 @@ use Rattle.std.proofs.lemmas.List.Quantifiers.{position-Some}
 use Rattle.codec_payload_base.specs.declared.wire.Ticks.{Ticks}
 use Rattle.codec_payload_jitter.specs.Receiving.{next}
 use Rattle.codec_payload_jitter.specs.declared.outcome.Outcome.{Outcome}
+use Rattle.codec_payload_jitter.specs.declared.waiting.WaitLimits.{WaitLimits}
 use Rattle.codec_payload_stream.specs.declared.receiver.ReceiveError.{ReceiveError}
 use Rattle.codec_payload_session.proofs.QuietLemmas.{quiet_length}
 use Rattle.codec_payload_session.specs.Arrivals.{Arrives, BeginsIf, BeginsOrFeeds, BeginsWith, Feeds, FeedsIf, Port, StaysEmpty, TakesIn, TakesInAs, added, has_place, left_if, left_where, on_probation, taken_of, without}
 use Rattle.codec_payload_session.specs.Ports.{IsSession, Session, counted_if, taken_in}
 use Rattle.codec_payload_session.specs.Sorting.{sorted_at}
-use Rattle.codec_payload_session.specs.Streams.{Drains, Plays, Steps, StepsBy, Takes, end_of, heard_unless, is_accepted, is_no_memory, is_probation, left_when}
+use Rattle.codec_payload_session.specs.Streams.{Drains, Plays, Steps, StepsBy, Takes, end_of, heard_unless, is_accepted, is_no_memory, is_of, is_probation, left_when, waiting_if, waiting_when, waiting_where}
 use Rattle.codec_payload_session.specs.Turns.{AreQuiet, TakesTurn, ended_after, kept_after}
 use Rattle.codec_payload_session.specs.declared.formats.Format.{Format}
 use Rattle.codec_payload_session.specs.declared.formats.SessionSettings.{SessionSettings}
@@ -218,6 +219,29 @@ pub left_keeps : (settings : SessionSettings) (c : ArrivalCounts) (who : ℕ →
 left_keeps settings c who why at finished p kept = record {
   accounted = omega (arith, kept.accounted, taken_left who why at p.streams);
   bounded = omega (arith, kept.bounded, length_left who why at p.streams);
+}
+
+-- a stream that waits longer takes nothing
+taken_waiting_if : (ssrc payload_type : ℕ) (limits : WaitLimits) (s : Stream) → (waiting_if ssrc payload_type limits s).taken ≡ s.taken
+taken_waiting_if ssrc payload_type limits s = by_test (is_of ssrc payload_type s)
+  where
+    by_test : (b : Bool) → (waiting_when b limits s).taken ≡ s.taken
+    by_test true = refl
+    by_test false = refl
+
+taken_waiting : (ssrc payload_type : ℕ) (limits : WaitLimits) (ss : List Stream) → taken_in (waiting_where ssrc payload_type limits ss) ≡ taken_in ss
+taken_waiting ssrc payload_type limits [] = refl
+taken_waiting ssrc payload_type limits (x ∷ xs) = omega (arith, taken_waiting_if ssrc payload_type limits x, taken_waiting ssrc payload_type limits xs)
+
+length_waiting : (ssrc payload_type : ℕ) (limits : WaitLimits) (ss : List Stream) → length (waiting_where ssrc payload_type limits ss) ≡ length ss
+length_waiting ssrc payload_type limits [] = refl
+length_waiting ssrc payload_type limits (x ∷ xs) = ap suc (length_waiting ssrc payload_type limits xs)
+
+pub waiting_keeps : (settings : SessionSettings) (c : ArrivalCounts) (ssrc payload_type : ℕ) (limits : WaitLimits) (p : Port) → IsSession (with_all settings p c)
+    → IsSession (with_all settings (record p { streams = waiting_where ssrc payload_type limits p.streams }) c)
+waiting_keeps settings c ssrc payload_type limits p kept = record {
+  accounted = omega (arith, kept.accounted, taken_waiting ssrc payload_type limits p.streams);
+  bounded = omega (arith, kept.bounded, length_waiting ssrc payload_type limits p.streams);
 }
 
 -- ---- turns

@@ -102,6 +102,7 @@ pub record HasSettings (s : SessionSettings) (ssrc : ℕ) (f : Format) (r : Sett
   pub clock_rate : r.clock_rate ≡ f.spec.clock_rate
   pub tick_rate : r.tick_rate ≡ s.tick_rate
   pub wait_limits : r.wait_limits ≡ limits_for s (is_video f.spec.codec)
+  pub from_keyframe : r.from_keyframe ≡ s.from_keyframe
   pub limit : r.limit ≡ s.limit
   pub forward : r.forward ≡ forward_for (is_video f.spec.codec)
   pub backward : r.backward ≡ backward_for (is_video f.spec.codec)

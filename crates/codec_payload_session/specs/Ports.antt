@@ -1,10 +1,13 @@
 -- A session, and that every datagram is accounted for.
-use Rattle.std.specs.Prelude.{◌≡◌, ◌≤◌, ℕ, ◌+◌, ◌%◌, ◌^◌, ◌==◌, Bool, true, false, List, [], ◌∷◌, Option, Some, None, Result, Ok, Err, length}
+use Rattle.std.specs.Prelude.{◌≡◌, ◌≤◌, ℕ, ◌+◌, ◌%◌, ◌^◌, ◌==◌, Bool, true, false, List, [], ◌∷◌, Option, Some, None, Result, Ok, Err, length, slice_get}
+use Rattle.std.specs.Option.{option_map}
 use Rattle.std.specs.declared.alloc.AllocError.{AllocError}
 use Rattle.codec_payload_base.specs.declared.wire.Ticks.{Ticks}
 use Rattle.codec_payload_jitter.specs.Receiving.{next}
 use Rattle.codec_payload_session.specs.Arrivals.{Port, TakesIn, left_where}
-use Rattle.codec_payload_session.specs.Streams.{IsInfo}
+use Rattle.codec_payload_session.specs.Streams.{IsInfo, waiting_where}
+use Rattle.codec_payload_jitter.specs.declared.waiting.WaitLimits.{WaitLimits}
+use Rattle.codec_payload_stream.specs.Sessions.{Session as Receiver}
 use Rattle.codec_payload_session.specs.declared.formats.SessionSettings.{SessionSettings}
 use Rattle.codec_payload_session.specs.declared.session.Arrival.{Arrival}
 use Rattle.codec_payload_session.specs.declared.session.Arrival.TheVariants as arrivals
@@ -66,6 +69,9 @@ Receives now bytes s answer t = (port : Port) × TakesIn s.settings now bytes s.
 abbrev pub ends_of : ℕ → ℕ → Session → Session
 ends_of ssrc at s = record s { port = record s.port { streams = left_where (λ own. ssrc == own) endings.Told at s.port.streams } }
 
+abbrev pub waits_of : ℕ → ℕ → WaitLimits → Session → Session
+waits_of ssrc payload_type limits s = record s { port = record s.port { streams = waiting_where ssrc payload_type limits s.port.streams } }
+
 abbrev pub everyone : ℕ → Bool
 everyone ssrc = true
 
@@ -86,6 +92,11 @@ told_counts c ended = record {
 -- the datagrams are those that came to something, and those that the streams took, modulo 2^64
 abbrev pub IsSum : SessionCounts → ℕ → Type 0
 IsSum c taken = c.received % 2 ^ 64 ≡ (c.rtcp + c.malformed + c.unknown + c.refused + c.unassociated + c.ended + taken) % 2 ^ 64
+
+-- the receiver of the stream at a place
+abbrev pub receiver_among : Option ℕ → List Stream → Option Receiver
+receiver_among None streams = None
+receiver_among (Some place) streams = option_map (λ stream. stream.receiver) (slice_get streams place)
 
 abbrev pub MatchInfo : Option Stream → Option StreamInfo → Type 0
 MatchInfo None None = Unit {0}

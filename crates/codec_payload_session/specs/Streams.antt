@@ -1,11 +1,12 @@
 -- One stream of a session: what its receiver is given and asked, and when it begins and ends.
-use Rattle.std.specs.Prelude.{◌≡◌, ℕ, min, ◌+◌, ◌-◌, ◌^◌, ◌==◌, ◌&&◌, nat_lt, nat_le, if◌then◌else◌, Bool, true, false, List, [], ◌∷◌, Option, Some, None, Result, Ok, Err, length}
+use Rattle.std.specs.Prelude.{◌≡◌, ℕ, min, ◌+◌, ◌-◌, ◌^◌, ◌==◌, ◌&&◌, nat_lt, nat_le, if◌then◌else◌, Bool, true, false, List, [], ◌∷◌, Option, Some, None, Result, Ok, Err, length, map}
 use Rattle.codec_payload_base.specs.declared.error.PacketError.{PacketError}
 use Rattle.codec_payload_base.specs.declared.wire.Ticks.{Ticks}
 use Rattle.codec_payload_codec.specs.Depacketizers.{DepacketizerState, configured_depacketizer, depacketizer_state_for}
 use Rattle.codec_payload_buffer.specs.Release.{Release}
 use Rattle.codec_payload_jitter.specs.Receiving.{deadline_of, next}
 use Rattle.codec_payload_jitter.specs.declared.outcome.Outcome.{Outcome}
+use Rattle.codec_payload_jitter.specs.declared.waiting.WaitLimits.{WaitLimits}
 use Rattle.codec_payload_jitter.specs.declared.outcome.Outcome.TheVariants as outcomes
 use Rattle.codec_payload_stream.specs.Pops.{PopsGated}
 use Rattle.codec_payload_stream.specs.Sessions.{Finishes, ReceivesBytes, Session as Receiver, session_by}
@@ -115,6 +116,17 @@ left why at s = record s { stage = stage_left why at s.stage }
 abbrev pub left_when : Bool → Ending → ℕ → Stream → Stream
 left_when true why at s = left why at s
 left_when false why at s = s
+
+-- the stream waits so long, if it has this SSRC and payload type
+abbrev pub waiting_when : Bool → WaitLimits → Stream → Stream
+waiting_when true limits s = record s { receiver = record s.receiver { packets = record s.receiver.packets { wait_limits = limits } } }
+waiting_when false limits s = s
+
+abbrev pub waiting_if : ℕ → ℕ → WaitLimits → Stream → Stream
+waiting_if ssrc payload_type limits s = waiting_when (is_of ssrc payload_type s) limits s
+
+abbrev pub waiting_where : ℕ → ℕ → WaitLimits → List Stream → List Stream
+waiting_where ssrc payload_type limits ss = map (waiting_if ssrc payload_type limits) ss
 
 -- why the stream ends at that time, if it does
 abbrev pub end_by : ℕ → ℕ → ℕ → Stage → Option Ending

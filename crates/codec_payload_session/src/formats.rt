@@ -6,6 +6,7 @@ ghost use Rattle.codec_payload_stream.specs.Kinds.{is_among};
 
 use codec_payload_base::wire::{Codec, CodecSpec, Frequency};
 use codec_payload_jitter::jitter::WaitLimits;
+use codec_payload_keyframes::unit_gate::FromKeyframe;
 use codec_payload_rtp::values::ExtensionIds;
 use codec_payload_stream::receiver::{RedSettings, Retransmission, Settings};
 use std::alloc::{AllocError, Global};
@@ -55,6 +56,11 @@ pub struct SessionSettings {
     pub audio: WaitLimits,
     /// How long frames of video wait for missing packets.
     pub video: WaitLimits,
+    /// What a stream of video does with units that a decoder cannot show. By default they are marked
+    /// ([`Session::receiver_of`]).
+    ///
+    /// [`Session::receiver_of`]: crate::session::Session::receiver_of
+    pub from_keyframe: FromKeyframe,
     /// How many packets a stream holds at most, 1 to 65,536.
     pub limit: usize,
     /// How many streams there are at most.
@@ -93,6 +99,7 @@ impl SessionSettings {
             extension_ids: ExtensionIds::default(),
             audio: WaitLimits::live(),
             video: WaitLimits::live_video_with_nack(),
+            from_keyframe: FromKeyframe::Mark,
             limit: LIMIT,
             max_streams: MAX_STREAMS,
             probation: PROBATION,
@@ -145,6 +152,7 @@ impl SessionSettings {
         settings.extension_ids = self.extension_ids;
         settings.tick_rate = self.tick_rate;
         settings.wait_limits = limits;
+        settings.from_keyframe = self.from_keyframe;
         settings.limit = self.limit;
         Ok(settings)
     }

@@ -1,20 +1,22 @@
 //! A session: the datagrams of one port.
 
 ghost use Rattle.std.specs.Prelude.{◌≡◌, ◌≤◌, length, slice_get};
+ghost use Rattle.std.specs.List.{position};
 ghost use Rattle.std.specs.Option.{option_map};
 ghost use Rattle.codec_payload_session.specs.Arrivals.{Port};
-ghost use Rattle.codec_payload_session.specs.Ports.{IsSum, MatchInfo, Receives, counted, counted_if, ends_all, ends_of, new_session, no_counts, taken_in, told_counts};
-ghost use Rattle.codec_payload_session.specs.Streams.{due_in};
+ghost use Rattle.codec_payload_session.specs.Ports.{IsSum, MatchInfo, Receives, counted, counted_if, ends_all, ends_of, new_session, no_counts, receiver_among, taken_in, told_counts, waits_of};
+ghost use Rattle.codec_payload_session.specs.Streams.{due_in, is_of};
 ghost use Rattle.codec_payload_session.specs.Turns.{TakesTurn};
 
 use crate::formats::SessionSettings;
 use crate::stream::{Ending, StreamInfo};
-use crate::streams::{Streams, Who, due_in};
+use crate::streams::{Streams, Who, due_in, place_of};
 use codec_payload_base::error::PacketError;
 use codec_payload_base::wire::Ticks;
 use codec_payload_buffer::buffer::Depacketized;
+use codec_payload_jitter::jitter::WaitLimits;
 use codec_payload_jitter::outcome::Outcome;
-use codec_payload_stream::receiver::ReceiveError;
+use codec_payload_stream::receiver::{ReceiveError, Receiver};
 use std::alloc::{AllocError, Global};
 use std::marker::Model;
 
@@ -178,6 +180,17 @@ impl Session {
         self.streams.finish(now.0);
     }
 
+    /// Changes how long the stream with this SSRC and payload type waits for missing packets. Without such a stream nothing
+    /// changes. See [`Receiver::set_wait_limits`].
+    ///
+    /// [`Receiver::set_wait_limits`]: codec_payload_stream::receiver::Receiver::set_wait_limits
+    pub fn set_wait_limits(&mut self, ssrc: u32, payload_type: u8, wait_limits: WaitLimits)
+        ensures { self.new ≡ waits_of ssrc payload_type wait_limits self.old }
+    {
+        self.streams
+            .set_wait_limits(ssrc, payload_type, wait_limits);
+    }
+
     /// Returns how many streams there are, announced or not: at most `max_streams` of the settings.
     pub fn stream_count(&self) -> usize
         ensures value { result ≡ length self.now.port.streams }
@@ -192,6 +205,34 @@ impl Session {
     {
         match self.streams.list.get(place) {
             Some(stream) => Some(stream.info()),
+            None => None,
+        }
+    }
+
+    /// Lends the receiver of the stream at a place, in the order in which the streams began. It reports what to request
+    /// ([`Receiver::missing`], [`Receiver::wants_keyframe`]), and what a receiver report has.
+    ///
+    /// [`Receiver::missing`]: codec_payload_stream::receiver::Receiver::missing
+    /// [`Receiver::wants_keyframe`]: codec_payload_stream::receiver::Receiver::wants_keyframe
+    pub fn receiver_at(&self, place: usize) -> Option<&Receiver>
+        ensures { option_map (λ receiver. receiver.now) result ≡ option_map (λ stream. stream.receiver) (slice_get self.now.port.streams place) }
+    {
+        match self.streams.list.get(place) {
+            Some(stream) => Some(&stream.receiver),
+            None => None,
+        }
+    }
+
+    /// Lends the receiver of the stream with this SSRC and payload type. After a poll that gave a unit of the stream it reports
+    /// what the unit is ([`Receiver::unit_is_decodable`], [`Receiver::unit_is_keyframe`]).
+    ///
+    /// [`Receiver::unit_is_decodable`]: codec_payload_stream::receiver::Receiver::unit_is_decodable
+    /// [`Receiver::unit_is_keyframe`]: codec_payload_stream::receiver::Receiver::unit_is_keyframe
+    pub fn receiver_of(&self, ssrc: u32, payload_type: u8) -> Option<&Receiver>
+        ensures { option_map (λ receiver. receiver.now) result ≡ receiver_among (position (is_of ssrc payload_type) self.now.port.streams) self.now.port.streams }
+    {
+        match place_of(&self.streams.list, ssrc, payload_type) {
+            Some(place) => Some(&self.streams.list[place].receiver),
             None => None,
         }
     }

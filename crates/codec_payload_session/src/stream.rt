@@ -2,13 +2,14 @@
 
 ghost use Rattle.std.specs.Prelude.{◌≡◌, IfOk, IfSome};
 ghost use Rattle.std.specs.Option.{option_map};
-ghost use Rattle.codec_payload_session.specs.Streams.{Begins, Drains, IsInfo, Steps, Takes, due_of, earlier, end_of, ended_or_nothing, heard, is_accepted, is_no_memory, is_of, is_probation, left, left_when};
+ghost use Rattle.codec_payload_session.specs.Streams.{Begins, Drains, IsInfo, Steps, Takes, due_of, earlier, end_of, ended_or_nothing, heard, is_accepted, is_no_memory, is_of, is_probation, left, left_when, waiting_if};
 
 use crate::formats::{Format, SessionSettings};
 use codec_payload_base::error::PacketError;
 use codec_payload_base::wire::Ticks;
 use codec_payload_buffer::buffer::Depacketized;
 use codec_payload_codec::codec::CodecDepacketizer;
+use codec_payload_jitter::jitter::WaitLimits;
 use codec_payload_jitter::outcome::Outcome;
 use codec_payload_stream::receiver::{Counters, ReceiveError, Receiver};
 use std::alloc::{AllocError, Global};
@@ -169,6 +170,15 @@ impl Stream {
     {
         if leaves {
             self.leave(why, at);
+        }
+    }
+
+    /// It waits so long, if it has this SSRC and payload type.
+    pub(crate) fn wait_if(&mut self, ssrc: u32, payload_type: u8, wait_limits: WaitLimits)
+        ensures { self.new ≡ waiting_if ssrc payload_type wait_limits self.old }
+    {
+        if self.is_of(ssrc, payload_type) {
+            self.receiver.set_wait_limits(wait_limits);
         }
     }
 

@@ -6,7 +6,7 @@ ghost use Rattle.std.specs.Option.{is_some};
 ghost use Rattle.codec_payload_base.specs.Answers.{Finds};
 ghost use Rattle.codec_payload_rtcp.specs.RtcpReading.{compound_at, packets_left};
 ghost use Rattle.codec_payload_rtcp.specs.RtcpValues.{packet_of};
-ghost use Rattle.codec_payload_session.specs.Streams.{due_in, is_of};
+ghost use Rattle.codec_payload_session.specs.Streams.{due_in, is_of, waiting_if, waiting_where};
 ghost use Rattle.codec_payload_session.specs.Turns.{StepsFirst, TakesTurn, after_step, is_nothing, told_by};
 ghost use Rattle.codec_payload_session.specs.Arrivals.{BeginsIf, BeginsOrFeeds, Feeds, TakesIn, added, goodbye_in, has_place, has_ssrc, includes, leaving, left_if, left_where, names, on_probation, removed, say_goodbye, says_goodbye, source_at_front};
 ghost use Rattle.codec_payload_session.specs.Ports.{everyone, no_port};
@@ -17,6 +17,7 @@ use crate::session::{Arrival, Event};
 use crate::sort::{Sorted, sort};
 use crate::stream::{Ending, Step, Stream, earlier, is_no_memory};
 use codec_payload_base::wire::Ticks;
+use codec_payload_jitter::jitter::WaitLimits;
 use codec_payload_rtcp::compound::{CompoundRule, Packets, read_compound};
 use codec_payload_rtcp::packet::RtcpPacket;
 use std::alloc::{AllocError, Global};
@@ -251,6 +252,13 @@ impl Streams {
         leave(&mut self.list, who, why, at);
     }
 
+    /// The stream with this SSRC and payload type waits so long.
+    pub(crate) fn set_wait_limits(&mut self, ssrc: u32, payload_type: u8, wait_limits: WaitLimits)
+        ensures { self.new ≡ record self.old { streams = waiting_where ssrc payload_type wait_limits self.old.streams } }
+    {
+        set_wait_limits(&mut self.list, ssrc, payload_type, wait_limits);
+    }
+
     /// From now on no stream begins, and all are to end at that time.
     pub(crate) fn finish(&mut self, at: u64)
         ensures { self.new ≡ record self.old { streams = left_where everyone endings.Told at self.old.streams; finished = true } }
@@ -261,7 +269,7 @@ impl Streams {
 }
 
 /// Where the stream with this SSRC and payload type is.
-fn place_of(streams: &[Stream], ssrc: u32, payload_type: u8) -> Option<usize>
+pub(crate) fn place_of(streams: &[Stream], ssrc: u32, payload_type: u8) -> Option<usize>
     ensures value { result ≡ position (is_of ssrc payload_type) streams.now }
     ensures within { IfSome result (λ at. at < length streams.now) }
 {
@@ -342,6 +350,15 @@ fn leave_if(stream: &mut Stream, who: Who<'_>, why: Ending, at: u64)
 {
     let leaves = includes(who, stream.ssrc);
     stream.leave_if(leaves, why, at);
+}
+
+/// The stream with this SSRC and payload type waits so long.
+fn set_wait_limits(streams: &mut [Stream], ssrc: u32, payload_type: u8, wait_limits: WaitLimits)
+    ensures { streams.new ≡ waiting_where ssrc payload_type wait_limits streams.old }
+{
+    for place in 0..streams.len() {
+        streams[place].wait_if(ssrc, payload_type, wait_limits);
+    }
 }
 
 /// Whether the stream of this SSRC is one of them.

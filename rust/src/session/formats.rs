@@ -3,6 +3,7 @@
 //! The payload types of a port, and the settings of its streams.
 
 use crate::jitter::jitter_buffer::WaitLimits;
+use crate::keyframes::unit_gate::FromKeyframe;
 use crate::memory::{AllocError, TryVec};
 use crate::rtp::values::ExtensionIds;
 use crate::stream::receiver::{ReceiverSettings, RedSettings, Retransmission};
@@ -54,6 +55,11 @@ pub struct SessionSettings {
     pub audio: WaitLimits,
     /// How long frames of video wait for missing packets.
     pub video: WaitLimits,
+    /// What a stream of video does with units that a decoder cannot show. By default they are marked
+    /// ([`Session::receiver_of`]).
+    ///
+    /// [`Session::receiver_of`]: crate::session::sessions::Session::receiver_of
+    pub from_keyframe: FromKeyframe,
     /// How many packets a stream holds at most, 1 to 65,536.
     pub limit: usize,
     /// How many streams there are at most.
@@ -92,6 +98,7 @@ impl SessionSettings {
             extension_ids: ExtensionIds::default(),
             audio: WaitLimits::live(),
             video: WaitLimits::live_video_with_nack(),
+            from_keyframe: FromKeyframe::Mark,
             limit: LIMIT,
             max_streams: MAX_STREAMS,
             probation: PROBATION,
@@ -137,6 +144,7 @@ impl SessionSettings {
         settings.extension_ids = self.extension_ids;
         settings.tick_rate = self.tick_rate;
         settings.wait_limits = limits;
+        settings.from_keyframe = self.from_keyframe;
         settings.limit = self.limit;
         Ok(settings)
     }

@@ -4,12 +4,13 @@
 
 use crate::buffer::Depacketized;
 use crate::error::PacketError;
+use crate::jitter::jitter_buffer::WaitLimits;
 use crate::jitter::outcome::Outcome;
 use crate::memory::AllocError;
 use crate::session::formats::SessionSettings;
 use crate::session::stream::{Ending, StreamInfo};
-use crate::session::streams::{Streams, Who, due_in};
-use crate::stream::receiver::ReceiveError;
+use crate::session::streams::{Streams, Who, due_in, place_of};
+use crate::stream::receiver::{ReceiveError, Receiver};
 use crate::wire::Ticks;
 
 /// What became of a datagram.
@@ -147,6 +148,15 @@ impl Session {
         self.streams.finish(now.0);
     }
 
+    /// Changes how long the stream with this SSRC and payload type waits for missing packets. Without such a stream nothing
+    /// changes. See [`Receiver::set_wait_limits`].
+    ///
+    /// [`Receiver::set_wait_limits`]: crate::stream::receiver::Receiver::set_wait_limits
+    pub fn set_wait_limits(&mut self, ssrc: u32, payload_type: u8, wait_limits: WaitLimits) {
+        self.streams
+            .set_wait_limits(ssrc, payload_type, wait_limits);
+    }
+
     /// Returns how many streams there are, announced or not: at most `max_streams` of the settings.
     pub fn stream_count(&self) -> usize {
         self.streams.list.len()
@@ -156,6 +166,30 @@ impl Session {
     pub fn stream_at(&self, place: usize) -> Option<StreamInfo> {
         match self.streams.list.get(place) {
             Some(stream) => Some(stream.info()),
+            None => None,
+        }
+    }
+
+    /// Lends the receiver of the stream at a place, in the order in which the streams began. It reports what to request
+    /// ([`Receiver::missing`], [`Receiver::wants_keyframe`]), and what a receiver report has.
+    ///
+    /// [`Receiver::missing`]: crate::stream::receiver::Receiver::missing
+    /// [`Receiver::wants_keyframe`]: crate::stream::receiver::Receiver::wants_keyframe
+    pub fn receiver_at(&self, place: usize) -> Option<&Receiver> {
+        match self.streams.list.get(place) {
+            Some(stream) => Some(&stream.receiver),
+            None => None,
+        }
+    }
+
+    /// Lends the receiver of the stream with this SSRC and payload type. After a poll that gave a unit of the stream it reports
+    /// what the unit is ([`Receiver::unit_is_decodable`], [`Receiver::unit_is_keyframe`]).
+    ///
+    /// [`Receiver::unit_is_decodable`]: crate::stream::receiver::Receiver::unit_is_decodable
+    /// [`Receiver::unit_is_keyframe`]: crate::stream::receiver::Receiver::unit_is_keyframe
+    pub fn receiver_of(&self, ssrc: u32, payload_type: u8) -> Option<&Receiver> {
+        match place_of(&self.streams.list, ssrc, payload_type) {
+            Some(place) => Some(&self.streams.list[place].receiver),
             None => None,
         }
     }

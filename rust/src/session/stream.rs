@@ -5,6 +5,7 @@
 use crate::buffer::Depacketized;
 use crate::codec::CodecDepacketizer;
 use crate::error::PacketError;
+use crate::jitter::jitter_buffer::WaitLimits;
 use crate::jitter::outcome::Outcome;
 use crate::memory::AllocError;
 use crate::session::formats::{Format, SessionSettings};
@@ -152,6 +153,13 @@ impl Stream {
     pub(crate) fn leave_if(&mut self, leaves: bool, why: Ending, at: u64) {
         if leaves {
             self.leave(why, at);
+        }
+    }
+
+    /// It waits so long, if it has this SSRC and payload type.
+    pub(crate) fn wait_if(&mut self, ssrc: u32, payload_type: u8, wait_limits: WaitLimits) {
+        if self.is_of(ssrc, payload_type) {
+            self.receiver.set_wait_limits(wait_limits);
         }
     }
 

@@ -2,6 +2,7 @@
 
 //! The streams of a session, in the order in which they began.
 
+use crate::jitter::jitter_buffer::WaitLimits;
 use crate::memory::{AllocError, TryVec};
 use crate::rtcp::compound::{CompoundRule, Packets, read_compound};
 use crate::rtcp::packet::RtcpPacket;
@@ -204,6 +205,11 @@ impl Streams {
         leave(&mut self.list, who, why, at);
     }
 
+    /// The stream with this SSRC and payload type waits so long.
+    pub(crate) fn set_wait_limits(&mut self, ssrc: u32, payload_type: u8, wait_limits: WaitLimits) {
+        set_wait_limits(&mut self.list, ssrc, payload_type, wait_limits);
+    }
+
     /// From now on no stream begins, and all are to end at that time.
     pub(crate) fn finish(&mut self, at: u64) {
         self.finished = true;
@@ -212,7 +218,7 @@ impl Streams {
 }
 
 /// Where the stream with this SSRC and payload type is.
-fn place_of(streams: &[Stream], ssrc: u32, payload_type: u8) -> Option<usize> {
+pub(crate) fn place_of(streams: &[Stream], ssrc: u32, payload_type: u8) -> Option<usize> {
     streams.iter().position(|s| s.is_of(ssrc, payload_type))
 }
 
@@ -271,6 +277,13 @@ fn leave(streams: &mut [Stream], who: Who<'_>, why: Ending, at: u64) {
 fn leave_if(stream: &mut Stream, who: Who<'_>, why: Ending, at: u64) {
     let leaves = includes(who, stream.ssrc);
     stream.leave_if(leaves, why, at);
+}
+
+/// The stream with this SSRC and payload type waits so long.
+fn set_wait_limits(streams: &mut [Stream], ssrc: u32, payload_type: u8, wait_limits: WaitLimits) {
+    for place in 0..streams.len() {
+        streams[place].wait_if(ssrc, payload_type, wait_limits);
+    }
 }
 
 /// Whether the stream of this SSRC is one of them.

@@ -1,0 +1,2 @@
+mod AgeLemmas
+mod GapLemmas

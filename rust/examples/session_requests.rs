@@ -1,0 +1,301 @@
+//! A session that requests what is missing: NACK (RFC 4585, section 6.2.1) and PLI (section 6.3.1) for a video on a port, over a
+//! simulated network that loses packets both ways. It prints the table of docs/SESSION.md, and fails if requests do not help:
+//!
+//! ```sh
+//! cargo run --release --example session_requests
+//! ```
+//!
+//! - `Session::receiver_of` lends the receiver of a stream: it reports what is missing and whether a keyframe is needed.
+//! - `NackSchedule` and `KeyframeRequests` decide when to request. Keep one of each for each stream.
+//! - Wait for at least four round trips: `Session::set_wait_limits`.
+
+use codec_payload::history::{History, HistorySettings, Request, read_requests};
+use codec_payload::requests::{KeyframeRequests, NackSchedule, NackSettings};
+use codec_payload::rtcp::{CompoundRule, Nack, PictureLoss, pack_numbers};
+use codec_payload::sender::{Sample, Sender, SenderSettings};
+use codec_payload::session::{Event, Format, Session, SessionSettings};
+use codec_payload::{
+    Codec, CodecPacketizer, CodecSpec, ExtensionValues, Frequency, MediaTime, Ticks,
+};
+use std::collections::BTreeMap;
+use std::error::Error;
+
+const VP8: u8 = 96;
+const SSRC: u32 = 7;
+const OWN_SSRC: u32 = 8;
+/// How long the video is, and how often a frame comes, in milliseconds.
+const LENGTH: u64 = 20_000;
+const INTERVAL: u64 = 33;
+/// The bytes of a frame: three packets.
+const FRAME: usize = 3_000;
+/// How long a frame waits at most, whatever the round trip is.
+const LONGEST_WAIT: u64 = 500;
+
+/// What the caller does about losses.
+#[derive(Clone, Copy, PartialEq)]
+enum Requests {
+    None,
+    /// Frames wait for 200 ms.
+    Fixed,
+    /// Frames wait for four round trips, and at least 200 ms.
+    ByRoundTrip,
+}
+
+/// One direction of the network.
+struct Way {
+    chance: u64,
+    lost: u64,
+    takes: u64,
+    datagrams: BTreeMap<(u64, u64), Vec<u8>>,
+}
+
+impl Way {
+    fn new(chance: u64, lost: u64, takes: u64) -> Way {
+        Way {
+            chance,
+            lost,
+            takes,
+            datagrams: BTreeMap::new(),
+        }
+    }
+
+    fn send(&mut self, now: u64, datagram: &[u8]) {
+        self.chance = self
+            .chance
+            .wrapping_mul(6_364_136_223_846_793_005)
+            .wrapping_add(1_442_695_040_888_963_407);
+        if (self.chance >> 33) % 100 >= self.lost {
+            let at = (now + self.takes, self.chance);
+            self.datagrams.insert(at, datagram.to_vec());
+        }
+    }
+
+    /// What arrives until now.
+    fn arrived(&mut self, now: u64) -> Vec<Vec<u8>> {
+        let later = self.datagrams.split_off(&(now + 1, 0));
+        std::mem::replace(&mut self.datagrams, later)
+            .into_values()
+            .collect()
+    }
+}
+
+/// The sending side: it resends what is requested, and sends keyframes on request.
+struct SendingSide {
+    sender: Sender,
+    history: History,
+    resent: Vec<u8>,
+    keyframe: bool,
+    frames: u64,
+}
+
+impl SendingSide {
+    fn new() -> Result<SendingSide, Box<dyn Error>> {
+        let packetizer = CodecPacketizer::from_codec(Codec::Vp8).ok_or("VP8 is supported")?;
+        Ok(SendingSide {
+            sender: Sender::new(
+                packetizer,
+                SenderSettings::for_stream(VP8, SSRC, Frequency::NINETY_KHZ),
+            )?,
+            history: History::new(HistorySettings {
+                limit: 512,
+                interval: 0,
+                stream: None,
+            })?,
+            resent: Vec::new(),
+            keyframe: true,
+            frames: 0,
+        })
+    }
+
+    fn send(&mut self, way: &mut Way, now: u64) -> Result<(), Box<dyn Error>> {
+        let mut frame = vec![0; FRAME];
+        frame[0] = 0x10 | u8::from(!self.keyframe);
+        if self.keyframe {
+            frame[3..10].copy_from_slice(&[0x9d, 0x01, 0x2a, 0x40, 0x01, 0xf0, 0x00]);
+        }
+        self.keyframe = false;
+        self.frames += 1;
+        self.sender.send(&Sample {
+            rtp_time: MediaTime::from_90khz(now * 90),
+            bytes: &frame,
+            start_of_talk_spurt: false,
+            ext_vals: ExtensionValues::default(),
+        })?;
+        for datagram in self.sender.datagrams() {
+            self.history.keep(datagram)?;
+            way.send(now, datagram);
+        }
+        Ok(())
+    }
+
+    fn answer(&mut self, way: &mut Way, now: u64, feedback: &[u8]) -> Result<(), Box<dyn Error>> {
+        for request in read_requests(CompoundRule::ReducedSize, SSRC, feedback)? {
+            match request {
+                Request::Packet(number) => {
+                    self.history.resend(Ticks(now), number, &mut self.resent)?;
+                    way.send(now, &self.resent);
+                }
+                _ => self.keyframe = true,
+            }
+        }
+        Ok(())
+    }
+}
+
+/// The receiving side: a session, and the requests for its stream.
+struct ReceivingSide {
+    session: Session,
+    nack: NackSchedule,
+    keyframe: KeyframeRequests,
+    missing: Vec<u64>,
+    numbers: Vec<u16>,
+    released: u64,
+    decodable: u64,
+}
+
+impl ReceivingSide {
+    fn new() -> ReceivingSide {
+        let mut settings = SessionSettings::live();
+        settings.formats.push(Format {
+            payload_type: VP8,
+            spec: CodecSpec {
+                codec: Codec::Vp8,
+                clock_rate: Frequency::NINETY_KHZ,
+                octet_align: false,
+            },
+            red: None,
+            retransmission: None,
+        });
+        ReceivingSide {
+            session: Session::new(settings),
+            nack: NackSchedule::new(NackSettings::live()),
+            keyframe: KeyframeRequests::new(500),
+            missing: Vec::new(),
+            numbers: Vec::new(),
+            released: 0,
+            decodable: 0,
+        }
+    }
+
+    fn receive(&mut self, now: u64, datagram: &[u8]) -> Result<(), Box<dyn Error>> {
+        let number = u16::from_be_bytes([datagram[2], datagram[3]]);
+        if self.nack.has_requested(number) {
+            self.nack.answered(Ticks(now), number);
+        }
+        self.session.receive(Ticks(now), datagram)?;
+        Ok(())
+    }
+
+    /// Counts the units, and those that a decoder can show.
+    fn poll(&mut self, now: u64) {
+        while let Some(event) = self.session.poll(Ticks(now)) {
+            if let Event::Unit {
+                ssrc, payload_type, ..
+            } = event
+            {
+                let receiver = self.session.receiver_of(ssrc, payload_type);
+                self.released += 1;
+                self.decodable += u64::from(receiver.is_some_and(|it| it.unit_is_decodable()));
+            }
+        }
+    }
+
+    /// The feedback that is due now: a reduced-size compound packet (RFC 5506). Empty: none.
+    fn feedback(&mut self, now: u64) -> Result<Vec<u8>, Box<dyn Error>> {
+        let mut feedback = Vec::new();
+        let Some(receiver) = self.session.receiver_of(SSRC, VP8) else {
+            return Ok(feedback);
+        };
+        self.missing.clear();
+        self.missing.extend(receiver.missing(512));
+        self.keyframe.set_wanted(receiver.wants_keyframe());
+        self.nack.refresh(Ticks(now), &self.missing)?;
+        self.numbers.clear();
+        self.nack.take_due(Ticks(now), &mut self.numbers)?;
+        if !self.numbers.is_empty() {
+            let mut pairs = Vec::new();
+            pack_numbers(&self.numbers, &mut pairs)?;
+            Nack {
+                sender_ssrc: OWN_SSRC,
+                media_ssrc: SSRC,
+                pairs: &pairs,
+            }
+            .write(&mut feedback)?;
+        }
+        if self.keyframe.take_due(Ticks(now)) {
+            PictureLoss {
+                sender_ssrc: OWN_SSRC,
+                media_ssrc: SSRC,
+            }
+            .write(&mut feedback)?;
+        }
+        Ok(feedback)
+    }
+
+    /// Waits for four round trips, if the round trip is known.
+    fn follow_round_trip(&mut self) {
+        let Some(receiver) = self.session.receiver_of(SSRC, VP8) else {
+            return;
+        };
+        let mut limits = receiver.wait_limits();
+        let wait = NackSettings::live().first_wait + 4 * self.nack.round_trip().unwrap_or(0);
+        limits.max_wait = Some(wait.clamp(200, LONGEST_WAIT));
+        self.session.set_wait_limits(SSRC, VP8, limits);
+    }
+}
+
+/// Released and decodable units in thousandths of the sent frames.
+fn run(round_trip: u64, lost: u64, requests: Requests) -> Result<[u64; 2], Box<dyn Error>> {
+    let mut there = Way::new(1, lost, round_trip / 2);
+    let mut back = Way::new(2, lost, round_trip / 2);
+    let mut sending = SendingSide::new()?;
+    let mut receiving = ReceivingSide::new();
+    for now in 0..LENGTH + 2_000 {
+        for feedback in back.arrived(now) {
+            sending.answer(&mut there, now, &feedback)?;
+        }
+        if now % INTERVAL == 0 && now < LENGTH {
+            sending.send(&mut there, now)?;
+        }
+        for datagram in there.arrived(now) {
+            receiving.receive(now, &datagram)?;
+        }
+        receiving.poll(now);
+        if requests != Requests::None {
+            let feedback = receiving.feedback(now)?;
+            if !feedback.is_empty() {
+                back.send(now, &feedback);
+            }
+        }
+        if requests == Requests::ByRoundTrip {
+            receiving.follow_round_trip();
+        }
+    }
+    receiving.session.finish(Ticks(LENGTH + 2_000));
+    receiving.poll(LENGTH + 2_000);
+    let share = |count: u64| count * 1_000 / sending.frames;
+    Ok([share(receiving.released), share(receiving.decodable)])
+}
+
+fn main() -> Result<(), Box<dyn Error>> {
+    println!("| round trip, loss | no requests | wait 200 ms | wait by the round trip |");
+    println!("|---|---|---|---|");
+    for (round_trip, lost) in [(20, 5), (20, 20), (80, 5), (80, 20), (150, 5), (150, 20)] {
+        let results = [
+            run(round_trip, lost, Requests::None)?,
+            run(round_trip, lost, Requests::Fixed)?,
+            run(round_trip, lost, Requests::ByRoundTrip)?,
+        ];
+        let percent = |it: u64| format!("{}.{} %", it / 10, it % 10);
+        let cells = results
+            .map(|[released, decodable]| format!("{}; {}", percent(released), percent(decodable)));
+        println!("| {round_trip} ms, {lost} % | {} |", cells.join(" | "));
+        let [[_, none], [_, fixed], [_, by_round_trip]] = results;
+        assert!(none < fixed && fixed <= by_round_trip, "requests help");
+        assert!(
+            lost > 5 || by_round_trip >= 980,
+            "at 5 % loss nearly all frames can be shown"
+        );
+    }
+    Ok(())
+}
