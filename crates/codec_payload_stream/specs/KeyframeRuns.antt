@@ -35,7 +35,7 @@ pub data GateRun (s : Session) : List Event → Session → Type 0 where
   others : {mid t : Session} {before : List Event} → GateRun s before mid → t.gates ≡ mid.gates → GateRun s before t
 
 -- over every run of a new receiver of video: the latest unit is decodable exactly if a chain of contiguous units leads to it
--- from a keyframe; a keyframe is requested exactly if an event since the last keyframe needs one
+-- from a keyframe; `wants_keyframe` is true exactly if an event since the last keyframe needs one
 abbrev pub PopsFollowKeyframes : Type 0
 PopsFollowKeyframes =
     (codec : Codec) (s t : Session) (events : List Event) → is_video codec ≡ true → s.gates.gate ≡ new_gate codec → GateRun s events t

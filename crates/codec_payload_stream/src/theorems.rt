@@ -18,7 +18,7 @@ pub fn receives_by_rule()
 /// Over every run of a receiver of video, from its first call on:
 ///
 /// - The latest unit is decodable exactly if a chain of contiguous units leads to it from a keyframe.
-/// - A keyframe is requested exactly if an event since the last keyframe needs one.
+/// - `wants_keyframe` is true exactly if an event since the last keyframe needs a keyframe.
 /// - A receiver that drops units passes on a unit only if it is a keyframe, or follows a decodable unit.
 /// - Datagrams and the end of the stream change neither answer.
 pub fn pops_follow_keyframes()
