@@ -50,7 +50,8 @@ pub enum Event {
         ssrc: u32,
         payload_type: u8,
     },
-    /// A unit of a stream, or the error of an invalid frame. `rtp_time` is in ticks of the RTP clock, without wrapping.
+    /// A unit of a stream, or the error of a pop. After `OutOfMemory` the frame is kept, and the next poll tries again. After
+    /// any other error the frame was dropped. `rtp_time` is in ticks of the RTP clock, without wrapping.
     Unit {
         ssrc: u32,
         payload_type: u8,

@@ -23,8 +23,8 @@ pub enum Outcome {
     /// False: the suspect packet had no media, memory ran out for it, or the caller announced the restart, so that there was
     /// none.
     Restarted(bool),
-    /// The packet carries no media of this stream: it has padding only, or a payload type without media. No frame waits for its
-    /// number.
+    /// The packet has no media to store: padding only, a payload type without media, or a repetition of a stored block of RED.
+    /// No frame waits for its number.
     NoMedia,
     /// The packet has another SSRC or payload type. A jitter buffer never reports this for a pushed packet.
     OtherStream,

@@ -41,7 +41,8 @@ pub enum Arrival {
 pub enum Event {
     /// A stream is announced. This is the first event of the stream.
     Begun { ssrc: u32, payload_type: u8 },
-    /// A unit of a stream, or the error of an invalid frame. `rtp_time` is in ticks of the RTP clock, without wrapping.
+    /// A unit of a stream, or the error of a pop. After `OutOfMemory` the frame is kept, and the next poll tries again. After
+    /// any other error the frame was dropped. `rtp_time` is in ticks of the RTP clock, without wrapping.
     Unit {
         ssrc: u32,
         payload_type: u8,

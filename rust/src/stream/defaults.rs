@@ -13,7 +13,7 @@ use alloc::vec::Vec;
 /// The largest number of packets that a receiver with default settings holds.
 const LIMIT: usize = 4_096;
 
-/// Windows for packets of 20 ms or more: the backward window holds at least 5 s, the forward window three times as many
+/// Windows for packets of 20 ms or more: the backward window holds at least 5 s, the forward window more than twice as many
 /// packets.
 const AUDIO: Windows = Windows {
     forward: 3_000,

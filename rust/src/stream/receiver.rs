@@ -285,8 +285,9 @@ impl<B: Depacketizer> Receiver<B> {
     ///
     /// A packet with media is stored under its number; see [`JitterBuffer::push`]. For a RED packet the outcome describes its
     /// primary block; if the primary block has another payload type, the packet has no media. Redundant blocks are stored if
-    /// their packets are missing, and are counted as recovered. No block of a suspect packet is stored. A retransmission is
-    /// stored under its original number; see [`JitterBuffer::push_retransmitted`].
+    /// their packets are missing, and are counted as recovered. No block of a suspect packet is stored. A packet that repeats a
+    /// stored block under another number has no media. A retransmission is stored under its original number; see
+    /// [`JitterBuffer::push_retransmitted`].
     ///
     /// If the settings name no SSRC, the first packet of each SSRC waits ([`Outcome::Undecided`]), at most four packets. The
     /// first two packets of one SSRC whose numbers are 1 to 100 apart, in either order, choose the stream. The packet that
@@ -482,7 +483,7 @@ impl<B: Depacketizer> Receiver<B> {
     /// Returns whether to request a keyframe, by PLI (RFC 4585, section 6.3.1) or FIR (RFC 5104, section 4.3.1). It is true
     /// from one of these events until a pop releases a keyframe:
     ///
-    /// - A pop returned a unit that a decoder cannot show.
+    /// - A pop found a unit that a decoder cannot show.
     /// - A pop returned an error other than [`PacketError::OutOfMemory`].
     /// - A pop returned no unit and discarded packets, for example because the picture ids of the sender jumped back.
     /// - You called [`Receiver::restart`].
