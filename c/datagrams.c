@@ -46,7 +46,7 @@ static uint32_t came(cpay_receiver *receiver, uint64_t now, uint8_t type, uint16
     return outcome;
 }
 
-/* The number of the next unit, modulo 65536; -1 if there is none. */
+/* The number of the next unit, modulo 65536; -1 if no unit is due. */
 static long next(cpay_receiver *receiver, uint64_t now) {
     uint8_t bytes[8];
     cpay_unit unit = {0};
@@ -474,7 +474,7 @@ static void red(void) {
     cpay_receiver_free(&receiver);
 }
 
-/* The windows by rate are those of audio and video for their rates, and a receiver takes all of them. */
+/* The windows by rate equal the windows of audio and video at their rates, and a receiver accepts all of them. */
 static void windows_by_rate(void) {
     const cpay_receiver_settings audio = CPAY_LIVE_AUDIO, video = CPAY_LIVE_VIDEO;
     CHECK(CPAY_FORWARD_FOR(0) == audio.forward && CPAY_BACKWARD_FOR(0) == audio.backward);
@@ -563,7 +563,7 @@ static void reports(void) {
     cpay_receiver_free(&receiver);
 }
 
-/* Of the numbers 65534 to 4 over their wrap, 65535, 1 and 3 are lost, and 1 arrives at last. */
+/* Packets 65534 to 4, over the wrap of the numbers: 65535, 1 and 3 are lost, and 1 arrives late. */
 static void missing(void) {
     cpay_receiver_settings settings = settings_of(opus());
     cpay_receiver receiver = CPAY_INIT;

@@ -23,7 +23,7 @@ static void fail(const char *what) {
     exit(EXIT_FAILURE);
 }
 
-/* ---- What was read ---- */
+/* ---- Printing ---- */
 
 static void print_format(const cpay_sdp_format *it) {
     printf("%u %s/%u/%u: %s", it->payload_type, it->name, it->clock_rate, it->channels, roles[it->role]);
@@ -50,7 +50,7 @@ static void print_ids(const cpay_sdp_media *it) {
     printf("\n");
 }
 
-/* The settings of a receiver for a payload type of media, which must be those of a receiver. */
+/* The settings of a receiver for a payload type of media, which a receiver must accept. */
 static void print_receiver(const cpay_sdp_media *it, uint8_t payload_type) {
     cpay_receiver_settings settings;
     cpay_receiver receiver = CPAY_INIT;

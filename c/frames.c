@@ -3,8 +3,8 @@
  *   frames report    prints a line for each: info=STATUS key=0|1|- size=WIDTHxHEIGHT|- duration=TICKS|-, then its parts (OBUs,
  *                    frames of a superframe, frames of AMR-WB), and end=STATUS, the status that ended them
  *   frames hostile   makes the queries for each beginning of each frame, for each frame with each byte changed to all others, and
- *                    for all strings of one and two bytes. Each status must be one of the header's, an error must leave the
- *                    outputs unchanged, and parts must lie in the frame, one after another
+ *                    for all strings of one and two bytes. The header must name each status. An error must leave the outputs
+ *                    unchanged. Parts must lie in the frame, one after another
  *   frames times     prints the nanoseconds of one cpay_frame_info for each, the minimum of many rounds
  *
  * scripts/media_peers.py compares the output with other readers. */

@@ -138,7 +138,7 @@ static int whole_frames(uint32_t codec, int *met) {
         if (codec != CPAY_AV1 && codec != CPAY_NULL && packets[0].bytes > MTU) return 4;
         /* the third picture id of VP8 is longer than the ones before it */
         if (i > 2 && asked != taken) return 5;
-        /* the picture id is that of the frame, also after allocations failed */
+        /* the packet has the picture id of the frame, also after failed allocations */
         if (codec == CPAY_VP8 && bytes[14] != (i < 2 ? 126 + i : 0x80)) return 6;
     }
     cpay_packetizer_free(&sender);
@@ -251,7 +251,7 @@ static size_t packet(uint8_t *out, uint8_t type, uint8_t ssrc, uint8_t number, c
     return 12 + size;
 }
 
-/* Of four packets the second arrives in RED with the third (RFC 2198), and the last is retransmitted (RFC 4588). A packet of
+/* Four packets: the second arrives in RED with the third (RFC 2198), and the last is retransmitted (RFC 4588). A packet with
  * padding only arrives too. The settings name no SSRC, so the first packet waits for the next one. */
 static int recovery(int *met) {
     long before = kept;

@@ -313,7 +313,7 @@ static const char *const uris[EXTENSIONS] = {
     "urn:ietf:params:rtp-hdrext:toffset",
 };
 
-/* Where the id of each URI is. */
+/* The field for the id of each URI. */
 static void ids_of(cpay_sdp_media *media, uint8_t *ids[EXTENSIONS]) {
     cpay_extension_ids *known = &media->extension_ids;
     uint8_t *const found[EXTENSIONS] = {

@@ -4,10 +4,9 @@
  * A sender cuts the frames of one stream into datagrams. A receiver accepts the datagrams of a socket, in any order and among any
  * other bytes, and returns units in order. For callers that handle RTP headers themselves there are a packetizer, a buffer,
  * depacketizers and RED. Sockets, clocks and threads stay with you. The library is proved: no input makes it crash or read out of
- * bounds. docs/FORMATS.md has the formats and the rules of the buffer, docs/C.md a guide.
+ * bounds. See docs/FORMATS.md for the formats and the rules of the buffer, and docs/C.md for a guide.
  *
- * FRAMES. For each codec: the rate of its RTP clock in hertz, the frame that you send and the unit that you receive, and what
- * happens to a frame that is longer than the MTU:
+ * FRAMES. For each codec: the rate of its RTP clock in hertz, the frame or unit, and the result for a frame longer than the MTU:
  *
  *   CPAY_OPUS              48000  a packet of Opus (RFC 6716)                                 pieces
  *   CPAY_PCMU, CPAY_PCMA    8000  samples of a byte each, any number (RFC 3551)               pieces
@@ -20,8 +19,8 @@
  *   CPAY_AV1               90000  a temporal unit: OBUs with their sizes (AV1, section 5.2)   pieces
  *   CPAY_NULL                any  any bytes                                                   one payload of any length
  *
- * After loss, a unit can lack its first bytes and still be released: AV1, VP9 with spatial layers, and VP8 from senders that mark
- * each partition as a start. docs/LIMITS.md has the details.
+ * After loss, a unit can lack its first bytes and still be released. This concerns AV1, VP9 with spatial layers, and VP8 from
+ * senders that mark each partition as a start. See docs/LIMITS.md.
  *
  * STATUSES. A call returns a status; a few return a bool or a number. 0 is success, 1 to 17 are errors of payloads and of memory,
  * 32 to 41 are the library's own, and 42 to 49 say why a datagram is not accepted. The enum below names them. If a call fails, its
@@ -299,7 +298,7 @@ typedef struct {
     size_t end; /**< end of its bytes in the unit */
     uint16_t width;
     uint16_t height;
-    bool has_end; /**< the layer was seen */
+    bool has_end; /**< the unit has this layer */
     bool has_width;
     bool has_height;
 } cpay_vp9_layer;
@@ -331,7 +330,7 @@ CPAY_CHECKED cpay_status cpay_buffer_new(cpay_buffer *buffer, const cpay_spec *s
 
 /** A received packet. The buffer does not handle header extensions and sender reports. */
 typedef struct {
-    uint64_t number;   /**< extended sequence number (cpay_extend_number); its low 16 bits are those of the RTP header */
+    uint64_t number;   /**< extended sequence number (cpay_extend_number); its low 16 bits are in the RTP header */
     uint64_t received; /**< receive time, by your clock */
     uint64_t rtp_time; /**< timestamp of its RTP header, extended or not. All packets of a frame have the same */
     bool marker;
@@ -440,9 +439,9 @@ typedef struct {
 CPAY_CHECKED cpay_status cpay_rtp_read(const uint8_t *datagram, size_t datagram_len, cpay_rtp_info *packet);
 
 /** Reads the value of the first element with this id in the header extension of a datagram (RFC 8285, both forms): 1 to 16
- * bytes, or 0 to 255 in the two-byte form. CPAY_NONE: no such element, no extension, or an extension of another profile. If the
- * datagram is not an RTP packet, the status is that of cpay_rtp_read. Elements after one that extends beyond the end are
- * ignored; in the one-byte form, elements after an id of 0 or 15 too. Does not allocate. */
+ * bytes, or 0 to 255 in the two-byte form. CPAY_NONE: no such element, no extension, or an extension of another profile.
+ * CPAY_RTP_HEADER_TOO_SHORT to CPAY_RTP_PADDING_TOO_LONG: not an RTP packet, as for cpay_rtp_read. Elements after one that
+ * extends beyond the end are ignored; in the one-byte form, elements after an id of 0 or 15 too. Does not allocate. */
 CPAY_CHECKED cpay_status cpay_extension(const uint8_t *datagram, size_t datagram_len, uint8_t id, uint8_t *bytes,
                                         size_t bytes_len, size_t *size);
 
@@ -457,8 +456,9 @@ typedef struct {
 } cpay_extension_ids;
 
 /** Reads the values in the header extension of a datagram under these ids: for each, the first element with the id, if its
- * length matches its format. Missing values are reported as absent, with CPAY_OK. If the datagram is not an RTP packet, the
- * status is that of cpay_rtp_read, and *values is unchanged. Elements are found as in cpay_extension. Does not allocate. */
+ * length matches its format. Missing values are reported as absent, with CPAY_OK. CPAY_RTP_HEADER_TOO_SHORT to
+ * CPAY_RTP_PADDING_TOO_LONG: not an RTP packet, as for cpay_rtp_read; *values is unchanged. Elements are found as in
+ * cpay_extension. Does not allocate. */
 CPAY_CHECKED cpay_status cpay_extension_values_of(const uint8_t *datagram, size_t datagram_len, const cpay_extension_ids *ids,
                                                   cpay_extension_values *values);
 
@@ -550,15 +550,16 @@ typedef struct {
                                    or CPAY_KEYFRAME_DROP */
     bool has_max_wait;
     bool has_ssrc;
-    bool has_red; /**< the stream is sent in RED (RFC 2198): redundant blocks fill in missing packets. Each packet must have an RTP
-                       time of its own, as audio has: no time of the latest 64 is stored twice */
+    bool has_red; /**< the stream uses RED (RFC 2198): redundant blocks fill in missing packets. No two packets may have the same
+                       RTP time, as in audio: no time of the latest 64 is stored twice */
     bool has_rtx; /**< retransmissions arrive in a separate stream (RFC 4588) */
     cpay_extension_ids extension_ids; /**< for cpay_receiver_values; two equal ids read the same element */
 } cpay_receiver_settings;
 
-/** Settings by purpose. All have no codec yet, at most 4096 packets held, a clock of milliseconds, no ids of header extensions,
- * CPAY_KEYFRAME_MARK, and no bound by count. The windows of audio are 3000 numbers ahead (MAX_DROPOUT of RFC 3550, appendix A.1) and 1000 behind; those of
- * video, 12000 and 5000, are five seconds of 1000 packets a second. */
+/** Settings by purpose. Set at least the codec and the payload type. All have a limit of 4096 packets, a clock of milliseconds,
+ * CPAY_KEYFRAME_MARK and CPAY_NO_HOLD_BACK; RED, retransmissions and header extensions are off. The windows of audio are 3000
+ * numbers ahead (MAX_DROPOUT of RFC 3550, appendix A.1) and 1000 behind. The windows of video, 12000 and 5000, hold 12 s and 5 s of
+ * 1000 packets per second. */
 #define CPAY_SETTINGS_THAT_WAIT(start, max_wait, has_max_wait, forward, backward) \
     { { 0, 0, 0, false, false, false }, CPAY_NO_HOLD_BACK, start, 4096, max_wait, 0, 1000, 0, 0, forward, backward, 0, 0, 0, \
       CPAY_KEYFRAME_MARK, has_max_wait, false, false, false, { 0, 0, 0, 0, 0, 0 } }
@@ -576,18 +577,18 @@ typedef struct {
  * the receiver has little room left. */
 #define CPAY_FILE CPAY_SETTINGS_THAT_WAIT(0, 0, false, 12000, 5000)
 
-/** Settings for live media of unknown type: those of CPAY_LIVE_AUDIO. */
+/** Settings for live media of unknown type: the same as CPAY_LIVE_AUDIO. */
 #define CPAY_RECEIVER_SETTINGS CPAY_LIVE_AUDIO
 
-/** The settings `forward` and `backward` for a stream of at most `rate` packets per second: the packets of 12 s ahead and of 5 s
- * below, at least 3000 and 1000, at most 32760 and 13650 (2730 packets per second). A burst that is late by more packets than
- * `backward` is reported as a restart, so use the highest rate of the stream. */
+/** The settings `forward` and `backward` for a stream of at most `rate` packets per second: 12 s of packets ahead and 5 s behind.
+ * They are at least 3000 and 1000, and at most 32760 and 13650 (2730 packets per second). A burst that is late by more packets
+ * than `backward` is reported as a restart, so use the highest rate of the stream. */
 #define CPAY_FORWARD_FOR(rate) ((uint16_t)((rate) >= 2730 ? 32760 : (rate) > 250 ? 12 * (rate) : 3000))
 #define CPAY_BACKWARD_FOR(rate) ((uint16_t)((rate) >= 2730 ? 13650 : (rate) > 200 ? 5 * (rate) : 1000))
 
-/** A receiver, in an empty struct. `no_media` are payload types that come under the stream's SSRC and numbers and carry no
- * media of it: telephone events beside audio, comfort noise, forward error correction. CPAY_INVALID for a codec that is not
- * there, a rate of 0, and a payload type, limit, step, window or `from_keyframe` out of range. [m] */
+/** Creates a receiver in an empty handle. `no_media` lists payload types that share the stream's SSRC and numbers and carry none
+ * of its media: telephone events beside audio, comfort noise, forward error correction. CPAY_INVALID: unsupported codec, `rate` or
+ * `tick_rate` 0, or a payload type, limit, step, window or `from_keyframe` out of range. [m] */
 CPAY_CHECKED cpay_status cpay_receiver_new(cpay_receiver *receiver, const cpay_receiver_settings *settings,
                                            const uint8_t *no_media, size_t no_media_len);
 
@@ -598,12 +599,13 @@ enum {
                                     this one */
     CPAY_DUPLICATE = 2,        /**< dropped: a packet with this number is already held */
     CPAY_LATE = 3,             /**< dropped: its number was already released, discarded or evicted */
-    CPAY_SUSPECT = 4,          /**< its number is far from all others; it is kept aside until another suspect packet or a restart */
+    CPAY_SUSPECT = 4,          /**< its number is outside the windows, or arrived before with another RTP time; it is kept aside
+                                    until another suspect packet or a restart */
     CPAY_RESTARTED = 5,        /**< the sender has restarted: this packet and the suspect packet before it were stored */
     CPAY_RESTARTED_ALONE = 6,  /**< the sender has restarted, and only this packet was stored: the suspect packet had no media,
                                     memory ran out for it, or you called cpay_receiver_restart */
-    CPAY_NO_MEDIA = 7,         /**< padding alone, a payload type without media, or a packet whose RTP time a stored block of RED has;
-                                    no frame waits for its number */
+    CPAY_NO_MEDIA = 7,         /**< padding only, a payload type without media, or a packet whose RTP time a stored block of RED
+                                    has; no frame waits for its number */
     CPAY_OTHER_STREAM = 8,     /**< another SSRC or payload type; ignored */
     CPAY_RTCP = 9,             /**< RTCP on the same port; ignored */
     CPAY_UNDECIDED = 10        /**< the stream is not chosen yet: the datagram is kept until it is */
@@ -613,34 +615,34 @@ enum {
  * bytes are accepted.
  * CPAY_RTP_HEADER_TOO_SHORT to CPAY_RTP_PADDING_TOO_LONG: not an RTP packet. CPAY_RED_CORRUPTED: invalid RED.
  * CPAY_RTX_TOO_SHORT: a retransmission without its original number. In these cases the datagram is counted as malformed,
- * *outcome is unchanged, and the stream continues. For a packet in RED the outcome is that of its primary block.
+ * *outcome is unchanged, and the stream continues. For a RED packet the outcome describes its primary block.
  *
- * If the settings name no SSRC, the first packet of each of up to four SSRCs waits (CPAY_UNDECIDED). The stream is the one of
- * the first two packets of one SSRC whose numbers are 1 to 100 apart, in either direction. The waiting packet is then received
- * first, with its own receive time, and then this one; the other waiting packets count as other streams. If no packet of the
+ * If the settings name no SSRC, the first packet of each of up to four SSRCs waits (CPAY_UNDECIDED). The first two packets of
+ * one SSRC whose numbers are 1 to 100 apart, in either direction, choose the stream. The waiting packet is then received first,
+ * with its own receive time, and then this one; the other waiting packets count as other streams. If no packet of the
  * stream arrives for two seconds (by `tick_rate`), packets of other SSRCs wait again, and two of them choose again, as after
  * cpay_receiver_restart.
  *
- * CPAY_OUT_OF_MEMORY: nothing changed, and you may pass the same datagram again. Exception: a packet in RED was stored, but
- * memory ran out for a redundant block. Passed again, it is a duplicate, and its redundant blocks are stored. [m] */
+ * CPAY_OUT_OF_MEMORY: nothing changed, and you may pass the same datagram again. Exception: a RED packet was stored, but memory
+ * ran out for a redundant block. Passed again, it is a duplicate, and its redundant blocks are stored. [m] */
 CPAY_CHECKED cpay_status cpay_receiver_receive(cpay_receiver *receiver, uint64_t now, const uint8_t *datagram,
                                                size_t datagram_len, uint32_t *outcome);
 
-/** Returns the next unit that is due at time `now`: see cpay_buffer_pop. Its `rtp_time` is extended to 64 bits: the first unit
- * has the timestamp of its packets plus 2^32, and each later unit the value nearest to the previous one that has its timestamp.
+/** Returns the next unit that is due at time `now`: see cpay_buffer_pop. Its `rtp_time` is extended to 64 bits. The first unit
+ * has the timestamp of its packets plus 2^32; each later unit has the value nearest to the previous unit's.
  * With CPAY_KEYFRAME_DROP the call continues after a unit that a decoder cannot show. [m] */
 CPAY_CHECKED cpay_status cpay_receiver_pop(cpay_receiver *receiver, uint64_t now, cpay_unit *unit, uint8_t *bytes,
                                            size_t bytes_len);
 
-/** Reports the header extension values of the unit that cpay_receiver_pop returned last with CPAY_OK. They come from its last
- * packet, except capture time and layers allocation, which come from its first packet if it has them. CPAY_NONE: no unit was
+/** Reports the header extension values of the unit that cpay_receiver_pop returned last with CPAY_OK. They come from the last
+ * packet of the unit. Capture time and layers allocation come from the first packet, if it has them. CPAY_NONE: no unit was
  * returned yet. Does not allocate. */
 CPAY_CHECKED cpay_status cpay_receiver_values(cpay_receiver *receiver, cpay_extension_values *values);
 
-/** Reports whether to request a keyframe (by PLI, RFC 4585, section 6.3.1, or FIR, RFC 5104, section 4.3.1). True from the first
- * pop that needs one until a pop returns a keyframe. A pop needs one if it came upon a unit that a decoder cannot show, or
- * returned 1 to 16 (a refused frame), or returned CPAY_NONE and discarded complete frames, as after a backward jump of picture
- * ids. cpay_receiver_restart needs one too. False for audio, and with CPAY_KEYFRAME_OFF. Does not allocate. */
+/** Reports whether to request a keyframe (by PLI, RFC 4585, section 6.3.1, or FIR, RFC 5104, section 4.3.1). True from one of
+ * these events until a pop returns a keyframe: a pop found a unit that a decoder cannot show; a pop returned 1 to 16 (a refused
+ * frame); a pop returned CPAY_NONE and discarded complete frames, as after a backward jump of picture ids; you called
+ * cpay_receiver_restart. False for audio, and with CPAY_KEYFRAME_OFF. Does not allocate. */
 CPAY_CHECKED cpay_status cpay_receiver_wants_keyframe(cpay_receiver *receiver, bool *wants);
 
 /** Reports the time at which a pop may return a unit although no datagram arrives. CPAY_NONE: only a datagram can help. */
@@ -667,16 +669,16 @@ CPAY_CHECKED cpay_status cpay_receiver_set_wait_limits(cpay_receiver *receiver, 
 CPAY_CHECKED cpay_status cpay_receiver_finish(cpay_receiver *receiver);
 
 /** Announces that the sender has restarted, as signalling or a new SSRC shows. The next packet of the stream gets a number above
- * all others, pops wait again, and a keyframe is needed. If the settings name no SSRC, two packets choose it again; waiting packets count as other
- * streams. */
+ * all others, pops wait again, and a keyframe is needed. If the settings name no SSRC, two packets choose it again; waiting
+ * packets count as other streams. */
 CPAY_CHECKED cpay_status cpay_receiver_restart(cpay_receiver *receiver);
 
 /** Does the same if you know the new SSRC, which the receiver accepts from then on: packets of the previous SSRC belong to
  * another stream. `rtx_ssrc` is the new SSRC of retransmissions; without has_rtx in the settings it is ignored. */
 CPAY_CHECKED cpay_status cpay_receiver_restart_as(cpay_receiver *receiver, uint32_t ssrc, uint32_t rtx_ssrc);
 
-/** Reports the missing sequence numbers. Writes as many as fit to `numbers`, lowest first, and their total number to *count. The
- * rest of `numbers` is unchanged.
+/** Reports the missing sequence numbers. Writes as many as fit to `numbers`, lowest first, and the number of them to *count. The
+ * rest of `numbers` is unchanged. If *count is numbers_len, more can be missing.
  * The missing numbers are above the last one released, discarded or evicted, above the lowest one received since the start or
  * restart, and below the highest one received. Held packets, and packets known to carry no media, are not missing. The numbers
  * are extended; their low 16 bits go into a generic NACK (RFC 4585, section 6.2.1). */

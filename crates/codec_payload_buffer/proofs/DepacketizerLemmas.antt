@@ -1,4 +1,4 @@
--- What is put together from the payloads of a codec is fixed.
+-- The unit that a codec makes of given payloads is determined.
 use Rattle.std.proofs.Common.{◌≡◌, ◌∙◌, sym, ap, ℕ, subst, List, [], ◌∷◌, Result, Ok, Err, true}
 use Rattle.std.specs.Prelude.{MatchResult}
 use Rattle.codec_payload_base.specs.declared.error.PacketError.{PacketError}
@@ -15,7 +15,7 @@ unpacked_same u v a b = ap (λ (n : List ℕ). unpacked n u.extra) a ∙ ap (λ 
     unpacked : List ℕ → CodecExtra → Unpacked
     unpacked n x = record { bytes = n; extra = x }
 
--- what is put together from payloads of a codec is fixed
+-- the unit that a codec makes of given payloads is determined
 pub unpacks_same : (d : DepacketizerState) (ps : List Held) (u n m : Unpacked) (e f : DepacketizerState) → is_built_in_depacketizer d ≡ true
     → Unpacks d ps u (Ok n) e → Unpacks d ps u (Ok m) f → (n ≡ m) × (e ≡ f)
 unpacks_same d [] u n m e f built_in x y = let i : n ≡ u = cc in let j : m ≡ u = cc in (i ∙ sym j, x.1 ∙ sym y.1)

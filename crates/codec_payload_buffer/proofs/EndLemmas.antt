@@ -1,4 +1,4 @@
--- The rows of packets, as the packets at their ends tell them.
+-- The rows of packets, as noted in the packets at their ends.
 use Rattle.std.proofs.Common.{◌≡◌, ◌≢◌, ℕ, zero, suc, ◌<◌, ◌≤◌, ◌+◌, ◌-◌, ◌&&◌, [], ◌∷◌, List, length, get_or, map, drop, refl, ap, sym, ◌∙◌, arith, Bool, true, false, cond, Option, Some, None, ltb, eqb, inl, inr, ◌⊎◌, add-one}
 use Rattle.std.proofs.lemmas.Bool.Decides.{nat_tests}
 use Rattle.codec_payload_buffer.specs.Held.{Held, Rises, AllAbove, has_number}
@@ -9,9 +9,9 @@ use Rattle.codec_payload_buffer.specs.declared.buffer.rows.Row.{Row}
 use Rattle.codec_payload_codec.proofs.CaseLemmas.{by_test}
 use Rattle.codec_payload_buffer.proofs.RowListLemmas.{meet_parts, no_meet_before, Outside, rows_above, rows_rise}
 
--- Where the ends of a row stand
+-- The places of the ends of a row
 
--- a row among packets: its numbers follow one another, and its last packet tells its time and its tail
+-- a row among packets: its numbers are consecutive, and its last packet has its time and its tail
 pub record IsRowAmong (hs : List Held) (r : Row) : Type 0 where
   pub order : r.first ≤ r.last
   pub span : (k : ℕ) → r.first ≤ k → k ≤ r.last → place_of k hs ≡ place_of r.first hs + (k - r.first)
@@ -137,7 +137,7 @@ place_held_next m n (q ∷ qs) r next has =
 
 -- The rows beside a number that is not held
 
--- what is known of a row that is next to n, where there is one
+-- the facts about a row next to n, if there is one
 pub record IsBeside (hs : List Held) (ms : List Mark) (r : Row) : Type 0 where
   pub among : IsRowAmong hs r
   pub told : IsTold r ms
@@ -160,7 +160,7 @@ previous_is n hs ms (s ∷ rs) r are told is =
     (λ e is. let same : s ≡ r = cc in rw (← same) (record { among = are.0; told = told.0 }, grind (arith, nat_tests, e)))
     (λ e is. previous_is n hs ms rs r are.1 told.1 is) is
 
--- where the number after n is held, a row begins there
+-- if the number after n is held, a row begins there
 pub next_there : (n : ℕ) (hs : List Held) → has_number n hs ≡ false → has_number (n + 1) hs ≡ true → (r : Row) × (next_of n (rows hs) ≡ Some r)
 next_there n [] fresh has = absurd (cc)
 next_there n (p ∷ ps) fresh has =
@@ -187,7 +187,7 @@ next_there n (p ∷ ps) fresh has =
         (there.0, rw e (rw f at there.1)))
         (λ m. (there.0, rw e there.1))
 
--- where the number before n is held, a row ends there
+-- if the number before n is held, a row ends there
 pub previous_there : (m n : ℕ) (hs : List Held) → Rises hs → m + 1 ≡ n → has_number n hs ≡ false → has_number m hs ≡ true → (r : Row) × (previous_of n (rows hs) ≡ Some r)
 previous_there m n [] r next fresh has = absurd (cc)
 previous_there m n (p ∷ ps) r next fresh has =
@@ -312,7 +312,7 @@ merged_beside p (r ∷ rs) one rise out =
     above l (inl m) = m
     above l (inr m) = let le = rise.0 in absurd (omega (arith, le, m, l))
 
--- Rows that are told still
+-- Rows that are still noted
 
 pub told_above : (n : ℕ) (rs : List Row) (ms new : List Mark) → RowsAbove n rs → ((k : ℕ) → n < k → mark_at k new ≡ mark_at k ms) → AreTold rs ms → AreTold rs new
 told_above n [] ms new up same told = tt
@@ -323,7 +323,7 @@ told_above n (r ∷ rs) ms new up same told =
       told_above r.last rs ms new up.2 (λ k l. same k (omega (arith, l, up.0, up.1))) told.1,
     )
 
--- what all packets but those of a row say stays
+-- the notes of all packets outside a row are unchanged
 abbrev pub StaysBut : Row → List Mark → List Mark → Type 0
 StaysBut w ms new = (k : ℕ) → ((k < w.first) ⊎ (w.last < k)) → mark_at k new ≡ mark_at k ms
 

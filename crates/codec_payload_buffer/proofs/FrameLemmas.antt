@@ -33,7 +33,7 @@ not_first : (p : Held) (es : List Held) (q : Held) → IsIn q (p ∷ es) → q.m
 not_first p es q (inl e) l = absurd (omega (arith, l, ap (λ (h : Held). h.meta.seq_no.0) e))
 not_first p es q (inr h) l = h
 
--- A row and a head in another list, where that has the same packets up to the end of the row
+-- A row and a head in another list with the same packets up to the end of the row
 row_into : (xs ys : List Held) (p : Held) (n : ℕ) → ((q : Held) → IsIn q xs → q.meta.seq_no.0 ≤ p.meta.seq_no.0 → IsIn q ys) → IsRow xs n p → IsRow ys n p
 row_into xs ys p n into row = record {
   to_end = row.to_end;
@@ -52,7 +52,7 @@ row_here p es = record {
   each = λ m low high. (p, contains_in p (p ∷ es) (inl refl), omega arith, refl, λ l. absurd (omega arith));
 }
 
--- a row that goes on by one packet
+-- a row that is longer by one packet
 row_more : (e p : Held) (es : List Held) (n : ℕ) → leads_to e p ≡ true → IsRow (e ∷ es) n e → IsRow (p ∷ e ∷ es) n p
 row_more e p es n leads row =
     let parts = leads_parts e p leads in
@@ -103,7 +103,7 @@ abbrev AnswersLowest : List Held → Held → Option ℕ → Type 0
 AnswersLowest xs p None = (m : ℕ) → IsRow xs m p → IsHeadAt xs m → ⊥
 AnswersLowest xs p (Some n) = IsLowest xs p n
 
--- where no row with a head begins below p
+-- if no row with a head begins below p
 lowest_here : (p : Held) (es : List Held) → Falls (p ∷ es) → ((m : ℕ) → IsRow (p ∷ es) m p → IsHeadAt (p ∷ es) m → m < p.meta.seq_no.0 → ⊥) → AnswersLowest (p ∷ es) p (start_or_here None p)
 lowest_here p es f none =
     by_test p.head (λ b. AnswersLowest (p ∷ es) p (cond b (Some p.meta.seq_no.0) None))
@@ -177,7 +177,7 @@ parted_next held earlier p later parted = record {
   ];
 }
 
--- up to p's number the set has what was read and p
+-- up to p's number the set has the packets read so far and p
 upto : (held earlier : List Held) (p : Held) (later : List Held) → IsParted held earlier (p ∷ later) → (q : Held) → IsIn q held → q.meta.seq_no.0 ≤ p.meta.seq_no.0 → IsIn q (p ∷ earlier)
 upto held earlier p later parted q h le = elim (parted.into q h) [
   | inl e ↦ inr e
@@ -244,7 +244,7 @@ finds_at held earlier p later parted f last tail row head least =
         let first : f.first ≡ n = omega arith in
         inl (rw (← first, ← last) refl)
 
--- what is found is a frame of the set
+-- a frame that is found is a frame of the set
 sound : (held earlier later : List Held) → IsParted held earlier later → (f : CompleteFrame) → IsIn f (frames_after earlier later) → (p : Held) × IsFrame held f
     × (f.last ≡ p.meta.seq_no.0) × IsIn p later
 sound held earlier [] parted f h = absurd h

@@ -1,4 +1,4 @@
--- Places of complete frames, found by binary searches, and what is written there.
+-- Places of complete frames, found by binary searches, and changes at these places.
 use Rattle.std.proofs.Common.{◌≡◌, ℕ, zero, suc, ◌<◌, ◌≤◌, ◌+◌, [], ◌∷◌, List, length, get_or, refl, ap, sym, ◌∙◌, arith, true, false, cond, ltb, eqb}
 use Rattle.std.specs.Prelude.{slice_set}
 use Rattle.std.specs.List.{insert}

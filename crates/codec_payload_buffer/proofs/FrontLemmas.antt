@@ -1,4 +1,4 @@
--- Where a whole unit stands first, the lowest frame is that unit.
+-- If a whole unit comes first, it is the lowest frame.
 use Rattle.std.proofs.Common.{◌≡◌, ◌∙◌, refl, sym, ap, ℕ, subst, List, [], Option, Some, None, Bool, true, false, cond, ◌++◌, ◌+◌, ◌∷◌}
 use Rattle.codec_payload_base.specs.Time.{Time}
 use Rattle.codec_payload_buffer.proofs.FrameParts.{IsRun, BeginsWithHead}
@@ -9,7 +9,7 @@ use Rattle.codec_payload_buffer.specs.Scan.{first_of, open_start}
 use Rattle.codec_payload_buffer.specs.Steps.{State, due_of, due_among, starts_right_after}
 use Rattle.codec_payload_buffer.specs.declared.buffer.frames.CompleteFrame.{CompleteFrame}
 
--- the row of the packet before goes on
+-- the row of the previous packet continues
 goes_back : (q : Held) (qs : List Held) (p : Held) (n : ℕ) → leads_to q p ≡ true → open_start (q ∷ qs) ≡ Some n → lowest_head (p ∷ row_before p (q ∷ qs)) ≡ Some n
 goes_back q qs p n on start = at (leads_to q p) on
   where
@@ -27,7 +27,7 @@ pub goes_on : (b : Bool) (o later : List CompleteFrame) → b ≡ false → firs
 goes_on true o later f = absurd (cc)
 goes_on false o later f = refl
 
--- a row that is under way goes on to its tail
+-- a row in progress continues to its tail
 pub walk : (qs : List Held) (q : Held) (ps rest : List Held) (n last : ℕ) (time : Time) → open_start (q ∷ qs) ≡ Some n → q.tail ≡ false → q.meta.time ≡ time
     → IsRun (q.meta.seq_no.0 + 1) last time ps → first_of (frames_after (q ∷ qs) (ps ++ rest)) ≡ Some (record { first = n; last = last })
 walk qs q [] rest n last time start inner same run = absurd run
@@ -63,7 +63,7 @@ due_from s (g ∷ gs) f h starts =
     let t : starts_right_after s.cutoff g.first ≡ true = subst (λ (x : CompleteFrame). starts_right_after s.cutoff x.first ≡ true) (sym e) starts in
     rw t h
 
--- so it is due, where it starts right after the cutoff or there is none
+-- so the frame is due, if it starts right after the cutoff or there is no cutoff
 pub due_front : (s : State) (ps rest : List Held) (first last : ℕ) (time : Time) → s.held ≡ ps ++ rest → IsRun first last time ps → BeginsWithHead ps
     → starts_right_after s.cutoff first ≡ true → due_of s ≡ Some (record { first = first; last = last })
 due_front s ps rest first last time whole run begins starts =

@@ -3,12 +3,12 @@ use Rattle.std.specs.Prelude.{ℕ, ◌-◌, ◌||◌, Bool, true, false, List, [
 use Rattle.codec_payload_buffer.specs.Held.{Held, number_of, has_number, placed}
 use Rattle.codec_payload_buffer.specs.Steps.{State, is_at_most}
 
--- every packet of the stretch that lies above the cutoff, with those that were there: one for each number
+-- the packets of the stretch above the cutoff, with the packets that were held: one for each number
 abbrev pub gathered : Option ℕ → List Held → List Held → List Held
 gathered cutoff hs [] = hs
 gathered cutoff hs (p ∷ ps) = gathered cutoff (if is_at_most cutoff (number_of p) || has_number (number_of p) hs then hs else placed p hs) ps
 
--- the number of the last of them, or else what is given
+-- the last number, or else the given one
 abbrev pub last_number : List Held → Option ℕ → Option ℕ
 last_number [] c = c
 last_number (p ∷ ps) c = last_number ps (Some (number_of p))
@@ -18,11 +18,11 @@ abbrev pub is_some_left : List Held → Bool
 is_some_left [] = false
 is_some_left (p ∷ ps) = true
 
--- those for which there is no room
+-- the packets for which there is no room
 abbrev pub packets_left_out : State → List Held → List Held
 packets_left_out s all = take (length all - s.limit) all
 
--- the greatest are held; where some are left out, the greatest of these is the cutoff and one was evicted
+-- the highest are held; if some are dropped, the highest of the dropped numbers is the cutoff, and a packet was evicted
 abbrev pub with_kept : State → List Held → State
 with_kept s all = record s {
   held = drop (length all - s.limit) all;

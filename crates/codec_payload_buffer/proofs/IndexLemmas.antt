@@ -1,4 +1,4 @@
--- The rows and the frames of packets, with one packet more, without the lowest, and without those up to a frame's end.
+-- The rows and frames of packets: with one more packet, without the lowest packet, and without the packets up to a frame's end.
 use Rattle.std.proofs.Common.{◌≡◌, ◌≢◌, ℕ, ◌<◌, ◌≤◌, ◌+◌, [], ◌∷◌, List, length, drop, refl, ap, sym, ◌∙◌, arith, Bool, true, false, cond, Option, Some, None, ltb, eqb, inl, inr, ◌⊎◌, add-one}
 use Rattle.std.specs.Prelude.{IfSome}
 use Rattle.std.proofs.lemmas.Bool.Decides.{nat_tests}
@@ -68,7 +68,7 @@ short_before p ps (r ∷ rs) up is =
 pub first_is_short : (p : Held) (ps : List Held) → Rises (p ∷ ps) → IsFirstShort (rows (p ∷ ps)) ps
 first_is_short p ps r = short_before p ps (rows ps) (rows_above p.meta.seq_no.0 ps r.0 r.1) (head_is ps r.1)
 
--- what is left of the first row, with the rows after it
+-- the rest of the first row, with the rows after it
 left_before : (p : Held) (ps : List Held) (rs : List Row) (before after : Option CompleteFrame) (new : List Row) → RowsAbove p.meta.seq_no.0 rs → HeadIs rs ps
     → IsShortened (put_before (row_of p) rs) ps before after new
     → (new ≡ rs) × (first_mended before after (row_frames (put_before (row_of p) rs)) ≡ row_frames rs)
@@ -96,7 +96,7 @@ left_before p ps (r ∷ rs) before after new up is left =
         let other : eqb p.meta.seq_no.0 r.last ≡ false = grind (arith, nat_tests, up.0, up.1) in
         rw (other, next, is) refl
 
-    -- with p in front the row has a frame at least where it has one without
+    -- with p in front, the row has a frame if it has one without p
     shorter : (tail : Bool) (head : Option ℕ) (fs : List CompleteFrame)
         → first_mended (frame_in tail (or_else (start_or_here None p) head) r.last) (frame_in tail head r.last)
         (with_frame (frame_in tail (or_else (start_or_here None p) head) r.last) fs) ≡ with_frame (frame_in tail head r.last) fs
@@ -215,6 +215,6 @@ pub pushed_frames : (p : Held) (hs new : List Held) (whole : Row) (frame : Optio
     → new ≡ placed p hs → whole ≡ merged (row_of p) (rows hs) → frame ≡ frame_of_row whole → fs' ≡ noted_if frame fs → fs' ≡ frames new
 pushed_frames p hs new whole frame fs fs' r fresh frames_are placed_is all of noted_is = rw (noted_is, of, all, placed_is, frames_are) (placed_index p hs r fresh)
 
--- what holds of the frames holds of what the code has of them
+-- facts about the frames apply to the code's list of frames
 pub some_frames : (o : Option CompleteFrame) (hs : List Held) (fs : List CompleteFrame) (count : ℕ) → count ≡ length fs → fs ≡ frames hs → IfSome o (λ _. 0 < length (frames hs)) → IfSome o (λ _. 0 < count)
 some_frames o hs fs count counted is some = rw (counted, is) some

@@ -1,4 +1,4 @@
--- What the packets of a queue say of their rows, found by their numbers and written at their places.
+-- The notes of packets about their rows: found by number, and written by place.
 use Rattle.std.proofs.Common.{◌≡◌, ◌≢◌, ℕ, zero, suc, ◌<◌, ◌≤◌, ◌+◌, [], ◌∷◌, List, length, get_or, map, drop, refl, ap, sym, ◌∙◌, arith, true, false, cond, ltb, eqb, add-one}
 use Rattle.std.specs.Prelude.{slice_set}
 use Rattle.std.specs.List.{insert}
@@ -10,7 +10,7 @@ use Rattle.codec_payload_buffer.specs.Ends.{Mark, mark_of, mark_at, no_mark}
 use Rattle.codec_payload_codec.proofs.CaseLemmas.{by_test}
 use Rattle.codec_payload_buffer.proofs.PlaceLemmas.{not_below, above_lower, number_from}
 
--- what is found at a place is what is found by its number
+-- the note at a place is the note of the number there
 pub mark_found : (xs : List HeldPacket) (i : ℕ) (x : HeldPacket) → Rises (map held_of xs) → i < length xs → x ≡ get_or xs i x → mark_at x.number (map mark_of xs) ≡ mark_of x
 mark_found [] i x r l is = absurd (omega arith)
 mark_found (y ∷ ys) zero x r l is = let t : eqb y.number x.number ≡ true = rw is (grind (arith, nat_tests)) in rw t (ap mark_of (sym is))
@@ -19,7 +19,7 @@ mark_found (y ∷ ys) (suc i) x r l is =
     let t : eqb y.number x.number ≡ false = grind (arith, nat_tests, over, y.numbered, ap (λ (z : HeldPacket). z.number) is) in
     rw t (mark_found ys i x r.1 (omega arith) is)
 
--- and it stands at the place of its number
+-- the packet is at the place of its number
 pub place_found : (xs : List HeldPacket) (i : ℕ) (x : HeldPacket) → Rises (map held_of xs) → i < length xs → x ≡ get_or xs i x → place_of x.number (map held_of xs) ≡ i
 place_found [] i x r l is = absurd (omega arith)
 place_found (y ∷ ys) zero x r l is =
@@ -35,7 +35,7 @@ has_found [] i x l is = absurd (omega arith)
 has_found (y ∷ ys) zero x l is = let t : eqb y.packet.value.known.seq_no.0 x.number ≡ true = grind (arith, nat_tests, y.numbered, ap (λ (z : HeldPacket). z.number) is) in rw t refl
 has_found (y ∷ ys) (suc i) x l is = grind (arith, nat_tests, has_found ys i x (omega arith) is)
 
--- what stands at a place is held, as the list of what is held has it
+-- the packet at a place is held, as the list of held packets has it
 pub held_found : (xs : List HeldPacket) (i : ℕ) (x : HeldPacket) → i < length xs → x ≡ get_or xs i x → held_of x ≡ get_or (map held_of xs) i (held_of x)
 held_found [] i x l is = absurd (omega arith)
 held_found (y ∷ ys) zero x l is = ap held_of is
@@ -51,7 +51,7 @@ place_held n (q ∷ qs) r has =
     let rest = place_held n qs r.1 (rw other at has) in omega (arith, rest))
     (λ t at. omega arith) refl
 
--- the number that stands at its place
+-- the number at its place
 pub number_held : (n : ℕ) (xs : List HeldPacket) (x : HeldPacket) → Rises (map held_of xs) → has_number n (map held_of xs) ≡ true → x ≡ get_or xs (place_of n (map held_of xs)) x → x.number ≡ n
 number_held n [] x r has is = absurd (cc)
 number_held n (y ∷ ys) x r has is =
@@ -69,7 +69,7 @@ number_held n (y ∷ ys) x r has is =
         let there : has_number n (map held_of ys) ≡ true = rw e at has in
         absurd (cc)) refl
 
--- what is written at the place of a number
+-- a write at the place of a number
 pub mark_set : (n k : ℕ) (xs : List HeldPacket) (m : Mark) → Rises (map held_of xs) → has_number n (map held_of xs) ≡ true → m.number ≡ n
     → mark_at k (slice_set (map mark_of xs) (place_of n (map held_of xs)) m) ≡ cond (eqb n k) m (mark_at k (map mark_of xs))
 mark_set n k [] m r has is = absurd (cc)

@@ -14,7 +14,7 @@ pub place_within : (n : ℕ) (hs : List Held) → place_of n hs ≤ length hs
 place_within n [] = omega arith
 place_within n (q ∷ qs) = grind (arith, nat_tests, place_within n qs)
 
--- p goes in at its place
+-- p is inserted at its place
 pub placed_is : (p : Held) (hs : List Held) → insert hs (place_of p.meta.seq_no.0 hs) p ≡ placed p hs
 placed_is p [] = refl
 placed_is p (q ∷ qs) =
@@ -22,7 +22,7 @@ placed_is p (q ∷ qs) =
     (λ e. rw add-one (ap (λ (zs : List Held). q ∷ zs) (placed_is p qs)))
     (λ e. refl)
 
--- what is written into the list of packets is written into what they hold
+-- a write to the list of entries is a write to the list of held packets
 pub held_insert : (xs : List HeldPacket) (i : ℕ) (x : HeldPacket) → map held_of (insert xs i x) ≡ insert (map held_of xs) i (held_of x)
 held_insert xs i x = map-append held_of (take i xs) (x ∷ drop i xs) ∙ simp (take-map, drop-map)
 
@@ -39,7 +39,7 @@ not_below n (p ∷ ps) a = grind (arith, nat_tests, not_below n ps a.1, a.0)
 pub absent_below : (n : ℕ) (q : Held) (qs : List Held) → n < q.meta.seq_no.0 → AllAbove q.meta.seq_no.0 qs → has_number n (q ∷ qs) ≡ false
 absent_below n q qs l a = grind (arith, nat_tests, not_below n qs (above_lower n q.meta.seq_no.0 qs (omega arith) a))
 
--- the number stands at its place, if it is there
+-- the number is at its place, if it is held
 pub at_place : (n : ℕ) (xs : List HeldPacket) (x : HeldPacket) → Rises (map held_of xs) → place_of n (map held_of xs) < length xs
     → eqb (get_or xs (place_of n (map held_of xs)) x).packet.value.known.seq_no.0 n ≡ has_number n (map held_of xs)
 at_place n [] x r l = absurd (omega arith)
@@ -55,7 +55,7 @@ at_place n (q ∷ qs) x r l = at_test (at_place n qs x r.1) (ltb q.packet.value.
         let at_least : n ≤ q.packet.value.known.seq_no.0 = grind (arith, nat_tests, e) in
         grind (arith, nat_tests, not_below n (map held_of qs) (above_lower n q.packet.value.known.seq_no.0 (map held_of qs) at_least r.0))
 
--- the packet that is found at that place tells it
+-- the packet at this place has the number
 pub at_found : (n : ℕ) (xs : List HeldPacket) (i : ℕ) (q : HeldPacket) → Rises (map held_of xs) → i ≡ place_of n (map held_of xs) → i < length xs → q ≡ get_or xs i q
     → eqb q.number n ≡ has_number n (map held_of xs)
 at_found n xs i q r at l is =
@@ -89,7 +89,7 @@ pub place_ok : (p : HeldPacket) (xs zs : List HeldPacket) (i : ℕ) → i ≡ pl
 place_ok p xs zs i at is = ap (map held_of) is ∙ held_insert xs i p
     ∙ ap (λ k. insert (map held_of xs) k (held_of p)) (at ∙ ap (λ k. place_of k (map held_of xs)) p.numbered) ∙ placed_is (held_of p) (map held_of xs)
 
--- what is left when the lowest has left
+-- the packets after the lowest one has left
 pub lowest_out : (hs new : List Held) (n : ℕ) → TakesLowest hs n new → Rises hs → record { rises : Rises new; above : AllAbove n new; shorter : length new + 1 ≡ length hs }
 lowest_out [] new n t r = absurd t
 lowest_out (p ∷ ps) new n t r = rw (t.0, t.1) (record { rises = r.1; above = r.0; shorter = omega arith })
@@ -99,7 +99,7 @@ pub placed_above_cutoff : (cutoff : Option ℕ) (p : Held) (hs : List Held) → 
 placed_above_cutoff None p hs l a = tt
 placed_above_cutoff (Some c) p hs l a = placed_above c p hs (grind (arith, nat_tests, l)) a
 
--- what holds of the packets once a new one has its place
+-- facts about the packets after a new one was inserted
 pub with_new : (items new : List HeldPacket) (p : Held) (cutoff : Option ℕ) → Rises (map held_of items) → IsAboveCutoff cutoff (map held_of items)
     → has_number p.meta.seq_no.0 (map held_of items) ≡ false → is_at_most cutoff p.meta.seq_no.0 ≡ false → map held_of new ≡ placed p (map held_of items)
     → record { rises : Rises (map held_of new); above : IsAboveCutoff cutoff (map held_of new); long : length new ≡ length items + 1 }

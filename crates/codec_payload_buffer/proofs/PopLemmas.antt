@@ -1,4 +1,4 @@
--- The frame that is due, and what is left once it has gone.
+-- The frame that is due, and the buffer after it has left.
 use Rattle.std.proofs.Common.{◌≡◌, ◌≢◌, inl, inr, Err, ℕ, ◌<◌, ◌≤◌, ◌+◌, [], ◌∷◌, ◌++◌, List, length, ap, sym, ◌∙◌, arith, cond, Some, None, ltb, ◌||◌}
 use Rattle.std.proofs.lemmas.List.{length-append, length-map}
 use Rattle.std.proofs.lemmas.Bool.Decides.{nat_tests}
@@ -68,7 +68,7 @@ due_shorter s f r h =
 pub passes_shorter : (s t : State) → Rises s.held → PassesOver s t → length t.held < length s.held
 passes_shorter s t r p = rw p.left (due_shorter s p.frame r p.is_due)
 
--- a frame that goes out, or is refused, takes packets with it too
+-- a frame that is released or refused takes packets with it
 pub release_shorter : (s t : State) (r : Release) → Rises s.held → Releases s r t → length t.held < length s.held
 release_shorter s t r rises out = rw out.left (due_shorter s out.frame rises out.is_due)
 
@@ -76,7 +76,7 @@ pub refusal_shorter : (s t : State) (fault : PacketError) → Rises s.held → T
 refusal_shorter s t fault rises (inl stall) other = absurd (other stall.0)
 refusal_shorter s t fault rises (inr out) other = rw out.left (due_shorter s out.frame rises out.is_due)
 
--- where no frame is due, none is passed over, and so none is due afterwards
+-- if no frame is due, no frame is skipped, and no frame is due afterwards
 pub nothing_passed : (s t : State) (over : List CompleteFrame) (f : CompleteFrame) → due_of s ≡ None → Passes s over t → due_of t ≡ Some f → ⊥
 nothing_passed s t over f waits none due = cc
 nothing_passed s u over f waits (one_more passes passed) due = nothing_passed s _ _ passed.frame waits passes passed.is_due
@@ -111,7 +111,7 @@ due_whole s f r h =
     let inside : packets_of_frame s f ≡ part.0 = ap (between f.first f.last) part.2.whole ∙ split.inside in
     rw inside (run_length part.0 f.first f.last part.2.time part.2.run)
 
--- their time is that of the first
+-- their time is the time of the first packet
 pub due_time : (s : State) (f : CompleteFrame) (metas : List RtpMeta) (m : RtpMeta) → Rises s.held → due_of s ≡ Some f → metas ≡ metas_of (packets_of_frame s f)
     → m ≡ get_or metas 0 m → AllOfTime m.time (packets_of_frame s f)
 due_time s f metas m r h is first =
@@ -119,7 +119,7 @@ due_time s f metas m r h is first =
     let same = first_time (packets_of_frame s f) m packets.0 packets.1 packets.2 (first ∙ ap (λ (xs : List RtpMeta). get_or xs 0 m) is) in
     subst (λ (t : Time). AllOfTime t (packets_of_frame s f)) same packets.1
 
--- what is left once the packets up to a number have gone is sound
+-- the buffer without the packets up to a number is sound
 pub sound_left : (s t : State) (last : ℕ) → IsSound s → t.held ≡ above last s.held → t.cutoff ≡ Some last → t.limit ≡ s.limit → IsSound t
 sound_left s t last sound held cutoff limit = record {
   rises = rw held (above_rises last s.held sound.rises);

@@ -1,4 +1,4 @@
--- Pushes one by one keep the greatest of what was pushed.
+-- Pushes, one by one, keep the highest of the pushed numbers.
 use Rattle.std.proofs.Common.{◌≡◌, if◌then◌else◌, ℕ, ◌<◌, ◌≤◌, ◌+◌, ◌-◌, [], ◌∷◌, ◌++◌, List, length, take, drop, refl, ap}
 use Rattle.std.proofs.Common.{sym, ◌∙◌, subst, arith, true, false, cond, Option, Some, None, append_assoc, inl, inr, ltb, ◌||◌, Bool}
 use Rattle.std.proofs.lemmas.Bool.{cases_lt}
@@ -18,7 +18,7 @@ abbrev AllUpTo : ℕ → List Held → Type 0
 AllUpTo n [] = Unit {0}
 AllUpTo n (p ∷ ps) = (p.meta.seq_no.0 ≤ n) × AllUpTo n ps
 
--- a packet above all of low goes in behind them
+-- a packet above all of `low` is inserted after them
 placed_behind : (p : Held) (low high : List Held) → AllUpTo p.meta.seq_no.0 low → has_number p.meta.seq_no.0 low ≡ false → placed p (low ++ high) ≡ low ++ placed p high
 placed_behind p [] high a fresh = refl
 placed_behind p (q ∷ qs) high a fresh =
@@ -26,7 +26,7 @@ placed_behind p (q ∷ qs) high a fresh =
     let t : ltb q.meta.seq_no.0 p.meta.seq_no.0 ≡ true = grind (arith, nat_tests, below) in
     rw t (ap (λ (zs : List Held). q ∷ zs) (placed_behind p qs high a.1 (grind (arith, fresh))))
 
--- p goes in below the last of low
+-- p is inserted below the last of `low`
 placed_within : (p : Held) (low high : List Held) (c : Option ℕ) (m : ℕ) → last_number low c ≡ Some m → p.meta.seq_no.0 < m → is_some_left low ≡ true → placed p (low ++ high) ≡ placed p low ++ high
 placed_within p [] high c m last l some = absurd (cc)
 placed_within p (q ∷ []) high c m last l some =
@@ -56,7 +56,7 @@ last_append : (low : List Held) (q : Held) (c : Option ℕ) → last_number (low
 last_append [] q c = refl
 last_append (r ∷ low) q c = last_append low q (Some r.meta.seq_no.0)
 
--- what is known of the packets left out
+-- facts about the dropped packets
 record IsLow (low high : List Held) (c : Option ℕ) (m : ℕ) : Type 0 where
   last : last_number low c ≡ Some m
   up_to : AllUpTo m low
@@ -202,11 +202,11 @@ pub pushes_keep : (s : State) (all ps : List Held) → Rises all → IsAboveCuto
 pushes_keep s all [] r a = refl
 pushes_keep s all (p ∷ ps) r a = ap (λ t. after_pushes t ps) (push_one s all p r a) ∙ (pushes_keep s (with_one s.cutoff all p) ps (with_one_rises s.cutoff all p r) (with_one_above s.cutoff all p a))
 
--- at each moment of a stretch the buffer holds the greatest of what was there and what was pushed since
+-- at each moment of a stretch the buffer holds the highest of the packets held before and pushed since
 pub stretch_is : (s : State) (ps : List Held) → Rises s.held → IsAboveCutoff s.cutoff s.held → length s.held ≤ s.limit → after_pushes s ps ≡ with_kept s (gathered s.cutoff s.held ps)
 stretch_is s ps r a few = ap (λ t. after_pushes t ps) (sym (kept_is s [] s.held (omega (arith, few)))) ∙ pushes_keep s s.held ps r a
 
--- a packet of which this depacketizer told whether it begins and ends a unit
+-- a packet for which this depacketizer decided whether it begins and ends a unit
 pub is_arrived : (depacketizer here : DepacketizerState) → here ≡ depacketizer → (meta : RtpMeta) (bytes seen again : List ℕ) → seen ≡ bytes → again ≡ bytes → (head tail : Bool)
     → (is_built_in_depacketizer here ≡ true → head ≡ head_of here seen) → (is_built_in_depacketizer here ≡ true → tail ≡ tail_of here meta.header.marker again)
     → IsArrived depacketizer meta bytes (record { meta = meta; bytes = bytes; head = head; tail = tail })

@@ -54,7 +54,7 @@ slice_between first last (q ∷ qs) r le =
       ]
     ]
 
--- where the numbers of the part follow one another, they tell how long it is
+-- if the numbers of the part are consecutive, they determine its length
 pub end_from_place : (first last : ℕ) (hs : List Held) → Rises hs → first ≤ last → last + 1 ≡ first + length (between first last hs) → end_of last hs ≡ place_of first hs + (last - first) + 1
 end_from_place first last hs r le whole =
     let slice = slice_between first last hs r le in

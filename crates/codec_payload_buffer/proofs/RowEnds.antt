@@ -1,4 +1,4 @@
--- What the ends of rows tell where the code looks at them.
+-- The ends of rows, at the places that the code reads.
 use Rattle.std.proofs.Common.{◌≡◌, ◌≢◌, ℕ, ◌<◌, ◌≤◌, ◌+◌, ◌-◌, [], ◌∷◌, List, length, get_or, map, zero, suc, add-one, ltb, refl, ap, sym, subst, drop, ◌∙◌, arith, Bool, true, false, cond, Option, Some, None, eqb, inl, inr, ◌⊎◌}
 use Rattle.std.specs.Prelude.{slice_set, IfSome}
 use Rattle.std.specs.List.{insert}
@@ -52,7 +52,7 @@ last_found xs r y rises among told is =
       number = number;
     }
 
--- from the first packet of a row, as the code goes on from it
+-- from the first packet of a row onwards, as the code reads it
 pub record IsFirstOf (xs : List HeldPacket) (r : Row) (i : ℕ) (x : HeldPacket) : Type 0 where
   pub order : x.number ≤ x.packet.value.other_end
   pub within : i + (x.packet.value.other_end - x.number) < length xs
@@ -172,7 +172,7 @@ lowest_found (y ∷ ys) x rises told l is =
       whole = λ z at. rw first.2 (found.whole z (at ∙ ap (λ k. get_or (y ∷ ys) k z) same));
     }
 
--- its ends, where it is told anew
+-- its ends, after they are noted again
 pub record IsLowestThere (hs : List Held) (r : Row) : Type 0 where
   pub order : r.first ≤ r.last
   pub from : 0 ≡ place_of r.first hs
@@ -201,7 +201,7 @@ lowest_there (p ∷ ps) r rises is =
       last = among.last_held;
     }
 
--- What is written
+-- Writes
 
 pub held_set : (xs : List HeldPacket) (i : ℕ) (x y : HeldPacket) → x ≡ get_or xs i x → held_of y ≡ held_of x → map held_of (slice_set xs i y) ≡ map held_of xs
 held_set [] i x y is same = refl
@@ -273,7 +273,7 @@ place_placed p (q ∷ qs) =
     (λ e at. rw (e, place_placed p qs) refl)
     (λ e at. rw t refl) refl
 
--- the row that a packet is in, where its ends are written
+-- the row of a packet, after its ends are noted
 pub record IsRowPlaced (xs new : List HeldPacket) (place : ℕ) (x : HeldPacket) (r : Row) : Type 0 where
   pub held : map held_of new ≡ placed (held_of x) (map held_of xs)
   pub rises : Rises (map held_of new)
@@ -358,7 +358,7 @@ short_row (p ∷ ps) left n row rises is takes =
     let L : List Held → Type 0 = λ hs. IsHeadKept row hs in
     record { order = rw same short.0; kept = subst L (sym takes.1) (subst K (sym same) short.1) }
 
--- what is left of the lowest row, and the rows then
+-- the rest of the lowest row, and the rows after that
 record IsLeft (p : Held) (ps : List Held) (row : Row) : Type 0 where
   all : List Row
   rows_are : rows (p ∷ ps) ≡ row ∷ all

@@ -1,4 +1,4 @@
--- The frames of the rows are the frames of the packets, and one row more mends them in one place.
+-- The frames of the rows are the frames of the packets, and one more row changes them in one place.
 use Rattle.std.proofs.Common.{◌≡◌, ℕ, ◌<◌, ◌≤◌, [], ◌∷◌, ◌++◌, List, refl, ap, sym, ◌∙◌, subst, arith, Bool, true, false, cond, Option, Some, None, ltb, eqb, inl, inr, ◌⊎◌}
 use Rattle.std.proofs.lemmas.Bool.Decides.{nat_tests}
 use Rattle.codec_payload_buffer.specs.Held.{Held}
@@ -12,12 +12,12 @@ use Rattle.codec_payload_buffer.proofs.RowListLemmas.{meet_parts, meet_front, jo
 
 -- The frames of packets, read row by row
 
--- the frames of the rows that follow one which has been read up to its latest packet
+-- the frames of the rows after one that was read up to its latest packet
 abbrev after : Row → List Row → List CompleteFrame
 after o [] = []
 after o (r ∷ rs) = row_frames (join_if o r ∷ rs)
 
--- a row that goes on has no frame
+-- a row that continues has no frame
 no_frame : (head : Option ℕ) (last : ℕ) (tail : Bool) → tail ≡ false → frame_in tail head last ≡ None
 no_frame head last tail e = rw e refl
 
@@ -47,7 +47,7 @@ first_step x (r ∷ rs) =
     (λ e. rw (no_frame x.head x.last x.tail (meet_parts x r e).no_tail) refl)
     (λ e. refl)
 
--- the frame at a packet, from what its row has come to
+-- the frame at a packet, from its row so far
 frame_here : (p : Held) (o : Option ℕ) (tail : Bool) (later : List CompleteFrame) → cond tail (ended_at p o) [] ++ later ≡ with_frame (frame_in tail o p.meta.seq_no.0) later
 frame_here p None true later = refl
 frame_here p (Some n) true later = refl
@@ -84,7 +84,7 @@ walk q qs (p ∷ ps) o is =
     ∙ sym (rw (next.last, next.tail, next.head) refl)
     ∙ after_step o (row_of p) (rows ps)
 
--- the frames of the rows are those of the packets
+-- the frames of the rows are the frames of the packets
 pub frames_of_rows : (hs : List Held) → row_frames (rows hs) ≡ frames hs
 frames_of_rows [] = refl
 frames_of_rows (p ∷ ps) =
@@ -92,7 +92,7 @@ frames_of_rows (p ∷ ps) =
     ∙ ap (with_frame (frame_in p.tail (lowest_head (p ∷ [])) p.meta.seq_no.0)) (walk p [] ps (row_of p) (record { last = refl; time = refl; tail = refl; head = refl }))
     ∙ first_step (row_of p) (rows ps))
 
--- Where frames end
+-- The places at which frames end
 
 frame_last : (tail : Bool) (head : Option ℕ) (last : ℕ) (f : CompleteFrame) → frame_in tail head last ≡ Some f → f.last ≡ last
 frame_last true (Some n) last f h = cc
@@ -148,7 +148,7 @@ noted_over last true (Some n) (Some m) fs more a =
     let u : eqb last last ≡ true = grind (arith, nat_tests) in
     rw (t, u) refl
 
--- a frame goes in behind a lower one
+-- a frame is inserted after a lower one
 noted_skip : (o g : Option CompleteFrame) (m n : ℕ) (fs : List CompleteFrame) → ((f : CompleteFrame) → o ≡ Some f → f.last ≡ n) → ((f : CompleteFrame) → g ≡ Some f → f.last ≡ m) → m < n
     → with_frame g (noted_if o fs) ≡ noted_if o (with_frame g fs)
 noted_skip None g m n fs to tg l = refl
@@ -160,7 +160,7 @@ noted_skip (Some f) (Some g) m n fs to tg l =
 pub row_last : (r : Row) (f : CompleteFrame) → frame_of_row r ≡ Some f → f.last ≡ r.last
 row_last r f e = frame_last r.tail r.head r.last f e
 
--- the rows after p that do not become one with it
+-- the rows after p that are not joined with it
 abbrev rest_of : Row → List Row → List Row
 rest_of p [] = []
 rest_of p (r ∷ rs) = cond (meet p r) rs (r ∷ rs)
@@ -179,7 +179,7 @@ none_right : (a b : Option ℕ) → or_else a b ≡ None → b ≡ None
 none_right None b h = h
 none_right (Some n) b h = absurd (cc)
 
--- all rows stand above p
+-- all rows are above p
 low : (x p : Row) (rs : List Row) → RowsAbove p.last rs → IsLike x (with_next p rs) → with_frame (frame_of_row x) (row_frames (rest_of p rs)) ≡ noted_if (frame_of_row x) (row_frames rs)
 low x p [] a like = noted_low (frame_of_row x) x.last [] (row_last x) tt
 low x p (r ∷ rs) a like =
@@ -201,7 +201,7 @@ next_above n p (r ∷ rs) l a = by_test (meet p r) (λ b. n < (cond b (joined p 
 join_if_last : (r p : Row) → (join_if r p).last ≡ p.last
 join_if_last r p = by_test (meet r p) (λ b. (cond b (joined r p) p).last ≡ p.last) (λ e. refl) (λ e. refl)
 
--- the rows that begin above p's stand above p
+-- the rows that begin above p's are above p
 above_from : (p : Row) (n : ℕ) (s : Row) (rs : List Row) → p.first ≡ p.last → ltb s.first p.first ≡ false → ((p.first < s.first) ⊎ (s.last < p.first))
     → RowsAbove n (s ∷ rs) → RowsAbove p.last (s ∷ rs)
 above_from p n s rs one t (inl l) a = (omega (arith, l, one), a.1, a.2)
@@ -214,7 +214,7 @@ merged_above n r p (s ∷ rs) l one a o =
     (λ e. merged_above n s p rs l one a.2 o.1)
     (λ e. rw (join_if_last r (with_next p (s ∷ rs))) (next_above n p (s ∷ rs) l (above_from p r.last s rs one e o.0 a)))
 
--- p becomes one with r, the row before it, or not; all others stand above
+-- p is joined with r, the row before it, or not; all others are above
 placed_next : (r p : Row) (rs : List Row) → r.last < p.last → RowsAbove p.last rs
     → row_frames (put_before r (put_before p rs)) ≡ noted_if (frame_of_row (join_if r (with_next p rs))) (with_frame (frame_of_row r) (row_frames rs))
 placed_next r p rs l a =
@@ -243,7 +243,7 @@ placed_after r p (s ∷ rs) l one a long o =
     lower e (inl m) = let k : s.first < p.first = grind (arith, nat_tests, e) in absurd (omega arith)
     lower e (inr m) = m
 
--- the frame of the row that p comes into is noted, and no other changes
+-- the frame of p's row is noted, and no other frame changes
 pub frames_placed : (p : Row) (rs : List Row) → p.first ≡ p.last → RowsRise rs → AreLongest rs → Outside p.first rs
     → row_frames (row_placed p rs) ≡ noted_if (frame_of_row (merged p rs)) (row_frames rs)
 frames_placed p [] one a long o = noted_low (frame_of_row p) p.last [] (row_last p) tt

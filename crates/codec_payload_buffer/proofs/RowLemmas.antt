@@ -10,7 +10,7 @@ use Rattle.codec_payload_buffer.proofs.FrameParts.{IsRun, BeginsWithHead, IsPart
 use Rattle.codec_payload_buffer.specs.Scan.{first_of}
 use Rattle.codec_payload_codec.proofs.CaseLemmas.{by_test, by_option}
 
--- what a row that begins at a head gives
+-- the effect of a row that begins at a head
 record RowSplit (earlier : List Held) (row : List Held) (n last : ℕ) (time : Time) : Type 0 where
   before : List Held
   packets : List Held
@@ -45,7 +45,7 @@ pub run_time : (q : Held) (acc : List Held) (first last : ℕ) (time : Time) →
 run_time q [] first last time run = run.2
 run_time q (a ∷ as') first last time run = run.1
 
--- a row that goes back by one packet
+-- a row that extends back by one packet
 longer_run : (e q : Held) (acc : List Held) (last : ℕ) (time : Time) → leads_to e q ≡ true → IsRun q.meta.seq_no.0 last time (q ∷ acc) → IsRun e.meta.seq_no.0 last time (e ∷ q ∷ acc)
 longer_run e q acc last time leads run =
     let parts = leads_parts e q leads in

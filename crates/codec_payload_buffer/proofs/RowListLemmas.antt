@@ -13,7 +13,7 @@ use Rattle.codec_payload_buffer.proofs.RowLemmas.{same_time}
 pub meet_parts : (q r : Row) → meet q r ≡ true → record { next : q.last + 1 ≡ r.first; same : q.time ≡ r.time; no_tail : q.tail ≡ false }
 meet_parts q r h = record { next = grind (arith, nat_tests, h); same = same_time q.time r.time (grind (arith, h)); no_tail = grind (arith, nat_tests, h) }
 
--- what stands before a joined row meets it where it meets the first part
+-- a row in front of a joined row meets it if it meets the first part
 pub meet_front : (q r x : Row) → meet r x ≡ true → meet q (joined r x) ≡ meet q r
 meet_front q r x h = ap (λ (t : Time). eqb (q.last + 1) r.first && is_same_time q.time t && not q.tail) (sym (meet_parts r x h).same)
 
@@ -41,7 +41,7 @@ no_meet_before q r (x ∷ rs) h =
     (λ e. rw (meet_front q r x e ∙ h) refl)
     (λ e. rw h refl)
 
--- The rows stand in order, apart, and are as long as can be
+-- The rows are in order, do not overlap, and are as long as possible
 
 above_before : (n : ℕ) (q : Row) (rs : List Row) → n < q.first → q.first ≤ q.last → RowsAbove q.last rs → RowsAbove n (put_before q rs)
 above_before n q [] l le a = (l, le, tt)
@@ -74,7 +74,7 @@ pub are_longest : (hs : List Held) → AreLongest (rows hs)
 are_longest [] = tt
 are_longest (p ∷ ps) = longest_before (row_of p) (rows ps) (are_longest ps)
 
--- n lies in no row
+-- n is in no row
 abbrev pub Outside : ℕ → List Row → Type 0
 Outside n [] = Unit {0}
 Outside n (r ∷ rs) = ((n < r.first) ⊎ (r.last < n)) × Outside n rs
@@ -104,7 +104,7 @@ outside_rows n (p ∷ ps) fresh r =
 
 -- One packet more
 
--- a row before all, and p among the rest
+-- a row in front of all others, and p among the rest
 slip : (q p : Row) (rs : List Row) → q.first ≤ q.last → q.last < p.first → RowsAbove q.last rs → Outside p.first rs → put_before q (row_placed p rs) ≡ row_placed p (put_before q rs)
 slip q p [] le l a o = let t : ltb q.first p.first ≡ true = grind (arith, nat_tests, le, l) in rw t refl
 slip q p (r ∷ rs) le l a o =

@@ -131,7 +131,7 @@ range_in test n low (suc count) le l t = by_test (test low) (λ b. test low ≡ 
     clash : (b : Bool) → b ≡ true → b ≡ false → ⊥
     clash b t f = cc
 
--- what is gathered, as a filter
+-- the gathered packets, as a filter
 pub gathered_is : (s : State) (ps : List Held) (low count : ℕ) → Rises s.held → IsInRange s ps low count → map number_of (gathered s.cutoff s.held ps) ≡ stretch_numbers s ps low count
 gathered_is s ps low count r within =
     same_members (λ (m : ℕ). m) (map number_of (gathered s.cutoff s.held ps)) (stretch_numbers s ps low count)
@@ -142,7 +142,7 @@ gathered_is s ps low count r within =
     test : ℕ → Bool
     test n = has_number n s.held || (not (is_at_most s.cutoff n) && has_number n ps)
 
--- What is left depends on the numbers alone
+-- The numbers alone decide what is left
 last_is : (hs : List Held) (c : Option ℕ) → last_number hs c ≡ last_or (map number_of hs) c
 last_is [] c = refl
 last_is (p ∷ ps) c = last_is ps (Some p.meta.seq_no.0)

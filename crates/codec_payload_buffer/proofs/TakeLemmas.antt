@@ -1,4 +1,4 @@
--- What comes of the frame that is due, from what the code has done.
+-- The result for the frame that is due, from the steps of the code.
 use Rattle.std.proofs.Common.{◌≡◌, ◌≢◌, ℕ, refl, sym, subst, List, [], Some, Ok, Err, Bool, true, false, Result, inl, inr}
 use Rattle.codec_payload_base.specs.Time.{Time}
 use Rattle.codec_payload_base.specs.declared.error.PacketError.{PacketError}
@@ -19,7 +19,7 @@ pub gives_of : (s : State) (f : CompleteFrame) (packets : List Held) (bytes : Li
 gives_of s f packets bytes answer e is empty gives = rw (is, empty) at gives
 
 module _ (s t : State) (same : s ≡ t) (f : CompleteFrame) (due : due_of s ≡ Some f) (e : DepacketizerState) where
-  -- it goes out
+  -- it is released
   pub released : (r : Release) (time : Time) (contiguous seq : Bool) (c : Contiguity) (u : Unpacked) (metas : List RtpMeta) (new : State)
       → r ≡ record { time = time; contiguous = contiguous; bytes = u.bytes; codec_extra = u.extra; metas = metas }
       → Gives s f (Ok u) e → AllOfTime time (packets_of_frame s f) → metas ≡ metas_of (packets_of_frame s f) → seq ≡ follows s f → checked s.contiguity u.extra seq ≡ (true, contiguous, c)
@@ -40,7 +40,7 @@ module _ (s t : State) (same : s ≡ t) (f : CompleteFrame) (due : due_of s ≡ 
         left = rw given left;
       }))
 
-  -- it may not go out
+  -- it is skipped
   pub skipped_over : (contiguous seq : Bool) (c : Contiguity) (u : Unpacked) (new : State)
       → Gives s f (Ok u) e → seq ≡ follows s f → checked s.contiguity u.extra seq ≡ (false, contiguous, c)
       → new ≡ record s { held = above f.last s.held; cutoff = Some f.last; depacketizer = e; contiguity = c } → PassesOver t new
@@ -63,7 +63,7 @@ module _ (s t : State) (same : s ≡ t) (f : CompleteFrame) (due : due_of s ≡ 
   refused u fault is other gives =
       subst (λ (x : State). TakesFrame x (Err fault) u) same (inr (record { frame = f; is_due = due; depacketizer = e; not_memory = other; gives = gives; left = is }))
 
-  -- memory is wanting
+  -- memory runs out
   pub stalled : (u : State) → u ≡ record s { depacketizer = e } → Gives s f (Err faults.OutOfMemory) e → TakesFrame t (Err faults.OutOfMemory) u
   stalled u is gives =
       subst (λ (x : State). TakesFrame x (Err faults.OutOfMemory) u) same (inl (refl, record { frame = f; is_due = due; depacketizer = e; reached = inr gives; left = is }))

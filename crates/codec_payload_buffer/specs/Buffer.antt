@@ -21,7 +21,8 @@ state_of b = record {
   limit = b.limit;
 }
 
--- what every buffer keeps: it is sound, its limit is in range, and its packets tell their rows, and its list of frames is theirs
+-- an invariant of every buffer: it is sound, its limit is in range, the ends of rows are noted in its packets, and its list of
+-- frames is right
 pub record IsIndexed (s : State) (marks : List Mark) (complete_frames : List CompleteFrame) : Type 0 where
   pub sound : IsSound s
   pub least : 1 ≤ s.limit

@@ -1,4 +1,4 @@
--- What the definitions of the buffer say of a few packets.
+-- The definitions of the buffer, for a few packets.
 use Rattle.std.specs.Prelude.{◌≡◌, ℕ, Bool, true, false, List, [], ◌∷◌, Some, None, map, refl}
 use Rattle.codec_payload_base.specs.Extensions.{no_values}
 use Rattle.codec_payload_codec.specs.Depacketizers.{OpusDepacketizing}
@@ -10,7 +10,7 @@ use Rattle.codec_payload_buffer.specs.declared.buffer.frames.CompleteFrame.{Comp
 use Rattle.codec_payload_buffer.specs.declared.buffer.unit.RtpMeta.{RtpMeta}
 use Rattle.codec_payload_buffer.specs.declared.contiguity.Contiguity.TheVariants as kept
 
--- the metadata of a packet of that number and time
+-- the metadata of a packet with this number and time
 abbrev meta_at : ℕ → ℕ → RtpMeta
 meta_at number time = record {
   received = record { 0 = 0 };
@@ -20,7 +20,7 @@ meta_at number time = record {
   last_sender_info = None;
 }
 
--- a packet of that number and time
+-- a packet with this number and time
 abbrev packet_at : ℕ → ℕ → Bool → Bool → Held
 packet_at number time head tail = record { meta = meta_at number time; bytes = []; head = head; tail = tail }
 
@@ -28,8 +28,8 @@ packet_at number time head tail = record { meta = meta_at number time; bytes = [
 abbrev frame_of : ℕ → ℕ → CompleteFrame
 frame_of first last = record { first = first; last = last }
 
--- Frames: 1 to 3 from its only head; none to 4, whose row has no head; 6 to 8 from the lower of two heads; none to 10, since
--- 9 has another time; and 11 and 12 apart, though of one time, since 11 is a tail.
+-- Frames: 1 to 3 from its only head. None to 4, whose row has no head. 6 to 8 from the lower of two heads. None to 10, since 9
+-- has another time. 11 and 12 apart, though they have one time, since 11 ends a unit.
 pub frames-some : frames (
     packet_at 1 10 true false ∷ packet_at 2 10 false false ∷ packet_at 3 10 false true ∷ packet_at 4 10 false true
     ∷ packet_at 6 20 true false ∷ packet_at 7 20 true false ∷ packet_at 8 20 false true
@@ -38,7 +38,7 @@ pub frames-some : frames (
     ≡ frame_of 1 3 ∷ frame_of 6 8 ∷ frame_of 11 11 ∷ frame_of 12 12 ∷ []
 frames-some = refl
 
--- a gap ends a row, so the frame begins behind it
+-- a gap ends a row, so the frame begins after the gap
 pub frames-gap : frames (packet_at 1 10 true false ∷ packet_at 3 10 true false ∷ packet_at 4 10 false true ∷ []) ≡ frame_of 3 4 ∷ []
 frames-gap = refl
 
@@ -47,29 +47,29 @@ frames-gap = refl
 abbrev opus_packet : ℕ → Held
 opus_packet number = arrived OpusDepacketizing (meta_at number number) []
 
--- nothing was pushed
+-- no packet was pushed
 abbrev opus_start : State
 opus_start = record { held = []; cutoff = None; evicted = false; contiguity = kept.None; depacketizer = OpusDepacketizing; hold_back = 1; limit = 4096 }
 
--- the frame of that one packet has left
+-- the frame of this one packet was released
 abbrev after_unit : State → ℕ → State
 after_unit s number = without s (frame_of number number) OpusDepacketizing kept.None false
 
--- 10 comes, and goes at once, as the first does
+-- 10 arrives, and is released at once, as the first frame
 pub hold_back_1-first : due_of (pushed opus_start (opus_packet 10)) ≡ Some (frame_of 10 10)
 hold_back_1-first = refl
 
 abbrev opus_after_10 : State
 opus_after_10 = after_unit (pushed opus_start (opus_packet 10)) 10
 
--- 12 comes, and waits for 11
+-- 12 arrives, and waits for 11
 pub hold_back_1-waits : due_of (pushed opus_after_10 (opus_packet 12)) ≡ None
 hold_back_1-waits = refl
 
 abbrev opus_with_13 : State
 opus_with_13 = after_pushes opus_after_10 (opus_packet 12 ∷ opus_packet 13 ∷ [])
 
--- 13 comes, and 12 goes, which does not follow 10
+-- 13 arrives, and 12 is released, which does not follow 10
 pub hold_back_1-goes_on : due_of opus_with_13 ≡ Some (frame_of 12 12)
 hold_back_1-goes_on = refl
 
@@ -79,18 +79,18 @@ hold_back_1-loss = refl
 abbrev opus_after_12 : State
 opus_after_12 = after_unit opus_with_13 12
 
--- 11 comes too late
+-- 11 is late
 pub hold_back_1-late : pushed opus_after_12 (opus_packet 11) ≡ opus_after_12
 hold_back_1-late = refl
 
--- and 13 goes, which follows 12
+-- 13 is released, which follows 12
 pub hold_back_1-next : due_of opus_after_12 ≡ Some (frame_of 13 13)
 hold_back_1-next = refl
 
 pub hold_back_1-follows : follows opus_after_12 (frame_of 13 13) ≡ true
 hold_back_1-follows = refl
 
--- A buffer of two packets to which three are pushed evicts the lowest, whatever the order
+-- A buffer of two packets evicts the lowest of three pushed packets, in any order
 
 abbrev small_start : State
 small_start = record opus_start { limit = 2 }

@@ -1,16 +1,16 @@
--- The packets that a buffer holds: a list with rising numbers, so a set with at most one packet a number.
+-- The packets that a buffer holds: a list with rising numbers, so a set with at most one packet for each number.
 use Rattle.std.specs.Prelude.{◌≡◌, ℕ, ◌<◌, ◌||◌, Bool, false, List, [], ◌∷◌, nat_lt, ◌==◌, if◌then◌else◌, Option, Some, None}
 use Rattle.codec_payload_buffer.specs.declared.buffer.unit.RtpMeta.{RtpMeta}
 use Rattle.codec_payload_buffer.specs.declared.buffer.held_packet.HeldPacket.{HeldPacket}
 
--- a held packet: what is known of it, its payload, and whether it begins and ends a unit
+-- a held packet: its metadata, its payload, and whether it begins and ends a unit
 pub record Held : Type 0 where
   pub meta : RtpMeta
   pub bytes : List ℕ
   pub head : Bool
   pub tail : Bool
 
--- the packet, without where what it has lies in memory
+-- the packet, without the places of its values in memory
 abbrev pub held_of : HeldPacket → Held
 held_of p = record { meta = p.packet.value.known; bytes = p.packet.value.bytes.items; head = p.packet.value.head; tail = p.packet.value.tail }
 
@@ -33,7 +33,7 @@ abbrev pub IsAboveCutoff : Option ℕ → List Held → Type 0
 IsAboveCutoff None ps = Unit {0}
 IsAboveCutoff (Some c) ps = AllAbove c ps
 
--- a packet of that number is held
+-- a packet with this number is held
 abbrev pub has_number : ℕ → List Held → Bool
 has_number n [] = false
 has_number n (p ∷ ps) = (number_of p == n) || has_number n ps
@@ -55,7 +55,7 @@ abbrev pub above : ℕ → List Held → List Held
 above last [] = []
 above last (p ∷ ps) = if nat_lt last (number_of p) then p ∷ above last ps else above last ps
 
--- the lowest packet, of that number, has left
+-- the lowest packet, with this number, has left
 abbrev pub TakesLowest : List Held → ℕ → List Held → Type 0
 TakesLowest [] n new = ⊥
 TakesLowest (p ∷ ps) n new = (n ≡ number_of p) × (new ≡ ps)

@@ -1,4 +1,4 @@
--- What few packets have, as contracts see it.
+-- Rare values of packets, as contracts see them.
 use Rattle.std.specs.Prelude.{ℕ, List, Option, Some, None}
 use Rattle.std.specs.Option.{option_map}
 use Rattle.codec_payload_base.specs.declared.wire.SenderInfo.{SenderInfo}
@@ -21,7 +21,7 @@ abbrev pub layers_of : Option Rare → Option (List ℕ)
 layers_of None = None
 layers_of (Some r) = option_map (λ b. b.value) r.layers_allocation
 
--- what the latest sender report said
+-- the values of the latest sender report
 abbrev pub sender_info_of : Option Rare → Option SenderInfo
 sender_info_of None = None
 sender_info_of (Some r) = r.last_sender_info

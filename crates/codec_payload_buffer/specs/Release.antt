@@ -1,4 +1,4 @@
--- A unit that was released, and what its packets tell of it.
+-- A released unit, and the values that it has from its packets.
 use Rattle.std.specs.Prelude.{◌≡◌, ℕ, ◌-◌, ◌%◌, ◌^◌, ◌<◌, ◌≤◌, List, Bool, false, None, Some, All, length, take, slice_get}
 use Rattle.std.specs.Option.{option_or}
 use Rattle.codec_payload_base.specs.Extensions.{no_values}
@@ -7,7 +7,7 @@ use Rattle.codec_payload_base.specs.declared.interface.CodecExtra.{CodecExtra}
 use Rattle.codec_payload_base.specs.declared.wire.extension.ExtensionValues.{ExtensionValues}
 use Rattle.codec_payload_buffer.specs.declared.buffer.unit.RtpMeta.{RtpMeta}
 
--- what is known of a packet of which only these are known: its number, its time, its payload type and when it was received
+-- the metadata of a packet from its number, its time, its payload type and its time of arrival
 abbrev pub meta_of : ℕ → Time → ℕ → ℕ → RtpMeta
 meta_of number time payload_type received = record {
   received = record { 0 = received };
@@ -24,8 +24,8 @@ meta_of number time payload_type received = record {
   last_sender_info = None;
 }
 
--- the time of its packets, whether it follows the unit released before it, its bytes, what its payloads told besides,
--- and what is known of each of its packets, in order
+-- the RTP time of its packets, whether it directly follows the unit released before it, its bytes, its codec-specific data, and
+-- the metadata of its packets, in order
 pub record Release : Type 0 where
   pub time : Time
   pub contiguous : Bool
@@ -33,22 +33,22 @@ pub record Release : Type 0 where
   pub codec_extra : CodecExtra
   pub metas : List RtpMeta
 
--- m is the first of them
+-- m is the first metadata
 abbrev pub IsFirst : List RtpMeta → RtpMeta → Type 0
 IsFirst metas m = slice_get metas 0 ≡ Some m
 
--- m is the last of them
+-- m is the last metadata
 abbrev pub IsLast : List RtpMeta → RtpMeta → Type 0
 IsLast metas m = slice_get metas (length metas - 1) ≡ Some m
 
--- m, at place `at`, is the first of those that were received at the least time
+-- m, at place `at`, is the first packet with the earliest time of arrival
 pub record IsReceivedFirst (metas : List RtpMeta) (m : RtpMeta) : Type 0 where
   pub at : ℕ
   pub there : slice_get metas at ≡ Some m
   pub least : All (λ (x : RtpMeta). m.received.0 ≤ x.received.0) metas
   pub first : All (λ (x : RtpMeta). m.received.0 < x.received.0) (take at metas)
 
--- the values of the last packet, with the first packet's capture time and layers allocation where that has them
+-- the values of the last packet, with the capture time and layers allocation of the first packet, if that has them
 abbrev pub merged : ExtensionValues → ExtensionValues → ExtensionValues
 merged first last = record last {
   abs_capture_time = option_or first.abs_capture_time last.abs_capture_time;

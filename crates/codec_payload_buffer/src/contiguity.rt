@@ -1,4 +1,4 @@
-//! VP8 and VP9: whether a frame may go out, and whether it follows the frame before it, by picture ids (docs/FORMATS.md,
+//! VP8 and VP9: whether picture ids allow a frame to be released, and whether it follows the previous frame (docs/FORMATS.md,
 //! "Contiguity").
 
 ghost use Rattle.std.specs.Prelude.{◌≡◌};
@@ -8,17 +8,17 @@ ghost use Rattle.codec_payload_codec.specs.Depacketizers.{depacketizer_state_of,
 use codec_payload_codec::codec::{CodecDepacketizer, CodecExtra, Vp8CodecExtra, Vp9CodecExtra};
 use std::marker::Model;
 
-/// What a buffer remembers of the frames that it released, by the codec of its depacketizer.
+/// The picture ids of released frames that a buffer remembers, by the codec of its depacketizer.
 #[derive(Debug, Drop)]
 pub enum Contiguity {
     Vp8(Vp8Contiguity),
     Vp9(Vp9Contiguity),
-    /// The codec tells no picture ids: sequence numbers alone count.
+    /// The codec has no picture ids: only sequence numbers count.
     None,
 }
 
 impl Contiguity {
-    /// That of a buffer over a depacketizer which has released nothing.
+    /// Creates the state for this depacketizer, before the first released frame.
     pub(crate) fn of<B>(depacketizer: &CodecDepacketizer<B>) -> Self
         ensures { result ≡ contiguity_for (kind_of_depacketizer (depacketizer_state_of depacketizer.now)) }
     {
@@ -29,8 +29,8 @@ impl Contiguity {
         }
     }
 
-    /// Whether a frame may go out, and whether it follows the one before it. `contiguous_seq` says whether its sequence
-    /// numbers follow; where the extra is not of the codec, that is the answer.
+    /// Returns whether a frame can be released, and whether it follows the previous one. `contiguous_seq` says whether its
+    /// sequence numbers follow; this is the answer if the codec-specific data is of another codec.
     pub fn check(&mut self, next: &CodecExtra, contiguous_seq: bool) -> (bool, bool)
         ensures { checked self.old next.now contiguous_seq ≡ (result.0, result.1, self.new) }
     {
@@ -46,7 +46,7 @@ impl Contiguity {
     }
 }
 
-/// The picture ids of the last VP8 frame that was taken with both.
+/// The picture ids of the latest released VP8 frame with both ids.
 #[derive(Debug, Drop)]
 pub struct Vp8Contiguity {
     ids: FrameContiguityState,
@@ -61,7 +61,7 @@ impl Model for Vp8Contiguity {
 }
 
 impl Vp8Contiguity {
-    /// No frame was taken.
+    /// No frame was released.
     pub fn new() -> Self
         ensures { result ≡ no_ids }
     {
@@ -73,7 +73,7 @@ impl Vp8Contiguity {
         }
     }
 
-    /// Whether the frame may go out, and whether it follows.
+    /// Returns whether the frame can be released, and whether it follows the previous one.
     pub fn check(&mut self, next: &Vp8CodecExtra, contiguous_seq: bool) -> (bool, bool)
         ensures { vp8_verdict self.old next.now contiguous_seq ≡ (result.0, result.1, self.new) }
     {
@@ -95,7 +95,7 @@ impl Default for Vp8Contiguity {
     }
 }
 
-/// The picture ids of the last VP9 frame that was taken with both.
+/// The picture ids of the latest released VP9 frame with both ids.
 #[derive(Debug, Drop)]
 pub struct Vp9Contiguity {
     ids: FrameContiguityState,
@@ -110,7 +110,7 @@ impl Model for Vp9Contiguity {
 }
 
 impl Vp9Contiguity {
-    /// No frame was taken.
+    /// No frame was released.
     pub fn new() -> Self
         ensures { result ≡ no_ids }
     {
@@ -122,7 +122,7 @@ impl Vp9Contiguity {
         }
     }
 
-    /// Whether the frame may go out, and whether it follows.
+    /// Returns whether the frame can be released, and whether it follows the previous one.
     pub fn check(&mut self, next: &Vp9CodecExtra, contiguous_seq: bool) -> (bool, bool)
         ensures { vp9_verdict self.old next.now contiguous_seq ≡ (result.0, result.1, self.new) }
     {
@@ -148,7 +148,7 @@ impl Default for Vp9Contiguity {
     }
 }
 
-/// The ids of the last frame that was taken with both, as both codecs use them.
+/// The ids of the latest released frame with both ids, as both codecs use them.
 #[derive(Debug, Drop)]
 pub struct FrameContiguityState {
     pub last_picture_id: Option<u64>,
@@ -156,10 +156,13 @@ pub struct FrameContiguityState {
 }
 
 impl FrameContiguityState {
-    /// Whether a frame may go out, and whether it follows the one before it. One that lacks an id is told by its sequence
-    /// numbers alone. After the first with both, an older one may not go out, but for a keyframe, which starts again; one of
-    /// the base layer follows where its base is the next; one of another layer must be the very next picture on the same
-    /// base.
+    /// Returns whether a frame can be released, and whether it follows the previous one:
+    ///
+    /// - A frame that lacks an id can be released, and follows if its sequence numbers do.
+    /// - The first frame with both ids can be released, and follows.
+    /// - An older frame cannot be released, unless it is a keyframe, which starts again and does not follow.
+    /// - A frame of the base layer can be released, and follows if its base is the next one.
+    /// - A frame of another layer can be released only if it is the very next picture on the same base; then it follows.
     pub fn next_frame(
         &mut self,
         picture_id: Option<u64>,

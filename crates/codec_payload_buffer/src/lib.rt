@@ -1,4 +1,4 @@
-//! The buffer that puts received packets in order and their payloads together.
+//! The buffer that restores the order of received packets and reassembles units.
 #![tactic(auto)]
 
 pub mod buffer;

@@ -1,4 +1,4 @@
--- The packets of a frame in the caller's bytes.
+-- The packets of a frame in the output buffer.
 use Rattle.std.proofs.Common.{◌≡◌, ◌∙◌, sym, ap, refl, ℕ, zero, suc, ◌+◌, ◌<◌, ◌≤◌, ◌==◌, ◌&&◌, ◌||◌, Bool, true, Some, Result, List, [], ◌∷◌, ◌++◌, length, take, drop, get_or, slice_get, slice_set, arith, append_assoc, length-append}
 use Rattle.std.proofs.Math.Seq.{take-add}
 use Rattle.std.proofs.lemmas.List.{take_at, drop_at, take_more, drop_more, drop-drop, drop-set-lt, length-take, length-drop, take-append-drop}
@@ -9,7 +9,7 @@ use Rattle.codec_payload_c.specs.declared.frames.FrameCut.{FrameCut}
 
 -- ---- sizes
 
--- the payloads before a place and the others take what all take
+-- the payloads in front of a place and the other payloads need as much as all payloads
 pub size_split : (rooms : ℕ) (ps : List (List ℕ)) (i : ℕ) → size_with rooms (take i ps) + size_with rooms (drop i ps) ≡ size_with rooms ps
 size_split rooms ps zero = omega arith
 size_split rooms [] (suc i) = omega arith
@@ -19,20 +19,20 @@ size_append : (rooms : ℕ) (ps qs : List (List ℕ)) → size_with rooms (ps ++
 size_append rooms [] qs = omega arith
 size_append rooms (p ∷ ps) qs = omega (arith, size_append rooms ps qs)
 
--- one payload more before the place
+-- one more payload in front of the place
 pub size_more : (rooms : ℕ) (ps : List (List ℕ)) (i : ℕ) → i < length ps
     → size_with rooms (take (i + 1) ps) ≡ size_with rooms (take i ps) + (rooms + length (get_or ps i []))
 size_more rooms ps i below =
     ap (size_with rooms) (take_more ps i [] below) ∙ size_append rooms (take i ps) (get_or ps i [] ∷ []) ∙ omega arith
 
--- one payload fewer behind it
+-- one payload less after it
 pub size_left : (rooms : ℕ) (ps : List (List ℕ)) (i : ℕ) → i < length ps
     → size_with rooms (drop i ps) ≡ rooms + length (get_or ps i []) + size_with rooms (drop (i + 1) ps)
 size_left rooms ps i below = ap (size_with rooms) (drop_more ps i [] below)
 
 -- ---- writing
 
--- A payload is put in its place: what was written, with what is still to be written behind it, stays the same.
+-- One payload is written: the bytes so far, followed by the bytes still to write, stay the same.
 module _ (front back at : ℕ) (bytes p : List ℕ) (rest : List (List ℕ)) (room : at + (front + length p + back) ≤ length bytes) where
   abbrev pub left : List ℕ
   left = drop at bytes
@@ -93,9 +93,9 @@ module _ (front back at : ℕ) (bytes p : List ℕ) (rest : List (List ℕ)) (ro
       ∙ ap (λ (xs : List ℕ). done ++ laid front back rest xs) (drop_at done end n done_long)
       ∙ whole
 
--- ---- telling
+-- ---- descriptions
 
--- one place more is told
+-- one more packet is described
 pub told_more : {X : Type 0} (what : ℕ → X) (packets : List X) (i : ℕ) (x : X) → i < length packets → x ≡ what i
     → ((k : ℕ) → k < i → slice_get packets k ≡ Some (what k)) → (k : ℕ) → k < i + 1 → slice_get (slice_set packets i x) k ≡ Some (what k)
 told_more what [] i x below is before k l = absurd (omega (arith, below))
@@ -105,7 +105,7 @@ told_more what (y ∷ ys) (suc i) x below is before zero l = before zero (omega 
 told_more what (y ∷ ys) (suc i) x below is before (suc k) l =
     told_more (λ n. what (suc n)) ys i x (omega (arith, below)) is (λ k l. before (suc k) (omega (arith, l))) k (omega (arith, l))
 
--- and those behind it stay
+-- the descriptions after it are unchanged
 pub behind_more : {X : Type 0} (packets before : List X) (i : ℕ) (x : X) → drop i packets ≡ drop i before → drop (i + 1) (slice_set packets i x) ≡ drop (i + 1) before
 behind_more packets before i x same =
     drop-set-lt (i + 1) packets i x (omega arith) ∙ sym (drop-drop 1 i packets) ∙ ap (drop 1) same ∙ drop-drop 1 i before
@@ -122,7 +122,7 @@ counted_all size rooms ps none few = rw none (grind arith)
 
 -- ---- packetizers
 
--- a packetizer of a codec stays one
+-- a built-in packetizer stays built in
 pub built_in_after : (p q : PacketizerState) (mtu : ℕ) (frame : List ℕ) (answer : Result (List (List ℕ)) PacketError)
     → PacketizerStep p mtu frame answer q → is_built_in p ≡ true → is_built_in q ≡ true
 built_in_after (Vp8Packetizing id) q mtu frame answer step built = ap is_built_in step.3

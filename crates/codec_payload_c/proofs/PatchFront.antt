@@ -1,4 +1,4 @@
--- A patch of a VP8 descriptor reaches no further than the longest descriptor, and changes nothing behind that.
+-- A patch of a VP8 descriptor reaches no further than the longest descriptor, and leaves the bytes after it unchanged.
 use Rattle.std.proofs.Common.{◌≡◌, ◌∙◌, sym, ap, refl, subst, ℕ, ◌+◌, ◌<◌, List, ◌++◌, length, take, drop, Bool, true, false, Option, Some, None, Result, Ok, Err, lit<}
 use Rattle.std.proofs.Math.Seq.{take-append_seam}
 use Rattle.std.proofs.lemmas.List.{length-set, set-append_left, take-append-drop}
@@ -39,7 +39,7 @@ patched_front p xs ys r =
 pub patched_split : (p : Patch) (n : ℕ) (xs : List ℕ) → Reaches p (length (take n xs)) → patched p (take n xs) ++ drop n xs ≡ patched p xs
 patched_split p n xs r = sym (patched_front p (take n xs) (drop n xs) r) ∙ ap (λ (z : List ℕ). patched p z) (take-append-drop n xs)
 
--- where the fields stand
+-- the places of the fields
 id_front : (asked : Bool) (id : Option PictureId) → IsBelow (id_byte asked id) 6
 id_front false id = tt
 id_front true None = tt
@@ -90,7 +90,7 @@ pub is_patched : (b : Builder) (p : Patch) (payload rest : List ℕ) → Patches
 is_patched b p payload rest patches described =
     let w = patches payload rest described in record { answers = refl; writes = refl; new = w.0; parses = w.2.parses; values = w.2.values }
 
--- the patch of a copy of the front, and what is behind it
+-- the patch of a copy of the front, and the bytes after the front
 pub patched_copy : (p : Patch) (n : ℕ) (xs copy rest dst : List ℕ) → copy ≡ take n xs → length copy ≡ n → dst ≡ patched p (take n (copy ++ rest))
     → Reaches p (length (take n xs)) → dst ++ drop n xs ≡ patched p xs
 patched_copy p n xs copy rest dst is len patch r =

@@ -17,11 +17,11 @@ bytes-append : (bs cs : List Block) → bytes_in (bs ++ cs) ≡ bytes_in bs + by
 bytes-append [] cs = omega arith
 bytes-append (b ∷ bs) cs = omega (arith, bytes-append bs cs)
 
--- one block more before the place
+-- one more block in front of the place
 pub bytes_more : (bs : List Block) (i : ℕ) → i < length bs → bytes_in (take (i + 1) bs) ≡ bytes_in (take i bs) + length (block_at bs i).payload
 bytes_more bs i below = ap bytes_in (take_more bs i no_block below) ∙ bytes-append (take i bs) (block_at bs i ∷ []) ∙ omega arith
 
--- the blocks before a place have no more bytes than all
+-- the blocks in front of a place have no more bytes than all blocks
 pub bytes_within : (bs : List Block) (i : ℕ) → bytes_in (take i bs) ≤ bytes_in bs
 bytes_within bs zero = omega arith
 bytes_within [] (suc i) = omega arith
@@ -29,7 +29,7 @@ bytes_within (b ∷ bs) (suc i) = omega (arith, bytes_within bs i)
 
 -- ---- places
 
--- the bytes of blocks one behind the other
+-- the bytes of successive blocks
 abbrev pub joined : List Block → List ℕ
 joined [] = []
 joined (b ∷ bs) = b.payload ++ joined bs
@@ -83,7 +83,7 @@ module _ (payload : List ℕ) (r : Red) (is : IsRed payload r) where
       ∙ lies_in_joined (blocks_in r) i (omega (arith, below, ap length same))
       )
 
--- ---- one block told
+-- ---- one described block
 
 module _ (front : ℕ) (blocks : List RedBlock) (i : ℕ) (d : RedBlock) (start : ℕ) (below : i < length blocks) (start_is : start ≡ front + bytes_in (take i (blocks_of blocks))) where
   abbrev pub it : RedBlock
@@ -101,7 +101,7 @@ module _ (front : ℕ) (blocks : List RedBlock) (i : ℕ) (d : RedBlock) (start 
   pub start_fits : start + length it.payload.now ≤ front + bytes_in (blocks_of blocks)
   start_fits = omega (arith, start_next, bytes_within (blocks_of blocks) (i + 1))
 
--- ---- all blocks told
+-- ---- all described blocks
 
 there_is : {X : Type 0} → Option X → Type 0
 there_is None = ⊥

@@ -1,9 +1,9 @@
--- Where the payload of a packet lies in its bytes.
+-- The place of a packet's payload in its bytes.
 use Rattle.std.proofs.Common.{◌≡◌, ◌∙◌, ℕ, zero, suc, ◌+◌, ◌-◌, ◌/◌, ◌%◌, ◌≤◌, List, [], ◌∷◌, ◌++◌, length, take, drop, ap, refl, arith, length-append}
 use Rattle.std.proofs.lemmas.List.{take_at, drop_at}
 use Rattle.codec_payload_rtp.specs.RtpPackets.{Packet, IsRtp, IsPadding, header_bytes, is_padded}
 
--- so long is the padding
+-- the length of the padding
 padding_long : (n : ℕ) (tail : List ℕ) → IsPadding n tail → length tail ≡ n
 padding_long zero tail is = ap length is
 padding_long (suc n) tail (filler, long, few, is) = ap length is ∙ length-append filler (suc n ∷ []) ∙ omega (arith, long)

@@ -1,4 +1,4 @@
--- What the calls on a depacketizer do.
+-- The calls on a depacketizer.
 use Rattle.std.specs.Prelude.{◌≡◌, ◌≢◌, ℕ, ◌==◌, nat_le, if◌then◌else◌, List, [], Option, Some, Ok, Err, length}
 use Rattle.codec_payload_core.specs.Depacketizers.{DepacketizerState, DepacketizerStep, depacketizer_state_of}
 use Rattle.codec_payload_core.specs.Faults.{fault_number}
@@ -11,7 +11,7 @@ use Rattle.codec_payload_handle.specs.declared.object.Assembler.{Assembler}
 use Rattle.codec_payload_handle.specs.declared.object.Object.{Object}
 use Rattle.codec_payload_handle.specs.declared.object.Object.TheVariants as objects
 
--- one with that depacketizer, which has put nothing together
+-- a new depacketizer, without bytes of a unit
 abbrev pub IsAssemblerOf : Option DepacketizerState → Object → Type 0
 IsAssemblerOf depacketizer (objects.Assembler r) = (Some (depacketizer_state_of r.depacketizer) ≡ depacketizer) × (r.bytes.items ≡ []) × (r.extra ≡ told.None)
 IsAssemblerOf depacketizer _ = ⊥
@@ -23,7 +23,7 @@ pub record Unpacks (r : Assembler) (payload : List ℕ) (status : ℕ) (s : Asse
       → (e : PacketError) × (status ≡ fault_number e) × DepacketizerStep (depacketizer_state_of r.depacketizer) payload r.bytes.items r.extra (Err e)
       (depacketizer_state_of s.depacketizer) s.bytes.items s.extra
 
--- what was put together is handed out, or stays where the caller's bytes are too few
+-- the unit so far is written to the output buffer, or stays if the buffer is too small
 pub record Takes (r : Assembler) (status size : ℕ) (extra : Extra) (before bytes : List ℕ) (s : Assembler) : Type 0 where
   pub answers : status ≡ (if nat_le (length r.bytes.items) (length before) then 0 else 33)
   pub size_is : size ≡ length r.bytes.items

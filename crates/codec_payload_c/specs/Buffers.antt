@@ -1,4 +1,4 @@
--- What the calls on a buffer do.
+-- The calls on a buffer.
 use Rattle.std.specs.Prelude.{◌≡◌, ◌≢◌, ◌⊎◌, ℕ, ◌%◌, ◌^◌, Option, Some, None, List, is_some, length}
 use Rattle.codec_payload_core.specs.Extensions.{no_values}
 use Rattle.codec_payload_core.specs.Depacketizers.{DepacketizerState}
@@ -27,7 +27,7 @@ abbrev pub IsFrameReceiverOf : Spec → Option DepacketizerState → ℕ → ℕ
 IsFrameReceiverOf spec depacketizer hold_back limit (objects.FrameReceiver r) = IsNew spec depacketizer hold_back limit r
 IsFrameReceiverOf spec depacketizer hold_back limit _ = ⊥
 
--- what the buffer is told of a packet
+-- the metadata of a packet
 pub record IsToldBy (packet : Received) (rate : ℕ) (meta : RtpMeta) : Type 0 where
   pub number : meta.seq_no.0 ≡ packet.number
   pub received : meta.received.0 ≡ packet.received
@@ -40,7 +40,7 @@ pub record IsToldBy (packet : Received) (rate : ℕ) (meta : RtpMeta) : Type 0 w
   pub values : meta.header.ext_vals ≡ no_values
   pub no_info : meta.last_sender_info ≡ None
 
--- A push: with status 0 the packet was pushed; else there was no memory, and nothing changed.
+-- A push. Status 0: the packet was pushed. Otherwise memory ran out, and nothing changed.
 pub record AnswersPush (r : FrameReceiver) (packet : Received) (payload : List ℕ) (status : ℕ) (s : FrameReceiver) : Type 0 where
   pub answers : (status ≡ 0) ⊎ (status ≡ 17)
   pub ok : status ≡ 0 → (meta : RtpMeta) × (p : Held) × IsToldBy packet r.rate meta × IsArrived r.buffer.depacketizer meta payload p × (s.buffer ≡ pushed r.buffer p)
@@ -55,7 +55,7 @@ PopsUnit r status unit_before unit before bytes s =
     (record { waited = r.waiting; waits = s.waiting; unit_before = unit_before; unit = unit; before = before; bytes = bytes })
     × (s.rate ≡ r.rate)
 
--- how much is held
+-- the contents of a buffer, in numbers
 pub record Counts (r : FrameReceiver) (counts : BufferCountsInfo) : Type 0 where
   pub held : counts.held ≡ length r.buffer.held
   pub ready : counts.ready ≡ length (frames r.buffer.held)

@@ -1,4 +1,4 @@
--- The packets of a frame in the caller's bytes, each with room before it and behind it.
+-- The packets of a frame in the output buffer, each with room in front of it and after it.
 use Rattle.std.specs.Prelude.{◌≡◌, ◌≢◌, ◌⊎◌, ℕ, ◌+◌, ◌<◌, ◌≤◌, ◌==◌, ◌&&◌, ◌||◌, nat_le, if◌then◌else◌, false, List, [], ◌∷◌, ◌++◌, Some, Ok, Err, length, slice_get, slice_index_or, take, drop}
 use Rattle.codec_payload_core.specs.Faults.{fault_number}
 use Rattle.codec_payload_core.specs.Packetizers.{PacketizerState, PacketizerStep, packetizer_state_of, is_built_in, marker_of, talk_spurt_of, nackable_of}
@@ -8,26 +8,27 @@ use Rattle.codec_payload_c.specs.declared.frames.FrameCut.{FrameCut}
 use Rattle.codec_payload_c.specs.declared.frames.FrameRoom.{FrameRoom}
 use Rattle.codec_payload_c.specs.declared.frames.PlacedPacket.{PlacedPacket}
 
--- how many bytes payloads take with that much room round each
+-- how many bytes payloads need with this much room for each
 abbrev pub size_with : ℕ → List (List ℕ) → ℕ
 size_with rooms [] = 0
 size_with rooms (p ∷ ps) = rooms + length p + size_with rooms ps
 
--- the room round a payload
+-- the room for a payload
 abbrev pub rooms_in : FrameCut → ℕ
 rooms_in cut = cut.headroom + cut.tailroom
 
--- a number as far as it has 64 bits
+-- a number, limited to 64 bits
 abbrev pub capped : ℕ → ℕ
 capped n = if nat_le n 18446744073709551615 then n else 18446744073709551615
 
--- the bytes with payloads in them: room that stays as it was, a payload, room that stays, and so on; and what is behind stays too
+-- the bytes with payloads in them: unchanged room, a payload, unchanged room, and so on; the bytes after the last room are
+-- unchanged
 abbrev pub laid : ℕ → ℕ → List (List ℕ) → List ℕ → List ℕ
 laid front back [] bytes = bytes
 laid front back (p ∷ ps) bytes =
     take front bytes ++ (p ++ (take back (drop (front + length p) bytes) ++ laid front back ps (drop (front + length p + back) bytes)))
 
--- what is told of the packet at a place
+-- the description of the packet at a place
 abbrev pub placed_at : PacketizerState → FrameCut → List (List ℕ) → ℕ → PlacedPacket
 placed_at packetizer cut payloads place = record {
   offset = size_with (rooms_in cut) (take place payloads) + cut.headroom;
@@ -36,7 +37,7 @@ placed_at packetizer cut payloads place = record {
   nackable = nackable_of packetizer;
 }
 
--- the caller's bytes and packets before and after a call, and the room that it told
+-- the caller's bytes and descriptions before and after a call, and the reported size
 pub record Laying : Type 0 where
   pub before : List ℕ
   pub bytes : List ℕ
@@ -44,7 +45,7 @@ pub record Laying : Type 0 where
   pub told : List PlacedPacket
   pub room : FrameRoom
 
--- the packets are in the caller's bytes, and told
+-- the packets are in the output buffer, and are described
 pub record Lays (payloads : List (List ℕ)) (packetizer : PacketizerState) (cut : FrameCut) (l : Laying) : Type 0 where
   pub enough : size_with (rooms_in cut) payloads ≤ length l.before
   pub many : length payloads ≤ length l.told_before
@@ -52,7 +53,7 @@ pub record Lays (payloads : List (List ℕ)) (packetizer : PacketizerState) (cut
   pub tells : (place : ℕ) → place < length payloads → slice_get l.told place ≡ Some (placed_at packetizer cut payloads place)
   pub behind : drop (length payloads) l.told ≡ drop (length payloads) l.told_before
 
--- Packets go to the caller with status 0, or there is no room for them, and the status is 33. What they take is told.
+-- The packets are written with status 0. Status 33: there is no room for them. Their size is reported in both cases.
 pub record LaysPackets (payloads : List (List ℕ)) (packetizer : PacketizerState) (cut : FrameCut) (status : ℕ) (l : Laying) : Type 0 where
   pub bytes : l.room.bytes ≡ capped (size_with (rooms_in cut) payloads)
   pub count : l.room.count ≡ length payloads
@@ -60,14 +61,14 @@ pub record LaysPackets (payloads : List (List ℕ)) (packetizer : PacketizerStat
   pub too_small : status ≢ 0 → (status ≡ 33) × ((length l.before < size_with (rooms_in cut) payloads) ⊎ (length l.told_before < length payloads))
   pub untouched : status ≢ 0 → (l.bytes ≡ l.before) × (l.told ≡ l.told_before)
 
--- the packets of a frame that is cut go to the caller, or do not fit
+-- the packets of a packetized frame are written, or do not fit
 pub record LaysCut (r : FrameSender) (cut : FrameCut) (frame : List ℕ) (status : ℕ) (l : Laying) (packetizer : PacketizerState) : Type 0 where
   pub payloads : List (List ℕ)
   pub cuts : PacketizerStep (packetizer_state_of r.packetizer) cut.mtu frame (Ok payloads) packetizer
   pub lays : LaysPackets payloads packetizer cut status l
 
--- A frame is cut into the caller's bytes. On every status but 0 the packetizer is as it was, so the frame can be given again; the
--- packets that another call cut, and how many of them were taken, always stay. 37 is for a packetizer that is not the library's.
+-- A frame is packetized into the output buffer. If the status is not 0, the packetizer is unchanged, so you can pass the frame
+-- again. Packets of the other call, and how many of them were fetched, always stay. Status 37: a custom packetizer.
 pub record LaysFrame (r : FrameSender) (cut : FrameCut) (frame : List ℕ) (status : ℕ) (l : Laying) (s : FrameSender) : Type 0 where
   pub ok : status ≡ 0 → LaysCut r cut frame status l (packetizer_state_of s.packetizer)
   pub too_small : status ≡ 33 → (packetizer : PacketizerState) × LaysCut r cut frame status l packetizer

@@ -3,11 +3,11 @@ use Rattle.std.specs.Prelude.{ℕ, ◌==◌, if◌then◌else◌, Option, Some, 
 use Rattle.codec_payload_rtp.specs.declared.values.ExtensionIds.{ExtensionIds}
 use Rattle.codec_payload_c.specs.declared.extension.ExtensionIds.{ExtensionIds as CIds}
 
--- an id, if one was agreed on: RFC 8285 has none of 0 for an extension
+-- an id, if one was agreed on: 0 means none, since RFC 8285 has no id 0
 abbrev pub id_given : ℕ → Option ℕ
 id_given id = if id == 0 then None else Some id
 
--- the ids as C gave them
+-- the ids, from C
 abbrev pub ids_given : CIds → ExtensionIds
 ids_given ids = record {
   abs_capture_time = id_given ids.abs_capture_time;

@@ -1,8 +1,8 @@
--- Looks at one payload.
+-- Inspection of one payload.
 use Rattle.std.specs.Prelude.{◌≡◌, ℕ, Bool, true, false, Option, Some, None}
 use Rattle.codec_payload_core.specs.Depacketizers.{DepacketizerState}
 
--- where the codec has a depacketizer, what that one says; else status 37
+-- the answer of the codec's depacketizer, if it has one; otherwise status 37
 abbrev pub Inspect : Option DepacketizerState → (DepacketizerState → Bool) → ℕ → Bool → Bool → Type 0
 Inspect None says status before answer = (status ≡ 37) × (answer ≡ before)
 Inspect (Some d) says status before answer = (status ≡ 0) × (answer ≡ says d)

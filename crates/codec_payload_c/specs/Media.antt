@@ -1,4 +1,4 @@
--- What frames say.
+-- Properties of frames.
 use Rattle.std.specs.Prelude.{◌≡◌, ◌&&◌, ℕ, ◌-◌, ◌==◌, nat_le, nat_lt, if◌then◌else◌, Bool, true, false, List, length, Option, Some, None, is_some, option_map, Result, Ok, Err}
 use Rattle.codec_payload_media.specs.AmrWbFrames.{Frame}
 use Rattle.codec_payload_media.specs.Av1Records.{av1c_bytes}
@@ -21,7 +21,7 @@ use Rattle.codec_payload_c.specs.declared.media.FrameFacts.{FrameFacts}
 use Rattle.codec_payload_c.specs.declared.media.ObuInfo.{ObuInfo}
 use Rattle.codec_payload_c.specs.declared.media.Vp9FrameInfo.{Vp9FrameInfo}
 
--- the statuses of frames that are malformed
+-- the statuses for malformed frames
 abbrev pub media_status : MediaError → ℕ
 media_status errors.MissingBytes = 38
 media_status errors.WrongMarker = 39
@@ -53,7 +53,7 @@ abbrev pub TellsFrame : Result FrameInfo MediaError → ℕ → FrameFacts → F
 TellsFrame (Ok i) status before facts = (status ≡ 0) × (facts ≡ facts_of i)
 TellsFrame (Err e) status before facts = (status ≡ media_status e) × (facts ≡ before)
 
--- ---- parts of a unit, each found behind the one before
+-- ---- parts of a unit, each after the previous one
 
 abbrev pub temporal_of : Av1Extension → ℕ
 temporal_of e = e.temporal_id
@@ -61,7 +61,7 @@ temporal_of e = e.temporal_id
 abbrev pub spatial_of : Av1Extension → ℕ
 spatial_of e = e.spatial_id
 
--- an OBU and the bytes behind it, in a unit of that length
+-- an OBU and the bytes after it, in a unit of this length
 abbrev pub obu_info : ℕ → Obu × List ℕ → ObuInfo
 obu_info total x = record {
   start = total - length x.1 - length x.0.payload;
@@ -86,19 +86,19 @@ TellsAmrWbFrame total (Err e) status before info = (status ≡ media_status e) �
 abbrev pub vp9_place : ℕ × List ℕ → Vp9FrameInfo
 vp9_place x = record { start = x.0; bytes = length x.1 }
 
--- a frame behind so many bytes; status 32 where there are not as many frames
+-- a frame after `before` bytes; status 32 if there are fewer frames
 abbrev pub TellsVp9Frame : Result (Option (ℕ × List ℕ)) MediaError → ℕ → Vp9FrameInfo → Vp9FrameInfo → Type 0
 TellsVp9Frame (Ok (Some x)) status before info = (status ≡ 0) × (info ≡ vp9_place x)
 TellsVp9Frame (Ok None) status before info = (status ≡ 32) × (info ≡ before)
 TellsVp9Frame (Err e) status before info = (status ≡ media_status e) × (info ≡ before)
 
--- by whether an offset is behind the end, and whether it is at the end or behind it
+-- by two answers: the offset is after the end; it is at the end or after it
 abbrev pub IfWithin : Bool → Bool → Type 0 → Type 0 → Type 0 → Type 0
 IfWithin true ends found beyond nothing = beyond
 IfWithin false true found beyond nothing = nothing
 IfWithin false false found beyond nothing = found
 
--- what is left from an offset on: status 37 behind the end, status 32 at it
+-- the rest from an offset on: status 37 after the end, status 32 at the end
 abbrev pub AtOffset : {A : Type 0} → List ℕ → ℕ → (ℕ → A → A → Type 0) → ℕ → A → A → Type 0
 AtOffset unit offset tells status before after =
     IfWithin (nat_lt (length unit) offset) (nat_le (length unit) offset) (tells status before after) ((status ≡ 37) × (after ≡ before)) ((status ≡ 32) × (after ≡ before))
@@ -109,7 +109,7 @@ abbrev pub with_status : Result Av1SequenceHeader MediaError → Result Av1Seque
 with_status (Ok h) = Ok h
 with_status (Err e) = Err (media_status e)
 
--- of an OBU alone, which is a sequence header
+-- the sequence header of an OBU without bytes after it
 abbrev pub header_of : Obu × List ℕ → Result Av1SequenceHeader ℕ
 header_of x = if (x.0.obu_type == 1) && (length x.1 == 0) then with_status (told_by sequence_header (bits_of x.0.payload)) else Err 37
 
@@ -120,7 +120,7 @@ header_found (Err e) = Err (media_status e)
 abbrev pub header_in : List ℕ → Result Av1SequenceHeader ℕ
 header_in obu = header_found (obu_at obu)
 
--- the av1C record of that header, or the status that refuses it
+-- the av1C record of this header, or the status that refuses it
 abbrev pub WritesRecord : List ℕ → Result Av1SequenceHeader ℕ → ℕ → List ℕ → List ℕ → ℕ → ℕ → Type 0
 WritesRecord obu (Err s) status before bytes size_before size = (status ≡ s) × (bytes ≡ before) × (size ≡ size_before)
 WritesRecord obu (Ok h) status before bytes size_before size =

@@ -6,7 +6,7 @@ use Rattle.codec_payload_rtp.specs.declared.rtp.RtpError.TheVariants as errors
 use Rattle.codec_payload_c.specs.declared.rtp.ExtensionPlace.{ExtensionPlace}
 use Rattle.codec_payload_c.specs.declared.rtp.RtpInfo.{RtpInfo}
 
--- the statuses of bytes that are no RTP packet
+-- the statuses for bytes that are not an RTP packet
 abbrev pub rtp_status : RtpError → ℕ
 rtp_status errors.HeaderTooShort = 42
 rtp_status errors.WrongVersion = 43
@@ -16,16 +16,16 @@ rtp_status errors.ExtensionTooShort = 46
 rtp_status errors.PaddingOfZero = 47
 rtp_status errors.PaddingTooLong = 48
 
--- an extension stands behind the CSRCs, its bytes behind four that announce it; where there is none, all is 0
+-- an extension is after the CSRCs, and its bytes are after its own header of four bytes; without an extension all fields are 0
 abbrev pub place_of : ℕ → Option Extension → ExtensionPlace
 place_of csrcs None = record { there = false; profile = 0; at = 0; len = 0 }
 place_of csrcs (Some e) = record { there = true; profile = e.profile; at = 16 + csrcs; len = length e.bytes }
 
--- what is told of it
+-- the description of the extension
 abbrev pub place_told : RtpInfo → ExtensionPlace
 place_told c = record { there = c.has_extension; profile = c.extension_profile; at = c.extension_at; len = c.extension_len }
 
--- what is told of a packet
+-- the description of a packet
 pub record TellsRtp (bytes : List ℕ) (p : Packet) (c : RtpInfo) : Type 0 where
   pub payload_len : c.payload_len ≡ length p.payload
   pub payload : take c.payload_len (drop c.payload_at bytes) ≡ p.payload
@@ -39,7 +39,7 @@ pub record TellsRtp (bytes : List ℕ) (p : Packet) (c : RtpInfo) : Type 0 where
   pub marker : c.marker ≡ p.header.marker
   pub extension : place_told c ≡ place_of (length p.header.csrcs) p.header.extension
 
--- what is answered for bytes that were read so
+-- the answer for bytes with this result
 abbrev pub ReadsRtp : List ℕ → Result Packet RtpError → ℕ → (before after : RtpInfo) → Type 0
 ReadsRtp bytes (Ok p) status before after = (status ≡ 0) × TellsRtp bytes p after
 ReadsRtp bytes (Err e) status before after = (status ≡ rtp_status e) × (after ≡ before)

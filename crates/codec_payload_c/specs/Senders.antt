@@ -1,4 +1,4 @@
--- What the calls on a packetizer do.
+-- The calls on a packetizer.
 use Rattle.std.specs.Prelude.{◌≡◌, ◌≢◌, ℕ, ◌+◌, ◌==◌, ◌&&◌, ◌||◌, Bool, nat_le, if◌then◌else◌, List, [], Option, Some, None, Ok, Err, IfSome, length, map, slice_get}
 use Rattle.codec_payload_core.specs.Faults.{fault_number}
 use Rattle.codec_payload_core.specs.Packetizers.{PacketizerState, PacketizerStep, packetizer_state_of, is_built_in, marker_of, talk_spurt_of, nackable_of}
@@ -13,13 +13,13 @@ use Rattle.codec_payload_c.specs.declared.packetizer.PacketInfo.{PacketInfo}
 abbrev pub packets_in : FrameSender → List (List ℕ)
 packets_in r = map (λ p. p.items) r.packets.items
 
--- a sender with that packetizer and no packets
+-- a new packetizer, without packets
 abbrev pub IsFrameSenderOf : Option PacketizerState → Object → Type 0
 IsFrameSenderOf packetizer (objects.FrameSender s) = (Some (packetizer_state_of s.packetizer) ≡ packetizer) × (packets_in s ≡ []) × (s.taken ≡ 0)
 IsFrameSenderOf packetizer _ = ⊥
 
--- A frame is cut: its packets are there to take, from the first, and those of the frame before are given up. A fault leaves
--- the packets as they were.
+-- A frame is packetized: its packets can be fetched, from the first one, and packets of the previous frame are discarded. After
+-- an error the packets are unchanged.
 pub record CutsFrame (r : FrameSender) (mtu : ℕ) (starts : Bool) (frame : List ℕ) (status count : ℕ) (s : FrameSender) : Type 0 where
   pub ok : status ≡ 0 → PacketizerStep (packetizer_state_of r.packetizer) mtu frame (Ok (packets_in s)) (packetizer_state_of s.packetizer)
   pub counted : status ≡ 0 → count ≡ length (packets_in s)
@@ -28,22 +28,22 @@ pub record CutsFrame (r : FrameSender) (mtu : ℕ) (starts : Bool) (frame : List
   pub fault : status ≢ 0 → (e : PacketError) × (status ≡ fault_number e) × PacketizerStep (packetizer_state_of r.packetizer) mtu frame (Err e) (packetizer_state_of s.packetizer)
   pub stays : status ≢ 0 → (s.packets ≡ r.packets) × (s.taken ≡ r.taken) × (s.marked ≡ r.marked)
 
--- the next packet to take
+-- the next packet to fetch
 abbrev pub next_in : FrameSender → Option (List ℕ)
 next_in r = slice_get (packets_in r) r.taken
 
--- 0 where there is one for which the caller has room, 33 where the room is too small, 32 where there is none
+-- 0 if there is a packet and the caller has room for it, 33 if the room is too small, 32 if there is no packet
 abbrev pub packet_status : Option (List ℕ) → ℕ → ℕ
 packet_status None room = 32
 packet_status (Some p) room = if nat_le (length p) room then 0 else 33
 
--- what is told of the next packet
+-- the description of the next packet
 pub record TellsPacket (r : FrameSender) (p : List ℕ) (info : PacketInfo) : Type 0 where
   pub bytes : info.bytes ≡ length p
   pub marker : is_built_in (packetizer_state_of r.packetizer) ≡ Bool.true → info.marker ≡ (r.marked || marker_of (packetizer_state_of r.packetizer) (r.taken + 1 == length (packets_in r)))
   pub nackable : is_built_in (packetizer_state_of r.packetizer) ≡ Bool.true → info.nackable ≡ nackable_of (packetizer_state_of r.packetizer)
 
--- The next packet is taken, or stays where the caller's bytes are too few.
+-- The next packet is fetched, or stays if the output buffer is too small.
 pub record GivesPacket (r : FrameSender) (status : ℕ) (info : PacketInfo) (before bytes : List ℕ) (s : FrameSender) : Type 0 where
   pub answers : status ≡ packet_status (next_in r) (length before)
   pub tells : IfSome (next_in r) (λ p. TellsPacket r p info)

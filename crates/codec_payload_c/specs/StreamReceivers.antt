@@ -1,4 +1,4 @@
--- What the calls on a receiver of datagrams do.
+-- The calls on a receiver of datagrams.
 use Rattle.std.specs.Prelude.{◌≡◌, ◌≢◌, ℕ, ◌+◌, ◌-◌, ◌%◌, ◌^◌, ◌&&◌, ◌||◌, ◌==◌, not, nat_le, nat_lt, if◌then◌else◌, Bool, true, false, Option, Some, None, Result, Ok, Err, List, is_some, length, drop, ◌++◌}
 use Rattle.codec_payload_core.specs.Depacketizers.{DepacketizerState}
 use Rattle.codec_payload_jitter.specs.Missing.{missing_numbers}
@@ -33,11 +33,11 @@ use Rattle.codec_payload_c.specs.declared.receiver.ReceiverCountsInfo.{ReceiverC
 use Rattle.codec_payload_c.specs.declared.receiver.ReceiverSettings.{ReceiverSettings}
 use Rattle.codec_payload_c.specs.declared.receiver.ReportInfo.{ReportInfo}
 
--- RED, where there is any: another payload type than that of the stream, and the step of times
+-- RED, if it is used: its payload type differs from the stream's, and the step is in range
 abbrev pub red_in_range : ReceiverSettings → Bool
 red_in_range s = not s.has_red || (nat_le s.red_payload_type 127 && not (s.red_payload_type == s.payload_type) && nat_le 1 s.red_step && nat_le s.red_step 16383)
 
--- packets that are sent again, where there are any
+-- retransmissions, if there are any
 abbrev pub rtx_in_range : ReceiverSettings → Bool
 rtx_in_range s = not s.has_rtx || nat_le s.rtx_payload_type 127
 
@@ -48,14 +48,14 @@ is_in_range s =
     && nat_lt 0 s.forward && nat_le s.forward 32768 && nat_lt s.backward s.forward
     && nat_lt 0 s.tick_rate && nat_le s.from_keyframe 2 && red_in_range s && rtx_in_range s
 
--- the largest number stands for no bound
+-- the largest number means no bound
 abbrev pub bound_given : ℕ → Option ℕ
 bound_given frames = if frames == 2 ^ 64 - 1 then None else Some frames
 
 abbrev pub wait_limits_set : ReceiverSettings → WaitLimits
 wait_limits_set s = record { hold_back = bound_given s.hold_back; start = s.start; max_wait = given_if s.has_max_wait s.max_wait }
 
--- how long to wait, as C gave it by itself
+-- the wait limits, from C
 abbrev pub wait_limits_given : CWaitLimits → WaitLimits
 wait_limits_given p = record { hold_back = bound_given p.hold_back; start = p.start; max_wait = given_if p.has_max_wait p.max_wait }
 
@@ -69,7 +69,7 @@ rtx_set s = if s.has_rtx then Some (record { ssrc = s.rtx_ssrc; payload_type = s
 abbrev pub from_keyframe_numbered : ℕ → FromKeyframe
 from_keyframe_numbered n = if n == 0 then modes.Off else (if n == 1 then modes.Mark else modes.Drop)
 
--- the settings of a receiver, as C gave them
+-- the settings of a receiver, from C
 pub record AreSettings (s : ReceiverSettings) (types : List ℕ) (t : Settings) : Type 0 where
   pub payload_type : t.payload_type ≡ s.payload_type
   pub no_media : t.no_media.items ≡ types
@@ -85,7 +85,7 @@ pub record AreSettings (s : ReceiverSettings) (types : List ℕ) (t : Settings) 
   pub backward : t.backward ≡ s.backward
   pub from_keyframe : t.from_keyframe ≡ from_keyframe_numbered s.from_keyframe
 
--- a new receiver by these settings
+-- a new receiver with these settings
 pub record IsNewStream (s : ReceiverSettings) (no_media : List ℕ) (depacketizer : Option DepacketizerState) (r : StreamReceiver) : Type 0 where
   pub settings : Settings
   pub are : AreSettings s no_media settings
@@ -113,7 +113,7 @@ outcome_number outcomes.OtherStream = 8
 outcome_number outcomes.Rtcp = 9
 outcome_number outcomes.Undecided = 10
 
--- what is told of an answer
+-- the status and outcome of an answer
 abbrev pub Tells : Result Outcome ReceiveError → ℕ → (before after : ℕ) → Type 0
 Tells (Ok outcome) status before after = (status ≡ 0) × (after ≡ outcome_number outcome)
 Tells (Err errors.OutOfMemory) status before after = (status ≡ 17) × (after ≡ before)
@@ -141,34 +141,34 @@ abbrev pub time_or : ℕ → Option ℕ → ℕ
 time_or time None = time
 time_or time (Some t) = t
 
--- what is told of a unit that a receiver gave: its time does not wrap, and a decoder can show it or not
+-- the description of a unit that a receiver released: with its extended RTP time, and whether it is decodable
 abbrev pub TellsJudged : Session → Release → CUnit → Type 0
 TellsJudged s u unit =
     TellsUnit u (record unit { rtp_time = u.time.numer; decodable = true; keyframe = false })
     × (unit.rtp_time ≡ time_or u.time.numer s.time) × (unit.decodable ≡ s.gates.gate.shows) × (unit.keyframe ≡ s.gates.is_keyframe)
 
--- a unit is told, and where the caller gets its bytes it is the one that was taken last
+-- the description of a unit; if the caller gets its bytes, it becomes the latest popped unit
 abbrev pub TellsAndTakes : ℕ → StreamReceiver → Release → CUnit → Type 0
 TellsAndTakes status s u unit = TellsJudged s.receiver u unit × (status ≡ 0 → s.taken ≡ Some u)
 
--- the next unit of a receiver; where none is given, the one that was taken last stays
+-- the next unit of a receiver; without one, the latest popped unit stays
 abbrev pub PopsUnit : StreamReceiver → ℕ → ℕ → (unit_before unit : CUnit) (before bytes : List ℕ) → StreamReceiver → Type 0
 PopsUnit r now status unit_before unit before bytes s =
     AnswersPop (s.receiver ≡ r.receiver) (λ answer. PopsAt now r.receiver answer s.receiver) (TellsAndTakes status s) status
     (record { waited = r.waiting; waits = s.waiting; unit_before = unit_before; unit = unit; before = before; bytes = bytes })
     × (status ≢ 0 → s.taken ≡ r.taken)
 
--- the values of the unit that was taken last
+-- the values of the latest popped unit
 abbrev pub TellsTaken : Option Release → ℕ → (before after : CValues) → Type 0
 TellsTaken None status before after = (status ≡ 32) × (after ≡ before)
 TellsTaken (Some u) status before after = (status ≡ 0) × TellsValues u.metas after
 
--- a number, if there is one; else status 32
+-- a number, if there is one; otherwise status 32
 abbrev pub TellsNumber : Option ℕ → ℕ → (before after : ℕ) → Type 0
 TellsNumber (Some n) status before after = (status ≡ 0) × (after ≡ n)
 TellsNumber None status before after = (status ≡ 32) × (after ≡ before)
 
--- how many datagrams came to what
+-- the counters of a receiver
 pub record TellsCounts (r : StreamReceiver) (c : ReceiverCountsInfo) : Type 0 where
   pub received : c.received ≡ (r.receiver.arrived.received + length r.receiver.choice.candidates) % 2 ^ 64
   pub rtcp : c.rtcp ≡ r.receiver.arrived.rtcp
@@ -191,21 +191,21 @@ pub record TellsCounts (r : StreamReceiver) (c : ReceiverCountsInfo) : Type 0 wh
   pub waiting : c.waiting ≡ is_some r.waiting
   pub ssrc : r.receiver.ssrc ≡ given_if c.has_ssrc c.ssrc
 
--- what a receiver report tells
+-- the fields of a receiver report
 abbrev pub TellsReport : Option ReceptionReport → ℕ → (before after : ReportInfo) → Type 0
 TellsReport None status before after = (status ≡ 32) × (after ≡ before)
 TellsReport (Some x) status before after =
     (status ≡ 0) × (after ≡ record { cumulative_lost = x.cumulative_lost; highest = x.highest; jitter = x.jitter; fraction_lost = x.fraction_lost })
 
--- the sender begins anew under that SSRC, and packets are retransmitted under that one
+-- the sender has restarted under this SSRC, and packets are retransmitted under the other SSRC
 abbrev pub restarted_as : (ssrc rtx_ssrc : ℕ) → Session → Session
 restarted_as ssrc rtx_ssrc s = restarted (Some ssrc) (record s { stream = retransmitted_under (Some rtx_ssrc) s.stream; named = Some ssrc })
 
--- frames wait by other values
+-- the wait limits are replaced
 abbrev pub waiting_by : WaitLimits → Session → Session
 waiting_by wait_limits s = record s { packets = record s.packets { wait_limits = wait_limits } }
 
--- the numbers that are missing, as many as there is room for; the rest of the room is as before
+-- the missing numbers, as many as there is room for; the rest of the room is unchanged
 pub record TellsMissing (r : StreamReceiver) (before : List ℕ) (told : ℕ) (after : List ℕ) : Type 0 where
   pub count : told ≡ length (missing_numbers r.receiver.packets (length before))
   pub numbers : after ≡ missing_numbers r.receiver.packets (length before) ++ drop told before

@@ -1,4 +1,4 @@
--- What the calls on a sender of datagrams do.
+-- The calls on a sender of datagrams.
 use Rattle.std.specs.Prelude.{◌≡◌, ◌≢◌, ℕ, nat_le, if◌then◌else◌, Bool, List, Option, Some, None, IfSome, length}
 use Rattle.codec_payload_base.specs.declared.error.PacketError.{PacketError}
 use Rattle.codec_payload_base.specs.declared.wire.extension.ExtensionValues.{ExtensionValues}
@@ -18,7 +18,7 @@ use Rattle.codec_payload_c.specs.declared.sender.Sample.{Sample as CSample}
 use Rattle.codec_payload_c.specs.declared.sender.SenderCountsInfo.{SenderCountsInfo}
 use Rattle.codec_payload_c.specs.declared.sender.SenderSettings.{SenderSettings}
 
--- the settings of a sender, as C gave them
+-- the settings of a sender, from C
 abbrev pub settings_for : SenderSettings → Settings
 settings_for s = record {
   ssrc = s.ssrc;
@@ -30,7 +30,7 @@ settings_for s = record {
   extension_ids = ids_given s.extension_ids;
 }
 
--- a new sender by these settings
+-- a new sender with these settings
 abbrev pub IsStreamSenderOf : SenderSettings → Option PacketizerState → Object → Type 0
 IsStreamSenderOf s packetizer (objects.StreamSender r) = IfSome packetizer (λ p. (r.sender ≡ sender_by (settings_for s) p) × (r.rate ≡ s.spec.rate))
 IsStreamSenderOf s packetizer _ = ⊥
@@ -39,11 +39,11 @@ IsStreamSenderOf s packetizer _ = ⊥
 abbrev pub sample_with : StreamSender → ℕ → Bool → ExtensionValues → List ℕ → Sample
 sample_with r rtp_time starts values frame = record { rtp_time = record { numer = rtp_time; rate = r.rate }; bytes = frame; start_of_talk_spurt = starts; ext_vals = values }
 
--- the same, as C gave it
+-- the same, from C
 abbrev pub sample_given : StreamSender → CSample → List ℕ → Sample
 sample_given r s frame = sample_with r s.rtp_time s.starts_talk_spurt (values_given s.values) frame
 
--- A frame is sent: its datagrams take the place of those of the frame before. After a fault there are none.
+-- A frame is sent: its datagrams replace the datagrams of the previous frame. After an error there are no datagrams.
 pub record SendsFrame (r : StreamSender) (sample : Sample) (status before count : ℕ) (s : StreamSender) : Type 0 where
   pub ok : status ≡ 0 → Sends r.sender sample s.sender
   pub counted : status ≡ 0 → count ≡ length s.sender.datagrams
@@ -51,13 +51,14 @@ pub record SendsFrame (r : StreamSender) (sample : Sample) (status before count 
   pub unchanged : status ≢ 0 → count ≡ before
   pub rate : s.rate ≡ r.rate
 
--- a datagram into the caller's bytes: 0 where there is one for which they are enough, 33 where they are too few, 32 where there is none
+-- a datagram in the output buffer: 0 if there is one and the buffer is large enough, 33 if the buffer is too small, 32 without
+-- one
 abbrev pub GivesDatagram : Option (List ℕ) → ℕ → (before bytes : List ℕ) → (size_before size : ℕ) → Type 0
 GivesDatagram None status before bytes size_before size = (status ≡ 32) × (bytes ≡ before) × (size ≡ size_before)
 GivesDatagram (Some d) status before bytes size_before size =
     (status ≡ (if nat_le (length d) (length before) then 0 else 33)) × (bytes ≡ filled d before) × (size ≡ length d)
 
--- what sender reports tell
+-- the fields of sender reports
 pub record TellsCounts (r : StreamSender) (c : SenderCountsInfo) : Type 0 where
   pub packets : c.packets ≡ r.sender.counts.packets
   pub octets : c.octets ≡ r.sender.counts.octets

@@ -6,12 +6,12 @@ use Rattle.codec_payload_handle.specs.Bytes.{filled}
 use Rattle.codec_payload_handle.specs.Extras.{event_told}
 use Rattle.codec_payload_handle.specs.declared.extra.TeleEvent.{TeleEvent}
 
--- the report, if there is one; else status 32
+-- the report, if there is one; otherwise status 32
 abbrev pub GivesReport : Option TelephoneEvent → ℕ → TeleEvent → TeleEvent → Type 0
 GivesReport None status before event = (status ≡ 32) × (event ≡ before)
 GivesReport (Some e) status before event = (status ≡ 0) × (event ≡ event_told e)
 
--- where the payload is one or more whole reports; else status 15
+-- if the payload is one or more whole reports; otherwise status 15
 abbrev pub ReadsOne : Bool → List ℕ → ℕ → ℕ → ℕ → TeleEvent → TeleEvent → Type 0
 ReadsOne false payload rate index status before event = (status ≡ 15) × (event ≡ before)
 ReadsOne true payload rate index status before event = GivesReport (slice_get (reports_of payload rate) index) status before event
@@ -24,11 +24,11 @@ ReadsAt true payload rate index status before event = ReadsOne (are_reports payl
 abbrev pub ReadsReport : List ℕ → ℕ → ℕ → ℕ → TeleEvent → TeleEvent → Type 0
 ReadsReport payload rate index status before event = ReadsAt (nat_lt 0 rate) payload rate index status before event
 
--- the report as the library has it
+-- the report, from C
 abbrev pub report_told : TeleEvent → TelephoneEvent
 report_told e = record { event = e.event; end = e.end; volume = e.volume; duration = e.duration }
 
--- the four bytes, where the duration fits; else status 37
+-- the four bytes, if the duration fits; otherwise status 37
 abbrev pub WritesBytes : Option (List ℕ) → ℕ → List ℕ → List ℕ → Type 0
 WritesBytes None status before bytes = (status ≡ 37) × (bytes ≡ before)
 WritesBytes (Some written) status before bytes = (status ≡ (if nat_le 4 (length before) then 0 else 33)) × (bytes ≡ filled written before)

@@ -12,12 +12,12 @@ use Rattle.codec_payload_handle.specs.Extras.{or_zero}
 use Rattle.codec_payload_c.specs.Inspect.{given_if}
 use Rattle.codec_payload_c.specs.declared.vp8.Vp8FieldsInfo.{Vp8FieldsInfo}
 
--- 1 where a byte is missing, 11 where TL0PICIDX has no temporal layer beside it
+-- 1 if a byte is missing, 11 if TL0PICIDX comes without a temporal layer
 abbrev pub descriptor_status : Vp8DescriptorError → ℕ
 descriptor_status unread.ShortPayload = 1
 descriptor_status unread.MalformedDescriptor = 11
 
--- 32 for a field that is not there, 37 for a value that does not fit
+-- 32 for a missing field, 37 for a value that does not fit
 abbrev pub patch_status : Vp8PatchError → ℕ
 patch_status unpatched.PictureIdMissing = 32
 patch_status unpatched.PictureIdTooLarge = 37
@@ -41,7 +41,7 @@ abbrev pub ReadsTo : Result Descriptor Vp8DescriptorError → List ℕ → ℕ �
 ReadsTo (Ok d) payload status fields starts = (status ≡ 0) × (fields ≡ fields_told d) × (starts ≡ is_keyframe payload)
 ReadsTo (Err error) payload status fields starts = status ≡ descriptor_status error
 
--- the values that are asked for
+-- the requested values
 abbrev pub builder_of : Descriptor → Vp8FieldsInfo → Builder
 builder_of d v = record {
   descriptor = d;
@@ -50,7 +50,7 @@ builder_of d v = record {
   key_idx = given_if v.has_key_idx v.key_idx;
 }
 
--- the patch is written, and the descriptor then has the values that are asked for; else the payload stays
+-- the patch is written, and the descriptor then has the requested values; otherwise the payload is unchanged
 pub record IsPatchedBy (b : Builder) (p : Patch) (status : ℕ) (before after : List ℕ) : Type 0 where
   pub answers : status ≡ 0
   pub writes : after ≡ patched p before

@@ -1,4 +1,4 @@
-//! Received packets put in order and together.
+//! The buffer for C: it restores the order of received packets and reassembles units.
 
 ghost use Rattle.std.specs.Prelude.{◌≡◌, ◌≢◌, ◌&&◌, is_some, nat_le};
 ghost use Rattle.codec_payload_core.specs.Blanks.{passed_number};
@@ -18,37 +18,37 @@ use codec_payload_handle::status;
 use codec_payload_handle::unit::{Unit, unit_of};
 use std::alloc::Global;
 
-/// How many packets a buffer holds at most.
+/// The largest number of packets that a buffer can hold.
 const MAX_LIMIT: usize = 65_536;
 
-/// What is known of a received packet.
+/// The metadata of a received packet.
 #[repr(C)]
 #[derive(Drop)]
 pub struct Received {
-    /// The sequence number without wrapping; its low 16 bits are those of the RTP header.
+    /// The sequence number without wrapping; its low 16 bits are in the RTP header.
     pub number: u64,
-    /// When it was received, by the caller's clock.
+    /// When the packet arrived, by the caller's clock.
     pub received: u64,
-    /// In ticks of the RTP clock. The low 32 bits are those of the RTP header.
+    /// The RTP time, in ticks of the RTP clock; its low 32 bits are in the RTP header.
     pub rtp_time: u64,
     pub marker: bool,
 }
 
-/// How much a buffer holds.
+/// The contents of a buffer, in numbers.
 #[repr(C)]
 #[derive(Drop)]
 pub struct BufferCountsInfo {
-    /// How many packets are held.
+    /// The number of held packets.
     pub held: usize,
-    /// How many complete frames are held.
+    /// The number of complete frames.
     pub ready: usize,
-    /// How many packets are held at most.
+    /// The largest number of held packets.
     pub limit: usize,
-    /// Whether a unit waits for enough of the caller's bytes.
+    /// Whether a unit waits for a larger output buffer.
     pub waiting: bool,
 }
 
-/// What is known of a packet, as the buffer has it.
+/// Returns the metadata of a packet, as the buffer has it.
 fn meta_of(packet: &Received, rate: Frequency) -> RtpMeta
     ensures { IsToldBy packet.now rate result }
 {
@@ -68,7 +68,7 @@ fn meta_of(packet: &Received, rate: Frequency) -> RtpMeta
     }
 }
 
-/// A packet goes in.
+/// Stores a packet.
 fn push(receiver: &mut FrameReceiver, alloc: Global, packet: &Received, payload: &[u8]) -> u32
     ensures { AnswersPush receiver.old packet.now payload.now result receiver.new }
 {
@@ -82,7 +82,7 @@ fn push(receiver: &mut FrameReceiver, alloc: Global, packet: &Received, payload:
     }
 }
 
-/// The next unit, from the buffer or from the call before, into the caller's bytes.
+/// Writes the next unit to the output buffer: the unit that waits for a larger output buffer, or the next one from the buffer.
 fn pop(receiver: &mut FrameReceiver, unit: &mut Unit, bytes: &mut [u8]) -> u32
     ensures { PopsUnit receiver.old result unit.old unit.new bytes.old bytes.new receiver.new }
 {
@@ -104,7 +104,7 @@ fn pop(receiver: &mut FrameReceiver, unit: &mut Unit, bytes: &mut [u8]) -> u32
     status::OK
 }
 
-/// How much is held.
+/// Returns the contents of a buffer, in numbers.
 fn counts_of(receiver: &FrameReceiver) -> BufferCountsInfo
     ensures { Counts receiver.now result }
 {
@@ -116,7 +116,7 @@ fn counts_of(receiver: &FrameReceiver) -> BufferCountsInfo
     }
 }
 
-/// A buffer with these settings, in an empty handle.
+/// Creates a buffer with these settings in an empty handle.
 #[unsafe(no_mangle)]
 pub extern "C" fn cpay_buffer_new(
     alloc: Global,
@@ -155,7 +155,7 @@ pub extern "C" fn cpay_buffer_new(
     }
 }
 
-/// A received packet goes in. Its payload is copied.
+/// Stores a received packet. The payload is copied.
 #[unsafe(no_mangle)]
 pub extern "C" fn cpay_buffer_push(
     alloc: Global,
@@ -177,7 +177,7 @@ pub extern "C" fn cpay_buffer_push(
     answer
 }
 
-/// The next unit, if its turn has come.
+/// Writes the next unit to the output buffer, if one is due.
 #[unsafe(no_mangle)]
 pub extern "C" fn cpay_buffer_pop(
     alloc: Global,
@@ -201,7 +201,7 @@ pub extern "C" fn cpay_buffer_pop(
     answer
 }
 
-/// From now on a frame behind missing packets waits until more complete frames than that are held. What is held stays.
+/// Changes `hold_back`: a frame behind a gap waits until more than this many complete frames are held. Held packets stay.
 #[unsafe(no_mangle)]
 pub extern "C" fn cpay_buffer_set_hold_back(
     alloc: Global,
@@ -225,7 +225,7 @@ pub extern "C" fn cpay_buffer_set_hold_back(
     answer
 }
 
-/// The packet of that number carries no media: where all below it have left, it is not waited for.
+/// Skips a number without media: once all packets below it have left, no frame waits for it.
 #[unsafe(no_mangle)]
 pub extern "C" fn cpay_buffer_skip_number(alloc: Global, handle: &mut Handle, number: u64) -> u32
     ensures passes { OnFrameReceiver handle.old.place.value (λ r s. (result ≡ 0) × (s ≡ record r { buffer = passed_number r.buffer number })) handle.new.place.value }
@@ -245,7 +245,7 @@ pub extern "C" fn cpay_buffer_skip_number(alloc: Global, handle: &mut Handle, nu
     answer
 }
 
-/// How much a buffer holds.
+/// Reports the contents of a buffer.
 #[unsafe(no_mangle)]
 pub extern "C" fn cpay_buffer_counts(
     alloc: Global,

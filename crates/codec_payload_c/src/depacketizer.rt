@@ -1,4 +1,4 @@
-//! Payloads put together by a depacketizer alone, for callers that order packets themselves.
+//! Depacketizers for callers that restore the order of packets themselves.
 
 ghost use Rattle.std.specs.Prelude.{◌≡◌, ◌≢◌, is_some};
 ghost use Rattle.codec_payload_c.specs.Assemblers.{IsAssemblerOf, Takes, Unpacks};
@@ -14,7 +14,7 @@ use codec_payload_handle::settings::{Spec, depacketizer_of};
 use codec_payload_handle::status;
 use std::alloc::Global;
 
-/// Reads a payload, and appends what it carries to what was put together.
+/// Reads a payload, and appends its bytes to the unit so far.
 fn depacketize(assembler: &mut Assembler, payload: &[u8]) -> u32
     ensures { Unpacks assembler.old payload.now result assembler.new }
 {
@@ -27,7 +27,7 @@ fn depacketize(assembler: &mut Assembler, payload: &[u8]) -> u32
     }
 }
 
-/// Hands out what was put together, and begins anew.
+/// Writes the unit so far to the output buffer, and starts the next one.
 fn take(assembler: &mut Assembler, size: &mut usize, extra: &mut Extra, bytes: &mut [u8]) -> u32
     ensures { Takes assembler.old result size.new extra.new bytes.old bytes.new assembler.new }
 {
@@ -41,7 +41,7 @@ fn take(assembler: &mut Assembler, size: &mut usize, extra: &mut Extra, bytes: &
     status::OK
 }
 
-/// A depacketizer with these settings, in an empty handle.
+/// Creates a depacketizer with these settings in an empty handle.
 #[unsafe(no_mangle)]
 pub extern "C" fn cpay_depacketizer_new(alloc: Global, handle: &mut Handle, spec: &Spec) -> u32
     ensures { Makes (IsAssemblerOf (depacketizer_set spec.now)) (is_some (depacketizer_set spec.now)) handle.old.place.value result handle.new.place.value }
@@ -84,7 +84,7 @@ pub extern "C" fn cpay_depacketize(alloc: Global, handle: &mut Handle, payload: 
     answer
 }
 
-/// Takes what the payloads since the last call gave.
+/// Writes the unit from the payloads since the last call of this function.
 #[unsafe(no_mangle)]
 pub extern "C" fn cpay_depacketized(
     alloc: Global,

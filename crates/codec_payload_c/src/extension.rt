@@ -1,4 +1,4 @@
-//! Elements of header extensions by their ids (RFC 8285, section 4), and the values that they tell. No call takes memory.
+//! Elements of header extensions by their ids (RFC 8285, section 4), and their values. No call allocates.
 
 ghost use Rattle.std.specs.Prelude.{◌≡◌, option_map};
 ghost use Rattle.codec_payload_rtp.specs.Elements.{elements_left};
@@ -16,7 +16,7 @@ use codec_payload_rtp::elements::Elements;
 use codec_payload_rtp::rtp::{HeaderExtension, RtpPacket};
 use codec_payload_rtp::values::ExtensionIds as Ids;
 
-/// The ids that signalling gave to header extensions (RFC 8285, section 5); 0 for one that was not agreed on.
+/// The ids that signalling gave to header extensions (RFC 8285, section 5). 0: no id was agreed on.
 #[repr(C)]
 #[derive(Clone, Copy)]
 pub struct ExtensionIds {
@@ -30,18 +30,18 @@ pub struct ExtensionIds {
     pub video_timing: u8,
     /// video-layers-allocation: 0 to 255 bytes.
     pub layers_allocation: u8,
-    /// The level of the audio and whether there is speech (RFC 6464): 1 byte.
+    /// The audio level and voice activity (RFC 6464): 1 byte.
     pub audio_level: u8,
 }
 
-/// An id, if one was agreed on.
+/// Returns an id, if one was agreed on.
 fn id_of(id: u8) -> Option<u8>
     ensures { result ≡ id_given id }
 {
     if id == 0 { None } else { Some(id) }
 }
 
-/// The ids that C gave.
+/// Converts the ids of C.
 pub fn ids_of(ids: ExtensionIds) -> Ids
     ensures { result ≡ ids_given ids }
 {
@@ -55,7 +55,7 @@ pub fn ids_of(ids: ExtensionIds) -> Ids
     }
 }
 
-/// The value of the first element of that id.
+/// Returns the value of the first element with this id.
 fn value_with<'a>(id: u8, elements: Elements<'a>) -> Option<&'a [u8]>
     ensures { option_map (λ bytes. bytes.now) result ≡ bytes_with id (elements_left elements.entry) }
 {
@@ -67,7 +67,7 @@ fn value_with<'a>(id: u8, elements: Elements<'a>) -> Option<&'a [u8]>
     None
 }
 
-/// The value of the first element of that id in an extension, if there is one.
+/// Returns the value of the first element with this id in an extension, if there is one.
 fn value_in<'a>(id: u8, extension: &Option<HeaderExtension<'a>>) -> Option<&'a [u8]>
     ensures { option_map (λ bytes. bytes.now) result ≡ bytes_with id (elements_of (extension_of extension.now)) }
 {
@@ -80,7 +80,7 @@ fn value_in<'a>(id: u8, extension: &Option<HeaderExtension<'a>>) -> Option<&'a [
     value_with(id, elements)
 }
 
-/// The value of the first element of that id in the header extension of a datagram.
+/// Writes the value of the first element with this id in the header extension of a datagram.
 #[unsafe(no_mangle)]
 pub extern "C" fn cpay_extension(datagram: &[u8], id: u8, bytes: &mut [u8], size: &mut usize) -> u32
     ensures { ReadsElement (rtp_at datagram.now) id result bytes.old bytes.new size.old size.new }
@@ -100,7 +100,7 @@ pub extern "C" fn cpay_extension(datagram: &[u8], id: u8, bytes: &mut [u8], size
     }
 }
 
-/// The values that the header extension of a datagram tells under these ids.
+/// Reads the values that the header extension of a datagram has under these ids.
 #[unsafe(no_mangle)]
 pub extern "C" fn cpay_extension_values_of(
     datagram: &[u8],

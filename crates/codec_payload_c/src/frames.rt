@@ -1,4 +1,4 @@
-//! Frames cut straight into the caller's bytes, all packets of one in one call.
+//! Packetizing a frame straight into the output buffer, all packets in one call.
 
 ghost use Rattle.std.specs.Prelude.{◌≡◌, ◌≢◌, ◌≤◌, ◌<◌, ◌+◌, ◌++◌, ◌==◌, ◌&&◌, ◌||◌, true, ℕ, Option, length, take, drop, slice_get};
 ghost use Rattle.codec_payload_core.specs.Packetizers.{is_built_in, packetizer_state_of, marker_of, talk_spurt_of};
@@ -13,45 +13,45 @@ use codec_payload_handle::settings::packetizer_as;
 use codec_payload_handle::status;
 use std::alloc::Global;
 
-/// How a frame is cut, and what room each of its packets gets.
+/// How a frame is packetized, and how much room each packet gets.
 #[repr(C)]
 #[derive(Drop)]
 pub struct FrameCut {
-    /// The most bytes of a payload.
+    /// The largest number of bytes of a payload.
     pub mtu: usize,
-    /// How many bytes stay free before each payload.
+    /// How many bytes stay free in front of each payload.
     pub headroom: usize,
-    /// How many bytes stay free behind each payload.
+    /// How many bytes stay free after each payload.
     pub tailroom: usize,
     /// Whether the frame starts a talk spurt.
     pub starts_talk_spurt: bool,
 }
 
-/// A packet in the caller's bytes.
+/// A packet in the output buffer.
 #[repr(C)]
 #[derive(Clone, Copy)]
 pub struct PlacedPacket {
-    /// Where its payload begins.
+    /// The offset of its payload.
     pub offset: usize,
-    /// How many bytes its payload has.
+    /// The number of bytes of its payload.
     pub bytes: usize,
-    /// Whether it gets the marker of the RTP header.
+    /// Whether the packet gets the marker of the RTP header.
     pub marker: bool,
-    /// Whether a receiver may ask for it again.
+    /// Whether a receiver may request the packet again.
     pub nackable: bool,
 }
 
-/// What the packets of a frame take of the caller's.
+/// The output that the packets of a frame need.
 #[repr(C)]
 #[derive(Drop)]
 pub struct FrameRoom {
-    /// How many bytes, with those before and behind each payload; the greatest number where they are more.
+    /// The number of bytes, with the room in front of and after each payload; at most `usize::MAX`.
     pub bytes: usize,
-    /// How many packets.
+    /// The number of packets.
     pub count: usize,
 }
 
-/// How many bytes the payloads take with their rooms; the greatest number where they are more.
+/// Returns how many bytes the payloads need with their room, at most `usize::MAX`.
 fn size_of(frame: &Payloads, cut: &FrameCut) -> usize
     ensures { result ≡ capped (size_with (rooms_in cut.now) frame.now.payloads) }
 {
@@ -65,7 +65,7 @@ fn size_of(frame: &Payloads, cut: &FrameCut) -> usize
     size
 }
 
-/// Puts bytes over those at a place.
+/// Overwrites the bytes at a place.
 fn put_at(bytes: &mut [u8], at: usize, given: &[u8])
     requires { at + length given.now ≤ length bytes.old }
     ensures { bytes.new ≡ take at bytes.old ++ (given.now ++ drop (at + length given.now) bytes.old) }
@@ -74,7 +74,7 @@ fn put_at(bytes: &mut [u8], at: usize, given: &[u8])
     bytes[at..end].copy_from_slice(given);
 }
 
-/// Writes the payloads, each between its rooms, which stay as they are.
+/// Writes the payloads, and leaves the room between them unchanged.
 fn lay(frame: &Payloads, cut: &FrameCut, bytes: &mut [u8])
     requires { size_with (rooms_in cut.now) frame.now.payloads ≤ length bytes.old }
     ensures { bytes.new ≡ laid cut.now.headroom cut.now.tailroom frame.now.payloads bytes.old }
@@ -87,7 +87,7 @@ fn lay(frame: &Payloads, cut: &FrameCut, bytes: &mut [u8])
     }
 }
 
-/// Whether the packet at a place is marked.
+/// Returns whether the packet at a place gets the marker.
 fn is_marked(packetizer: &mut CodecPacketizer, frame: &Payloads, place: usize, starts: bool) -> bool
     requires { place < length frame.now.payloads }
     ensures marker { is_built_in (packetizer_state_of packetizer.old) ≡ true → result ≡ (marker_of (packetizer_state_of packetizer.old) (place + 1 == length frame.now.payloads) || (starts && talk_spurt_of (packetizer_state_of packetizer.old))) }
@@ -102,7 +102,7 @@ fn is_marked(packetizer: &mut CodecPacketizer, frame: &Payloads, place: usize, s
     packetizer.is_marker(frame.get(place), previous, last) || marked
 }
 
-/// Tells of each packet where it lies, and what goes into its header.
+/// Describes each packet: its place, and the values for its header.
 fn tell(
     packetizer: &mut CodecPacketizer,
     frame: &Payloads,
@@ -129,7 +129,7 @@ fn tell(
     }
 }
 
-/// The packets that the sender has cut go to the caller, where there is room for them.
+/// Writes the packets of the sender's frame to the output, if there is room for them.
 fn hand_over(
     sender: &mut FrameSender,
     cut: &FrameCut,
@@ -154,7 +154,7 @@ fn hand_over(
     status::OK
 }
 
-/// Cuts a frame and hands its packets over. Where that cannot be, the packetizer is as it was.
+/// Packetizes a frame and writes its packets to the output. If that fails, the packetizer is unchanged.
 #[tactic(auto, using(crate::proofs::FrameLemmas::built_in_after))]
 fn packetize_into(
     sender: &mut FrameSender,
@@ -186,7 +186,7 @@ fn packetize_into(
     answer
 }
 
-/// Cuts a frame and writes all its packets into the caller's bytes.
+/// Packetizes a frame and writes all its packets to the output buffer.
 #[unsafe(no_mangle)]
 pub extern "C" fn cpay_packetize_into(
     alloc: Global,

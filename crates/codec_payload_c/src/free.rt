@@ -1,11 +1,11 @@
-//! Whatever a handle holds is given up.
+//! Releasing the contents of a handle.
 
 ghost use Rattle.std.specs.Prelude.{◌≡◌, Option, None};
 
 use codec_payload_handle::handle::Handle;
 use std::alloc::Global;
 
-/// Gives up what the handle holds, if it holds anything.
+/// Releases the contents of the handle, if it has any.
 #[unsafe(no_mangle)]
 pub extern "C" fn cpay_free(alloc: Global, handle: &mut Handle)
     ensures { handle.new.place.value ≡ None }

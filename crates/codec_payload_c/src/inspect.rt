@@ -1,4 +1,4 @@
-//! Looks at one payload. None takes memory.
+//! Inspection of one payload or frame. No call allocates.
 
 ghost use Rattle.std.specs.Prelude.{◌≡◌, MatchOption};
 ghost use Rattle.codec_payload_core.specs.Av1Steps.{is_keyframe as is_av1_keyframe};
@@ -17,7 +17,7 @@ use codec_payload_handle::settings::codec_of;
 use codec_payload_handle::status;
 use std::alloc::Global;
 
-/// Whether a keyframe of VP8 starts in the payload.
+/// Returns whether a keyframe of VP8 starts in the payload.
 #[unsafe(no_mangle)]
 pub extern "C" fn cpay_vp8_is_keyframe(payload: &[u8]) -> bool
     ensures { result ≡ is_vp8_keyframe payload.now }
@@ -25,7 +25,7 @@ pub extern "C" fn cpay_vp8_is_keyframe(payload: &[u8]) -> bool
     detect_vp8_keyframe(payload)
 }
 
-/// Whether the payload of VP9 says that its frame depends on no other.
+/// Returns whether the payload of VP9 says that its frame depends on no other frame.
 #[unsafe(no_mangle)]
 pub extern "C" fn cpay_vp9_is_keyframe(payload: &[u8]) -> bool
     ensures { result ≡ is_key_payload payload.now }
@@ -33,7 +33,7 @@ pub extern "C" fn cpay_vp9_is_keyframe(payload: &[u8]) -> bool
     detect_vp9_keyframe(payload)
 }
 
-/// Whether the frame of VP9, without a descriptor, is a keyframe.
+/// Returns whether the frame of VP9, without a descriptor, is a keyframe.
 #[unsafe(no_mangle)]
 pub extern "C" fn cpay_vp9_frame_is_keyframe(frame: &[u8]) -> bool
     ensures { result ≡ is_key_frame frame.now }
@@ -41,7 +41,7 @@ pub extern "C" fn cpay_vp9_frame_is_keyframe(frame: &[u8]) -> bool
     detect_vp9_keyframe_bitstream(frame)
 }
 
-/// Whether a new coded video sequence of AV1 starts in the payload.
+/// Returns whether a new coded video sequence of AV1 starts in the payload.
 #[unsafe(no_mangle)]
 pub extern "C" fn cpay_av1_is_keyframe(payload: &[u8]) -> bool
     ensures { result ≡ is_av1_keyframe payload.now }
@@ -49,7 +49,7 @@ pub extern "C" fn cpay_av1_is_keyframe(payload: &[u8]) -> bool
     detect_av1_keyframe(payload)
 }
 
-/// Whether the payload begins a unit.
+/// Reports whether the payload begins a unit.
 #[unsafe(no_mangle)]
 pub extern "C" fn cpay_is_head(alloc: Global, codec: u32, payload: &[u8], is_head: &mut bool) -> u32
     ensures { Inspect (depacketizer_state_for (codec_numbered codec)) (λ d. head_of d payload.now) result is_head.old is_head.new }
@@ -61,7 +61,7 @@ pub extern "C" fn cpay_is_head(alloc: Global, codec: u32, payload: &[u8], is_hea
     status::OK
 }
 
-/// Whether the payload, under this marker of its RTP header, ends a unit.
+/// Reports whether the payload, with this marker in its RTP header, ends a unit.
 #[unsafe(no_mangle)]
 pub extern "C" fn cpay_is_tail(
     alloc: Global,
@@ -79,8 +79,8 @@ pub extern "C" fn cpay_is_tail(
     status::OK
 }
 
-/// The number nearest to the previous one whose low 16 bits are given; half the range goes forward. The first number is
-/// the 16 bits themselves.
+/// Returns the number with these low 16 bits that is nearest to the previous number; half the range goes forward. The first
+/// number is the 16 bits themselves.
 #[unsafe(no_mangle)]
 pub extern "C" fn cpay_extend_number(previous: u64, has_previous: bool, number: u16) -> u64
     ensures { result ≡ extended 65536 (given_if has_previous previous) number }

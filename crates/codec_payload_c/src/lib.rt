@@ -1,4 +1,4 @@
-//! The library as C calls it. Each call answers a status: `status.rt` has the numbers.
+//! The C API. Each call returns a status; `status.rt` has the numbers.
 #![tactic(auto)]
 
 mod buffer;

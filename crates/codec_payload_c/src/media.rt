@@ -1,4 +1,4 @@
-//! What frames say of themselves. No call takes memory.
+//! Properties of frames, read from their bytes. No call allocates.
 
 ghost use Rattle.std.specs.Prelude.{◌≡◌, ◌≤◌, ◌&&◌, nat_le, drop, length};
 ghost use Rattle.codec_payload_media.specs.AmrWbFrames.{frame_at};
@@ -23,22 +23,22 @@ use codec_payload_media::frame_info::{FrameInfo, frame_info};
 use codec_payload_media::opus::OpusHead;
 use codec_payload_media::vp9::frame_at;
 
-/// What a frame says of itself.
+/// Properties of a frame.
 #[repr(C)]
 #[derive(Clone, Copy)]
 pub struct FrameFacts {
-    /// How long it lasts, of audio, in ticks of the RTP clock.
+    /// The duration of audio, in ticks of the RTP clock.
     pub duration: u64,
-    /// In pixels.
+    /// The width in pixels.
     pub width: u32,
-    /// In pixels.
+    /// The height in pixels.
     pub height: u32,
-    /// Whether `keyframe` is told.
+    /// Whether `keyframe` is set.
     pub has_keyframe: bool,
     pub keyframe: bool,
-    /// Whether `width` and `height` are told.
+    /// Whether `width` and `height` are set.
     pub has_size: bool,
-    /// Whether `duration` is told.
+    /// Whether `duration` is set.
     pub has_duration: bool,
 }
 
@@ -46,14 +46,14 @@ pub struct FrameFacts {
 #[repr(C)]
 #[derive(Clone, Copy)]
 pub struct ObuInfo {
-    /// Where its payload begins in the unit; the next OBU begins behind its end.
+    /// The offset of its payload in the unit. The next OBU begins at the end of the payload.
     pub start: usize,
-    /// How many bytes its payload has.
+    /// The number of bytes of its payload.
     pub bytes: usize,
     pub obu_type: u8,
     pub temporal_id: u8,
     pub spatial_id: u8,
-    /// Whether its layers are told.
+    /// Whether its layers are set.
     pub has_extension: bool,
 }
 
@@ -61,12 +61,12 @@ pub struct ObuInfo {
 #[repr(C)]
 #[derive(Clone, Copy)]
 pub struct AmrWbFrameInfo {
-    /// Where its speech begins in the unit; the next frame begins behind its end.
+    /// The offset of its speech in the unit. The next frame begins at the end of the speech.
     pub start: usize,
-    /// How many bytes of speech it has.
+    /// The number of bytes of speech.
     pub bytes: usize,
     pub frame_type: u8,
-    /// Whether it is undamaged.
+    /// Whether the frame is undamaged.
     pub quality: bool,
 }
 
@@ -74,13 +74,13 @@ pub struct AmrWbFrameInfo {
 #[repr(C)]
 #[derive(Clone, Copy)]
 pub struct Vp9FrameInfo {
-    /// Where it begins in the unit; the next frame begins behind its end.
+    /// The offset of the frame in the unit. The next frame begins at its end.
     pub start: usize,
-    /// How many bytes it has.
+    /// The number of bytes of the frame.
     pub bytes: usize,
 }
 
-/// The status of a frame that is malformed.
+/// Returns the status for a malformed frame.
 fn status_of(error: MediaError) -> u32
     ensures { result ≡ media_status error }
 {
@@ -92,7 +92,7 @@ fn status_of(error: MediaError) -> u32
     }
 }
 
-/// What is told, as C has it.
+/// Converts the properties for C.
 fn facts_of(info: &FrameInfo) -> FrameFacts
     ensures { result ≡ facts_of info.now }
 {
@@ -111,7 +111,7 @@ fn facts_of(info: &FrameInfo) -> FrameFacts
     }
 }
 
-/// What a frame of a codec says of itself.
+/// Reads the properties of a frame of a codec.
 #[unsafe(no_mangle)]
 pub extern "C" fn cpay_frame_info(codec: u32, frame: &[u8], facts: &mut FrameFacts) -> u32
     ensures { TellsFrame (info_of (codec_numbered codec) frame.now) result facts.old facts.new }
@@ -125,7 +125,7 @@ pub extern "C" fn cpay_frame_info(codec: u32, frame: &[u8], facts: &mut FrameFac
     }
 }
 
-/// The OBU at an offset of a temporal unit.
+/// Reads the OBU at an offset of a temporal unit.
 #[unsafe(no_mangle)]
 pub extern "C" fn cpay_av1_obu(unit: &[u8], offset: usize, info: &mut ObuInfo) -> u32
     ensures { AtOffset unit.now offset (TellsObu (length unit.now) (obu_at (drop offset unit.now))) result info.old info.new }
@@ -158,7 +158,7 @@ pub extern "C" fn cpay_av1_obu(unit: &[u8], offset: usize, info: &mut ObuInfo) -
     status::OK
 }
 
-/// The frame at an offset of an AMR-WB unit in storage form.
+/// Reads the frame at an offset of an AMR-WB unit in storage form.
 #[unsafe(no_mangle)]
 pub extern "C" fn cpay_amr_wb_frame(unit: &[u8], offset: usize, info: &mut AmrWbFrameInfo) -> u32
     ensures { AtOffset unit.now offset (TellsAmrWbFrame (length unit.now) (frame_at (drop offset unit.now))) result info.old info.new }
@@ -182,7 +182,7 @@ pub extern "C" fn cpay_amr_wb_frame(unit: &[u8], offset: usize, info: &mut AmrWb
     status::OK
 }
 
-/// The frame of that number of a VP9 unit, counted from 0.
+/// Finds a frame of a VP9 unit by its index, from 0.
 #[unsafe(no_mangle)]
 pub extern "C" fn cpay_vp9_frame(unit: &[u8], index: usize, info: &mut Vp9FrameInfo) -> u32
     ensures { TellsVp9Frame (told (placed_in index) (unit_frames unit.now)) result info.old info.new }
@@ -200,7 +200,7 @@ pub extern "C" fn cpay_vp9_frame(unit: &[u8], index: usize, info: &mut Vp9FrameI
     }
 }
 
-/// The sequence header of an OBU that is one, and has nothing behind it, or the status that refuses it.
+/// Returns the sequence header of an OBU that has no bytes after it, or the status that refuses the OBU.
 fn header_in(obu: &[u8]) -> Result<Av1SequenceHeader, u32>
     ensures { result ≡ header_in obu.now }
 {
@@ -217,7 +217,7 @@ fn header_in(obu: &[u8]) -> Result<Av1SequenceHeader, u32>
     }
 }
 
-/// Copies the record of a header and its OBU to the front of the caller's bytes, if they are enough.
+/// Writes the record of a header and its OBU to the front of the output buffer, if the buffer is large enough.
 fn fill_record(header: &Av1SequenceHeader, obu: &[u8], bytes: &mut [u8]) -> bool
     ensures enough { result ≡ nat_le (length (av1c_bytes header.now obu.now)) (length bytes.old) }
     ensures written { bytes.new ≡ filled (av1c_bytes header.now obu.now) bytes.old }
@@ -231,7 +231,7 @@ fn fill_record(header: &Av1SequenceHeader, obu: &[u8], bytes: &mut [u8]) -> bool
     true
 }
 
-/// The `av1C` record of a stream, from its sequence header OBU.
+/// Writes the `av1C` record of a stream, from its sequence header OBU.
 #[unsafe(no_mangle)]
 pub extern "C" fn cpay_av1c(obu: &[u8], bytes: &mut [u8], size: &mut usize) -> u32
     ensures { WritesRecord obu.now (header_in obu.now) result bytes.old bytes.new size.old size.new }
@@ -248,7 +248,7 @@ pub extern "C" fn cpay_av1c(obu: &[u8], bytes: &mut [u8], size: &mut usize) -> u
     }
 }
 
-/// The identification header of an Opus stream.
+/// Writes the identification header of an Opus stream.
 #[unsafe(no_mangle)]
 pub extern "C" fn cpay_opus_head(
     channels: u8,

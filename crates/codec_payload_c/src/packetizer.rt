@@ -1,4 +1,4 @@
-//! Frames cut into packets.
+//! Packetizers, which cut frames into packets.
 
 ghost use Rattle.std.specs.Prelude.{◌≡◌, ◌≢◌, ◌≤◌, is_some, length};
 ghost use Rattle.codec_payload_handle.specs.Kinds.{Makes, OnFrameSender, Refuses, is_frame_sender};
@@ -14,19 +14,19 @@ use codec_payload_handle::settings::{Spec, packetizer_of};
 use codec_payload_handle::status;
 use std::alloc::Global;
 
-/// What is known of a packet besides its bytes.
+/// The metadata of a packet.
 #[repr(C)]
 #[derive(Drop)]
 pub struct PacketInfo {
-    /// How many bytes it has.
+    /// The number of bytes of the packet.
     pub bytes: usize,
-    /// Whether it gets the marker of the RTP header.
+    /// Whether the packet gets the marker of the RTP header.
     pub marker: bool,
-    /// Whether a receiver may ask for it again.
+    /// Whether a receiver may request the packet again.
     pub nackable: bool,
 }
 
-/// Cuts a frame. Packets of the frame before that were not taken are given up.
+/// Packetizes a frame. Packets of the previous frame that were not fetched are discarded.
 fn packetize(
     sender: &mut FrameSender,
     alloc: Global,
@@ -50,7 +50,7 @@ fn packetize(
     }
 }
 
-/// The next packet.
+/// Writes the next packet to the output buffer.
 fn packet(sender: &mut FrameSender, info: &mut PacketInfo, bytes: &mut [u8]) -> u32
     ensures gives { GivesPacket sender.old result info.new bytes.old bytes.new sender.new }
     ensures unchanged { result ≢ 0 → result ≢ 33 → info.new ≡ info.old }
@@ -73,7 +73,7 @@ fn packet(sender: &mut FrameSender, info: &mut PacketInfo, bytes: &mut [u8]) -> 
     status::OK
 }
 
-/// A packetizer with these settings, in an empty handle.
+/// Creates a packetizer with these settings in an empty handle.
 #[unsafe(no_mangle)]
 pub extern "C" fn cpay_packetizer_new(alloc: Global, handle: &mut Handle, spec: &Spec) -> u32
     ensures { Makes (IsFrameSenderOf (packetizer_set spec.now)) (is_some (packetizer_set spec.now)) handle.old.place.value result handle.new.place.value }
@@ -104,7 +104,7 @@ pub extern "C" fn cpay_packetizer_new(alloc: Global, handle: &mut Handle, spec: 
     }
 }
 
-/// Cuts a frame, and says how many packets there are to take.
+/// Packetizes a frame, and reports how many packets there are to fetch.
 #[unsafe(no_mangle)]
 pub extern "C" fn cpay_packetize(
     alloc: Global,
@@ -136,7 +136,7 @@ pub extern "C" fn cpay_packetize(
     answer
 }
 
-/// Takes the next packet.
+/// Writes the next packet to the output buffer.
 #[unsafe(no_mangle)]
 pub extern "C" fn cpay_packet(
     alloc: Global,

@@ -1,4 +1,4 @@
-//! The datagrams of one stream go in, and units come out.
+//! Receivers: the datagrams of one stream in, units out.
 
 ghost use Rattle.std.specs.Prelude.{◌≡◌, ◌≢◌, ◌&&◌, is_some, Bool, IfErr, IfOk, Option};
 ghost use Rattle.codec_payload_core.specs.Depacketizers.{depacketizer_state_of};
@@ -29,65 +29,66 @@ use codec_payload_stream::receiver::{
 use codec_payload_stream::unit_gate::FromKeyframe;
 use std::alloc::Global;
 
-/// What a receiver is made of.
+/// The settings of a receiver.
 #[repr(C)]
 #[derive(Drop)]
 pub struct ReceiverSettings {
     pub spec: Spec,
-    /// A complete frame behind a gap waits until more complete frames than that are held. `usize::MAX`: however many are held.
+    /// A complete frame behind a gap waits until more than this many complete frames are held. `usize::MAX`: no bound.
     pub hold_back: usize,
-    /// The first frame waits until more complete frames than that are held.
+    /// The first frame waits until more than this many complete frames are held.
     pub start: usize,
-    /// How many packets are held at most, 1 to 65,536.
+    /// The largest number of held packets, 1 to 65,536.
     pub limit: usize,
-    /// How long a complete frame waits behind a gap, in ticks of the caller's clock.
+    /// The longest time that a complete frame waits behind a gap, in ticks of the caller's clock.
     pub max_wait: u64,
     pub ssrc: u32,
-    /// How many ticks of the caller's clock a second has, for reports.
+    /// Ticks per second of the caller's clock: for the jitter of reports, and for the 2 s after which another stream can be
+    /// chosen.
     pub tick_rate: u32,
-    /// How many ticks of the RTP clock packets in RED are apart, 1 to 16,383.
+    /// The RTP timestamp difference between successive RED packets, 1 to 16,383.
     pub red_step: u32,
-    /// Under which SSRC packets are sent again.
+    /// The SSRC of retransmissions.
     pub rtx_ssrc: u32,
-    /// How far ahead of the greatest number a packet may be: less than this, 1 to 32,768.
+    /// How far ahead of the highest number a packet may be, exclusive: 1 to 32,768.
     pub forward: u16,
-    /// How far behind it: at most this, and less than `forward`.
+    /// How far behind the highest number a packet may be, inclusive; less than `forward`.
     pub backward: u16,
-    /// 0 to 127.
+    /// The payload type of the media, 0 to 127.
     pub payload_type: u8,
-    /// That of RED: 0 to 127, and another than that of the stream.
+    /// The payload type of RED, 0 to 127; differs from `payload_type`.
     pub red_payload_type: u8,
-    /// That of packets that are sent again, 0 to 127.
+    /// The payload type of retransmissions, 0 to 127.
     pub rtx_payload_type: u8,
-    /// What happens to units of video that a decoder cannot show: 0 nothing, 1 they are marked, 2 they are dropped.
+    /// What happens to units of video that a decoder cannot show. 0: nothing; 1: they are marked; 2: they are dropped.
     pub from_keyframe: u8,
-    /// Whether `max_wait` is set; else frames wait for as long as `hold_back` and `start` say.
+    /// Whether `max_wait` is set. If not, frames wait for as long as `hold_back` and `start` say.
     pub has_max_wait: bool,
-    /// Whether `ssrc` is set; else two packets of one SSRC choose the stream.
+    /// Whether `ssrc` is set. If not, two packets of one SSRC choose the stream.
     pub has_ssrc: bool,
-    /// Whether the stream is sent in RED.
+    /// Whether the stream uses RED.
     pub has_red: bool,
-    /// Whether packets are sent again.
+    /// Whether there is a stream of retransmissions.
     pub has_rtx: bool,
-    /// Under which ids values of header extensions come.
+    /// The ids of the header extensions to read.
     pub extension_ids: ExtensionIds,
 }
 
-/// How long to wait for packets that are missing.
+/// How long to wait for missing packets.
 #[repr(C)]
 #[derive(Clone, Copy)]
 pub struct WaitLimits {
-    /// How long a complete frame waits behind a gap, in ticks of the caller's clock.
+    /// The longest time that a complete frame waits behind a gap, in ticks of the caller's clock.
     pub max_wait: u64,
-    /// A complete frame behind a gap waits until more complete frames than that are held. `usize::MAX`: however many are held.
+    /// A complete frame behind a gap waits until more than this many complete frames are held. `usize::MAX`: no bound.
     pub hold_back: usize,
-    /// The first frame waits until more complete frames than that are held.
+    /// The first frame waits until more than this many complete frames are held.
     pub start: usize,
-    /// Whether `max_wait` is set; else frames wait for as long as `hold_back` and `start` say.
+    /// Whether `max_wait` is set. If not, frames wait for as long as `hold_back` and `start` say.
     pub has_max_wait: bool,
 }
 
-/// How many datagrams came to what, each modulo 2^64.
+/// Counts of datagrams and packets by outcome, each modulo 2^64.
 #[repr(C)]
 #[derive(Drop)]
 pub struct ReceiverCountsInfo {
@@ -95,16 +96,16 @@ pub struct ReceiverCountsInfo {
     pub rtcp: u64,
     pub malformed: u64,
     pub other_streams: u64,
-    /// Packets that wait for the stream to be chosen.
+    /// Packets that wait for the choice of the stream.
     pub undecided: u64,
     pub no_media: u64,
     pub duplicates: u64,
     pub late: u64,
     pub suspect: u64,
     pub evicted: u64,
-    /// Packets that went out in a unit.
+    /// Packets that were released in a unit.
     pub released: u64,
-    /// Packets that left with a frame, and not in a unit.
+    /// Packets that were discarded with a frame.
     pub left: u64,
     pub restarts: u64,
     pub retransmitted: u64,
@@ -112,30 +113,30 @@ pub struct ReceiverCountsInfo {
     pub units: u64,
     /// Units of video that a decoder cannot show.
     pub undecodable: u64,
-    /// How many packets are held.
+    /// The number of held packets.
     pub held: usize,
     pub ssrc: u32,
     /// Whether the SSRC of the stream is known.
     pub has_ssrc: bool,
-    /// Whether a unit waits for enough of the caller's bytes.
+    /// Whether a unit waits for a larger output buffer.
     pub waiting: bool,
 }
 
-/// What a receiver report tells (RFC 3550, section 6.4.1).
+/// The fields of a receiver report (RFC 3550, section 6.4.1).
 #[repr(C)]
 #[derive(Drop)]
 pub struct ReportInfo {
-    /// How many of all packets did not come, less those that came more than once.
+    /// Lost packets in total, minus packets that arrived more than once.
     pub cumulative_lost: i32,
-    /// The greatest sequence number, and above its 16 bits how often numbers have wrapped.
+    /// The highest sequence number in the low 16 bits, and above it the number of wraps.
     pub highest: u32,
-    /// In ticks of the RTP clock.
+    /// The interarrival jitter, in ticks of the RTP clock.
     pub jitter: u32,
-    /// How many of the packets since the report before did not come, in 256ths.
+    /// Lost packets since the previous report, in 1/256 of the expected packets.
     pub fraction_lost: u8,
 }
 
-/// Whether RED is in range, if there is any.
+/// Returns whether the settings of RED are in range, if RED is used.
 fn red_in_range(settings: &ReceiverSettings) -> bool
     ensures { result ≡ red_in_range settings.now }
 {
@@ -146,14 +147,14 @@ fn red_in_range(settings: &ReceiverSettings) -> bool
             && settings.red_step <= 16_383
 }
 
-/// Whether packets that are sent again are in range, if there are any.
+/// Returns whether the payload type of retransmissions is in range, if there are retransmissions.
 fn rtx_in_range(settings: &ReceiverSettings) -> bool
     ensures { result ≡ rtx_in_range settings.now }
 {
     !settings.has_rtx || settings.rtx_payload_type <= 127
 }
 
-/// Whether the payload types, the limit, the windows and the rates are in range.
+/// Returns whether the payload types, the limit, the windows and the rates are in range.
 fn is_in_range(settings: &ReceiverSettings) -> bool
     ensures { result ≡ is_in_range settings.now }
 {
@@ -169,7 +170,7 @@ fn is_in_range(settings: &ReceiverSettings) -> bool
         && rtx_in_range(settings)
 }
 
-/// How the stream is sent in RED.
+/// Returns how the stream uses RED.
 fn red_of(settings: &ReceiverSettings) -> Option<RedSettings>
     ensures { result ≡ red_set settings.now }
 {
@@ -182,7 +183,7 @@ fn red_of(settings: &ReceiverSettings) -> Option<RedSettings>
     })
 }
 
-/// Under what packets are sent again.
+/// Returns the SSRC and payload type of retransmissions.
 fn retransmission_of(settings: &ReceiverSettings) -> Option<Retransmission>
     ensures { result ≡ rtx_set settings.now }
 {
@@ -195,7 +196,7 @@ fn retransmission_of(settings: &ReceiverSettings) -> Option<Retransmission>
     })
 }
 
-/// What happens to units that a decoder cannot show.
+/// Returns what happens to units that a decoder cannot show.
 fn from_keyframe_of(number: u8) -> FromKeyframe
     ensures { result ≡ from_keyframe_numbered number }
 {
@@ -206,7 +207,7 @@ fn from_keyframe_of(number: u8) -> FromKeyframe
     }
 }
 
-/// The bound by count, if there is one.
+/// Returns the bound by count, if there is one.
 fn bound_of(hold_back: usize) -> Option<usize>
     ensures { result ≡ bound_given hold_back }
 {
@@ -217,7 +218,7 @@ fn bound_of(hold_back: usize) -> Option<usize>
     }
 }
 
-/// How long to wait, as the receiver has it.
+/// Converts the wait limits of C.
 fn waiting_for(wait_limits: WaitLimits) -> Waiting
     ensures { result ≡ wait_limits_given wait_limits }
 {
@@ -232,7 +233,7 @@ fn waiting_for(wait_limits: WaitLimits) -> Waiting
     }
 }
 
-/// The settings as the receiver has them.
+/// Converts the settings of C.
 fn settings_of(
     settings: &ReceiverSettings,
     clock_rate: Frequency,
@@ -269,7 +270,7 @@ fn settings_of(
     }
 }
 
-/// The number of an outcome.
+/// Returns the number of an outcome.
 fn number_of(outcome: Outcome) -> u32
     ensures { result ≡ outcome_number outcome }
 {
@@ -288,7 +289,7 @@ fn number_of(outcome: Outcome) -> u32
     }
 }
 
-/// A datagram goes in.
+/// Receives a datagram.
 fn receive(stream: &mut StreamReceiver, now: u64, datagram: &[u8], outcome: &mut u32) -> u32
     ensures { Takes stream.old now datagram.now result outcome.old outcome.new stream.new }
 {
@@ -296,7 +297,7 @@ fn receive(stream: &mut StreamReceiver, now: u64, datagram: &[u8], outcome: &mut
     report_answer(answer, outcome)
 }
 
-/// The status of an answer, and its outcome, if it has one.
+/// Returns the status of an answer, and its outcome, if it has one.
 fn report_answer(answer: Result<Outcome, ReceiveError>, outcome: &mut u32) -> u32
     ensures { Tells answer result outcome.old outcome.new }
 {
@@ -312,7 +313,7 @@ fn report_answer(answer: Result<Outcome, ReceiveError>, outcome: &mut u32) -> u3
     }
 }
 
-/// What is known of a unit that a receiver gave: its time does not wrap, and it is decodable or not.
+/// Describes a unit that a receiver released: with its extended RTP time, and whether it is decodable.
 fn judged_unit(unit: &Depacketized, receiver: &Receiver) -> Unit
     ensures { TellsJudged receiver.now unit.now result }
 {
@@ -329,7 +330,8 @@ fn judged_unit(unit: &Depacketized, receiver: &Receiver) -> Unit
     }
 }
 
-/// The next unit, from the receiver or from the call before, into the caller's bytes.
+/// Writes the next unit to the output buffer: the unit that waits for a larger output buffer, or the next one from the
+/// receiver.
 fn pop(stream: &mut StreamReceiver, now: u64, unit: &mut Unit, bytes: &mut [u8]) -> u32
     ensures { PopsUnit stream.old now result unit.old unit.new bytes.old bytes.new stream.new }
 {
@@ -352,7 +354,7 @@ fn pop(stream: &mut StreamReceiver, now: u64, unit: &mut Unit, bytes: &mut [u8])
     status::OK
 }
 
-/// How many datagrams came to what.
+/// Returns the counters of a receiver.
 fn counts_of(stream: &StreamReceiver) -> ReceiverCountsInfo
     ensures { TellsCounts stream.now result }
 {
@@ -384,7 +386,7 @@ fn counts_of(stream: &StreamReceiver) -> ReceiverCountsInfo
     }
 }
 
-/// The numbers that are missing, into the caller's, as many as there is room for; and how many they are.
+/// Writes the missing numbers to `numbers`, as many as there is room for, and returns how many were written.
 fn missing_into(stream: &StreamReceiver, numbers: &mut [u64]) -> usize
     ensures { TellsMissing stream.now numbers.old result numbers.new }
 {
@@ -396,7 +398,7 @@ fn missing_into(stream: &StreamReceiver, numbers: &mut [u64]) -> usize
     count
 }
 
-/// A receiver by settings that are in range.
+/// Creates a receiver by settings that are in range.
 fn stream_by(
     alloc: Global,
     settings: &ReceiverSettings,
@@ -427,7 +429,7 @@ fn stream_by(
     }
 }
 
-/// A receiver by these settings, with these payload types without media, in an empty handle.
+/// Creates a receiver with these settings, and these payload types without media, in an empty handle.
 #[unsafe(no_mangle)]
 pub extern "C" fn cpay_receiver_new(
     alloc: Global,
@@ -464,7 +466,7 @@ pub extern "C" fn cpay_receiver_new(
     }
 }
 
-/// Takes a datagram in, at that time.
+/// Receives a datagram at that time, and reports its outcome.
 #[unsafe(no_mangle)]
 pub extern "C" fn cpay_receiver_receive(
     alloc: Global,
@@ -488,7 +490,7 @@ pub extern "C" fn cpay_receiver_receive(
     answer
 }
 
-/// The next unit, if its turn has come at that time.
+/// Writes the next unit to the output buffer, if one is due at that time.
 #[unsafe(no_mangle)]
 pub extern "C" fn cpay_receiver_pop(
     alloc: Global,
@@ -513,7 +515,7 @@ pub extern "C" fn cpay_receiver_pop(
     answer
 }
 
-/// The values of header extensions of the unit that a pop gave last.
+/// Reads the values of header extensions of the latest popped unit.
 #[unsafe(no_mangle)]
 pub extern "C" fn cpay_receiver_values(
     alloc: Global,
@@ -541,7 +543,7 @@ pub extern "C" fn cpay_receiver_values(
     answer
 }
 
-/// When a pop may give a unit without a datagram coming.
+/// Reports when a pop may return a unit even if no datagram arrives.
 #[unsafe(no_mangle)]
 pub extern "C" fn cpay_receiver_next_deadline(
     alloc: Global,
@@ -569,7 +571,7 @@ pub extern "C" fn cpay_receiver_next_deadline(
     answer
 }
 
-/// Whether a keyframe is needed.
+/// Reports whether to request a keyframe.
 #[unsafe(no_mangle)]
 pub extern "C" fn cpay_receiver_wants_keyframe(
     alloc: Global,
@@ -594,7 +596,7 @@ pub extern "C" fn cpay_receiver_wants_keyframe(
     answer
 }
 
-/// From now on frames wait by these values.
+/// Replaces the wait limits.
 #[unsafe(no_mangle)]
 pub extern "C" fn cpay_receiver_set_wait_limits(
     alloc: Global,
@@ -618,7 +620,7 @@ pub extern "C" fn cpay_receiver_set_wait_limits(
     answer
 }
 
-/// The stream has ended: from now on pops wait for nothing.
+/// Ends the stream: from now on pops wait for nothing.
 #[unsafe(no_mangle)]
 pub extern "C" fn cpay_receiver_finish(alloc: Global, handle: &mut Handle) -> u32
     ensures ends { OnStreamReceiver handle.old.place.value (λ r s. (result ≡ 0) × Finishes r.receiver s.receiver × (s ≡ record r { receiver = s.receiver })) handle.new.place.value }
@@ -638,7 +640,7 @@ pub extern "C" fn cpay_receiver_finish(alloc: Global, handle: &mut Handle) -> u3
     answer
 }
 
-/// The sender begins anew: the next packet of the stream gets a number above all others.
+/// Announces that the sender has restarted: the next packet of the stream gets a number above all earlier numbers.
 #[unsafe(no_mangle)]
 pub extern "C" fn cpay_receiver_restart(alloc: Global, handle: &mut Handle) -> u32
     ensures begins { OnStreamReceiver handle.old.place.value (λ r s. (result ≡ 0) × (s ≡ record r { receiver = restarted r.receiver.named r.receiver })) handle.new.place.value }
@@ -658,7 +660,7 @@ pub extern "C" fn cpay_receiver_restart(alloc: Global, handle: &mut Handle) -> u
     answer
 }
 
-/// The same, where the caller knows the new SSRC, and that of retransmissions.
+/// Does the same for a caller that knows the new SSRC, and the new SSRC of retransmissions.
 #[unsafe(no_mangle)]
 pub extern "C" fn cpay_receiver_restart_as(
     alloc: Global,
@@ -683,7 +685,7 @@ pub extern "C" fn cpay_receiver_restart_as(
     answer
 }
 
-/// What a receiver report tells. The next report begins its fraction here.
+/// Reports the fields of a receiver report. The next report starts its fraction here.
 #[unsafe(no_mangle)]
 pub extern "C" fn cpay_receiver_report(
     alloc: Global,
@@ -716,7 +718,7 @@ pub extern "C" fn cpay_receiver_report(
     answer
 }
 
-/// How many datagrams came to what.
+/// Reports the counters of a receiver.
 #[unsafe(no_mangle)]
 pub extern "C" fn cpay_receiver_counts(
     alloc: Global,
@@ -741,7 +743,7 @@ pub extern "C" fn cpay_receiver_counts(
     answer
 }
 
-/// The numbers that are missing, in rising order, as many as there is room for.
+/// Writes the missing numbers in rising order, as many as there is room for.
 #[unsafe(no_mangle)]
 pub extern "C" fn cpay_receiver_missing(
     alloc: Global,

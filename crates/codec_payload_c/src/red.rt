@@ -1,4 +1,4 @@
-//! RED with a history: payloads sent together with those before them (RFC 2198).
+//! RED senders, which repeat earlier payloads (RFC 2198).
 
 ghost use Rattle.std.specs.Prelude.{◌≡◌, ◌≢◌};
 ghost use Rattle.codec_payload_core.specs.RedLevels.{is_accepted};
@@ -13,7 +13,7 @@ use codec_payload_handle::object::Object;
 use codec_payload_handle::status;
 use std::alloc::Global;
 
-/// Takes over payload types and distances, where these are accepted.
+/// Sets payload types and distances, if they are accepted.
 fn sync(sender: &mut RedSender, red_pt: u8, primary_pt: u8, distances: &[u32]) -> u32
     ensures { Syncs sender.old red_pt primary_pt distances.now result sender.new }
 {
@@ -28,7 +28,7 @@ fn sync(sender: &mut RedSender, red_pt: u8, primary_pt: u8, distances: &[u32]) -
     status::OK
 }
 
-/// Wraps a payload into the caller's bytes, of which there are as many as any answer may need.
+/// Writes the RED payload of a payload to the output buffer, which must be large enough for any answer.
 fn wrap(
     sender: &mut RedSender,
     alloc: Global,
@@ -59,7 +59,7 @@ fn wrap(
     }
 }
 
-/// A RED sender that has sent nothing, in an empty handle.
+/// Creates a RED sender without earlier payloads in an empty handle.
 #[unsafe(no_mangle)]
 pub extern "C" fn cpay_red_sender_new(
     alloc: Global,
@@ -92,7 +92,7 @@ pub extern "C" fn cpay_red_sender_new(
     }
 }
 
-/// Takes over new payload types and distances.
+/// Sets new payload types and distances.
 #[unsafe(no_mangle)]
 pub extern "C" fn cpay_red_sync(
     alloc: Global,
@@ -115,7 +115,7 @@ pub extern "C" fn cpay_red_sync(
     answer
 }
 
-/// The RED payload of a media payload, which is then remembered.
+/// Writes the RED payload of a media payload, and remembers the media payload.
 #[unsafe(no_mangle)]
 pub extern "C" fn cpay_red_wrap(
     alloc: Global,

@@ -10,48 +10,48 @@ use codec_payload_handle::bytes::fill;
 use codec_payload_handle::status;
 use std::alloc::Global;
 
-/// A block of older media, to be written before the primary one. Its bytes stand in the caller's media.
+/// A redundant block to write. Its bytes are in the caller's media.
 #[repr(C)]
 #[derive(Drop)]
 pub struct RedOlder {
-    /// Where its bytes begin.
+    /// The offset of its bytes.
     pub start: usize,
-    /// How many bytes it has.
+    /// The number of bytes of the block.
     pub bytes: usize,
-    /// How much older than the primary block it is, in ticks of the RTP clock.
+    /// The age of the block relative to the primary block, in ticks of the RTP clock.
     pub offset: u32,
     /// Its low 7 bits are written.
     pub payload_type: u8,
 }
 
-/// What is known of a block besides its bytes.
+/// The metadata of a block.
 #[repr(C)]
 #[derive(Drop)]
 pub struct RedBlockInfo {
-    /// How many bytes it has.
+    /// The number of bytes of the block.
     pub bytes: usize,
-    /// How much older than the primary block it is, in ticks of the RTP clock; 0 of the primary block.
+    /// The age of the block relative to the primary block, in ticks of the RTP clock; 0 for the primary block.
     pub offset: u32,
     pub payload_type: u8,
-    /// Whether this is the packet's own media.
+    /// Whether this is the primary block.
     pub is_primary: bool,
 }
 
-/// What is known of a packet that a payload holds, besides its bytes.
+/// The metadata of a packet that a payload contains.
 #[repr(C)]
 #[derive(Drop)]
 pub struct RecoveredInfo {
-    /// The number of the packet.
+    /// The sequence number of the packet.
     pub number: u64,
-    /// How many bytes it has.
+    /// The number of bytes of the packet's payload.
     pub bytes: usize,
-    /// In ticks of the RTP clock, modulo 2^32.
+    /// The RTP time of the packet, in ticks of the RTP clock, modulo 2^32.
     pub rtp_time: u32,
-    /// Whether this is the packet itself whose payload was read.
+    /// Whether this is the RED packet itself.
     pub is_primary: bool,
 }
 
-/// The bytes of a block, where the media has them.
+/// Returns the bytes of a block, if they are within the media.
 fn bytes_of<'a>(media: &'a [u8], older: &RedOlder) -> Option<&'a [u8]>
     ensures some { IfSome result (λ bytes. IsWithin media.now older.now × (bytes.now ≡ (cut_from media.now older.now).bytes)) }
     ensures none { IsNone result → ¬ IsWithin media.now older.now }
@@ -59,7 +59,7 @@ fn bytes_of<'a>(media: &'a [u8], older: &RedOlder) -> Option<&'a [u8]>
     media.get(older.start..)?.get(..older.bytes)
 }
 
-/// The blocks with their bytes, or the status that refuses them.
+/// Returns the blocks with their bytes, or the status that refuses them.
 fn blocks_from(alloc: Global, media: &[u8], older: &[RedOlder]) -> Result<Vec<RedundantBlock>, u32>
     ensures ok { IfOk result (λ v. (map redundant_of v.items ≡ map (cut_from media.now) older.now) × All (IsWithin media.now) older.now) }
     ensures err { IfErr result (λ s. (s ≡ 17) ⊎ ((s ≡ 37) × (¬ All (IsWithin media.now) older.now))) }
@@ -84,7 +84,7 @@ fn blocks_from(alloc: Global, media: &[u8], older: &[RedOlder]) -> Result<Vec<Re
     Ok(blocks)
 }
 
-/// A RED payload of the first 32 blocks that fit, and of the primary one.
+/// Writes a RED payload of the first 32 blocks that fit, and of the primary block.
 #[unsafe(no_mangle)]
 pub extern "C" fn cpay_red_encode(
     alloc: Global,
@@ -114,7 +114,7 @@ pub extern "C" fn cpay_red_encode(
     }
 }
 
-/// The block of that index, if there is one.
+/// Returns the block with this index, if there is one.
 fn give_block(blocks: &[RedBlock], index: usize, info: &mut RedBlockInfo, bytes: &mut [u8]) -> u32
     ensures gives { GivesBlock (slice_get (blocks_of blocks.now) index) result info.new bytes.old bytes.new }
     ensures unchanged { result ≢ 0 → result ≢ 33 → info.new ≡ info.old }
@@ -135,7 +135,7 @@ fn give_block(blocks: &[RedBlock], index: usize, info: &mut RedBlockInfo, bytes:
     }
 }
 
-/// The block of that index, from 0, of a RED payload; the primary one is the last.
+/// Reads the block with this index, from 0, of a RED payload. The primary block is the last one.
 #[unsafe(no_mangle)]
 pub extern "C" fn cpay_red_block(
     alloc: Global,
@@ -154,7 +154,7 @@ pub extern "C" fn cpay_red_block(
     }
 }
 
-/// The packet of that index, from 0, that the payload of a packet holds; the packet itself is the last.
+/// Reads the packet with this index, from 0, that the payload of a RED packet contains. The RED packet itself is the last one.
 #[unsafe(no_mangle)]
 pub extern "C" fn cpay_red_recover(
     alloc: Global,

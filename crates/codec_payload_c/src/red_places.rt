@@ -1,4 +1,4 @@
-//! Where the blocks of a RED payload lie, all of them in one call (RFC 2198, section 3).
+//! The places of all blocks of a RED payload, found in one call (RFC 2198, section 3).
 
 ghost use Rattle.std.specs.Prelude.{◌≡◌, ◌≢◌, ◌≤◌, ◌<◌, ◌+◌, ℕ, Option, length, drop, slice_get};
 ghost use Rattle.codec_payload_core.specs.RedBlocks.{blocks_of};
@@ -8,22 +8,22 @@ use codec_payload_core::red::{RedBlock, RedDecoder};
 use codec_payload_handle::status;
 use std::alloc::Global;
 
-/// A block by its place in the payload.
+/// A block, by its place in the payload.
 #[repr(C)]
 #[derive(Clone, Copy)]
 pub struct RedBlockPlace {
-    /// Where its bytes begin in the payload.
+    /// The offset of its bytes in the payload.
     pub start: usize,
-    /// How many bytes it has.
+    /// The number of bytes of the block.
     pub bytes: usize,
-    /// How much older than the primary block it is, in ticks of the RTP clock; 0 of the primary block.
+    /// The age of the block relative to the primary block, in ticks of the RTP clock; 0 for the primary block.
     pub offset: u32,
     pub payload_type: u8,
-    /// Whether this is the packet's own media.
+    /// Whether this is the primary block.
     pub is_primary: bool,
 }
 
-/// Tells of each block where it lies, and what its header says. The first one begins at `front`.
+/// Describes each block: its place, and the fields of its header. The first block begins at `front`.
 fn place_blocks(blocks: &[RedBlock<'_>], front: usize, places: &mut [RedBlockPlace])
     requires room { length blocks.now ≤ length places.old }
     requires within { front + bytes_in (blocks_of blocks.now) ≤ 18446744073709551615 }
@@ -44,7 +44,7 @@ fn place_blocks(blocks: &[RedBlock<'_>], front: usize, places: &mut [RedBlockPla
     }
 }
 
-/// The places of all blocks of a RED payload, in their order; the primary one is the last.
+/// Reports the places of all blocks of a RED payload, in their order. The primary block is the last one.
 #[unsafe(no_mangle)]
 pub extern "C" fn cpay_red_blocks(
     alloc: Global,
@@ -64,7 +64,7 @@ pub extern "C" fn cpay_red_blocks(
     if blocks.len() < found.len() {
         return status::TOO_SMALL;
     }
-    // A header of four bytes for each block but the primary one, which has one of a byte.
+    // The headers: four bytes for each redundant block, and one byte for the primary block.
     let front = 4 * found.len() - 3;
     place_blocks(&found, front, blocks);
     status::OK

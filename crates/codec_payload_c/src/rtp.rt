@@ -1,4 +1,4 @@
-//! RTP packets (RFC 3550, section 5.1). No call takes memory.
+//! RTP packets (RFC 3550, section 5.1). No call allocates.
 
 ghost use Rattle.std.specs.Prelude.{◌≡◌, length};
 ghost use Rattle.codec_payload_rtp.specs.RtpPackets.{IsRtp, is_rtcp};
@@ -13,29 +13,29 @@ use codec_payload_rtp::rtp::{HeaderExtension, RtpError, RtpPacket, is_rtcp};
 #[repr(C)]
 #[derive(Drop)]
 pub struct RtpInfo {
-    /// Where the bytes of the header extension begin, behind its profile and its length.
+    /// The offset of the bytes of the header extension, after its profile and its length.
     pub extension_at: usize,
-    /// How many bytes of it there are: a multiple of 4.
+    /// The number of bytes of the header extension, a multiple of 4.
     pub extension_len: usize,
-    /// Where the payload begins.
+    /// The offset of the payload.
     pub payload_at: usize,
-    /// How many bytes it has, without padding.
+    /// The number of bytes of the payload, without padding.
     pub payload_len: usize,
     pub timestamp: u32,
     pub ssrc: u32,
     pub sequence_number: u16,
     pub extension_profile: u16,
-    /// 0 to 127.
+    /// The payload type, 0 to 127.
     pub payload_type: u8,
-    /// 0 to 15: each has four bytes, the first at byte 12.
+    /// The number of CSRCs, 0 to 15. Each has four bytes; the first is at byte 12.
     pub csrc_count: u8,
-    /// How many bytes of padding stand behind the payload.
+    /// The number of bytes of padding after the payload.
     pub padding: u8,
     pub marker: bool,
     pub has_extension: bool,
 }
 
-/// The status of bytes that are no RTP packet.
+/// Returns the status for bytes that are not an RTP packet.
 pub(crate) fn status_of(fault: RtpError) -> u32
     ensures { result ≡ rtp_status fault }
 {
@@ -50,7 +50,7 @@ pub(crate) fn status_of(fault: RtpError) -> u32
     }
 }
 
-/// Where a header extension stands in its packet.
+/// The place of a header extension in its packet.
 #[derive(Clone, Copy)]
 pub(crate) struct ExtensionPlace {
     there: bool,
@@ -59,7 +59,7 @@ pub(crate) struct ExtensionPlace {
     len: usize,
 }
 
-/// Where an extension stands that is behind these CSRCs.
+/// Returns the place of an extension after these CSRCs.
 fn place_of(csrcs: &[u8], extension: &Option<HeaderExtension<'_>>) -> ExtensionPlace
     ensures { result ≡ place_of (length csrcs.now) (extension_of extension.now) }
 {
@@ -79,7 +79,7 @@ fn place_of(csrcs: &[u8], extension: &Option<HeaderExtension<'_>>) -> ExtensionP
     }
 }
 
-/// A packet by places in the datagram that it was read from.
+/// Describes a packet by places in its datagram.
 #[tactic(auto, using(crate::proofs::RtpPlaces::payload_found, crate::proofs::RtpPlaces::whole, crate::proofs::RtpPlaces::padding_fits, crate::proofs::RtpPlaces::payload_fits, crate::proofs::RtpPlaces::count_kept))]
 fn info_of(datagram: &[u8], packet: &RtpPacket<'_>) -> RtpInfo
     requires { IsRtp datagram.now (packet_of packet.now) }
@@ -104,7 +104,7 @@ fn info_of(datagram: &[u8], packet: &RtpPacket<'_>) -> RtpInfo
     }
 }
 
-/// Whether a datagram on a port for both is RTCP (RFC 5761, section 4).
+/// Returns whether a datagram on a port for RTP and RTCP is RTCP (RFC 5761, section 4).
 #[unsafe(no_mangle)]
 pub extern "C" fn cpay_is_rtcp(datagram: &[u8]) -> bool
     ensures { result ≡ is_rtcp datagram.now }

@@ -1,4 +1,4 @@
-//! Frames go in, and the datagrams of one stream come out.
+//! Senders: frames in, the datagrams of one stream out.
 
 ghost use Rattle.std.specs.Prelude.{◌≡◌, ◌≢◌, ◌&&◌, is_some, nat_le, slice_get};
 ghost use Rattle.codec_payload_core.specs.Extensions.{no_values};
@@ -20,42 +20,42 @@ use codec_payload_handle::status;
 use codec_payload_sender::sender::{Sample as TimedFrame, Sender, SenderSettings as Settings};
 use std::alloc::Global;
 
-/// What a sender is made of.
+/// The settings of a sender.
 #[repr(C)]
 #[derive(Drop)]
 pub struct SenderSettings {
     pub spec: Spec,
-    /// The most bytes of a payload. The header comes on top: 12 bytes, and at most 304 of an extension.
+    /// The largest number of bytes of a payload. The header is added to it: 12 bytes, and at most 304 bytes of an extension.
     pub mtu: usize,
     pub ssrc: u32,
     /// The sequence number of the first packet.
     pub first_number: u16,
-    /// 0 to 127.
+    /// The payload type, 0 to 127.
     pub payload_type: u8,
-    /// Values without an id are not sent. No two ids are the same.
+    /// The ids of header extensions. Values without an id are not sent. All ids must differ.
     pub extension_ids: ExtensionIds,
 }
 
-/// What goes with a frame that is sent.
+/// The values that are sent with a frame.
 #[repr(C)]
 #[derive(Drop)]
 pub struct Sample {
-    /// In ticks of the RTP clock.
+    /// The RTP time, in ticks of the RTP clock.
     pub rtp_time: u64,
     /// Whether the frame is the first after a silence.
     pub starts_talk_spurt: bool,
     pub values: ExtensionValues,
 }
 
-/// What sender reports tell (RFC 3550, section 6.4.1).
+/// The fields of sender reports (RFC 3550, section 6.4.1).
 #[repr(C)]
 #[derive(Drop)]
 pub struct SenderCountsInfo {
-    /// How many packets were sent, modulo 2^32.
+    /// Sent packets, modulo 2^32.
     pub packets: u32,
-    /// How many bytes of payload, modulo 2^32.
+    /// Sent bytes of payload, modulo 2^32.
     pub octets: u32,
-    /// The RTP time of the frame that was sent last.
+    /// The RTP time of the latest sent frame.
     pub rtp_time: u32,
     /// The sequence number of the next packet.
     pub next_number: u16,
@@ -63,7 +63,7 @@ pub struct SenderCountsInfo {
     pub has_rtp_time: bool,
 }
 
-/// The settings as the sender has them.
+/// Converts the settings of C.
 fn settings_of(settings: &SenderSettings, clock_rate: Frequency) -> Settings
     requires { clock_rate ≡ settings.now.spec.rate }
     ensures { result ≡ settings_for settings.now }
@@ -79,7 +79,7 @@ fn settings_of(settings: &SenderSettings, clock_rate: Frequency) -> Settings
     }
 }
 
-/// A frame with its time, and values of header extensions.
+/// Makes a frame with its time, and values of header extensions.
 fn timed<'a>(
     stream: &StreamSender,
     rtp_time: u64,
@@ -97,7 +97,7 @@ fn timed<'a>(
     }
 }
 
-/// A frame with its time, without values of header extensions.
+/// Makes a frame with its time, without values of header extensions.
 fn timed_alone<'a>(
     stream: &StreamSender,
     rtp_time: u64,
@@ -110,7 +110,7 @@ fn timed_alone<'a>(
     timed(stream, rtp_time, starts_talk_spurt, values, frame)
 }
 
-/// A frame is cut into packets.
+/// Packetizes a frame.
 fn send(stream: &mut StreamSender, sample: &TimedFrame<'_>, count: &mut usize) -> u32
     ensures { SendsFrame stream.old (sample_of sample.now) result count.old count.new stream.new }
 {
@@ -123,7 +123,7 @@ fn send(stream: &mut StreamSender, sample: &TimedFrame<'_>, count: &mut usize) -
     }
 }
 
-/// The datagram at a place, into the caller's bytes.
+/// Writes the datagram at a place to the output buffer.
 fn datagram(stream: &StreamSender, place: usize, bytes: &mut [u8], size: &mut usize) -> u32
     ensures { GivesDatagram (slice_get stream.now.sender.datagrams place) result bytes.old bytes.new size.old size.new }
 {
@@ -139,7 +139,7 @@ fn datagram(stream: &StreamSender, place: usize, bytes: &mut [u8], size: &mut us
     }
 }
 
-/// What sender reports tell.
+/// Returns the fields of sender reports.
 fn counts_of(stream: &StreamSender) -> SenderCountsInfo
     ensures { TellsCounts stream.now result }
 {
@@ -153,7 +153,7 @@ fn counts_of(stream: &StreamSender) -> SenderCountsInfo
     }
 }
 
-/// A sender by these settings, in an empty handle.
+/// Creates a sender with these settings in an empty handle.
 #[unsafe(no_mangle)]
 pub extern "C" fn cpay_sender_new(
     alloc: Global,
@@ -188,7 +188,7 @@ pub extern "C" fn cpay_sender_new(
     }
 }
 
-/// Cuts a frame into packets, and says how many datagrams it has.
+/// Packetizes a frame, and reports how many datagrams it has.
 #[unsafe(no_mangle)]
 pub extern "C" fn cpay_sender_send(
     alloc: Global,
@@ -216,7 +216,7 @@ pub extern "C" fn cpay_sender_send(
     answer
 }
 
-/// Cuts a frame with values of header extensions into packets, and says how many datagrams it has.
+/// Packetizes a frame with values of header extensions, and reports how many datagrams it has.
 #[unsafe(no_mangle)]
 pub extern "C" fn cpay_sender_send_sample(
     alloc: Global,
@@ -245,7 +245,7 @@ pub extern "C" fn cpay_sender_send_sample(
     answer
 }
 
-/// The datagram at a place of the frame that was sent last.
+/// Writes the datagram at a place of the latest frame.
 #[unsafe(no_mangle)]
 pub extern "C" fn cpay_sender_datagram(
     alloc: Global,
@@ -270,7 +270,7 @@ pub extern "C" fn cpay_sender_datagram(
     answer
 }
 
-/// What sender reports tell.
+/// Reports the fields of sender reports.
 #[unsafe(no_mangle)]
 pub extern "C" fn cpay_sender_counts(
     alloc: Global,

@@ -9,17 +9,17 @@ use codec_payload_handle::bytes::fill;
 use codec_payload_handle::extra::{TeleEvent, event_of};
 use codec_payload_handle::status;
 
-/// The fault of that number: the payload is not one or more whole reports.
+/// The number of the error for a payload that is not one or more whole reports.
 const NO_REPORTS: u32 = 15;
 
-/// The report of that index, if there is one.
+/// Returns the report with this index, if there is one.
 fn report_at(reports: &mut TelephoneEvents, index: usize) -> Option<TelephoneEvent>
     ensures { result ≡ slice_get reports.old index }
 {
     reports.nth(index)
 }
 
-/// The report of that index, from 0, in a payload of reports.
+/// Reads the report with this index, from 0, in a payload of reports.
 #[unsafe(no_mangle)]
 pub extern "C" fn cpay_tele_read(
     payload: &[u8],
@@ -42,7 +42,7 @@ pub extern "C" fn cpay_tele_read(
     status::OK
 }
 
-/// The four bytes of a report.
+/// Writes the four bytes of a report.
 #[unsafe(no_mangle)]
 pub extern "C" fn cpay_tele_write(event: &TeleEvent, rate: u32, bytes: &mut [u8]) -> u32
     ensures writes { WritesReport event.now rate result bytes.old bytes.new }

@@ -10,16 +10,16 @@ use codec_payload_core::vp8::{
 };
 use codec_payload_handle::status;
 
-/// The fault of that number.
+/// The number of this error.
 const SHORT_PACKET: u32 = 1;
 
-/// The fault of that number.
+/// The number of this error.
 const VP8_CORRUPTED: u32 = 11;
 
 /// The length of the longest descriptor, in bytes.
 const LONGEST: usize = 6;
 
-/// Fields of a descriptor: those that are there, or those that are to have a new value.
+/// Fields of a descriptor: the fields that are present, or the fields to set.
 #[repr(C)]
 #[derive(Clone, Copy)]
 pub struct Vp8FieldsInfo {
@@ -29,11 +29,11 @@ pub struct Vp8FieldsInfo {
     pub has_picture_id: bool,
     pub has_tl0_pic_idx: bool,
     pub has_key_idx: bool,
-    /// How many bits the picture id has: 7 or 15, or 0 without one. A patch ignores it.
+    /// The number of bits of the picture id: 7 or 15, or 0 without a picture id. A patch ignores it.
     pub picture_id_bits: u8,
 }
 
-/// The status of a payload that has no descriptor.
+/// Returns the status for a payload without a descriptor.
 fn status_of_descriptor(error: Vp8DescriptorError) -> u32
     ensures { result ≡ descriptor_status error }
 {
@@ -43,7 +43,7 @@ fn status_of_descriptor(error: Vp8DescriptorError) -> u32
     }
 }
 
-/// The status of values that a descriptor cannot have.
+/// Returns the status for values that a descriptor cannot have.
 fn status_of_patch(error: Vp8PatchError) -> u32
     ensures { result ≡ patch_status error }
 {
@@ -55,7 +55,7 @@ fn status_of_patch(error: Vp8PatchError) -> u32
     }
 }
 
-/// The descriptor with these values asked for.
+/// Returns the patch request for these values.
 fn builder(descriptor: &Vp8Descriptor, values: &Vp8FieldsInfo) -> Vp8PatchBuilder
     ensures { result ≡ builder_of descriptor.now values.now }
 {
@@ -72,7 +72,7 @@ fn builder(descriptor: &Vp8Descriptor, values: &Vp8FieldsInfo) -> Vp8PatchBuilde
     builder
 }
 
-/// The patch to these values.
+/// Returns the patch for these values.
 #[tactic(auto, using(crate::proofs::PatchFront::reaches_front))]
 fn patch_to(descriptor: &Vp8Descriptor, values: &Vp8FieldsInfo) -> Result<Vp8Patch, Vp8PatchError>
     ensures value { result ≡ patch_for (builder_of descriptor.now values.now) }
@@ -82,7 +82,7 @@ fn patch_to(descriptor: &Vp8Descriptor, values: &Vp8FieldsInfo) -> Result<Vp8Pat
     builder(descriptor, values).build()
 }
 
-/// Writes a patch over the payload, of which it reaches at most the front.
+/// Writes a patch over the payload. A patch only changes the front.
 fn patch_front(patch: &Vp8Patch, payload: &mut [u8])
     requires front { Reaches patch.now 6 }
     requires reach { Reaches patch.now (length payload.old) }
@@ -94,7 +94,7 @@ fn patch_front(patch: &Vp8Patch, payload: &mut [u8])
     patch.copy_to(&old[..front], &mut payload[..front]);
 }
 
-/// The fields of a payload's descriptor, and whether a keyframe starts in the payload.
+/// Reads the fields of a payload's descriptor, and whether a keyframe starts in the payload.
 #[unsafe(no_mangle)]
 pub extern "C" fn cpay_vp8_fields(
     payload: &[u8],
@@ -122,7 +122,7 @@ pub extern "C" fn cpay_vp8_fields(
     status::OK
 }
 
-/// Gives fields of a payload's descriptor new values, in place.
+/// Sets fields of a payload's descriptor in place.
 #[tactic(auto, using(crate::proofs::PatchFront::reaches_payload, crate::proofs::PatchFront::is_patched))]
 #[unsafe(no_mangle)]
 pub extern "C" fn cpay_vp8_patch(payload: &mut [u8], values: &Vp8FieldsInfo) -> u32

@@ -1,4 +1,4 @@
--- Values of header extensions that are told and given back.
+-- Values of header extensions, converted for C and back.
 use Rattle.std.proofs.Common.{◌≡◌, ◌∙◌, ap, refl, ℕ, ◌-◌, Bool, List, ◌++◌, Option, Some, None, length, take, drop}
 use Rattle.std.specs.Prelude.{is_some, replicate}
 use Rattle.std.proofs.Math.Seq.{take-append_seam}
@@ -38,6 +38,6 @@ layers_back : (x : Option (List ℕ)) → given (is_some x) (take (layers_len x)
 layers_back None = refl
 layers_back (Some bytes) = rw (take-append_seam bytes (replicate (255 - length bytes) 0)) refl
 
--- values that are told and given back are the same
+-- values that are converted for C and back are the same
 pub values_back : (v : ExtensionValues) → values_given (values_told v) ≡ v
 values_back v = rw (capture_back v.abs_capture_time, number_back v.video_orientation, number_back v.video_content_type, timing_back v.video_timing, layers_back v.layers_allocation, int_back v.audio_level, bool_back v.voice_activity) refl

@@ -35,7 +35,7 @@ module _ {M : Type 1} {𝓤 : Ura M} {𝓛 : Logic 𝓤} {K : Type 0} {Γ : List
       nothing t $ feq_i t (List Val) (ptr_val p ∷ []) (ptr_val p ∷ []) refl $ fjoin t $ feq_i t (List Val) (word p ∷ []) (word p ∷ []) refl $ fjoin t $
       fpack t (Valss (RawPtr ∷ [])) (within (shape place.the_type) (p, tt) (word p ∷ [])) (ptr_val p ∷ [], tt) $ fjoin t $ s)
 
--- what there is, where there is anything
+-- the value, if there is one
 pub some_of : (o : Option Object) → IsSome o → (x : Object) × (o ≡ Some x)
 some_of (Some x) t = (x, refl)
 some_of None t = absurd (subst (λ (b : Bool). T b) (sym t) tt)

@@ -1,4 +1,4 @@
--- What payloads told, as C has it.
+-- The codec-specific data of payloads, for C.
 use Rattle.std.specs.Prelude.{ℕ, true, false, List, [], ◌∷◌, Option, Some, None, is_some}
 use Rattle.codec_payload_core.specs.declared.interface.CodecExtra.{CodecExtra}
 use Rattle.codec_payload_core.specs.declared.interface.CodecExtra.TheVariants as extras
@@ -7,7 +7,7 @@ use Rattle.codec_payload_handle.specs.declared.extra.Extra.{Extra}
 use Rattle.codec_payload_handle.specs.declared.extra.TeleEvent.{TeleEvent}
 use Rattle.codec_payload_handle.specs.declared.extra.Vp9Layer.{Vp9Layer}
 
--- a number, or 0 where it is not told
+-- a number, or 0 if it is missing
 abbrev pub or_zero : Option ℕ → ℕ
 or_zero None = 0
 or_zero (Some n) = n

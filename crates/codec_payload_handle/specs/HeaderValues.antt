@@ -1,4 +1,4 @@
--- Values of header extensions, as C has them.
+-- Values of header extensions, for C.
 use Rattle.std.specs.Prelude.{ℕ, ◌-◌, Bool, false, List, ◌++◌, Option, Some, None, is_some, length, take, replicate, if◌then◌else◌}
 use lib.IntN.{ℤ, pos}
 use Rattle.codec_payload_base.specs.declared.wire.extension.AbsCaptureTime.{AbsCaptureTime}
@@ -8,16 +8,16 @@ use Rattle.codec_payload_handle.specs.Extras.{or_zero}
 use Rattle.codec_payload_handle.specs.declared.extension_values.ExtensionValues.{ExtensionValues as CValues}
 use Rattle.codec_payload_handle.specs.declared.extension_values.VideoTiming.{VideoTiming as CTiming}
 
--- ---- as C gives them
+-- ---- from C
 
--- a value, if it is given
+-- a value, if its flag is set
 abbrev pub given : {A : Type 0} → Bool → A → Option A
 given is_given value = if is_given then Some value else None
 
 abbrev pub timing_given : CTiming → VideoTiming
 timing_given t = record { flags = t.flags; encode_start = t.encode_start; encode_finish = t.encode_finish; packetize_complete = t.packetize_complete; last_left_pacer = t.last_left_pacer; network_1 = t.network_1; network_2 = t.network_2 }
 
--- each value whose flag is set; of the layers allocation the first bytes, as many as it has
+-- each value whose flag is set; for the layers allocation the given number of bytes
 abbrev pub values_given : CValues → ExtensionValues
 values_given v = record {
   abs_capture_time = given v.has_abs_capture_time (record { capture_time = v.abs_capture_time; clock_offset = given v.has_clock_offset v.clock_offset });
@@ -29,7 +29,7 @@ values_given v = record {
   voice_activity = given v.has_voice_activity v.voice_activity;
 }
 
--- ---- as they are told to C: what is not there is 0
+-- ---- for C: a missing value is 0
 
 abbrev pub int_or_zero : Option ℤ → ℤ
 int_or_zero None = pos 0
@@ -55,7 +55,7 @@ abbrev pub layers_len : Option (List ℕ) → ℕ
 layers_len None = 0
 layers_len (Some bytes) = length bytes
 
--- the bytes, with zeros behind them up to 255
+-- the bytes, with zeros after them up to 255
 abbrev pub layers_told : Option (List ℕ) → List ℕ
 layers_told None = replicate 255 0
 layers_told (Some bytes) = bytes ++ replicate (255 - length bytes) 0

@@ -1,4 +1,4 @@
--- What a handle holds before and after a call.
+-- The contents of a handle before and after a call.
 use Rattle.std.specs.Prelude.{◌≡◌, ◌⊎◌, ℕ, Bool, true, false, Option, Some, None}
 use Rattle.codec_payload_core.specs.RedLevels.{Sender as RedSender}
 use Rattle.codec_payload_handle.specs.declared.object.Assembler.{Assembler}
@@ -9,7 +9,7 @@ use Rattle.codec_payload_handle.specs.declared.object.FrameSender.{FrameSender}
 use Rattle.codec_payload_handle.specs.declared.object.StreamReceiver.{StreamReceiver}
 use Rattle.codec_payload_handle.specs.declared.object.StreamSender.{StreamSender}
 
--- where the handle holds a sender, it holds one afterwards, to which this was done
+-- if the handle holds a packetizer, it holds one afterwards, after this step
 abbrev pub StaysFrameSender : (FrameSender → Type 0) → Option Object → Type 0
 StaysFrameSender Done (Some (objects.FrameSender s)) = Done s
 StaysFrameSender Done _ = ⊥
@@ -18,7 +18,7 @@ abbrev pub OnFrameSender : Option Object → (FrameSender → FrameSender → Ty
 OnFrameSender (Some (objects.FrameSender r)) Does after = StaysFrameSender (Does r) after
 OnFrameSender _ Does after = Unit {0}
 
--- the same of an assembler
+-- the same for a depacketizer
 abbrev pub StaysAssembler : (Assembler → Type 0) → Option Object → Type 0
 StaysAssembler Done (Some (objects.Assembler s)) = Done s
 StaysAssembler Done _ = ⊥
@@ -27,7 +27,7 @@ abbrev pub OnAssembler : Option Object → (Assembler → Assembler → Type 0) 
 OnAssembler (Some (objects.Assembler r)) Does after = StaysAssembler (Does r) after
 OnAssembler _ Does after = Unit {0}
 
--- the same of a receiver
+-- the same for a buffer
 abbrev pub StaysFrameReceiver : (FrameReceiver → Type 0) → Option Object → Type 0
 StaysFrameReceiver Done (Some (objects.FrameReceiver s)) = Done s
 StaysFrameReceiver Done _ = ⊥
@@ -36,7 +36,7 @@ abbrev pub OnFrameReceiver : Option Object → (FrameReceiver → FrameReceiver 
 OnFrameReceiver (Some (objects.FrameReceiver r)) Does after = StaysFrameReceiver (Does r) after
 OnFrameReceiver _ Does after = Unit {0}
 
--- the same of a RED sender
+-- the same for a RED sender
 abbrev pub StaysRedSender : (RedSender → Type 0) → Option Object → Type 0
 StaysRedSender Done (Some (objects.RedSender s)) = Done s
 StaysRedSender Done _ = ⊥
@@ -45,7 +45,7 @@ abbrev pub OnRedSender : Option Object → (RedSender → RedSender → Type 0) 
 OnRedSender (Some (objects.RedSender r)) Does after = StaysRedSender (Does r) after
 OnRedSender _ Does after = Unit {0}
 
--- the same of a sender of datagrams
+-- the same for a sender of datagrams
 abbrev pub StaysStreamSender : (StreamSender → Type 0) → Option Object → Type 0
 StaysStreamSender Done (Some (objects.StreamSender s)) = Done s
 StaysStreamSender Done _ = ⊥
@@ -54,7 +54,7 @@ abbrev pub OnStreamSender : Option Object → (StreamSender → StreamSender →
 OnStreamSender (Some (objects.StreamSender r)) Does after = StaysStreamSender (Does r) after
 OnStreamSender _ Does after = Unit {0}
 
--- the same of a receiver of datagrams
+-- the same for a receiver of datagrams
 abbrev pub StaysStreamReceiver : (StreamReceiver → Type 0) → Option Object → Type 0
 StaysStreamReceiver Done (Some (objects.StreamReceiver s)) = Done s
 StaysStreamReceiver Done _ = ⊥
@@ -87,13 +87,13 @@ abbrev pub is_stream_receiver : Object → Bool
 is_stream_receiver (objects.StreamReceiver _) = true
 is_stream_receiver _ = false
 
--- an empty handle is status 34, and one that holds something of another kind 35; the handle stays as it is
+-- status 34: the handle is empty; status 35: it holds another type; the handle is unchanged
 abbrev pub Refuses : (Object → Bool) → Option Object → ℕ → Option Object → Type 0
 Refuses is_kind None status after = (status ≡ 34) × (after ≡ None)
 Refuses is_kind (Some object) status after = is_kind object ≡ false → (status ≡ 35) × (after ≡ Some object)
 
--- A call that makes something: a full handle is status 36 and stays. Into an empty one comes what is made, with status 0;
--- else it stays empty, with status 37 where nothing can be made, and 17 only where something can
+-- A call that creates something. Status 36: the handle is in use, and is unchanged. Status 0: the empty handle holds the new
+-- value. Otherwise it stays empty: status 37 if the arguments are invalid, and 17 only if they are valid
 abbrev pub MakesIn : (Object → Type 0) → Bool → ℕ → Option Object → Type 0
 MakesIn Made can status (Some object) = (status ≡ 0) × (can ≡ true) × Made object
 MakesIn Made can status None = ((status ≡ 37) × (can ≡ false)) ⊎ ((status ≡ 17) × (can ≡ true))

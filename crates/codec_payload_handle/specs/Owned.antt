@@ -9,15 +9,15 @@ use Rattle.std_heap.specs.declared.Global.{Global}
 use Rattle.codec_payload_handle.specs.declared.object.Object.{Object}
 use Rattle.codec_payload_handle.specs.contracts.object.Object.{the_row}
 
--- the heap of C, by which all is allocated
+-- the heap of C, which allocates everything
 abbrev pub heap : Global
 heap = record { memory = record { seal = tt } }
 
--- the right to free a block of it
+-- the right to free a block of the heap
 abbrev pub may_free : Ty → Ptr → Fml
 may_free = ghosts.dealloc_token heap
 
--- the value that lies at a place, with the right to free its block; at a place of nothing, nothing
+-- the value at a place, with the right to free its block; nothing without a value
 abbrev pub owns_object : Ptr → Option Object → Fml
 owns_object at (Some x) = box_owns may_free the_row at x
 owns_object at None = ftrue

@@ -1,4 +1,4 @@
--- The next unit for the caller: the one that waits, or what a pop gives.
+-- The next unit for the caller: the unit that waits, or the result of a pop.
 use Rattle.std.specs.Prelude.{◌≡◌, ◌≢◌, ◌⊎◌, ℕ, ◌<◌, ◌≤◌, Option, Some, None, Result, Ok, Err, List, length}
 use Rattle.codec_payload_core.specs.Faults.{fault_number}
 use Rattle.codec_payload_core.specs.Release.{Release}
@@ -6,16 +6,16 @@ use Rattle.codec_payload_core.specs.declared.error.PacketError.{PacketError}
 use Rattle.codec_payload_handle.specs.Bytes.{filled}
 use Rattle.codec_payload_handle.specs.declared.unit.Unit.{Unit as CUnit}
 
--- what a pop answers with
+-- the answer of a pop
 abbrev pub Answer : Type 0
 Answer = Option (Result Release PacketError)
 
--- `Stays`: nothing was popped. `Popped`: a pop answered so. `Told`: that is what is told of a unit.
--- That unit waited already, or a pop gives it now.
+-- `Stays`: no pop was made. `Popped`: a pop gave this answer. `Told`: the description of a unit. The unit waited already, or a
+-- pop returns it now.
 abbrev pub Comes : (Stays : Type 0) (Popped : Answer → Type 0) (waited : Option Release) → Release → Type 0
 Comes Stays Popped waited u = ((waited ≡ Some u) × Stays) ⊎ ((waited ≡ None) × Popped (Some (Ok u)))
 
--- what a call on units does: what waited before it and what waits after it, what it tells of a unit, and the caller's bytes
+-- a call for a unit: the unit that waits before and after it, the description of a unit, and the output buffer
 pub record Handing : Type 0 where
   pub waited : Option Release
   pub waits : Option Release
@@ -24,7 +24,7 @@ pub record Handing : Type 0 where
   pub before : List ℕ
   pub bytes : List ℕ
 
--- a unit came, is told, and its bytes stand at the front of the caller's
+-- there was a unit: it is described, and its bytes are at the front of the output buffer
 pub record Gives (Stays : Type 0) (Popped : Answer → Type 0) (Told : Release → CUnit → Type 0) (h : Handing) : Type 0 where
   pub release : Release
   pub comes : Comes Stays Popped h.waited release
@@ -33,7 +33,7 @@ pub record Gives (Stays : Type 0) (Popped : Answer → Type 0) (Told : Release �
   pub writes : h.bytes ≡ filled release.bytes h.before
   pub gone : h.waits ≡ None
 
--- a unit came, is told, and waits, since the caller's bytes are too few
+-- there was a unit: it is described, and waits, since the output buffer is too small
 pub record Keeps (Stays : Type 0) (Popped : Answer → Type 0) (Told : Release → CUnit → Type 0) (h : Handing) : Type 0 where
   pub release : Release
   pub comes : Comes Stays Popped h.waited release
@@ -42,13 +42,13 @@ pub record Keeps (Stays : Type 0) (Popped : Answer → Type 0) (Told : Release �
   pub untouched : h.bytes ≡ h.before
   pub waits : h.waits ≡ Some release
 
--- there was no unit
+-- there was no unit to return
 pub record GivesNone (Popped : Answer → Type 0) (h : Handing) : Type 0 where
   pub none_waited : h.waited ≡ None
   pub pops : Popped None
   pub none_waits : h.waits ≡ None
 
--- a pop answered with a fault
+-- a pop returned an error
 pub record GivesFault (Popped : Answer → Type 0) (status : ℕ) (h : Handing) : Type 0 where
   pub none_waited : h.waited ≡ None
   pub fault : PacketError
@@ -56,7 +56,7 @@ pub record GivesFault (Popped : Answer → Type 0) (status : ℕ) (h : Handing) 
   pub pops : Popped (Some (Err fault))
   pub none_waits : h.waits ≡ None
 
--- the next unit, by what is answered
+-- the next unit, by the status
 pub record AnswersPop (Stays : Type 0) (Popped : Answer → Type 0) (Told : Release → CUnit → Type 0) (status : ℕ) (h : Handing) : Type 0 where
   pub ok : status ≡ 0 → Gives Stays Popped Told h
   pub too_small : status ≡ 33 → Keeps Stays Popped Told h

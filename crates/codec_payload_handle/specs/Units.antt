@@ -1,4 +1,4 @@
--- What is known of a unit, as C has it.
+-- The description of a unit, for C.
 use Rattle.std.specs.Prelude.{◌≡◌, true, false, List, length}
 use Rattle.codec_payload_base.specs.declared.wire.extension.ExtensionValues.{ExtensionValues}
 use Rattle.codec_payload_core.specs.Release.{Release, AreValues, IsFirst, IsLast, IsReceivedFirst}
@@ -8,11 +8,11 @@ use Rattle.codec_payload_handle.specs.HeaderValues.{values_told}
 use Rattle.codec_payload_handle.specs.declared.extension_values.ExtensionValues.{ExtensionValues as CValues}
 use Rattle.codec_payload_handle.specs.declared.unit.Unit.{Unit as CUnit}
 
--- the values of header extensions that go with these packets are told
+-- the values of header extensions of these packets are described
 abbrev pub TellsValues : List RtpMeta → CValues → Type 0
 TellsValues metas values = (v : ExtensionValues) × AreValues metas v × (values ≡ values_told v)
 
--- what is told of a unit that no receiver judged
+-- the description of a unit without a receiver
 pub record TellsUnit (u : Release) (unit : CUnit) : Type 0 where
   pub first : (m : RtpMeta) × IsFirst u.metas m × (unit.first ≡ m.seq_no.0)
   pub last : (m : RtpMeta) × IsLast u.metas m × (unit.last ≡ m.seq_no.0)

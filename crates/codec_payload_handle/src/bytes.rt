@@ -1,9 +1,9 @@
-//! Bytes into the caller's memory.
+//! Writing to the output buffer.
 
 ghost use Rattle.std.specs.Prelude.{◌≡◌, length, nat_le};
 ghost use Rattle.codec_payload_handle.specs.Bytes.{filled};
 
-/// Copies what is given to the front of the caller's bytes, if they are enough.
+/// Copies the given bytes to the front of the output buffer, if it is large enough.
 pub fn fill(bytes: &mut [u8], given: &[u8]) -> bool
     ensures enough { result ≡ nat_le (length given.now) (length bytes.old) }
     ensures written { bytes.new ≡ filled given.now bytes.old }

@@ -1,4 +1,4 @@
-//! Values of header extensions, as C has them.
+//! Values of header extensions, for C.
 
 ghost use Rattle.std.specs.Prelude.{◌≡◌};
 ghost use Rattle.std.specs.Option.{option_or};
@@ -9,10 +9,10 @@ use codec_payload_core::wire::{
     AbsCaptureTime, ExtensionValues as Values, VideoLayersAllocation, VideoTiming as Timing,
 };
 
-/// The most bytes of a layers allocation.
+/// The largest number of bytes of a layers allocation.
 const MOST_LAYERS: usize = 255;
 
-/// When a frame passed the stages of its sender, in milliseconds since it was captured.
+/// When a frame passed the stages of its sender, in milliseconds after its capture.
 #[repr(C)]
 #[derive(Clone, Copy)]
 pub struct VideoTiming {
@@ -22,29 +22,29 @@ pub struct VideoTiming {
     pub last_left_pacer: u16,
     pub network_1: u16,
     pub network_2: u16,
-    /// Why the times are there: 1 for a timer, 2 for a frame of unusual size.
+    /// The reason for the times: 1 for a timer, 2 for a frame of unusual size.
     pub flags: u8,
 }
 
-/// The values of header extensions that go with a frame, each where its flag says that it is there. Fields that are not there
-/// are 0 where the library tells them, and are not looked at where the caller gives them.
+/// The values of header extensions of a frame. Each value has a flag that says whether it is set. In output, values that are
+/// not set are 0. In input, they are ignored.
 #[repr(C)]
 #[derive(Clone, Copy)]
 pub struct ExtensionValues {
-    /// When the frame was captured: seconds since 1900 in the high 32 bits, their fraction in the low 32.
+    /// The capture time of the frame: seconds since 1900 in the high 32 bits, their fraction in the low 32 bits.
     pub abs_capture_time: u64,
-    /// What is to be added to that to get the sender's clock, in the same unit.
+    /// The offset to add to the capture time to get the sender's clock, in the same unit.
     pub clock_offset: i64,
     pub video_timing: VideoTiming,
     pub video_orientation: u8,
     pub video_content_type: u8,
-    /// In dBov, 0 to -127.
+    /// The audio level in dBov, 0 to -127.
     pub audio_level: i8,
-    /// How many bytes the layers allocation has: the first of `layers_allocation`.
+    /// The number of bytes of the layers allocation in `layers_allocation`.
     pub layers_allocation_len: u8,
     pub layers_allocation: [u8; 255],
     pub has_abs_capture_time: bool,
-    /// Whether `clock_offset` goes with `abs_capture_time`.
+    /// Whether `clock_offset` is set; it goes with `abs_capture_time`.
     pub has_clock_offset: bool,
     pub has_video_timing: bool,
     pub has_video_orientation: bool,
@@ -52,18 +52,18 @@ pub struct ExtensionValues {
     pub has_audio_level: bool,
     pub has_layers_allocation: bool,
     pub has_voice_activity: bool,
-    /// Whether there is speech.
+    /// Whether there is voice activity.
     pub voice_activity: bool,
 }
 
-/// The value, if it is given.
+/// Returns the value, if its flag is set.
 fn given<T: Drop>(is_given: bool, value: T) -> Option<T>
     ensures { result ≡ given is_given value }
 {
     if is_given { Some(value) } else { None }
 }
 
-/// Times of stages as C gave them.
+/// Converts the times of stages from C.
 fn timing_from(timing: VideoTiming) -> Timing
     ensures { result ≡ timing_given timing }
 {
@@ -78,7 +78,7 @@ fn timing_from(timing: VideoTiming) -> Timing
     }
 }
 
-/// The values that C gave.
+/// Converts the values from C.
 pub fn values_from(values: &ExtensionValues) -> Values
     ensures { result ≡ values_given values.now }
 {
@@ -105,7 +105,7 @@ pub fn values_from(values: &ExtensionValues) -> Values
     }
 }
 
-/// Times of stages as C has them; 0 where they are not there.
+/// Converts the times of stages for C; 0 if there are none.
 fn timing_of(timing: Option<Timing>) -> VideoTiming
     ensures { result ≡ timing_told timing }
 {
@@ -131,7 +131,7 @@ fn timing_of(timing: Option<Timing>) -> VideoTiming
     }
 }
 
-/// How many bytes a layers allocation has, and these with zeros behind them, as C has them.
+/// Returns the number of bytes of a layers allocation, and the bytes with zeros after them.
 fn layers_of(layers: &Option<VideoLayersAllocation>) -> (u8, [u8; 255])
     ensures len { result.0 ≡ layers_len layers.now }
     ensures bytes { result.1 ≡ layers_told layers.now }
@@ -145,7 +145,7 @@ fn layers_of(layers: &Option<VideoLayersAllocation>) -> (u8, [u8; 255])
     (bytes.len() as u8, padded)
 }
 
-/// When the frame was captured, as C has it; 0 where it is not there.
+/// Converts the capture time for C; 0 if there is none.
 fn capture_of(time: Option<AbsCaptureTime>) -> u64
     ensures { result ≡ capture_told time }
 {
@@ -155,7 +155,7 @@ fn capture_of(time: Option<AbsCaptureTime>) -> u64
     }
 }
 
-/// The offset of the clock, if it is there.
+/// Returns the offset of the clock, if there is one.
 fn offset_of(time: Option<AbsCaptureTime>) -> Option<i64>
     ensures { result ≡ offset_of time }
 {
@@ -165,7 +165,7 @@ fn offset_of(time: Option<AbsCaptureTime>) -> Option<i64>
     }
 }
 
-/// The values as C has them, with that capture time and that layers allocation in the place of theirs.
+/// Converts the values for C, with this capture time and this layers allocation instead of their own.
 fn values_with(
     time: Option<AbsCaptureTime>,
     layers: &Option<VideoLayersAllocation>,
@@ -196,16 +196,16 @@ fn values_with(
     }
 }
 
-/// The values as C has them.
+/// Converts the values for C.
 pub fn values_of(values: &Values) -> ExtensionValues
     ensures told { result ≡ values_told values.now }
-    // Given back, they are the same values.
+    // Converted back, the values are the same.
     ensures comes_back { values_given result ≡ values.now }
 {
     values_with(values.abs_capture_time, &values.layers_allocation, values)
 }
 
-/// The first of two that is there.
+/// Returns the first value, or the second one if the first is missing.
 fn either<'a>(
     first: &'a Option<VideoLayersAllocation>,
     last: &'a Option<VideoLayersAllocation>,
@@ -218,7 +218,7 @@ fn either<'a>(
     }
 }
 
-/// The values of a unit whose first and last packet have these, as C has them. They are not copied before.
+/// Converts the values of a unit for C, from the values of its first and last packet, without a copy of them.
 pub fn values_between(first: &Values, last: &Values) -> ExtensionValues
     ensures { result ≡ values_told (merged first.now last.now) }
 {

@@ -1,4 +1,4 @@
-//! What the payloads of a unit told besides its bytes.
+//! The codec-specific data of a unit.
 
 ghost use Rattle.std.specs.Prelude.{◌≡◌};
 ghost use Rattle.codec_payload_core.specs.declared.interface.CodecExtra.TheVariants as extras;
@@ -10,10 +10,10 @@ use codec_payload_core::codec::{CodecExtra, TelephoneEvent, Vp8CodecExtra, Vp9Co
 #[repr(C)]
 #[derive(Clone, Copy)]
 pub struct TeleEvent {
-    /// How long the event has lasted so far, in nanoseconds.
+    /// The duration of the event so far, in nanoseconds.
     pub duration: u64,
     pub event: u8,
-    /// The power of the tone in dBm0, without its sign; 0 to 63.
+    /// The power of the tone, 0 to 63 for 0 to -63 dBm0.
     pub volume: u8,
     pub end: bool,
 }
@@ -22,43 +22,43 @@ pub struct TeleEvent {
 #[repr(C)]
 #[derive(Clone, Copy)]
 pub struct Vp9Layer {
-    /// Where its bytes end in the unit's.
+    /// The end of its bytes in the bytes of the unit.
     pub end: usize,
     pub width: u16,
     pub height: u16,
-    /// Whether the layer was seen.
+    /// Whether the unit has this layer.
     pub has_end: bool,
     pub has_width: bool,
     pub has_height: bool,
 }
 
-/// What is told. Fields that the kind does not have are 0.
+/// The codec-specific data. Fields that `kind` does not have are 0.
 #[repr(C)]
 #[derive(Clone, Copy)]
 pub struct Extra {
-    /// The picture id, extended beyond the bits that were sent: of VP8 and VP9.
+    /// For VP8 and VP9: the picture id, extended beyond the bits that were sent.
     pub picture_id: u64,
-    /// The picture id of the base layer, extended likewise: of VP8 and VP9.
+    /// For VP8 and VP9: the picture id of the base layer, extended in the same way.
     pub tl0_picture_id: u64,
-    /// 0 where nothing was told, 1 of VP8, 2 of VP9, 3 of AV1, 4 of a telephone event.
+    /// 0: no data; 1: VP8; 2: VP9; 3: AV1; 4: a telephone event.
     pub kind: u32,
     pub has_picture_id: bool,
     pub has_tl0_picture_id: bool,
-    /// Whether the temporal layer was told: of VP8 always.
+    /// Whether there is a temporal layer; always true for VP8.
     pub has_temporal_layer: bool,
-    /// The temporal layer: of VP8 and VP9.
+    /// For VP8 and VP9: the temporal layer.
     pub temporal_layer: u8,
-    /// Whether the frame can be decoded without any other: of VP8, VP9 and AV1.
+    /// For VP8, VP9 and AV1: whether the frame can be decoded without any other frame.
     pub is_keyframe: bool,
-    /// Whether no other frame depends on this one: of VP8.
+    /// For VP8: whether no other frame depends on this one.
     pub discardable: bool,
-    /// Whether this frame depends on frames of the base layer alone: of VP8.
+    /// For VP8: whether this frame depends only on frames of the base layer.
     pub sync: bool,
     pub event: TeleEvent,
     pub layers: [Vp9Layer; 3],
 }
 
-/// A report as C has it.
+/// Converts a report for C.
 pub fn event_of(report: TelephoneEvent) -> TeleEvent
     ensures { result ≡ event_told report }
 {
@@ -70,7 +70,7 @@ pub fn event_of(report: TelephoneEvent) -> TeleEvent
     }
 }
 
-/// A layer as C has it.
+/// Converts a layer for C.
 fn layer_of(end: Option<usize>, width: Option<u16>, height: Option<u16>) -> Vp9Layer
     ensures { result ≡ layer_told end width height }
 {
@@ -84,7 +84,7 @@ fn layer_of(end: Option<usize>, width: Option<u16>, height: Option<u16>) -> Vp9L
     }
 }
 
-/// The layers as C has them.
+/// Converts the layers for C.
 fn layers_of(extra: &Vp9CodecExtra) -> [Vp9Layer; 3]
     ensures { result ≡ layers_told extra.now.layers_scheme extra.now.layers_widths extra.now.layers_heights }
 {
@@ -98,7 +98,7 @@ fn layers_of(extra: &Vp9CodecExtra) -> [Vp9Layer; 3]
     ]
 }
 
-/// Nothing was told.
+/// Returns data without any values.
 fn nothing() -> Extra
     ensures { result ≡ extra_told extras.None }
 {
@@ -124,7 +124,7 @@ fn nothing() -> Extra
     }
 }
 
-/// What VP8 told.
+/// Converts the data of VP8.
 fn vp8_extra(told: &Vp8CodecExtra) -> Extra
     ensures { result ≡ extra_told (extras.Vp8 told.now) }
 {
@@ -143,7 +143,7 @@ fn vp8_extra(told: &Vp8CodecExtra) -> Extra
     }
 }
 
-/// What VP9 told.
+/// Converts the data of VP9.
 fn vp9_extra(told: &Vp9CodecExtra) -> Extra
     ensures { result ≡ extra_told (extras.Vp9 told.now) }
 {
@@ -161,7 +161,7 @@ fn vp9_extra(told: &Vp9CodecExtra) -> Extra
     }
 }
 
-/// What a unit's payloads told, as C has it.
+/// Converts the codec-specific data of a unit for C.
 pub fn extra_of(told: &CodecExtra) -> Extra
     ensures { result ≡ extra_told told.now }
 {

@@ -1,4 +1,4 @@
-//! The handle under which C holds a value of this library.
+//! The handle, through which C holds a value of this library.
 
 ghost use Rattle.std.specs.Prelude.{◌≡◌, Option, Some, None, option_map, is_some, IsSome, IsNone};
 ghost use Rattle.codec_payload_handle.specs.declared.object.Object.{Object as Held};
@@ -9,7 +9,8 @@ use std::alloc::Global;
 use std::marker::Model;
 use std::{mem, ptr};
 
-/// One pointer, to a value on the heap or to nothing. It has no `Drop`, so that none is given up with what it owns.
+/// A pointer to a value on the heap, or to nothing. It has no `Drop`, so a place is never dropped together with a value that it
+/// owns.
 #[repr(C)]
 pub struct Place {
     at: *mut u8,
@@ -22,7 +23,7 @@ impl Model for Place {
     ghost also_owns = { λ p. owns_object p.at p.value };
 }
 
-// It may go to another thread with what it owns.
+// A place may move to another thread with the value that it owns.
 unsafe impl Send for Place {}
 
 impl Place {
@@ -34,7 +35,7 @@ impl Place {
         }
     }
 
-    /// A place of nothing is given up.
+    /// Drops a place that owns nothing.
     fn gone(self)
         requires { IsNone self.value }
     {
@@ -71,7 +72,7 @@ impl Place {
     }
 }
 
-/// What C keeps in its own memory. All zero bytes are an empty handle.
+/// A handle in the memory of C. All zero bytes are an empty handle.
 #[repr(C)]
 pub struct Handle {
     full: bool,
@@ -80,7 +81,7 @@ pub struct Handle {
 }
 
 impl Handle {
-    /// What the handle holds, which it then holds no more.
+    /// Takes the value out of the handle, which is empty after that.
     pub fn take(&mut self, alloc: Global) -> Option<Box<Object>>
         ensures value { option_map (λ b. b.value) result ≡ self.old.place.value }
         ensures empty { self.new.place.value ≡ None }
@@ -98,7 +99,7 @@ impl Handle {
         }
     }
 
-    /// An empty handle holds the value from then on.
+    /// Puts a value in an empty handle.
     pub fn put(&mut self, value: Box<Object>)
         requires { self.old.place.value ≡ None }
         ensures { self.new.place.value ≡ Some value.value }
@@ -112,10 +113,10 @@ impl Handle {
     }
 }
 
-/// Asks for a value that may go to another thread.
+/// Requires a value that may move to another thread.
 fn may_leave<T: Send>(_value: &T) {}
 
-/// A handle may go to another thread.
+/// Proves that a handle may move to another thread.
 pub fn handle_may_leave(handle: &Handle) {
     may_leave(handle);
 }

@@ -1,5 +1,5 @@
-//! What the library for C stands on: a handle in the caller's memory and what it can hold, statuses, settings, bytes of the
-//! caller, and units as C has them.
+//! The base of the C API: a handle in the caller's memory and its contents, statuses, settings, output buffers, and the structs
+//! that describe units.
 #![tactic(auto)]
 
 pub mod bytes;

@@ -1,4 +1,4 @@
-//! What a handle can hold.
+//! The contents of a handle.
 
 use codec_payload_core::buffer::{Depacketized, DepacketizingBuffer};
 use codec_payload_core::codec::{CodecDepacketizer, CodecExtra, CodecPacketizer};
@@ -13,15 +13,15 @@ use codec_payload_stream::receiver::Receiver as DatagramReceiver;
 pub struct FrameSender {
     pub packetizer: CodecPacketizer,
     pub packets: Vec<Vec<u8>>,
-    /// How many of the packets were taken.
+    /// How many of the packets were fetched.
     pub taken: usize,
-    /// Whether the packets are marked as those that start a talk spurt.
+    /// Whether the frame starts a talk spurt, and its packets are marked for it.
     pub marked: bool,
-    /// Where a frame is cut that is written to the caller in one call: memory that is used again.
+    /// Memory for a frame that is packetized into the output buffer; it is reused.
     pub frame: Payloads,
 }
 
-/// A depacketizer, and what was put together so far.
+/// A depacketizer, and the unit so far.
 #[derive(Drop)]
 pub struct Assembler {
     pub depacketizer: CodecDepacketizer,
@@ -29,7 +29,7 @@ pub struct Assembler {
     pub extra: CodecExtra,
 }
 
-/// A buffer, and the unit that it gave and the caller had no room for.
+/// A buffer, and the unit that waits for a larger output buffer.
 #[derive(Drop)]
 pub struct FrameReceiver {
     pub buffer: DepacketizingBuffer,
@@ -44,7 +44,7 @@ pub struct StreamSender {
     pub rate: Frequency,
 }
 
-/// A receiver of datagrams, the unit that it gave and the caller had no room for, and the one that the caller took last.
+/// A receiver of datagrams, the unit that waits for a larger output buffer, and the latest popped unit.
 #[derive(Drop)]
 pub struct StreamReceiver {
     pub receiver: DatagramReceiver,

@@ -1,4 +1,4 @@
-//! What a packetizer and a depacketizer are made from.
+//! The settings of packetizers and depacketizers.
 
 ghost use Rattle.std.specs.Prelude.{◌≡◌, true, false, IfSome, IsNone, option_map};
 ghost use Rattle.codec_payload_core.specs.Packetizers.{is_built_in, packetizer_state_of};
@@ -16,14 +16,14 @@ use codec_payload_core::vp8::Vp8Packetizer;
 use codec_payload_core::wire::{Codec, CodecSpec, Frequency};
 use std::alloc::Global;
 
-/// The greatest picture id of 15 bits.
+/// The largest picture id of 15 bits.
 const MAX_PICTURE_ID: u16 = 32_767;
 
 /// A codec with its settings.
 #[repr(C)]
 #[derive(Drop)]
 pub struct Spec {
-    /// The codec by its number.
+    /// The number of the codec.
     pub codec: u32,
     /// The rate of the RTP clock in hertz, above 0.
     pub rate: u32,
@@ -31,13 +31,13 @@ pub struct Spec {
     pub first_id: u16,
     /// Whether AMR-WB payloads are octet-aligned.
     pub octet_align: bool,
-    /// Whether VP8 is sent with picture ids.
+    /// Whether VP8 payloads have picture ids.
     pub vp8_ids: bool,
-    /// Whether VP9 is sent in the flexible mode.
+    /// Whether VP9 uses the flexible mode.
     pub vp9_flexible: bool,
 }
 
-/// The codec of that number.
+/// Returns the codec with this number.
 pub fn codec_of(number: u32) -> Codec
     ensures { result ≡ codec_numbered number }
 {
@@ -57,7 +57,7 @@ pub fn codec_of(number: u32) -> Codec
     }
 }
 
-/// The mode of VP9.
+/// Returns the mode of VP9.
 fn mode_of(flexible: bool) -> Vp9PacketizerMode
     ensures { result ≡ mode_set flexible }
 {
@@ -68,7 +68,7 @@ fn mode_of(flexible: bool) -> Vp9PacketizerMode
     }
 }
 
-/// The packetizer of the codec with these settings, if there is one.
+/// Returns the packetizer of the codec with these settings, if there is one.
 pub fn packetizer_of(spec: &Spec) -> Option<CodecPacketizer>
     ensures { option_map packetizer_state_of result ≡ packetizer_set spec.now }
 {
@@ -90,7 +90,7 @@ pub fn packetizer_of(spec: &Spec) -> Option<CodecPacketizer>
     Some(packetizer)
 }
 
-/// A packetizer as this one is, and none of one that a caller brings. It takes no memory.
+/// Returns a copy of a packetizer, or `None` for a custom one. It does not allocate.
 pub fn packetizer_as(packetizer: &CodecPacketizer) -> Option<CodecPacketizer>
     ensures same { IfSome result (λ p. (packetizer_state_of p ≡ packetizer_state_of packetizer.now) × (is_built_in (packetizer_state_of packetizer.now) ≡ true)) }
     ensures built_in { IsNone result → is_built_in (packetizer_state_of packetizer.now) ≡ false }
@@ -114,7 +114,7 @@ pub fn packetizer_as(packetizer: &CodecPacketizer) -> Option<CodecPacketizer>
     })
 }
 
-/// The depacketizer of the codec with these settings, if there is one.
+/// Returns the depacketizer of the codec with these settings, if there is one.
 pub fn depacketizer_of(alloc: Global, spec: &Spec) -> Option<CodecDepacketizer>
     ensures { option_map depacketizer_state_of result ≡ depacketizer_set spec.now }
 {

@@ -1,4 +1,4 @@
-//! What is known of a unit, as C has it.
+//! The description of a unit, for C.
 
 ghost use Rattle.std.specs.Prelude.{◌<◌, length};
 ghost use Rattle.codec_payload_core.specs.Release.{IsFirst, IsLast};
@@ -8,7 +8,7 @@ use crate::extension_values::{ExtensionValues, values_between};
 use crate::extra::{Extra, extra_of};
 use codec_payload_core::buffer::{Depacketized, RtpMeta};
 
-/// What is known of a unit.
+/// A unit, without its bytes.
 #[repr(C)]
 #[derive(Drop)]
 pub struct Unit {
@@ -16,25 +16,25 @@ pub struct Unit {
     pub first: u64,
     /// The number of its last packet.
     pub last: u64,
-    /// In ticks of the RTP clock, as it was pushed.
+    /// The RTP time in ticks of the RTP clock, as it was pushed.
     pub rtp_time: u64,
-    /// When the first of its packets was received, by the caller's clock.
+    /// When the first of its packets arrived, by the caller's clock.
     pub received: u64,
-    /// How many bytes it has.
+    /// The number of its bytes.
     pub bytes: usize,
-    /// Whether it follows the unit before it.
+    /// Whether it directly follows the previous unit.
     pub contiguous: bool,
-    /// Whether its first packet has the marker, which audio sets where a talk spurt starts.
+    /// Whether its first packet has the marker, which audio sets at the start of a talk spurt.
     pub starts_talk_spurt: bool,
-    /// Whether a decoder can show it, as a receiver says. A buffer says true.
+    /// Whether a decoder can show it, by the answer of a receiver. Always true from a buffer.
     pub decodable: bool,
-    /// Whether it is a keyframe, as a receiver says. A buffer says false.
+    /// Whether it is a keyframe, by the answer of a receiver. Always false from a buffer.
     pub keyframe: bool,
-    /// What its payloads told besides.
+    /// The codec-specific data of its payloads.
     pub extra: Extra,
 }
 
-/// The first of packets.
+/// Returns the first of the packets.
 fn first_of(metas: &[RtpMeta]) -> &RtpMeta
     requires { 0 < length metas.now }
     ensures { IsFirst metas.now result.now }
@@ -42,7 +42,7 @@ fn first_of(metas: &[RtpMeta]) -> &RtpMeta
     &metas[0]
 }
 
-/// The last of packets.
+/// Returns the last of the packets.
 fn last_of(metas: &[RtpMeta]) -> &RtpMeta
     requires { 0 < length metas.now }
     ensures { IsLast metas.now result.now }
@@ -50,8 +50,8 @@ fn last_of(metas: &[RtpMeta]) -> &RtpMeta
     &metas[metas.len() - 1]
 }
 
-/// The values of header extensions that go with a unit, as C has them: those of its last packet, with the capture time and the
-/// layers allocation of its first packet where that has them.
+/// Returns the values of header extensions of a unit for C: the values of its last packet, with the capture time and layers
+/// allocation of its first packet, if that has them.
 pub fn values_in(unit: &Depacketized) -> ExtensionValues
     ensures { TellsValues unit.now.metas result }
 {
@@ -61,7 +61,7 @@ pub fn values_in(unit: &Depacketized) -> ExtensionValues
     values_between(&first.header.ext_vals, &last.header.ext_vals)
 }
 
-/// What is known of a unit, as C has it.
+/// Describes a unit for C.
 pub fn unit_of(unit: &Depacketized) -> Unit
     ensures { TellsUnit unit.now result }
 {

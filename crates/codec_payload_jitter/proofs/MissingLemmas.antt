@@ -1,4 +1,4 @@
--- The numbers that are missing, one after another.
+-- The missing numbers, one after another.
 use Rattle.std.proofs.Common.{◌≡◌, refl, ℕ, ◌+◌, ◌-◌, ◌<◌, ◌≤◌, [], ◌∷◌, Bool, true, false, suc, cond, arith}
 use Rattle.codec_payload_jitter.specs.Missing.{is_absent, numbers_between, absent_between}
 use Rattle.codec_payload_jitter.specs.Receiving.{Receiving}

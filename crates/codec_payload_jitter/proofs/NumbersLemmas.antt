@@ -7,7 +7,7 @@ use Rattle.std.proofs.lemmas.Bool.{lt-ltb, le-ltb, le-leb, lt-leb, leb-true, cas
 use Rattle.codec_payload_jitter.specs.Numbers.{Numbering, ahead, behind, fitting, answer_near, answer_for, number_in, number_for, numbers_for, StayNear, low_bits, AreTrueNumbers, answer_by}
 use Rattle.codec_payload_jitter.specs.Numbers.{NeverMixAnew, AreTrueBegun, begun_with, answer_anew, answer_above, numbering_with, greater, is_restarting, follows_suspect, StartsAnew, AllGivenAbove, NeverMix, FitAnew, moved_by, AreTrueAnew, GoOn, NoneRestarts}
 
--- a true number at or above the greatest
+-- a true number at or above the highest one
 ahead_is : (x g t q : ℕ) → x + 65536 * q ≡ g + 65536 → g ≤ t → t < g + 65536 → ahead x (t % 65536) ≡ t - g
 ahead_is x g t q is from to = omega arith
 
@@ -18,11 +18,11 @@ behind_is x g t q is below near = omega arith
 ahead_far : (x g t q : ℕ) → x + 65536 * q ≡ g + 65536 → t < g → g < t + 65536 → ahead x (t % 65536) ≡ 65536 + t - g
 ahead_far x g t q is below near = omega arith
 
--- what is given within the window ahead
+-- the answer within the forward window
 ahead_given : (s : Numbering) (x n v : ℕ) → ahead x n < s.forward → x + ahead x n ≡ v → v < 2 ^ 64 → answer_near s x n ≡ extended.Number v
 ahead_given s x n v within is fits = rw (lt-ltb (ahead x n) s.forward within, is, lt-ltb v (2 ^ 64) fits) refl
 
--- and within the window behind
+-- and the answer within the backward window
 behind_given : (s : Numbering) (x n v : ℕ) → s.forward ≤ ahead x n → behind x n ≤ s.backward → x - behind x n ≡ v → answer_near s x n ≡ extended.Number v
 behind_given s x n v far within is = rw (le-ltb (ahead x n) s.forward far, le-leb (behind x n) s.backward within, is) refl
 
@@ -40,7 +40,7 @@ near_is s x g t q apart order is below up down fits = elim (cases_lt t g) [
       behind_given s x (t % 65536) (t + 65536 - 65536 * q) (omega (arith, there)) (omega (arith, back)) (omega (arith, back))
 ]
 
--- the windows, with the greatest number so far
+-- the windows, with the highest number so far
 abbrev pub at_greatest : ℕ → ℕ → ℕ → Numbering
 at_greatest forward backward x = record { greatest = Some x; suspect = None; forward = forward; backward = backward }
 
@@ -95,11 +95,11 @@ anew_is : (s : Numbering) (g n : ℕ) → StartsAnew s g n → answer_for s n �
 anew_is s g n starts =
     rw (starts.greatest, le-ltb (ahead g n) s.forward starts.ahead, lt-leb (behind g n) s.backward starts.behind, starts.follows, lt-ltb (is_restarting g n) (2 ^ 64) starts.fits) refl
 
--- far above all before it
+-- far above all earlier numbers
 anew_above : (g n k : ℕ) → k ≤ ahead g n → n < 65536 → g + k ≤ is_restarting g n
 anew_above g n k far low = omega arith
 
--- what is given is above what lies the window below the greatest
+-- a given number is above all numbers that are more than the window below the highest one
 given_by : (s : Numbering) (h n v g : ℕ) (a b f : Bool) → nat_lt (ahead h n) s.forward ≡ a → nat_le (behind h n) s.backward ≡ b → follows_suspect s.suspect n ≡ f
     → g + s.forward ≤ h → 0 < s.forward → s.backward < s.forward → number_in (answer_near s h n) ≡ Some v → g < v
 given_by s h n v g true b f is_near is_back is_next below some order is = let v_is : h + ahead h n ≡ v = near_as (h + ahead h n) v (rw is_near at is) in omega (arith, v_is, below, some)
@@ -195,7 +195,7 @@ are_true_anew s g first ts kept starts fits near =
     (numbers_by ts (record s { greatest = Some (greater s.greatest up); suspect = None }) up first up first
     (ap (λ (o : Option ℕ). Some (greater o up)) starts.greatest ∙ ap (λ (k : ℕ). Some k) top) kept.apart kept.order same (omega arith) (omega arith) (omega arith) fits.1 near))
 
--- The same of a sender that is known to have restarted
+-- The same for an announced restart
 
 anew_given : (s : Numbering) (g n : ℕ) → s.greatest ≡ Some g → is_restarting g n < 2 ^ 64 → answer_anew s n ≡ extended.Restarted (is_restarting g n)
 anew_given s g n greatest fits = rw (greatest, lt-ltb (is_restarting g n) (2 ^ 64) fits) refl

@@ -1,4 +1,4 @@
--- While little room is left, a pop that gives nothing leaves no complete frame; and while more is left, few packets evict none.
+-- While little room is left, a pop that answers None leaves no complete frame. While more room is left, few packets evict none.
 use Rattle.std.proofs.Common.{◌≡◌, ◌∙◌, refl, ap, sym, subst, ℕ, ◌+◌, ◌-◌, ◌<◌, ◌≤◌, List, [], ◌∷◌, Bool, true, false, ◌||◌}
 use Rattle.std.proofs.Common.{Option, Some, None, Result, Ok, Err, inl, inr, length, arith, cond, ltb}
 use Rattle.std.specs.Prelude.{nat_lt}
@@ -35,7 +35,7 @@ kept_one : (kept : Option Arrival) → kept_count kept ≤ 1
 kept_one None = omega arith
 kept_one (Some a) = omega arith
 
--- limit and room stay; held and kept packets are at most so many more; and with places for all of these, none is evicted
+-- limit and room stay; at most `most` more packets are held and kept; if all of them have places, none is evicted
 pub record Stores (most : ℕ) (r t : Receiving) : Type 0 where
   pub limit : t.buffer.limit ≡ r.buffer.limit
   pub room : t.room ≡ r.room
@@ -70,7 +70,7 @@ both m n r s t one two =
       evicted = λ fits. two.evicted (omega (arith, fits, few, limit)) ∙ one.evicted (omega (arith, fits));
     }
 
--- what leaves buffer, room and evictions as they are, and keeps no more
+-- buffer, room and evictions stay as they are, and no more packets are kept
 pub record IsLike (s t : Receiving) : Type 0 where
   pub buffer : t.buffer ≡ s.buffer
   pub room : t.room ≡ s.room
@@ -89,7 +89,7 @@ like most r s t same stores =
       evicted = λ fits. same.evicted ∙ stores.evicted fits;
     }
 
--- what one record of the other makes
+-- from one record to the other
 as_it_is : (r t : Receiving) → t.buffer ≡ r.buffer → t.room ≡ r.room → kept_count t.kept ≤ kept_count r.kept → t.counters.evicted ≡ r.counters.evicted → Stores 0 r t
 as_it_is r t buffer room kept evicted = like 0 r r t (record { buffer = buffer; room = room; kept = kept; evicted = evicted }) (nothing r)
 
@@ -148,7 +148,7 @@ accepts a n r t o accepted =
           ∙ evicts_none s n r.counters (is_at_most s.cutoff n) (has_number n s.held) (nat_lt (length s.held) s.limit) refl refl refl (omega (arith, fits));
     })
 
--- the suspect packet goes in, which was kept
+-- the suspect packet is stored
 goes_in_again : (a : Arrival) (n : ℕ) (r : Receiving) (went_in : Bool) (t : Receiving) → r.kept ≡ Some a → GoesInAgain a n (restarted r) went_in t → Stores 0 r t
 goes_in_again a n r false t kept same = moved 0 r (restarted r) t same (as_it_is r (restarted r) refl refl (omega arith) refl)
 goes_in_again a n r true t kept goes =
@@ -196,7 +196,7 @@ in_again c o = by_test (is_stored o)
     by_test true = refl
     by_test false = refl
 
--- what a step makes of a state that is given by its fields
+-- a step on a state that is given by its fields
 like_by : (r s t : Receiving) (x : Receiving) → t ≡ x → x.buffer ≡ s.buffer → x.room ≡ s.room → x.kept ≡ s.kept → x.counters.evicted ≡ s.counters.evicted → Stores 1 r s → Stores 1 r t
 like_by r s t x is buffer room kept evicted stores =
     let same : kept_count x.kept ≡ kept_count s.kept = ap kept_count kept in
@@ -260,7 +260,7 @@ pops_limit : (s t : State) (answer : Answer) → Pops s answer t → t.limit ≡
 pops_limit s t None pops = passes_limit pops.1.0
 pops_limit s t (Some answer) pops = takes_limit pops.1.0 t answer pops.1.2 ∙ passes_limit pops.1.1
 
--- what a pop leaves: limit, room, and no more packets
+-- after a pop: the same limit and room, and no more packets
 pub record Leaves (r t : Receiving) : Type 0 where
   pub limit : t.buffer.limit ≡ r.buffer.limit
   pub room : t.room ≡ r.room
@@ -306,13 +306,13 @@ or_last true b c is = refl
 or_last false true c is = refl
 or_last false false c is = is
 
--- with little room nothing is waited for
+-- with little room pops wait for nothing
 pub crowded_presses : (r : Receiving) (now : ℕ) → has_little_room r ≡ true → is_pressed (settled r) now ≡ true
 crowded_presses r now crowded =
     let in_place = passes_in_place r.buffer r.no_media_numbers in
     or_last r.ended _ (has_little_room (settled r)) (ap (λ (x : State). nat_lt (x.limit - length x.held) r.room) in_place.0 ∙ crowded)
 
--- nor does a pop then wait
+-- so a pop does not wait
 pub crowded_waits : (r : Receiving) (now : ℕ) → has_little_room r ≡ true → waiting_at (settled r) now ≡ None → ⊥
 crowded_waits r now crowded nothing_is = let waits = rw (crowded_presses r now crowded) at nothing_is in cc
 
@@ -320,7 +320,7 @@ pub none_left : (fs : List CompleteFrame) → length fs ≤ 0 → fs ≡ []
 none_left [] few = refl
 none_left (f ∷ fs) few = absurd (omega (arith, few))
 
--- so a pop that gives nothing leaves no complete frame then
+-- so a pop that answers None leaves no complete frame
 last_leaves : (wait : Option ℕ) (r t : Receiving) (now : ℕ) → waiting_at (settled r) now ≡ wait → PopsWith wait (settled r) None t → has_little_room r ≡ true → frames t.buffer.held ≡ []
 last_leaves None r t now is pops crowded = let waits = rw (crowded_presses r now crowded) at is in cc
 last_leaves (Some h) r t now is pops crowded =
@@ -377,6 +377,6 @@ taken_from None s from t same taken = tt
 taken_from (Some (Ok r)) s from t same taken = omega (arith, same, taken)
 taken_from (Some (Err fault)) s from t same taken = λ other. let less : length t.held < length s.held = taken other in omega (arith, same, less)
 
--- what is settled holds as many packets
+-- a settled buffer holds the same number of packets
 pub settled_holds : (r : Receiving) → length (settled r).buffer.held ≡ length r.buffer.held
 settled_holds r = ap (λ (x : State). length x.held) (passes_in_place r.buffer r.no_media_numbers).0

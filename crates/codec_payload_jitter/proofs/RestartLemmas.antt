@@ -1,4 +1,4 @@
--- What is noted of a sender that gives each number one RTP time contradicts none of its packets, so no restart is told.
+-- The noted times of a sender that gives each number one RTP time contradict none of its packets, so no restart is reported.
 use Rattle.std.proofs.Common.{◌≡◌, ◌∙◌, refl, ap, sym, subst, ℕ, List, [], ◌∷◌, Bool, true, false, not, ◌||◌, ◌&&◌, Option, Some, None, inl, inr, cond, eqb, length}
 use Rattle.std.specs.Prelude.{slice_index_or}
 use Rattle.std.proofs.Math.ListN.{get_or-eq_default}
@@ -24,7 +24,7 @@ use Rattle.codec_payload_jitter.specs.declared.outcome.PacketCounters.{PacketCou
 abbrev pub IsTimeOf : (ℕ → ℕ) → NotedTime → Type 0
 IsTimeOf time_of x = x.time ≡ time_of x.number
 
--- in each place stands the sender's time of a number, as the packet has it
+-- each place holds a number with the time that the sender gave it
 there_is : (time_of : ℕ → ℕ) (noted : List NotedTime) (place : ℕ) (x : NotedTime) → IsTimeOf time_of x → AreTimesOf time_of noted → IsTimeOf time_of (slice_index_or noted place x)
 there_is time_of noted place x mine times = elim (cases_lt place (length noted)) [
   | inl within ↦ All-get_or (IsTimeOf time_of) noted place x within times
@@ -55,7 +55,7 @@ still_times time_of backward noted x mine times = by_test (is_noted backward x.n
 
 -- Answers
 
--- a number within the windows is that of the packet, whether the stream has ended or not
+-- a number within the windows is the packet's number, also after the end of the stream
 pub answer_in_is : (r : Receiving) (low n : ℕ) → r.is_restarting ≡ false → answer_for r.numbering low ≡ extended.Number n → answer_in r low ≡ extended.Number n
 answer_in_is r low n running is = rw running (by_ended r.ended)
   where
@@ -67,7 +67,7 @@ and_false : (a b : Bool) → b ≡ false → (a && b) ≡ false
 and_false true b is = is
 and_false false b is = refl
 
--- and so of a packet with its RTP time
+-- the same for a packet with its RTP time
 pub answer_to_is : (time_of : ℕ → ℕ) (r : Receiving) (header : RtpHeader) (n : ℕ) → r.is_restarting ≡ false → AreTimesOf time_of r.noted
     → answer_for r.numbering header.sequence_number ≡ extended.Number n → header.timestamp ≡ time_of n → answer_to r header ≡ extended.Number n
 answer_to_is time_of r header n running times within time =
@@ -97,13 +97,13 @@ again_restarts c o = by_test (is_stored o)
     by_test true = refl
     by_test false = refl
 
--- no restart is told, by a packet or by the caller, and what is noted are the sender's times
+-- no restart is reported or announced, and the noted times are the sender's
 pub record GoesOnAs (time_of : ℕ → ℕ) (r t : Receiving) : Type 0 where
   pub restarts : t.counters.restarts ≡ r.counters.restarts
   pub running : t.is_restarting ≡ false
   pub times : AreTimesOf time_of t.noted
 
--- what leaves these as they are
+-- a step that leaves these as they are
 same_as : (time_of : ℕ → ℕ) (r t : Receiving) → t.counters.restarts ≡ r.counters.restarts → t.is_restarting ≡ false → t.noted ≡ r.noted → AreTimesOf time_of r.noted → GoesOnAs time_of r t
 same_as time_of r t restarts running noted times = record { restarts = restarts; running = running; times = subst (AreTimesOf time_of) (sym noted) times }
 

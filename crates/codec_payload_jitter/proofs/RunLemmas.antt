@@ -30,7 +30,7 @@ pushed_depacketizer s p = by_tests (is_dropped s (number_of p)) (ltb s.limit (le
     by_tests false true = lowest_depacketizer (record s { held = placed p s.held }) (placed p s.held)
     by_tests false false = refl
 
--- the buffer takes the packet in under its number, if it has one
+-- the buffer stores the packet under its number, if it has one
 abbrev pub TakesAt : ℕ → Arrival → Option ℕ → State → State → Type 0
 TakesAt rate a None s t = t ≡ s
 TakesAt rate a (Some n) s t = TakesIn rate a n s t
@@ -39,12 +39,12 @@ takes_depacketizer : (rate : ℕ) (a : Arrival) (number : Option ℕ) (s t : Sta
 takes_depacketizer rate a None s t takes = ap (λ (x : State). x.depacketizer) takes
 takes_depacketizer rate a (Some n) s t takes = ap (λ (x : State). x.depacketizer) takes.2 ∙ pushed_depacketizer s takes.0
 
--- what is noted then
+-- the noted times after a packet
 abbrev pub noted_at : Receiving → Arrival → Option ℕ → List NotedTime
 noted_at r a None = r.noted
 noted_at r a (Some n) = noted_with r.numbering.backward r.noted (record { number = n; time = a.header.timestamp })
 
--- what a push does, where no restart is told
+-- the effect of a push, if no restart is reported
 pub record IsOne (number : Option ℕ) (a : Arrival) (r t : Receiving) : Type 0 where
   pub takes : TakesAt r.rate a number r.buffer t.buffer
   pub rate : t.rate ≡ r.rate
@@ -80,7 +80,7 @@ unless_restart (extended.Restarted n) on = cc
 unless_restart extended.Suspect on = refl
 unless_restart extended.Spent on = refl
 
--- where no restart is told, by the numbering or by the caller, the answer is that of the numbering
+-- if the numbering reports no restart and the caller announces none, the answer is the numbering's
 answer_is : (r : Receiving) (low : ℕ) → r.is_restarting ≡ false → is_restart (answer_for r.numbering low) ≡ false → answer_in r low ≡ answer_for r.numbering low
 answer_is r low running on = rw running (by_ended r.ended)
   where
@@ -93,7 +93,7 @@ abbrev pub HasTime : (ℕ → ℕ) → Arrival → Option ℕ → Type 0
 HasTime time_of a None = Unit {0}
 HasTime time_of a (Some n) = a.header.timestamp ≡ time_of n
 
--- so the answer is that of the numbering
+-- so the answer is the numbering's
 answer_of : (time_of : ℕ → ℕ) (r : Receiving) (a : Arrival) (answer : Extended) → r.is_restarting ≡ false → answer_for r.numbering a.header.sequence_number ≡ answer → is_restart answer ≡ false
     → AreTimesOf time_of r.noted → HasTime time_of a (number_in answer) → answer_to r a.header ≡ answer
 answer_of time_of r a (extended.Number n) running is on times time = answer_to_is time_of r a.header n running times is time
@@ -103,7 +103,7 @@ answer_of time_of r a extended.Suspect running is on times time =
 answer_of time_of r a extended.Spent running is on times time =
     ap (answer_by_time r a.header) (answer_is r a.header.sequence_number running (ap is_restart is) ∙ is)
 
--- what is noted are the sender's times still
+-- the noted times are still the sender's
 still_at : (time_of : ℕ → ℕ) (r : Receiving) (a : Arrival) (number : Option ℕ) → HasTime time_of a number → AreTimesOf time_of r.noted → AreTimesOf time_of (noted_at r a number)
 still_at time_of r a None time times = times
 still_at time_of r a (Some n) time times = still_times time_of r.numbering.backward r.noted (record { number = n; time = a.header.timestamp }) time times
@@ -137,7 +137,7 @@ one_of time_of a r t outcome running on times time receives =
       times = subst (AreTimesOf time_of) (sym noted) (still_at time_of r a number time times);
     }
 
--- the first of these packets, and those after it
+-- the first packet, and the packets after it
 first_time : (time_of : ℕ → ℕ) (a : Arrival) (arrivals : List Arrival) (number : Option ℕ) (numbers : List (Option ℕ)) → HaveTimes time_of (a ∷ arrivals) (number ∷ numbers)
     → HasTime time_of a number × HaveTimes time_of arrivals numbers
 first_time time_of a arrivals None numbers have = (tt, have)
@@ -178,7 +178,7 @@ are_true_stretches time_of forward backward first ts arrivals r t outcomes runni
 
 -- Rounds
 
--- pushes of a sender that does not restart leave all but numbering, buffer, the packet that is kept and counters
+-- pushes by a sender that does not restart change only the numbering, the buffer, the suspect packet and the counters
 pub record Stay (time_of : ℕ → ℕ) (lows : List ℕ) (r t : Receiving) : Type 0 where
   pub times : AreTimesOf time_of t.noted
   pub no_media_numbers : t.no_media_numbers ≡ r.no_media_numbers
@@ -214,7 +214,7 @@ settled_none : (r : Receiving) → r.no_media_numbers ≡ [] → settled r ≡ r
 settled_none r none =
     ap (λ (ns : List ℕ). record r { buffer = passed_no_media r.buffer ns; no_media_numbers = no_media_left r.buffer ns }) none ∙ ap (λ (ns : List ℕ). record r { no_media_numbers = ns }) (sym none)
 
--- what a pop leaves as it was, and what it does to the buffer
+-- which parts a pop leaves unchanged, and what it does to the buffer
 pub record IsTurn (wait : Option ℕ) (r : Receiving) (answer : Answer) (t : Receiving) : Type 0 where
   pub turn : TurnWith wait r.buffer answer t.buffer
   pub no_media_numbers : t.no_media_numbers ≡ r.no_media_numbers

@@ -1,4 +1,4 @@
--- Sequence numbers of 16 bits, extended to numbers that go on where they start anew.
+-- Sequence numbers of 16 bits, extended to 64-bit numbers that continue upwards after a restart.
 use Rattle.std.specs.Prelude.{◌≡◌, ℕ, ◌+◌, ◌-◌, ◌*◌, ◌/◌, ◌%◌, ◌^◌, ◌<◌, ◌≤◌, ◌==◌, ◌&&◌, nat_lt, nat_le, max, min}
 use Rattle.std.specs.Prelude.{if◌then◌else◌, Bool, true, false, List, [], ◌∷◌, map, Option, Some, None, Result, Ok, Err, refl}
 use Rattle.codec_payload_jitter.specs.declared.numbers.Extended.{Extended}
@@ -6,19 +6,19 @@ use Rattle.codec_payload_jitter.specs.declared.numbers.Extended.TheVariants as e
 use Rattle.codec_payload_jitter.specs.declared.numbers.WindowError.{WindowError}
 use Rattle.codec_payload_jitter.specs.declared.numbers.WindowError.TheVariants as errors
 
--- what is known of a stream's numbers: the greatest that was given; the latest packet that got none, where no restart came
--- since; and the windows: a packet may be less than `forward` ahead of the greatest, and at most `backward` behind it
+-- the state of a numbering: the highest number so far; the low bits of the latest suspect packet, if no restart came since; the
+-- windows. A packet may be less than `forward` ahead of the highest number, and at most `backward` behind it
 pub record Numbering : Type 0 where
   pub greatest : Option ℕ
   pub suspect : Option ℕ
   pub forward : ℕ
   pub backward : ℕ
 
--- no packet came yet
+-- no packet arrived yet
 abbrev pub no_numbers : ℕ → ℕ → Numbering
 no_numbers forward backward = record { greatest = None; suspect = None; forward = forward; backward = backward }
 
--- with these windows, where they are in range
+-- a numbering with these windows, if they are in range
 abbrev pub numbering_within : ℕ → ℕ → Result Numbering WindowError
 numbering_within forward backward =
     if nat_lt 0 forward && nat_le forward 32768 then (if nat_lt backward forward then Ok (no_numbers forward backward) else Err errors.Backward) else Err errors.Forward
@@ -28,36 +28,36 @@ abbrev pub IsFar : Option ℕ → Type 0
 IsFar None = Unit {0}
 IsFar (Some g) = 65536 ≤ g
 
--- what every numbering keeps: the windows do not meet, and numbers are far from 0
+-- an invariant of every numbering: the windows do not meet, and numbers are far from 0
 pub record IsNumbering (s : Numbering) : Type 0 where
   pub some : 0 < s.forward
   pub apart : s.forward + s.backward ≤ 65536
   pub order : s.backward < s.forward
   pub far : IsFar s.greatest
 
--- how far the next number with the low bits n is ahead of g, and the latest behind it
+-- how far the next number with the low bits n is ahead of g, and how far the previous one is behind g
 abbrev pub ahead : ℕ → ℕ → ℕ
 ahead g n = (n + 65536 - g % 65536) % 65536
 
 abbrev pub behind : ℕ → ℕ → ℕ
 behind g n = (g + 65536 - n) % 65536
 
--- n comes right after the one that is suspect
+-- n comes right after the suspect number
 abbrev pub follows_suspect : Option ℕ → ℕ → Bool
 follows_suspect None n = false
 follows_suspect (Some m) n = (m + 1) % 65536 == n
 
--- an answer with that number, where 64 bits hold it
+-- an answer with this number, if 64 bits hold it
 abbrev pub fitting : (ℕ → Extended) → ℕ → Extended
 fitting kind x = if nat_lt x (2 ^ 64) then kind x else extended.Spent
 
--- where the sender has restarted: above all numbers so far, at the multiple of 65536 after the next, so that the numbers of packets
--- that were sent before this one are above them too
+-- the number after a restart: n above the second multiple of 65536 above g. Packets that the sender sent before this one also
+-- get numbers above g
 abbrev pub is_restarting : ℕ → ℕ → ℕ
 is_restarting g n = (g / 65536 + 2) * 65536 + n
 
--- what a packet gets, where g is the greatest number so far: the nearest with these low bits, where that is within the
--- windows; else it is suspect, unless it comes right after one that is
+-- the answer for a packet, if g is the highest number so far: the nearest number with the low bits n, if it is within the
+-- windows. Otherwise the packet is suspect, unless it comes right after a suspect packet
 abbrev pub answer_near : Numbering → ℕ → ℕ → Extended
 answer_near s g n =
     if nat_lt (ahead g n) s.forward then fitting extended.Number (g + ahead g n)
@@ -68,11 +68,11 @@ abbrev pub answer_by : Numbering → Option ℕ → ℕ → Extended
 answer_by s None n = extended.Number (65536 + n)
 answer_by s (Some g) n = answer_near s g n
 
--- what the next packet gets
+-- the answer for the next packet
 abbrev pub answer_for : Numbering → ℕ → Extended
 answer_for s n = answer_by s s.greatest n
 
--- what the first packet of a sender that is known to have restarted gets: above all numbers so far
+-- the answer for the first packet after an announced restart: above all numbers so far
 abbrev pub answer_above : Option ℕ → ℕ → Extended
 answer_above None n = extended.Number (65536 + n)
 answer_above (Some g) n = fitting extended.Restarted (is_restarting g n)
@@ -80,7 +80,7 @@ answer_above (Some g) n = fitting extended.Restarted (is_restarting g n)
 abbrev pub answer_anew : Numbering → ℕ → Extended
 answer_anew s n = answer_above s.greatest n
 
--- where no restart is looked for, what would be one is suspect
+-- while no restart is detected, such a packet is suspect
 abbrev pub without_restart : Extended → Extended
 without_restart (extended.Number x) = extended.Number x
 without_restart (extended.Restarted x) = extended.Suspect
@@ -94,7 +94,7 @@ number_within (extended.Restarted x) = None
 number_within extended.Suspect = None
 number_within extended.Spent = None
 
--- the least number so far; a restart begins anew
+-- the lowest number since the latest restart
 abbrev pub lesser : Option ℕ → ℕ → ℕ
 lesser None x = x
 lesser (Some l) x = min l x
@@ -119,7 +119,7 @@ abbrev pub greater : Option ℕ → ℕ → ℕ
 greater None x = x
 greater (Some g) x = max g x
 
--- what is known then: a packet within the windows leaves the one that is suspect
+-- the numbering after this answer: a packet within the windows leaves the suspect number alone
 abbrev pub numbering_with : Numbering → Extended → ℕ → Numbering
 numbering_with s (extended.Number x) n = record s { greatest = Some (greater s.greatest x) }
 numbering_with s (extended.Restarted x) n = record s { greatest = Some (greater s.greatest x); suspect = None }
@@ -143,12 +143,12 @@ is_restart (extended.Restarted x) = true
 is_restart extended.Suspect = false
 is_restart extended.Spent = false
 
--- of none of these packets a restart is told
+-- none of these packets is reported as a restart
 abbrev pub GoOn : Numbering → List ℕ → Type 0
 GoOn s [] = Unit {0}
 GoOn s (n ∷ ns) = (is_restart (answer_for s n) ≡ false) × GoOn (numbering_after s n) ns
 
--- each true number is within the windows of the greatest true number before it, and 64 bits hold what it becomes
+-- each true number is within the windows of the highest true number before it, and 64 bits hold its extended number
 abbrev pub StayNear : ℕ → ℕ → ℕ → List ℕ → Type 0
 StayNear forward backward g [] = Unit {0}
 StayNear forward backward g (t ∷ ts) = (t < g + forward) × (g ≤ t + backward) × (t + 65536 < 2 ^ 64) × StayNear forward backward (max g t) ts
@@ -157,24 +157,23 @@ StayNear forward backward g (t ∷ ts) = (t < g + forward) × (g ≤ t + backwar
 abbrev pub low_bits : ℕ → ℕ
 low_bits t = t % 65536
 
--- a true number without the rounds before the first one, and with one round more
+-- a true number minus the rounds before the first one, plus one round
 abbrev pub moved : ℕ → ℕ → Option ℕ
 moved first t = Some (t + 65536 - 65536 * (first / 65536))
 
--- of a sender that does not restart, whatever is lost, repeated or comes in another order, each packet gets its true
--- number plus one constant
+-- if a sender does not restart, each packet gets its true number plus one constant, with any loss, repetition and order
 abbrev pub AreTrueNumbers : Type 0
 AreTrueNumbers =
     (forward backward : ℕ) → IsNumbering (no_numbers forward backward) → (first : ℕ) (ts : List ℕ) → first + 65536 < 2 ^ 64 → StayNear forward backward first ts
     → numbers_for (no_numbers forward backward) (map low_bits (first ∷ ts)) ≡ map (moved first) (first ∷ ts)
 
--- and no restart is told
+-- no restart is reported
 abbrev pub NoneRestarts : Type 0
 NoneRestarts =
     (forward backward : ℕ) → IsNumbering (no_numbers forward backward) → (first : ℕ) (ts : List ℕ) → first + 65536 < 2 ^ 64 → StayNear forward backward first ts
     → GoOn (no_numbers forward backward) (map low_bits (first ∷ ts))
 
--- the second packet comes from before the first
+-- the second packet was sent before the first
 pub before-first : numbers_for (no_numbers 3000 1000) (0 ∷ 65535 ∷ 1 ∷ []) ≡ Some 65536 ∷ Some 65535 ∷ Some 65537 ∷ []
 before-first = refl
 
@@ -182,7 +181,7 @@ before-first = refl
 pub starts-is_restarting : numbers_for (no_numbers 3000 1000) (50000 ∷ 30000 ∷ 30001 ∷ 30002 ∷ []) ≡ Some 115536 ∷ None ∷ Some 226609 ∷ Some 226610 ∷ []
 starts-is_restarting = refl
 
--- also while packets of the former sender still come
+-- the sender restarts while packets from before the restart still arrive
 pub beside-former : numbers_for (no_numbers 3000 1000) (50000 ∷ 30000 ∷ 50001 ∷ 30001 ∷ []) ≡ Some 115536 ∷ None ∷ Some 115537 ∷ Some 226609 ∷ []
 beside-former = refl
 
@@ -190,23 +189,23 @@ beside-former = refl
 pub from-elsewhere : numbers_for (no_numbers 3000 1000) (50000 ∷ 30000 ∷ 50001 ∷ 50002 ∷ []) ≡ Some 115536 ∷ None ∷ Some 115537 ∷ Some 115538 ∷ []
 from-elsewhere = refl
 
--- the suspicion lasts until another suspect comes
+-- the latest suspect packet counts
 pub another-suspect : numbers_for (no_numbers 3000 1000) (50000 ∷ 30000 ∷ 10000 ∷ 30001 ∷ 30002 ∷ []) ≡ Some 115536 ∷ None ∷ None ∷ None ∷ Some 226610 ∷ []
 another-suspect = refl
 
--- at the borders of the windows
+-- at the limits of the windows
 pub at-borders : numbers_for (no_numbers 3000 1000) (50000 ∷ 52999 ∷ 55999 ∷ 51999 ∷ 51998 ∷ []) ≡ Some 115536 ∷ Some 118535 ∷ None ∷ Some 117535 ∷ None ∷ []
 at-borders = refl
 
 -- Senders that restart
 
--- every number that is given is above g
+-- every given number is above g
 abbrev pub AllGivenAbove : ℕ → List (Option ℕ) → Type 0
 AllGivenAbove g [] = Unit {0}
 AllGivenAbove g (None ∷ numbers) = AllGivenAbove g numbers
 AllGivenAbove g (Some x ∷ numbers) = (g < x) × AllGivenAbove g numbers
 
--- the packet of number n is not within the windows of g, and comes right after one that is suspect
+-- the packet with the number n is outside the windows of g, and comes right after a suspect packet
 pub record StartsAnew (s : Numbering) (g n : ℕ) : Type 0 where
   pub greatest : s.greatest ≡ Some g
   pub ahead : s.forward ≤ ahead g n
@@ -215,7 +214,7 @@ pub record StartsAnew (s : Numbering) (g n : ℕ) : Type 0 where
   pub low : n < 65536
   pub fits : is_restarting g n < 2 ^ 64
 
--- where the sender has restarted, each number that is given from then on is above each that was given before
+-- after a restart every given number is above every number from before it
 abbrev pub NeverMix : Type 0
 NeverMix = (s : Numbering) (g n : ℕ) (ns : List ℕ) → IsNumbering s → StartsAnew s g n → AllGivenAbove g (numbers_for s (n ∷ ns))
 
@@ -224,7 +223,7 @@ abbrev pub FitAnew : ℕ → ℕ → List ℕ → Type 0
 FitAnew up first [] = Unit {0}
 FitAnew up first (t ∷ ts) = (t + up < 2 ^ 64 + first) × FitAnew up first ts
 
--- and they are the true numbers of the restarted sender, moved by one constant
+-- the numbers are the true numbers of the restarted sender, moved by one constant
 abbrev pub moved_by : ℕ → ℕ → ℕ → Option ℕ
 moved_by up first t = Some (t + up - first)
 
@@ -233,25 +232,25 @@ AreTrueAnew =
     (s : Numbering) (g first : ℕ) (ts : List ℕ) → IsNumbering s → StartsAnew s g (first % 65536) → FitAnew (is_restarting g (first % 65536)) first (first ∷ ts) → StayNear s.forward s.backward first ts
     → numbers_for s (map low_bits (first ∷ ts)) ≡ map (moved_by (is_restarting g (first % 65536)) first) (first ∷ ts)
 
--- The same of a sender that is known to have restarted
+-- The same for an announced restart
 
--- what is known once its first packet, with the low bits n, has come
+-- the numbering after the first packet, with the low bits n
 abbrev pub begun_with : Numbering → ℕ → Numbering
 begun_with s n = numbering_with s (answer_anew s n) n
 
--- each number that is given from then on is above each that was given before
+-- every given number is above every number from before the restart
 abbrev pub NeverMixAnew : Type 0
 NeverMixAnew =
     (s : Numbering) (g n : ℕ) (ns : List ℕ) → IsNumbering s → s.greatest ≡ Some g → n < 65536 → is_restarting g n < 2 ^ 64
     → (number_in (answer_anew s n) ≡ Some (is_restarting g n)) × (g < is_restarting g n) × AllGivenAbove g (numbers_for (begun_with s n) ns)
 
--- and they are the true ones, moved by one constant
+-- the numbers are the true ones, moved by one constant
 abbrev pub AreTrueBegun : Type 0
 AreTrueBegun =
     (s : Numbering) (g first : ℕ) (ts : List ℕ) → IsNumbering s → s.greatest ≡ Some g → is_restarting g (first % 65536) < 2 ^ 64
     → FitAnew (is_restarting g (first % 65536)) first ts → StayNear s.forward s.backward first ts
     → numbers_for (begun_with s (first % 65536)) (map low_bits ts) ≡ map (moved_by (is_restarting g (first % 65536)) first) ts
 
--- the second packet of the new sender is from before its first: above all of the former one
+-- the second packet of the new sender was sent before its first one: it is above all numbers from before the restart
 pub before-first-anew : numbers_for (begun_with (record { greatest = Some 65500; suspect = None; forward = 3000; backward = 1000 }) 5) (65490 ∷ 6 ∷ []) ≡ Some 131026 ∷ Some 131078 ∷ []
 before-first-anew = refl

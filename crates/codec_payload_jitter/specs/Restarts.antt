@@ -7,26 +7,26 @@ use Rattle.codec_payload_jitter.specs.Receiving.{Receiving, Arrival, PopsWith, s
 use Rattle.codec_payload_jitter.specs.Runs.{Answer}
 use Rattle.codec_payload_jitter.specs.declared.numbers.Extended.TheVariants as extended
 
--- the packet comes within the windows of the greatest number before it, and has the one RTP time of its number
+-- the packet is within the windows of the highest number before it, and has the one RTP time of its number
 pub record IsOfSender (time_of : ℕ → ℕ) (s : Numbering) (a : Arrival) : Type 0 where
   pub number : ℕ
   pub within : answer_for s a.header.sequence_number ≡ extended.Number number
   pub time : a.header.timestamp ≡ time_of number
 
--- the same of each event. A retransmission may come from outside of the windows, and of a packet that another one carried
--- nothing is asked: its RTP time is a guess
+-- the same for each event. A retransmission may also be outside the windows. A recovered packet may have any RTP time, which is
+-- a guess
 abbrev pub IsHonest : (ℕ → ℕ) → Numbering → Event → Type 0
 IsHonest time_of s (Packet a) = IsOfSender time_of s a
 IsHonest time_of s (Retransmitted a) = (n : ℕ) → number_within (answer_for s a.header.sequence_number) ≡ Some n → a.header.timestamp ≡ time_of n
 IsHonest time_of s (Recovered a) = Unit {0}
 IsHonest time_of s (WithoutMedia low) = (n : ℕ) × (answer_for s low ≡ extended.Number n)
 
--- what happens to a jitter buffer: something comes, or a pop at a moment
+-- what happens to a jitter buffer: an event, or a pop at a moment
 pub data Step : Type 0 where
   Arrives : Event → Step
   PopsAt : ℕ → Step
 
--- the steps, one after another, of a sender that gives each number one RTP time, and whose packets come within the windows
+-- the steps, one after another, for a sender that gives each number one RTP time, and whose packets are within the windows
 abbrev pub HearsOneSender : (ℕ → ℕ) → List Step → Receiving → Receiving → Type 0
 HearsOneSender time_of [] r t = t ≡ r
 HearsOneSender time_of (Arrives event ∷ steps) r t =
@@ -34,8 +34,8 @@ HearsOneSender time_of (Arrives event ∷ steps) r t =
 HearsOneSender time_of (PopsAt now ∷ steps) r t =
     (answer : Answer) × (mid : Receiving) × PopsWith (waiting_at (settled r) now) (settled r) answer mid × HearsOneSender time_of steps mid t
 
--- such a sender is never reported as restarted, whatever is lost, repeated, delayed, retransmitted or reordered: what is noted is
--- the sender's RTP time of that number
+-- such a sender is never reported as restarted, with any loss, repetition, delay, retransmission or reordering: each noted time
+-- is the sender's RTP time of its number
 abbrev pub NeverRestarts : Type 0
 NeverRestarts =
     (time_of : ℕ → ℕ) (steps : List Step) (r t : Receiving) → r.is_restarting ≡ false → AreTimesOf time_of r.noted → HearsOneSender time_of steps r t

@@ -11,17 +11,17 @@ use Rattle.codec_payload_jitter.specs.Numbers.{Numbering, numbering_after, IsNum
 use Rattle.codec_payload_jitter.specs.Receiving.{Receiving, Arrival, Receives, meta_for, settled, waiting_at, PopsWith}
 use Rattle.codec_payload_jitter.specs.declared.outcome.Outcome.{Outcome}
 
--- pushes, one after another, with what they tell
+-- pushes, one after another, with their outcomes
 abbrev pub ReceivesAll : List Arrival → Receiving → List Outcome → Receiving → Type 0
 ReceivesAll [] r outcomes t = (outcomes ≡ []) × (t ≡ r)
 ReceivesAll (a ∷ arrivals) r outcomes t =
     (outcome : Outcome) × (later : List Outcome) × (mid : Receiving) × (outcomes ≡ outcome ∷ later) × Receives a r outcome mid × ReceivesAll arrivals mid later t
 
--- the low bits that they carry
+-- the low bits of their packets
 abbrev pub low_numbers : List Arrival → List ℕ
 low_numbers arrivals = map (λ (a : Arrival). a.header.sequence_number) arrivals
 
--- the packets that come to the buffer, under these numbers; one without a number does not
+-- the packets that the buffer gets, under these numbers; a packet without a number does not reach it
 abbrev pub ArriveAs : DepacketizerState → ℕ → List Arrival → List (Option ℕ) → List Held → Type 0
 ArriveAs depacketizer rate [] numbers ps = ps ≡ []
 ArriveAs depacketizer rate (a ∷ arrivals) [] ps = ⊥
@@ -29,15 +29,15 @@ ArriveAs depacketizer rate (a ∷ arrivals) (None ∷ numbers) ps = ArriveAs dep
 ArriveAs depacketizer rate (a ∷ arrivals) (Some n ∷ numbers) ps =
     (p : Held) × (rest : List Held) × (ps ≡ p ∷ rest) × IsArrived depacketizer (meta_for a.now rate a.header n) a.bytes p × ArriveAs depacketizer rate arrivals numbers rest
 
--- packets of these numbers have the RTP times that are told; one without a number is not looked at
+-- each packet with a number has the RTP time of its number; a packet without a number is ignored
 abbrev pub HaveTimes : (ℕ → ℕ) → List Arrival → List (Option ℕ) → Type 0
 HaveTimes time_of [] numbers = Unit {0}
 HaveTimes time_of (a ∷ arrivals) [] = ⊥
 HaveTimes time_of (a ∷ arrivals) (None ∷ numbers) = HaveTimes time_of arrivals numbers
 HaveTimes time_of (a ∷ arrivals) (Some n ∷ numbers) = (a.header.timestamp ≡ time_of n) × HaveTimes time_of arrivals numbers
 
--- pushes into a jitter buffer that was told of no restart, of a sender that does not restart and gives each number one RTP time,
--- are pushes into its buffer, under the numbers of the numbering
+-- pushes into a jitter buffer are pushes into its buffer, under the numbers of the numbering. The caller announced no restart,
+-- the sender does not restart, and each number has one RTP time
 abbrev pub AreStretches : Type 0
 AreStretches =
     (time_of : ℕ → ℕ) (arrivals : List Arrival) (r t : Receiving) (outcomes : List Outcome) → r.is_restarting ≡ false → GoOn r.numbering (low_numbers arrivals)
@@ -45,7 +45,7 @@ AreStretches =
     → ReceivesAll arrivals r outcomes t
     → (ps : List Held) × ArriveAs r.buffer.depacketizer r.rate arrivals (numbers_for r.numbering (low_numbers arrivals)) ps × (t.buffer ≡ after_pushes r.buffer ps)
 
--- and where its numbers stay near each other, under its true numbers, moved by one constant
+-- if its true numbers stay near each other, the numbers are the true ones, moved by one constant
 abbrev pub AreTrueStretches : Type 0
 AreTrueStretches =
     (time_of : ℕ → ℕ) (forward backward first : ℕ) (ts : List ℕ) (arrivals : List Arrival) (r t : Receiving) (outcomes : List Outcome)
@@ -60,7 +60,7 @@ pub record Round : Type 0 where
   pub arrivals : List Arrival
   pub pop_at : ℕ
 
--- what a pop answers
+-- the answer of a pop
 abbrev pub Answer : Type 0
 Answer = Option (Result Release PacketError)
 
@@ -81,17 +81,17 @@ abbrev pub numbers_by_round : Numbering → List Round → List (List (Option �
 numbers_by_round s [] = []
 numbers_by_round s (round ∷ rounds) = numbers_for s (low_numbers round.arrivals) ∷ numbers_by_round (numbering_past s (low_numbers round.arrivals)) rounds
 
--- and no restart is told in any of them
+-- no restart is reported in any of them
 abbrev pub GoOnByRound : Numbering → List Round → Type 0
 GoOnByRound s [] = Unit {0}
 GoOnByRound s (round ∷ rounds) = GoOn s (low_numbers round.arrivals) × GoOnByRound (numbering_past s (low_numbers round.arrivals)) rounds
 
--- a pop with that `hold_back`, or none is made
+-- a pop with this `hold_back`, or no pop
 abbrev pub TurnWith : Option ℕ → State → Answer → State → Type 0
 TurnWith None s answer t = (answer ≡ None) × (t ≡ s)
 TurnWith (Some hold_back) s answer t = Pops (record s { hold_back = hold_back }) answer t
 
--- the buffer does them: in each round a stretch of pushes under these numbers, and a pop
+-- the buffer does the rounds: in each round pushes under these numbers, and a pop
 abbrev pub IsChain : ℕ → List Round → List (List (Option ℕ)) → State → List Answer → State → Type 0
 IsChain rate [] numbers s answers t = (answers ≡ []) × (t ≡ s)
 IsChain rate (round ∷ rounds) [] s answers t = ⊥
@@ -99,13 +99,14 @@ IsChain rate (round ∷ rounds) (numbers ∷ more) s answers t =
     (ps : List Held) × (wait : Option ℕ) × (answer : Answer) × (after : State) × (later : List Answer) × (answers ≡ answer ∷ later)
     × ArriveAs s.depacketizer rate round.arrivals numbers ps × TurnWith wait (after_pushes s ps) answer after × IsChain rate rounds more after later t
 
--- and each number has one RTP time in all of them
+-- each number has one RTP time in all rounds
 abbrev pub HaveTimesByRound : (ℕ → ℕ) → Numbering → List Round → Type 0
 HaveTimesByRound time_of s [] = Unit {0}
 HaveTimesByRound time_of s (round ∷ rounds) =
     HaveTimes time_of round.arrivals (numbers_for s (low_numbers round.arrivals)) × HaveTimesByRound time_of (numbering_past s (low_numbers round.arrivals)) rounds
 
--- the rounds of a jitter buffer, of such a sender and without numbers that carry no media, are turns of its buffer, each pop with a `hold_back` of its own
+-- the rounds of a jitter buffer are turns of its buffer, each pop with its `hold_back`. The sender is as above, and no number
+-- is without media
 abbrev pub AreChains : Type 0
 AreChains =
     (time_of : ℕ → ℕ) (rounds : List Round) (r t : Receiving) (answers : List Answer) → r.is_restarting ≡ false → r.no_media_numbers ≡ [] → GoOnByRound r.numbering rounds

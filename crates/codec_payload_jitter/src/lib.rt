@@ -1,5 +1,5 @@
-//! Packets of one sender on their way into a buffer: sequence numbers of 16 bits are extended, and what is missing is waited
-//! for by a clock. A user names `codec_payload_stream`, which re-exports it.
+//! Sequence numbers and a jitter buffer for the packets of one sender: 16-bit sequence numbers are extended, and frames wait
+//! for missing packets by time and by count. Users depend on `codec_payload_stream`, which re-exports this crate.
 #![tactic(auto)]
 
 pub mod jitter;

@@ -1,4 +1,4 @@
-//! The numbers that are missing in a jitter buffer.
+//! The missing numbers of a jitter buffer.
 
 ghost use Rattle.std.specs.Prelude.{◌≡◌, ◌∷◌, ◌+◌, ◌<◌, ◌≤◌, [], IfSome, MatchOption};
 ghost use Rattle.codec_payload_jitter.specs.Missing.{absent_between, missing_numbers};
@@ -7,16 +7,16 @@ use crate::jitter::JitterBuffer;
 use codec_payload_codec::codec::{Depacketizer, NoBox};
 use std::marker::Model;
 
-/// The numbers that are missing, in rising order. No step takes memory; one looks at each number that is held between this
-/// answer and the one before. See [`JitterBuffer::missing`].
+/// An iterator over the missing numbers, in rising order. No step allocates. A step inspects each number that is held between
+/// the previous answer and this one. See [`JitterBuffer::missing`].
 #[derive(Debug, Drop)]
 pub struct MissingNumbers<'a, B = NoBox> {
     packets: &'a JitterBuffer<B>,
-    /// The least number that was not looked at.
+    /// The lowest number that was not inspected so far.
     next: u64,
-    /// The greatest number that came.
+    /// The highest extended number so far.
     end: u64,
-    /// How many are told at most.
+    /// The largest number of answers that are left.
     left: usize,
 }
 
@@ -30,7 +30,7 @@ impl<'a, B> Model for MissingNumbers<'a, B> {
 }
 
 impl<'a, B: Depacketizer> MissingNumbers<'a, B> {
-    /// What is missing there, at most so many.
+    /// Returns the missing numbers of this jitter buffer, at most `most` of them.
     pub(crate) fn of(packets: &'a JitterBuffer<B>, most: usize) -> Self
         ensures { result ≡ missing_numbers packets.now most }
     {
@@ -47,7 +47,7 @@ impl<'a, B: Depacketizer> MissingNumbers<'a, B> {
     }
 }
 
-/// The first number from `from` on and below `to` that is missing.
+/// Returns the first missing number from `from` up to `to`, exclusive.
 #[tactic(auto, using(crate::proofs::MissingLemmas::absent_here, crate::proofs::MissingLemmas::absent_later, crate::proofs::MissingLemmas::absent_none))]
 fn first_absent<B: Depacketizer>(packets: &JitterBuffer<B>, from: u64, to: u64) -> Option<u64>
     ensures first { MatchOption result (absent_between packets.now from to ≡ []) (λ n. absent_between packets.now from to ≡ n ∷ absent_between packets.now (n + 1) to) }

@@ -1,4 +1,4 @@
-//! Numbers that carry no media: packets of padding alone, and telephone events beside audio.
+//! Numbers that carry no media: packets with padding only, and telephone events beside audio.
 
 ghost use Rattle.std.specs.Prelude.{◌≡◌, OnOk, OnErr};
 ghost use Rattle.std.specs.Option.{option_map};
@@ -12,10 +12,10 @@ use codec_payload_buffer::buffer::DepacketizingBuffer;
 use codec_payload_codec::codec::Depacketizer;
 use std::alloc::AllocError;
 
-/// How many are remembered at most.
+/// The largest number of numbers that are remembered.
 const MOST: usize = 1_024;
 
-/// Remembers a number, in its place, and forgets the lowest where there are too many.
+/// Remembers a number in its place, and forgets the lowest number if there are too many.
 pub(crate) fn note_no_media(no_media_numbers: &mut Vec<u64>, number: u64) -> Result<(), AllocError>
     ensures ok { OnOk result (no_media_numbers.new.items ≡ noted_no_media number no_media_numbers.old.items) }
     ensures err { OnErr result (no_media_numbers.new.items ≡ no_media_numbers.old.items) }
@@ -25,7 +25,7 @@ pub(crate) fn note_no_media(no_media_numbers: &mut Vec<u64>, number: u64) -> Res
     Ok(())
 }
 
-/// The lowest goes where there are too many.
+/// Forgets the lowest number if there are too many.
 fn keep_few(no_media_numbers: &mut Vec<u64>)
     ensures { no_media_numbers.new.items ≡ kept_few no_media_numbers.old.items }
 {
@@ -34,7 +34,7 @@ fn keep_few(no_media_numbers: &mut Vec<u64>)
     }
 }
 
-/// Puts a number in its place, if it is not there.
+/// Inserts a number in its place, if it is not present.
 fn put_in(no_media_numbers: &mut Vec<u64>, number: u64) -> Result<(), AllocError>
     ensures ok { OnOk result (no_media_numbers.new.items ≡ no_media_in number no_media_numbers.old.items) }
     ensures err { OnErr result (no_media_numbers.new.items ≡ no_media_numbers.old.items) }
@@ -49,7 +49,7 @@ fn put_in(no_media_numbers: &mut Vec<u64>, number: u64) -> Result<(), AllocError
     }
 }
 
-/// How many of them are below the number.
+/// Returns how many of the remembered numbers are below `number`.
 fn place_in(no_media_numbers: &[u64], number: u64) -> usize
     ensures { result ≡ below number no_media_numbers.now }
 {
@@ -61,7 +61,7 @@ fn place_in(no_media_numbers: &[u64], number: u64) -> usize
     no_media_numbers.len()
 }
 
-/// Whether the number is remembered.
+/// Returns whether the number is remembered.
 pub(crate) fn is_noted(no_media_numbers: &[u64], number: u64) -> bool
     ensures { result ≡ is_in number no_media_numbers.now }
 {
@@ -73,7 +73,7 @@ pub(crate) fn is_noted(no_media_numbers: &[u64], number: u64) -> bool
     false
 }
 
-/// The buffer's cutoff goes on over the numbers that come right after it, and these are forgotten.
+/// Moves the cutoff of the buffer past the numbers without media that come right after it, and forgets these numbers.
 pub(crate) fn pass_no_media_numbers<B: Depacketizer>(
     buffer: &mut DepacketizingBuffer<B>,
     no_media_numbers: &mut Vec<u64>,
@@ -91,7 +91,7 @@ pub(crate) fn pass_no_media_numbers<B: Depacketizer>(
     }
 }
 
-/// Whether the number is at or below the cutoff, or right after it and not held.
+/// Returns whether the number is at or below the cutoff, or right after it and not held.
 fn is_done<B: Depacketizer>(buffer: &DepacketizingBuffer<B>, number: SeqNo) -> bool
     ensures { result ≡ is_done buffer.now number.0 }
 {
@@ -99,7 +99,7 @@ fn is_done<B: Depacketizer>(buffer: &DepacketizingBuffer<B>, number: SeqNo) -> b
     is_late(cutoff, number) || is_next(cutoff, number) && !buffer.holds(number)
 }
 
-/// Whether the number is at or below the cutoff.
+/// Returns whether the number is at or below the cutoff.
 pub(crate) fn is_late(cutoff: Option<SeqNo>, number: SeqNo) -> bool
     ensures { result ≡ is_at_most (option_map (λ c. c.0) cutoff) number.0 }
 {
@@ -109,7 +109,7 @@ pub(crate) fn is_late(cutoff: Option<SeqNo>, number: SeqNo) -> bool
     }
 }
 
-/// Whether it is the one right after the cutoff.
+/// Returns whether the number comes right after the cutoff.
 fn is_next(cutoff: Option<SeqNo>, number: SeqNo) -> bool
     ensures { result ≡ is_right_after (option_map (λ c. c.0) cutoff) number.0 }
 {

@@ -1,4 +1,4 @@
-//! The RTP times of the latest numbers. A number that comes with another time tells that the sender has restarted.
+//! The RTP times of the latest numbers. If a number arrives again with another time, the sender has restarted.
 
 ghost use Rattle.std.specs.Prelude.{◌≡◌, IfOk, []};
 ghost use Rattle.codec_payload_jitter.specs.NotedTimes.{contradicts, first_places, is_noted, is_soon_after, noted_with, place_of, places_for, spacing_of};
@@ -7,7 +7,7 @@ use codec_payload_base::wire::{Frequency, RtpHeader};
 use std::alloc::{AllocError, Global};
 use std::marker::Model;
 
-/// The backward window of audio: up to this one, every fourth number is noted.
+/// The largest backward window for which every fourth number is noted.
 const NARROW: u16 = 1_000;
 
 /// A number, and the RTP time of its packet.
@@ -17,8 +17,8 @@ pub struct NotedTime {
     pub time: u32,
 }
 
-/// The RTP times of every fourth number within a backward window of up to 1,000 numbers, and of every eighth within a wider one,
-/// up to 5,120 numbers. Takes memory with the first number that is noted: 4 kB, or 10 kB for a wider window.
+/// The RTP times of the latest numbers: of every fourth number, for the last 1,024 numbers; with a backward window above 1,000,
+/// of every eighth number, for the last 5,120. It allocates 4 kB, or 10 kB for a wider window, when the first number is noted.
 #[derive(Debug, Drop)]
 pub(crate) struct NotedTimes {
     places: Vec<NotedTime>,
@@ -34,7 +34,7 @@ impl Model for NotedTimes {
 }
 
 impl NotedTimes {
-    /// Nothing is noted so far.
+    /// Creates an empty list.
     pub(crate) fn new(alloc: Global) -> Self
         ensures { result ≡ [] }
     {
@@ -43,7 +43,7 @@ impl NotedTimes {
         }
     }
 
-    /// Whether the number is noted with another time.
+    /// Returns whether the number is noted with another time.
     pub(crate) fn contradicts(&self, backward: u16, packet: NotedTime) -> bool
         ensures { result ≡ contradicts backward self.now packet }
     {
@@ -55,7 +55,7 @@ impl NotedTimes {
         noted.number == packet.number && noted.time != packet.time
     }
 
-    /// Finds memory for all places, where this packet is the first that is noted.
+    /// Allocates all places if this packet is the first whose time is noted; otherwise returns an empty list.
     pub(crate) fn first_places(
         &self,
         backward: u16,
@@ -71,7 +71,8 @@ impl NotedTimes {
         Ok(places)
     }
 
-    /// Notes the time of a packet, if its number is one of those that are noted. The places were found before.
+    /// Notes the time of a packet, if its number is a multiple of the spacing. `places` comes from
+    /// [`NotedTimes::first_places`].
     pub(crate) fn note(&mut self, places: Vec<NotedTime>, backward: u16, packet: NotedTime)
         requires { places.items ≡ first_places backward self.old packet }
         ensures { self.new ≡ noted_with backward self.old packet }
@@ -90,35 +91,35 @@ impl NotedTimes {
     }
 }
 
-/// Every which number is noted.
+/// Returns the distance between two noted numbers.
 fn spacing_of(backward: u16) -> u64
     ensures { result ≡ spacing_of backward }
 {
     if backward <= NARROW { 4 } else { 8 }
 }
 
-/// How many numbers are noted.
+/// Returns how many times are noted.
 fn places_for(backward: u16) -> usize
     ensures { result ≡ places_for backward }
 {
     if backward <= NARROW { 256 } else { 640 }
 }
 
-/// Whether the number is one of those that are noted.
+/// Returns whether the time of this number is noted.
 fn is_noted(backward: u16, number: u64) -> bool
     ensures { result ≡ is_noted backward number }
 {
     number % spacing_of(backward) == 0
 }
 
-/// The place of a number.
+/// Returns the place of a number.
 fn place_of(backward: u16, number: u64) -> usize
     ensures { result ≡ place_of backward number }
 {
     (number / spacing_of(backward) % places_for(backward) as u64) as usize
 }
 
-/// Whether a packet comes 1 to 16 numbers after an earlier one, and up to 2 seconds of RTP time.
+/// Returns whether `later` comes 1 to 16 numbers after `earlier`, and at most 2 seconds of RTP time after it.
 pub(crate) fn is_soon_after(clock_rate: Frequency, earlier: &RtpHeader, later: &RtpHeader) -> bool
     ensures { result ≡ is_soon_after clock_rate earlier.now later.now }
 {

@@ -1,4 +1,4 @@
-//! Sequence numbers of 16 bits, extended to numbers of 64 bits that do not wrap.
+//! 16-bit sequence numbers, extended to 64-bit numbers that do not wrap.
 
 ghost use Rattle.std.specs.Prelude.{◌≡◌, ◌≤◌, ◌<◌, ◌+◌, ◌%◌, None, Some, IfSome};
 ghost use Rattle.codec_payload_jitter.specs.Numbers.{no_numbers, numbering_within, number_in, answer_for, answer_anew, without_restart, number_within, lowest_with, numbering_with, numbering_after, ahead, behind, follows_suspect, greater};
@@ -9,28 +9,29 @@ pub use crate::theorems::numbers_are_true;
 use std::marker::Model;
 use thiserror::Error;
 
-/// How far ahead of the greatest number a packet may be: MAX_DROPOUT of RFC 3550, appendix A.1.
+/// How far ahead of the highest number a packet may be, exclusive: MAX_DROPOUT of RFC 3550, appendix A.1.
 const FORWARD: u16 = 3_000;
 
-/// How far behind it. MAX_MISORDER of RFC 3550, appendix A.1, is 100; packets that are sent again come later than that.
+/// How far behind the highest number a packet may be, inclusive. MAX_MISORDER of RFC 3550, appendix A.1, is 100;
+/// retransmissions arrive later than that.
 const BACKWARD: u16 = 1_000;
 
-/// What the sequence number of a packet came to.
+/// The extended number of a packet, or the reason why it has none.
 #[derive(Clone, Copy, Debug, PartialEq, Eq)]
 pub enum Extended {
-    /// It is the first packet, or within the windows: this is its number.
+    /// The packet is the first, or its number is within the windows; this is its extended number.
     Number(u64),
-    /// The sender has restarted: the packet comes right after one that was suspect, and this is its number, above all others.
+    /// The sender has restarted: the packet follows a suspect packet. This is its extended number, above all earlier numbers.
     Restarted(u64),
-    /// It is far from the greatest number, and gets none. If the next packet that gets none is its successor, the sender has
+    /// The packet is outside the windows, and gets no number. If the next suspect packet is its successor, the sender has
     /// restarted.
     Suspect,
-    /// Its number would need more than 64 bits. Nothing has changed.
+    /// The extended number would need more than 64 bits. Nothing has changed.
     Spent,
 }
 
 impl Extended {
-    /// The number, if the packet got one.
+    /// Returns the extended number, if the packet got one.
     pub fn number(self) -> Option<u64>
         ensures { result ≡ number_in self }
     {
@@ -41,30 +42,33 @@ impl Extended {
     }
 }
 
-/// Which of the two windows is out of range.
+/// The window that is out of range.
 #[derive(Clone, Copy, Debug, PartialEq, Eq, Error)]
 pub enum WindowError {
-    /// That ahead is 0, or above 32,768.
+    /// The forward window is 0, or above 32,768.
     #[error("forward window must be 1 to 32768")]
     Forward,
-    /// That behind is not less than that ahead.
+    /// The backward window is not less than the forward window.
     #[error("backward window must be less than the forward window")]
     Backward,
 }
 
-/// Extends the sequence numbers of one sender's packets. Takes no memory.
+/// Extends the sequence numbers of one sender's packets. Allocates nothing.
 ///
-/// Let d be the distance from the greatest number so far to the number with the packet's low bits that is nearest to it. Where
-/// `-backward <= d < forward`, that is the packet's number; the first packet gets 65,536 and its low bits, so that those sent
-/// before it have numbers too. All others are suspect, until two come one after the other: then the sender has restarted. Its
-/// numbers continue at the multiple of 65,536 after the next, above all that were given; so do those of its packets that were
-/// sent earlier and arrive later. Packets within the windows between the two change nothing (RFC 3550, appendix
-/// A.1).
+/// Let d be the distance from the highest number so far to the nearest number with the packet's low bits:
+///
+/// - If `-backward <= d < forward`, the packet gets the number at that distance.
+/// - The first packet gets 65,536 plus its low bits, so that packets sent before it have numbers too.
+/// - All other packets are suspect. If a packet follows the latest suspect packet, the sender has restarted.
+///
+/// After a restart the numbers continue at the second multiple of 65,536 above the highest number, above all earlier numbers.
+/// This also applies to packets that the sender sent before the first one that arrives. Packets within the windows that arrive
+/// between the two suspect packets change nothing (RFC 3550, appendix A.1).
 #[derive(Clone, Copy, Debug)]
 pub struct SequenceNumbers {
-    /// The greatest number that was given.
+    /// The highest extended number so far.
     greatest: Option<u64>,
-    /// The latest packet that got no number, if no restart came since.
+    /// The low bits of the latest suspect packet, if no restart came since.
     suspect: Option<u16>,
     forward: u16,
     backward: u16,
@@ -88,7 +92,7 @@ impl Model for SequenceNumbers {
 }
 
 impl SequenceNumbers {
-    /// With windows of 3,000 numbers ahead and 1,000 behind.
+    /// Creates a numbering with windows of 3,000 numbers ahead and 1,000 behind.
     pub fn new() -> Self
         ensures { result ≡ no_numbers 3000 1000 }
     {
@@ -100,8 +104,13 @@ impl SequenceNumbers {
         }
     }
 
-    /// With windows of one's own. `forward` is 1 to 32,768, and `backward` less than `forward`, so that the numbers after a
-    /// restart never reach those before it.
+    /// Creates a numbering with your own windows. `forward` is exclusive, `backward` inclusive. `backward` must be less than
+    /// `forward`, so that numbers after a restart never reach numbers before it.
+    ///
+    /// # Errors
+    ///
+    /// - `WindowError::Forward`: `forward` is outside 1 to 32,768.
+    /// - `WindowError::Backward`: `backward` is not less than `forward`.
     pub fn with_windows(forward: u16, backward: u16) -> Result<Self, WindowError>
         ensures { result ≡ numbering_within forward backward }
     {
@@ -119,7 +128,7 @@ impl SequenceNumbers {
         })
     }
 
-    /// The number of the next packet, which carries `low`.
+    /// Extends the sequence number `low` of the next packet.
     pub fn number(&mut self, low: u16) -> Extended
         ensures value { result ≡ answer_for self.old low }
         ensures after { self.new ≡ numbering_after self.old low }
@@ -130,8 +139,8 @@ impl SequenceNumbers {
         answer
     }
 
-    /// The number of a packet that is known to be the first since the sender has restarted, whatever low bits it carries: it is
-    /// above all others, by more than the window behind it.
+    /// Extends the sequence number of the first packet after a restart that the caller knows of. Its number is above all
+    /// earlier numbers, by more than the backward window.
     pub fn restart_number(&mut self, low: u16) -> Extended
         ensures value { result ≡ answer_anew self.old low }
         ensures after { self.new ≡ numbering_with self.old result low }
@@ -143,7 +152,7 @@ impl SequenceNumbers {
         answer
     }
 
-    /// Goes on with what the number of a packet came to.
+    /// Records the answer for a packet with the low bits `low`.
     pub(crate) fn take(&mut self, answer: Extended, low: u16)
         requires far { IfSome (number_in answer) (λ x. self.old.greatest ≡ None → 65536 ≤ x) }
         ensures { self.new ≡ numbering_with self.old answer low }
@@ -159,7 +168,7 @@ impl SequenceNumbers {
         }
     }
 
-    /// A number was given.
+    /// Raises the highest number to `number`, if it is lower.
     fn raise_to(&mut self, number: u64)
         requires far { self.old.greatest ≡ None → 65536 ≤ number }
         ensures { self.new ≡ record self.old { greatest = Some (greater self.old.greatest number) } }
@@ -170,21 +179,21 @@ impl SequenceNumbers {
         });
     }
 
-    /// How far behind the greatest number a packet may be.
+    /// Returns how far behind the highest number a packet may be.
     pub(crate) fn backward(&self) -> u16
         ensures { result ≡ self.now.backward }
     {
         self.backward
     }
 
-    /// The greatest number that was given.
+    /// Returns the highest extended number so far.
     pub fn greatest(&self) -> Option<u64>
         ensures { result ≡ self.now.greatest }
     {
         self.greatest
     }
 
-    /// What the first packet since a restart gets.
+    /// Returns the answer for the first packet after a restart.
     pub(crate) fn answer_anew(&self, low: u16) -> Extended
         ensures value { result ≡ answer_anew self.now low }
         ensures far { IfSome (number_in result) (λ x. self.now.greatest ≡ None → 65536 ≤ x) }
@@ -201,7 +210,7 @@ impl SequenceNumbers {
         }
     }
 
-    /// What the next packet gets.
+    /// Returns the answer for the next packet.
     pub(crate) fn answer_for(&self, low: u16) -> Extended
         ensures value { result ≡ answer_for self.now low }
         ensures far { IfSome (number_in result) (λ x. self.now.greatest ≡ None → 65536 ≤ x) }
@@ -228,7 +237,7 @@ impl SequenceNumbers {
     }
 }
 
-/// Where no restart is looked for, what would be one is suspect.
+/// Turns a restart into a suspect packet, while no restart is detected.
 pub(crate) fn without_restart(answer: Extended) -> Extended
     ensures { result ≡ without_restart answer }
 {
@@ -238,7 +247,7 @@ pub(crate) fn without_restart(answer: Extended) -> Extended
     }
 }
 
-/// The number, if it is within the windows.
+/// Returns the number, if it is within the windows.
 pub(crate) fn number_within(answer: Extended) -> Option<u64>
     ensures { result ≡ number_within answer }
 {
@@ -248,7 +257,7 @@ pub(crate) fn number_within(answer: Extended) -> Option<u64>
     }
 }
 
-/// The least number so far, since the latest restart.
+/// Returns the lowest number since the latest restart, with this packet.
 pub(crate) fn lowest_with(lowest: Option<u64>, answer: Extended) -> Option<u64>
     ensures { result ≡ lowest_with lowest answer }
 {
@@ -262,7 +271,7 @@ pub(crate) fn lowest_with(lowest: Option<u64>, answer: Extended) -> Option<u64>
     }
 }
 
-/// Whether `low` comes right after the number that is suspect.
+/// Returns whether `low` comes right after the suspect number.
 fn follows(suspect: Option<u16>, low: u16) -> bool
     ensures { result ≡ follows_suspect suspect low }
 {
@@ -272,7 +281,8 @@ fn follows(suspect: Option<u16>, low: u16) -> bool
     }
 }
 
-/// The number of a packet that carries `low` and came before the one of that number: the greatest below it.
+/// Returns the extended number of the suspect packet with the low bits `low`: the highest such number below `number`, at which
+/// the sender restarted.
 pub(crate) fn kept_number(number: u64, low: u16) -> u64
     ensures { result ≡ kept_number number low }
 {

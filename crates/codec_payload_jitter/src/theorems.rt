@@ -1,4 +1,5 @@
-//! What holds of numbers, of numbers without media and of a jitter buffer. These functions exist for what they prove, and do nothing.
+//! Theorems about numbers, numbers without media and jitter buffers. These functions exist for what they prove; they do
+//! nothing.
 
 ghost use Rattle.codec_payload_jitter.specs.Numbers.{AreTrueNumbers, NoneRestarts, NeverMix, AreTrueAnew, NeverMixAnew, AreTrueBegun};
 ghost use Rattle.codec_payload_jitter.specs.NoMediaNumbers.{PassesNoMediaAlone, PassesInPlace};
@@ -6,10 +7,10 @@ ghost use Rattle.codec_payload_jitter.specs.Pressure.{SparesCompleteFrames};
 ghost use Rattle.codec_payload_jitter.specs.Restarts.{NeverRestarts};
 ghost use Rattle.codec_payload_jitter.specs.Runs.{AreChains, AreStretches, AreTrueStretches};
 
-/// Where the true numbers of a sender's packets each lie within the windows of the greatest true number so far, the numbers
-/// that they get are the true ones plus one constant, and no restart is reported. Once the sender has restarted, so are those from
-/// then on, by another constant, and each of them is above all earlier ones. The same applies to a restart that the caller
-/// announces, also to packets that were sent before the first one that arrives.
+/// Proves that extended numbers are true numbers. If each true number lies within the windows of the highest one so far, each
+/// packet gets its true number plus one constant, and no restart is reported. After a restart the same applies with another
+/// constant, and each number is above all earlier ones. The theorem covers announced restarts, and packets that were sent
+/// before the first one that arrives.
 pub fn numbers_are_true()
     ensures numbers { AreTrueNumbers }
     ensures goes_on { NoneRestarts }
@@ -19,29 +20,29 @@ pub fn numbers_are_true()
     ensures announced { AreTrueBegun }
 {}
 
-/// The cutoff goes over numbers without media alone, and nothing else changes.
+/// Proves that the cutoff skips only numbers without media, and that nothing else changes.
 pub fn passes_no_media_alone()
     ensures alone { PassesNoMediaAlone }
     ensures in_place { PassesInPlace }
 {}
 
-/// A sender that gives each number one RTP time, and whose packets come within the windows, is never reported as restarted,
-/// whatever is lost, repeated, delayed, retransmitted or reordered.
+/// Proves that some senders are never reported as restarted, with any loss, repetition, delay, retransmission or reordering:
+/// senders that give each number one RTP time, and whose packets come within the windows.
 pub fn senders_never_restart()
     ensures { NeverRestarts }
 {}
 
-/// Pushes into a jitter buffer, of a sender that does not restart and gives each number one RTP time, are pushes into its buffer, under the numbers that are
-/// extended; and where the true numbers each lie within the windows of the greatest true number so far, under the true ones
-/// plus one constant. So what is proved of pushes into a buffer holds of those into a jitter buffer.
+/// Proves that pushes into a jitter buffer are pushes into its buffer, under extended numbers. The sender does not restart, and
+/// gives each number one RTP time. If each true number lies within the windows of the highest true number so far, the extended
+/// numbers are the true ones plus one constant. So all that is proved of pushes into a buffer applies to a jitter buffer.
 pub fn receives_are_pushes()
     ensures stretches { AreStretches }
     ensures true_numbers { AreTrueStretches }
     ensures rounds { AreChains }
 {}
 
-/// In a run that pops until `None` after each push, an eviction finds no frame that was complete before that push. The same
-/// applies to several pushes between two pops, if they are fewer than the places that are kept free.
+/// Proves that in a run that pops until `None` after each push, an eviction finds no frame that was complete before that push.
+/// The same applies to several pushes between two pops, if they are fewer than the places that are kept free.
 pub fn spares_complete_frames()
     ensures { SparesCompleteFrames }
 {}

@@ -1,4 +1,4 @@
-//! How long a jitter buffer waits for packets that are missing.
+//! How long a jitter buffer waits for missing packets.
 
 ghost use Rattle.std.specs.Prelude.{◌≡◌, ◌≤◌, ◌+◌, ◌*◌, ◌^◌, ◌-◌, ◌/◌, ℕ, max, min, IfSome, true};
 ghost use Rattle.std.specs.Option.{option_map};
@@ -7,10 +7,10 @@ ghost use Rattle.codec_payload_jitter.specs.Waiting.{most_held_back, room_for, w
 
 use codec_payload_base::wire::Ticks;
 
-/// How long to wait for packets that are missing.
+/// How long to wait for missing packets.
 ///
-/// Times are in ticks of the clock that the caller hands to the calls that receive and pop. The constructors are for ticks of
-/// milliseconds. Any values may be given.
+/// Times are in ticks of the clock that you pass to the calls that receive and pop. The constructors assume ticks of
+/// milliseconds. Any values are accepted.
 #[derive(Clone, Copy, Debug, PartialEq, Eq)]
 pub struct WaitLimits {
     /// A frame behind a gap is released once more complete frames than this are held. `None`: no frame is released by count
@@ -19,8 +19,8 @@ pub struct WaitLimits {
     /// The first frame is released once more complete frames than this are held. With 1, two packets that arrive in the wrong
     /// order are both released. Later frames ignore it.
     pub start: usize,
-    /// A complete frame is released once this number of ticks has passed since its last packet was received. `None`: frames
-    /// wait for as long as `hold_back` and `start` say.
+    /// A complete frame is released once this number of ticks has passed since its last packet arrived. `None`: frames wait for
+    /// as long as `hold_back` and `start` say.
     pub max_wait: Option<u64>,
 }
 
@@ -46,16 +46,16 @@ impl WaitLimits {
         WaitLimits::for_live(2, 200)
     }
 
-    /// Returns limits for live media with retransmission over a path of that round trip time: two round trips and 100 ms, so that
-    /// a retransmission that is lost can be repeated once. At most 2^64 - 1 ms.
+    /// Returns limits for live media with retransmission over a path with this round-trip time: two round trips and 100 ms, so
+    /// that a lost retransmission can be repeated once. At most 2^64 - 1 ms.
     pub fn for_round_trip(milliseconds: u64) -> WaitLimits
         ensures { result ≡ waits_for 1 (min (2 * milliseconds + 100) (2 ^ 64 - 1)) }
     {
         WaitLimits::for_live(1, milliseconds.saturating_mul(2).saturating_add(100))
     }
 
-    /// Returns limits for packets from a file: a frame behind a gap waits for the missing packets, until the stream is finished
-    /// or the buffer has little room left.
+    /// Returns limits for packets from a file: a frame behind a gap waits until the stream is finished, or the buffer has
+    /// little room left.
     pub fn file() -> WaitLimits
         ensures { result ≡ waits_by_number }
     {
@@ -88,7 +88,7 @@ impl WaitLimits {
     }
 }
 
-/// Whether so many ticks have passed.
+/// Returns whether `max_wait` ticks have passed from `since` to `now`.
 pub(crate) fn overdue(max_wait: Option<u64>, now: Ticks, since: Option<Ticks>) -> bool
     ensures { result ≡ is_overdue max_wait now.0 since }
 {
@@ -98,7 +98,7 @@ pub(crate) fn overdue(max_wait: Option<u64>, now: Ticks, since: Option<Ticks>) -
     }
 }
 
-/// When so many ticks will have passed.
+/// Returns the time `max_wait` ticks after `since`, if 64 bits hold it.
 pub(crate) fn deadline(max_wait: Option<u64>, since: Option<Ticks>) -> Option<Ticks>
     ensures value { option_map (λ at. at.0) result ≡ deadline_by max_wait since }
     ensures overdue { IfSome result (λ at. (now : ℕ) → at.0 ≤ now → is_overdue max_wait now since ≡ true) }
@@ -115,7 +115,7 @@ pub(crate) fn deadline(max_wait: Option<u64>, since: Option<Ticks>) -> Option<Ti
     }
 }
 
-/// How many places are kept free, of that many: an eighth, and at least `least`.
+/// Returns how many places are kept free: an eighth of `limit`, and at least `least`.
 pub(crate) fn room_for(limit: usize, least: usize) -> usize
     ensures { result ≡ room_for limit least }
 {

@@ -29,7 +29,7 @@ use Rattle.codec_payload_session.specs.declared.stream.Step.{Step}
 use Rattle.codec_payload_session.specs.declared.stream.Step.TheVariants as steps
 use Rattle.codec_payload_session.specs.declared.stream.Stream.{Stream}
 
--- ---- what the streams took, and how many there are
+-- ---- the datagrams that the streams took, and the number of streams
 
 taken_set : (ss : List Stream) (i : ℕ) (s t : Stream) → slice_get ss i ≡ Some s → taken_in (slice_set ss i t) + s.taken ≡ taken_in ss + t.taken
 taken_set [] i s t is = absurd (cc)
@@ -92,7 +92,7 @@ takes_taken now probation bytes s told t got = ap (λ (x : Stream). x.taken) got
 abbrev with_all : SessionSettings → Port → ArrivalCounts → Session
 with_all settings p c = record { settings = settings; port = p; counts = c }
 
--- the port after the datagram, which came to that
+-- the port after the datagram, with this result
 abbrev Keeps : SessionSettings → ArrivalCounts → Port → Result Arrival AllocError → Type 0
 Keeps settings c q answer = IsSession (with_all settings q (counted_if answer c))
 
@@ -141,7 +141,7 @@ unassociated_keeps settings c p kept = record { accounted = omega (arith, kept.a
 
 -- ---- a datagram that begins a stream
 
--- the sum, and how many there are, after a stream was added
+-- the sum of the datagrams, and the number of streams, after a stream was added
 abbrev Adds : ℕ → Stream → Port → Port → Type 0
 Adds most s p q = ((q.ended + taken_in q.streams) % 2 ^ 64 ≡ (p.ended + taken_in p.streams + s.taken) % 2 ^ 64) × (length q.streams ≤ most)
 
@@ -213,7 +213,7 @@ pub takes_in_keeps : (settings : SessionSettings) (now : Ticks) (bytes : List �
     → TakesIn settings now bytes p answer q → IsSession (with_all settings p c) → IsSession (with_all settings q (counted_if answer c))
 takes_in_keeps settings now bytes c p q answer got kept = keeps_as (sorted_at settings bytes) settings now bytes c p q answer got kept
 
--- streams that are to end take nothing
+-- ending streams take no datagram
 pub left_keeps : (settings : SessionSettings) (c : ArrivalCounts) (who : ℕ → Bool) (why : Ending) (at : ℕ) (finished : Bool) (p : Port) → IsSession (with_all settings p c)
     → IsSession (with_all settings (record p { streams = left_where who why at p.streams; finished = finished }) c)
 left_keeps settings c who why at finished p kept = record {
@@ -267,7 +267,7 @@ quiet_taken now idle [] (t ∷ ts) got = absurd got
 quiet_taken now idle (s ∷ ss) [] got = absurd got
 quiet_taken now idle (s ∷ ss) (t ∷ ts) got = omega (arith, steps_taken now idle s steps.Nothing t got.0, quiet_taken now idle ss ts got.1)
 
--- a stream that ended is counted among those that did
+-- a stream that ended is counted among the ended streams
 kept_taken : (step : Step) (t : Stream) (rest : List Stream) (ended : ℕ)
     → ((ended_after step t ended + taken_in (kept_after step t rest)) % 2 ^ 64 ≡ (ended + t.taken + taken_in rest) % 2 ^ 64) × (length (kept_after step t rest) ≤ 1 + length rest)
 kept_taken steps.Begun t rest ended = (omega arith, omega arith)

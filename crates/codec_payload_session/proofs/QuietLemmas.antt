@@ -1,4 +1,4 @@
--- Streams that have their turn, one after another.
+-- Streams that are asked for an event, one after another.
 use Rattle.std.proofs.Common.{◌≡◌, ◌<◌, ℕ, zero, suc, ◌+◌, List, [], ◌∷◌, ◌++◌, length, take, drop, set, get_or, Option, Some, None, ap, refl, arith, add-one, subst, sym, ◌∙◌, map, true, false, slice_get}
 use Rattle.std.specs.List.{remove}
 use Rattle.codec_payload_base.specs.declared.wire.Ticks.{Ticks}
@@ -11,7 +11,7 @@ use Rattle.codec_payload_session.specs.declared.stream.Step.TheVariants as steps
 use Rattle.codec_payload_session.specs.declared.stream.Stream.{Stream}
 use Rattle.codec_payload_session.specs.declared.streams.Turn.{Turn}
 
--- the stream at a place after quiet ones, and the list with another in its place
+-- the stream at a place after quiet ones, and the list with another stream in its place
 abbrev pub Splits : List Stream → List Stream → ℕ → Stream → Stream → Type 0
 Splits xs quiet i d t =
     (xs ≡ take i xs ++ get_or (quiet ++ drop i xs) i d ∷ drop (suc i) xs) × (i ≡ length quiet) × (set (quiet ++ drop i xs) i t ≡ quiet ++ t ∷ drop (suc i) xs)
@@ -53,7 +53,7 @@ found_in now idle xs ys quiet i d t step within are is went tells =
     subst (λ (l : List Stream). FirstSteps now idle xs (record { place = i; step = step }) (set l i t)) (sym is)
     (found now idle xs quiet i d t step within are has_stepped tells)
 
--- one more was quiet
+-- one more stream was quiet
 abbrev pub StaysQuiet : Ticks → ℕ → List Stream → List Stream → ℕ → Stream → ℕ → Type 0
 StaysQuiet now idle xs quiet i t j =
     (more : List Stream) × AreQuiet now idle (take j xs) more × (set (quiet ++ drop i xs) i t ≡ more ++ drop j xs)
@@ -72,7 +72,7 @@ pub quiet_next : (now : Ticks) (idle : ℕ) (xs quiet : List Stream) (i : ℕ) (
     → Steps now idle (get_or (quiet ++ drop i xs) i d) steps.Nothing t → StaysQuiet now idle xs quiet i t (i + 1)
 quiet_next now idle xs quiet i d t within are steps = rw add-one (quiet_on now idle xs quiet i d t within are steps)
 
--- a step that tells nothing
+-- a step without an event
 pub nothing_is : (step : Step) → is_nothing step ≡ true → step ≡ steps.Nothing
 nothing_is steps.Begun is = absurd (cc)
 nothing_is (steps.Unit unit) is = absurd (cc)
@@ -88,7 +88,7 @@ quiet_in now idle xs ys quiet i d t step within are is went tells =
     let it : StaysQuiet now idle xs quiet i t (i + 1) = quiet_next now idle xs quiet i d t within are has_stepped in
     (it.0, it.1, ap (λ (l : List Stream). set l i t) is ∙ it.2)
 
--- ---- what the stream tells
+-- ---- the event of the stream
 
 slice_at : (xs : List Stream) (s : Stream) (ys : List Stream) → slice_get (xs ++ s ∷ ys) (length xs) ≡ Some s
 slice_at [] s ys = refl
@@ -123,7 +123,7 @@ first_length now idle ss ts turn it =
     ap (λ (l : List Stream). length l) it.after ∙ length_with it.quiet it.front it.rest it.stepped it.stream (quiet_length now idle it.front it.quiet it.are_quiet)
     ∙ ap (λ (l : List Stream). length l) (sym it.before)
 
--- what a step tells, and what it leaves
+-- the event of a step, and the stream after it
 tells_by : (now : Ticks) (idle : ℕ) (p : Port) (front quiet rest : List Stream) (s t : Stream) (step : Step) → p.streams ≡ front ++ s ∷ rest → AreQuiet now idle front quiet
     → Steps now idle s step t → is_nothing step ≡ false
     → TakesTurn now idle p (event_of t step) (record p { streams = quiet ++ kept_after step t rest; ended = ended_after step t p.ended })

@@ -1,4 +1,4 @@
--- What becomes of a datagram.
+-- What a session does with a datagram.
 use Rattle.std.specs.Prelude.{◌≡◌, ◌⊎◌, ℕ, min, ◌+◌, ◌-◌, ◌%◌, ◌^◌, ◌==◌, ◌&&◌, ◌||◌, not, IsErr, nat_lt, if◌then◌else◌, Bool, true, false, List, [], ◌∷◌, ◌++◌, map, Option, Some, None, Result, Ok, Err, length, slice_get, slice_set}
 use Rattle.std.specs.Int.{w32, from_be_bytes}
 use Rattle.std.specs.List.{position, remove}
@@ -27,7 +27,8 @@ use Rattle.codec_payload_session.specs.declared.streams.Who.TheVariants as whos
 abbrev pub sum_wrapped : ℕ → ℕ → ℕ
 sum_wrapped m n = (m + n) % 2 ^ 64
 
--- the streams in the order in which they began, whether new ones are refused, and how many datagrams the removed streams took
+-- the streams in the order in which they began, whether new streams are refused, and how many datagrams the removed streams
+-- took
 pub record Port : Type 0 where
   pub streams : List Stream
   pub finished : Bool
@@ -35,12 +36,12 @@ pub record Port : Type 0 where
 
 -- ---- streams that end
 
--- the SSRC at the front, and those after it
+-- the SSRC at the front, and the SSRCs after it
 unfoldable pub source_at_front : List ℕ → Option (ℕ × List ℕ)
 source_at_front (s3 ∷ s2 ∷ s1 ∷ s0 ∷ ssrcs) = Some (from_be_bytes w32 (s3 ∷ s2 ∷ s1 ∷ s0 ∷ []), ssrcs)
 source_at_front bytes = None
 
--- the SSRC is one of these, which have four bytes each
+-- the SSRC is in the list, which has four bytes for each SSRC
 unfoldable pub names : ℕ → List ℕ → Bool
 names ssrc (s3 ∷ s2 ∷ s1 ∷ s0 ∷ ssrcs) = (from_be_bytes w32 (s3 ∷ s2 ∷ s1 ∷ s0 ∷ []) == ssrc) || names ssrc ssrcs
 names ssrc bytes = false
@@ -60,16 +61,16 @@ abbrev pub say_goodbye : ℕ → List Packet → Bool
 say_goodbye ssrc [] = false
 say_goodbye ssrc (p ∷ ps) = says_goodbye ssrc p || say_goodbye ssrc ps
 
--- nothing of a compound packet with a fault counts
+-- a compound packet with a fault names no stream
 abbrev pub goodbye_in : ℕ → Result (List Packet) RtcpError → Bool
 goodbye_in ssrc (Ok packets) = say_goodbye ssrc packets
 goodbye_in ssrc (Err e) = false
 
--- those whose BYE the bytes carry
+-- the streams that a BYE in the bytes names
 abbrev pub goodbye_at : List ℕ → ℕ → Bool
 goodbye_at bytes ssrc = goodbye_in ssrc (compound_at false bytes)
 
--- the streams that are to end: all of them, those of an SSRC, or those that a compound packet names
+-- the streams to end: all streams, the streams of an SSRC, or the streams that a compound packet names
 abbrev pub includes : Who → ℕ → Bool
 includes whos.All ssrc = true
 includes (whos.Of own) ssrc = own == ssrc
@@ -81,9 +82,9 @@ left_if who why at s = left_when (who s.ssrc) why at s
 abbrev pub left_where : (ℕ → Bool) → Ending → ℕ → List Stream → List Stream
 left_where who why at ss = map (left_if who why at) ss
 
--- ---- a datagram for a stream that is there
+-- ---- a datagram for a stream that exists
 
--- with no memory for the datagram there is no answer
+-- if memory runs out for the datagram, there is an error instead of an answer
 abbrev pub Arrives : Bool → Arrival → Result Arrival AllocError → Type 0
 Arrives false arrival answer = answer ≡ Ok arrival
 Arrives true arrival answer = IsErr answer
@@ -98,7 +99,7 @@ pub record Feeds (probation place : ℕ) (now : Ticks) (bytes : List ℕ) (p : P
   pub arrives : Arrives (is_no_memory told) (arrivals.Stream stream.ssrc stream.format.payload_type told) answer
   pub left : q ≡ record p { streams = slice_set p.streams place after }
 
--- a stream that is not there receives nothing
+-- without a stream nothing changes
 abbrev pub FeedsIf : Option ℕ → Arrival → ℕ → Ticks → List ℕ → Port → Result Arrival AllocError → Port → Type 0
 FeedsIf None arrival probation now bytes p answer q = (answer ≡ Ok arrival) × (q ≡ p)
 FeedsIf (Some place) arrival probation now bytes p answer q = Feeds probation place now bytes p answer q
@@ -108,7 +109,7 @@ FeedsIf (Some place) arrival probation now bytes p answer q = Feeds probation pl
 abbrev pub on_probation : Stream → Bool
 on_probation s = is_probation s.stage
 
--- the stream that is removed for a new one: if there are too many, the first in probation
+-- the stream that is removed for a new one: if all places are taken, the first stream in probation
 abbrev pub leaving : ℕ → List Stream → Option ℕ
 leaving most ss = if nat_lt (length ss) most then None else position on_probation ss
 
@@ -141,7 +142,7 @@ pub record BeginsWith (settings : SessionSettings) (ssrc : ℕ) (f : Format) (no
   pub answers : answer ≡ Ok (arrivals.Stream ssrc f.payload_type told)
   pub left : q ≡ added settings.max_streams after p
 
--- nothing has changed: there is no memory, or no receiver for these settings
+-- nothing has changed: memory ran out, or no receiver can be made by these settings
 abbrev pub StaysEmpty : Port → Result Arrival AllocError → Port → Type 0
 StaysEmpty p (Ok arrival) q = (arrival ≡ arrivals.Unknown) × (q ≡ p)
 StaysEmpty p (Err e) q = q ≡ p

@@ -23,11 +23,11 @@ abbrev pub is_red_type : Option RedSettings → ℕ → Bool
 is_red_type None payload_type = false
 is_red_type (Some red) payload_type = red.payload_type == payload_type
 
--- packets of that type carry media of the format, in RED or not
+-- packets of this type carry media of the format, in RED or not
 abbrev pub has_type : Format → ℕ → Bool
 has_type f payload_type = if f.payload_type == payload_type then true else is_red_type f.red payload_type
 
--- packets of that type are retransmissions of the format
+-- packets of this type are retransmissions of the format
 abbrev pub resends : Format → ℕ → Bool
 resends f payload_type = is_type f.retransmission payload_type
 
@@ -42,7 +42,7 @@ role_of s payload_type = role_by s.formats.items s.no_media.items payload_type
 
 -- ---- pairs of SSRCs
 
--- the SSRC of the stream whose packets are retransmitted under that SSRC
+-- the SSRC of the stream whose packets are retransmitted under this SSRC
 abbrev pub stream_of : ℕ → List SsrcPair → Option ℕ
 stream_of retransmission [] = None
 stream_of retransmission (p ∷ ps) = if p.retransmission == retransmission then Some p.ssrc else stream_of retransmission ps
@@ -52,7 +52,7 @@ retransmission_of ssrc payload_type [] = None
 retransmission_of ssrc payload_type (p ∷ ps) =
     if p.ssrc == ssrc then Some (record { ssrc = p.retransmission; payload_type = payload_type }) else retransmission_of ssrc payload_type ps
 
--- of a stream whose format has a type of retransmissions
+-- the retransmissions of a stream whose format has a type for them
 abbrev pub retransmission_for : ℕ → Option ℕ → List SsrcPair → Option Retransmission
 retransmission_for ssrc None pairs = None
 retransmission_for ssrc (Some payload_type) pairs = retransmission_of ssrc payload_type pairs
@@ -91,7 +91,7 @@ abbrev pub backward_for : Bool → ℕ
 backward_for true = 5000
 backward_for false = 1000
 
--- a stream's receiver has the SSRC and the format of the stream, and all else as the session has it
+-- a stream's receiver has the SSRC and the format of the stream, and the other settings of the session
 pub record HasSettings (s : SessionSettings) (ssrc : ℕ) (f : Format) (r : Settings) : Type 0 where
   pub payload_type : r.payload_type ≡ f.payload_type
   pub no_media : r.no_media.items ≡ s.no_media.items

@@ -1,4 +1,4 @@
--- A session, and that every datagram is accounted for.
+-- A session, with a counter for each result of a datagram.
 use Rattle.std.specs.Prelude.{◌≡◌, ◌≤◌, ℕ, ◌+◌, ◌%◌, ◌^◌, ◌==◌, Bool, true, false, List, [], ◌∷◌, Option, Some, None, Result, Ok, Err, length, slice_get}
 use Rattle.std.specs.Option.{option_map}
 use Rattle.std.specs.declared.alloc.AllocError.{AllocError}
@@ -17,7 +17,7 @@ use Rattle.codec_payload_session.specs.declared.stream.Ending.TheVariants as end
 use Rattle.codec_payload_session.specs.declared.stream.StreamInfo.{StreamInfo}
 use Rattle.codec_payload_session.specs.declared.stream.Stream.{Stream}
 
--- the settings, the streams, and how many datagrams came to what
+-- the settings, the streams, and the counters of datagrams
 pub record Session : Type 0 where
   pub settings : SessionSettings
   pub port : Port
@@ -32,7 +32,7 @@ no_counts = record { received = 0; rtcp = 0; malformed = 0; unknown = 0; refused
 abbrev pub new_session : SessionSettings → Session
 new_session settings = record { settings = settings; port = no_port; counts = no_counts }
 
--- one more datagram came to that
+-- one more datagram with this result
 abbrev pub counted : Arrival → ArrivalCounts → ArrivalCounts
 counted arrivals.Rtcp c = record c { received = next c.received; rtcp = next c.rtcp }
 counted arrivals.Malformed c = record c { received = next c.received; malformed = next c.malformed }
@@ -50,13 +50,13 @@ abbrev pub taken_in : List Stream → ℕ
 taken_in [] = 0
 taken_in (s ∷ ss) = s.taken + taken_in ss
 
--- each datagram that was received is counted once: as RTCP, malformed, unknown, refused or unassociated, or by the stream that took
--- it, which may have ended; counted modulo 2^64
+-- each received datagram is counted once: as RTCP, malformed, unknown, refused or unassociated, or by the stream that took it,
+-- which may have ended; counted modulo 2^64
 abbrev pub IsAccountedFor : ArrivalCounts → Port → Type 0
 IsAccountedFor c p =
     c.received % 2 ^ 64 ≡ (c.rtcp + c.malformed + c.unknown + c.refused + c.unassociated + p.ended + taken_in p.streams) % 2 ^ 64
 
--- every datagram is accounted for, and there are at most so many streams
+-- every datagram is accounted for, and there are at most `max_streams` streams
 pub record IsSession (s : Session) : Type 0 where
   pub accounted : IsAccountedFor s.counts s.port
   pub bounded : length s.port.streams ≤ s.settings.max_streams
@@ -89,7 +89,7 @@ told_counts c ended = record {
   ended = ended;
 }
 
--- the datagrams are those that came to something, and those that the streams took, modulo 2^64
+-- the received datagrams are the sum of the counters and of the datagrams that the streams took, modulo 2^64
 abbrev pub IsSum : SessionCounts → ℕ → Type 0
 IsSum c taken = c.received % 2 ^ 64 ≡ (c.rtcp + c.malformed + c.unknown + c.refused + c.unassociated + c.ended + taken) % 2 ^ 64
 

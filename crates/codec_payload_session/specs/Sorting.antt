@@ -1,4 +1,4 @@
--- Which stream a datagram is of: by its bytes and the settings alone.
+-- Which stream a datagram belongs to: its bytes and the settings decide.
 use Rattle.std.specs.Prelude.{ℕ, if◌then◌else◌, false, List, Option, Some, None, Result, Ok, Err}
 use Rattle.codec_payload_rtcp.specs.RtcpPackets.{Packet as Report}
 use Rattle.codec_payload_rtcp.specs.RtcpReading.{compound_at}
@@ -32,7 +32,7 @@ abbrev pub sorted_rtp : SessionSettings → Result Packet RtpError → Sorted
 sorted_rtp s (Ok p) = sorted_packet s p.header.ssrc p.header.payload_type
 sorted_rtp s (Err e) = sorted.Malformed
 
--- a compound packet counts whole or not at all (RFC 3550, appendix A.2); it may be of reduced size (RFC 5506)
+-- a compound packet counts as a whole or not at all (RFC 3550, appendix A.2); it may be of reduced size (RFC 5506)
 abbrev pub sorted_rtcp : Result (List Report) RtcpError → Sorted
 sorted_rtcp (Ok packets) = sorted.Rtcp
 sorted_rtcp (Err e) = sorted.Malformed

@@ -1,4 +1,4 @@
--- One stream of a session: what its receiver is given and asked, and when it begins and ends.
+-- One stream of a session: the datagrams and calls that its receiver gets, and when the stream begins and ends.
 use Rattle.std.specs.Prelude.{◌≡◌, ℕ, min, ◌+◌, ◌-◌, ◌^◌, ◌==◌, ◌&&◌, nat_lt, nat_le, if◌then◌else◌, Bool, true, false, List, [], ◌∷◌, Option, Some, None, Result, Ok, Err, length, map}
 use Rattle.codec_payload_base.specs.declared.error.PacketError.{PacketError}
 use Rattle.codec_payload_base.specs.declared.wire.Ticks.{Ticks}
@@ -54,7 +54,7 @@ is_no_memory (Err errors.Retransmission) = false
 is_no_memory (Err errors.OutOfMemory) = true
 is_no_memory (Err errors.BlocksOutOfMemory) = false
 
--- the packet came in, so that it is a sign of the stream
+-- the packet was stored or has no media, so it counts for the end of probation
 abbrev pub is_accepted : Result Outcome ReceiveError → Bool
 is_accepted (Ok outcomes.Held) = true
 is_accepted (Ok outcomes.HeldAndEvicted) = true
@@ -78,11 +78,11 @@ abbrev pub accepted_after : Bool → ℕ → ℕ
 accepted_after true n = min (n + 1) (2 ^ 64 - 1)
 accepted_after false n = n
 
--- probation ends once so many came in
+-- probation ends once `probation` packets were accepted
 abbrev pub stage_after : ℕ → ℕ → Stage → Stage
 stage_after probation accepted stage = if is_probation stage && nat_le probation accepted then stages.Playing else stage
 
--- one more datagram was received at that time
+-- one more datagram was received at this time
 abbrev pub heard : ℕ → ℕ → Bool → Stream → Stream
 heard now probation accepted s = record s {
   taken = next s.taken;
@@ -95,7 +95,7 @@ abbrev pub heard_unless : Bool → ℕ → ℕ → Bool → Stream → Stream
 heard_unless true now probation accepted s = s
 heard_unless false now probation accepted s = heard now probation accepted s
 
--- the receiver receives the datagram; with no memory for it nothing is counted
+-- the receiver receives the datagram; if memory runs out for it, nothing is counted
 abbrev pub Takes : Ticks → ℕ → List ℕ → Stream → Result Outcome ReceiveError → Stream → Type 0
 Takes now probation bytes s answer t =
     (r : Receiver) × ReceivesBytes now bytes s.receiver answer r
@@ -128,7 +128,7 @@ waiting_if ssrc payload_type limits s = waiting_when (is_of ssrc payload_type s)
 abbrev pub waiting_where : ℕ → ℕ → WaitLimits → List Stream → List Stream
 waiting_where ssrc payload_type limits ss = map (waiting_if ssrc payload_type limits) ss
 
--- why the stream ends at that time, if it does
+-- why the stream ends at this time, if it does
 abbrev pub end_by : ℕ → ℕ → ℕ → Stage → Option Ending
 end_by now idle last stages.Probation = None
 end_by now idle last stages.Playing = if nat_le idle (now - last) then Some endings.Timeout else None
@@ -155,7 +155,7 @@ abbrev pub told_of : Stage → Option (Result Release PacketError) → Step
 told_of stage None = ended_or_nothing stage
 told_of stage (Some unit) = steps.Unit unit
 
--- what a pop of the stream's receiver answers
+-- the answer of a pop of the stream's receiver
 pub record Pops (now : Ticks) (s : Stream) (answer : Step) (t : Stream) : Type 0 where
   pub popped : Option (Result Release PacketError)
   pub receiver : Receiver
@@ -172,13 +172,13 @@ StepsBy true told now idle s answer t = (answer ≡ steps.Nothing) × (t ≡ s)
 StepsBy false false now idle s answer t = (answer ≡ steps.Begun) × (t ≡ record s { told = true })
 StepsBy false true now idle s answer t = Plays now idle s answer t
 
--- what the stream has to tell: nothing in probation, and its beginning before all else
+-- the next event of the stream: none in probation, and its beginning before all other events
 abbrev pub Steps : Ticks → ℕ → Stream → Step → Stream → Type 0
 Steps now idle s answer t = StepsBy (is_probation s.stage) s.told now idle s answer t
 
 -- ---- deadlines
 
--- the moment that comes `ticks` after now, if the clock gets there
+-- the time `ticks` after now, if 64 bits hold it
 abbrev pub later : ℕ → ℕ → Option ℕ
 later now ticks = if nat_lt (now + ticks) (2 ^ 64) then Some (now + ticks) else None
 
@@ -197,16 +197,16 @@ due_by idle told deadline last stages.Playing = due_told told (later last idle) 
 due_by idle told deadline last (stages.Leaving why at) = due_told told (Some at) deadline
 due_by idle told deadline last (stages.Draining why) = Some 0
 
--- when the stream may have something to tell without a datagram
+-- the time at which the stream may have an event without a datagram
 abbrev pub due_of : ℕ → Stream → Option ℕ
 due_of idle s = due_by idle s.told (deadline_of s.receiver.packets) s.last s.stage
 
--- when any of these may
+-- the earliest of their times
 abbrev pub due_in : ℕ → List Stream → Option ℕ
 due_in idle [] = None
 due_in idle (s ∷ ss) = earlier (due_of idle s) (due_in idle ss)
 
--- what a caller sees of the stream
+-- the stream, as a caller sees it
 pub record IsInfo (s : Stream) (i : StreamInfo) : Type 0 where
   pub ssrc_is : i.ssrc ≡ s.ssrc
   pub payload_type : i.payload_type ≡ s.format.payload_type

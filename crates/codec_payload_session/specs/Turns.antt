@@ -1,4 +1,4 @@
--- The streams have their turn, in the order in which they began, up to the first that has something to tell.
+-- The streams are asked for an event in the order in which they began, until one has an event.
 use Rattle.std.specs.Prelude.{◌≡◌, ℕ, Bool, true, false, List, [], ◌∷◌, ◌++◌, Option, Some, None, length}
 use Rattle.codec_payload_base.specs.declared.wire.Ticks.{Ticks}
 use Rattle.codec_payload_session.specs.Arrivals.{Port, removed, sum_wrapped}
@@ -10,7 +10,7 @@ use Rattle.codec_payload_session.specs.declared.stream.Step.TheVariants as steps
 use Rattle.codec_payload_session.specs.declared.stream.Stream.{Stream}
 use Rattle.codec_payload_session.specs.declared.streams.Turn.{Turn}
 
--- each of these had its turn, and nothing to tell
+-- each of the streams was asked, and had no event
 abbrev pub AreQuiet : Ticks → ℕ → List Stream → List Stream → Type 0
 AreQuiet now idle [] [] = Unit {0}
 AreQuiet now idle [] (t ∷ ts) = ⊥
@@ -23,7 +23,7 @@ is_nothing (steps.Unit unit) = false
 is_nothing (steps.Ended why) = false
 is_nothing steps.Nothing = true
 
--- those before one were quiet, this one had something to tell, and those after it had no turn
+-- the streams before one had no event, this stream has one, and the streams after it were not asked
 pub record FirstSteps (now : Ticks) (idle : ℕ) (ss : List Stream) (turn : Turn) (ts : List Stream) : Type 0 where
   pub front : List Stream
   pub quiet : List Stream
@@ -63,7 +63,7 @@ ended_after (steps.Unit unit) s ended = ended
 ended_after (steps.Ended why) s ended = sum_wrapped ended s.taken
 ended_after steps.Nothing s ended = ended
 
--- what the stream at a place tells, and what is left then
+-- the event of the stream at a place, and the streams after it
 abbrev pub told_by : Option Stream → Step → Option Event
 told_by None step = None
 told_by (Some s) step = event_of s step
@@ -74,7 +74,7 @@ after_step (steps.Unit unit) place p = p
 after_step (steps.Ended why) place p = removed place p
 after_step steps.Nothing place p = p
 
--- the first of the streams that has something to tell tells it; the others before it are quiet
+-- the first stream with an event returns it; all streams before it are quiet
 pub record Tells (now : Ticks) (idle : ℕ) (before : Port) (event : Event) (after : Port) : Type 0 where
   pub front : List Stream
   pub quiet : List Stream
@@ -88,7 +88,7 @@ pub record Tells (now : Ticks) (idle : ℕ) (before : Port) (event : Event) (aft
   pub tells : Some event ≡ event_of stepped step
   pub left : after ≡ record before { streams = quiet ++ kept_after step stepped rest; ended = ended_after step stepped before.ended }
 
--- without an event all were quiet
+-- without an event all streams were quiet
 abbrev pub TakesTurn : Ticks → ℕ → Port → Option Event → Port → Type 0
 TakesTurn now idle before None after = (quiet : List Stream) × AreQuiet now idle before.streams quiet × (after ≡ record before { streams = quiet })
 TakesTurn now idle before (Some event) after = Tells now idle before event after

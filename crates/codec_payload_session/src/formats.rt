@@ -11,13 +11,13 @@ use codec_payload_rtp::values::ExtensionIds;
 use codec_payload_stream::receiver::{RedSettings, Retransmission, Settings};
 use std::alloc::{AllocError, Global};
 
-/// How many datagrams of a new stream must come in before it is announced, by default.
+/// The default number of accepted datagrams after which a new stream is announced.
 const PROBATION: u64 = 2;
 
-/// How many streams a session has at most, by default.
+/// The default for the largest number of streams.
 const MAX_STREAMS: usize = 64;
 
-/// How many packets a stream holds at most, by default.
+/// The default for the largest number of packets that a stream holds.
 const LIMIT: usize = 4_096;
 
 /// A payload format of a port, as `a=rtpmap` and `a=fmtp` of a session description name it.
@@ -26,9 +26,9 @@ pub struct Format {
     /// The payload type, 0 to 127.
     pub payload_type: u8,
     pub spec: CodecSpec,
-    /// The payload type and the step of RED (RFC 2198) over this format, if it is sent so.
+    /// The payload type and the step of RED (RFC 2198) over this format, if RED is used.
     pub red: Option<RedSettings>,
-    /// The payload type of its retransmissions (RFC 4588, `apt`), 0 to 127, if packets are retransmitted.
+    /// The payload type of its retransmissions (RFC 4588, `apt`), 0 to 127, if there are any.
     pub retransmission: Option<u8>,
 }
 
@@ -46,11 +46,11 @@ pub struct SsrcPair {
 pub struct SessionSettings {
     /// The payload formats. If two of them have the same payload type, the first counts.
     pub formats: Vec<Format>,
-    /// Payload types without media of their own, under the SSRC and the numbers of a stream: telephone events, comfort noise.
+    /// Payload types without media that share the SSRC and the numbers of a stream: telephone events, comfort noise.
     pub no_media: Vec<u8>,
-    /// The SSRCs of retransmissions. A retransmission of another SSRC is counted as unassociated.
+    /// The SSRCs of retransmissions. A retransmission under any other SSRC is counted as unassociated.
     pub pairs: Vec<SsrcPair>,
-    /// The ids of header extensions.
+    /// The ids of the header extensions to read.
     pub extension_ids: ExtensionIds,
     /// How long frames of audio wait for missing packets.
     pub audio: WaitLimits,
@@ -61,36 +61,37 @@ pub struct SessionSettings {
     ///
     /// [`Session::receiver_of`]: crate::session::Session::receiver_of
     pub from_keyframe: FromKeyframe,
-    /// How many packets a stream holds at most, 1 to 65,536.
+    /// The largest number of packets that a stream holds, 1 to 65,536.
     pub limit: usize,
-    /// How many streams there are at most.
+    /// The largest number of streams.
     pub max_streams: usize,
-    /// How many datagrams of a new stream must come in before it is announced: a stray packet announces nothing.
+    /// The number of accepted datagrams after which a new stream is announced: a stray packet announces nothing. Duplicates,
+    /// late and suspect packets do not count.
     pub probation: u64,
-    /// A stream ends after so many ticks without a datagram.
+    /// A stream ends once this number of ticks has passed since its last datagram.
     pub idle_timeout: u64,
-    /// A stream takes packets for so many ticks after its BYE: the network may bring them later.
+    /// A stream still takes packets for this number of ticks after its BYE, since packets may arrive after it.
     pub bye_wait: u64,
-    /// How many ticks of your clock a second has.
+    /// Ticks per second of your clock.
     pub tick_rate: Frequency,
 }
 
-/// What the packets of a payload type carry.
+/// The role of a payload type.
 #[derive(Clone, Copy, Debug)]
 pub(crate) enum Role {
     /// Media of the format, in RED or not.
     Media(Format),
     /// Retransmissions of the format.
     Retransmission(Format),
-    /// No media of their own.
+    /// Packets without media.
     NoMedia,
     Unknown,
 }
 
 impl SessionSettings {
-    /// Returns settings without formats, for live streams and a clock in milliseconds. Frames of audio wait for at most 100 ms and
-    /// frames of video for at most 200 ms. A session has at most 64 streams of 4,096 packets. A stream is announced with its
-    /// second datagram, ends after 30 s without a datagram, and takes packets for 200 ms after its BYE. Does not allocate.
+    /// Returns settings without formats, for live streams and a clock in milliseconds. Frames of audio wait for at most 100 ms,
+    /// and frames of video for at most 200 ms. A session has at most 64 streams of 4,096 packets. A stream is announced with
+    /// its second datagram, ends after 30 s without a datagram, and takes packets for 200 ms after its BYE. Does not allocate.
     pub fn live(alloc: Global) -> SessionSettings {
         SessionSettings {
             formats: Vec::new(alloc),
@@ -109,21 +110,21 @@ impl SessionSettings {
         }
     }
 
-    /// What packets of that payload type carry.
+    /// Returns the role of this payload type.
     pub(crate) fn role(&self, payload_type: u8) -> Role
         ensures { result ≡ role_of self.now payload_type }
     {
         role_in(&self.formats, &self.no_media, payload_type)
     }
 
-    /// The SSRC of the stream whose packets are retransmitted under that SSRC.
+    /// Returns the SSRC of the stream whose packets are retransmitted under this SSRC.
     pub(crate) fn stream_of(&self, retransmission: u32) -> Option<u32>
         ensures { result ≡ stream_of retransmission self.now.pairs.items }
     {
         stream_of(&self.pairs, retransmission)
     }
 
-    /// The settings of the receiver of a stream.
+    /// Returns the settings of the receiver of a stream.
     pub(crate) fn receiver(
         &self,
         alloc: Global,
@@ -159,7 +160,7 @@ impl SessionSettings {
 }
 
 impl Format {
-    /// Whether packets of that payload type carry media of this format.
+    /// Returns whether packets of this payload type carry media of this format.
     fn has_type(&self, payload_type: u8) -> bool
         ensures { result ≡ has_type self.now payload_type }
     {
@@ -172,7 +173,7 @@ impl Format {
         }
     }
 
-    /// Whether packets of that payload type are retransmissions of this format.
+    /// Returns whether packets of this payload type are retransmissions of this format.
     fn resends(&self, payload_type: u8) -> bool
         ensures { result ≡ resends self.now payload_type }
     {
@@ -183,7 +184,7 @@ impl Format {
     }
 }
 
-/// Whether the payload type is one of these.
+/// Returns whether the payload type is in the list.
 fn is_among(payload_type: u8, types: &[u8]) -> bool
     ensures { result ≡ is_among payload_type types.now }
 {
@@ -195,14 +196,14 @@ fn is_among(payload_type: u8, types: &[u8]) -> bool
     false
 }
 
-/// Whether frames of this codec are video.
+/// Returns whether frames of this codec are video.
 fn is_video(codec: Codec) -> bool
     ensures { result ≡ is_video codec }
 {
     matches!(codec, Codec::Vp8 | Codec::Vp9 | Codec::Av1)
 }
 
-/// The SSRC and payload type of the retransmissions of a stream, if both are known.
+/// Returns the SSRC and payload type of the retransmissions of a stream, if both are known.
 fn retransmission_for(
     pairs: &[SsrcPair],
     ssrc: u32,
@@ -216,7 +217,7 @@ fn retransmission_for(
     }
 }
 
-/// The retransmissions of the stream's pair, under this payload type.
+/// Returns the retransmissions of the stream's pair, under this payload type.
 fn retransmission_of(pairs: &[SsrcPair], ssrc: u32, payload_type: u8) -> Option<Retransmission>
     ensures { result ≡ retransmission_of ssrc payload_type pairs.now }
 {
@@ -231,7 +232,7 @@ fn retransmission_of(pairs: &[SsrcPair], ssrc: u32, payload_type: u8) -> Option<
     None
 }
 
-/// The SSRC of the stream whose packets are retransmitted under that SSRC.
+/// Returns the SSRC of the stream whose packets are retransmitted under this SSRC.
 fn stream_of(pairs: &[SsrcPair], retransmission: u32) -> Option<u32>
     ensures { result ≡ stream_of retransmission pairs.now }
 {
@@ -243,7 +244,7 @@ fn stream_of(pairs: &[SsrcPair], retransmission: u32) -> Option<u32>
     None
 }
 
-/// What packets of that payload type carry, by the first format that names it.
+/// Returns the role of this payload type, by the first format that names it.
 fn role_in(formats: &[Format], no_media: &[u8], payload_type: u8) -> Role
     ensures { result ≡ role_by formats.now no_media.now payload_type }
 {

@@ -1,4 +1,5 @@
-//! The datagrams of one port: which stream each of them is of, when streams begin and end, and the units of all of them.
+//! Sessions: all streams of one port. A session finds the stream of each datagram, announces when streams begin and end, and
+//! returns the units of all streams.
 #![tactic(auto)]
 
 pub mod formats;

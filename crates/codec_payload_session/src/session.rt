@@ -20,20 +20,21 @@ use codec_payload_stream::receiver::{ReceiveError, Receiver};
 use std::alloc::{AllocError, Global};
 use std::marker::Model;
 
-/// What became of a datagram.
+/// What a session did with a datagram.
 #[derive(Clone, Copy, Debug, PartialEq, Eq)]
 pub enum Arrival {
     /// A compound packet of RTCP. The streams that its BYE names end (RFC 3550, section 6.6).
     Rtcp,
-    /// Neither an RTP packet nor a compound packet of RTCP without a fault.
+    /// The datagram is not RTP, and not a valid compound packet of RTCP.
     Malformed,
-    /// Of a payload type that is not in the settings, or without media and under an SSRC that has no stream.
+    /// The payload type is not in the settings, or it is one without media and its SSRC has no stream.
     Unknown,
-    /// It would begin a stream, and there is no place for one, or the session is finished.
+    /// The datagram would begin a stream, but all places are taken or the session is finished.
     Refused,
-    /// A retransmission, and its stream is not known.
+    /// A retransmission whose stream is not known.
     Unassociated,
-    /// The stream of this SSRC and payload type received it. `answer` is that of [`Receiver::receive`], and never `OutOfMemory`.
+    /// The stream of this SSRC and payload type received the datagram. `answer` is the answer of [`Receiver::receive`], and
+    /// never `OutOfMemory`.
     ///
     /// [`Receiver::receive`]: codec_payload_stream::receiver::Receiver::receive
     Stream {
@@ -43,22 +44,23 @@ pub enum Arrival {
     },
 }
 
-/// What a session has to tell.
+/// An event of a session.
 #[derive(Debug, Drop)]
 pub enum Event {
-    /// A stream is announced. It comes before all other events of the stream.
+    /// A stream is announced. This is the first event of the stream.
     Begun {
         ssrc: u32,
         payload_type: u8,
     },
-    /// A unit of a stream, or the fault of a frame that has none. `rtp_time` is in ticks of the RTP clock and does not wrap.
+    /// A unit of a stream, or the error of a pop. After `OutOfMemory` the frame is kept, and the next poll tries again. After
+    /// any other error the frame was dropped. `rtp_time` is in ticks of the RTP clock, without wrapping.
     Unit {
         ssrc: u32,
         payload_type: u8,
         rtp_time: Option<u64>,
         unit: Result<Depacketized, PacketError>,
     },
-    /// A stream was removed. It is the last event of the stream.
+    /// A stream was removed. This is the last event of the stream.
     Ended {
         ssrc: u32,
         payload_type: u8,
@@ -66,7 +68,8 @@ pub enum Event {
     },
 }
 
-/// How many datagrams came to what, each modulo 2^64. `received` is the sum of all others, and of what the streams took.
+/// Counts of datagrams by result, each modulo 2^64. `received` is the sum of all others and of the datagrams that the existing
+/// streams took.
 #[derive(Clone, Copy, Debug, PartialEq, Eq)]
 pub struct SessionCounts {
     pub received: u64,
@@ -75,11 +78,11 @@ pub struct SessionCounts {
     pub unknown: u64,
     pub refused: u64,
     pub unassociated: u64,
-    /// What the removed streams took.
+    /// Datagrams that the removed streams took.
     pub ended: u64,
 }
 
-/// The same without what ended streams took.
+/// The same counts, without the removed streams.
 #[derive(Clone, Copy, Debug)]
 pub(crate) struct ArrivalCounts {
     received: u64,
@@ -92,8 +95,8 @@ pub(crate) struct ArrivalCounts {
 
 /// Receives the datagrams of one port: RTP and RTCP of any number of senders. It opens no socket and reads no clock.
 ///
-/// Each SSRC with each media format is a stream, with a [`Receiver`] of its own. [`Session::receive`] finds the stream of a
-/// datagram, and begins it if need be. [`Session::poll`] tells when streams begin and end, and has their units.
+/// Each SSRC with each media format is a stream, with its own [`Receiver`]. [`Session::receive`] finds the stream of a
+/// datagram, or begins one. [`Session::poll`] reports when streams begin and end, and returns their units.
 ///
 /// [`Receiver`]: codec_payload_stream::receiver::Receiver
 #[derive(Debug, Drop)]
@@ -125,17 +128,17 @@ impl Session {
         }
     }
 
-    /// Takes in a datagram that came at that time, and reports what became of it. Any bytes may be given. Cost: that of
-    /// [`Receiver::receive`], and one step for each stream.
+    /// Receives a datagram that arrived at `now`, and returns what was done with it. Any bytes are accepted. The cost is the
+    /// cost of [`Receiver::receive`], and one step for each stream.
     ///
-    /// The payload type and the SSRC of an RTP packet name its stream. A packet of media or of RED without a stream begins one, if
-    /// there is a place. If there is none, it takes the place of the first stream that is not announced so far. A retransmission
-    /// goes to the stream of its pair, and a packet without media to the first stream of its SSRC. BYE ends streams after the
-    /// setting's `bye_wait`. A compound packet of RTCP with a fault ends none.
+    /// The SSRC and the payload type of an RTP packet identify its stream. A packet of media or of RED without a stream begins
+    /// one, if there is a place. If all places are taken, the new stream replaces the first stream that is not announced. A
+    /// retransmission goes to the stream of its pair, and a packet without media to the first stream of its SSRC. A BYE ends
+    /// streams after `bye_wait` of the settings. A compound packet of RTCP with a fault ends no stream.
     ///
     /// # Errors
     ///
-    /// Out of memory: the datagram is not counted, and can be given again.
+    /// Out of memory: the datagram is not counted; you can pass it again.
     ///
     /// [`Receiver::receive`]: codec_payload_stream::receiver::Receiver::receive
     pub fn receive(&mut self, now: Ticks, datagram: &[u8]) -> Result<Arrival, AllocError>
@@ -146,17 +149,18 @@ impl Session {
         answer
     }
 
-    /// Returns the next event. Poll until `None` after each datagram and at each deadline.
+    /// Returns the next event. Call it until `None` after each datagram and at each deadline.
     ///
-    /// The streams have their turn in the order in which they began. The events of a stream are `Begun`, then its units in order,
-    /// then `Ended`. A stream that is not announced so far has none.
+    /// Streams are asked in the order in which they began. The events of a stream are `Begun`, then its units in order, then
+    /// `Ended`. A stream that is not announced has no events.
     pub fn poll(&mut self, now: Ticks) -> Option<Event>
         ensures { (port : Port) × TakesTurn now self.old.settings.idle_timeout self.old.port result port × (self.new ≡ record self.old { port = port }) }
     {
         self.streams.turn(now, self.settings.idle_timeout)
     }
 
-    /// Returns when a poll may have an event without a datagram. `None`: it has none. Cost: one step for each stream.
+    /// Returns when a poll may have an event without a datagram. `None`: no stream has such a time. The cost is one step for
+    /// each stream.
     pub fn next_deadline(&self) -> Option<Ticks>
         ensures { option_map (λ at. at.0) result ≡ due_in self.now.settings.idle_timeout self.now.port.streams }
     {
@@ -166,7 +170,7 @@ impl Session {
         }
     }
 
-    /// Ends the streams of this SSRC: polls give the units that are complete, and then `Ended`.
+    /// Ends the streams of this SSRC: polls return the units that are complete, and then `Ended`.
     pub fn end(&mut self, now: Ticks, ssrc: u32)
         ensures { self.new ≡ ends_of ssrc now.0 self.old }
     {
@@ -191,7 +195,7 @@ impl Session {
             .set_wait_limits(ssrc, payload_type, wait_limits);
     }
 
-    /// Returns how many streams there are, announced or not: at most `max_streams` of the settings.
+    /// Returns the number of streams, announced or not: at most `max_streams` of the settings.
     pub fn stream_count(&self) -> usize
         ensures value { result ≡ length self.now.port.streams }
         ensures bounded { result ≤ self.now.settings.max_streams }
@@ -199,7 +203,7 @@ impl Session {
         self.streams.list.len()
     }
 
-    /// Returns what is known of the stream at a place, in the order in which the streams began.
+    /// Describes the stream at a place, in the order in which the streams began.
     pub fn stream_at(&self, place: usize) -> Option<StreamInfo>
         ensures { MatchInfo (slice_get self.now.port.streams place) result }
     {
@@ -237,10 +241,10 @@ impl Session {
         }
     }
 
-    /// Returns how many datagrams came to what.
+    /// Returns the counters of datagrams by result.
     pub fn counts(&self) -> SessionCounts
         ensures value { result ≡ told_counts self.now.counts self.now.port.ended }
-        // Nothing is lost in silence.
+        // Every datagram is accounted for.
         ensures accounted { IsSum result (taken_in self.now.port.streams) }
     {
         let counts = self.counts;
@@ -257,7 +261,7 @@ impl Session {
 }
 
 impl ArrivalCounts {
-    /// No datagram came.
+    /// Returns counters of 0.
     fn none() -> ArrivalCounts
         ensures { result ≡ no_counts }
     {
@@ -271,7 +275,7 @@ impl ArrivalCounts {
         }
     }
 
-    /// The same after that answer: without memory nothing is counted.
+    /// Counts a datagram by this answer; if memory ran out, nothing is counted.
     fn with_answer(self, answer: &Result<Arrival, AllocError>) -> ArrivalCounts
         ensures { result ≡ counted_if answer.now self }
     {
@@ -281,7 +285,7 @@ impl ArrivalCounts {
         }
     }
 
-    /// One more datagram came to that.
+    /// Counts one more datagram with this result.
     fn with(mut self, arrival: Arrival) -> ArrivalCounts
         ensures { result ≡ counted arrival self }
     {

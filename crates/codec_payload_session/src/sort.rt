@@ -1,4 +1,4 @@
-//! Which stream a datagram is of.
+//! Which stream a datagram belongs to.
 
 ghost use Rattle.std.specs.Prelude.{◌≡◌};
 ghost use Rattle.codec_payload_session.specs.Sorting.{sorted_at, sorted_packet};
@@ -7,26 +7,26 @@ use crate::formats::{Format, Role, SessionSettings};
 use codec_payload_rtcp::compound::{CompoundRule, read_compound};
 use codec_payload_rtp::rtp::{RtpPacket, is_rtcp};
 
-/// What a datagram is to a session.
+/// A datagram, as a session sees it.
 #[derive(Clone, Copy, Debug)]
 pub(crate) enum Sorted {
-    /// A compound packet of RTCP without a fault.
+    /// A valid compound packet of RTCP.
     Rtcp,
-    /// Neither such a compound packet nor an RTP packet.
+    /// Neither RTP nor a valid compound packet of RTCP.
     Malformed,
-    /// Of a payload type that the settings do not name.
+    /// A packet of a payload type that the settings do not name.
     Unknown,
-    /// A retransmission of no known SSRC.
+    /// A retransmission under an unknown SSRC.
     Unassociated,
-    /// Of the stream with this SSRC and format, which it begins if need be.
+    /// A packet for the stream with this SSRC and format, which it begins if there is none.
     Media(u32, Format),
     /// A retransmission for the stream with this SSRC and payload type.
     Retransmission(u32, u8),
-    /// Without media, under the SSRC of a stream.
+    /// A packet without media, under this SSRC.
     NoMedia(u32),
 }
 
-/// What a datagram is.
+/// Sorts a datagram.
 pub(crate) fn sort(settings: &SessionSettings, datagram: &[u8]) -> Sorted
     ensures { result ≡ sorted_at settings.now datagram.now }
 {
@@ -42,7 +42,7 @@ pub(crate) fn sort(settings: &SessionSettings, datagram: &[u8]) -> Sorted
     }
 }
 
-/// What an RTP packet is.
+/// Sorts an RTP packet.
 fn sort_packet(settings: &SessionSettings, ssrc: u32, payload_type: u8) -> Sorted
     ensures { result ≡ sorted_packet settings.now ssrc payload_type }
 {

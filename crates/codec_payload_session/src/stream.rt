@@ -19,21 +19,21 @@ use std::alloc::{AllocError, Global};
 pub enum Ending {
     /// Its sender left by a BYE (RFC 3550, section 6.6).
     Bye,
-    /// No datagram came for the idle timeout.
+    /// No datagram arrived for the idle timeout.
     Timeout,
     /// The caller ended it.
     Told,
 }
 
-/// Where a stream is in its life.
+/// The stage of a stream's life.
 #[derive(Clone, Copy, Debug, PartialEq, Eq)]
 pub enum Stage {
-    /// Too few datagrams came in so far, and it is not announced.
+    /// Too few datagrams were accepted so far, and the stream is not announced.
     Probation,
     Playing,
-    /// It takes datagrams until this time, and then ends.
+    /// The stream takes datagrams until this time, and then ends.
     Leaving(Ending, u64),
-    /// The frames that it holds go out, and then it is removed.
+    /// The complete frames that it holds are released, and then the stream is removed.
     Draining(Ending),
 }
 
@@ -48,9 +48,9 @@ pub struct StreamInfo {
     pub stage: Stage,
     /// How many datagrams it took, modulo 2^64.
     pub taken: u64,
-    /// How many packets are held.
+    /// The number of held packets.
     pub held: usize,
-    /// What became of its datagrams.
+    /// The outcomes of its datagrams.
     pub counters: Counters,
 }
 
@@ -61,16 +61,16 @@ pub(crate) struct Stream {
     pub(crate) format: Format,
     pub(crate) receiver: Receiver,
     pub(crate) stage: Stage,
-    /// Whether it was announced.
+    /// Whether the stream was announced.
     pub(crate) told: bool,
     pub(crate) taken: u64,
-    /// How many of these datagrams came in.
+    /// How many of these datagrams were accepted.
     pub(crate) accepted: u64,
-    /// When the latest of them came.
+    /// When the latest datagram arrived.
     pub(crate) last: u64,
 }
 
-/// What a stream has to tell.
+/// A step of a stream: its next event, or nothing.
 #[derive(Debug, Drop)]
 pub(crate) enum Step {
     Begun,
@@ -80,7 +80,7 @@ pub(crate) enum Step {
 }
 
 impl Stream {
-    /// A stream without datagrams. `None`: no receiver can be made by these settings.
+    /// Creates a stream without datagrams. `None`: no receiver can be made by these settings.
     pub(crate) fn begin(
         alloc: Global,
         settings: &SessionSettings,
@@ -109,21 +109,21 @@ impl Stream {
         }))
     }
 
-    /// Whether it has this SSRC and payload type.
+    /// Returns whether the stream has this SSRC and payload type.
     pub(crate) fn is_of(&self, ssrc: u32, payload_type: u8) -> bool
         ensures { result ≡ is_of ssrc payload_type self.now }
     {
         self.ssrc == ssrc && self.format.payload_type == payload_type
     }
 
-    /// Whether it is in probation.
+    /// Returns whether the stream is in probation.
     pub(crate) fn is_on_probation(&self) -> bool
         ensures { result ≡ is_probation self.now.stage }
     {
         is_probation(self.stage)
     }
 
-    /// Gives a datagram to the receiver. If memory runs out, only the receiver may have changed.
+    /// Passes a datagram to the receiver. If memory runs out, only the receiver may have changed.
     pub(crate) fn take(
         &mut self,
         now: Ticks,
@@ -139,7 +139,7 @@ impl Stream {
         answer
     }
 
-    /// One more datagram was received.
+    /// Counts one more datagram.
     fn note(&mut self, now: Ticks, probation: u64, accepted: bool)
         ensures { self.new ≡ heard now.0 probation accepted self.old }
     {
@@ -153,7 +153,7 @@ impl Stream {
         }
     }
 
-    /// The stream is to end at that time. An earlier end stays.
+    /// Sets the time at which the stream ends. An earlier end stays.
     fn leave(&mut self, why: Ending, at: u64)
         ensures { self.new ≡ left why at self.old }
     {
@@ -164,7 +164,7 @@ impl Stream {
         }
     }
 
-    /// The same, if it is one of those that are to end.
+    /// Does the same if `leaves` is true.
     pub(crate) fn leave_if(&mut self, leaves: bool, why: Ending, at: u64)
         ensures { self.new ≡ left_when leaves why at self.old }
     {
@@ -182,7 +182,7 @@ impl Stream {
         }
     }
 
-    /// Why the stream ends now, if it does.
+    /// Returns why the stream ends now, if it does.
     fn end_at(&self, now: u64, idle_timeout: u64) -> Option<Ending>
         ensures { result ≡ end_of now idle_timeout self.now }
     {
@@ -195,7 +195,7 @@ impl Stream {
         }
     }
 
-    /// If the stream ends now, pops wait for nothing from now on.
+    /// Finishes the receiver if the stream ends now, so that pops wait for nothing.
     fn drain(&mut self, now: u64, idle_timeout: u64)
         ensures { Drains (end_of now idle_timeout self.old) self.old self.new }
     {
@@ -205,7 +205,7 @@ impl Stream {
         }
     }
 
-    /// What the stream has to tell now.
+    /// Returns the next event of the stream.
     pub(crate) fn step(&mut self, now: Ticks, idle_timeout: u64) -> Step
         ensures { Steps now idle_timeout self.old result self.new }
     {
@@ -223,7 +223,7 @@ impl Stream {
         }
     }
 
-    /// When the stream may have something to tell without a datagram.
+    /// Returns when the stream may have an event without a datagram.
     pub(crate) fn due(&self, idle_timeout: u64) -> Option<u64>
         ensures { result ≡ due_of idle_timeout self.now }
     {
@@ -242,7 +242,7 @@ impl Stream {
         }
     }
 
-    /// What a caller sees of it.
+    /// Describes the stream, as a caller sees it.
     pub(crate) fn info(&self) -> StreamInfo
         ensures { IsInfo self.now result }
     {
@@ -257,14 +257,14 @@ impl Stream {
     }
 }
 
-/// Whether it is probation.
+/// Returns whether the stage is probation.
 fn is_probation(stage: Stage) -> bool
     ensures { result ≡ is_probation stage }
 {
     matches!(stage, Stage::Probation)
 }
 
-/// What is told if no unit comes out.
+/// Returns the step of a stream whose pop returned no unit.
 fn ended_or_nothing(stage: Stage) -> Step
     ensures { result ≡ ended_or_nothing stage }
 {
@@ -274,14 +274,14 @@ fn ended_or_nothing(stage: Stage) -> Step
     }
 }
 
-/// Whether memory ran out.
+/// Returns whether memory ran out.
 pub(crate) fn is_no_memory(answer: &Result<Outcome, ReceiveError>) -> bool
     ensures { result ≡ is_no_memory answer.now }
 {
     matches!(answer, Err(ReceiveError::OutOfMemory))
 }
 
-/// Whether a packet came in, so that it is a sign of its stream.
+/// Returns whether the packet was stored or has no media, so that it counts for the end of probation.
 fn is_accepted(answer: &Result<Outcome, ReceiveError>) -> bool
     ensures { result ≡ is_accepted answer.now }
 {
@@ -291,7 +291,7 @@ fn is_accepted(answer: &Result<Outcome, ReceiveError>) -> bool
     )
 }
 
-/// The earlier of two moments.
+/// Returns the earlier of two times.
 pub(crate) fn earlier(one: Option<u64>, other: Option<u64>) -> Option<u64>
     ensures { result ≡ earlier one other }
 {

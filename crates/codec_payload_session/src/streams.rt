@@ -34,20 +34,20 @@ pub(crate) struct Streams {
     pub(crate) ended: u64,
 }
 
-/// What the stream at a place has to tell.
+/// The step of the stream at a place.
 #[derive(Debug, Drop)]
 pub(crate) struct Turn {
     place: usize,
     step: Step,
 }
 
-/// Which streams are to end.
+/// The streams to end.
 #[derive(Clone, Copy, Debug)]
 pub(crate) enum Who<'a> {
     All,
-    /// Those of this SSRC.
+    /// The streams of this SSRC.
     Of(u32),
-    /// Those whose BYE this compound packet carries.
+    /// The streams that a BYE in this compound packet names.
     Named(&'a [u8]),
 }
 
@@ -60,7 +60,7 @@ impl Model for Streams {
 }
 
 impl Streams {
-    /// No streams.
+    /// Creates an empty list.
     pub(crate) fn none(alloc: Global) -> Streams
         ensures { result ≡ no_port }
     {
@@ -72,7 +72,7 @@ impl Streams {
         }
     }
 
-    /// Takes a datagram in.
+    /// Receives a datagram.
     pub(crate) fn take_in(
         &mut self,
         settings: &SessionSettings,
@@ -106,7 +106,7 @@ impl Streams {
         }
     }
 
-    /// Gives a datagram to its stream, or begins a stream with it.
+    /// Passes a datagram to its stream, or begins a stream with it.
     fn feed_or_begin(
         &mut self,
         settings: &SessionSettings,
@@ -122,7 +122,7 @@ impl Streams {
         }
     }
 
-    /// Gives a datagram to the stream at this place.
+    /// Passes a datagram to the stream at this place.
     fn feed(
         &mut self,
         place: usize,
@@ -175,14 +175,14 @@ impl Streams {
         })
     }
 
-    /// Whether there is a place for one more stream.
+    /// Returns whether there is a place for one more stream.
     fn has_place(&self, max_streams: usize) -> bool
         ensures { result ≡ has_place max_streams self.now }
     {
         !self.finished && (self.list.len() < max_streams || on_probation(&self.list).is_some())
     }
 
-    /// Adds a stream. If there are too many, the first in probation is removed.
+    /// Adds a stream. If all places are taken, the first stream in probation is removed.
     fn add(&mut self, max_streams: usize, stream: Stream) -> Result<(), AllocError>
         ensures ok { OnOk result (self.new ≡ added max_streams stream self.old) }
         ensures err { OnErr result (self.new ≡ self.old) }
@@ -204,7 +204,7 @@ impl Streams {
         self.ended = self.ended.wrapping_add(gone.taken);
     }
 
-    /// The next event.
+    /// Returns the next event.
     pub(crate) fn turn(&mut self, now: Ticks, idle_timeout: u64) -> Option<Event>
         ensures { TakesTurn now idle_timeout self.old result self.new }
     {
@@ -214,7 +214,7 @@ impl Streams {
         }
     }
 
-    /// What the stream at a place tells. A stream that ended is removed.
+    /// Returns the event of the stream at a place. A stream that ended is removed.
     fn tell(&mut self, turn: Turn) -> Option<Event>
         requires { turn.place < length self.old.streams }
         ensures told { result ≡ told_by (slice_get self.old.streams turn.place) turn.step }
@@ -245,7 +245,7 @@ impl Streams {
         }
     }
 
-    /// These streams are to end at that time.
+    /// Ends these streams at that time.
     pub(crate) fn leave(&mut self, who: Who<'_>, why: Ending, at: u64)
         ensures { self.new ≡ record self.old { streams = left_where (includes who.entry) why at self.old.streams } }
     {
@@ -259,7 +259,7 @@ impl Streams {
         set_wait_limits(&mut self.list, ssrc, payload_type, wait_limits);
     }
 
-    /// From now on no stream begins, and all are to end at that time.
+    /// Ends all streams at that time, and refuses new ones from now on.
     pub(crate) fn finish(&mut self, at: u64)
         ensures { self.new ≡ record self.old { streams = left_where everyone endings.Told at self.old.streams; finished = true } }
     {
@@ -268,7 +268,7 @@ impl Streams {
     }
 }
 
-/// Where the stream with this SSRC and payload type is.
+/// Returns the place of the stream with this SSRC and payload type.
 pub(crate) fn place_of(streams: &[Stream], ssrc: u32, payload_type: u8) -> Option<usize>
     ensures value { result ≡ position (is_of ssrc payload_type) streams.now }
     ensures within { IfSome result (λ at. at < length streams.now) }
@@ -276,7 +276,7 @@ pub(crate) fn place_of(streams: &[Stream], ssrc: u32, payload_type: u8) -> Optio
     streams.iter().position(|s| s.is_of(ssrc, payload_type))
 }
 
-/// Where the first stream of this SSRC is.
+/// Returns the place of the first stream of this SSRC.
 fn place_of_ssrc(streams: &[Stream], ssrc: u32) -> Option<usize>
     ensures value { result ≡ position (has_ssrc ssrc) streams.now }
     ensures within { IfSome result (λ at. at < length streams.now) }
@@ -284,7 +284,7 @@ fn place_of_ssrc(streams: &[Stream], ssrc: u32) -> Option<usize>
     streams.iter().position(|s| s.ssrc == ssrc)
 }
 
-/// Where the first stream in probation is.
+/// Returns the place of the first stream in probation.
 fn on_probation(streams: &[Stream]) -> Option<usize>
     ensures value { result ≡ position on_probation streams.now }
     ensures within { IfSome result (λ at. at < length streams.now) }
@@ -292,7 +292,7 @@ fn on_probation(streams: &[Stream]) -> Option<usize>
     streams.iter().position(|s| s.is_on_probation())
 }
 
-/// Which stream is removed for a new one.
+/// Returns the place of the stream that is removed for a new one.
 fn leaving(max_streams: usize, streams: &[Stream]) -> Option<usize>
     ensures value { result ≡ leaving max_streams streams.now }
     ensures within { IfSome result (λ at. at < length streams.now) }
@@ -304,7 +304,7 @@ fn leaving(max_streams: usize, streams: &[Stream]) -> Option<usize>
     }
 }
 
-/// Lets the streams have their turn, in order, up to the first that has something to tell.
+/// Asks the streams for an event, in order, until one has an event.
 fn step_first(streams: &mut [Stream], now: Ticks, idle_timeout: u64) -> Option<Turn>
     ensures { StepsFirst now idle_timeout streams.old result streams.new }
 {
@@ -317,14 +317,14 @@ fn step_first(streams: &mut [Stream], now: Ticks, idle_timeout: u64) -> Option<T
     None
 }
 
-/// Whether a stream has nothing to tell.
+/// Returns whether a step has no event.
 fn is_nothing(step: &Step) -> bool
     ensures { result ≡ is_nothing step.now }
 {
     matches!(step, Step::Nothing)
 }
 
-/// When a stream may have something to tell without a datagram.
+/// Returns when a stream may have an event without a datagram.
 pub(crate) fn due_in(streams: &[Stream], idle_timeout: u64) -> Option<u64>
     ensures { result ≡ due_in idle_timeout streams.now }
 {
@@ -335,7 +335,7 @@ pub(crate) fn due_in(streams: &[Stream], idle_timeout: u64) -> Option<u64>
     due
 }
 
-/// These streams are to end at that time.
+/// Ends these streams at that time.
 fn leave(streams: &mut [Stream], who: Who<'_>, why: Ending, at: u64)
     ensures { streams.new ≡ left_where (includes who.entry) why at streams.old }
 {
@@ -344,7 +344,7 @@ fn leave(streams: &mut [Stream], who: Who<'_>, why: Ending, at: u64)
     }
 }
 
-/// The stream is to end at that time, if it is one of these.
+/// Ends the stream at that time, if it is one of `who`.
 fn leave_if(stream: &mut Stream, who: Who<'_>, why: Ending, at: u64)
     ensures { stream.new ≡ left_if (includes who.entry) why at stream.old }
 {
@@ -361,7 +361,7 @@ fn set_wait_limits(streams: &mut [Stream], ssrc: u32, payload_type: u8, wait_lim
     }
 }
 
-/// Whether the stream of this SSRC is one of them.
+/// Returns whether the stream is one of `who`.
 fn includes(who: Who<'_>, ssrc: u32) -> bool
     ensures { result ≡ includes who.entry ssrc }
 {
@@ -372,7 +372,7 @@ fn includes(who: Who<'_>, ssrc: u32) -> bool
     }
 }
 
-/// Whether a BYE of the compound packet names the SSRC.
+/// Returns whether a BYE of the compound packet names the SSRC.
 fn says_goodbye(compound: &[u8], ssrc: u32) -> bool
     ensures { result ≡ goodbye_in ssrc (compound_at false compound.now) }
 {
@@ -382,7 +382,7 @@ fn says_goodbye(compound: &[u8], ssrc: u32) -> bool
     }
 }
 
-/// Whether a BYE among the packets names the SSRC.
+/// Returns whether a BYE among the packets names the SSRC.
 fn any_says_goodbye(mut packets: Packets<'_>, ssrc: u32) -> bool
     ensures { result ≡ say_goodbye ssrc (packets_left packets.entry) }
 {
@@ -394,7 +394,7 @@ fn any_says_goodbye(mut packets: Packets<'_>, ssrc: u32) -> bool
     false
 }
 
-/// Whether the packet is a BYE that names the SSRC.
+/// Returns whether the packet is a BYE that names the SSRC.
 fn is_goodbye(packet: &RtcpPacket<'_>, ssrc: u32) -> bool
     ensures { result ≡ says_goodbye ssrc (packet_of packet.now) }
 {
@@ -404,7 +404,7 @@ fn is_goodbye(packet: &RtcpPacket<'_>, ssrc: u32) -> bool
     }
 }
 
-/// The SSRC at the front, and those after it.
+/// Returns the SSRC at the front, and the SSRCs after it.
 #[tactic(auto, unfolding(crate::specs::Arrivals::source_at_front))]
 fn front_source(ssrcs: &[u8]) -> Option<(u32, &[u8])>
     ensures { Finds (λ x. (x.0, x.1.now)) result (source_at_front ssrcs.now) }
@@ -415,7 +415,7 @@ fn front_source(ssrcs: &[u8]) -> Option<(u32, &[u8])>
     Some((u32::from_be_bytes([*s3, *s2, *s1, *s0]), rest))
 }
 
-/// Whether the SSRC is one of these.
+/// Returns whether the SSRC is in the list.
 fn names(ssrcs: &[u8], ssrc: u32) -> bool
     ensures { result ≡ names ssrc ssrcs.now }
 {

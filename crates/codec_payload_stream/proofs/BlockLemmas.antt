@@ -1,4 +1,4 @@
--- The loop over the blocks of a packet of RED: what was found stands before what the blocks that are left give.
+-- The loop over the blocks of a RED packet: the packets found so far come in front of the packets of the remaining blocks.
 use Rattle.std.proofs.Common.{◌≡◌, ℕ, ◌+◌, ◌<◌, List, [], ◌∷◌, ◌++◌, length, drop, get_or, Option, Some, None, refl, sym, ap, ◌∙◌, arith, append_assoc, append-nil, ◌≤◌}
 use Rattle.std.proofs.lemmas.List.{drop_all, drop_more, get_or-map, length-map}
 use Rattle.std.specs.List.{filter_map}

@@ -1,4 +1,4 @@
--- Where no block was stored, a packet adds none.
+-- If no block was stored, a packet adds none.
 use Rattle.std.proofs.Common.{◌≡◌, ◌∙◌, refl, ap, cond, ℕ, zero, suc, ◌==◌, ◌&&◌, ◌||◌, List, [], ◌∷◌, Bool, true, false, Option, Some, None, slice_set}
 use Rattle.std.specs.Prelude.{replicate}
 use Rattle.codec_payload_jitter.specs.declared.outcome.Outcome.{Outcome}

@@ -31,7 +31,7 @@ after_pop codec g false None before is = is
 after_pop codec g left (Some (Err fault)) before is = after_fault_is codec g (is_memory fault) left before is
 after_pop codec g left (Some (Ok unit)) before is = ap (λ k. after_unit k (is_key_unit g.gate unit.bytes) unit.contiguous) is
 
--- the gate of a run is that of its events
+-- the gate of a run is the gate of its events
 gate_of_run : (codec : Codec) (s t : Session) (events : List Event) → s.gates.gate ≡ new_gate codec → GateRun s events t → t.gates.gate ≡ gate_after codec events
 gate_of_run codec s t events new begins = new
 gate_of_run codec s t events new (pops {mid = mid} {before = before} now answer run once is) =
@@ -47,7 +47,7 @@ pops_follow_keyframes codec s t events video new run =
     let is = sym (gate_of_run codec s t events new run) in
     subst (λ k. ((k.shows ≡ true) ↔ ShowsLast events) × ((k.wants ≡ true) ↔ WantsKeyframe events)) is (gates_agree codec events video)
 
--- what is passed on where units are dropped can be shown
+-- a unit that is passed on is decodable, if units are dropped
 shown_if_passed : (drops shown : Bool) → drops ≡ true → (not drops || shown) ≡ true → shown ≡ true
 shown_if_passed true shown dropping passed = passed
 shown_if_passed false shown dropping passed = cc
@@ -59,7 +59,7 @@ drops_follow_keyframes codec s mid events unit video new run dropping passed =
     units_follow_keyframes codec events key unit.contiguous video
     (subst (λ k. shows_unit k key unit.contiguous ≡ true) is (shown_if_passed mid.gates.drops (is_shown mid.gates unit.bytes unit.contiguous) dropping passed))
 
--- a datagram leaves the gate as it was
+-- a datagram leaves the gate unchanged
 heard_leaves : (now : Ticks) (d : Datagram) (s t : Session) (answer : Result Outcome ReceiveError) → Heard now d s answer t → t.gates ≡ s.gates
 heard_leaves now d s t (Ok outcome) heard = ap (λ (x : Session). x.gates) heard.left
 heard_leaves now d s t (Err errors.OutOfMemory) heard = ap (λ (x : Session). x.gates) heard

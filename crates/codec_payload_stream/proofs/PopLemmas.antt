@@ -1,4 +1,4 @@
--- Pops of a receiver: what the keyframe gate leaves as it was.
+-- Pops of a receiver: the parts of the keyframe gate that they leave unchanged.
 use Rattle.std.proofs.Common.{◌≡◌, ◌∙◌, ◌==◌, ◌||◌, not, Bool, true, false, Option, Some, None, Result, Ok, Err, ℕ, refl, sym, ap, subst}
 use Rattle.std.proofs.lemmas.Bool.{false≢true}
 use Rattle.codec_payload_buffer.specs.Release.{Release}
@@ -6,7 +6,7 @@ use Rattle.codec_payload_keyframes.specs.UnitGates.{Gating, is_passed, is_shown}
 use Rattle.codec_payload_stream.specs.Pops.{DropsUnits, Popped, PopsGated, PopsOnce, after_fault, gates_after, is_memory, is_passed_on, none_dropped, one_more}
 use Rattle.codec_payload_stream.specs.Sessions.{Session}
 
--- whether units are dropped stays as it was
+-- whether units are dropped is unchanged
 pub drops_stay : (g : Gating) (has_left : Bool) (answer : Popped) → (gates_after g has_left answer).drops ≡ g.drops
 drops_stay g true None = refl
 drops_stay g false None = refl
@@ -32,7 +32,7 @@ none_are_dropped now s t keeps (one_more {mid = mid} unit before pops kept) =
 pub pops_at_once : (now : ℕ) (s : Session) (answer : Popped) (t : Session) → s.gates.drops ≡ false → PopsGated now s answer t → PopsOnce now s answer t
 pops_at_once now s answer t keeps gated = subst (λ (x : Session). PopsOnce now x answer t) (none_are_dropped now s gated.mid keeps gated.dropped) gated.pops
 
--- the gate follows what the counter of packets that left says
+-- the gate follows the counter of discarded packets
 pub gates_by : (g new : Gating) (a b before after : ℕ) (answer : Popped) → a ≡ before → b ≡ after → new ≡ gates_after g (not (b == a)) answer → new ≡ gates_after g (not (after == before)) answer
 gates_by g new a b before after answer a_is b_is is =
     is ∙ ap (λ (n : ℕ). gates_after g (not (b == n)) answer) a_is ∙ ap (λ (n : ℕ). gates_after g (not (n == before)) answer) b_is

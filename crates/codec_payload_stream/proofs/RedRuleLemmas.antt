@@ -69,7 +69,7 @@ by_time_is r header (extended.Restarted m) n is = inl is
 by_time_is r header extended.Suspect n is = inl is
 by_time_is r header extended.Spent n is = inl is
 
--- a number within the windows is the one that a retransmission would have
+-- a number within the windows is the number of a retransmission
 again_is : (r : Receiving) (header : RtpHeader) (n : ℕ) → r.is_restarting ≡ false → answer_to r header ≡ extended.Number n → number_again r header.sequence_number ≡ Some n
 again_is r header n running is = again (number (by_time_is r header (answer_in r header.sequence_number) n is))
   where
@@ -99,7 +99,7 @@ again_stored_as (Some n) a r t o got stored = sym (ap is_stored got.1.1.2) ∙ s
 
 -- Whether a stored packet repeats a block
 
--- it does not, since it was not taken for a repeat
+-- it does not, since it was not treated as a repeat
 unrepeated : (s : Kinds) (seen : Seen) (r : Receiving) (time low : ℕ) → is_some s.red ≡ true → would_store r low ≡ true → is_repeat s seen r time low ≡ false
     → has_block time seen.places ≡ false
 unrepeated s seen r time low red stored none =
@@ -139,7 +139,7 @@ again_as_running (Some n) a r t o running got = ap (λ (x : Receiving). x.is_res
 
 -- Blocks
 
--- the stored blocks among these
+-- the stored blocks among them
 pub record Stored (r t : Holding) : Type 0 where
   pub blocks : List ℕ
   pub by_rule : AreStoredByRule r.seen (map block_at blocks)
@@ -154,7 +154,7 @@ nothing_stored : (r t : Holding) → t ≡ r → Stored r t
 nothing_stored r t same =
     none_stored r t (ap (λ (x : Holding). x.seen) same) (ap (λ (x : Holding). x.packets.counters.recovered) same) (ap (λ (x : Holding). x.packets.is_restarting) same)
 
--- what is known of a packet that another one carried
+-- the header and payload of a packet from a redundant block
 abbrev pub CountsOne : Bool → Receiving → Receiving → Type 0
 CountsOne true r t = (t.counters.recovered ≡ next r.counters.recovered) × (t.is_restarting ≡ false)
 CountsOne false r t = (t.counters.recovered ≡ r.counters.recovered) × (t.is_restarting ≡ r.is_restarting)
@@ -208,7 +208,7 @@ unless_stored false whole all r t got = all_stored whole all r t got
 
 -- Datagrams
 
--- where a restart was told by a call nothing is remembered; else a packet that is stored was not taken for a repeat
+-- after an announced restart no block is remembered; otherwise a stored packet was not treated as a repeat
 free_of : (s : Kinds) (r : Holding) (time low : ℕ) (o : Outcome) → is_some s.red ≡ true → IsForgotten r
     → (r.packets.is_restarting ≡ false → is_stored o ≡ true → (is_repeat s r.seen r.packets time low ≡ false) × (would_store r.packets low ≡ true))
     → is_restart o ≡ false → is_stored o ≡ true → has_block time r.seen.places ≡ false
@@ -269,7 +269,7 @@ again_listed s low a r t o red forgotten at got seen =
           (ap (λ (b : Balance). b.recovered) (sent_again_balance repeat a r.packets t.packets o got)) (same_holding t),
     )
 
--- the primary block of a packet of RED
+-- the primary block of a RED packet
 
 primary_running : (b : Bool) (s : Kinds) (now : Ticks) (c : Carrier) (r t : Receiving) (o : Outcome) → TakesPrimaryIf b s now c r o t → t.is_restarting ≡ false
 primary_running true s now c r t o got = ap (λ (x : Receiving). x.is_restarting) got.2

@@ -97,7 +97,7 @@ receives_again_balance None a r t o got = ap balance_of got.1
 receives_again_balance (Some n) a r t o got =
     ap balance_of got.2 ∙ in_again_balance got.0.counters o ∙ goes_on_balance n a r got.0 o got.1
 
--- a packet that another one carried went in or it did not
+-- a packet from a redundant block was stored or not
 abbrev pub Recovered : Receiving → Receiving → Type 0
 Recovered r t = (balance_of t ≡ balance_of r) ⊎ (balance_of t ≡ one_recovered (balance_of r))
 
@@ -126,7 +126,7 @@ pub sent_again_balance : (b : Bool) (a : Arrival) (r t : Receiving) (o : Outcome
 sent_again_balance false a r t o got = receives_again_balance _ _ r t o got
 sent_again_balance true a r t o got = ap balance_of got.1.2 ∙ notes_as_balance _ r got.1.0 got.1.1
 
--- Each is accounted for
+-- Every datagram is accounted for
 
 -- the same, by the balance
 abbrev pub IsBalanced : Arrived → Balance → Type 0

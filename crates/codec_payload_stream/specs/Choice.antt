@@ -1,4 +1,4 @@
--- Which SSRC the stream has, where the settings name none.
+-- The choice of the SSRC of a stream, if the settings name none.
 use Rattle.std.specs.Prelude.{◌≡◌, ℕ, ◌+◌, ◌-◌, ◌%◌, ◌==◌, ◌&&◌, ◌||◌, nat_le, nat_lt, if◌then◌else◌, Bool, true, false, List, [], ◌∷◌, ◌++◌, Option, Some, None, length, refl}
 use Rattle.std.specs.List.{position, remove}
 use Rattle.codec_payload_base.specs.declared.wire.Ticks.{Ticks}
@@ -8,8 +8,8 @@ use Rattle.codec_payload_stream.specs.declared.choice.Origin.{Origin}
 use Rattle.codec_payload_stream.specs.declared.choice.Verdict.{Verdict}
 use Rattle.codec_payload_stream.specs.declared.choice.Verdict.TheVariants as verdicts
 
--- packets that wait for the choice, in the order in which they came; when the latest packet of the stream came; and for how many
--- ticks the stream is silent before another may be chosen
+-- the packets that wait for the choice, in order of arrival; when the latest packet of the stream arrived; how many ticks the
+-- stream must be silent before another one can be chosen
 pub record Choosing : Type 0 where
   pub candidates : List Candidate
   pub latest : Option ℕ
@@ -18,7 +18,7 @@ pub record Choosing : Type 0 where
 abbrev pub no_choice : ℕ → Choosing
 no_choice silence = record { candidates = []; latest = None; silence = silence }
 
--- the SSRC and the number of a packet of the stream's payload types, as its sender sent it first
+-- the SSRC and the number of a packet with a payload type of the stream
 abbrev pub origin_of : Datagram → Option Origin
 origin_of (WithoutMedia h) = Some (record { ssrc = h.ssrc; number = h.sequence_number })
 origin_of (WithMedia p) = Some (record { ssrc = p.header.ssrc; number = p.header.sequence_number })
@@ -29,17 +29,17 @@ origin_of OfOthers = None
 origin_of (Again o) = None
 origin_of AgainEmpty = None
 
--- two numbers of 16 bits are 1 to 100 apart, either way
+-- two 16-bit numbers are 1 to 100 apart, in either order
 abbrev pub are_near : ℕ → ℕ → Bool
 are_near m n = let d = (n + 65536 - m) % 65536 in nat_lt 0 d && (nat_le d 100 || nat_le 65436 d)
 
--- a packet that waits, of that SSRC and with a number near that one
+-- a waiting packet of this SSRC with a near number
 abbrev pub near_place : Origin → List Candidate → Option ℕ
 near_place o candidates = position (λ (c : Candidate). (c.ssrc == o.ssrc) && are_near c.number o.number) candidates
 
 -- Packets wait
 
--- which of these leaves for a packet of that SSRC: the one of the same SSRC, or of four the first
+-- the packet that a packet of this SSRC replaces: a packet of the same SSRC, or the first of four packets
 abbrev pub first_of_four : Option ℕ → ℕ → Option ℕ
 first_of_four (Some place) count = Some place
 first_of_four None count = if nat_le 4 count then Some 0 else None
@@ -54,11 +54,11 @@ abbrev pub without : Option ℕ → List Candidate → List Candidate
 without None candidates = candidates
 without (Some place) candidates = remove candidates place
 
--- with one more
+-- the waiting packets with one more
 abbrev pub waiting_with : Candidate → List Candidate → List Candidate
 waiting_with c candidates = without (leaving c.ssrc candidates) (candidates ++ c ∷ [])
 
--- c is that datagram
+-- c keeps this datagram
 pub record IsCandidate (now : Ticks) (o : Origin) (bytes : List ℕ) (c : Candidate) : Type 0 where
   pub received : c.received ≡ now
   pub ssrc : c.ssrc ≡ o.ssrc
@@ -75,17 +75,17 @@ abbrev pub verdict_at : Option ℕ → Origin → Verdict
 verdict_at (Some place) o = verdicts.Choose place
 verdict_at None o = verdicts.Keep o
 
--- of a packet that is not of the stream: where one near it waits, its SSRC is chosen; else it waits
+-- the verdict for a packet that is not of the stream: if a packet near it waits, its SSRC is chosen; otherwise it waits
 abbrev pub verdict_of : List Candidate → Option ℕ → Option Origin → Verdict
 verdict_of candidates known None = verdicts.Hear
 verdict_of candidates known (Some o) = if is_the known o.ssrc then verdicts.Hear else verdict_at (near_place o candidates) o
 
--- when the latest packet of the stream came
+-- when the latest packet of the stream arrived
 abbrev pub latest_after : Option ℕ → ℕ → Option Origin → Option ℕ
 latest_after latest now None = latest
 latest_after latest now (Some o) = Some now
 
--- no packet of the stream came for so long
+-- no packet of the stream arrived for this number of ticks
 abbrev pub silent_by : Option ℕ → ℕ → ℕ → Bool
 silent_by None silence now = false
 silent_by (Some latest) silence now = nat_le silence (now - latest)

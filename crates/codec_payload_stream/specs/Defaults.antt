@@ -1,4 +1,4 @@
--- Settings by purpose: what they set, and what is left out.
+-- Settings by purpose: the fields that they set, and the defaults.
 use Rattle.std.specs.Prelude.{◌≡◌, ℕ, [], None}
 use Rattle.codec_payload_jitter.specs.declared.waiting.WaitLimits.{WaitLimits}
 use Rattle.codec_payload_keyframes.specs.declared.unit_gate.FromKeyframe.TheVariants as modes
@@ -10,15 +10,15 @@ use Rattle.codec_payload_stream.specs.declared.receiver.Settings.{Settings}
 abbrev pub no_ids : ExtensionIds
 no_ids = record { abs_capture_time = None; video_orientation = None; video_content_type = None; video_timing = None; layers_allocation = None; audio_level = None }
 
--- at least the packets of 5 s behind, and more than twice as many ahead
+-- the packets of 5 s behind at least, and more than twice as many ahead
 abbrev pub audio_windows : Windows
 audio_windows = record { forward = 3000; backward = 1000 }
 
 abbrev pub video_windows : Windows
 video_windows = record { forward = 12000; backward = 5000 }
 
--- the stream's payload type, clock rate, wait limits and windows are these; no SSRC is named, nothing comes without media, in RED or
--- again; the caller's clock has ticks of milliseconds; and units of video are marked
+-- the stream has this payload type, clock rate, wait limits and windows. There is no SSRC, no payload type without media, no
+-- RED and no retransmission. The caller's clock has ticks of milliseconds. Units of video are marked
 pub record HasDefaults (payload_type rate : ℕ) (limits : WaitLimits) (windows : Windows) (s : Settings) : Type 0 where
   pub payload_type_is : s.payload_type ≡ payload_type
   pub no_media : s.no_media.items ≡ []

@@ -1,4 +1,4 @@
--- What the keyframe gate of a receiver says, over every run of the receiver.
+-- The answers of the keyframe gate, over every run of a receiver.
 use Rattle.std.specs.Prelude.{◌≡◌, ◌⊎◌, ◌↔◌, ℕ, Bool, true, false, List, [], ◌∷◌, Option, Some, None, Result, Ok, Err}
 use Rattle.codec_payload_base.specs.declared.wire.Codec.{Codec}
 use Rattle.codec_payload_base.specs.declared.wire.Ticks.{Ticks}
@@ -10,7 +10,7 @@ use Rattle.codec_payload_stream.specs.Pops.{Popped, PopsOnce, has_left, is_memor
 use Rattle.codec_payload_stream.specs.Sessions.{Finishes, ReceivesBytes, Session, restarted}
 use Rattle.codec_payload_stream.specs.declared.receiver.ReceiveError.{ReceiveError}
 
--- the event of an answer without a unit, if it is one: packets left because of their picture ids
+-- the event of an answer without a unit, if it is one: packets were discarded because of their picture ids
 abbrev pub events_with : Bool → List Event → List Event
 events_with true before = skipped ∷ before
 events_with false before = before
@@ -25,8 +25,7 @@ pop_events g has_left None before = events_with has_left before
 pop_events g has_left (Some (Err fault)) before = fault_events (is_memory fault) has_left before
 pop_events g has_left (Some (Ok unit)) before = released (is_key_unit g.gate unit.bytes) unit.contiguous ∷ before
 
--- a run of a receiver, and its events, the latest first: pops, restarts that the caller reports, and calls that leave the gate as it
--- was
+-- a run of a receiver, and its events, the latest first: pops, announced restarts, and calls that leave the gate unchanged
 pub data GateRun (s : Session) : List Event → Session → Type 0 where
   begins : GateRun s [] s
   pops : {mid t : Session} {before events : List Event} (now : ℕ) (answer : Popped) → GateRun s before mid → (once : PopsOnce now mid answer t)
@@ -35,21 +34,21 @@ pub data GateRun (s : Session) : List Event → Session → Type 0 where
       → GateRun s (skipped ∷ before) t
   others : {mid t : Session} {before : List Event} → GateRun s before mid → t.gates ≡ mid.gates → GateRun s before t
 
--- over every run of a new receiver of video: the last unit can be shown exactly if a chain of contiguous units leads to it from a
--- keyframe, and a keyframe is wanted exactly if an event since the last keyframe needs one
+-- over every run of a new receiver of video: the latest unit is decodable exactly if a chain of contiguous units leads to it
+-- from a keyframe; `wants_keyframe` is true exactly if an event since the last keyframe needs one
 abbrev pub PopsFollowKeyframes : Type 0
 PopsFollowKeyframes =
     (codec : Codec) (s t : Session) (events : List Event) → is_video codec ≡ true → s.gates.gate ≡ new_gate codec → GateRun s events t
     → ((t.gates.gate.shows ≡ true) ↔ ShowsLast events) × ((t.gates.gate.wants ≡ true) ↔ WantsKeyframe events)
 
--- a receiver that drops units passes on a unit only if it is a keyframe, or is contiguous and follows a unit that can be shown
+-- a receiver that drops units passes on a unit only if it is a keyframe, or is contiguous and follows a decodable unit
 abbrev pub DropsFollowKeyframes : Type 0
 DropsFollowKeyframes =
     (codec : Codec) (s mid : Session) (events : List Event) (unit : Release) → is_video codec ≡ true → s.gates.gate ≡ new_gate codec → GateRun s events mid
     → mid.gates.drops ≡ true → is_passed mid.gates unit.bytes unit.contiguous ≡ true
     → (is_key_unit mid.gates.gate unit.bytes ≡ true) ⊎ ((unit.contiguous ≡ true) × ShowsLast events)
 
--- datagrams and the end of the stream leave the gate as it was
+-- datagrams and the end of the stream leave the gate unchanged
 abbrev pub DatagramsLeaveTheGate : Type 0
 DatagramsLeaveTheGate =
     ((now : Ticks) (bytes : List ℕ) (s : Session) (answer : Result Outcome ReceiveError) (t : Session) → ReceivesBytes now bytes s answer t → t.gates ≡ s.gates)

@@ -21,8 +21,8 @@ use Rattle.codec_payload_stream.specs.declared.datagram.RedStream.{RedStream}
 use Rattle.codec_payload_stream.specs.declared.datagram.SentAgain.{SentAgain as LentSentAgain}
 use Rattle.codec_payload_stream.specs.declared.receiver.Retransmission.{Retransmission}
 
--- what tells the datagrams of a stream: its payload type, the types without media, how it is sent in RED, if it is, under what its
--- packets are sent again, if they are, and the ids of header extensions
+-- the settings by which a stream recognises its datagrams: its payload type, the types without media, how it uses RED, the SSRC
+-- and type of retransmissions, and the ids of header extensions
 pub record Kinds : Type 0 where
   pub payload_type : ℕ
   pub no_media : List ℕ
@@ -30,21 +30,21 @@ pub record Kinds : Type 0 where
   pub retransmission : Option Retransmission
   pub ids : ExtensionIds
 
--- a packet that was sent again: the header that came, the number and the SSRC that it had first, and its payload
+-- a retransmission: its header, the original number and SSRC, and the original payload
 pub record Original : Type 0 where
   pub header : Header
   pub number : ℕ
   pub ssrc : ℕ
   pub bytes : List ℕ
 
--- a packet of RED: its header, what tells the numbers of its blocks, the primary block, and those before it
+-- a RED packet: its header, the receiver that numbers its blocks, the primary block, and the redundant blocks
 pub record Carrier : Type 0 where
   pub header : Header
   pub receiver : Receiver
   pub primary : Block
   pub older : List Block
 
--- what a datagram is to a stream
+-- a datagram, as one stream sees it
 pub data Datagram : Type 0 where
   RtcpPacket : Datagram
   Malformed : Malformation → Datagram
@@ -71,32 +71,32 @@ datagram_of (lent.Red r) = InRed (carrier_of r)
 datagram_of (lent.SentAgain s) = Again (original_of s)
 datagram_of lent.Nothing = AgainEmpty
 
--- the type is one of these
+-- the type is in the list
 abbrev pub is_among : ℕ → List ℕ → Bool
 is_among payload_type [] = false
 is_among payload_type (t ∷ ts) = (t == payload_type) || is_among payload_type ts
 
--- it is another SSRC than the one that is known
+-- the SSRC differs from the known SSRC
 abbrev pub is_other : Option ℕ → ℕ → Bool
 is_other None ssrc = false
 is_other (Some known) ssrc = not (known == ssrc)
 
--- there is padding and nothing else
+-- the packet has padding only
 abbrev pub is_padding_only : Packet → Bool
 is_padding_only p = nat_lt 0 p.padding && (length p.payload == 0)
 
--- of a packet of the stream's payload type
+-- a packet with a payload type of the stream
 abbrev pub media_kind : Packet → Datagram
 media_kind p = if is_padding_only p then WithoutMedia p.header else WithMedia p
 
--- Packets of RED (RFC 2198)
+-- RED packets (RFC 2198)
 
--- what reads payloads of that type, if it is that of RED
+-- the RED receiver for this payload type, if it is the one of RED
 abbrev pub red_of : Option RedStream → ℕ → Option Receiver
 red_of None payload_type = None
 red_of (Some red) payload_type = if red.payload_type == payload_type then Some red.receiver else None
 
--- the block that is the packet's own
+-- the primary block
 abbrev pub primary_of : Red → Block
 primary_of r = record { pt = r.pt; timestamp_offset = 0; payload = r.primary; is_primary = true }
 
@@ -107,13 +107,13 @@ red_read receiver h (Some r) = InRed (record { header = h; receiver = receiver; 
 abbrev pub red_kind : Receiver → Packet → Datagram
 red_kind receiver p = if is_padding_only p then WithoutMedia p.header else red_read receiver p.header (red_at p.payload)
 
--- Packets that are sent again (RFC 4588, section 4)
+-- Retransmissions (RFC 4588, section 4)
 
 abbrev pub is_sent_again : Option Retransmission → Header → Bool
 is_sent_again None h = false
 is_sent_again (Some r) h = (r.ssrc == h.ssrc) && (r.payload_type == h.payload_type)
 
--- where that SSRC takes the place of the one before, if it is told
+-- the retransmission settings with this SSRC, if one is given
 abbrev pub under : Option Retransmission → Option ℕ → Option Retransmission
 under None ssrc = None
 under (Some r) None = Some r
@@ -122,12 +122,12 @@ under (Some r) (Some ssrc) = Some (record r { ssrc = ssrc })
 abbrev pub retransmitted_under : Option ℕ → Kinds → Kinds
 retransmitted_under ssrc s = record s { retransmission = under s.retransmission ssrc }
 
--- the SSRC of the stream, or where that is not known, the one that came
+-- the SSRC of the stream, or the SSRC of the packet if the stream's is unknown
 abbrev pub ssrc_or : Option ℕ → ℕ → ℕ
 ssrc_or None ssrc = ssrc
 ssrc_or (Some known) ssrc = known
 
--- the first two bytes are the number that the packet had first; one without payload is padding
+-- the first two bytes are the original number; a retransmission without payload is padding
 abbrev pub again_read : Option ℕ → Header → List ℕ → Datagram
 again_read known h [] = AgainEmpty
 again_read known h (high ∷ []) = Malformed malformations.Retransmission
@@ -138,7 +138,7 @@ again_kind known p = again_read known p.header p.payload
 
 -- Any datagram
 
--- of the stream's payload type, in RED, without media, or of another type
+-- a packet with the payload type of the stream, of RED, without media, or of another type
 abbrev pub own_kind : Kinds → Option Receiver → Packet → Datagram
 own_kind s (Some receiver) p = red_kind receiver p
 own_kind s None p = if is_among p.header.payload_type s.no_media then WithoutMedia p.header else OfOthers
@@ -155,13 +155,13 @@ abbrev pub kind_read : Kinds → Option ℕ → Result Packet RtpError → Datag
 kind_read s ssrc (Err e) = Malformed (malformations.Rtp e)
 kind_read s ssrc (Ok p) = kind_for s ssrc p
 
--- of any bytes
+-- for any bytes
 abbrev pub datagram_at : Kinds → Option ℕ → List ℕ → Datagram
 datagram_at s ssrc bytes = if is_rtcp bytes then RtcpPacket else kind_read s ssrc (rtp_at bytes)
 
 -- Headers
 
--- the header of a packet, as payloads of the stream have it
+-- the header of a packet, with the fields that payloads of the stream have
 abbrev pub header_for : Kinds → Header → RtpHeader
 header_for s h = record {
   payload_type = s.payload_type;
@@ -172,11 +172,11 @@ header_for s h = record {
   ext_vals = values_in s.ids (elements_of h.extension);
 }
 
--- the one that a packet which was sent again had first: its marker, time and extension are as they are
+-- the original header of a retransmission: marker, time and extension are unchanged
 abbrev pub original_header : Kinds → Original → RtpHeader
 original_header s o = record (header_for s o.header) { sequence_number = o.number; ssrc = o.ssrc }
 
--- of a packet that another one carried neither marker nor values are known
+-- a packet from a redundant block has neither marker nor values
 abbrev pub block_header : Kinds → ℕ → RecoveredPacket → RtpHeader
 block_header s ssrc x = record {
   payload_type = s.payload_type;

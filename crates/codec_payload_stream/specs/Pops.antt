@@ -1,4 +1,4 @@
--- Pops of a receiver: each is a pop of the jitter buffer, which the keyframe gate follows.
+-- Pops of a receiver: each is a pop of the jitter buffer, and updates the keyframe gate.
 use Rattle.std.specs.Prelude.{◌≡◌, ◌==◌, ◌↔◌, ◌⊎◌, ℕ, not, Bool, true, false, List, [], ◌∷◌, Option, Some, None, Result, Ok, Err}
 use Rattle.codec_payload_base.specs.declared.error.PacketError.{PacketError}
 use Rattle.codec_payload_base.specs.declared.error.PacketError.TheVariants as faults
@@ -13,7 +13,7 @@ use Rattle.codec_payload_stream.specs.Sessions.{Session, time_with}
 abbrev pub Popped : Type 0
 Popped = Option (Result Release PacketError)
 
--- a pop gave no unit; complete frames were discarded if packets left
+-- a pop returned no unit; complete frames were discarded if packets left
 abbrev pub without_unit : Gating → Bool → Gating
 without_unit g true = with_skip g
 without_unit g false = g
@@ -27,19 +27,19 @@ abbrev pub after_fault : Bool → Gating → Bool → Gating
 after_fault true g has_left = without_unit g has_left
 after_fault false g has_left = with_loss g
 
--- the gate follows an answer
+-- the gate after an answer
 abbrev pub gates_after : Gating → Bool → Popped → Gating
 gates_after g has_left None = without_unit g has_left
 gates_after g has_left (Some (Err fault)) = after_fault (is_memory fault) g has_left
 gates_after g has_left (Some (Ok unit)) = with_unit g unit.bytes unit.contiguous
 
--- a unit may be dropped, any other answer is passed on
+-- a unit can be dropped; any other answer is passed on
 abbrev pub is_passed_on : Gating → Popped → Bool
 is_passed_on g None = true
 is_passed_on g (Some (Err fault)) = true
 is_passed_on g (Some (Ok unit)) = is_passed g unit.bytes unit.contiguous
 
--- packets left with a frame, and not in a unit
+-- the pop discarded packets
 abbrev pub has_left : Receiving → Receiving → Bool
 has_left r t = not (t.counters.left == r.counters.left)
 

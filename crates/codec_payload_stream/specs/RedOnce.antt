@@ -1,4 +1,4 @@
--- No RTP time is stored twice in a stream that is sent in RED (RFC 2198), if each packet has an RTP time of its own.
+-- In a stream with RED (RFC 2198) no RTP time is stored twice, if all packets have different RTP times.
 use Rattle.std.specs.Prelude.{◌≡◌, ℕ, ◌+◌, ◌%◌, ◌^◌, ◌<◌, ◌≤◌, if◌then◌else◌, ◌||◌, Bool, true, false, List, [], ◌∷◌, length, map, slice_get, Some, ⊤}
 use Rattle.std.specs.Option.{is_some}
 use Rattle.codec_payload_base.specs.declared.wire.Ticks.{Ticks}
@@ -14,31 +14,32 @@ pub record Received : Type 0 where
   pub seen : SeenTime
   pub is_stored : Bool
 
--- whether it repeats what was received: a block repeats each packet and each block of its time, a packet repeats each such block
+-- whether it repeats a received packet or block: a block repeats each packet and each block with its time, a packet repeats
+-- each block with its time
 abbrev pub repeats : Seen → SeenTime → Bool
 repeats s x = if x.is_block then is_seen x.time s.places else has_block x.time s.places
 
--- in this order, a receiver stores only those that repeat nothing
+-- a receiver stores only what repeats nothing, in this order
 abbrev pub AreStoredByRule : Seen → List Received → Type 0
 AreStoredByRule s [] = ⊤
 AreStoredByRule s (x ∷ more) = (x.is_stored ≡ true → repeats s x.seen ≡ false) × AreStoredByRule (seen_with x.seen s) more
 
--- If two are stored with one RTP time, at most 64 places apart, both are packets. So if each packet has an RTP time of its own, no time
--- is stored twice.
+-- If two of them are stored with one RTP time, at most 64 places apart, both are packets. So if all packets have different RTP
+-- times, no time is stored twice.
 abbrev pub StoresEachTimeOnce : Type 0
 StoresEachTimeOnce =
     (all : List Received) (i j : ℕ) (x y : Received) → AreStoredByRule none_seen all → i < j → j ≤ i + 64
     → slice_get all i ≡ Some x → slice_get all j ≡ Some y → x.is_stored ≡ true → y.is_stored ≡ true → x.seen.time ≡ y.seen.time
     → (x.seen.is_block ≡ false) × (y.seen.is_block ≡ false)
 
--- What a receiver does is by this rule
+-- A receiver follows this rule
 
--- the times that are remembered after these, in order
+-- the remembered times after these packets and blocks, in order
 abbrev pub seen_after : Seen → List Received → Seen
 seen_after s [] = s
 seen_after s (x ∷ more) = seen_after (seen_with x.seen s) more
 
--- a restart forgets the times before it
+-- a restart forgets all earlier times
 abbrev pub seen_since : Outcome → Seen → Seen
 seen_since o s = if is_restart o then none_seen else s
 
@@ -46,16 +47,16 @@ seen_since o s = if is_restart o then none_seen else s
 abbrev pub packet_with : Outcome → ℕ → Received
 packet_with o time = record { seen = record { time = time; is_block = false }; is_stored = is_stored o || is_restart o }
 
--- a block that was stored
+-- a stored block
 abbrev pub block_at : ℕ → Received
 block_at time = record { seen = record { time = time; is_block = true }; is_stored = true }
 
--- a packet, if it has media, and the stored blocks of these times
+-- a packet, if it has media, and the stored blocks with these times
 abbrev pub listed : Bool → Outcome → ℕ → List ℕ → List Received
 listed true o time blocks = packet_with o time ∷ map block_at blocks
 listed false o time blocks = map block_at blocks
 
--- the times of the stored blocks of a packet; it and they are stored by the rule, and each block counts as recovered
+-- the times of the stored blocks of a packet; packet and blocks are stored by the rule, and each block counts as recovered
 pub record AreListed (has_media : Bool) (o : Outcome) (time : ℕ) (r t : Holding) : Type 0 where
   pub blocks : List ℕ
   pub by_rule : AreStoredByRule (seen_since o r.seen) (listed has_media o time blocks)
@@ -76,11 +77,11 @@ FollowsRule s AgainEmpty o r t = t.seen ≡ r.seen
 abbrev pub HasNoBlock : Seen → Type 0
 HasNoBlock seen = (time : ℕ) → has_block time seen.places ≡ false
 
--- after a restart by a call no block is remembered, until the next packet
+-- after an announced restart no block is remembered, until the next packet
 abbrev pub IsForgotten : Holding → Type 0
 IsForgotten r = r.packets.is_restarting ≡ true → HasNoBlock r.seen
 
--- A receiver of RED stores what each datagram carries by the rule, and remembers its times.
+-- A receiver of RED stores the packet and blocks of each datagram by the rule, and remembers their times.
 abbrev pub ReceivesByRule : Type 0
 ReceivesByRule =
     (s : Kinds) (now : Ticks) (d : Datagram) (r t : Holding) (o : Outcome) (whole : Bool) → is_some s.red ≡ true → IsForgotten r → TakesDatagram s now d r o whole t

@@ -1,4 +1,4 @@
--- What a receiver report tells (RFC 3550, sections 6.4.1, A.3 and A.8).
+-- The fields of a receiver report (RFC 3550, sections 6.4.1, A.3 and A.8).
 use Rattle.std.specs.Prelude.{◌≡◌, ℕ, ◌+◌, ◌-◌, ◌*◌, ◌/◌, ◌%◌, ◌^◌, ◌==◌, nat_le, min, if◌then◌else◌, Option, Some, None, refl}
 use lib.IntN.{ℤ, pos, neg_ℤ}
 use Rattle.codec_payload_base.specs.Time.{rebased}
@@ -7,8 +7,9 @@ use Rattle.codec_payload_jitter.specs.declared.numbers.Extended.{Extended}
 use Rattle.codec_payload_jitter.specs.declared.numbers.Extended.TheVariants as extended
 use Rattle.codec_payload_stream.specs.declared.reports.ReceptionReport.{ReceptionReport}
 
--- the packets of one sender: what is known of their numbers, the rates of both clocks, the number of the first since the latest
--- restart and how many came since then, what the report before said, the transit of the latest, and sixteen times the jitter
+-- the packets of one sender: their numbering; the rates of both clocks; the first number since the latest restart, and how many
+-- packets arrived since then; the counts of the previous report; the transit time of the latest packet; sixteen times the
+-- jitter
 pub record Reception : Type 0 where
   pub numbering : Numbering
   pub tick_rate : ℕ
@@ -33,26 +34,26 @@ no_reception numbering tick_rate rate = record {
   jitter = 0;
 }
 
--- Packets come
+-- Packets arrive
 
--- a time of the caller's clock, by the RTP clock
+-- a time of the caller's clock, converted to the RTP clock
 abbrev pub arrival_of : Reception → ℕ → ℕ
 arrival_of r now = (rebased (record { numer = now; rate = r.tick_rate }) r.rate).numer % 2 ^ 32
 
--- how much later a packet came than its RTP time says (A.8)
+-- the transit time of a packet (A.8)
 abbrev pub transit_of : Reception → ℕ → ℕ → ℕ
 transit_of r now timestamp = (arrival_of r now + (2 ^ 32 - timestamp)) % 2 ^ 32
 
--- how far two times of 32 bits are apart, the shorter way round
+-- the distance between two 32-bit times, the shorter way round
 abbrev pub distance : ℕ → ℕ → ℕ
 distance before after = min ((after + (2 ^ 32 - before)) % 2 ^ 32) ((before + (2 ^ 32 - after)) % 2 ^ 32)
 
--- a sixteenth of what is new goes in, rounded (A.8)
+-- sixteen times the jitter, with a sixteenth of the change, rounded (A.8)
 abbrev pub jitter_after : ℕ → Option ℕ → ℕ → ℕ
 jitter_after jitter None transit = jitter
 jitter_after jitter (Some before) transit = jitter + distance before transit - (jitter + 8) / 16
 
--- the packets begin with that number (A.1)
+-- the packets start again with this number (A.1)
 abbrev pub begun : Reception → ℕ → ℕ → Reception
 begun r n transit = record r { first = n; received = 1; expected_before = 0; received_before = 0; transit = Some transit }
 
@@ -64,33 +65,33 @@ abbrev pub counted_by : Option ℕ → Reception → ℕ → ℕ → Reception
 counted_by None r n transit = begun r n transit
 counted_by (Some greatest) r n transit = gone_on r transit
 
--- by what its number comes to; before it the greatest number was this
+-- by the answer for the number; `before` is the highest number before this packet
 abbrev pub observed_as : Extended → Option ℕ → Reception → ℕ → Reception
 observed_as (extended.Number n) greatest r transit = counted_by greatest r n transit
 observed_as (extended.Restarted n) greatest r transit = begun r n transit
 observed_as extended.Suspect greatest r transit = r
 observed_as extended.Spent greatest r transit = r
 
--- a packet with that number and RTP time came
+-- a packet with this number and RTP time arrived
 abbrev pub observed : Reception → ℕ → ℕ → ℕ → Reception
 observed r now number timestamp =
     observed_as (answer_for r.numbering number) r.numbering.greatest (record r { numbering = numbering_after r.numbering number }) (transit_of r now timestamp)
 
 -- Reports
 
--- from the first number to the greatest
+-- from the first number to the highest
 abbrev pub expected_of : ℕ → ℕ → ℕ
 expected_of greatest first = (greatest - first + 1) % 2 ^ 64
 
--- of so many that were expected, and so many that came; in 256ths, rounded down, as 8 bits hold it
+-- the lost packets in 1/256 of the expected packets, rounded down, in 8 bits
 abbrev pub fraction_of : ℕ → ℕ → ℕ
 fraction_of expected received = if expected == 0 then 0 else min ((expected - received) * 256 / expected) 255
 
--- as 24 bits hold it
+-- limited to 24 bits
 abbrev pub lost_of : ℕ → ℕ → ℤ
 lost_of expected received = if nat_le received expected then pos (min (expected - received) 8388607) else neg_ℤ (pos (min (received - expected) 8388608))
 
--- the greatest number in the low 16 bits, and how many times numbers have wrapped since the first above them
+-- the highest number in the low 16 bits, and above it the number of wraps since the first packet
 abbrev pub highest_of : ℕ → ℕ → ℕ
 highest_of greatest first = (greatest - (first - first % 65536)) % 2 ^ 32
 
@@ -116,7 +117,7 @@ reported_at r (Some greatest) = record r { expected_before = expected_of greates
 abbrev pub reported : Reception → Reception
 reported r = reported_at r r.numbering.greatest
 
--- numbers 50000 to 50003 of which one did not come
+-- numbers 50000 to 50003, one of them missing
 pub one-lost : fraction_of 4 3 ≡ 64
 one-lost = refl
 

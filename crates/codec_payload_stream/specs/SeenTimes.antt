@@ -1,4 +1,4 @@
--- The RTP times of the latest packets and blocks of a stream that is sent in RED (RFC 2198).
+-- The RTP times of the latest packets and blocks of a stream with RED (RFC 2198).
 use Rattle.std.specs.Prelude.{ℕ, ◌+◌, ◌%◌, ◌==◌, ◌&&◌, ◌||◌, Bool, false, List, [], ◌∷◌, Option, Some, None, replicate, slice_set}
 use Rattle.codec_payload_stream.specs.declared.seen_times.SeenTime.{SeenTime}
 
@@ -10,13 +10,13 @@ pub record Seen : Type 0 where
 abbrev pub none_seen : Seen
 none_seen = record { places = replicate 64 None; next = 0 }
 
--- whether a packet of that time arrived, or a block of that time was stored
+-- whether a packet with this time arrived, or a block with this time was stored
 abbrev pub is_seen : ℕ → List (Option SeenTime) → Bool
 is_seen time [] = false
 is_seen time (None ∷ more) = is_seen time more
 is_seen time (Some x ∷ more) = (x.time == time) || is_seen time more
 
--- whether a block of that time was stored
+-- whether a block with this time was stored
 abbrev pub has_block : ℕ → List (Option SeenTime) → Bool
 has_block time [] = false
 has_block time (None ∷ more) = has_block time more

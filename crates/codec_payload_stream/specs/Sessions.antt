@@ -1,4 +1,4 @@
--- A receiver: each datagram, and each of them accounted for.
+-- A receiver: what it does with each datagram, and the counter for each outcome.
 use Rattle.std.specs.Prelude.{◌≡◌, ◌≢◌, ◌⊎◌, ℕ, max, ◌+◌, ◌-◌, ◌*◌, ◌%◌, ◌^◌, ◌==◌, ◌&&◌, ◌||◌, not, length, slice_get, nat_le, nat_lt, if◌then◌else◌, Bool, true, false, List, [], ◌∷◌, Option, Some, None, Result, Ok, Err}
 use Rattle.std.specs.List.{filter_map}
 use Rattle.std.specs.Option.{is_some, option_map}
@@ -43,10 +43,10 @@ use Rattle.codec_payload_stream.specs.declared.receiver.Settings.{Settings}
 use Rattle.codec_payload_stream.specs.declared.receiver.SettingsError.{SettingsError}
 use Rattle.codec_payload_stream.specs.declared.receiver.SettingsError.TheVariants as settings
 
--- a receiver, as contracts see it: what tells the datagrams of the stream, the SSRC that the settings name, if they do, and that of
--- the stream, if it is known, the jitter buffer, how many datagrams came to what before it, the RTP time of the latest unit, what
--- came of the sender, what that begins with, what is known for the choice of the stream, the RTP times of the latest packets and
--- blocks, and which units a decoder can show
+-- a receiver, as contracts see it: the settings of the stream; the SSRC that the settings name; the SSRC of the stream, if it
+-- is known; the jitter buffer; the counters of datagrams before it; the RTP time of the latest unit; the statistics of the
+-- sender, and their first state; the state of the choice; the RTP times of the latest packets and blocks; which units a decoder
+-- can show
 pub record Session : Type 0 where
   pub stream : Kinds
   pub named : Option ℕ
@@ -60,9 +60,9 @@ pub record Session : Type 0 where
   pub seen : Seen
   pub gates : Gating
 
--- Each is accounted for
+-- Every datagram is accounted for
 
--- one more datagram of that kind
+-- one more datagram
 abbrev pub arrived_with : Arrived → Datagram → Arrived
 arrived_with a RtcpPacket = record a { received = next a.received; rtcp = next a.rtcp }
 arrived_with a (Malformed e) = record a { received = next a.received; malformed = next a.malformed }
@@ -73,14 +73,13 @@ arrived_with a (InRed c) = record a { received = next a.received }
 arrived_with a (Again o) = record a { received = next a.received }
 arrived_with a AgainEmpty = record a { received = next a.received }
 
--- each datagram is RTCP, malformed, of another stream, or was pushed; and besides those that were received there are those that
--- others carried
+-- each datagram is RTCP, malformed, of another stream, waiting for the choice, or was pushed; recovered packets were pushed too
 abbrev pub IsSorted : Arrived → PacketCounters → Type 0
 IsSorted a c = (a.received + c.recovered) % 2 ^ 64 ≡ (c.pushed + a.rtcp + a.malformed + a.other_streams) % 2 ^ 64
 
--- Nothing is lost in silence: each datagram that was received, and each packet that was recovered, was RTCP, malformed, of another
--- stream, without media, there already, late, suspect or evicted, or it is held, or it went out in a unit, or left with a frame and
--- not in a unit, or waits for the choice of the stream; counted modulo 2^64
+-- No silent loss: each received datagram and each recovered packet was RTCP, malformed, of another stream, without media, a
+-- duplicate, late, suspect, evicted, released in a unit or discarded with a frame, or it is held, or waits for the choice of
+-- the stream; counted modulo 2^64
 abbrev pub IsAccountedFor : Counters → ℕ → Type 0
 IsAccountedFor c held =
     (c.received + c.packets.recovered) % 2 ^ 64
@@ -89,7 +88,7 @@ IsAccountedFor c held =
 
 -- Receiving
 
--- the SSRC of the first packet is that of the stream
+-- the SSRC of the first packet becomes the SSRC of the stream
 abbrev pub ssrc_after : Option ℕ → Datagram → Option ℕ
 ssrc_after ssrc (WithoutMedia h) = Some h.ssrc
 ssrc_after ssrc (WithMedia p) = Some p.header.ssrc
@@ -100,22 +99,22 @@ ssrc_after ssrc OfOthers = ssrc
 ssrc_after ssrc (Again o) = ssrc
 ssrc_after ssrc AgainEmpty = ssrc
 
--- the numbers of blocks are told from that of the packet; 65,536 on top keeps those before it above 0
+-- the numbers of blocks are counted from the number of the packet; 65,536 is added, so that earlier numbers are above 0
 abbrev pub packet_in : Carrier → Block → Option RecoveredPacket
 packet_in c b = recovered_from c.receiver (65536 + c.header.sequence_number) c.header.timestamp b
 
--- the packet that a block is, as it comes
+-- the packet of a redundant block, on arrival
 abbrev pub block_arrival : Kinds → Ticks → ℕ → RecoveredPacket → Arrival
 block_arrival s now ssrc x = record { now = now; header = block_header s ssrc x; bytes = x.bytes }
 
 abbrev pub carried : Kinds → Ticks → Carrier → Block → Option Arrival
 carried s now c b = option_map (block_arrival s now c.header.ssrc) (packet_in c b)
 
--- the packets that the older blocks are, in the order of their headers
+-- the packets of the redundant blocks, in the order of their headers
 abbrev pub all_carried : Kinds → Ticks → Carrier → List Arrival
 all_carried s now c = filter_map (carried s now c) c.older
 
--- the same of a copy
+-- the same for a copy
 abbrev pub copied : Ticks → BlockCopy → Arrival
 copied now c = record { now = now; header = c.header; bytes = c.payload.items }
 
@@ -129,7 +128,7 @@ abbrev pub block_seen : Bool → ℕ → Seen → Seen
 block_seen true time seen = seen_with (record { time = time; is_block = true }) seen
 block_seen false time seen = seen
 
--- a block is stored if its packet is missing, unless a packet or a block of its time was received
+-- a block is stored if its packet is missing, unless a packet or a block with its time was received
 abbrev pub RecoversUnseen : Bool → Arrival → Holding → Holding → Type 0
 RecoversUnseen true a r t = t ≡ r
 RecoversUnseen false a r t = (went_in : Bool) × Recovers a r.packets went_in t.packets × (t.seen ≡ block_seen went_in a.header.timestamp r.seen)
@@ -137,18 +136,18 @@ RecoversUnseen false a r t = (went_in : Bool) × Recovers a r.packets went_in t.
 abbrev pub RecoversOne : Arrival → Holding → Holding → Type 0
 RecoversOne a r t = RecoversUnseen (is_seen a.header.timestamp r.seen.places) a r t
 
--- each of these goes in where it is missing, in order; with no memory for one, it and those after it do not
+-- each packet that is missing is stored, in order; if memory runs out for a packet, neither it nor a later one is stored
 abbrev pub RecoversAll : Bool → List Arrival → Holding → Holding → Type 0
 RecoversAll true [] r t = t ≡ r
 RecoversAll true (a ∷ more) r t = (mid : Holding) × RecoversOne a r mid × RecoversAll true more mid t
 RecoversAll false [] r t = ⊥
 RecoversAll false (a ∷ more) r t = (t ≡ r) ⊎ ((mid : Holding) × RecoversOne a r mid × RecoversAll false more mid t)
 
--- a packet repeats a block: a block of its time was stored, and the packet would be stored too, under another number
+-- a packet repeats a block: a block with its time was stored, and the packet would be stored too, under another number
 abbrev pub is_repeat : Kinds → Seen → Receiving → (time low : ℕ) → Bool
 is_repeat s seen r time low = (is_some s.red && has_block time seen.places) && would_store r low
 
--- in a stream that is sent in RED the time of each packet with media is noted; a restart forgets the times before it
+-- in a stream with RED the time of each packet with media is noted; a restart forgets all earlier times
 abbrev pub is_restart : Outcome → Bool
 is_restart (outcomes.Restarted _) = true
 is_restart outcomes.Suspect = false
@@ -197,18 +196,18 @@ is_suspect outcomes.OtherStream = false
 is_suspect outcomes.Undecided = false
 is_suspect outcomes.Rtcp = false
 
--- of a suspect packet nothing is recovered
+-- no block of a suspect packet is stored
 abbrev pub RecoversUnless : Bool → Bool → List Arrival → Holding → Holding → Type 0
 RecoversUnless true whole all r t = (whole ≡ true) × (t ≡ r)
 RecoversUnless false whole all r t = RecoversAll whole all r t
 
--- a packet of RED: first what it is itself, and then what it carries
+-- a RED packet: first its primary block, then its redundant blocks
 abbrev pub TakesRed : Kinds → Ticks → Carrier → Holding → Outcome → Bool → Holding → Type 0
 TakesRed s now c r outcome whole t =
     (mid : Receiving) × TakesPrimary s now c r.seen r.packets outcome mid
     × RecoversUnless (is_suspect outcome) whole (all_carried s now c) (record { packets = mid; seen = packet_seen (is_own_media s c) outcome c.header.timestamp r.seen }) t
 
--- the jitter buffer takes in what is its stream's; whole: all that it carries
+-- the jitter buffer stores a datagram of its stream; whole: memory did not run out for a redundant block
 abbrev pub TakesDatagram : Kinds → Ticks → Datagram → Holding → Outcome → Bool → Holding → Type 0
 TakesDatagram s now RtcpPacket r outcome whole t = (outcome ≡ outcomes.Rtcp) × (t ≡ r)
 TakesDatagram s now (Malformed e) r outcome whole t = t ≡ r
@@ -224,13 +223,13 @@ TakesDatagram s now (Again o) r outcome whole t =
 TakesDatagram s now AgainEmpty r outcome whole t =
     (outcome ≡ outcomes.NoMedia) × (t ≡ record r { packets = record r.packets { counters = counted r.packets.counters outcomes.NoMedia } })
 
--- the fault that is told of a malformed datagram
+-- the error for a malformed datagram
 abbrev pub error_of : Malformation → ReceiveError
 error_of (malformations.Rtp e) = errors.Rtp e
 error_of malformations.Red = errors.Red
 error_of malformations.Retransmission = errors.Retransmission
 
--- what is told of a packet of RED, where all that it carries was looked at, or memory was wanting for some of it
+-- the answer for a RED packet, after all blocks, or if memory ran out for one of them
 abbrev pub told_of_red : Bool → Outcome → Result Outcome ReceiveError
 told_of_red true outcome = Ok outcome
 told_of_red false outcome = Err errors.BlocksOutOfMemory
@@ -245,7 +244,7 @@ AnswersFor (InRed c) outcome whole answer = answer ≡ told_of_red whole outcome
 AnswersFor (Again o) outcome whole answer = answer ≡ Ok outcome
 AnswersFor AgainEmpty outcome whole answer = answer ≡ Ok outcome
 
--- the packets of the stream's sender are counted for reports, as they came: not those that were sent again apart
+-- packets of the stream's sender are counted for reports as they arrive; retransmissions in their own stream are not
 abbrev pub observed_in : Reception → ℕ → Datagram → Reception
 observed_in r now (WithoutMedia h) = observed r now h.sequence_number h.timestamp
 observed_in r now (WithMedia p) = observed r now p.header.sequence_number p.header.timestamp
@@ -256,7 +255,7 @@ observed_in r now OfOthers = r
 observed_in r now (Again o) = r
 observed_in r now AgainEmpty = r
 
--- a datagram is received, and its outcome told
+-- a datagram is received, and its outcome reported
 pub record Hears (now : Ticks) (d : Datagram) (s : Session) (answer : Result Outcome ReceiveError) (t : Session) : Type 0 where
   pub outcome : Outcome
   pub whole : Bool
@@ -273,7 +272,7 @@ pub record Hears (now : Ticks) (d : Datagram) (s : Session) (answer : Result Out
     seen = seen;
   }
 
--- where memory was wanting, nothing has changed
+-- if memory ran out, nothing has changed
 abbrev pub Heard : Ticks → Datagram → Session → Result Outcome ReceiveError → Session → Type 0
 Heard now d s (Err errors.OutOfMemory) t = t ≡ s
 Heard now d s (Err (errors.Rtp e)) t = Hears now d s (Err (errors.Rtp e)) t
@@ -284,7 +283,7 @@ Heard now d s (Ok outcome) t = Hears now d s (Ok outcome) t
 
 -- The choice of the stream
 
--- no SSRC is named, the stream has not ended, and none was chosen so far, or what was chosen has been silent for 2 s
+-- no SSRC is named, the stream has not ended, and no SSRC was chosen, or the chosen stream was silent for 2 s
 abbrev pub is_none_of : Option ℕ → Bool
 is_none_of None = true
 is_none_of (Some n) = false
@@ -292,11 +291,11 @@ is_none_of (Some n) = false
 abbrev pub is_open : Session → ℕ → Bool
 is_open s now = is_none_of s.named && not s.packets.ended && (is_none_of s.ssrc || is_silent s.choice now)
 
--- what is to be done with a datagram
+-- what to do with a datagram
 abbrev pub verdict_in : Session → ℕ → List ℕ → Verdict
 verdict_in s now bytes = if is_open s now then verdict_of s.choice.candidates s.ssrc (origin_of (datagram_at s.stream None bytes)) else verdicts.Hear
 
--- so many packets that waited are of other streams
+-- `count` waiting packets are of other streams
 abbrev pub turned_away : ℕ → Arrived → Arrived
 turned_away n a = record a { received = (a.received + n) % 2 ^ 64; other_streams = (a.other_streams + n) % 2 ^ 64 }
 
@@ -304,7 +303,7 @@ abbrev pub turned_away_if : Bool → Arrived → Arrived
 turned_away_if true a = turned_away 1 a
 turned_away_if false a = a
 
--- a datagram waits, for which another one may leave; where memory is wanting, nothing has changed
+-- a datagram waits, and may replace another one; if memory runs out, nothing has changed
 pub record Waits (now : Ticks) (o : Origin) (bytes : List ℕ) (s t : Session) : Type 0 where
   pub candidate : Candidate
   pub is : IsCandidate now o bytes candidate
@@ -317,12 +316,12 @@ abbrev pub Keeps : Ticks → Origin → List ℕ → Session → Result Outcome 
 Keeps now o bytes s (Ok outcome) t = (outcome ≡ outcomes.Undecided) × Waits now o bytes s t
 Keeps now o bytes s (Err fault) t = (fault ≡ errors.OutOfMemory) × (t ≡ s)
 
--- none waits any more; the stream's SSRC is that
+-- no packet waits any more; the stream has this SSRC
 abbrev pub settled_on : ℕ → Session → Session
 settled_on ssrc s = record s { ssrc = Some ssrc; choice = record s.choice { candidates = [] } }
 
--- the stream is that of the packet that waits: this is received first, as it came; the others that wait are of other streams. Where
--- memory is wanting for it, nothing has changed
+-- the waiting packet chooses the stream: it is received first, with its time of arrival. The other waiting packets are of other
+-- streams. If memory runs out for it, nothing has changed
 pub record Settles (c : Candidate) (s t : Session) : Type 0 where
   pub answer : Result Outcome ReceiveError
   pub mid : Session
@@ -335,11 +334,11 @@ SettlesOn None whole s t = (whole ≡ true) × (t ≡ s)
 SettlesOn (Some c) true s t = Settles c s t
 SettlesOn (Some c) false s t = t ≡ s
 
--- the next packet is the first of another sender, with that SSRC if it is known
+-- the next packet is the first of another sender, with this SSRC if it is known
 abbrev pub gone_over_to : Option ℕ → Session → Session
 gone_over_to ssrc s = record s { ssrc = ssrc; packets = begun_anew s.packets; reception = s.no_reception; seen = none_seen }
 
--- a stream that was silent is left, as if the caller had told a restart
+-- a stream that was silent is left, as if the caller had announced a restart
 abbrev pub opened_if : Bool → Session → Session
 opened_if true s = s
 opened_if false s = gone_over_to None s
@@ -363,11 +362,11 @@ ReceivesBy verdicts.Hear now bytes s answer t = Heard now (datagram_at s.stream 
 ReceivesBy (verdicts.Keep o) now bytes s answer t = Keeps now o bytes s answer t
 ReceivesBy (verdicts.Choose place) now bytes s answer t = Chooses place now bytes s answer t
 
--- any bytes are received; where memory is wanting to tell what they are, nothing has changed
+-- any bytes are received; if memory runs out before the datagram is sorted, nothing has changed
 abbrev pub ReceivesBytes : Ticks → List ℕ → Session → Result Outcome ReceiveError → Session → Type 0
 ReceivesBytes now bytes s answer t = ReceivesBy (verdict_in s now.0 bytes) now bytes s answer t ⊎ ((answer ≡ Err errors.OutOfMemory) × (t ≡ s))
 
--- the end of the stream: of packets that wait the first is received, unless memory is wanting for it
+-- the end of the stream: the first waiting packet is received, unless memory runs out for it
 abbrev pub ended : Session → Session
 ended s = record s { packets = record s.packets { ended = true; is_restarting = false } }
 
@@ -377,13 +376,13 @@ first_waiting s = if is_none_of s.ssrc then slice_get s.choice.candidates 0 else
 abbrev pub Finishes : Session → Session → Type 0
 Finishes s t = (whole : Bool) × (mid : Session) × SettlesOn (first_waiting s) whole s mid × (t ≡ ended mid)
 
--- the sender begins anew: packets that wait are of other streams, and a keyframe is needed
+-- the sender has restarted: waiting packets are of other streams, and a keyframe is needed
 abbrev pub restarted : Option ℕ → Session → Session
 restarted ssrc s = gone_over_to ssrc (record s { arrived = turned_away (length s.choice.candidates) s.arrived; choice = record s.choice { candidates = []; latest = None }; gates = with_skip s.gates })
 
 -- Pops
 
--- the RTP time of the latest unit, extended to one that does not wrap: the nearest to that of the unit before
+-- the RTP time of the latest unit, without wrapping: the time nearest to the previous unit's
 abbrev pub time_with : Option ℕ → Option (Result Release PacketError) → Option ℕ
 time_with time None = time
 time_with time (Some (Err fault)) = time
@@ -394,7 +393,7 @@ time_with time (Some (Ok unit)) = Some (extended_time time (unit.time.numer % 2 
 abbrev pub nothing_arrived : Arrived
 nothing_arrived = record { received = 0; rtcp = 0; malformed = 0; other_streams = 0 }
 
--- RED has a payload type of its own, and a step of 1 to 16,383 ticks
+-- RED has a payload type that differs from the stream's, and a step of 1 to 16,383 ticks
 abbrev pub red_by : ℕ → RedSettings → Result (Option RedStream) SettingsError
 red_by payload_type red =
     if nat_le red.payload_type 127 && not (red.payload_type == payload_type)
@@ -410,7 +409,7 @@ abbrev pub retransmission_fits : Option Retransmission → Bool
 retransmission_fits None = true
 retransmission_fits (Some r) = nat_le r.payload_type 127
 
--- for how many packets of one datagram places are kept free: a packet of RED has its blocks
+-- how many places are kept free for the packets of one datagram: a RED packet has its blocks
 abbrev pub packets_at_once : Option RedStream → ℕ
 packets_at_once None = 2
 packets_at_once (Some red) = 10
@@ -454,7 +453,7 @@ abbrev pub session_in : Settings → DepacketizerState → Result (Option RedStr
 session_in s depacketizer (Err fault) = Err fault
 session_in s depacketizer (Ok red) = session_within s depacketizer red (numbering_within s.forward s.backward)
 
--- of settings in range; else the first that is not is told
+-- a receiver for settings in range; otherwise the first setting out of range is reported
 abbrev pub session_by : Settings → DepacketizerState → Result Session SettingsError
 session_by s depacketizer =
     if nat_le s.payload_type 127 then (if nat_le 1 s.limit && nat_le s.limit 65536

@@ -1,4 +1,4 @@
-//! What packets of RED carry besides their own media.
+//! The earlier packets that a RED packet repeats in its redundant blocks.
 
 ghost use Rattle.std.specs.Prelude.{◌≡◌, IfOk, map};
 ghost use Rattle.std.specs.Option.{option_map};
@@ -16,14 +16,14 @@ use codec_payload_red::red::RedBlock;
 use std::alloc::AllocError;
 use std::collections::VecDeque;
 
-/// A packet that another one carried, in memory of its own.
+/// A packet from a redundant block, with its payload copied.
 #[derive(Debug, Drop)]
 pub(crate) struct BlockCopy {
     header: Header,
     payload: Vec<u8>,
 }
 
-/// The packets that the older blocks of a packet are, in the order of their headers.
+/// The packets of the redundant blocks, in the order of the block headers.
 pub(crate) fn copy_blocks(
     stream: &Stream,
     red: &RedPacket<'_>,
@@ -33,7 +33,7 @@ pub(crate) fn copy_blocks(
     copy_each(stream, red, &red.older)
 }
 
-/// The packets that these blocks of a packet are, in order.
+/// Copies the packets of the redundant blocks, in order.
 fn copy_each(
     stream: &Stream,
     red: &RedPacket<'_>,
@@ -53,7 +53,7 @@ fn copy_each(
     Ok(copies)
 }
 
-/// The packet that an older block of a packet is, if it is one.
+/// Returns the packet of a redundant block, if the block carries one.
 fn copy_block(
     stream: &Stream,
     red: &RedPacket<'_>,
@@ -73,8 +73,8 @@ fn copy_block(
     }
 }
 
-/// Stores the missing ones of these packets, in order, except those whose RTP time was received. Returns whether there was memory for
-/// all of them: if there is none for one, neither it nor any after it is stored.
+/// Stores each of these packets that is missing, in order, except packets whose RTP time was received. Returns false if memory
+/// runs out for a packet: that packet and all later ones are not stored.
 pub(crate) fn recover_all<B: Depacketizer>(
     packets: &mut JitterBuffer<B>,
     seen: &mut SeenTimes,
@@ -96,7 +96,7 @@ pub(crate) fn recover_all<B: Depacketizer>(
     true
 }
 
-/// Notes the time of a block, if it was stored.
+/// Notes the time of a block that was stored.
 fn note_block(seen: &mut SeenTimes, went_in: bool, time: u32)
     ensures { seen.new ≡ block_seen went_in time seen.old }
 {

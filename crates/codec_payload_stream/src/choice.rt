@@ -1,4 +1,4 @@
-//! Which SSRC the stream has, where the settings name none: that of the first two packets of one SSRC whose numbers are near.
+//! The choice of the stream, if the settings name no SSRC: the first two packets of one SSRC with near numbers choose it.
 
 ghost use Rattle.std.specs.Prelude.{◌≡◌, ◌*◌, [], IfOk, OnErr, Option};
 ghost use Rattle.std.specs.Option.{is_some};
@@ -11,10 +11,10 @@ use codec_payload_base::wire::{Frequency, Ticks};
 use std::alloc::{AllocError, Global};
 use std::marker::Model;
 
-/// How many packets wait at most, each of another SSRC.
+/// The largest number of packets that wait, each of another SSRC.
 const MOST: usize = 4;
 
-/// How far the numbers of two packets of one stream may lie apart.
+/// The largest distance between the numbers of two packets that choose a stream.
 const NEAR: u32 = 100;
 
 /// A packet that waits for the stream to be chosen.
@@ -26,33 +26,33 @@ pub(crate) struct Candidate {
     pub(crate) bytes: Vec<u8>,
 }
 
-/// What is known for the choice of the stream.
+/// The state of the choice.
 #[derive(Debug, Drop)]
 pub(crate) struct Choice {
     alloc: Global,
-    /// Packets that wait, in the order in which they came.
+    /// Packets that wait, in order of arrival.
     pub(crate) candidates: Vec<Candidate>,
-    /// When the latest packet of the stream came.
+    /// The time at which the latest packet of the stream arrived.
     latest: Option<u64>,
-    /// For how many ticks the stream is silent before another may be chosen.
+    /// How many ticks the stream must be silent before another one can be chosen.
     silence: u64,
 }
 
-/// Of which SSRC a packet is, and its number.
+/// The SSRC of a packet, and its number.
 #[derive(Clone, Copy, Debug)]
 pub(crate) struct Origin {
     pub(crate) ssrc: u32,
     pub(crate) number: u16,
 }
 
-/// What is to be done with a datagram.
+/// What to do with a datagram.
 #[derive(Clone, Copy, Debug)]
 pub(crate) enum Verdict {
-    /// It is received as the stream has it.
+    /// Receive it, by the SSRC of the stream.
     Hear,
-    /// It waits: no packet near it does so far.
+    /// Keep it: no packet near it waits so far.
     Keep(Origin),
-    /// The candidate at this place is of its SSRC, and near it: that SSRC is the stream's.
+    /// Choose its SSRC: the candidate at this place has the same SSRC and a near number.
     Choose(usize),
 }
 
@@ -69,7 +69,7 @@ impl Model for Choice {
 }
 
 impl Choice {
-    /// No packet came so far; another stream may be chosen after 2 s of silence.
+    /// Creates the state before the first packet. Another stream can be chosen after 2 s of silence.
     pub(crate) fn over(alloc: Global, tick_rate: Frequency) -> Choice
         ensures { result ≡ no_choice (2 * tick_rate) }
     {
@@ -81,7 +81,7 @@ impl Choice {
         }
     }
 
-    /// Whether no packet of the stream came for so long that another may be chosen.
+    /// Returns whether the stream was silent long enough for another one to be chosen.
     pub(crate) fn is_silent(&self, now: Ticks) -> bool
         ensures { result ≡ is_silent self.now now.0 }
     {
@@ -91,7 +91,7 @@ impl Choice {
         }
     }
 
-    /// What is to be done with a datagram, where the stream has that SSRC, if it is known.
+    /// Returns what to do with a datagram, for a stream with this SSRC, if it is known.
     pub(crate) fn verdict(&self, known: Option<u32>, datagram: &Datagram<'_>) -> Verdict
         ensures { result ≡ verdict_of self.now.candidates known (origin_of (datagram_of datagram.now)) }
     {
@@ -107,7 +107,7 @@ impl Choice {
         }
     }
 
-    /// A datagram came.
+    /// Notes the time of a datagram, if it belongs to the stream.
     pub(crate) fn note(&mut self, now: Ticks, datagram: &Datagram<'_>)
         ensures { self.new ≡ record self.old { latest = latest_after self.old.latest now.0 (origin_of (datagram_of datagram.now)) } }
     {
@@ -116,7 +116,7 @@ impl Choice {
         }
     }
 
-    /// Nothing waits, and no packet came so far.
+    /// Resets the state: no packet waits, and no packet arrived.
     pub(crate) fn forget(&mut self)
         ensures { self.new ≡ record self.old { candidates = []; latest = Option.None } }
     {
@@ -124,7 +124,11 @@ impl Choice {
         self.latest = None;
     }
 
-    /// A datagram waits. Whether another one left for it. Where memory is wanting, nothing has changed.
+    /// Keeps a datagram until the stream is chosen. Returns whether another waiting datagram was replaced.
+    ///
+    /// # Errors
+    ///
+    /// `AllocError`: nothing has changed.
     pub(crate) fn keep(
         &mut self,
         now: Ticks,
@@ -154,7 +158,7 @@ impl Choice {
     }
 }
 
-/// Of which SSRC a packet of the stream's payload types is, and its number, as its sender sent it first.
+/// Returns the SSRC and the number of a packet with a payload type of the stream. Retransmissions have none.
 fn origin_of(datagram: &Datagram<'_>) -> Option<Origin>
     ensures { result ≡ origin_of (datagram_of datagram.now) }
 {
@@ -169,7 +173,7 @@ fn origin_of(datagram: &Datagram<'_>) -> Option<Origin>
     })
 }
 
-/// Whether it is that SSRC.
+/// Returns whether `ssrc` is the known SSRC.
 fn is_the(known: Option<u32>, ssrc: u32) -> bool
     ensures { result ≡ is_the known ssrc }
 {
@@ -179,7 +183,7 @@ fn is_the(known: Option<u32>, ssrc: u32) -> bool
     }
 }
 
-/// Whether two numbers are 1 to 100 apart, either way.
+/// Returns whether two numbers are 1 to 100 apart, in either order.
 fn are_near(m: u16, n: u16) -> bool
     ensures { result ≡ are_near m n }
 {
@@ -187,28 +191,29 @@ fn are_near(m: u16, n: u16) -> bool
     0 < apart && (apart <= NEAR || 65_536 - NEAR <= apart)
 }
 
-/// Where a packet of that SSRC with a number near that one waits, if one does.
+/// Returns the place at which a packet of this SSRC with a near number waits, if there is one.
 fn near_place(candidates: &[Candidate], origin: Origin) -> Option<usize>
     ensures { result ≡ near_place origin candidates.now }
 {
     candidates.iter().position(|c| c.ssrc == origin.ssrc && are_near(c.number, origin.number))
 }
 
-/// Which of these leaves for a packet of that SSRC: the one of the same SSRC, or of four the first.
+/// Returns the place of the packet that a packet of this SSRC replaces: a packet of the same SSRC, or the first of four
+/// packets.
 fn leaving(candidates: &[Candidate], ssrc: u32) -> Option<usize>
     ensures { result ≡ leaving ssrc candidates.now }
 {
     first_of_four(same_place(candidates, ssrc), candidates.len())
 }
 
-/// Where a packet of that SSRC waits, if one does.
+/// Returns the place at which a packet of this SSRC waits, if there is one.
 fn same_place(candidates: &[Candidate], ssrc: u32) -> Option<usize>
     ensures { result ≡ same_place ssrc candidates.now }
 {
     candidates.iter().position(|c| c.ssrc == ssrc)
 }
 
-/// That place, or where there is none, the first of four that wait.
+/// Returns this place, or without one the first place if four packets wait.
 fn first_of_four(place: Option<usize>, count: usize) -> Option<usize>
     ensures { result ≡ first_of_four place count }
 {

@@ -1,4 +1,4 @@
-//! Which datagrams belong to a stream, and what the jitter buffer does with each.
+//! Which datagrams belong to a stream, and how they reach its jitter buffer.
 
 ghost use Rattle.std.specs.Prelude.{◌≡◌, IfOk, OnErr, IfErr, true};
 ghost use Rattle.codec_payload_base.specs.declared.error.PacketError.TheVariants.{OutOfMemory};
@@ -22,18 +22,18 @@ use codec_payload_rtp::values::ExtensionIds;
 use std::alloc::Global;
 use std::marker::Model;
 
-/// Why a datagram is none of any stream.
+/// The reason why a datagram is malformed.
 #[derive(Clone, Copy, Debug)]
 pub(crate) enum Malformation {
-    /// It is no RTP packet.
+    /// It is not an RTP packet.
     Rtp(RtpError),
-    /// It is a packet of RED, and its payload is none.
+    /// The payload of a RED packet is not valid RED.
     Red,
-    /// It is a packet that was sent again, and its payload ends before the number that it had first.
+    /// The payload of a retransmission ends inside the original sequence number.
     Retransmission,
 }
 
-/// A packet of RED.
+/// A RED packet.
 #[derive(Debug, Drop)]
 pub(crate) struct RedPacket<'a> {
     pub(crate) packet: RtpPacket<'a>,
@@ -42,20 +42,20 @@ pub(crate) struct RedPacket<'a> {
     pub(crate) older: Vec<RedBlock<'a>>,
 }
 
-/// A packet that was sent again (RFC 4588, section 4).
+/// A retransmission (RFC 4588, section 4).
 #[derive(Clone, Copy, Debug)]
 pub(crate) struct SentAgain<'a> {
-    /// The header that came.
+    /// The header of the retransmission.
     header: RtpHeader<'a>,
-    /// The number that the packet had first.
+    /// The original sequence number.
     number: u16,
-    /// The SSRC that it had first.
+    /// The original SSRC.
     ssrc: u32,
-    /// The payload that it had first.
+    /// The original payload.
     payload: &'a [u8],
 }
 
-/// What a datagram is to a stream.
+/// What a datagram is, as one stream sees it.
 #[derive(Debug, Drop)]
 pub(crate) enum Datagram<'a> {
     Rtcp,
@@ -65,27 +65,27 @@ pub(crate) enum Datagram<'a> {
     Media(RtpPacket<'a>),
     Red(RedPacket<'a>),
     SentAgain(SentAgain<'a>),
-    /// It is a packet that was sent again and has nothing in it.
+    /// A retransmission without payload.
     Nothing,
 }
 
-/// How a stream is sent in RED.
+/// How a stream uses RED.
 #[derive(Clone, Copy, Debug)]
 pub(crate) struct RedStream {
     pub(crate) payload_type: u8,
     pub(crate) receiver: RedReceiver,
 }
 
-/// What became of a datagram.
+/// The result of receiving a datagram.
 #[derive(Clone, Copy, Debug)]
 pub(crate) struct Taken {
     pub(crate) outcome: Outcome,
-    /// Whether there was memory for all that it carries.
+    /// False if memory ran out for a redundant block.
     pub(crate) whole: bool,
 }
 
 impl Taken {
-    /// It carries nothing else, or nothing of what it carries is looked at.
+    /// Returns the result for a datagram without redundant blocks to store.
     fn whole(outcome: Outcome) -> Taken
         ensures { result ≡ record { outcome = outcome; whole = true } }
     {
@@ -96,7 +96,7 @@ impl Taken {
     }
 }
 
-/// What tells the datagrams of a stream.
+/// The settings by which a stream recognises its datagrams.
 #[derive(Debug, Drop)]
 pub(crate) struct Stream {
     pub(crate) alloc: Global,
@@ -121,7 +121,7 @@ impl Model for Stream {
     } };
 }
 
-/// Whether the payload type is one of these.
+/// Returns whether the payload type is in the list.
 fn is_among(payload_type: u8, types: &[u8]) -> bool
     ensures { result ≡ is_among payload_type types.now }
 {
@@ -133,7 +133,7 @@ fn is_among(payload_type: u8, types: &[u8]) -> bool
     false
 }
 
-/// Whether it is another SSRC than the one that is known.
+/// Returns whether `ssrc` differs from the known SSRC.
 fn is_other(known: Option<u32>, ssrc: u32) -> bool
     ensures { result ≡ is_other known ssrc }
 {
@@ -143,7 +143,7 @@ fn is_other(known: Option<u32>, ssrc: u32) -> bool
     }
 }
 
-/// Whether it is a packet that was sent again.
+/// Returns whether the packet is a retransmission.
 fn is_sent_again(retransmission: Option<Retransmission>, header: &RtpHeader<'_>) -> bool
     ensures { result ≡ is_sent_again retransmission (header_of header.now) }
 {
@@ -153,7 +153,7 @@ fn is_sent_again(retransmission: Option<Retransmission>, header: &RtpHeader<'_>)
     }
 }
 
-/// Under what packets are retransmitted, where that SSRC takes the place of the one before.
+/// Returns the retransmission settings with this SSRC, if one is given.
 fn under(retransmission: Option<Retransmission>, ssrc: Option<u32>) -> Option<Retransmission>
     ensures { result ≡ under retransmission ssrc }
 {
@@ -163,14 +163,14 @@ fn under(retransmission: Option<Retransmission>, ssrc: Option<u32>) -> Option<Re
     }
 }
 
-/// Whether there is padding and nothing else.
+/// Returns whether the packet has padding only.
 fn is_padding_only(packet: &RtpPacket<'_>) -> bool
     ensures { result ≡ is_padding_only (packet_of packet.now) }
 {
     0 < packet.padding && packet.payload.is_empty()
 }
 
-/// A packet of the stream's payload type.
+/// Sorts a packet with a payload type of the stream.
 fn media_kind<'a>(packet: RtpPacket<'a>) -> Datagram<'a>
     ensures { datagram_of result ≡ media_kind (packet_of packet.entry) }
 {
@@ -181,7 +181,7 @@ fn media_kind<'a>(packet: RtpPacket<'a>) -> Datagram<'a>
     }
 }
 
-/// The SSRC of the stream, or where that is not known, the one that came.
+/// Returns the SSRC of the stream, or the SSRC of the packet if the stream's is unknown.
 fn ssrc_or(known: Option<u32>, ssrc: u32) -> u32
     ensures { result ≡ ssrc_or known ssrc }
 {
@@ -191,7 +191,7 @@ fn ssrc_or(known: Option<u32>, ssrc: u32) -> u32
     }
 }
 
-/// A packet that was sent again.
+/// Sorts a retransmission.
 fn again_kind<'a>(known: Option<u32>, packet: RtpPacket<'a>) -> Datagram<'a>
     ensures { datagram_of result ≡ again_kind known (packet_of packet.entry) }
 {
@@ -207,7 +207,7 @@ fn again_kind<'a>(known: Option<u32>, packet: RtpPacket<'a>) -> Datagram<'a>
     }
 }
 
-/// A packet of RED.
+/// Sorts a RED packet.
 fn red_kind<'a>(
     alloc: Global,
     receiver: RedReceiver,
@@ -236,7 +236,7 @@ fn red_kind<'a>(
 }
 
 impl Stream {
-    /// What a datagram is to the stream, whose SSRC is that, if it is known.
+    /// Sorts a datagram, for a stream with this SSRC, if it is known.
     pub(crate) fn sort<'a>(
         &self,
         ssrc: Option<u32>,
@@ -254,7 +254,7 @@ impl Stream {
         }
     }
 
-    /// What an RTP packet is to the stream.
+    /// Sorts an RTP packet.
     fn kind_of<'a>(
         &self,
         ssrc: Option<u32>,
@@ -283,14 +283,14 @@ impl Stream {
         }
     }
 
-    /// Packets are retransmitted under that SSRC from now on, if they are retransmitted and it is told.
+    /// Sets the SSRC of retransmissions, if the stream has retransmissions and an SSRC is given.
     pub(crate) fn retransmit_under(&mut self, ssrc: Option<u32>)
         ensures { self.new ≡ retransmitted_under ssrc self.old }
     {
         self.retransmission = under(self.retransmission, ssrc);
     }
 
-    /// What reads payloads of that type, if it is that of RED.
+    /// Returns the RED receiver for this payload type, if it is the one of RED.
     fn red_of(&self, payload_type: u8) -> Option<RedReceiver>
         ensures { result ≡ red_of self.now.red payload_type }
     {
@@ -300,7 +300,7 @@ impl Stream {
         }
     }
 
-    /// The header of a packet, as payloads of the stream have it.
+    /// Returns the header of a packet, with the fields that payloads of the stream have.
     fn header_for(&self, header: &RtpHeader<'_>) -> Header
         ensures { result ≡ header_for self.now (header_of header.now) }
     {
@@ -314,7 +314,7 @@ impl Stream {
         }
     }
 
-    /// The jitter buffer takes in a packet with media.
+    /// Stores a packet with media in the jitter buffer.
     fn push_packet<B: Depacketizer>(
         &self,
         packets: &mut JitterBuffer<B>,
@@ -330,7 +330,7 @@ impl Stream {
         packets.push(now, self.header_for(header), payload)
     }
 
-    /// The jitter buffer takes in a packet that was sent again, under the number that it had first.
+    /// Stores a retransmitted packet in the jitter buffer, under its original number.
     fn push_retransmitted<B: Depacketizer>(
         &self,
         packets: &mut JitterBuffer<B>,
@@ -355,7 +355,8 @@ impl Stream {
         red.primary.pt == self.payload_type
     }
 
-    /// Returns whether a packet of that time and number repeats a block: a block of its time was stored under another number.
+    /// Returns whether a packet with this time and number repeats a block: a block with its time was stored under another
+    /// number.
     fn is_repeat<B: Depacketizer>(
         &self,
         seen: &SeenTimes,
@@ -368,7 +369,8 @@ impl Stream {
         self.red.is_some() && seen.has_block(time) && packets.would_store(number)
     }
 
-    /// Stores the primary block of a packet, if it is media of the stream and repeats no block. Else the packet has no media.
+    /// Stores the primary block of a packet, if it is media of the stream and repeats no block. Otherwise the packet has no
+    /// media.
     fn push_primary<B: Depacketizer>(
         &self,
         packets: &mut JitterBuffer<B>,
@@ -390,7 +392,7 @@ impl Stream {
         }
     }
 
-    /// The header of a packet that another one carried.
+    /// Returns the header of a packet from a redundant block.
     pub(crate) fn block_header(&self, ssrc: u32, recovered: &Recovered<'_>) -> Header
         ensures { result ≡ block_header self.now ssrc (recovered_of recovered.now) }
     {
@@ -404,8 +406,8 @@ impl Stream {
         }
     }
 
-    /// The jitter buffer takes in a packet of RED: what it is itself, and unless that is suspect, what it carries. The payloads of
-    /// what it carries are copied first.
+    /// Stores a RED packet: its primary block, and its redundant blocks unless the packet is suspect. The payloads of the
+    /// blocks are copied first.
     fn push_red<B: Depacketizer>(
         &self,
         packets: &mut JitterBuffer<B>,
@@ -473,7 +475,7 @@ impl Stream {
         self.push_retransmitted(packets, now, sent)
     }
 
-    /// The jitter buffer takes in what is its stream's.
+    /// Stores a datagram of the stream in the jitter buffer, or counts it there.
     pub(crate) fn take<B: Depacketizer>(
         &self,
         packets: &mut JitterBuffer<B>,
@@ -519,7 +521,7 @@ fn is_restart(outcome: Outcome) -> bool
     matches!(outcome, Outcome::Restarted(_))
 }
 
-/// Notes the time of a packet, if it has media and its stream is sent in RED. A restart forgets the times before it.
+/// Notes the time of a packet, if it has media and the stream uses RED. A restart forgets all earlier times.
 fn note_packet(seen: &mut SeenTimes, is_media: bool, outcome: Outcome, time: u32)
     ensures { seen.new ≡ packet_seen is_media outcome time seen.old }
 {
@@ -535,7 +537,7 @@ fn note_packet(seen: &mut SeenTimes, is_media: bool, outcome: Outcome, time: u32
     });
 }
 
-/// The SSRC of the stream, once that datagram came.
+/// Returns the SSRC of the stream after this datagram.
 pub(crate) fn ssrc_after(ssrc: Option<u32>, datagram: &Datagram<'_>) -> Option<u32>
     ensures { result ≡ ssrc_after ssrc (datagram_of datagram.now) }
 {
@@ -546,7 +548,7 @@ pub(crate) fn ssrc_after(ssrc: Option<u32>, datagram: &Datagram<'_>) -> Option<u
     }
 }
 
-/// A packet of the stream's sender came.
+/// Passes a packet of the stream's sender to the statistics.
 pub(crate) fn observe(statistics: &mut ReceptionStatistics, now: Ticks, datagram: &Datagram<'_>)
     ensures { statistics.new ≡ observed_in statistics.old now.0 (datagram_of datagram.now) }
 {

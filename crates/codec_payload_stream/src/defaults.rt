@@ -12,31 +12,38 @@ use codec_payload_keyframes::unit_gate::FromKeyframe;
 use codec_payload_rtp::values::ExtensionIds;
 use std::alloc::Global;
 
-/// How many packets a receiver with default settings holds at most.
+/// The largest number of packets that a receiver with default settings holds.
 const LIMIT: usize = 4_096;
 
-/// At least the packets of 5 s behind and more than twice as many ahead, of packets of 20 ms or less often.
+/// Windows for packets of 20 ms or more: the backward window holds at least 5 s, the forward window more than twice as many
+/// packets.
 const AUDIO: Windows = Windows {
     forward: 3_000,
     backward: 1_000,
 };
 
-/// The same of 1,000 packets each second.
+/// The same for 1,000 packets per second.
 const VIDEO: Windows = Windows {
     forward: 12_000,
     backward: 5_000,
 };
 
 impl Settings {
-    /// Returns settings for live audio without retransmission. `payload_type` is 0 to 127, and the rate is that of the RTP clock.
+    /// Returns settings for live audio without retransmission. `payload_type` is 0 to 127, and `clock_rate` is the rate of the
+    /// RTP clock.
     ///
-    /// As all of these constructors have it: no SSRC is named, so that two packets choose the stream; nothing is sent in RED and
-    /// nothing is retransmitted; no payload type comes without media and no header extension has an id; 4,096 packets are held at
-    /// most; the caller's clock has ticks of milliseconds; and units of video are marked as decodable or not. All fields are public:
-    /// change what differs. Takes no memory.
+    /// A lost packet delays frames by at most 100 ms. The windows are 3,000 packets ahead and 1,000 behind. For more than 200
+    /// packets per second set the windows of [`Windows::for_rate`].
     ///
-    /// A lost packet delays frames by at most 100 ms. The windows are 3,000 packets ahead and 1,000 behind. For more than 200 packets
-    /// per second set those of [`Windows::for_rate`].
+    /// All constructors set these defaults; all fields are public, so change what differs:
+    ///
+    /// - `ssrc` is `None`: two packets choose the stream.
+    /// - There is no RED, no retransmission, no payload type without media, and no id of a header extension.
+    /// - `limit` is 4,096 packets.
+    /// - Your clock has ticks of milliseconds.
+    /// - Units of video are marked as decodable or not.
+    ///
+    /// Allocates nothing.
     ///
     /// [`Windows::for_rate`]: crate::windows::Windows::for_rate
     pub fn live_audio(alloc: Global, payload_type: u8, clock_rate: Frequency) -> Settings
@@ -45,8 +52,8 @@ impl Settings {
         Settings::with_defaults(alloc, payload_type, clock_rate, WaitLimits::live(), AUDIO)
     }
 
-    /// Returns settings for live audio whose missing packets are asked for by NACK (RFC 4585): a lost packet delays frames by at most
-    /// 200 ms. All else as [`Settings::live_audio`].
+    /// Returns settings for live audio with NACK (RFC 4585): a lost packet delays frames by at most 200 ms. The rest is as in
+    /// [`Settings::live_audio`].
     pub fn live_audio_with_nack(alloc: Global, payload_type: u8, clock_rate: Frequency) -> Settings
         ensures { HasDefaults payload_type clock_rate (waits_for 1 200) audio_windows result }
     {
@@ -60,8 +67,8 @@ impl Settings {
     }
 
     /// Returns settings for live video without retransmission: a lost packet delays frames by at most 100 ms. The windows are
-    /// 12,000 packets ahead and 5,000 behind. For more than 1,000 packets per second set those of [`Windows::for_rate`]. All else as
-    /// [`Settings::live_audio`].
+    /// 12,000 packets ahead and 5,000 behind. For more than 1,000 packets per second set the windows of [`Windows::for_rate`].
+    /// The rest is as in [`Settings::live_audio`].
     ///
     /// [`Windows::for_rate`]: crate::windows::Windows::for_rate
     pub fn live_video(alloc: Global, payload_type: u8, clock_rate: Frequency) -> Settings
@@ -70,8 +77,8 @@ impl Settings {
         Settings::with_defaults(alloc, payload_type, clock_rate, WaitLimits::live(), VIDEO)
     }
 
-    /// Returns settings for live video whose missing packets are asked for by NACK: a lost packet delays frames by at most 200 ms, and
-    /// the first frame waits for two more frames, or 200 ms. All else as [`Settings::live_video`].
+    /// Returns settings for live video with NACK: a lost packet delays frames by at most 200 ms. The first frame waits for two
+    /// more frames, or 200 ms. The rest is as in [`Settings::live_video`].
     pub fn live_video_with_nack(alloc: Global, payload_type: u8, clock_rate: Frequency) -> Settings
         ensures { HasDefaults payload_type clock_rate (waits_for 2 200) video_windows result }
     {
@@ -84,8 +91,9 @@ impl Settings {
         )
     }
 
-    /// Returns settings for packets from a file, of audio or video: a frame behind a gap waits for the missing packets, and not by a
-    /// clock, until [`Receiver::finish`]. The windows are those of video. All else as [`Settings::live_audio`].
+    /// Returns settings for packets from a file, audio or video: a frame behind a gap waits for the missing packets, without a
+    /// time limit, until [`Receiver::finish`]. The windows are the same as for video. The rest is as in
+    /// [`Settings::live_audio`].
     ///
     /// [`Receiver::finish`]: crate::receiver::Receiver::finish
     pub fn file(alloc: Global, payload_type: u8, clock_rate: Frequency) -> Settings
@@ -94,7 +102,7 @@ impl Settings {
         Settings::with_defaults(alloc, payload_type, clock_rate, WaitLimits::file(), VIDEO)
     }
 
-    /// Returns settings with these limits and windows, and defaults for all else.
+    /// Returns settings with these wait limits and windows, and defaults for the rest.
     fn with_defaults(
         alloc: Global,
         payload_type: u8,
@@ -122,7 +130,7 @@ impl Settings {
     }
 }
 
-/// Returns the rate of a clock whose ticks are milliseconds.
+/// Returns the rate of a clock with ticks of milliseconds.
 fn milliseconds() -> Frequency
     ensures { result ≡ 1000 }
 {

@@ -14,7 +14,7 @@ use codec_payload_buffer::buffer::{Depacketized, UnitInfo};
 use codec_payload_codec::codec::CodecDepacketizer;
 use codec_payload_keyframes::unit_gate::{FromKeyframe, UnitGate};
 
-/// Returns the gate of a receiver over this depacketizer. Units of a custom codec are not inspected, as those of audio.
+/// Returns the gate of a receiver with this depacketizer. Units of audio and of a custom codec are not inspected.
 pub(crate) fn gate_for<B>(
     depacketizer: &CodecDepacketizer<B>,
     from_keyframe: FromKeyframe,
@@ -30,8 +30,7 @@ pub(crate) fn gate_for<B>(
     UnitGate::new(codec, from_keyframe)
 }
 
-/// The gate follows the answer of a pop. `has_left`: packets left with a frame, and not in a unit. Returns whether the answer is
-/// passed on.
+/// Updates the gate after a pop. `has_left`: the pop discarded packets. Returns whether the answer is passed on.
 pub(crate) fn follow(
     gates: &mut UnitGate,
     answer: &Option<Result<Depacketized, PacketError>>,
@@ -66,7 +65,7 @@ pub(crate) fn follow_into(
     true
 }
 
-/// A pop gave no unit.
+/// Updates the gate after a pop that returned no unit.
 fn follow_none(gates: &mut UnitGate, has_left: bool)
     ensures { gates.new ≡ without_unit gates.old has_left }
 {

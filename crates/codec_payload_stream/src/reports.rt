@@ -1,4 +1,4 @@
-//! What a receiver report tells of the packets of one sender (RFC 3550, sections 6.4.1, A.3 and A.8).
+//! The fields of a receiver report about the packets of one sender (RFC 3550, sections 6.4.1, A.3 and A.8).
 
 ghost use Rattle.std.specs.Prelude.{◌≡◌, ◌≤◌, ◌^◌, ◌/◌};
 ghost use Rattle.codec_payload_base.specs.Time.{rebased};
@@ -8,38 +8,38 @@ use codec_payload_base::wire::{Frequency, MediaTime, Ticks};
 use codec_payload_jitter::numbers::{Extended, SequenceNumbers};
 use std::marker::Model;
 
-/// What a report block tells of the packets of one sender.
+/// The fields of a report block about the packets of one sender.
 #[derive(Clone, Copy, Debug, PartialEq, Eq)]
 pub struct ReceptionReport {
-    /// How many of the packets that were expected since the report before did not come, in 256ths of these, rounded down. 0 where
-    /// as many came, or more, since packets came more than once.
+    /// Lost packets since the previous report, in 1/256 of the packets that were expected since then, rounded down. 0 if as
+    /// many arrived, or more, since repeated packets count.
     pub fraction_lost: u8,
-    /// How many of all packets did not come: -8,388,608 to 8,388,607, which 24 bits hold. Below 0 where packets came more than once.
+    /// Lost packets in total: -8,388,608 to 8,388,607, a signed 24-bit value. Negative if packets arrived more than once.
     pub cumulative_lost: i32,
-    /// The greatest sequence number in the low 16 bits, and above it how many times numbers have wrapped since the first.
+    /// The highest sequence number in the low 16 bits, and above it the number of wraps since the first packet.
     pub highest: u32,
     /// The interarrival jitter, in ticks of the RTP clock.
     pub jitter: u32,
 }
 
-/// Counts the packets of one sender as they come, for receiver reports. Takes no memory.
+/// Counts the packets of one sender as they arrive, for receiver reports. Allocates nothing.
 ///
-/// A packet whose number is suspect is not counted, until a restart is found: then all but the jitter begins anew, with the packet
-/// that confirms it (RFC 3550, section A.1).
+/// A packet whose number is suspect is not counted, until a restart is detected. Then everything except the jitter starts
+/// again, with the packet that confirms the restart (RFC 3550, section A.1).
 #[derive(Clone, Copy, Debug)]
 pub struct ReceptionStatistics {
     numbers: SequenceNumbers,
-    /// How many ticks of the caller's clock a second has.
+    /// Ticks per second of your clock.
     tick_rate: Frequency,
     clock_rate: Frequency,
-    /// The number of the first packet, since the latest restart.
+    /// The number of the first packet since the latest restart.
     first: u64,
-    /// How many packets came since then.
+    /// How many packets arrived since then.
     received: u64,
-    /// How many were expected by the report before, and how many had come.
+    /// How many packets were expected, and how many had arrived, at the previous report.
     expected_before: u64,
     received_before: u64,
-    /// How much later the latest packet came than its RTP time says, in ticks of the RTP clock, modulo 2^32.
+    /// The transit time of the latest packet: its arrival minus its RTP time, in ticks of the RTP clock, modulo 2^32.
     transit: Option<u32>,
     /// Sixteen times the jitter.
     jitter: u64,
@@ -79,7 +79,8 @@ impl Model for ReceptionStatistics {
 }
 
 impl ReceptionStatistics {
-    /// No packet came so far. `tick_rate` is how many ticks of the caller's clock a second has, `clock_rate` how many of the RTP clock.
+    /// Creates the statistics before the first packet. `tick_rate` is in ticks of your clock per second, `clock_rate` in ticks
+    /// of the RTP clock per second.
     pub fn over(
         numbers: SequenceNumbers,
         tick_rate: Frequency,
@@ -100,7 +101,7 @@ impl ReceptionStatistics {
         }
     }
 
-    /// A packet with that number and RTP time came.
+    /// Counts a packet with this number and RTP time that arrived at `now`.
     pub fn observe(&mut self, now: Ticks, number: u16, timestamp: u32)
         ensures { self.new ≡ observed self.old now.0 number timestamp }
     {
@@ -115,7 +116,7 @@ impl ReceptionStatistics {
         }
     }
 
-    /// What a report tells now. `None` where no packet came. The next report begins its fraction here.
+    /// Returns the fields of a report now, or `None` if no packet arrived. The next report starts its fraction here.
     pub fn report(&mut self) -> Option<ReceptionReport>
         ensures value { result ≡ report_of self.old }
         ensures after { self.new ≡ reported self.old }
@@ -135,7 +136,7 @@ impl ReceptionStatistics {
         Some(report)
     }
 
-    /// A time of the caller's clock by the RTP clock, modulo 2^32.
+    /// Converts a time of your clock to the RTP clock, modulo 2^32.
     fn arrival_of(&self, now: Ticks) -> u32
         ensures { result ≡ arrival_of self.now now.0 }
     {
@@ -143,7 +144,7 @@ impl ReceptionStatistics {
         (time.numer() % (1 << 32)) as u32
     }
 
-    /// The packets begin with that number.
+    /// Starts again with this number.
     fn begin(&mut self, number: u64, transit: u32)
         ensures { self.new ≡ begun self.old number transit }
     {
@@ -154,7 +155,7 @@ impl ReceptionStatistics {
         self.transit = Some(transit);
     }
 
-    /// One more packet came.
+    /// Counts one more packet.
     fn go_on(&mut self, transit: u32)
         ensures { self.new ≡ gone_on self.old transit }
     {
@@ -164,7 +165,7 @@ impl ReceptionStatistics {
     }
 }
 
-/// How far two times of 32 bits are apart, the shorter way round.
+/// Returns the distance between two 32-bit times, the shorter way round.
 fn distance(before: u32, after: u32) -> u32
     ensures value { result ≡ distance before after }
     ensures short { result ≤ 2 ^ 31 }
@@ -172,7 +173,8 @@ fn distance(before: u32, after: u32) -> u32
     after.wrapping_sub(before).min(before.wrapping_sub(after))
 }
 
-/// Sixteen times the jitter, after a packet that was so late: a sixteenth of what is new goes in, rounded as RFC 3550 has it.
+/// Returns sixteen times the jitter after a packet with this difference of transit times. A sixteenth of the change is added,
+/// rounded as in RFC 3550.
 fn jitter_after(jitter: u64, before: Option<u32>, transit: u32) -> u64
     requires { jitter ≤ 2 ^ 35 }
     ensures value { result ≡ jitter_after jitter before transit }
@@ -184,14 +186,14 @@ fn jitter_after(jitter: u64, before: Option<u32>, transit: u32) -> u64
     }
 }
 
-/// How many packets there are from the first number to the greatest, modulo 2^64.
+/// Returns the number of expected packets, from the first number to the highest, modulo 2^64.
 fn expected_of(greatest: u64, first: u64) -> u64
     ensures { result ≡ expected_of greatest first }
 {
     greatest.saturating_sub(first).wrapping_add(1)
 }
 
-/// The 256ths of what was expected that did not come.
+/// Returns the lost packets in 1/256 of the expected packets.
 fn fraction_of(expected: u64, received: u64) -> u8
     ensures { result ≡ fraction_of expected received }
 {
@@ -202,7 +204,7 @@ fn fraction_of(expected: u64, received: u64) -> u8
     (u128::from(lost) * 256 / u128::from(expected)).min(255) as u8
 }
 
-/// How many did not come, as 24 bits hold it.
+/// Returns the number of lost packets, limited to 24 bits.
 fn lost_of(expected: u64, received: u64) -> i32
     ensures { result ≡ lost_of expected received }
 {
@@ -213,7 +215,7 @@ fn lost_of(expected: u64, received: u64) -> i32
     }
 }
 
-/// The greatest number, and how many times numbers have wrapped since the first.
+/// Returns the highest number, and the number of wraps since the first packet.
 fn highest_of(greatest: u64, first: u64) -> u32
     ensures { result ≡ highest_of greatest first }
 {

@@ -1,11 +1,11 @@
-//! The RTP times of the latest packets and blocks of a stream that is sent in RED (RFC 2198).
+//! The RTP times of the latest packets and blocks of a stream with RED (RFC 2198).
 
 ghost use Rattle.std.specs.Prelude.{◌≡◌};
 ghost use Rattle.codec_payload_stream.specs.SeenTimes.{has_block, is_seen, none_seen, seen_with};
 
 use std::marker::Model;
 
-/// How many times are remembered.
+/// The number of times that are remembered.
 const MOST: usize = 64;
 
 /// The RTP time of a packet that arrived, or of a block that was stored.
@@ -15,12 +15,12 @@ pub(crate) struct SeenTime {
     pub(crate) is_block: bool,
 }
 
-/// The latest 64 of these times. It does not allocate.
+/// The latest 64 times. It does not allocate.
 #[derive(Debug, Drop)]
 pub(crate) struct SeenTimes {
     /// A new time replaces the oldest.
     places: [Option<SeenTime>; MOST],
-    /// The index of the next one.
+    /// The index of the next time.
     next: usize,
 }
 
@@ -46,7 +46,7 @@ impl SeenTimes {
         }
     }
 
-    /// Returns whether a packet of that time arrived, or a block of that time was stored.
+    /// Returns whether a packet with this time arrived, or a block with this time was stored.
     pub(crate) fn is_seen(&self, time: u32) -> bool
         ensures { result ≡ is_seen time self.now.places }
     {
@@ -60,7 +60,7 @@ impl SeenTimes {
         false
     }
 
-    /// Returns whether a block of that time was stored.
+    /// Returns whether a block with this time was stored.
     pub(crate) fn has_block(&self, time: u32) -> bool
         ensures { result ≡ has_block time self.now.places }
     {
@@ -75,7 +75,7 @@ impl SeenTimes {
         false
     }
 
-    /// Notes the time of one more.
+    /// Notes one more time.
     pub(crate) fn note(&mut self, seen: SeenTime)
         ensures { self.new ≡ seen_with seen self.old }
     {

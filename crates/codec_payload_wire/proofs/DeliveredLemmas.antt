@@ -15,7 +15,7 @@ use Rattle.codec_payload_wire.specs.Releases.{AreDeliveredBefore, AreOfDeliverie
 use Rattle.codec_payload_wire.specs.declared.run.DatagramStep.{DatagramStep}
 use Rattle.codec_payload_wire.specs.declared.run.DatagramStep.TheVariants as steps
 
--- all of these were delivered by the steps
+-- the steps delivered all of these packets
 abbrev pub AllIn : List DatagramStep → List Held → Type 0
 AllIn before [] = Unit {0}
 AllIn before (p ∷ ps) = WasDelivered before p.meta × AllIn before ps
@@ -88,7 +88,7 @@ in_waiting : (before : List DatagramStep) (wait : Option ℕ) (s t : State) (a :
 in_waiting before None s t a pops all = (subst (IsOfDeliveries before) (sym pops.0) tt, subst (λ (x : State). AllIn before x.held) (sym pops.1) all)
 in_waiting before (Some hold_back) s t a pops all = in_pop before (record s { hold_back = hold_back }) t pops.1.0 a pops.0 pops.1.1 all
 
--- each pop of the steps that are left
+-- each pop of the remaining steps
 pub delivered_before : (clock_rate : ℕ) (packets : List Packet) (at_end : Bool) (later before : List DatagramStep) (events : List Event) (s t : State) (answers : List Answer)
     → Brings at_end later events → Meets clock_rate packets events s answers t → AllIn before s.held → AreDeliveredBefore before later answers
 delivered_before clock_rate packets at_end [] before events s t answers brings meets all = tt

@@ -1,4 +1,4 @@
--- What comes to a receiver, as the events that its buffer meets.
+-- The steps of a receiver, as events of its buffer.
 use Rattle.std.proofs.Common.{◌≡◌, ◌∙◌, refl, sym, ap, subst, ℕ, zero, suc, ◌+◌, ◌-◌, ◌%◌, ◌^◌, ◌<◌, ◌⊎◌, inl, inr, List, [], ◌∷◌, ◌++◌, Bool, true, Option, Some, None, Ok, Err, length, arith}
 use Rattle.std.specs.Prelude.{slice_get}
 use Rattle.std.proofs.lemmas.Option.{same_Some}
@@ -22,7 +22,7 @@ use Rattle.codec_payload_wire.specs.Releases.{AreDatagrams, HaveNoPops, ReadsAs,
 use Rattle.codec_payload_wire.specs.declared.run.DatagramStep.{DatagramStep}
 use Rattle.codec_payload_wire.specs.declared.run.DatagramStep.TheVariants as steps
 
--- these steps are these events; from the end of the stream on each pop is made
+-- these steps are these events; after the end of the stream each pop is made
 abbrev pub Brings : Bool → List DatagramStep → List Event → Type 0
 Brings at_end [] events = events ≡ []
 Brings at_end (steps.Send i ∷ later) events = Brings at_end later events
@@ -42,7 +42,7 @@ packet_at_index stream first (q ∷ qs) (d ∷ ds) (suc k) bytes are numbered th
     let rest = packet_at_index stream (first + 1) qs ds k bytes are.1 numbered.1 there in
     (rest.0, rest.1, rest.2, omega (arith, rest.3))
 
--- the RTP times of these packets, by their numbers from `first` on
+-- the RTP times of the packets, by their numbers from `first` on
 abbrev pub time_in : List Packet → ℕ → ℕ
 time_in [] n = 0
 time_in (q ∷ packets) zero = q.rtp_time
@@ -56,7 +56,7 @@ time_at [] k q there = absurd (cc)
 time_at (p ∷ packets) zero q there = ap (λ (x : Packet). x.rtp_time) (sym (same_Some p q there))
 time_at (p ∷ packets) (suc k) q there = time_at packets k q there
 
--- what the buffer meets of these steps
+-- the events of the buffer for these steps
 pub record IsMet (clock_rate : ℕ) (packets : List Packet) (all_steps : List DatagramStep) (s : Session) (answers : List Answer) (t : Session) : Type 0 where
   pub events : List Event
   pub meets : Meets clock_rate packets events s.packets.buffer answers t.packets.buffer
@@ -112,9 +112,9 @@ module _ (stream : Stream) (types : (stream.payload_type < 64) ⊎ (95 < stream.
       }) numbers times (subst (λ (x : Session). Takes later datagrams x answers t) at_end takes.2) in
       record { events = rest.events; meets = rest.meets; brings = rest.brings }
 
--- Where all comes first
+-- If all datagrams are delivered first
 
--- from the end of the stream on each pop is made
+-- after the end of the stream each pop is made
 made_after : (later : List DatagramStep) (events : List Event) → Brings true later events → AllAreMade events
 made_after [] events brings = subst AllAreMade (sym brings) tt
 made_after (steps.Send i ∷ later) events brings = made_after later events brings
@@ -123,7 +123,7 @@ made_after (steps.Pop now ∷ later) events brings =
     subst AllAreMade (sym (brings.2 ∙ ap (λ (w : Option ℕ). Asked w ∷ brings.1) (brings.3 refl))) (made_after later brings.1 brings.4)
 made_after (steps.Finish ∷ later) events brings = made_after later events brings
 
--- the events before the end of the stream, where no pop is among them, and those after it
+-- the events before the end of the stream, if no pop is among them, and the events after it
 pub record IsSplit (before : List DatagramStep) (events : List Event) : Type 0 where
   pub first : List Event
   pub rest : List Event
@@ -152,9 +152,9 @@ split_at_end at_end (steps.Finish ∷ before) after events no_pops brings =
     let r = split_at_end true before after events no_pops brings in
     record { first = r.first; rest = r.rest; whole = r.whole; only = r.only; has = r.has; made = r.made }
 
--- What is known of packets
+-- Metadata of packets
 
--- a push is a delivery of that datagram, when it was received
+-- a push is a delivery of this datagram, at its time of arrival
 pub delivery_of : (at_end : Bool) (all_steps : List DatagramStep) (events : List Event) (k : ℕ) (meta : RtpMeta) → Brings at_end all_steps events
     → IsIn (Arrives k meta) events → IsIn (steps.Deliver k meta.received) all_steps
 delivery_of at_end [] events k meta brings is = absurd (subst (IsIn (Arrives k meta)) brings is)
@@ -173,7 +173,7 @@ delivery_of at_end (steps.Pop now ∷ later) events k meta brings is =
     ]
 delivery_of at_end (steps.Finish ∷ later) events k meta brings is = inr (delivery_of true later events k meta brings is)
 
--- what is known may be told in other words
+-- the metadata can be stated in other words
 module _ (known told : ℕ → Packet → RtpMeta → Type 0) (tells : (k : ℕ) (q : Packet) (m : RtpMeta) → known k q m → told k q m) where
   pushes_told : (k : ℕ) (packets : List Packet) (metas : List RtpMeta) → ArePushesBy known k packets metas → ArePushesBy told k packets metas
   pushes_told k [] [] are = tt

@@ -1,4 +1,4 @@
--- A receiver as it is made.
+-- A new receiver.
 use Rattle.std.proofs.Common.{◌≡◌, ◌∙◌, refl, sym, ap, ℕ, ◌<◌, ◌≤◌, ◌&&◌, Bool, true, false, cond, ltb, leb, Option, Result, Ok, Err, arith}
 use Rattle.std.proofs.lemmas.Bool.{and_parts, leb-true, ltb-true}
 use Rattle.codec_payload_codec.specs.Depacketizers.{DepacketizerState}
@@ -26,7 +26,7 @@ windows_of forward backward numbering e =
     let order : backward < forward = ltb-true backward forward b.0 in
     (cc, record { some = some; apart = omega (arith, most, order); order = order; far = tt })
 
--- nothing came to it so far, and its windows are in range
+-- no datagram arrived so far, and the windows are in range
 pub record IsBegun (s : Settings) (depacketizer : DepacketizerState) (receiver : Session) : Type 0 where
   pub red : Option RedStream
   pub windows : IsNumbering (no_numbers s.forward s.backward)

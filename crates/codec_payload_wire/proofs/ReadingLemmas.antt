@@ -1,4 +1,4 @@
--- What a receiver takes a datagram of its sender for: a packet with media.
+-- A receiver sorts a datagram of its sender as a packet with media.
 use Rattle.std.proofs.Common.{◌≡◌, ◌∙◌, refl, sym, subst, ℕ, ◌/◌, ◌%◌, ◌^◌, ◌*◌, ◌<◌, ◌≤◌, ◌⊎◌, inl, inr, List, [], ◌∷◌, Bool, true, false, eqb, cond, Option, Some, None, Result, Ok, Err, arith, leb}
 use Rattle.std.specs.Int.{w16, w32, from_be_bytes}
 use Rattle.std.proofs.lemmas.Bool.{and_parts, eq-eqb, false_from_ne_true, leb-true}
@@ -22,7 +22,7 @@ where_true false r d y e = absurd cc
 abbrev Types : ℕ → Type 0
 Types payload_type = (64 ≤ payload_type) × (payload_type ≤ 95)
 
--- where the second byte is one of RTCP, the payload type is one of those that it takes
+-- if the second byte is one of RTCP, the payload type is in the range of RTCP
 header_types : (bytes : List ℕ) (x : Header × Bool × List ℕ) → header_at bytes ≡ Ok x → is_rtcp bytes ≡ true → Types x.0.payload_type
 unfolding header_at behind_fixed
 header_types (f ∷ s ∷ s1 ∷ s0 ∷ t3 ∷ t2 ∷ t1 ∷ t0 ∷ c3 ∷ c2 ∷ c1 ∷ c0 ∷ rest) x e rtcp =

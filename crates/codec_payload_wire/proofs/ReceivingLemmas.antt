@@ -1,4 +1,4 @@
--- What a receiver does with the datagrams of its sender, and with pops, is what its buffer does with their packets.
+-- A receiver does with its sender's datagrams and with pops exactly what its buffer does with the packets.
 use Rattle.std.proofs.Common.{◌≡◌, ◌≢◌, ◌∙◌, refl, sym, ap, subst, ℕ, ◌+◌, ◌%◌, ◌^◌, ◌<◌, ◌⊎◌, inl, inr, ◌&&◌, ◌||◌, List, [], ◌∷◌, Bool, true, false, not, cond, Option, Some, None, Ok, Err}
 use Rattle.std.specs.Prelude.{slice_get, is_some}
 use Rattle.std.proofs.lemmas.Bool.{eq-eqb, or_left}
@@ -36,12 +36,12 @@ use Rattle.codec_payload_wire.proofs.ReadingLemmas.{datagram_is, packet_at}
 use Rattle.codec_payload_wire.specs.Releases.{ReadsAs, is_sent_again_by}
 use Rattle.codec_payload_wire.specs.WireRuns.{Delivers, PopsUnit, Receipt}
 
--- each of the datagrams of these indices gets its number: that of the first that was sent, and its index
+-- each datagram with one of these indices gets the number of the first sent datagram, plus its index
 abbrev pub AllNumbered : ℕ → Numbering → List ℕ → Type 0
 AllNumbered first s [] = Unit {0}
 AllNumbered first s (k ∷ ks) = (answer_for s ((first + k) % 2 ^ 16) ≡ extended.Number (first + k)) × AllNumbered first (numbering_after s ((first + k) % 2 ^ 16)) ks
 
--- a receiver of the stream, which knows of no numbers without media and of no blocks of RED, and to which no restart was told
+-- a receiver of the stream, without numbers without media, without blocks of RED, and without an announced restart
 pub record IsListening (stream : Stream) (s : Session) : Type 0 where
   pub payload_type : s.stream.payload_type ≡ stream.payload_type
   pub named : s.named ≡ Some stream.ssrc
@@ -56,7 +56,7 @@ pub record IsListening (stream : Stream) (s : Session) : Type 0 where
 
 -- Receiving
 
--- what is told of a datagram, where memory is not wanting
+-- the answer for a datagram, unless memory runs out
 heard : (now : Ticks) (d : Datagram) (s t : Session) (receipt : Receipt) → receipt ≢ Err refusals.OutOfMemory → Heard now d s receipt t → Hears now d s receipt t
 heard now d s t (Ok outcome) not_memory told = told
 heard now d s t (Err refusals.OutOfMemory) not_memory told = absurd (not_memory refl)
@@ -65,11 +65,11 @@ heard now d s t (Err refusals.Red) not_memory told = told
 heard now d s t (Err refusals.Retransmission) not_memory told = told
 heard now d s t (Err refusals.BlocksOutOfMemory) not_memory told = told
 
--- of two branches of which the second is taken, what is known of both is known of the second
+-- if the second of two branches is taken, facts about both apply to the second
 second : {X : Type 0} (P : X → Type 0) (b : Bool) (x y : X) → b ≡ false → P (cond b x y) → P y
 second P b x y taken known = subst (λ (c : Bool). P (cond c x y)) taken known
 
--- a receiver that names its SSRC receives each datagram as its stream has it
+-- a receiver with a named SSRC receives each datagram by its stream
 heard_at_once : (stream : Stream) (now : Ticks) (bytes : List ℕ) (s t : Session) (receipt : Receipt) → IsListening stream s
     → Delivers now bytes s receipt t → Heard now (datagram_at s.stream s.ssrc bytes) s receipt t
 heard_at_once stream now bytes s t receipt listening delivers = by_case delivers.1
@@ -84,18 +84,18 @@ heard_at_once stream now bytes s t receipt listening delivers = by_case delivers
         told
     by_case (inr got) = absurd (delivers.0 got.0)
 
--- its SSRC is no other one
+-- its SSRC is the same
 same_ssrc : (stream : Stream) (s : Session) → IsListening stream s → is_other s.ssrc stream.ssrc ≡ false
 same_ssrc stream s listening = ap (λ (o : Option ℕ). is_other o stream.ssrc) listening.ssrc ∙ ap not (eq-eqb stream.ssrc stream.ssrc refl)
 
--- at the end of the stream nothing waits for a choice
+-- at the end of the stream no packet waits for the choice
 pub finishes_as : (stream : Stream) (s t : Session) → IsListening stream s → Finishes s t → t ≡ ended s
 finishes_as stream s t listening finishes =
     let none : first_waiting s ≡ None = ap (λ (o : Option ℕ). cond (is_none_of o) (slice_get s.choice.candidates 0) None) listening.ssrc in
     let stays : SettlesOn None finishes.0 s finishes.1 = subst (λ (o : Option Candidate). SettlesOn o finishes.0 s finishes.1) none finishes.2 in
     finishes.3 ∙ ap ended stays.1
 
--- a push of the packet of that number, which has the RTP time of its number
+-- a push of the packet with this number, which has the RTP time of its number
 pub record TakesIn (time_of : ℕ → ℕ) (n : ℕ) (a : Arrival) (r t : Receiving) : Type 0 where
   pub times : AreTimesOf time_of t.noted
   pub buffer : t.buffer ≡ pushed r.buffer (arrived r.buffer.depacketizer (meta_for a.now r.rate a.header n) a.bytes)
@@ -193,7 +193,7 @@ settled_none : (r : Receiving) → r.no_media_numbers ≡ [] → settled r ≡ r
 settled_none r none =
     ap (λ (ns : List ℕ). record r { buffer = passed_no_media r.buffer ns; no_media_numbers = no_media_left r.buffer ns }) none ∙ ap (λ (ns : List ℕ). record r { no_media_numbers = ns }) (sym none)
 
--- a depacketizer that is built in stays so
+-- a built-in depacketizer stays built in
 pop_stays : (s t : State) (answer : Answer) → is_built_in_depacketizer s.depacketizer ≡ true → answer ≢ Some (Err faults.OutOfMemory) → Pops s answer t → is_built_in_depacketizer t.depacketizer ≡ true
 pop_stays s t answer of_codec not_memory pops =
     let c : State → RunState = λ (x : State). run_state (record { packetizer = NullPacketizing; clock_rate = 0 }) x (record { first = 0; packets = [] }) in
@@ -209,7 +209,7 @@ pub record IsPopped (stream : Stream) (now : Ticks) (answer : Answer) (s t : Ses
   pub listening : IsListening stream t
   pub ended : t.packets.ended ≡ s.packets.ended
 
--- what a pop of the jitter buffer leaves as it was, and what it does to the buffer
+-- which parts of the jitter buffer a pop leaves unchanged, and what it does to the buffer
 pub record IsTurn (wait : Option ℕ) (r : Receiving) (answer : Answer) (t : Receiving) : Type 0 where
   pub pops : PopsWaiting wait r.buffer answer t.buffer
   pub of_codec : is_built_in_depacketizer t.buffer.depacketizer ≡ true
@@ -243,7 +243,7 @@ turn_of (Some h) r answer t of_codec not_memory pops = record {
   ended = ap (λ (x : Receiving). x.ended) pops.2;
 }
 
--- where the stream has ended, nothing is waited for
+-- after the end of the stream pops wait for nothing
 waits_for_nothing : (r : Receiving) (now : ℕ) → r.ended ≡ true → waiting_at r now ≡ Some 0
 waits_for_nothing r now at_end =
     ap (λ (b : Bool). cond b (Some 0) (cond (is_starting r) None (Some (most_held_back r.wait_limits.hold_back)))) (or_left r.ended _ at_end)

@@ -1,4 +1,5 @@
--- What a run over datagrams releases: what it sends, what comes of it, and the law of the buffer, put together.
+-- The units that a run over datagrams releases, from three parts: what it sends, what it receives, and the theorem of the
+-- buffer.
 use Rattle.std.proofs.Common.{◌≡◌, ◌∙◌, refl, sym, ap, subst, ℕ, ◌+◌, ◌-◌, ◌*◌, ◌/◌, ◌%◌, ◌^◌, ◌<◌, max, List, [], ◌∷◌, map, true, false, Some, length, arith}
 use Rattle.std.proofs.lemmas.Option.{same_Some, slice_get_within}
 use Rattle.codec_payload_buffer.proofs.MemberLemmas.{contains_in, in_contains}
@@ -45,11 +46,11 @@ number_is (extended.Restarted m) n is on = absurd (cc)
 number_is extended.Suspect n is on = absurd (cc)
 number_is extended.Spent n is on = absurd (cc)
 
--- the true numbers of the datagrams of these indices, where that of the first that was sent is `number`
+-- the true numbers of the datagrams with these indices, if the first sent datagram has `number`
 abbrev trues : ℕ → List ℕ → List ℕ
 trues number ks = map (λ (j : ℕ). number + j) ks
 
--- what is the number of the first that was sent, where these are the true numbers but for one constant
+-- the number of the first sent datagram, if the true numbers are moved by one constant
 all_numbered : (number first reach : ℕ) (s : Numbering) (ks : List ℕ) → first + 65536 * (reach / 65536) ≡ number + 65536
     → numbers_for s (map low_bits (trues number ks)) ≡ map (moved reach) (trues number ks)
     → GoOn s (map low_bits (trues number ks)) → AllNumbered first s ks
@@ -64,12 +65,12 @@ all_numbered number first reach s (k ∷ ks) is numbers on =
     subst (λ (n : ℕ). (answer_for s n ≡ extended.Number (first + k)) × AllNumbered first (numbering_after s n) ks) same_low
     (answer, all_numbered number first reach (numbering_after s low) ks is rest on.1)
 
--- the number of the first datagram that was sent, as the receiver extends those of these indices
+-- the number of the first sent datagram, as the receiver extends it with the others
 abbrev first_for : ℕ → List ℕ → ℕ
 first_for number [] = number % 65536
 first_for number (k ∷ ks) = number + 65536 - 65536 * ((number + k) / 65536)
 
--- a number of 16 bits is in question
+-- a number of 16 bits occurs
 first_small : (forward backward number : ℕ) (ks : List ℕ) → number < 65536 → ComeWithin forward backward ks → first_for number ks < 2 ^ 32
 first_small forward backward number [] low within = omega arith
 first_small forward backward number (k ∷ ks) low within = omega (arith, low, within.0)
@@ -83,7 +84,7 @@ abbrev AllBelow : ℕ → List ℕ → Type 0
 AllBelow bound [] = Unit {0}
 AllBelow bound (k ∷ ks) = (k < bound) × AllBelow bound ks
 
--- as those of datagrams are that were sent
+-- the numbers of datagrams that were sent
 takes_below : (later : List DatagramStep) (datagrams : List (List ℕ)) (s t : Session) (answers : List Answer) → Takes later datagrams s answers t → AllBelow (length datagrams) (delivered later)
 takes_below [] datagrams s t answers takes = tt
 takes_below (steps.Send i ∷ later) datagrams s t answers takes = takes_below later datagrams s t answers takes
@@ -94,7 +95,7 @@ takes_below (steps.Finish ∷ later) datagrams s t answers takes = takes_below l
 max_more : (number g k : ℕ) → max (number + g) (number + k) ≡ number + max g k
 max_more number g k = omega arith
 
--- what is told of indices holds of numbers
+-- facts about indices apply to numbers
 stay_near : (forward backward number bound g : ℕ) (ks : List ℕ) → number < 65536 → bound < 2 ^ 63 → AllBelow bound ks → StayWithin forward backward g ks
     → StayNear forward backward (number + g) (trues number ks)
 stay_near forward backward number bound g [] low few below within = tt
@@ -163,7 +164,7 @@ module _ (samples : List Sample) (all_steps : List DatagramStep) (sender : Sendi
     drops_none = ap (λ (x : Session). x.gates.drops) begun.is ∙ within.one_stream.drops_none;
   }
 
-  -- from a number with those low bits on
+  -- from a number with these low bits on
   sends_from : (start : ℕ) → start < 2 ^ 32 → sender.stream.number % 2 ^ 16 ≡ (start + 0) % 2 ^ 16
       → SendsRun receiver.packets.buffer sender.stream sender.mtu start 0 samples all_steps (begins sender receiver) t []
   sends_from start small same =

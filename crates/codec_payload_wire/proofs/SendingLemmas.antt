@@ -1,4 +1,4 @@
--- What a sender sends over a run are the packets that a payloader sends over the same samples.
+-- A sender sends over a run exactly the packets that a payloader sends for the same samples.
 use Rattle.std.proofs.Common.{◌≡◌, ◌≢◌, ◌∙◌, refl, sym, ap, subst, ℕ, suc, ◌+◌, ◌%◌, ◌^◌, ◌<◌, ◌||◌, ◌&&◌, List}
 use Rattle.std.proofs.Common.{[], ◌∷◌, ◌++◌, Bool, true, eqb, Option, Some, None, Result, Ok, Err, MatchOption, length, arith, append-nil}
 use Rattle.std.specs.Prelude.{slice_get, slice_index_or}
@@ -79,7 +79,7 @@ last_is place (payload ∷ payloads) = ne_eqb (place + 1) (place + 1 + suc (leng
 abbrev headed : Stream → Bool → ℕ → ℕ → ExtensionValues → Header
 headed stream marker number time values = header_with stream (record { marker = marker; number = number; time = time }) values
 
--- headers of the same fields, whatever the number of the next packet is
+-- headers of the same fields, for any next number
 same_header : (sending stream : Stream) (m m' : Bool) (n n' t t' : ℕ) (values values' : ExtensionValues) → sending ≡ record stream { number = sending.number }
     → m ≡ m' → n ≡ n' → t ≡ t' → values ≡ values'
     → headed sending m n t values ≡ headed stream m' n' t' values'
@@ -131,14 +131,14 @@ pub record IsAt (stream : Stream) (budget start : ℕ) (s : Sending) (datagrams 
   pub numbered : AreNumbered start packets
   pub few : length packets < 2 ^ 63
 
--- a sample was sent, by the payloader as well
+-- a sample was sent, also by the payloader
 pub record SendsBoth (buffer : State) (stream : Stream) (budget start place : ℕ) (sample : Sample) (s t : Sending) (after : List (List ℕ)) (packets : List Packet) : Type 0 where
   pub more : List Packet
   pub entry : Sent
   pub sends : core.SendsIt place budget sample (running buffer start stream.clock_rate s packets) entry (running buffer start stream.clock_rate t (packets ++ more))
   pub at : IsAt stream budget start t after (packets ++ more)
 
--- a sample that the packetizer gave payloads for
+-- a sample for which the packetizer gave payloads
 sent_both : (buffer : State) (stream : Stream) (budget start place : ℕ) (sample : Sample) (s t : Sending) (before after : List (List ℕ)) (packets : List Packet)
     → start < 2 ^ 32 → IsAt stream budget start s before packets → after ≡ before ++ t.datagrams → length after < 2 ^ 63 → Sends s (sent_sample sample) t
     → SendsBoth buffer stream budget start place sample s t after packets
@@ -191,7 +191,7 @@ sent_both buffer stream budget start place sample s t before after packets small
       };
     }
 
--- what the packetizer answered, where it refused a sample and memory was not wanting
+-- the answer of the packetizer if it refused a sample, and memory did not run out
 refused_as : (answer : Result (List (List ℕ)) PacketError) (fault : PacketError) → fault ≢ faults.OutOfMemory → Lands answer (Err fault) [] → answer ≡ Err fault
 refused_as (Ok packets) fault not_memory lands = absurd (not_memory lands)
 refused_as (Err other) fault not_memory lands = let same : fault ≡ other = cc in ap (λ (f : PacketError). Err f) (sym same)
@@ -245,7 +245,7 @@ one_sample buffer stream budget start place sample (Some fault) s t before after
 
 -- Whole runs
 
--- over a run a payloader sends packets, as which its datagrams read
+-- over a run a payloader sends packets, and the datagrams read as these packets
 pub record SendsRun (buffer : State) (stream : Stream) (budget start place : ℕ) (samples : List Sample) (all_steps : List DatagramStep) (s t : Wire) (packets : List Packet) : Type 0 where
   pub all : List Packet
   pub entries : List Sent
@@ -259,12 +259,12 @@ module _ (buffer : State) (stream : Stream) (budget start : ℕ) (small : start 
   abbrev At : Wire → List Packet → Type 0
   At s packets = IsAt stream budget start s.sending s.datagrams packets
 
-  -- a step that leaves sender and datagrams as they were
+  -- a step that leaves sender and datagrams unchanged
   at_same : (s mid : Wire) (packets : List Packet) → mid.sending ≡ s.sending → mid.datagrams ≡ s.datagrams → At s packets → At mid packets
   at_same s mid packets sending datagrams at =
       subst (λ (x : Sending). IsAt stream budget start x mid.datagrams packets) (sym sending) (subst (λ (ds : List (List ℕ)). IsAt stream budget start s.sending ds packets) (sym datagrams) at)
 
-  -- a step that sends no sample is none of a payloader
+  -- a step that sends no sample is not a step of a payloader
   stays : (place : ℕ) (step : DatagramStep) (later : List DatagramStep) (s mid t : Wire) (packets : List Packet)
       → sending_steps budget (step ∷ later) ≡ sending_steps budget later → mid.sending ≡ s.sending
       → Goes place later mid t packets → Goes place (step ∷ later) s t packets
@@ -336,7 +336,7 @@ module _ (buffer : State) (stream : Stream) (budget start : ℕ) (small : start 
         at = goes.at;
       }
 
-  -- a delivery leaves the sender and its datagrams
+  -- a delivery leaves the sender and its datagrams unchanged
   delivery_leaves : (o : Option (List ℕ)) (now : Ticks) (s mid : Wire)
       → MatchOption o (mid ≡ s) (λ bytes. (receipt : Receipt) × (session : Session) × Delivers now bytes s.session receipt session
       × (mid ≡ record s { session = session; receipts = s.receipts ++ receipt ∷ [] }))

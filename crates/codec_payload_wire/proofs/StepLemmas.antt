@@ -1,4 +1,4 @@
--- A run over datagrams, as what comes to the receiver.
+-- A run over datagrams, as steps of the receiver.
 use Rattle.std.proofs.Common.{◌≡◌, ◌≢◌, ◌∙◌, refl, sym, ap, subst, ℕ, zero, suc, ◌+◌, ◌≤◌, List, []}
 use Rattle.std.proofs.Common.{◌∷◌, ◌++◌, true, false, ltb, Option, Some, None, Err, MatchOption, length, arith, append_assoc, append-nil}
 use Rattle.std.specs.Prelude.{slice_get}
@@ -26,7 +26,7 @@ past_end [] k e = omega arith
 past_end (x ∷ xs) zero e = absurd (cc)
 past_end (x ∷ xs) (suc k) e = omega (arith, past_end xs k e)
 
--- these steps come to a receiver, over these datagrams, and pops are answered so
+-- the receiver makes these steps over these datagrams, and pops have these answers
 abbrev pub Takes : List DatagramStep → List (List ℕ) → Session → List Answer → Session → Type 0
 Takes [] datagrams s answers t = (answers ≡ []) × (t ≡ s)
 Takes (steps.Send i ∷ later) datagrams s answers t = Takes later datagrams s answers t
@@ -36,7 +36,7 @@ Takes (steps.Pop now ∷ later) datagrams s answers t =
     (answer : Answer) × (more : List Answer) × (mid : Session) × (answers ≡ answer ∷ more) × (answer ≢ Some (Err faults.OutOfMemory)) × PopsUnit now s answer mid × Takes later datagrams mid more t
 Takes (steps.Finish ∷ later) datagrams s answers t = (mid : Session) × Finishes s mid × Takes later datagrams mid answers t
 
--- what the steps of a run come to
+-- the effect of the steps of a run
 pub record ComesTo (samples : List Sample) (all_steps : List DatagramStep) (s t : Wire) : Type 0 where
   pub later : List SentSample
   pub sends : t.sends ≡ s.sends ++ later
@@ -49,7 +49,7 @@ module _ (samples : List Sample) where
   abbrev Received : ℕ → List DatagramStep → List SentSample → List DatagramStep
   Received = received_steps samples
 
-  -- a step that changes neither the entries nor the answers nor the datagrams
+  -- a step that changes only the receiver
   after_same : (later : List DatagramStep) (s mid t : Wire) → mid ≡ s → ComesTo samples later mid t → ComesTo samples later s t
   after_same later s mid t same comes = subst (λ (x : Wire). ComesTo samples later x t) same comes
 

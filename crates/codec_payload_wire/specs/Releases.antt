@@ -1,4 +1,4 @@
--- What a run over datagrams releases, whatever of its datagrams is lost, repeated and comes in another order.
+-- The units that a run over datagrams releases, with any loss, repetition and order of its datagrams.
 use Rattle.std.specs.Prelude.{◌≡◌, ℕ, ◌+◌, ◌%◌, ◌^◌, ◌<◌, ◌≤◌, ◌⊎◌, ◌==◌, ◌&&◌, nat_lt, max, if◌then◌else◌, Bool, true}
 use Rattle.std.specs.Prelude.{false, List, [], ◌∷◌, ◌++◌, Option, Some, None, Ok, Err, Contains, length, map, slice_get, refl}
 use Rattle.std.proofs.Common.{lit<, lit≤}
@@ -29,9 +29,9 @@ use Rattle.codec_payload_wire.specs.declared.run.DatagramStep.{DatagramStep}
 use Rattle.codec_payload_wire.specs.declared.run.DatagramStep.TheVariants as steps
 use Rattle.codec_payload_wire.specs.declared.run.SentSample.{SentSample}
 
--- What is sent
+-- Sending
 
--- the steps that send, as those of `run_schedule` at that MTU
+-- the steps that send, as steps of `run_schedule` at this MTU
 abbrev pub sending_steps : ℕ → List DatagramStep → List Step
 sending_steps mtu [] = []
 sending_steps mtu (steps.Send i ∷ later) = run_steps.Send i mtu ∷ sending_steps mtu later
@@ -39,21 +39,21 @@ sending_steps mtu (steps.Deliver k now ∷ later) = sending_steps mtu later
 sending_steps mtu (steps.Pop now ∷ later) = sending_steps mtu later
 sending_steps mtu (steps.Finish ∷ later) = sending_steps mtu later
 
--- the datagram reads as that packet of the stream: its payload, marker, time and values, and the low bits of its number
+-- the datagram reads as this packet of the stream: its payload, marker, time and values, and the low bits of its number
 abbrev pub ReadsAs : Stream → Packet → List ℕ → Type 0
 ReadsAs stream q datagram =
     rtp_at datagram ≡ Ok (record { header = header_with stream (record { marker = q.marker; number = q.number % 2 ^ 16; time = q.rtp_time }) q.ext_vals; payload = q.payload; padding = 0 })
 
--- each of these datagrams reads as its packet
+-- each datagram reads as its packet
 abbrev pub AreDatagrams : Stream → List Packet → List (List ℕ) → Type 0
 AreDatagrams stream [] [] = Unit {0}
 AreDatagrams stream (q ∷ packets) (datagram ∷ datagrams) = ReadsAs stream q datagram × AreDatagrams stream packets datagrams
 AreDatagrams stream [] (datagram ∷ datagrams) = ⊥
 AreDatagrams stream (q ∷ packets) [] = ⊥
 
--- What is received
+-- Receiving
 
--- how many datagrams were sent after a `Send` of that sample, if there is one, and the entries that are left
+-- how many datagrams were sent after a `Send` of this sample, if there is one, and the remaining entries
 abbrev pub sent_after : ℕ → Option Sample → List SentSample → ℕ
 sent_after sent None sends = sent
 sent_after sent (Some sample) [] = sent
@@ -64,8 +64,8 @@ sends_after None sends = sends
 sends_after (Some sample) [] = []
 sends_after (Some sample) (entry ∷ sends) = sends
 
--- the steps that come to the receiver: pops, the end, and each delivery of a datagram that was sent by then. So many datagrams
--- were sent before these steps, and `sends` has an entry for each of their samples
+-- the steps of the receiver: pops, the end, and each delivery of a datagram that was already sent. `sent` datagrams were sent
+-- before these steps, and `sends` has an entry for each of their samples
 abbrev pub received_steps : List Sample → ℕ → List DatagramStep → List SentSample → List DatagramStep
 received_steps samples sent [] sends = []
 received_steps samples sent (steps.Send i ∷ later) sends = received_steps samples (sent_after sent (slice_get samples i) sends) later (sends_after (slice_get samples i) sends)
@@ -82,16 +82,16 @@ delivered (steps.Deliver k now ∷ later) = k ∷ delivered later
 delivered (steps.Pop now ∷ later) = delivered later
 delivered (steps.Finish ∷ later) = delivered later
 
--- what is known of a packet that came: its datagram was delivered, when it was received
+-- the metadata of a packet: its datagram was delivered at its time of arrival
 abbrev pub IsDelivery : ℕ → List DatagramStep → ℕ → Packet → RtpMeta → Type 0
 IsDelivery clock_rate all_steps k q meta = Contains all_steps (steps.Deliver k meta.received) × Tells clock_rate q meta
 
--- one of these steps
+-- the step is in the list
 abbrev pub IsAmong : DatagramStep → List DatagramStep → Type 0
 IsAmong step [] = ⊥
 IsAmong step (s ∷ ss) = (s ≡ step) ⊎ IsAmong step ss
 
--- one of these steps delivered the packet, when it was received
+-- a step in the list delivered the packet at its time of arrival
 abbrev pub WasDelivered : List DatagramStep → RtpMeta → Type 0
 WasDelivered before meta = (k : ℕ) × IsAmong (steps.Deliver k meta.received) before
 
@@ -99,13 +99,13 @@ abbrev pub AreOfDeliveries : List DatagramStep → List RtpMeta → Type 0
 AreOfDeliveries before [] = Unit {0}
 AreOfDeliveries before (m ∷ ms) = WasDelivered before m × AreOfDeliveries before ms
 
--- these steps delivered all packets of the unit, if one is released
+-- the steps delivered all packets of the unit, if one is released
 abbrev pub IsOfDeliveries : List DatagramStep → Answer → Type 0
 IsOfDeliveries before None = Unit {0}
 IsOfDeliveries before (Some (Err fault)) = Unit {0}
 IsOfDeliveries before (Some (Ok r)) = AreOfDeliveries before r.metas
 
--- each pop of the steps releases packets that were delivered before it: by one of these steps, or by a step in front of the pop
+-- each pop releases packets that were delivered before it: by the steps of `before`, or by a step in front of the pop
 abbrev pub AreDeliveredBefore : List DatagramStep → List DatagramStep → List Answer → Type 0
 AreDeliveredBefore before [] answers = Unit {0}
 AreDeliveredBefore before (steps.Send i ∷ later) answers = AreDeliveredBefore before later answers
@@ -116,14 +116,14 @@ AreDeliveredBefore before (steps.Finish ∷ later) answers = AreDeliveredBefore 
 
 -- Premises
 
--- packets of the sender are none of those that are sent again
+-- packets of the sender are not retransmissions
 abbrev pub is_sent_again_by : Option Retransmission → Stream → Bool
 is_sent_again_by None stream = false
 is_sent_again_by (Some r) stream = (r.ssrc == stream.ssrc) && (r.payload_type == stream.payload_type)
 
--- a sender of a codec, and the settings and the depacketizer of a receiver of its stream: this reads what the packetizer makes, and
--- takes the sender's packets for neither RTCP (RFC 5761, section 4) nor another stream, nor for packets that are sent again; it names
--- the sender's SSRC, and drops no units that a decoder cannot show
+-- a sender of a codec, and the settings and the depacketizer of a receiver of its stream. The depacketizer reads the
+-- packetizer's payloads. The sender's packets are not RTCP (RFC 5761, section 4) and not retransmissions. The settings name the
+-- sender's SSRC, and drop no units
 pub record AreOfOneStream (sender : Sending) (settings : Settings) (depacketizer : DepacketizerState) : Type 0 where
   pub built_in : is_built_in sender.packetizer ≡ true
   pub alike : kind_of_depacketizer depacketizer ≡ payloads_by sender.packetizer
@@ -135,18 +135,19 @@ pub record AreOfOneStream (sender : Sending) (settings : Settings) (depacketizer
   pub not_again : is_sent_again_by settings.retransmission sender.stream ≡ false
   pub drops_none : drops_units settings.from_keyframe ≡ false
 
--- each of these indices is less than `forward` above the greatest before it, and at most `backward` below it; g is the greatest so far
+-- each index is less than `forward` above the highest one before it, and at most `backward` below it; g is the highest so far
 abbrev pub StayWithin : ℕ → ℕ → ℕ → List ℕ → Type 0
 StayWithin forward backward g [] = Unit {0}
 StayWithin forward backward g (k ∷ ks) = (k < g + forward) × (g ≤ k + backward) × StayWithin forward backward (max g k) ks
 
--- the datagrams of these indices come within the windows, and the first that comes is one of the first 65,536 that were sent
+-- the datagrams with these indices arrive within the windows, and the first that arrives is one of the first 65,536 that were
+-- sent
 abbrev pub ComeWithin : ℕ → ℕ → List ℕ → Type 0
 ComeWithin forward backward [] = Unit {0}
 ComeWithin forward backward (k ∷ ks) = (k < 65536) × StayWithin forward backward k ks
 
--- the receiver is as `Receiver::new` makes it, for the stream of the sender; the samples can be read again; and all that is delivered
--- comes within the windows
+-- the receiver is new, for the stream of the sender; the samples can be read again; and all delivered datagrams are within the
+-- windows
 pub record IsWithinWindows (samples : List Sample) (all_steps : List DatagramStep) (sender : Sending) (receiver : Session) (sends : List SentSample) : Type 0 where
   pub settings : Settings
   pub depacketizer : DepacketizerState
@@ -155,7 +156,7 @@ pub record IsWithinWindows (samples : List Sample) (all_steps : List DatagramSte
   pub readable : AreReadable sender.packetizer samples
   pub within : ComeWithin settings.forward settings.backward (delivered (received_steps samples 0 all_steps sends))
 
--- Promises
+-- Guarantees
 
 -- none of the steps is a pop
 abbrev pub HaveNoPops : List DatagramStep → Type 0
@@ -165,7 +166,7 @@ HaveNoPops (steps.Deliver k now ∷ later) = HaveNoPops later
 HaveNoPops (steps.Pop now ∷ later) = ⊥
 HaveNoPops (steps.Finish ∷ later) = HaveNoPops later
 
--- the buffer has room for so many packets, each datagram is delivered before the stream ends, and no pop is made before that
+-- the buffer has room for `count` packets, each datagram is delivered before the stream ends, and no pop is made before that
 pub record AllComeFirst (limit count : ℕ) (received : List DatagramStep) : Type 0 where
   pub few : count ≤ limit
   pub before : List DatagramStep
@@ -174,8 +175,9 @@ pub record AllComeFirst (limit count : ℕ) (received : List DatagramStep) : Typ
   pub no_pops : HaveNoPops before
   pub each : (k : ℕ) → k < count → Contains (delivered before) k
 
--- the datagrams that were sent read as the packets of canonical units; these are popped in order, each at most once and whole, of
--- packets that were delivered before the pop; and where all come before the stream ends, and pops come after, all of them
+-- The sent datagrams read as the packets of canonical units. The units are popped in order, each at most once and complete,
+-- from packets that were delivered before the pop. If all datagrams arrive before the stream ends, and all pops come after
+-- that, all units are popped.
 pub record ReleasesUnits (samples : List Sample) (all_steps : List DatagramStep) (s t : Wire) : Type 0 where
   pub units : List SentUnit
   pub canonical : map (λ (u : SentUnit). u.parts) units ≡ units_of_run s.sending.packetizer samples (sending_steps s.sending.mtu all_steps)
@@ -186,11 +188,11 @@ pub record ReleasesUnits (samples : List Sample) (all_steps : List DatagramStep)
   pub exactly : AllComeFirst s.session.packets.buffer.limit (length t.datagrams) (received_steps samples 0 all_steps t.sends)
       → AnswersAll (IsDelivery s.sending.stream.clock_rate (received_steps samples 0 all_steps t.sends)) 0 units t.pops
 
--- so it is of a run whose samples can be read, and whose datagrams come within the windows
+-- this applies to a run whose samples can be read, and whose datagrams arrive within the windows
 abbrev pub ReleasesWithinWindows : List Sample → List DatagramStep → Wire → Wire → Type 0
 ReleasesWithinWindows samples all_steps s t = IsWithinWindows samples all_steps s.sending s.session t.sends → ReleasesUnits samples all_steps s t
 
--- of every run over datagrams
+-- for every run over datagrams
 abbrev pub ReleaseOverDatagrams : Type 0
 ReleaseOverDatagrams =
     (samples : List Sample) (all_steps : List DatagramStep) (sender : Sending) (receiver : Session) (t : Wire)
@@ -198,12 +200,12 @@ ReleaseOverDatagrams =
 
 -- Examples
 
--- of two datagrams that a sample gives, one is delivered before it is sent, and one is never sent: these deliveries are passed over
+-- a sample has two datagrams; the first is delivered before it is sent, and a third is never sent: these deliveries are skipped
 pub received_steps-not_sent : (sample : Sample) (now : Ticks)
     → received_steps (sample ∷ []) 0 (steps.Deliver 0 now ∷ steps.Send 0 ∷ steps.Deliver 1 now ∷ steps.Deliver 2 now ∷ steps.Pop now ∷ []) (record { count = 2; fault = None } ∷ [])
     ≡ steps.Deliver 1 now ∷ steps.Pop now ∷ []
 received_steps-not_sent sample now = refl
 
--- the first two are swapped, one comes twice, and at the borders of the windows
+-- the first two are swapped, one is repeated, and two are at the limits of the windows
 pub come-within : ComeWithin 3000 1000 (1 ∷ 0 ∷ 1 ∷ 3000 ∷ 2000 ∷ [])
 come-within = (lit< tt, (lit< tt, lit≤ tt, (lit< tt, lit≤ tt, (lit< tt, lit≤ tt, (lit< tt, lit≤ tt, tt)))))

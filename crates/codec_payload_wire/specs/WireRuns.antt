@@ -1,4 +1,4 @@
--- What the steps of a run over datagrams do, one after another.
+-- The steps of a run over datagrams, one after another.
 use Rattle.std.specs.Prelude.{◌≡◌, ◌≢◌, ℕ, ◌<◌, ◌^◌, List, [], ◌∷◌, ◌++◌, ◌⊎◌, Option, Some, None, Result, Err, MatchOption, length, map, slice_get}
 use Rattle.std.specs.Global.{Vec}
 use Rattle.codec_payload_base.specs.declared.error.PacketError.{PacketError}
@@ -18,8 +18,8 @@ use Rattle.codec_payload_wire.specs.declared.run.DatagramStep.{DatagramStep}
 use Rattle.codec_payload_wire.specs.declared.run.DatagramStep.TheVariants as steps
 use Rattle.codec_payload_wire.specs.declared.run.SentSample.{SentSample}
 
--- a sender, a receiver, the datagrams that were sent so far, and what came of the steps: the entries of sends, the receipts of
--- datagrams that were delivered, and the answers of pops
+-- a sender, a receiver, the datagrams sent so far, and the results of the steps: the entries of sends, the receipts of
+-- delivered datagrams, and the answers of pops
 pub record Wire : Type 0 where
   pub sending : Sending
   pub session : Session
@@ -28,7 +28,7 @@ pub record Wire : Type 0 where
   pub receipts : List (Result Outcome ReceiveError)
   pub pops : List Answer
 
--- datagrams, without where they lie in memory
+-- datagrams, without their places in memory
 abbrev pub bytes_in : List (Vec ℕ) → List (List ℕ)
 bytes_in = map (λ (v : Vec ℕ). v.items)
 
@@ -46,7 +46,7 @@ wire_of sending session run = record {
 abbrev pub begins : Sending → Session → Wire
 begins sending session = record { sending = sending; session = session; datagrams = []; sends = []; receipts = []; pops = [] }
 
--- what a sender takes of a sample: the payload type is its own
+-- the sample of a sender; the sender sets the payload type
 abbrev pub sent_sample : Sample → SentNow
 sent_sample s = record { rtp_time = s.rtp_time; bytes = s.bytes; start_of_talk_spurt = s.start_of_talk_spurt; ext_vals = s.ext_vals }
 
@@ -55,22 +55,22 @@ abbrev pub SendsOrRefuses : SentNow → Sending → Option PacketError → Sendi
 SendsOrRefuses sample s None t = Sends s sample t
 SendsOrRefuses sample s (Some fault) t = (fault ≢ faults.OutOfMemory) × Refuses s sample fault t
 
--- memory was refused to the sample, or to the copy of its datagrams
+-- memory ran out for the sample, or for the copy of its datagrams
 abbrev pub StopsSending : SentNow → Sending → Sending → Type 0
 StopsSending sample s t = Refuses s sample faults.OutOfMemory t ⊎ ((fault : Option PacketError) × SendsOrRefuses sample s fault t)
 
--- and its datagrams come behind those that were sent before
+-- its datagrams are appended to the earlier ones
 pub record SendsIt (sample : Sample) (s : Sending) (before : List (List ℕ)) (entry : SentSample) (t : Sending) (after : List (List ℕ)) : Type 0 where
   pub sends : SendsOrRefuses (sent_sample sample) s entry.fault t
   pub gained : after ≡ before ++ t.datagrams
   pub count : entry.count ≡ length t.datagrams
   pub few : length after < 2 ^ 63
 
--- what is received, or told of a datagram that is none of the stream
+-- the receipt: an outcome, or the error for a datagram of no stream
 abbrev pub Receipt : Type 0
 Receipt = Result Outcome ReceiveError
 
--- a datagram is given to the receiver
+-- the receiver receives a datagram
 abbrev pub Delivers : Ticks → List ℕ → Session → Receipt → Session → Type 0
 Delivers now bytes s receipt t = (receipt ≢ Err refusals.OutOfMemory) × ReceivesBytes now bytes s receipt t
 
@@ -91,8 +91,8 @@ DoesStep samples (steps.Pop now) s t =
     (answer : Answer) × (session : Session) × (answer ≢ Some (Err faults.OutOfMemory)) × PopsUnit now s.session answer session × (t ≡ record s { session = session; pops = s.pops ++ answer ∷ [] })
 DoesStep samples steps.Finish s t = (session : Session) × Finishes s.session session × (t ≡ record s { session = session })
 
--- memory was refused to a step: before it began, or as the refused call leaves sender and receiver. A sample whose datagrams could
--- not be copied was sent, or refused by the packetizer
+-- memory ran out for a step: before it began, or inside the call, which leaves sender and receiver as it says. A sample whose
+-- datagrams could not be copied was sent, or refused by the packetizer
 abbrev pub StopsAt : List Sample → DatagramStep → Wire → Sending → Session → Type 0
 StopsAt samples (steps.Send i) s sending session =
     (sample : Sample) × (slice_get samples i ≡ Some sample) × (session ≡ s.session)
@@ -104,7 +104,7 @@ StopsAt samples (steps.Pop now) s sending session =
     (sending ≡ s.sending) × ((session ≡ s.session) ⊎ PopsUnit now s.session (Some (Err faults.OutOfMemory)) session)
 StopsAt samples steps.Finish s sending session = ⊥
 
--- the steps, in order, up to one to which memory was refused: the sender and the receiver then
+-- the steps, in order, up to a step for which memory ran out; the sender and the receiver after it
 abbrev pub Stops : List Sample → List DatagramStep → Wire → Sending → Session → Type 0
 Stops samples [] s sending session = ⊥
 Stops samples (step ∷ later) s sending session =

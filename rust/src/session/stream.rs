@@ -17,21 +17,21 @@ use crate::wire::Ticks;
 pub enum Ending {
     /// Its sender left by a BYE (RFC 3550, section 6.6).
     Bye,
-    /// No datagram came for the idle timeout.
+    /// No datagram arrived for the idle timeout.
     Timeout,
     /// The caller ended it.
     Told,
 }
 
-/// Where a stream is in its life.
+/// The stage of a stream's life.
 #[derive(Clone, Copy, Debug, PartialEq, Eq)]
 pub enum Stage {
-    /// Too few datagrams came in so far, and it is not announced.
+    /// Too few datagrams were accepted so far, and the stream is not announced.
     Probation,
     Playing,
-    /// It takes datagrams until this time, and then ends.
+    /// The stream takes datagrams until this time, and then ends.
     Leaving(Ending, u64),
-    /// The frames that it holds go out, and then it is removed.
+    /// The complete frames that it holds are released, and then the stream is removed.
     Draining(Ending),
 }
 
@@ -46,9 +46,9 @@ pub struct StreamInfo {
     pub stage: Stage,
     /// How many datagrams it took, modulo 2^64.
     pub taken: u64,
-    /// How many packets are held.
+    /// The number of held packets.
     pub held: usize,
-    /// What became of its datagrams.
+    /// The outcomes of its datagrams.
     pub counters: Counters,
 }
 
@@ -59,16 +59,16 @@ pub(crate) struct Stream {
     pub(crate) format: Format,
     pub(crate) receiver: Receiver,
     pub(crate) stage: Stage,
-    /// Whether it was announced.
+    /// Whether the stream was announced.
     pub(crate) told: bool,
     pub(crate) taken: u64,
-    /// How many of these datagrams came in.
+    /// How many of these datagrams were accepted.
     pub(crate) accepted: u64,
-    /// When the latest of them came.
+    /// When the latest datagram arrived.
     pub(crate) last: u64,
 }
 
-/// What a stream has to tell.
+/// A step of a stream: its next event, or nothing.
 #[derive(Debug)]
 pub(crate) enum Step {
     Begun,
@@ -78,7 +78,7 @@ pub(crate) enum Step {
 }
 
 impl Stream {
-    /// A stream without datagrams. `None`: no receiver can be made by these settings.
+    /// Creates a stream without datagrams. `None`: no receiver can be made by these settings.
     pub(crate) fn begin(
         settings: &SessionSettings,
         ssrc: u32,
@@ -104,17 +104,17 @@ impl Stream {
         }))
     }
 
-    /// Whether it has this SSRC and payload type.
+    /// Returns whether the stream has this SSRC and payload type.
     pub(crate) fn is_of(&self, ssrc: u32, payload_type: u8) -> bool {
         self.ssrc == ssrc && self.format.payload_type == payload_type
     }
 
-    /// Whether it is in probation.
+    /// Returns whether the stream is in probation.
     pub(crate) fn is_on_probation(&self) -> bool {
         is_probation(self.stage)
     }
 
-    /// Gives a datagram to the receiver. If memory runs out, only the receiver may have changed.
+    /// Passes a datagram to the receiver. If memory runs out, only the receiver may have changed.
     pub(crate) fn take(
         &mut self,
         now: Ticks,
@@ -128,7 +128,7 @@ impl Stream {
         answer
     }
 
-    /// One more datagram was received.
+    /// Counts one more datagram.
     fn note(&mut self, now: Ticks, probation: u64, accepted: bool) {
         self.taken = self.taken.wrapping_add(1);
         self.last = now.0;
@@ -140,7 +140,7 @@ impl Stream {
         }
     }
 
-    /// The stream is to end at that time. An earlier end stays.
+    /// Sets the time at which the stream ends. An earlier end stays.
     fn leave(&mut self, why: Ending, at: u64) {
         match self.stage {
             Stage::Draining(_) => {}
@@ -149,7 +149,7 @@ impl Stream {
         }
     }
 
-    /// The same, if it is one of those that are to end.
+    /// Does the same if `leaves` is true.
     pub(crate) fn leave_if(&mut self, leaves: bool, why: Ending, at: u64) {
         if leaves {
             self.leave(why, at);
@@ -163,7 +163,7 @@ impl Stream {
         }
     }
 
-    /// Why the stream ends now, if it does.
+    /// Returns why the stream ends now, if it does.
     fn end_at(&self, now: u64, idle_timeout: u64) -> Option<Ending> {
         match self.stage {
             Stage::Leaving(why, at) if at <= now => Some(why),
@@ -174,7 +174,7 @@ impl Stream {
         }
     }
 
-    /// If the stream ends now, pops wait for nothing from now on.
+    /// Finishes the receiver if the stream ends now, so that pops wait for nothing.
     fn drain(&mut self, now: u64, idle_timeout: u64) {
         if let Some(why) = self.end_at(now, idle_timeout) {
             self.receiver.finish();
@@ -182,7 +182,7 @@ impl Stream {
         }
     }
 
-    /// What the stream has to tell now.
+    /// Returns the next event of the stream.
     pub(crate) fn step(&mut self, now: Ticks, idle_timeout: u64) -> Step {
         if is_probation(self.stage) {
             return Step::Nothing;
@@ -198,7 +198,7 @@ impl Stream {
         }
     }
 
-    /// When the stream may have something to tell without a datagram.
+    /// Returns when the stream may have an event without a datagram.
     pub(crate) fn due(&self, idle_timeout: u64) -> Option<u64> {
         let end = match self.stage {
             Stage::Probation => return None,
@@ -215,7 +215,7 @@ impl Stream {
         }
     }
 
-    /// What a caller sees of it.
+    /// Describes the stream, as a caller sees it.
     pub(crate) fn info(&self) -> StreamInfo {
         StreamInfo {
             ssrc: self.ssrc,
@@ -228,12 +228,12 @@ impl Stream {
     }
 }
 
-/// Whether it is probation.
+/// Returns whether the stage is probation.
 fn is_probation(stage: Stage) -> bool {
     matches!(stage, Stage::Probation)
 }
 
-/// What is told if no unit comes out.
+/// Returns the step of a stream whose pop returned no unit.
 fn ended_or_nothing(stage: Stage) -> Step {
     match stage {
         Stage::Draining(why) => Step::Ended(why),
@@ -241,12 +241,12 @@ fn ended_or_nothing(stage: Stage) -> Step {
     }
 }
 
-/// Whether memory ran out.
+/// Returns whether memory ran out.
 pub(crate) fn is_no_memory(answer: &Result<Outcome, ReceiveError>) -> bool {
     matches!(answer, Err(ReceiveError::OutOfMemory))
 }
 
-/// Whether a packet came in, so that it is a sign of its stream.
+/// Returns whether the packet was stored or has no media, so that it counts for the end of probation.
 fn is_accepted(answer: &Result<Outcome, ReceiveError>) -> bool {
     matches!(
         answer,
@@ -254,7 +254,7 @@ fn is_accepted(answer: &Result<Outcome, ReceiveError>) -> bool {
     )
 }
 
-/// The earlier of two moments.
+/// Returns the earlier of two times.
 pub(crate) fn earlier(one: Option<u64>, other: Option<u64>) -> Option<u64> {
     match (one, other) {
         (Some(one), Some(other)) => Some(one.min(other)),

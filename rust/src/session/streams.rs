@@ -23,25 +23,25 @@ pub(crate) struct Streams {
     pub(crate) ended: u64,
 }
 
-/// What the stream at a place has to tell.
+/// The step of the stream at a place.
 #[derive(Debug)]
 pub(crate) struct Turn {
     place: usize,
     step: Step,
 }
 
-/// Which streams are to end.
+/// The streams to end.
 #[derive(Clone, Copy, Debug)]
 pub(crate) enum Who<'a> {
     All,
-    /// Those of this SSRC.
+    /// The streams of this SSRC.
     Of(u32),
-    /// Those whose BYE this compound packet carries.
+    /// The streams that a BYE in this compound packet names.
     Named(&'a [u8]),
 }
 
 impl Streams {
-    /// No streams.
+    /// Creates an empty list.
     pub(crate) fn none() -> Streams {
         Streams {
             list: Vec::new(),
@@ -50,7 +50,7 @@ impl Streams {
         }
     }
 
-    /// Takes a datagram in.
+    /// Receives a datagram.
     pub(crate) fn take_in(
         &mut self,
         settings: &SessionSettings,
@@ -82,7 +82,7 @@ impl Streams {
         }
     }
 
-    /// Gives a datagram to its stream, or begins a stream with it.
+    /// Passes a datagram to its stream, or begins a stream with it.
     fn feed_or_begin(
         &mut self,
         settings: &SessionSettings,
@@ -96,7 +96,7 @@ impl Streams {
         }
     }
 
-    /// Gives a datagram to the stream at this place.
+    /// Passes a datagram to the stream at this place.
     fn feed(
         &mut self,
         place: usize,
@@ -144,12 +144,12 @@ impl Streams {
         })
     }
 
-    /// Whether there is a place for one more stream.
+    /// Returns whether there is a place for one more stream.
     fn has_place(&self, max_streams: usize) -> bool {
         !self.finished && (self.list.len() < max_streams || on_probation(&self.list).is_some())
     }
 
-    /// Adds a stream. If there are too many, the first in probation is removed.
+    /// Adds a stream. If all places are taken, the first stream in probation is removed.
     fn add(&mut self, max_streams: usize, stream: Stream) -> Result<(), AllocError> {
         let place = leaving(max_streams, &self.list);
         self.list.try_push(stream)?;
@@ -165,7 +165,7 @@ impl Streams {
         self.ended = self.ended.wrapping_add(gone.taken);
     }
 
-    /// The next event.
+    /// Returns the next event.
     pub(crate) fn turn(&mut self, now: Ticks, idle_timeout: u64) -> Option<Event> {
         match step_first(&mut self.list, now, idle_timeout) {
             Some(turn) => self.tell(turn),
@@ -173,7 +173,7 @@ impl Streams {
         }
     }
 
-    /// What the stream at a place tells. A stream that ended is removed.
+    /// Returns the event of the stream at a place. A stream that ended is removed.
     fn tell(&mut self, turn: Turn) -> Option<Event> {
         let stream = &self.list[turn.place];
         let (ssrc, payload_type) = (stream.ssrc, stream.format.payload_type);
@@ -200,7 +200,7 @@ impl Streams {
         }
     }
 
-    /// These streams are to end at that time.
+    /// Ends these streams at that time.
     pub(crate) fn leave(&mut self, who: Who<'_>, why: Ending, at: u64) {
         leave(&mut self.list, who, why, at);
     }
@@ -210,29 +210,29 @@ impl Streams {
         set_wait_limits(&mut self.list, ssrc, payload_type, wait_limits);
     }
 
-    /// From now on no stream begins, and all are to end at that time.
+    /// Ends all streams at that time, and refuses new ones from now on.
     pub(crate) fn finish(&mut self, at: u64) {
         self.finished = true;
         leave(&mut self.list, Who::All, Ending::Told, at);
     }
 }
 
-/// Where the stream with this SSRC and payload type is.
+/// Returns the place of the stream with this SSRC and payload type.
 pub(crate) fn place_of(streams: &[Stream], ssrc: u32, payload_type: u8) -> Option<usize> {
     streams.iter().position(|s| s.is_of(ssrc, payload_type))
 }
 
-/// Where the first stream of this SSRC is.
+/// Returns the place of the first stream of this SSRC.
 fn place_of_ssrc(streams: &[Stream], ssrc: u32) -> Option<usize> {
     streams.iter().position(|s| s.ssrc == ssrc)
 }
 
-/// Where the first stream in probation is.
+/// Returns the place of the first stream in probation.
 fn on_probation(streams: &[Stream]) -> Option<usize> {
     streams.iter().position(|s| s.is_on_probation())
 }
 
-/// Which stream is removed for a new one.
+/// Returns the place of the stream that is removed for a new one.
 fn leaving(max_streams: usize, streams: &[Stream]) -> Option<usize> {
     if streams.len() < max_streams {
         None
@@ -241,7 +241,7 @@ fn leaving(max_streams: usize, streams: &[Stream]) -> Option<usize> {
     }
 }
 
-/// Lets the streams have their turn, in order, up to the first that has something to tell.
+/// Asks the streams for an event, in order, until one has an event.
 fn step_first(streams: &mut [Stream], now: Ticks, idle_timeout: u64) -> Option<Turn> {
     for place in 0..streams.len() {
         let step = streams[place].step(now, idle_timeout);
@@ -252,12 +252,12 @@ fn step_first(streams: &mut [Stream], now: Ticks, idle_timeout: u64) -> Option<T
     None
 }
 
-/// Whether a stream has nothing to tell.
+/// Returns whether a step has no event.
 fn is_nothing(step: &Step) -> bool {
     matches!(step, Step::Nothing)
 }
 
-/// When a stream may have something to tell without a datagram.
+/// Returns when a stream may have an event without a datagram.
 pub(crate) fn due_in(streams: &[Stream], idle_timeout: u64) -> Option<u64> {
     let mut due = None;
     for stream in streams {
@@ -266,14 +266,14 @@ pub(crate) fn due_in(streams: &[Stream], idle_timeout: u64) -> Option<u64> {
     due
 }
 
-/// These streams are to end at that time.
+/// Ends these streams at that time.
 fn leave(streams: &mut [Stream], who: Who<'_>, why: Ending, at: u64) {
     for place in 0..streams.len() {
         leave_if(&mut streams[place], who, why, at);
     }
 }
 
-/// The stream is to end at that time, if it is one of these.
+/// Ends the stream at that time, if it is one of `who`.
 fn leave_if(stream: &mut Stream, who: Who<'_>, why: Ending, at: u64) {
     let leaves = includes(who, stream.ssrc);
     stream.leave_if(leaves, why, at);
@@ -286,7 +286,7 @@ fn set_wait_limits(streams: &mut [Stream], ssrc: u32, payload_type: u8, wait_lim
     }
 }
 
-/// Whether the stream of this SSRC is one of them.
+/// Returns whether the stream is one of `who`.
 fn includes(who: Who<'_>, ssrc: u32) -> bool {
     match who {
         Who::All => true,
@@ -295,7 +295,7 @@ fn includes(who: Who<'_>, ssrc: u32) -> bool {
     }
 }
 
-/// Whether a BYE of the compound packet names the SSRC.
+/// Returns whether a BYE of the compound packet names the SSRC.
 fn says_goodbye(compound: &[u8], ssrc: u32) -> bool {
     match read_compound(CompoundRule::ReducedSize, compound) {
         Ok(packets) => any_says_goodbye(packets, ssrc),
@@ -303,7 +303,7 @@ fn says_goodbye(compound: &[u8], ssrc: u32) -> bool {
     }
 }
 
-/// Whether a BYE among the packets names the SSRC.
+/// Returns whether a BYE among the packets names the SSRC.
 fn any_says_goodbye(mut packets: Packets<'_>, ssrc: u32) -> bool {
     while let Some(packet) = packets.next() {
         if is_goodbye(&packet, ssrc) {
@@ -313,7 +313,7 @@ fn any_says_goodbye(mut packets: Packets<'_>, ssrc: u32) -> bool {
     false
 }
 
-/// Whether the packet is a BYE that names the SSRC.
+/// Returns whether the packet is a BYE that names the SSRC.
 fn is_goodbye(packet: &RtcpPacket<'_>, ssrc: u32) -> bool {
     match packet {
         RtcpPacket::Goodbye(goodbye) => names(goodbye.ssrcs, ssrc),
@@ -321,7 +321,7 @@ fn is_goodbye(packet: &RtcpPacket<'_>, ssrc: u32) -> bool {
     }
 }
 
-/// The SSRC at the front, and those after it.
+/// Returns the SSRC at the front, and the SSRCs after it.
 fn front_source(ssrcs: &[u8]) -> Option<(u32, &[u8])> {
     let [s3, s2, s1, s0, rest @ ..] = ssrcs else {
         return None;
@@ -329,7 +329,7 @@ fn front_source(ssrcs: &[u8]) -> Option<(u32, &[u8])> {
     Some((u32::from_be_bytes([*s3, *s2, *s1, *s0]), rest))
 }
 
-/// Whether the SSRC is one of these.
+/// Returns whether the SSRC is in the list.
 fn names(ssrcs: &[u8], ssrc: u32) -> bool {
     let mut rest = ssrcs;
     while let Some((named, others)) = front_source(rest) {

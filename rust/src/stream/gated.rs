@@ -8,7 +8,7 @@ use crate::error::PacketError;
 use crate::keyframes::unit_gate::{FromKeyframe, UnitGate};
 use crate::wire::Codec;
 
-/// Returns the gate of a receiver over this depacketizer. Units of a custom codec are not inspected, as those of audio.
+/// Returns the gate of a receiver with this depacketizer. Units of audio and of a custom codec are not inspected.
 pub(crate) fn gate_for<B>(
     depacketizer: &CodecDepacketizer<B>,
     from_keyframe: FromKeyframe,
@@ -22,8 +22,7 @@ pub(crate) fn gate_for<B>(
     UnitGate::new(codec, from_keyframe)
 }
 
-/// The gate follows the answer of a pop. `has_left`: packets left with a frame, and not in a unit. Returns whether the answer is
-/// passed on.
+/// Updates the gate after a pop. `has_left`: the pop discarded packets. Returns whether the answer is passed on.
 pub(crate) fn follow(
     gates: &mut UnitGate,
     answer: &Option<Result<Depacketized, PacketError>>,
@@ -52,7 +51,7 @@ pub(crate) fn follow_into(
     true
 }
 
-/// A pop gave no unit.
+/// Updates the gate after a pop that returned no unit.
 fn follow_none(gates: &mut UnitGate, has_left: bool) {
     if has_left {
         gates.skip();

@@ -1,6 +1,6 @@
-//! The rows of held packets, as their packets tell them: the first packet of a row and the last say where the other is.
+//! The rows of held packets, as noted at their ends: the first and the last packet of a row each hold the number of the other.
 //!
-//! So no list of rows is kept. A push, an eviction and a pop write to the ends of the rows that they change.
+//! So the buffer keeps no list of rows. A push, an eviction and a pop write only to the ends of the rows that they change.
 
 ghost use Rattle.std.specs.Prelude.{◌≡◌, ◌≢◌, ◌<◌, ◌+◌, ◌==◌, true, false, ℕ, IfSome, length, map, slice_index_or, slice_set};
 ghost use Rattle.std.specs.VecDeque.{deque_len, deque_capacity};
@@ -17,7 +17,7 @@ use super::packets::take_lowest;
 use super::rows::{Row, frame_of_left, join, meets, shorten};
 use std::collections::VecDeque;
 
-/// The row from a number to the packet at a place, its last.
+/// Returns the row from `first` to the packet at `place`, which is its last.
 fn row_to(packets: &VecDeque<HeldPacket>, first: u64, place: usize) -> Row
     requires { place < deque_len packets.now }
     ensures { (x : Entry) × (x ≡ slice_index_or packets.now.items place x) × (result ≡ row_ending first x) }
@@ -32,14 +32,14 @@ fn row_to(packets: &VecDeque<HeldPacket>, first: u64, place: usize) -> Row
     }
 }
 
-/// Whether a number is the one after another.
+/// Returns whether `later` is the next number after `earlier`.
 fn is_next(earlier: u64, later: u64) -> bool
     ensures { result ≡ (earlier + 1 == later) }
 {
     earlier < later && later - earlier == 1
 }
 
-/// A row with the row that begins at a place, where they meet.
+/// Joins a row with the row that begins at `place`, if they meet.
 fn join_next(packets: &VecDeque<HeldPacket>, place: usize, row: Row) -> Row
     requires rises { Rises (map held_of packets.now.items) }
     requires told { AreTold (rows (map held_of packets.now.items)) (map mark_of packets.now.items) }
@@ -63,7 +63,7 @@ fn join_next(packets: &VecDeque<HeldPacket>, place: usize, row: Row) -> Row
     }
 }
 
-/// A row with the row that ends before a place, where they meet.
+/// Joins a row with the row that ends in front of `place`, if they meet.
 fn join_previous(packets: &VecDeque<HeldPacket>, place: usize, row: Row) -> Row
     requires rises { Rises (map held_of packets.now.items) }
     requires told { AreTold (rows (map held_of packets.now.items)) (map mark_of packets.now.items) }
@@ -86,7 +86,7 @@ fn join_previous(packets: &VecDeque<HeldPacket>, place: usize, row: Row) -> Row
     }
 }
 
-/// The row that a packet is in once it stands at its place: `row` is the packet alone.
+/// Returns the row of a new packet once it is at its place: `row` is the packet alone.
 pub(super) fn row_with(packets: &VecDeque<HeldPacket>, place: usize, row: Row) -> Row
     requires rises { Rises (map held_of packets.now.items) }
     requires told { AreTold (rows (map held_of packets.now.items)) (map mark_of packets.now.items) }
@@ -99,7 +99,7 @@ pub(super) fn row_with(packets: &VecDeque<HeldPacket>, place: usize, row: Row) -
     join_previous(packets, place, row)
 }
 
-/// What a packet says of its row.
+/// Notes the other end of a row, and its head, in a packet.
 fn mark(entry: &mut HeldPacket, other_end: u64, row_head: Option<u64>)
     ensures held { held_of entry.new ≡ held_of entry.old }
     ensures mark { mark_of entry.new ≡ marked (mark_of entry.old) other_end row_head }
@@ -108,7 +108,7 @@ fn mark(entry: &mut HeldPacket, other_end: u64, row_head: Option<u64>)
     entry.packet.row_head = row_head;
 }
 
-/// What the packet at a place says of its row.
+/// Notes the other end of a row, and its head, in the packet at `place`.
 fn set_mark(packets: &mut VecDeque<HeldPacket>, place: usize, other_end: u64, row_head: Option<u64>)
     requires { place < deque_len packets.old }
     ensures held { map held_of packets.new.items ≡ map held_of packets.old.items }
@@ -117,7 +117,7 @@ fn set_mark(packets: &mut VecDeque<HeldPacket>, place: usize, other_end: u64, ro
     mark(&mut packets[place], other_end, row_head);
 }
 
-/// The packets at two places are the ends of a row from now on.
+/// Notes a row at both of its ends, the packets at `from` and `to`.
 fn set_ends(packets: &mut VecDeque<HeldPacket>, from: usize, to: usize, row: Row)
     requires rises { Rises (map held_of packets.old.items) }
     requires from { from ≡ place_of row.first (map held_of packets.old.items) }
@@ -132,8 +132,8 @@ fn set_ends(packets: &mut VecDeque<HeldPacket>, from: usize, to: usize, row: Row
     set_mark(packets, to, row.first, row.head);
 }
 
-/// Puts a packet at its place; `row` is the row that it is in then. The room was found before. Nothing moves where it is
-/// the last.
+/// Inserts a packet at its place; `row` is its row after that. The caller has reserved the room. At the end of the queue
+/// nothing moves.
 pub(super) fn place_at(
     packets: &mut VecDeque<HeldPacket>,
     place: usize,
@@ -156,7 +156,7 @@ pub(super) fn place_at(
     set_ends(packets, from, to, row);
 }
 
-/// The lowest row.
+/// Returns the lowest row.
 fn lowest_row(packets: &VecDeque<HeldPacket>) -> Row
     requires rises { Rises (map held_of packets.now.items) }
     requires told { AreTold (rows (map held_of packets.now.items)) (map mark_of packets.now.items) }
@@ -168,7 +168,7 @@ fn lowest_row(packets: &VecDeque<HeldPacket>) -> Row
     row_to(packets, entry.number, after)
 }
 
-/// The packets of what is left of the lowest row tell it from now on.
+/// Notes the rest of the lowest row at both of its ends.
 fn set_lowest_ends(packets: &mut VecDeque<HeldPacket>, rest: &Option<Row>)
     requires rises { Rises (map held_of packets.old.items) }
     requires lowest { IfSome rest.now (λ row. IsLowestRow (rows (map held_of packets.old.items)) row) }
@@ -182,7 +182,7 @@ fn set_lowest_ends(packets: &mut VecDeque<HeldPacket>, rest: &Option<Row>)
     }
 }
 
-/// The lowest packet leaves. Says its number, and which frame its row had before and which it has after.
+/// Removes the lowest packet. Returns its number, the frame of its row before that, and the frame of the row after that.
 pub(super) fn evict(
     packets: &mut VecDeque<HeldPacket>,
     spare: &mut Vec<Box<Packet>>,

@@ -1,4 +1,4 @@
-//! The complete frames among packets, in an ordered list that is mended as packets come and go.
+//! The complete frames among the held packets: an ordered list that is updated when packets arrive and leave.
 
 ghost use Rattle.std.specs.Prelude.{◌≡◌, ◌<◌, IfSome};
 ghost use Rattle.std.specs.VecDeque.{deque_len, deque_capacity};
@@ -8,14 +8,14 @@ use super::rows::Row;
 use super::search::place_of_number;
 use std::collections::VecDeque;
 
-/// A complete frame: the sequence numbers of its first packet and its last.
+/// A complete frame: the sequence numbers of its first and last packet.
 #[derive(Clone, Copy, Debug, PartialEq, Eq)]
 pub struct CompleteFrame {
     pub first: u64,
     pub last: u64,
 }
 
-/// The frame of a row: from its lowest head to its tail, where it has both.
+/// Returns the frame of a row, if it has one: from its lowest packet that begins a unit to the packet that ends it.
 pub(super) fn frame_of(row: &Row) -> Option<CompleteFrame>
     ensures { result ≡ frame_of_row row.now }
 {
@@ -28,7 +28,7 @@ pub(super) fn frame_of(row: &Row) -> Option<CompleteFrame>
     }
 }
 
-/// Where the first frame that ends at that number or above stands or would stand.
+/// Returns the place of the first frame that ends at this number or above.
 fn find_end(complete_frames: &VecDeque<CompleteFrame>, last: u64) -> usize
     requires { EndsRise complete_frames.now.items }
     ensures { result ≡ frame_place last complete_frames.now.items }
@@ -36,7 +36,7 @@ fn find_end(complete_frames: &VecDeque<CompleteFrame>, last: u64) -> usize
     place_of_number(complete_frames, last)
 }
 
-/// Takes a frame into the list, in the stead of the one with the same end, if there is one. The room was found before.
+/// Adds a frame to the list, or replaces the frame with the same end. The caller has reserved the room.
 pub(super) fn note(complete_frames: &mut VecDeque<CompleteFrame>, frame: Option<CompleteFrame>)
     requires rises { EndsRise complete_frames.old.items }
     requires room { deque_len complete_frames.old < deque_capacity complete_frames.old }
@@ -52,7 +52,7 @@ pub(super) fn note(complete_frames: &mut VecDeque<CompleteFrame>, frame: Option<
     }
 }
 
-/// The lowest frame, if it was there before, becomes the one that is there after, or leaves.
+/// Replaces the lowest frame `before`, if there is one, by `after`, or removes it.
 pub(super) fn mend_first(
     complete_frames: &mut VecDeque<CompleteFrame>,
     before: Option<CompleteFrame>,

@@ -7,38 +7,38 @@ use super::unit::RtpMeta;
 use std::alloc::{AllocError, Global};
 use std::mem::size_of;
 
-/// A packet that is held: its number, and where the rest is.
+/// An entry of the queue: the number of a held packet, and a pointer to the rest.
 #[derive(Debug, Drop)]
 pub(super) struct HeldPacket {
-    /// Its sequence number, here too, so that a search looks at entries alone.
+    /// The sequence number, repeated here so that a search reads only entries.
     pub(super) number: u64,
-    /// The rest, behind a pointer, so that an entry has 16 bytes however much that is.
+    /// The rest of the packet, in its own memory block, so that an entry has 16 bytes.
     pub(super) packet: Box<Packet>,
     ghost numbered: { number ≡ packet.value.known.seq_no.0 },
 }
 
-/// One memory block for each packet.
+/// The memory block of one packet.
 #[derive(Debug, Drop)]
 pub(super) struct Packet {
     pub(super) known: Known,
     /// The payload.
     pub(super) bytes: Vec<u8>,
-    /// Of the first packet of a row the number of its last packet, of the last packet that of the first. Of the packets
-    /// between them it says nothing.
+    /// In the first packet of a row: the number of the last packet. In the last packet: the number of the first. In the packets
+    /// between them it has no meaning.
     pub(super) other_end: u64,
-    /// Of the last packet of a row: the lowest number in the row of a packet that begins a unit.
+    /// In the last packet of a row: the lowest number in the row of a packet that begins a unit.
     pub(super) row_head: Option<u64>,
-    /// Whether it begins a unit. The depacketizer was asked when the packet came.
+    /// Whether the packet begins a unit, as the depacketizer answered on arrival.
     pub(super) head: bool,
-    /// Whether it ends a unit.
+    /// Whether the packet ends a unit, as the depacketizer answered on arrival.
     pub(super) tail: bool,
 }
 
-/// What a held packet takes besides its payload and its entry.
+/// The memory block of a packet has at most 128 bytes, without the payload and the entry.
 const _: () = prove!(size_of::<Packet>() <= 128);
 
 impl Packet {
-    /// A packet that is a row by itself. Takes memory for what few packets have alone.
+    /// Makes a packet that is a row of its own. Allocates only for rare values.
     pub(super) fn of(
         alloc: Global,
         meta: RtpMeta,
@@ -65,7 +65,7 @@ impl Packet {
     }
 }
 
-/// What tells something of itself, made anew each time.
+/// A type that returns a value about itself, made new on each call.
 pub(super) trait Tells<T> {
     ghost told: { Self → T };
 
@@ -73,7 +73,7 @@ pub(super) trait Tells<T> {
         ensures { result ≡ told self.now };
 }
 
-/// What is known of it, as users are told it.
+/// Returns the metadata of the packet, as users see it.
 impl Tells<RtpMeta> for HeldPacket {
     ghost told = { λ entry. entry.packet.value.known };
 
@@ -82,5 +82,5 @@ impl Tells<RtpMeta> for HeldPacket {
     }
 }
 
-/// A push that is far from both ends moves as many entries as half of the packets that are held.
+/// An entry has at most 16 bytes, since a push far from both ends moves up to half of all entries.
 const _: () = prove!(size_of::<HeldPacket>() <= 16);

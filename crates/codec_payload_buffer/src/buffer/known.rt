@@ -1,4 +1,4 @@
-//! What is known of a packet that is held.
+//! The metadata of a held packet.
 
 ghost use Rattle.std.specs.Prelude.{◌≡◌, IfOk};
 ghost use Rattle.std.specs.Option.{option_map};
@@ -12,7 +12,7 @@ use codec_payload_base::wire::{
 use std::alloc::{AllocError, Global};
 use std::marker::Model;
 
-/// What is known of a packet. What few packets have stands apart.
+/// The metadata of a packet. Rare values are in a separate memory block.
 #[derive(Debug, Drop)]
 pub(super) struct Known {
     received: Ticks,
@@ -30,7 +30,7 @@ pub(super) struct Known {
     voice_activity: Option<bool>,
 }
 
-/// What few packets have. A layers allocation, which takes more than all the rest, stands apart again.
+/// Rare values. A layers allocation, which is larger than all other values together, has a memory block of its own.
 #[derive(Debug, Drop)]
 struct Rare {
     abs_capture_time: Option<AbsCaptureTime>,
@@ -40,7 +40,7 @@ struct Rare {
 }
 
 impl Rare {
-    /// What few packets have, where this one has any of it.
+    /// The rare values, if the packet has any of them.
     fn of(alloc: Global, meta: &RtpMeta) -> Result<Option<Box<Rare>>, AllocError>
         ensures capture { IfOk result (λ rare. capture_of (option_map (λ b. b.value) rare) ≡ meta.now.header.ext_vals.abs_capture_time) }
         ensures timing { IfOk result (λ rare. timing_of (option_map (λ b. b.value) rare) ≡ meta.now.header.ext_vals.video_timing) }
@@ -68,7 +68,7 @@ impl Rare {
         Ok(Some(Box::new(alloc, rare)?))
     }
 
-    /// The layers allocation, if there is one.
+    /// Returns the layers allocation, if there is one.
     fn layers(&self) -> Option<VideoLayersAllocation>
         ensures { result ≡ option_map (λ b. b.value) self.now.layers_allocation }
     {
@@ -111,7 +111,7 @@ impl Model for Known {
 }
 
 impl Known {
-    /// What is known of a packet, as it is kept. Takes memory for what few packets have alone.
+    /// Stores the metadata of a packet. Allocates only for rare values.
     pub(super) fn of(alloc: Global, meta: RtpMeta) -> Result<Self, AllocError>
         ensures { IfOk result (λ known. known ≡ meta) }
     {
@@ -135,33 +135,33 @@ impl Known {
         })
     }
 
-    /// The sequence number.
+    /// Returns the sequence number.
     pub(super) fn number(&self) -> u64
         ensures { result ≡ self.now.seq_no.0 }
     {
         self.seq_no.0
     }
 
-    /// The RTP time.
+    /// Returns the RTP time.
     pub(super) fn time(&self) -> MediaTime
         ensures { result ≡ self.now.time }
     {
         self.time
     }
 
-    /// Gives back the memory of what few packets have.
+    /// Frees the memory of the rare values.
     pub(super) fn drop_rare(&mut self) {
         self.rare = None;
     }
 
-    /// When the packet was received.
+    /// Returns the time at which the packet arrived.
     pub(super) fn received(&self) -> Ticks
         ensures { result ≡ self.now.received }
     {
         self.received
     }
 
-    /// What is known of the packet, as users are told it.
+    /// Returns the metadata of the packet, as users see it.
     pub(super) fn meta(&self) -> RtpMeta
         ensures { result ≡ self.now }
     {
@@ -184,7 +184,7 @@ impl Known {
         }
     }
 
-    /// The values of its header extensions.
+    /// Returns the values of its header extensions.
     fn values(&self) -> ExtensionValues
         ensures { result ≡ self.now.header.ext_vals }
     {

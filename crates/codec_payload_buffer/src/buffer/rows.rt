@@ -1,4 +1,4 @@
-//! The rows of held packets: where packets stand together, and from where a frame can begin.
+//! Rows: ranges of consecutive held packets in which a frame can be complete.
 
 ghost use Rattle.std.specs.Prelude.{◌≡◌, ◌≤◌, map};
 ghost use Rattle.codec_payload_buffer.specs.Held.{held_of};
@@ -9,19 +9,20 @@ use super::held_packet::HeldPacket;
 use codec_payload_base::wire::MediaTime;
 use std::collections::VecDeque;
 
-/// Packets of consecutive numbers and one time, with no tail but the last: as many of them as stand together.
+/// A row: the longest range of held packets with consecutive numbers and one time, in which only the last packet can end a
+/// unit.
 #[derive(Clone, Copy, Debug)]
 pub(super) struct Row {
     pub(super) first: u64,
     pub(super) last: u64,
     pub(super) time: MediaTime,
-    /// The lowest number of a packet in it that begins a unit.
+    /// The lowest number in the row of a packet that begins a unit.
     pub(super) head: Option<u64>,
     /// Whether the last packet ends a unit.
     pub(super) tail: bool,
 }
 
-/// One packet as a row.
+/// Returns a packet as a row.
 pub(super) fn row_of_packet(packet: &HeldPacket) -> Row
     ensures { result ≡ row_of (held_of packet.now) }
 {
@@ -39,7 +40,7 @@ pub(super) fn row_of_packet(packet: &HeldPacket) -> Row
     }
 }
 
-/// Whether the later row goes on where the earlier ends: the next number, the same time, and no tail before.
+/// Returns whether the later row continues the earlier one: the next number, the same time, and no end of a unit between them.
 pub(super) fn meets(earlier: &Row, later: &Row) -> bool
     ensures { result ≡ meet earlier.now later.now }
 {
@@ -49,7 +50,7 @@ pub(super) fn meets(earlier: &Row, later: &Row) -> bool
         && !earlier.tail
 }
 
-/// Two rows that meet, as one.
+/// Joins two rows that meet.
 pub(super) fn join(earlier: Row, later: Row) -> Row
     ensures { result ≡ joined earlier later }
 {
@@ -62,7 +63,7 @@ pub(super) fn join(earlier: Row, later: Row) -> Row
     }
 }
 
-/// The lowest number, up to `last`, of a packet that begins a unit.
+/// Returns the lowest number, up to `last`, of a packet that begins a unit.
 fn find_head(packets: &VecDeque<HeldPacket>, last: u64) -> Option<u64>
     ensures { result ≡ next_head last (map held_of packets.now.items) }
 {
@@ -77,8 +78,8 @@ fn find_head(packets: &VecDeque<HeldPacket>, last: u64) -> Option<u64>
     None
 }
 
-/// What is left of a row once its first packet has left; `packets` are those that are left. Looks for the next packet
-/// that begins a unit only where the one that has left did.
+/// Returns the rest of a row after its first packet has left; `packets` are the remaining packets. It searches for the next
+/// packet that begins a unit only if the first packet began one.
 pub(super) fn shorten(row: &Row, packets: &VecDeque<HeldPacket>) -> Option<Row>
     requires ends { row.now.first ≤ row.now.last }
     requires head { IsHeadKept row.now (map held_of packets.now.items) }
@@ -101,7 +102,7 @@ pub(super) fn shorten(row: &Row, packets: &VecDeque<HeldPacket>) -> Option<Row>
     })
 }
 
-/// The frame of what is left of a row.
+/// Returns the frame of the rest of a row.
 pub(super) fn frame_of_left(rest: &Option<Row>) -> Option<CompleteFrame>
     ensures { result ≡ frame_of_rest rest.now }
 {

@@ -1,4 +1,4 @@
-//! Searches of queues that are ordered by a number.
+//! Searches in queues that are ordered by a number.
 
 ghost use Rattle.std.specs.Prelude.{◌≡◌, ◌<◌, ◌≤◌, length, ℕ};
 ghost use Rattle.std.specs.List.{AllWithin};
@@ -9,7 +9,7 @@ use super::frames::CompleteFrame;
 use super::held_packet::HeldPacket;
 use std::collections::VecDeque;
 
-/// What stands in a queue in rising order of a number.
+/// An item of a queue in rising order of a number.
 pub(super) trait Numbered {
     ghost number_of: { Self → ℕ };
 
@@ -25,7 +25,7 @@ impl Numbered for HeldPacket {
     }
 }
 
-/// By their ends.
+/// Frames are ordered by their last number.
 impl Numbered for CompleteFrame {
     ghost number_of = { λ frame. frame.last };
 
@@ -34,8 +34,8 @@ impl Numbered for CompleteFrame {
     }
 }
 
-/// How many items have a lower number. Looks at the first item, and then back from the last one in steps that double, so the
-/// cost grows with the logarithm of how far from the end the place is, and not with the length of the queue.
+/// Returns how many items have a lower number. It inspects the first item, and then goes back from the last item in steps that
+/// double. So the cost grows with the logarithm of the distance from the end, and not with the length of the queue.
 pub(super) fn place_of_number<T: Numbered>(items: &VecDeque<T>, number: u64) -> usize
     requires { IsNonDecreasingBy T.number_of items.now.items }
     ensures bound { result ≤ deque_len items.now }
@@ -48,7 +48,7 @@ pub(super) fn place_of_number<T: Numbered>(items: &VecDeque<T>, number: u64) -> 
     search_between(items, number, low, high)
 }
 
-/// Two places, between which is that of the number.
+/// Returns two places, with the place of the number between them.
 fn look_back<T: Numbered>(items: &VecDeque<T>, number: u64) -> (usize, usize)
     requires { IsNonDecreasingBy T.number_of items.now.items }
     ensures order { result.0 ≤ result.1 }
@@ -65,7 +65,7 @@ fn look_back<T: Numbered>(items: &VecDeque<T>, number: u64) -> (usize, usize)
     (high.saturating_sub(step), high)
 }
 
-/// The place of the number between two others. A binary search.
+/// Returns the place of the number between two places, by a binary search.
 fn search_between<T: Numbered>(items: &VecDeque<T>, number: u64, low: usize, high: usize) -> usize
     requires rises { IsNonDecreasingBy T.number_of items.now.items }
     requires order { low ≤ high }

@@ -1,4 +1,4 @@
-//! What is known of a received packet, and units with what is known of their packets.
+//! The metadata of received packets, and units with the metadata of their packets.
 
 ghost use Rattle.std.specs.Prelude.{◌≡◌, ◌<◌, length, false};
 ghost use Rattle.std.specs.Range.{range_inclusive_start, range_inclusive_end, range_inclusive_exhausted};
@@ -12,22 +12,22 @@ use codec_payload_base::wire::{
 use std::marker::Model;
 use std::ops::RangeInclusive;
 
-/// What is known of a received packet besides its payload.
+/// The metadata of a received packet.
 #[derive(Clone, Debug, PartialEq, Eq, Drop)]
 pub struct RtpMeta {
-    /// When it was received, by the caller's clock.
+    /// When the packet arrived, by your clock.
     pub received: Ticks,
     pub time: MediaTime,
     pub seq_no: SeqNo,
     pub header: RtpHeader,
-    /// What the latest sender report before it said.
+    /// The values of the latest sender report before the packet.
     pub last_sender_info: Option<SenderInfo>,
 }
 
 impl RtpMeta {
-    /// What is known of a packet of which only its number, its time, its payload type and when it was received are known. Its
-    /// header has the low 16 bits of the number and the low 32 of the time's ticks, no marker, the SSRC 0 and no values of
-    /// header extensions; no sender report came before it. All fields are public, so a caller who knows more sets it.
+    /// Returns the metadata of a packet from its number, RTP time, payload type and time of arrival. The header gets the low 16
+    /// bits of the number and the low 32 bits of the time, no marker, the SSRC 0 and no values of header extensions. There is
+    /// no sender report. All fields are public: set the values that you have.
     pub fn of(seq_no: SeqNo, time: MediaTime, payload_type: Pt, received: Ticks) -> Self
         ensures { result ≡ meta_of seq_no.0 time payload_type received.0 }
     {
@@ -48,28 +48,28 @@ impl RtpMeta {
     }
 }
 
-/// What is told of a unit whose bytes, and what is known of whose packets, lie in memory of the caller's.
+/// A unit whose bytes and metadata are in the caller's memory.
 #[derive(Clone, Copy, Debug, PartialEq, Eq)]
 pub struct UnitInfo {
-    /// The one time of its packets.
+    /// The RTP time, which all of its packets have.
     pub time: MediaTime,
-    /// Whether it follows the unit that was released before it, as [`Depacketized`] tells it.
+    /// Whether it directly follows the unit released before it; see [`Depacketized`].
     pub contiguous: bool,
-    /// What its payloads told besides its bytes.
+    /// The codec-specific data of its payloads.
     pub codec_extra: CodecExtra,
 }
 
-/// A unit that was put together from the payloads of one packet or more.
+/// A unit that was reassembled from the payloads of one or more packets.
 #[derive(Debug, Drop)]
 pub struct Depacketized {
-    /// The one time of its packets.
+    /// The RTP time, which all of its packets have.
     pub time: MediaTime,
-    /// Whether it follows the unit that was released before it: by its sequence numbers, or by its picture ids where VP8 or
-    /// VP9 told both. It is so of the first unit, unless its numbers tell it and a packet was evicted before.
+    /// Whether it directly follows the unit released before it: by its sequence numbers, or by picture ids if both units of VP8
+    /// or VP9 have them. The first unit is contiguous, unless sequence numbers decide and a packet was evicted before.
     pub contiguous: bool,
-    /// The unit itself.
+    /// The bytes of the unit.
     pub bytes: Vec<u8>,
-    /// What its payloads told besides.
+    /// The codec-specific data of its payloads.
     pub codec_extra: CodecExtra,
     metas: Vec<RtpMeta>,
 }
@@ -117,7 +117,7 @@ impl Depacketized {
         }
     }
 
-    /// What is known of its packets, in order of their sequence numbers. There is at least one.
+    /// Returns the metadata of its packets, in order of their sequence numbers. There is at least one packet.
     pub fn meta(&self) -> &[RtpMeta]
         ensures value { result.now ≡ self.now.metas }
         ensures some { 0 < length result.now }
@@ -125,22 +125,22 @@ impl Depacketized {
         self.metas.as_slice()
     }
 
-    /// When the first of its packets was received. The cost grows with the packets.
+    /// Returns the time at which the first of its packets arrived. The cost grows with the number of packets.
     pub fn first_network_time(&self) -> Ticks
         ensures { (m : Meta) × IsReceivedFirst self.now.metas m × (result ≡ m.received) }
     {
         received_first(self.meta()).received
     }
 
-    /// What the latest sender report said when the first of its packets was received; of several received at that time,
-    /// the one with the least sequence number. The cost grows with the packets.
+    /// Returns the sender report of the packet that arrived first; of several that arrived at that time, the packet with the
+    /// lowest sequence number. The cost grows with the number of packets.
     pub fn first_sender_info(&self) -> Option<SenderInfo>
         ensures { (m : Meta) × IsReceivedFirst self.now.metas m × (result ≡ m.last_sender_info) }
     {
         received_first(self.meta()).last_sender_info
     }
 
-    /// The sequence numbers of its first packet and its last.
+    /// Returns the sequence numbers of its first and last packet.
     pub fn seq_range(&self) -> RangeInclusive<SeqNo>
         ensures start { (m : Meta) × IsFirst self.now.metas m × (range_inclusive_start result ≡ m.seq_no) }
         ensures end { (m : Meta) × IsLast self.now.metas m × (range_inclusive_end result ≡ m.seq_no) }
@@ -150,16 +150,16 @@ impl Depacketized {
         metas[0].seq_no..=metas[metas.len() - 1].seq_no
     }
 
-    /// Whether its first packet has the marker of the RTP header, which audio sets where a talk spurt starts
-    /// (RFC 3551, section 4.1).
+    /// Returns whether its first packet has the marker of the RTP header, which audio sets at the start of a talk spurt (RFC
+    /// 3551, section 4.1).
     pub fn start_of_talkspurt(&self) -> bool
         ensures { (m : Meta) × IsFirst self.now.metas m × (result ≡ m.header.marker) }
     {
         self.meta()[0].header.marker
     }
 
-    /// The values of header extensions that go with it: those of its last packet, with the capture time and the layers
-    /// allocation of its first packet where that has them.
+    /// Returns the values of its header extensions: the values of the last packet, with the capture time and the layers
+    /// allocation of the first packet, if that has them.
     pub fn ext_vals(&self) -> ExtensionValues
         ensures { AreValues self.now.metas result }
     {
@@ -174,7 +174,7 @@ impl Depacketized {
     }
 }
 
-/// The first of those that were received at the least time.
+/// Returns the first of the packets with the earliest time of arrival.
 fn received_first(metas: &[RtpMeta]) -> &RtpMeta
     requires { 0 < length metas.now }
     ensures { IsReceivedFirst metas.now result.now }

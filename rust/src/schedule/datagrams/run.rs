@@ -15,46 +15,49 @@ use alloc::vec::Vec;
 /// One step of a run over datagrams.
 #[derive(Clone, Copy, Debug, PartialEq, Eq)]
 pub enum DatagramStep {
-    /// Sends the sample of that index. Passed over where there is no such sample.
+    /// Sends the sample with this index. Skipped if there is no such sample.
     Send(usize),
-    /// Gives the receiver the datagram of that index, from 0, of those that were sent so far, at that time. Passed over where
+    /// Passes the datagram with this index, from 0, among the datagrams sent so far, to the receiver at this time. Skipped if
     /// there is no such datagram.
     Deliver { datagram: usize, now: Ticks },
-    /// Pops, at that time.
+    /// Pops at this time.
     Pop { now: Ticks },
-    /// The stream has ended: see [`Receiver::finish`].
+    /// Ends the stream: see [`Receiver::finish`].
     Finish,
 }
 
-/// What came of the steps.
+/// The results of the steps.
 #[derive(Debug)]
 pub struct DatagramRun {
-    /// All datagrams that were sent, in order.
+    /// All sent datagrams, in order.
     pub datagrams: Vec<Vec<u8>>,
     /// One entry for each `Send` step that names a sample, in order.
     pub sends: Vec<SentSample>,
-    /// What became of the datagram of each `Deliver` step that names one, in order.
+    /// The result for the datagram of each `Deliver` step that names one, in order.
     pub receipts: Vec<Result<Outcome, ReceiveError>>,
-    /// What each `Pop` step was answered, in order.
+    /// The answer of each `Pop` step, in order.
     pub pops: Vec<Option<Result<Depacketized, PacketError>>>,
 }
 
-/// What came of a `Send` step.
+/// The result of a `Send` step.
 #[derive(Debug)]
 pub struct SentSample {
     /// How many datagrams it sent.
     pub count: usize,
-    /// Why nothing was sent, if the sample was refused.
+    /// The reason why nothing was sent, if the sample was refused.
     pub fault: Option<PacketError>,
 }
 
-/// Does the steps in order: sends samples, delivers datagrams that were sent, and pops.
+/// Executes the steps in order: sends samples, delivers datagrams that were sent, and pops.
 ///
-/// A `Send` whose sample the packetizer refuses is noted with the fault, and the run goes on. Want of memory ends the run: the
-/// sender and the receiver are then as the refused call left them, and what came of the steps before is given up. Room for an
-/// entry is found before its step begins, so no unit is popped that cannot be answered.
+/// If the packetizer refuses a sample, the entry of the `Send` step has the error, and the run continues. Memory for an entry
+/// is allocated before its step begins, so each popped unit gets an entry. Each datagram is copied once, out of the sender's
+/// memory.
 ///
-/// Each datagram is copied once, out of the sender's memory.
+/// # Errors
+///
+/// `OutOfMemory` ends the run: the sender and the receiver are as the failed call left them, and the results of earlier steps
+/// are discarded.
 pub fn run_datagrams<P: Packetizer, D: Depacketizer>(
     sender: &mut Sender<P>,
     receiver: &mut Receiver<D>,
@@ -73,7 +76,7 @@ pub fn run_datagrams<P: Packetizer, D: Depacketizer>(
     Ok(run)
 }
 
-/// Does one step, and notes what came of it.
+/// Executes one step, and records its result.
 fn do_step<P: Packetizer, D: Depacketizer>(
     sender: &mut Sender<P>,
     receiver: &mut Receiver<D>,
@@ -113,7 +116,7 @@ fn do_step<P: Packetizer, D: Depacketizer>(
     }
 }
 
-/// Sends a sample, and copies its datagrams behind those before.
+/// Sends a sample, and appends copies of its datagrams.
 fn send_step<P: Packetizer>(
     sender: &mut Sender<P>,
     sample: &ToPayload,
@@ -127,7 +130,11 @@ fn send_step<P: Packetizer>(
     })
 }
 
-/// Sends a sample. Why it was refused, if it was; want of memory is no refusal.
+/// Sends a sample. Returns the error of the packetizer, if it refused the sample, as `Ok(Some(..))`.
+///
+/// # Errors
+///
+/// `OutOfMemory`: memory ran out for the sample.
 fn send<P: Packetizer>(
     sender: &mut Sender<P>,
     sample: &ToPayload,
@@ -145,7 +152,7 @@ fn send<P: Packetizer>(
     }
 }
 
-/// Copies the datagrams of the sample that was sent last behind those before.
+/// Appends copies of the datagrams of the latest sample.
 fn copy_datagrams<P: Packetizer>(
     sender: &Sender<P>,
     datagrams: &mut Vec<Vec<u8>>,
@@ -156,7 +163,11 @@ fn copy_datagrams<P: Packetizer>(
     Ok(())
 }
 
-/// Gives the receiver a datagram. Want of memory is no receipt.
+/// Passes a datagram to the receiver.
+///
+/// # Errors
+///
+/// `OutOfMemory`: memory ran out for the datagram, which then has no receipt.
 fn deliver<D: Depacketizer>(
     receiver: &mut Receiver<D>,
     now: Ticks,
@@ -168,7 +179,11 @@ fn deliver<D: Depacketizer>(
     }
 }
 
-/// Pops. Want of memory is no answer.
+/// Pops.
+///
+/// # Errors
+///
+/// `OutOfMemory`: memory ran out for the unit; the step then has no answer.
 fn pop_at<D: Depacketizer>(
     receiver: &mut Receiver<D>,
     now: Ticks,

@@ -2,7 +2,7 @@ use Rattle.std.proofs.Common.{◌≡◌, ◌+◌, ◌<◌, drop}
 use Rattle.codec_payload_c.specs.Frames.{capped, rooms_in, size_with}
 use Rattle.codec_payload_c.proofs.frames.size_of.Given as goal
 
--- what was counted so far and what is left make the whole
+-- the size so far and the rest are the whole size
 abbrev pub invariant-loop-place : goal.invariant-loop-place
 invariant-loop-place l =
     (capped (l.size + size_with (rooms_in l.cut) (drop l.place l.frame.payloads)) ≡ capped (size_with (rooms_in l.cut) l.frame.payloads))

@@ -3,7 +3,7 @@ use Rattle.codec_payload_core.specs.Packetizers.{packetizer_state_of}
 use Rattle.codec_payload_c.specs.Frames.{placed_at, rooms_in, size_with}
 use Rattle.codec_payload_c.proofs.frames.tell.Given as goal
 
--- the packets before this place are told, and those behind stay
+-- the packets in front of this place are described, and the descriptions after it are unchanged
 abbrev pub invariant-loop-place : goal.invariant-loop-place
 invariant-loop-place l = record {
   at : l.at ≡ size_with (rooms_in l.cut) (take l.place l.frame.payloads);

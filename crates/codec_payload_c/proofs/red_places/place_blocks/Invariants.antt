@@ -3,7 +3,7 @@ use Rattle.codec_payload_core.specs.RedBlocks.{blocks_of}
 use Rattle.codec_payload_c.specs.RedPlaces.{block_place, bytes_in}
 use Rattle.codec_payload_c.proofs.red_places.place_blocks.Given as goal
 
--- the blocks before this place are told, and those behind stay
+-- the blocks in front of this place are described, and the descriptions after it are unchanged
 abbrev pub invariant-loop-place : goal.invariant-loop-place
 invariant-loop-place l = record {
   start : l.start ≡ l.front + bytes_in (take l.place (blocks_of l.blocks));

@@ -6,7 +6,7 @@ use Rattle.codec_payload_stream.specs.Kinds.{carrier_of}
 use Rattle.codec_payload_stream.specs.Sessions.{carried, copied}
 use Rattle.codec_payload_stream.proofs.blocks.copy_each.Given as goal
 
--- the copies stand before what is carried by the blocks that are left
+-- the copies so far come in front of the packets of the remaining blocks
 abbrev pub invariant-loop-block : goal.invariant-loop-block
 invariant-loop-block l =
     (now : Ticks)

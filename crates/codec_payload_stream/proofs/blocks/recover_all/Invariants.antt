@@ -2,7 +2,7 @@ use Rattle.std.proofs.Common.{Bool, map, length}
 use Rattle.codec_payload_stream.specs.Sessions.{Holding, RecoversAll, copied}
 use Rattle.codec_payload_stream.proofs.blocks.recover_all.Given as goal
 
--- wherever the packets that are left lead to, all of them lead to
+-- the remaining packets lead to the same state as all of them
 abbrev pub invariant-loop-copy : goal.invariant-loop-copy
 invariant-loop-copy g l =
     (whole : Bool) (t : Holding) → RecoversAll whole (map (copied l.now) l.copies.items) (record { packets = l.packets; seen = l.seen }) t

@@ -5,7 +5,7 @@ use Rattle.codec_payload_stream.specs.Sessions.{Session}
 use Rattle.codec_payload_wire.specs.WireRuns.{Runs, Stops, Wire, begins, wire_of}
 use Rattle.codec_payload_wire.proofs.run.run_datagrams.Given as goal
 
--- what the steps that are left come to, all of them come to
+-- the remaining steps lead to the same result as all steps
 abbrev pub invariant-loop-step : goal.invariant-loop-step
 invariant-loop-step g l = record {
   runs : (t : Wire) → Runs (map sample_of l.samples) (drop l.step-index l.steps) (wire_of l.sender l.receiver l.run) t → Runs (map sample_of l.samples) l.steps (begins l.fn.sender l.fn.receiver) t;

@@ -6,7 +6,7 @@ use Rattle.codec_payload_buffer.proofs.buffer.DepacketizingBuffer.pop_into.Given
 abbrev pub invariant-loop-frame : goal.invariant-loop-frame
 invariant-loop-frame g l = record {
   over : List CompleteFrame;
-  -- these frames were passed over so far
+  -- these frames were skipped so far
   passes : Passes l.initial.self over l.self;
   -- none came
   fewer : length l.self.held ≤ length l.initial.self.held;

@@ -1,7 +1,7 @@
 use Rattle.std.proofs.Common.{◌≡◌, drop}
 use Rattle.codec_payload_buffer.proofs.buffer.packets.drop_front.Given as goal
 
--- what is to be left of these packets is what is to be left of all
+-- the items that remain of these packets are the items that remain of all
 abbrev pub invariant-loop-left : goal.invariant-loop-left
 invariant-loop-left l = drop l.left l.packets.items ≡ drop l.count l.initial.packets.items
 

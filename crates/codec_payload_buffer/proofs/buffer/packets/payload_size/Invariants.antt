@@ -7,7 +7,7 @@ use Rattle.codec_payload_buffer.proofs.buffer.packets.payload_size.Given as goal
 
 abbrev pub invariant-loop-packet : goal.invariant-loop-packet
 invariant-loop-packet l = record {
-  -- what is counted, with what is still to be counted, is all
+  -- the bytes so far, with the bytes still to count, are all bytes
   counted :
       min (l.size + total_size (map held_of (deque_iter_rest l.packet-iterator))) 18446744073709551615
       ≡ min (total_size (map held_of (slice_range l.packets.items l.from l.to))) 18446744073709551615;

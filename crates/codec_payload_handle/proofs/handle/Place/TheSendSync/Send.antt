@@ -1,4 +1,4 @@
--- What a place owns may go to another thread: a box of an object that may.
+-- A place may move to another thread with what it owns: a box of an object that may move.
 use mir.Raw.{raw}
 use base.Fraction.{full_share}
 use base.Shift.{Keyless}

@@ -1,4 +1,4 @@
--- `gone` gives up a place that owns nothing.
+-- `gone` drops a place that owns nothing.
 use Rattle.std.proofs.Common.{List, [], ◌∷◌, ◌++◌, refl, sym}
 use mir.Val.{Val, vunit}
 use base.Logic.{SProp, ent, emp, id⊢}
