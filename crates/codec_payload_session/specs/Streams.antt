@@ -117,7 +117,7 @@ abbrev pub left_when : Bool → Ending → ℕ → Stream → Stream
 left_when true why at s = left why at s
 left_when false why at s = s
 
--- the stream waits so long, if it has this SSRC and payload type
+-- the wait limits of the stream are replaced, if it has this SSRC and payload type
 abbrev pub waiting_when : Bool → WaitLimits → Stream → Stream
 waiting_when true limits s = record s { receiver = record s.receiver { packets = record s.receiver.packets { wait_limits = limits } } }
 waiting_when false limits s = s

@@ -173,7 +173,7 @@ impl Stream {
         }
     }
 
-    /// It waits so long, if it has this SSRC and payload type.
+    /// Replaces the wait limits, if the stream has this SSRC and payload type.
     pub(crate) fn wait_if(&mut self, ssrc: u32, payload_type: u8, wait_limits: WaitLimits)
         ensures { self.new ≡ waiting_if ssrc payload_type wait_limits self.old }
     {

@@ -252,7 +252,7 @@ impl Streams {
         leave(&mut self.list, who, why, at);
     }
 
-    /// The stream with this SSRC and payload type waits so long.
+    /// Replaces the wait limits of the stream with this SSRC and payload type.
     pub(crate) fn set_wait_limits(&mut self, ssrc: u32, payload_type: u8, wait_limits: WaitLimits)
         ensures { self.new ≡ record self.old { streams = waiting_where ssrc payload_type wait_limits self.old.streams } }
     {
@@ -352,7 +352,7 @@ fn leave_if(stream: &mut Stream, who: Who<'_>, why: Ending, at: u64)
     stream.leave_if(leaves, why, at);
 }
 
-/// The stream with this SSRC and payload type waits so long.
+/// Replaces the wait limits of the stream with this SSRC and payload type.
 fn set_wait_limits(streams: &mut [Stream], ssrc: u32, payload_type: u8, wait_limits: WaitLimits)
     ensures { streams.new ≡ waiting_where ssrc payload_type wait_limits streams.old }
 {

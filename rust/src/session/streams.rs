@@ -205,7 +205,7 @@ impl Streams {
         leave(&mut self.list, who, why, at);
     }
 
-    /// The stream with this SSRC and payload type waits so long.
+    /// Replaces the wait limits of the stream with this SSRC and payload type.
     pub(crate) fn set_wait_limits(&mut self, ssrc: u32, payload_type: u8, wait_limits: WaitLimits) {
         set_wait_limits(&mut self.list, ssrc, payload_type, wait_limits);
     }
@@ -279,7 +279,7 @@ fn leave_if(stream: &mut Stream, who: Who<'_>, why: Ending, at: u64) {
     stream.leave_if(leaves, why, at);
 }
 
-/// The stream with this SSRC and payload type waits so long.
+/// Replaces the wait limits of the stream with this SSRC and payload type.
 fn set_wait_limits(streams: &mut [Stream], ssrc: u32, payload_type: u8, wait_limits: WaitLimits) {
     for place in 0..streams.len() {
         streams[place].wait_if(ssrc, payload_type, wait_limits);
