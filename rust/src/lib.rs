@@ -48,6 +48,7 @@
 //! | [`sdp`] | from a session description to the settings of receivers |
 //! | [`keyframes`] | which units of video a decoder can show, and when to request a keyframe |
 //! | [`requests`] | when to request missing packets by NACK, and keyframes |
+//! | [`feedback`] | the requests of one stream as RTCP packets: NACK and PLI |
 //! | [`media`] | what frames say: keyframe, size, duration; OBUs, superframes, `av1C`, the Opus header |
 //! | [`red`], [`vp8`], [`vp9`], [`av1`], [`amr_wb`], [`tele`], [`plain`] | one format each |
 //! | [`payload`], [`payloads`] | samples become packets, in fresh memory or in memory that is used again |
@@ -108,6 +109,7 @@ pub mod contiguity;
 #[doc(hidden)]
 pub mod described;
 pub mod error;
+pub mod feedback;
 pub mod history;
 pub mod interface;
 pub mod jitter;
