@@ -91,6 +91,8 @@
     clippy::while_let_on_iterator,
     clippy::len_without_is_empty
 )]
+// An event holds its unit. A box would be one more allocation for each unit.
+#![allow(clippy::large_enum_variant)]
 
 extern crate alloc;
 #[cfg(feature = "std")]

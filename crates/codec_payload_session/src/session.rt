@@ -49,11 +49,18 @@ pub enum Event {
         ssrc: u32,
         payload_type: u8,
     },
-    /// A unit of a stream, or the fault of a frame that has none. `rtp_time` is in ticks of the RTP clock and does not wrap.
+    /// A unit of a stream, or the fault of a frame that has none. `rtp_time` is in ticks of the RTP clock and does not wrap. A
+    /// decoder can show the unit if it is `decodable`: see [`Receiver::unit_is_decodable`], and [`Receiver::unit_is_keyframe`] for
+    /// `keyframe`.
+    ///
+    /// [`Receiver::unit_is_decodable`]: codec_payload_stream::receiver::Receiver::unit_is_decodable
+    /// [`Receiver::unit_is_keyframe`]: codec_payload_stream::receiver::Receiver::unit_is_keyframe
     Unit {
         ssrc: u32,
         payload_type: u8,
         rtp_time: Option<u64>,
+        decodable: bool,
+        keyframe: bool,
         unit: Result<Depacketized, PacketError>,
     },
     /// A stream was removed. It is the last event of the stream.
