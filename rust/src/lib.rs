@@ -48,6 +48,7 @@
 //! | [`sdp`] | from a session description to the settings of receivers |
 //! | [`keyframes`] | which units of video a decoder can show, and when to request a keyframe |
 //! | [`requests`] | when to request missing packets by NACK, and keyframes |
+//! | [`feedback`] | the requests of one stream as RTCP packets: NACK and PLI |
 //! | [`waiting`] | a limit of waiting that follows how late missing packets arrive |
 //! | [`media`] | what frames say: keyframe, size, duration; OBUs, superframes, `av1C`, the Opus header |
 //! | [`red`], [`vp8`], [`vp9`], [`av1`], [`amr_wb`], [`tele`], [`plain`] | one format each |
@@ -91,6 +92,8 @@
     clippy::while_let_on_iterator,
     clippy::len_without_is_empty
 )]
+// An event holds its unit. A box would be one more allocation for each unit.
+#![allow(clippy::large_enum_variant)]
 
 extern crate alloc;
 #[cfg(feature = "std")]
@@ -109,6 +112,7 @@ pub mod contiguity;
 #[doc(hidden)]
 pub mod described;
 pub mod error;
+pub mod feedback;
 pub mod history;
 pub mod interface;
 pub mod jitter;

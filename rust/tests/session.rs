@@ -449,3 +449,49 @@ fn hostile_datagrams_are_counted() -> Result<(), Fail> {
     assert_sum(&session);
     Ok(())
 }
+
+/// A frame of VP8 (RFC 6386, section 9.1) in one packet without picture ids (RFC 7741, section 4.2), told apart by its last byte.
+fn vp8(number: u16, is_key: bool) -> Vec<u8> {
+    let frame: &[u8] = if is_key {
+        &[0x10, 0x10, 0, 0, 0x9D, 0x01, 0x2A, 0x10, 0, 0x10, 0]
+    } else {
+        &[0x10, 0x11, 0, 0]
+    };
+    let mut payload = frame.to_vec();
+    payload.push(number as u8);
+    packet(VP8, 7, number, 3_000 * u32::from(number), &payload)
+}
+
+/// Packet 3 is lost, and packet 6 is a keyframe again: the last byte of each unit, whether a decoder can show the unit, and whether it
+/// is a keyframe.
+#[test]
+fn units_say_whether_a_decoder_can_show_them() -> Result<(), Fail> {
+    let mut session = session(|_| {});
+    for number in [1, 2, 4, 5, 6, 7] {
+        session.receive(Ticks(0), &vp8(number, number == 1 || number == 6))?;
+    }
+    let mut units = Vec::new();
+    while let Some(event) = session.poll(Ticks(1_000)) {
+        if let Event::Unit {
+            decodable,
+            keyframe,
+            unit,
+            ..
+        } = event
+        {
+            units.push((unit?.bytes.last().copied(), decodable, keyframe));
+        }
+    }
+    assert_eq!(
+        units,
+        [
+            (Some(1), true, true),
+            (Some(2), true, false),
+            (Some(4), false, false),
+            (Some(5), false, false),
+            (Some(6), true, true),
+            (Some(7), true, false)
+        ]
+    );
+    Ok(())
+}

@@ -132,11 +132,31 @@ impl NackSchedule {
         ensures err { OnErr result (self.new ≡ self.old) }
         ensures unchanged { OnErr result (numbers.new.items ≡ numbers.old.items) }
     {
-        append_due(&self.pending, now.0, numbers)?;
+        self.append_due(now, numbers)?;
+        self.count_due(now);
+        Ok(())
+    }
+
+    /// Appends the same numbers as [`NackSchedule::take_due`], and does not count them as requested: call
+    /// [`NackSchedule::count_due`] once the NACK is written.
+    ///
+    /// # Errors
+    ///
+    /// Out of memory: `numbers` is unchanged.
+    pub fn append_due(&self, now: Ticks, numbers: &mut Vec<u16>) -> Result<(), AllocError>
+        ensures ok { OnOk result (numbers.new.items ≡ numbers.old.items ++ map low_bits (due_numbers now.0 self.now)) }
+        ensures err { OnErr result (numbers.new.items ≡ numbers.old.items) }
+    {
+        append_due(&self.pending, now.0, numbers)
+    }
+
+    /// Counts the numbers that are due now as requested. Each is due again after the retry time, until it was requested `tries` times.
+    pub fn count_due(&mut self, now: Ticks)
+        ensures { self.new ≡ after_due now.0 self.old }
+    {
         let settings = self.settings;
         let retry = retry_time(&settings, self.round_trip);
         try_due(settings.tries, retry, now.0, &mut self.pending);
-        Ok(())
     }
 
     /// Returns when the next number is due. `None`: no number is due without a `refresh`. At that moment and later `take_due`

@@ -43,10 +43,10 @@ StepsFirst now idle ss (Some turn) ts = FirstSteps now idle ss turn ts
 
 -- ---- events
 
--- the event of a stream; a unit with its RTP time
+-- the event of a stream; a unit with its RTP time, whether a decoder can show it, and whether it is a keyframe
 abbrev pub event_of : Stream → Step → Option Event
 event_of s steps.Begun = Some (events.Begun s.ssrc s.format.payload_type)
-event_of s (steps.Unit unit) = Some (events.Unit s.ssrc s.format.payload_type s.receiver.time unit)
+event_of s (steps.Unit unit) = Some (events.Unit s.ssrc s.format.payload_type s.receiver.time s.receiver.gates.gate.shows s.receiver.gates.is_keyframe unit)
 event_of s (steps.Ended why) = Some (events.Ended s.ssrc s.format.payload_type why)
 event_of s steps.Nothing = None
 

@@ -180,11 +180,13 @@ impl Streams {
         match turn.step {
             Step::Begun => Some(Event::Begun { ssrc, payload_type }),
             Step::Unit(unit) => {
-                let rtp_time = stream.receiver.unit_time();
+                let receiver = &stream.receiver;
                 Some(Event::Unit {
                     ssrc,
                     payload_type,
-                    rtp_time,
+                    rtp_time: receiver.unit_time(),
+                    decodable: receiver.unit_is_decodable(),
+                    keyframe: receiver.unit_is_keyframe(),
                     unit,
                 })
             }

@@ -3,7 +3,7 @@ use Rattle.std.proofs.lemmas.List.{with_items_is}
 use Rattle.codec_payload_requests.specs.declared.nack.PendingRequest.{PendingRequest}
 use Rattle.codec_payload_requests.specs.NackSchedule.{are_rising, numbers_of}
 use Rattle.codec_payload_requests.proofs.NackLemmas.{tried_rises}
-use Rattle.codec_payload_requests.proofs.nack.NackSchedule.take_due.Goals as goal
+use Rattle.codec_payload_requests.proofs.nack.NackSchedule.count_due.Goals as goal
 
 pub invariant_of-self : goal.invariant_of-self
 invariant_of-self c =

@@ -1,0 +1,72 @@
+-- Packets that are appended one after another, and how many numbers are followed.
+use Rattle.std.proofs.Common.{◌≡◌, ◌≤◌, ◌∙◌, ℕ, suc, ◌+◌, ◌==◌, List, [], ◌∷◌, ◌++◌, length, map, filter, Bool, true, false, cond, Some, ap, refl, sym, subst, arith, append_assoc}
+use Rattle.std.proofs.lemmas.Bool.Decides.{nat_tests}
+use Rattle.std.proofs.lemmas.List.{append-nil}
+use Rattle.codec_payload_rtcp.specs.RtcpPackets.{Packet}
+use Rattle.codec_payload_rtcp.specs.RtcpWriting.{AreUnpadded}
+use Rattle.codec_payload_rtcp.specs.NackNumbers.{Packs, numbers_in}
+use Rattle.codec_payload_requests.specs.NackSchedule.{Schedule, due_numbers, followed, is_due, low_bits}
+use Rattle.codec_payload_requests.specs.declared.nack.PendingRequest.{PendingRequest}
+use Rattle.codec_payload_feedback.specs.Feedback.{AppendsAll, AppendsNack, Bounded, IsFeedback, Source, cname_part, has_any, keyframe_part, nack_by, report_part}
+
+-- ---- packets
+
+pub none_more : (old : List ℕ) → AppendsAll [] old old
+none_more old = ([], refl, sym (append-nil old))
+
+unpadded_both : (ps qs : List Packet) (front rest : List ℕ) → AreUnpadded ps front → AreUnpadded qs rest → AreUnpadded (ps ++ qs) (front ++ rest)
+unpadded_both [] qs front rest first second = subst (λ (bytes : List ℕ). AreUnpadded qs bytes) (sym (ap (λ (f : List ℕ). f ++ rest) first)) second
+unpadded_both (p ∷ ps) qs front rest first second =
+    (first.0, first.1 ++ rest, first.2, unpadded_both ps qs first.1 rest first.3 second, ap (λ (f : List ℕ). f ++ rest) first.4 ∙ append_assoc first.0 first.1 rest)
+
+pub both : (ps qs : List Packet) (a b c : List ℕ) → AppendsAll ps a b → AppendsAll qs b c → AppendsAll (ps ++ qs) a c
+both ps qs a b c first second =
+    (first.0 ++ second.0, unpadded_both ps qs first.0 second.0 first.1 second.1, second.2 ∙ ap (λ (l : List ℕ). l ++ second.0) first.2 ∙ append_assoc a first.0 second.0)
+
+-- ---- parts
+
+no_numbers : numbers_in [] ≡ []
+unfolding numbers_in
+no_numbers = refl
+
+pub nack_none : (sender media : ℕ) (numbers old : List ℕ) → (length numbers == 0) ≡ true → AppendsNack sender media numbers old old
+nack_none sender media [] old is = ([], no_numbers, none_more old)
+nack_none sender media (n ∷ ns) old is = absurd (grind (arith, nat_tests))
+
+-- numbers, and few of them, have pairs that a NACK can carry
+some_pairs : (numbers pairs : List ℕ) → (length numbers == 0) ≡ false → Packs [] pairs numbers → 1 ≤ length pairs
+some_pairs numbers [] is packs =
+    let none : numbers ≡ [] = sym packs.names ∙ ap numbers_in (sym packs.is) ∙ no_numbers in
+    absurd (grind (arith, nat_tests))
+some_pairs numbers (p ∷ ps) is packs = omega arith
+
+pub pairs_some : (numbers old pairs lent : List ℕ) → old ≡ [] → lent ≡ pairs → (length numbers == 0) ≡ false → Packs old pairs numbers → 1 ≤ length lent
+pairs_some numbers old pairs lent none same is packs =
+    subst (λ (l : List ℕ). 1 ≤ length l) (sym same) (some_pairs numbers pairs is (subst (λ (l : List ℕ). Packs l pairs numbers) none packs))
+
+pub all_four : (s : Source) (media : ℕ) (numbers : List ℕ) (keyframe : Bool) (a b c d e : List ℕ) → a ≡ [] → has_any numbers keyframe ≡ true → AppendsAll (report_part s) a b
+    → AppendsAll (cname_part s) b c → AppendsNack s.ssrc media numbers c d → AppendsAll (keyframe_part s.ssrc media keyframe) d e → IsFeedback s media numbers keyframe (Some e)
+all_four s media numbers keyframe a b c d e none any report cname asks picture =
+    let four : AppendsAll (report_part s ++ (cname_part s ++ (nack_by s.ssrc media numbers asks.0 ++ keyframe_part s.ssrc media keyframe))) [] e =
+    both (report_part s) (cname_part s ++ (nack_by s.ssrc media numbers asks.0 ++ keyframe_part s.ssrc media keyframe)) [] b e (subst (λ (l : List ℕ). AppendsAll (report_part s) l b) none report)
+    (both (cname_part s) (nack_by s.ssrc media numbers asks.0 ++ keyframe_part s.ssrc media keyframe) b c e cname
+    (both (nack_by s.ssrc media numbers asks.0) (keyframe_part s.ssrc media keyframe) c d e asks.2 picture)) in
+    (any, asks.0, asks.1, subst (λ (l : List ℕ). AreUnpadded (report_part s ++ (cname_part s ++ (nack_by s.ssrc media numbers asks.0 ++ keyframe_part s.ssrc media keyframe))) l) (sym four.2) four.1)
+
+-- ---- numbers
+
+length_map : {A B : Type 0} (f : A → B) (xs : List A) → length (map f xs) ≡ length xs
+length_map f [] = refl
+length_map f (x ∷ xs) = ap suc (length_map f xs)
+
+length_filter : (now : ℕ) (rs : List PendingRequest) → length (filter (is_due now) rs) ≤ length rs
+length_filter now [] = omega arith
+length_filter now (r ∷ rs) = by_test (is_due now r) (length_filter now rs)
+  where
+    by_test : (b : Bool) → length (filter (is_due now) rs) ≤ length rs → length (cond b (r ∷ filter (is_due now) rs) (filter (is_due now) rs)) ≤ length (r ∷ rs)
+    by_test true fewer = omega (arith, fewer)
+    by_test false fewer = omega (arith, fewer)
+
+pub few_due : (now : ℕ) (s : Schedule) (old numbers : List ℕ) → Bounded s → old ≡ [] → numbers ≡ old ++ map low_bits (due_numbers now s) → length numbers ≤ 65533
+few_due now s old numbers kept none is =
+    omega (arith, ap (λ (l : List ℕ). length l) (is ∙ ap (λ (l : List ℕ). l ++ map low_bits (due_numbers now s)) none), length_map low_bits (due_numbers now s), length_map (λ (r : PendingRequest). r.number) (filter (is_due now) s.pending), length_filter now s.pending, kept.pending)

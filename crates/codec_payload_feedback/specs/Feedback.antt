@@ -1,0 +1,110 @@
+-- The requests of a stream, and the compound packets that carry them.
+use Rattle.std.specs.Prelude.{◌≡◌, ◌≤◌, ℕ, min, nat_le, if◌then◌else◌, Bool, true, false, List, [], ◌∷◌, ◌++◌, length, map, Option, Some, None}
+use Rattle.codec_payload_requests.specs.KeyframeRequests.{after_request, deadline_of as keyframe_deadline, is_due, new_requests as no_keyframes}
+use Rattle.codec_payload_requests.specs.NackSchedule.{Schedule, after_answer, after_due, due_numbers, earliest_of, low_bits, new_schedule, refreshed}
+use Rattle.codec_payload_requests.specs.Requests.{earlier}
+use Rattle.codec_payload_requests.specs.declared.keyframe.KeyframeRequests.{KeyframeRequests}
+use Rattle.codec_payload_requests.specs.declared.nack.NackSettings.{NackSettings}
+use Rattle.codec_payload_rtcp.specs.NackNumbers.{numbers_in}
+use Rattle.codec_payload_rtcp.specs.RtcpPackets.{Packet, nack, picture_loss, receiver_report, source_description}
+use Rattle.codec_payload_rtcp.specs.RtcpWriting.{AreUnpadded, cname_chunk}
+
+-- who sends feedback, under which name, and whether a report comes first
+pub record Source : Type 0 where
+  pub ssrc : ℕ
+  pub cname : List ℕ
+  pub has_report : Bool
+
+-- the requests of the stream with that SSRC
+pub record Requests : Type 0 where
+  pub ssrc : ℕ
+  pub nack : Schedule
+  pub keyframes : KeyframeRequests
+
+-- no more numbers than one NACK can name
+pub record Bounded (s : Schedule) : Type 0 where
+  pub capacity : s.settings.capacity ≤ 65533
+  pub pending : length s.pending ≤ 65533
+
+abbrev pub source_by : ℕ → List ℕ → Bool → Option Source
+source_by ssrc cname has_report = if nat_le (length cname) 255 then Some (record { ssrc = ssrc; cname = cname; has_report = has_report }) else None
+
+-- ---- packets
+
+-- new is old with the bytes of these packets, each without padding, at its end
+abbrev pub AppendsAll : List Packet → List ℕ → List ℕ → Type 0
+AppendsAll ps old new = (written : List ℕ) × AreUnpadded ps written × (new ≡ old ++ written)
+
+-- an empty receiver report
+abbrev pub report_if : Bool → ℕ → List Packet
+report_if true ssrc = receiver_report (record { ssrc = ssrc; blocks = []; extension = [] }) ∷ []
+report_if false ssrc = []
+
+abbrev pub report_part : Source → List Packet
+report_part s = report_if s.has_report s.ssrc
+
+-- a source without a name describes nothing
+abbrev pub cname_by : ℕ → List ℕ → List Packet
+cname_by ssrc [] = []
+cname_by ssrc (c ∷ cs) = source_description (cname_chunk ssrc (c ∷ cs) ∷ []) ∷ []
+
+abbrev pub cname_part : Source → List Packet
+cname_part s = cname_by s.ssrc s.cname
+
+abbrev pub nack_by : ℕ → ℕ → List ℕ → List ℕ → List Packet
+nack_by sender media [] pairs = []
+nack_by sender media (n ∷ ns) pairs = nack (record { sender = sender; media = media; fci = pairs }) ∷ []
+
+abbrev pub keyframe_part : ℕ → ℕ → Bool → List Packet
+keyframe_part sender media true = picture_loss (record { sender = sender; media = media; fci = [] }) ∷ []
+keyframe_part sender media false = []
+
+-- a NACK whose pairs name exactly these numbers, in their order; without numbers nothing
+abbrev pub AppendsNack : ℕ → ℕ → List ℕ → List ℕ → List ℕ → Type 0
+AppendsNack sender media numbers old new =
+    (pairs : List ℕ) × (numbers_in pairs ≡ numbers) × AppendsAll (nack_by sender media numbers pairs) old new
+
+-- the packets of a source with these requests
+abbrev pub packets_of : Source → ℕ → List ℕ → List ℕ → Bool → List Packet
+packets_of s media numbers pairs keyframe =
+    report_part s ++ (cname_part s ++ (nack_by s.ssrc media numbers pairs ++ keyframe_part s.ssrc media keyframe))
+
+-- something is requested
+abbrev pub has_any : List ℕ → Bool → Bool
+has_any [] keyframe = keyframe
+has_any (n ∷ ns) keyframe = true
+
+-- packets one after another, of which the NACK names exactly the numbers; none exactly if nothing is requested
+abbrev pub IsFeedback : Source → ℕ → List ℕ → Bool → Option (List ℕ) → Type 0
+IsFeedback s media numbers keyframe None = has_any numbers keyframe ≡ false
+IsFeedback s media numbers keyframe (Some bytes) =
+    (has_any numbers keyframe ≡ true) × (pairs : List ℕ) × (numbers_in pairs ≡ numbers) × AreUnpadded (packets_of s media numbers pairs keyframe) bytes
+
+-- ---- calls
+
+abbrev pub limited : NackSettings → NackSettings
+limited settings = record settings { capacity = min settings.capacity 65533 }
+
+abbrev pub new_requests : ℕ → NackSettings → ℕ → Requests
+new_requests ssrc settings interval = record { ssrc = ssrc; nack = new_schedule (limited settings); keyframes = no_keyframes interval }
+
+abbrev pub updated : ℕ → List ℕ → Bool → Requests → Requests
+updated now missing wanted r = record r { nack = refreshed now missing r.nack; keyframes = record r.keyframes { wanted = wanted } }
+
+-- what is due: the 16 bits of numbers, and whether a keyframe is
+abbrev pub numbers_due : ℕ → Requests → List ℕ
+numbers_due now r = map low_bits (due_numbers now r.nack)
+
+abbrev pub keyframe_is_due : ℕ → Requests → Bool
+keyframe_is_due now r = is_due now r.keyframes
+
+-- what is due was sent
+abbrev pub after_feedback : ℕ → Requests → Requests
+after_feedback now r = record r { nack = after_due now r.nack; keyframes = after_request now r.keyframes }
+
+abbrev pub after_answered : ℕ → ℕ → Requests → Requests
+after_answered now number r = record r { nack = after_answer now number r.nack }
+
+-- when the next request is due
+abbrev pub deadline_of : Requests → Option ℕ
+deadline_of r = earlier (earliest_of r.nack.pending) (keyframe_deadline r.keyframes)

@@ -1,0 +1,4 @@
+//! What a receiver sends to a sender: the requests of a stream for missing packets and for keyframes, as a compound packet of RTCP.
+#![tactic(auto)]
+
+pub mod requests;

@@ -1,0 +1,269 @@
+//! The requests of one stream, and the compound packets that carry them.
+
+ghost use Rattle.std.specs.Prelude.{◌≡◌, ◌≤◌, IfErr, IfOk, OnErr, OnOk, length};
+ghost use Rattle.std.specs.Option.{option_map};
+ghost use Rattle.codec_payload_requests.specs.Requests.{earlier};
+ghost use Rattle.codec_payload_feedback.specs.Feedback.{AppendsAll, AppendsNack, IsFeedback, after_answered, after_feedback, cname_part, deadline_of, has_any, keyframe_is_due, keyframe_part, new_requests, numbers_due, report_part, source_by, updated};
+
+use codec_payload_base::wire::Ticks;
+use codec_payload_requests::keyframe::KeyframeRequests;
+use codec_payload_requests::nack::{NackSchedule, NackSettings};
+use codec_payload_rtcp::nack::pack_numbers;
+use codec_payload_rtcp::packet::{Nack, PictureLoss, ReceiverReport};
+use codec_payload_rtcp::writing::write_cname;
+use std::alloc::{AllocError, Global};
+use std::marker::Model;
+
+/// How many missing numbers are followed at most: so many fit into one NACK.
+const MOST_NUMBERS: usize = 65_533;
+
+/// Who sends feedback, and in which form.
+#[derive(Debug, Drop)]
+pub struct FeedbackSource {
+    alloc: Global,
+    ssrc: u32,
+    cname: Vec<u8>,
+    has_report: bool,
+}
+
+/// The requests of one stream: which missing packets and which keyframes are requested when.
+///
+/// Hand it what the stream's receiver misses by [`StreamRequests::update`], and send what [`StreamRequests::take_due`] returns. Call both
+/// after each datagram and at [`StreamRequests::next_deadline`].
+#[derive(Debug, Drop)]
+pub struct StreamRequests {
+    alloc: Global,
+    ssrc: u32,
+    nack: NackSchedule,
+    keyframes: KeyframeRequests,
+}
+
+impl Model for FeedbackSource {
+    ghost use Rattle.std.specs.Prelude.{◌≤◌, length};
+    ghost use Rattle.codec_payload_feedback.specs.Feedback.{Source};
+
+    ghost Value = { Source };
+
+    ghost view = { λ s. record { ssrc = s.ssrc; cname = s.cname.items; has_report = s.has_report } };
+
+    ghost invariant = { λ s. length s.cname.items ≤ 255 };
+}
+
+impl Model for StreamRequests {
+    ghost use Rattle.codec_payload_feedback.specs.Feedback.{Bounded, Requests};
+
+    ghost Value = { Requests };
+
+    ghost view = { λ s. record { ssrc = s.ssrc; nack = s.nack; keyframes = s.keyframes } };
+
+    ghost invariant = { λ s. Bounded s.nack };
+}
+
+impl FeedbackSource {
+    /// Returns a source of feedback with its own SSRC. `cname` is its canonical name (RFC 3550, section 6.5.1); without bytes no
+    /// source description is sent. With `has_report` each packet begins with an empty receiver report, as RFC 3550, section 6.1,
+    /// asks; else it has reduced size (RFC 5506). `None`: the name has more than 255 bytes. Does not allocate.
+    pub fn new(alloc: Global, ssrc: u32, cname: Vec<u8>, has_report: bool) -> Option<FeedbackSource>
+        ensures { result ≡ source_by ssrc cname.items has_report }
+    {
+        if cname.len() > 255 {
+            return None;
+        }
+        Some(FeedbackSource {
+            alloc,
+            ssrc,
+            cname,
+            has_report,
+        })
+    }
+
+    /// Appends the report that a packet begins with.
+    fn write_report(&self, out: &mut Vec<u8>) -> Result<(), AllocError>
+        ensures { OnOk result (AppendsAll (report_part self.now) out.old.items out.new.items) }
+    {
+        if !self.has_report {
+            return Ok(());
+        }
+        let report = ReceiverReport {
+            ssrc: self.ssrc,
+            blocks: &[],
+            extension: &[],
+        };
+        report.write(out)
+    }
+
+    /// Appends the description of the source.
+    fn write_description(&self, out: &mut Vec<u8>) -> Result<(), AllocError>
+        ensures { OnOk result (AppendsAll (cname_part self.now) out.old.items out.new.items) }
+    {
+        if self.cname.is_empty() {
+            return Ok(());
+        }
+        write_cname(self.ssrc, &self.cname, out)
+    }
+
+    /// Appends a NACK of the numbers, if there are any.
+    fn write_nack(
+        &self,
+        media_ssrc: u32,
+        numbers: &[u16],
+        out: &mut Vec<u8>,
+    ) -> Result<(), AllocError>
+        requires { length numbers.now ≤ 65533 }
+        ensures { OnOk result (AppendsNack self.now.ssrc media_ssrc numbers.now out.old.items out.new.items) }
+    {
+        if numbers.is_empty() {
+            return Ok(());
+        }
+        let mut pairs = Vec::new(self.alloc);
+        pack_numbers(numbers, &mut pairs)?;
+        let nack = Nack {
+            sender_ssrc: self.ssrc,
+            media_ssrc,
+            pairs: &pairs,
+        };
+        nack.write(out)
+    }
+
+    /// Appends a request for a keyframe, if there is one.
+    fn write_keyframe_request(
+        &self,
+        media_ssrc: u32,
+        is_due: bool,
+        out: &mut Vec<u8>,
+    ) -> Result<(), AllocError>
+        ensures { OnOk result (AppendsAll (keyframe_part self.now.ssrc media_ssrc is_due) out.old.items out.new.items) }
+    {
+        if !is_due {
+            return Ok(());
+        }
+        let request = PictureLoss {
+            sender_ssrc: self.ssrc,
+            media_ssrc,
+        };
+        request.write(out)
+    }
+
+    /// Returns the packet with these requests. `None`: there are none.
+    fn packet(
+        &self,
+        media_ssrc: u32,
+        numbers: &[u16],
+        keyframe: bool,
+    ) -> Result<Option<Vec<u8>>, AllocError>
+        requires { length numbers.now ≤ 65533 }
+        ensures { IfOk result (λ packet. IsFeedback self.now media_ssrc numbers.now keyframe (option_map (λ bytes. bytes.items) packet)) }
+    {
+        if !has_any(numbers, keyframe) {
+            return Ok(None);
+        }
+        let mut out = Vec::new(self.alloc);
+        self.write_report(&mut out)?;
+        self.write_description(&mut out)?;
+        self.write_nack(media_ssrc, numbers, &mut out)?;
+        self.write_keyframe_request(media_ssrc, keyframe, &mut out)?;
+        Ok(Some(out))
+    }
+}
+
+impl StreamRequests {
+    /// Returns the requests of the stream with this SSRC: so far none. `nack` says when a missing packet is requested; with 0 `tries`
+    /// none is, and at most 65,533 numbers are followed. Two requests for a keyframe are at least `keyframe_interval` ticks apart:
+    /// 500 ms suit live video. Does not allocate.
+    pub fn new(
+        alloc: Global,
+        ssrc: u32,
+        nack: NackSettings,
+        keyframe_interval: u64,
+    ) -> StreamRequests
+        ensures { result ≡ new_requests ssrc nack keyframe_interval }
+    {
+        let mut settings = nack;
+        settings.capacity = nack.capacity.min(MOST_NUMBERS);
+        StreamRequests {
+            alloc,
+            ssrc,
+            nack: NackSchedule::new(alloc, settings),
+            keyframes: KeyframeRequests::new(keyframe_interval),
+        }
+    }
+
+    /// Replaces what is requested: the missing numbers, which rise, and whether a keyframe is. `Receiver::missing` and
+    /// `Receiver::wants_keyframe` report both. A number that was missing before keeps its times and its tries.
+    ///
+    /// # Errors
+    ///
+    /// Out of memory: nothing changed.
+    pub fn update(
+        &mut self,
+        now: Ticks,
+        missing: &[u64],
+        wants_keyframe: bool,
+    ) -> Result<(), AllocError>
+        ensures ok { OnOk result (self.new ≡ updated now.0 missing.now wants_keyframe self.old) }
+        ensures err { OnErr result (self.new ≡ self.old) }
+    {
+        self.nack.refresh(now, missing)?;
+        self.keyframes.set_wanted(wants_keyframe);
+        Ok(())
+    }
+
+    /// Returns a compound packet with the requests that are due, and counts them as sent: a NACK of the numbers (RFC 4585, section
+    /// 6.2.1), lowest first, and a PLI if a keyframe is due (section 6.3.1), behind the report and the name of `source`.
+    /// `None`: nothing is due.
+    ///
+    /// # Errors
+    ///
+    /// Out of memory: nothing changed, and the requests stay due.
+    pub fn take_due(
+        &mut self,
+        now: Ticks,
+        source: &FeedbackSource,
+    ) -> Result<Option<Vec<u8>>, AllocError>
+        ensures packet { IfOk result (λ packet. IsFeedback source.now self.old.ssrc (numbers_due now.0 self.old) (keyframe_is_due now.0 self.old) (option_map (λ bytes. bytes.items) packet)) }
+        ensures after { IfOk result (λ packet. self.new ≡ after_feedback now.0 self.old) }
+        ensures err { IfErr result (λ e. self.new ≡ self.old) }
+    {
+        let mut numbers = Vec::new(self.alloc);
+        self.nack.append_due(now, &mut numbers)?;
+        let mut keyframes = self.keyframes;
+        let keyframe = keyframes.take_due(now);
+        let packet = source.packet(self.ssrc, &numbers, keyframe)?;
+        self.nack.count_due(now);
+        self.keyframes = keyframes;
+        Ok(packet)
+    }
+
+    /// Records that a retransmission of this sequence number (16 bits) arrived, which measures the round trip. Call it before the
+    /// `update` after that datagram.
+    pub fn answered(&mut self, now: Ticks, number: u16)
+        ensures { self.new ≡ after_answered now.0 number self.old }
+    {
+        self.nack.answered(now, number);
+    }
+
+    /// Returns when the next request is due. `None`: none is without an `update`.
+    pub fn next_deadline(&self) -> Option<Ticks>
+        ensures { option_map (λ at. at.0) result ≡ deadline_of self.now }
+    {
+        earlier(self.nack.next_deadline(), self.keyframes.next_deadline())
+    }
+}
+
+/// Whether something is requested.
+fn has_any(numbers: &[u16], keyframe: bool) -> bool
+    ensures { result ≡ has_any numbers.now keyframe }
+{
+    keyframe || !numbers.is_empty()
+}
+
+/// The earlier of two moments.
+fn earlier(one: Option<Ticks>, other: Option<Ticks>) -> Option<Ticks>
+    ensures { option_map (λ at. at.0) result ≡ earlier (option_map (λ at. at.0) one) (option_map (λ at. at.0) other) }
+{
+    match (one, other) {
+        (Some(one), Some(other)) if other.0 < one.0 => Some(other),
+        (Some(one), _) => Some(one),
+        (None, other) => other,
+    }
+}
