@@ -8,7 +8,7 @@ NOT_HERE = {"handle", "c"}
 # Names the users' modules of the library again.
 FACADE = "core"
 # The module below which a crate's modules go. Modules of all other crates go to the root.
-PLACES = {"rtp": "rtp", "rtcp": "rtcp", "vpx": "media::vpx", "media": "media", "keyframes": "keyframes", "history": "history", "requests": "requests", "feedback", "adaptive_wait": "waiting", "jitter": "jitter", "stream": "stream", "session": "session", "send": "payload",
+PLACES = {"rtp": "rtp", "rtcp": "rtcp", "vpx": "media::vpx", "media": "media", "keyframes": "keyframes", "history": "history", "requests": "requests", "feedback": "feedback", "adaptive_wait": "waiting", "jitter": "jitter", "stream": "stream", "session": "session", "send": "payload",
           "runs": "schedule", "wire": "schedule::datagrams"}
 # Modules with another name in the one crate.
 RENAMED_MODULES = {("rtp", "rtp"): "packet", ("jitter", "jitter"): "jitter_buffer", ("session", "session"): "sessions"}

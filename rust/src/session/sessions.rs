@@ -43,11 +43,17 @@ pub enum Event {
     /// A stream is announced. This is the first event of the stream.
     Begun { ssrc: u32, payload_type: u8 },
     /// A unit of a stream, or the error of a pop. After `OutOfMemory` the frame is kept, and the next poll tries again. After
-    /// any other error the frame was dropped. `rtp_time` is in ticks of the RTP clock, without wrapping.
+    /// any other error the frame was dropped. `rtp_time` is in ticks of the RTP clock, without wrapping. A decoder can show the
+    /// unit if it is `decodable`: see [`Receiver::unit_is_decodable`], and [`Receiver::unit_is_keyframe`] for `keyframe`.
+    ///
+    /// [`Receiver::unit_is_decodable`]: crate::stream::receiver::Receiver::unit_is_decodable
+    /// [`Receiver::unit_is_keyframe`]: crate::stream::receiver::Receiver::unit_is_keyframe
     Unit {
         ssrc: u32,
         payload_type: u8,
         rtp_time: Option<u64>,
+        decodable: bool,
+        keyframe: bool,
         unit: Result<Depacketized, PacketError>,
     },
     /// A stream was removed. This is the last event of the stream.
