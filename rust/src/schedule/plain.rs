@@ -13,6 +13,30 @@ use crate::schedule::run::{Run, Sent, Step, pop_step, push_copy, refusal};
 use crate::wire::{Frequency, MediaTime, Ticks, ToPayload};
 use alloc::vec::Vec;
 
+/// A step, its place from 0, and the samples that it may name.
+#[derive(Debug)]
+pub(crate) struct Turn<'a> {
+    pub(crate) samples: &'a [ToPayload],
+    pub(crate) place: usize,
+    pub(crate) step: Step,
+}
+
+/// A sample to be sent by the step at `place`, cut for an MTU in bytes.
+#[derive(Debug)]
+pub(crate) struct Sending<'a> {
+    pub(crate) sample: &'a ToPayload,
+    pub(crate) mtu: usize,
+    pub(crate) place: usize,
+}
+
+/// A packet to be pushed by the step at `place`, with an RTP clock of this rate.
+#[derive(Debug)]
+pub(crate) struct Pushing<'a> {
+    pub(crate) packet: &'a OutgoingPacket,
+    pub(crate) clock_rate: Frequency,
+    pub(crate) place: usize,
+}
+
 /// Does the steps of a run in order, without RED.
 pub(crate) fn run_plain<P: Packetizer, D: Depacketizer>(
     payloader: &mut Payloader<P>,
@@ -26,7 +50,12 @@ pub(crate) fn run_plain<P: Packetizer, D: Depacketizer>(
         pops: Vec::new(),
     };
     for (place, step) in steps.iter().enumerate() {
-        do_step(payloader, buffer, sink, samples, place, *step, &mut run)?;
+        let turn = Turn {
+            samples,
+            place,
+            step: *step,
+        };
+        do_step(payloader, buffer, sink, &turn, &mut run)?;
     }
     Ok(run)
 }
@@ -36,18 +65,21 @@ fn do_step<P: Packetizer, D: Depacketizer>(
     payloader: &mut Payloader<P>,
     buffer: &mut DepacketizingBuffer<D>,
     sink: &mut MemorySink,
-    samples: &[ToPayload],
-    place: usize,
-    step: Step,
+    turn: &Turn<'_>,
     run: &mut Run,
 ) -> Result<(), PacketError> {
-    match step {
+    match turn.step {
         Step::Send { sample, mtu } => {
-            let Some(sample) = samples.get(sample) else {
+            let Some(sample) = turn.samples.get(sample) else {
                 return Ok(());
             };
             run.sends.try_room(1)?;
-            let entry = send_step(payloader, sink, sample, mtu, place)?;
+            let sending = Sending {
+                sample,
+                mtu,
+                place: turn.place,
+            };
+            let entry = send_step(payloader, sink, &sending)?;
             run.sends.push(entry);
             Ok(())
         }
@@ -55,7 +87,12 @@ fn do_step<P: Packetizer, D: Depacketizer>(
             let Some(packet) = sink.packets().get(k) else {
                 return Ok(());
             };
-            push_step(payloader.clock_rate(), buffer, packet, place)
+            let pushing = Pushing {
+                packet,
+                clock_rate: payloader.clock_rate(),
+                place: turn.place,
+            };
+            push_step(buffer, &pushing)
         }
         Step::Pop => pop_step(buffer, run),
     }
@@ -65,14 +102,12 @@ fn do_step<P: Packetizer, D: Depacketizer>(
 fn send_step<P: Packetizer>(
     payloader: &mut Payloader<P>,
     sink: &mut MemorySink,
-    sample: &ToPayload,
-    mtu: usize,
-    place: usize,
+    sending: &Sending<'_>,
 ) -> Result<Sent, PacketError> {
     let first = sink.packets().len();
-    let fault = refusal(payloader.push_sample(sample, mtu, sink))?;
+    let fault = refusal(payloader.push_sample(sending.sample, sending.mtu, sink))?;
     Ok(Sent {
-        step: place,
+        step: sending.place,
         first,
         count: sink.packets().len() - first,
         fault,
@@ -81,13 +116,13 @@ fn send_step<P: Packetizer>(
 
 /// Pushes a copy of a sent packet.
 fn push_step<D: Depacketizer>(
-    clock_rate: Frequency,
     buffer: &mut DepacketizingBuffer<D>,
-    packet: &OutgoingPacket,
-    place: usize,
+    pushing: &Pushing<'_>,
 ) -> Result<(), PacketError> {
-    let time = MediaTime::new(u64::from(packet.rtp_time), clock_rate);
-    let mut meta = RtpMeta::of(packet.seq_no, time, packet.pt, Ticks(place as u64));
+    let packet = pushing.packet;
+    let time = MediaTime::new(u64::from(packet.rtp_time), pushing.clock_rate);
+    let received = Ticks(pushing.place as u64);
+    let mut meta = RtpMeta::of(packet.seq_no, time, packet.pt, received);
     meta.header.marker = packet.marker;
     meta.header.ext_vals = packet.ext_vals;
     push_copy(buffer, meta, &packet.payload)

@@ -9,59 +9,55 @@ use crate::memory::TryVec;
 use crate::payload::memory_sink::MemorySink;
 use crate::payload::payloader::Payloader;
 use crate::payload::red_sink::RedSink;
-use crate::payload::sink::OutgoingPacket;
 use crate::red::{Recovered, RedReceiver, RedSender};
+use crate::schedule::plain::{Pushing, Sending, Turn};
 use crate::schedule::run::{RedRun, Run, Sent, Step, pop_step, push_copy, refusal};
-use crate::wire::{Frequency, MediaTime, Pt, Ticks, ToPayload};
+use crate::wire::{MediaTime, Pt, Ticks, ToPayload};
 use alloc::vec::Vec;
 
-/// Pushes a copy of one packet that was recovered from `packet`.
+/// Pushes a copy of one packet that was recovered from the packet to be pushed.
 fn push_recovered<D: Depacketizer>(
-    clock_rate: Frequency,
     buffer: &mut DepacketizingBuffer<D>,
-    packet: &OutgoingPacket,
+    pushing: &Pushing<'_>,
     recovered: &Recovered<'_>,
     pt: u8,
-    place: usize,
 ) -> Result<(), PacketError> {
-    let time = MediaTime::new(u64::from(recovered.rtp_time), clock_rate);
+    let time = MediaTime::new(u64::from(recovered.rtp_time), pushing.clock_rate);
     let pt = Pt::new_with_value(pt);
-    let mut meta = RtpMeta::of(recovered.seq_no, time, pt, Ticks(place as u64));
+    let received = Ticks(pushing.place as u64);
+    let mut meta = RtpMeta::of(recovered.seq_no, time, pt, received);
     if recovered.is_primary {
-        meta.header.marker = packet.marker;
-        meta.header.ext_vals = packet.ext_vals;
+        meta.header.marker = pushing.packet.marker;
+        meta.header.ext_vals = pushing.packet.ext_vals;
     }
     push_copy(buffer, meta, recovered.payload)
 }
 
-/// Pushes the packets that were recovered from `packet`, in order.
+/// Pushes the packets that were recovered from the packet to be pushed, in order.
 fn push_all_recovered<D: Depacketizer>(
-    clock_rate: Frequency,
     buffer: &mut DepacketizingBuffer<D>,
-    packet: &OutgoingPacket,
+    pushing: &Pushing<'_>,
     recovered: &[Recovered<'_>],
     pt: u8,
-    place: usize,
 ) -> Result<(), PacketError> {
     let Some((first, others)) = recovered.split_first() else {
         return Ok(());
     };
-    push_recovered(clock_rate, buffer, packet, first, pt, place)?;
-    push_all_recovered(clock_rate, buffer, packet, others, pt, place)
+    push_recovered(buffer, pushing, first, pt)?;
+    push_all_recovered(buffer, pushing, others, pt)
 }
 
 /// Pushes the packets that the RED receiver finds in a packet. An invalid RED payload is skipped.
 fn red_push_step<D: Depacketizer>(
-    clock_rate: Frequency,
     buffer: &mut DepacketizingBuffer<D>,
-    packet: &OutgoingPacket,
+    pushing: &Pushing<'_>,
     receiver: &RedReceiver,
-    place: usize,
 ) -> Result<(), PacketError> {
+    let packet = pushing.packet;
     match receiver.recover(packet.seq_no, packet.rtp_time, &packet.payload) {
         Ok(recovered) => {
             let pt = receiver.primary_pt();
-            push_all_recovered(clock_rate, buffer, packet, &recovered, pt, place)
+            push_all_recovered(buffer, pushing, &recovered, pt)
         }
         Err(PacketError::OutOfMemory) => Err(PacketError::OutOfMemory),
         Err(_) => Ok(()),
@@ -73,15 +69,13 @@ fn red_send_step<P: Packetizer>(
     payloader: &mut Payloader<P>,
     sink: &mut MemorySink,
     red: &mut RedRun<'_>,
-    sample: &ToPayload,
-    mtu: usize,
-    place: usize,
+    sending: &Sending<'_>,
 ) -> Result<Sent, PacketError> {
     let first = sink.packets().len();
     let mut in_red = RedSink::new(sink, red.sender, red.budget);
-    let fault = refusal(payloader.push_sample(sample, mtu, &mut in_red))?;
+    let fault = refusal(payloader.push_sample(sending.sample, sending.mtu, &mut in_red))?;
     Ok(Sent {
-        step: place,
+        step: sending.place,
         first,
         count: sink.packets().len() - first,
         fault,
@@ -94,18 +88,21 @@ fn do_red_step<P: Packetizer, D: Depacketizer>(
     buffer: &mut DepacketizingBuffer<D>,
     sink: &mut MemorySink,
     red: &mut RedRun<'_>,
-    samples: &[ToPayload],
-    place: usize,
-    step: Step,
+    turn: &Turn<'_>,
     run: &mut Run,
 ) -> Result<(), PacketError> {
-    match step {
+    match turn.step {
         Step::Send { sample, mtu } => {
-            let Some(sample) = samples.get(sample) else {
+            let Some(sample) = turn.samples.get(sample) else {
                 return Ok(());
             };
             run.sends.try_room(1)?;
-            let entry = red_send_step(payloader, sink, red, sample, mtu, place)?;
+            let sending = Sending {
+                sample,
+                mtu,
+                place: turn.place,
+            };
+            let entry = red_send_step(payloader, sink, red, &sending)?;
             run.sends.push(entry);
             Ok(())
         }
@@ -113,8 +110,12 @@ fn do_red_step<P: Packetizer, D: Depacketizer>(
             let Some(packet) = sink.packets().get(k) else {
                 return Ok(());
             };
-            let clock_rate = payloader.clock_rate();
-            red_push_step(clock_rate, buffer, packet, red.receiver, place)
+            let pushing = Pushing {
+                packet,
+                clock_rate: payloader.clock_rate(),
+                place: turn.place,
+            };
+            red_push_step(buffer, &pushing, red.receiver)
         }
         Step::Pop => pop_step(buffer, run),
     }
@@ -135,9 +136,12 @@ pub fn run_in_red<P: Packetizer, D: Depacketizer>(
         pops: Vec::new(),
     };
     for (place, step) in steps.iter().enumerate() {
-        do_red_step(
-            payloader, buffer, sink, red, samples, place, *step, &mut run,
-        )?;
+        let turn = Turn {
+            samples,
+            place,
+            step: *step,
+        };
+        do_red_step(payloader, buffer, sink, red, &turn, &mut run)?;
     }
     Ok(run)
 }

@@ -11,20 +11,20 @@ use Rattle.codec_payload_runs.proofs.plain.do_step.Goals as goal
 
 pub returns-in_default-clause-ok : goal.returns-in_default-clause-ok
 returns-in_default-clause-ok g c =
-    let none = slice_get_past c.args.samples.now c.in-Send.sample c.in_default.ensures.lookup.3 in
-    let here = slice_get-map sample_of c.args.samples.now c.in-Send.sample ∙ ap (λ o. option_map sample_of o) none in
+    let none = slice_get_past c.args.turn.now.samples.now c.in-Send.sample c.in_default.ensures.lookup.3 in
+    let here = slice_get-map sample_of c.args.turn.now.samples.now c.in-Send.sample ∙ ap (λ o. option_map sample_of o) none in
     ([], [], sym (append-nil _), sym (append-nil _), rw c.in-Send.is (refl, rw here (refl, refl)))
 
 pub returns-in_err-reserve-in-Send-clause-err : goal.returns-in_err-reserve-in-Send-clause-err
 returns-in_err-reserve-in-Send-clause-err g c =
-    let there = slice_get_read c.args.samples.now (length c.args.samples.now) c.in-Send.sample c.in-Some.sample.now refl c.in-Some.ensures.lookup.3.0 c.in-Some.ensures.lookup.1 in
-    let here = slice_get-map sample_of c.args.samples.now c.in-Send.sample ∙ ap (λ o. option_map sample_of o) there in
+    let there = slice_get_read c.args.turn.now.samples.now (length c.args.turn.now.samples.now) c.in-Send.sample c.in-Some.sample.now refl c.in-Some.ensures.lookup.3.0 c.in-Some.ensures.lookup.1 in
+    let here = slice_get-map sample_of c.args.turn.now.samples.now c.in-Send.sample ∙ ap (λ o. option_map sample_of o) there in
     on_err c.from_residual.result (rw c.in-Send.is (sample_of c.in-Some.sample.now, here, inl refl))
 
 pub returns-in_err-entry-in-Send-clause-err : goal.returns-in_err-entry-in-Send-clause-err
 returns-in_err-entry-in-Send-clause-err g c =
-    let there = slice_get_read c.args.samples.now (length c.args.samples.now) c.in-Send.sample c.in-Some.sample.now refl c.in-Some.ensures.lookup.3.0 c.in-Some.ensures.lookup.1 in
-    let here = slice_get-map sample_of c.args.samples.now c.in-Send.sample ∙ ap (λ o. option_map sample_of o) there in
+    let there = slice_get_read c.args.turn.now.samples.now (length c.args.turn.now.samples.now) c.in-Send.sample c.in-Some.sample.now refl c.in-Some.ensures.lookup.3.0 c.in-Some.ensures.lookup.1 in
+    let here = slice_get-map sample_of c.args.turn.now.samples.now c.in-Send.sample ∙ ap (λ o. option_map sample_of o) there in
     on_err c.from_residual-in_err-entry-in-Send.result (rw c.in-Send.is (sample_of c.in-Some.sample.now, here, inr (c.in_err-entry-in-Send.ensures.err c.args.buffer.now)))
 
 pub returns-in_default-get-clause-ok : goal.returns-in_default-get-clause-ok
@@ -35,8 +35,8 @@ returns-in_default-get-clause-ok g c =
 
 pub returns-in_ok-entry-in-Send-clause-ok : goal.returns-in_ok-entry-in-Send-clause-ok
 returns-in_ok-entry-in-Send-clause-ok g c =
-    let there = slice_get_read c.args.samples.now (length c.args.samples.now) c.in-Send.sample c.in-Some.sample.now refl c.in-Some.ensures.lookup.3.0 c.in-Some.ensures.lookup.1 in
-    let here = slice_get-map sample_of c.args.samples.now c.in-Send.sample ∙ ap (λ o. option_map sample_of o) there in
+    let there = slice_get_read c.args.turn.now.samples.now (length c.args.turn.now.samples.now) c.in-Send.sample c.in-Some.sample.now refl c.in-Some.ensures.lookup.3.0 c.in-Some.ensures.lookup.1 in
+    let here = slice_get-map sample_of c.args.turn.now.samples.now c.in-Send.sample ∙ ap (λ o. option_map sample_of o) there in
     (c.in_ok-entry-in-Send.entry ∷ [], [], search rules, sym (append-nil _), rw c.in-Send.is (refl, rw here (c.in_ok-entry-in-Send.entry, refl, c.in_ok-entry-in-Send.ensures.ok c.args.buffer.now)))
 
 pub returns-in-Some-get-clause-ok : goal.returns-in-Some-get-clause-ok
@@ -52,7 +52,7 @@ returns-in-Some-get-clause-ok g c =
         refl,
         refl,
         c.push_step.new.buffer,
-        rw here (subst (λ (rate : ℕ). Pushes c.args.place rate (Some (packet_of c.in-Some-get.packet.now)) c.args.buffer.now c.push_step.new.buffer) c.clock_rate.ensures pushed),
+        rw here (subst (λ (rate : ℕ). Pushes c.args.turn.now.place rate (Some (packet_of c.in-Some-get.packet.now)) c.args.buffer.now c.push_step.new.buffer) c.clock_rate.ensures pushed),
         refl,
       ),
     )) c.push_step.ensures.ok

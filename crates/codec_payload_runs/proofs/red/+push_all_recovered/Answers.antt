@@ -20,5 +20,5 @@ returns-clause-err g t c =
       stop.1,
       stop.2,
       split ∙ ap (λ (xs : _). recovered_of c.in-Some.first.now ∷ xs) stop.3,
-      (one.0, one.1, subst (λ (s : State). PushesAll c.args.place c.args.clock_rate c.args.pt (packet_of c.args.packet.now) stop.0 s c.push_all_recovered.new.buffer) one.2 stop.4),
+      (one.0, one.1, subst (λ (s : State). PushesAll c.args.pushing.now.place c.args.pushing.now.clock_rate c.args.pt (packet_of c.args.pushing.now.packet.now) stop.0 s c.push_all_recovered.new.buffer) one.2 stop.4),
     )) c.push_all_recovered.ensures.err

@@ -12,8 +12,8 @@ use Rattle.codec_payload_runs.proofs.red.do_red_step.Goals as goal
 
 pub returns-in_default-clause-ok : goal.returns-in_default-clause-ok
 returns-in_default-clause-ok g c = λ sent long.
-    let none = slice_get_past c.args.samples.now c.in-Send.sample c.in_default.ensures.lookup.3 in
-    let here = slice_get-map sample_of c.args.samples.now c.in-Send.sample ∙ ap (λ o. option_map sample_of o) none in (
+    let none = slice_get_past c.args.turn.now.samples.now c.in-Send.sample c.in_default.ensures.lookup.3 in
+    let here = slice_get-map sample_of c.args.turn.now.samples.now c.in-Send.sample ∙ ap (λ o. option_map sample_of o) none in (
       sent,
       [],
       [],
@@ -29,14 +29,14 @@ returns-in_default-clause-ok g c = λ sent long.
 
 pub returns-in_err-reserve-in-Send-clause-err : goal.returns-in_err-reserve-in-Send-clause-err
 returns-in_err-reserve-in-Send-clause-err g c =
-    let there = slice_get_read c.args.samples.now (length c.args.samples.now) c.in-Send.sample c.in-Some.sample.now refl c.in-Some.ensures.lookup.3.0 c.in-Some.ensures.lookup.1 in
-    let here = slice_get-map sample_of c.args.samples.now c.in-Send.sample ∙ ap (λ o. option_map sample_of o) there in
+    let there = slice_get_read c.args.turn.now.samples.now (length c.args.turn.now.samples.now) c.in-Send.sample c.in-Some.sample.now refl c.in-Some.ensures.lookup.3.0 c.in-Some.ensures.lookup.1 in
+    let here = slice_get-map sample_of c.args.turn.now.samples.now c.in-Send.sample ∙ ap (λ o. option_map sample_of o) there in
     on_err c.from_residual.result (λ sent long. (sent, long, rw c.in-Send.is (sample_of c.in-Some.sample.now, here, inl refl)))
 
 pub returns-in_err-entry-in-Send-clause-err : goal.returns-in_err-entry-in-Send-clause-err
 returns-in_err-entry-in-Send-clause-err g c =
-    let there = slice_get_read c.args.samples.now (length c.args.samples.now) c.in-Send.sample c.in-Some.sample.now refl c.in-Some.ensures.lookup.3.0 c.in-Some.ensures.lookup.1 in
-    let here = slice_get-map sample_of c.args.samples.now c.in-Send.sample ∙ ap (λ o. option_map sample_of o) there in
+    let there = slice_get_read c.args.turn.now.samples.now (length c.args.turn.now.samples.now) c.in-Send.sample c.in-Some.sample.now refl c.in-Some.ensures.lookup.3.0 c.in-Some.ensures.lookup.1 in
+    let here = slice_get-map sample_of c.args.turn.now.samples.now c.in-Send.sample ∙ ap (λ o. option_map sample_of o) there in
     on_err c.from_residual-in_err-entry-in-Send.result (λ sent long.
     let stopped = c.in_err-entry-in-Send.ensures.err c.args.buffer.now sent long in
     (stopped.0, stopped.1, rw c.in-Send.is (sample_of c.in-Some.sample.now, here, inr stopped.2)))
@@ -49,8 +49,8 @@ returns-in_default-get-clause-ok g c = λ sent long.
 
 pub returns-in_ok-entry-in-Send-clause-ok : goal.returns-in_ok-entry-in-Send-clause-ok
 returns-in_ok-entry-in-Send-clause-ok g c = λ sent long.
-    let there = slice_get_read c.args.samples.now (length c.args.samples.now) c.in-Send.sample c.in-Some.sample.now refl c.in-Some.ensures.lookup.3.0 c.in-Some.ensures.lookup.1 in
-    let here = slice_get-map sample_of c.args.samples.now c.in-Send.sample ∙ ap (λ o. option_map sample_of o) there in
+    let there = slice_get_read c.args.turn.now.samples.now (length c.args.turn.now.samples.now) c.in-Send.sample c.in-Some.sample.now refl c.in-Some.ensures.lookup.3.0 c.in-Some.ensures.lookup.1 in
+    let here = slice_get-map sample_of c.args.turn.now.samples.now c.in-Send.sample ∙ ap (λ o. option_map sample_of o) there in
     let did = c.in_ok-entry-in-Send.ensures.ok c.args.buffer.now sent long in
     (did.0, c.in_ok-entry-in-Send.entry ∷ [], [], did.1, search rules, sym (append-nil _), rw c.in-Send.is ((refl, rw here (c.in_ok-entry-in-Send.entry, refl, did.2)), did.3))
 
@@ -69,8 +69,8 @@ returns-in-Some-get-clause-ok g c =
         refl,
         refl,
         c.red_push_step.new.buffer,
-        rw here (subst (λ (rate : ℕ). RedPushes c.args.place rate c.args.red.now.receiver.now
-            (Some (packet_of c.in-Some-get.packet.now)) c.args.buffer.now c.red_push_step.new.buffer) c.clock_rate-clock_rate.ensures pushed),
+        rw here (subst (λ (rate : ℕ). RedPushes c.args.turn.now.place rate c.args.red.now.receiver.now
+            (Some (packet_of c.in-Some-get.packet.now)) c.args.buffer.now c.red_push_step.new.buffer) c.clock_rate.ensures pushed),
         refl,
       ),
     )) c.red_push_step.ensures.ok
@@ -86,8 +86,8 @@ returns-in-Some-get-clause-err g c =
         packet_of c.in-Some-get.packet.now,
         here,
         c.red_push_step.new.buffer,
-        subst (λ (rate : ℕ). StopsPushing c.args.place rate c.args.red.now.receiver.now
-            (packet_of c.in-Some-get.packet.now) c.args.buffer.now c.red_push_step.new.buffer) c.clock_rate-clock_rate.ensures stopped,
+        subst (λ (rate : ℕ). StopsPushing c.args.turn.now.place rate c.args.red.now.receiver.now
+            (packet_of c.in-Some-get.packet.now) c.args.buffer.now c.red_push_step.new.buffer) c.clock_rate.ensures stopped,
         refl,
       ),
     )) c.red_push_step.ensures.err

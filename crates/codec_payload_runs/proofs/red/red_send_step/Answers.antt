@@ -15,9 +15,9 @@ returns-in_err-fault-clause-err g c =
     let stream_after : stream_of after ≡ c.sink-1.given.0 = search rules in
     let refused = rw c.in_err-fault.ensures.err at c.push_sample.ensures.err in
     on_err c.from_residual.result (λ b sent long.
-    stopped_as c.args.mtu (sample_of c.args.sample.now) c.args.payloader.now c.push_sample.new.self b before after _ _ _ _ _ sent stream c.new-in_red.ensures.red
+    stopped_as c.args.sending.now.mtu (sample_of c.args.sending.now.sample.now) c.args.payloader.now c.push_sample.new.self b before after _ _ _ _ _ sent stream c.new-in_red.ensures.red
     c.new-in_red.ensures.budget stream_after refl
-    (stopped_in_red c.args.mtu (sample_of c.args.sample.now) c.args.payloader.now c.push_sample.new.self b before after sent
+    (stopped_in_red c.args.sending.now.mtu (sample_of c.args.sending.now.sample.now) c.args.payloader.now c.push_sample.new.self b before after sent
     (long ∙ ap (λ (s : SentPackets). length s.packets) (sym stream)) c.push_sample.ensures.clock refused))
 
 pub returns-clause-ok : goal.returns-clause-ok
@@ -32,8 +32,8 @@ returns-clause-ok g c = λ b sent long.
     ∙ ap (λ (s : SentPackets). length s.packets) (sym stream_after) in
     let few_before : length (stream_of before).packets < 2 ^ 63 = subst (λ (s : SentPackets). length s.packets < 2 ^ 63) (sym stream) c.packets-first.ensures.few in
     let few : length (stream_of after).packets < 2 ^ 63 = subst (λ (s : SentPackets). length s.packets < 2 ^ 63) (sym stream_after) c.packets.ensures.few in
-    sent_as c.args.place c.args.mtu (sample_of c.args.sample.now) _ _ b before after _ _ _ _ _ sent _ c.in_ok-fault.fault _ stream c.new-in_red.ensures.red
+    sent_as c.args.sending.now.place c.args.sending.now.mtu (sample_of c.args.sending.now.sample.now) _ _ b before after _ _ _ _ _ sent _ c.in_ok-fault.fault _ stream c.new-in_red.ensures.red
     c.new-in_red.ensures.budget stream_after refl (rw (first, total) refl)
-    (noted_in_red c.args.place c.args.mtu (sample_of c.args.sample.now) c.push_sample.result c.in_ok-fault.fault _ _ b before after sent
+    (noted_in_red c.args.sending.now.place c.args.sending.now.mtu (sample_of c.args.sending.now.sample.now) c.push_sample.result c.in_ok-fault.fault _ _ b before after sent
     (long ∙ ap (λ (s : SentPackets). length s.packets) (sym stream))
     c.push_sample.ensures.clock c.in_ok-fault.ensures.ok.0 c.in_ok-fault.ensures.ok.1 few_before few c.push_sample.ensures.ok c.push_sample.ensures.err)
