@@ -1,15 +1,19 @@
 //! Senders: frames in, the datagrams of one stream out.
 
-ghost use Rattle.std.specs.Prelude.{◌≡◌, ◌≢◌, ◌&&◌, is_some, nat_le, slice_get};
+ghost use Rattle.std.specs.Prelude.{◌≡◌, ◌≢◌, ◌&&◌, is_some, nat_le, slice_get, Bool, IfErr, IfOk};
+ghost use Rattle.codec_payload_core.specs.Packetizers.{packetizer_state_of};
 ghost use Rattle.codec_payload_core.specs.Extensions.{no_values};
 ghost use Rattle.codec_payload_rtp.specs.ExtensionWriting.{ids_fit};
 ghost use Rattle.codec_payload_sender.specs.Datagrams.{sample_of};
+ghost use Rattle.codec_payload_sender.specs.Senders.{sender_by};
 ghost use Rattle.codec_payload_c.specs.Ids.{ids_given};
-ghost use Rattle.codec_payload_c.specs.StreamSenders.{GivesDatagram, IsStreamSenderOf, SendsFrame, TellsCounts, sample_given, sample_with, settings_for};
+ghost use Rattle.codec_payload_c.specs.Refusals.{RefusesSettings};
+ghost use Rattle.codec_payload_c.specs.StreamSenders.{GivesDatagram, GivesWithTail, IsStreamSenderOf, SendsFrame, SetsFormat, TellsCounts, is_in_range, refusal_status, reported_at, sample_given, sample_with, settings_for};
 ghost use Rattle.codec_payload_handle.specs.Kinds.{Makes, OnStreamSender, Refuses, is_stream_sender};
 ghost use Rattle.codec_payload_handle.specs.Settings.{packetizer_set};
 
 use crate::extension::{ExtensionIds, ids_of};
+use codec_payload_core::codec::CodecPacketizer;
 use codec_payload_core::wire::{ExtensionValues as Values, Frequency, MediaTime};
 use codec_payload_handle::bytes::fill;
 use codec_payload_handle::extension_values::{ExtensionValues, values_from};
@@ -17,7 +21,9 @@ use codec_payload_handle::handle::Handle;
 use codec_payload_handle::object::{Object, StreamSender};
 use codec_payload_handle::settings::{Spec, packetizer_of};
 use codec_payload_handle::status;
-use codec_payload_sender::sender::{Sample as TimedFrame, Sender, SenderSettings as Settings};
+use codec_payload_sender::sender::{
+    Sample as TimedFrame, Sender, SenderError, SenderSettings as Settings,
+};
 use std::alloc::Global;
 
 /// The settings of a sender.
@@ -61,6 +67,19 @@ pub struct SenderCountsInfo {
     pub next_number: u16,
     /// Whether a frame was sent.
     pub has_rtp_time: bool,
+}
+
+/// The fields of a sender report (RFC 3550, section 6.4.1), except its NTP time.
+#[repr(C)]
+#[derive(Drop)]
+pub struct SenderReportInfo {
+    pub ssrc: u32,
+    /// The RTP time of the moment that was given.
+    pub rtp_time: u32,
+    /// How many packets were sent, modulo 2^32.
+    pub packets: u32,
+    /// How many bytes of payload, modulo 2^32.
+    pub octets: u32,
 }
 
 /// Converts the settings of C.
@@ -139,7 +158,60 @@ fn datagram(stream: &StreamSender, place: usize, bytes: &mut [u8], size: &mut us
     }
 }
 
-/// Returns the fields of sender reports.
+/// The datagram at a place, into the caller's bytes, if these also have room for `tail` bytes after the datagram.
+fn datagram_with_tail(
+    stream: &StreamSender,
+    place: usize,
+    tail: usize,
+    bytes: &mut [u8],
+    size: &mut usize,
+) -> u32
+    ensures { GivesWithTail tail (slice_get stream.now.sender.datagrams place) result bytes.old bytes.new size.old size.new }
+{
+    if place >= stream.sender.len() {
+        return status::NONE;
+    }
+    let packet = stream.sender.datagram(place);
+    let room = packet.len().saturating_add(tail);
+    if bytes.len() < room {
+        *size = room;
+        return status::TOO_SMALL;
+    }
+    *size = packet.len();
+    fill(bytes, packet);
+    status::OK
+}
+
+/// The stream goes on in another format, if there is a packetizer for it.
+fn set_format(stream: &mut StreamSender, spec: &Spec, payload_type: u8) -> u32
+    ensures { SetsFormat (packetizer_set spec.now) spec.now payload_type stream.old result stream.new }
+{
+    let (Some(packetizer), Some(rate)) = (packetizer_of(spec), Frequency::make(spec.rate)) else {
+        return status::INVALID;
+    };
+    match stream.sender.set_format(packetizer, payload_type, rate) {
+        Ok(()) => {
+            stream.rate = rate;
+            status::OK
+        }
+        Err(_) => status::INVALID,
+    }
+}
+
+/// The fields of a sender report for the moment `now`, in ticks of the RTP clock.
+fn report_of(stream: &StreamSender, now: u64) -> SenderReportInfo
+    ensures { result ≡ reported_at stream.now now }
+{
+    let report = stream.sender.report(MediaTime::new(now, stream.rate));
+    SenderReportInfo {
+        ssrc: report.ssrc,
+        rtp_time: report.rtp_time,
+        packets: report.packets,
+        octets: report.octets,
+    }
+}
+
+/// What sender reports tell.
 fn counts_of(stream: &StreamSender) -> SenderCountsInfo
     ensures { TellsCounts stream.now result }
 {
@@ -153,7 +225,34 @@ fn counts_of(stream: &StreamSender) -> SenderCountsInfo
     }
 }
 
-/// Creates a sender with these settings in an empty handle.
+/// The status for a sender that was not made.
+fn status_for(error: SenderError) -> u32
+    ensures { result ≡ refusal_status error }
+{
+    match error {
+        SenderError::OutOfMemory => status::OUT_OF_MEMORY,
+        _ => status::INVALID,
+    }
+}
+
+/// A sender by these settings.
+fn stream_by(
+    alloc: Global,
+    settings: &SenderSettings,
+    packetizer: CodecPacketizer,
+    rate: Frequency,
+) -> Result<StreamSender, u32>
+    requires { rate ≡ settings.now.spec.rate }
+    ensures ok { IfOk result (λ r. (r.sender ≡ sender_by (settings_for settings.now) (packetizer_state_of packetizer)) × (r.rate ≡ rate) × (is_in_range settings.now ≡ Bool.true)) }
+    ensures err { IfErr result (λ status. RefusesSettings (is_in_range settings.now) status) }
+{
+    match Sender::new(alloc, packetizer, settings_of(settings, rate)) {
+        Ok(sender) => Ok(StreamSender { sender, rate }),
+        Err(error) => Err(status_for(error)),
+    }
+}
+
+/// A sender by these settings, in an empty handle.
 #[unsafe(no_mangle)]
 pub extern "C" fn cpay_sender_new(
     alloc: Global,
@@ -173,13 +272,11 @@ pub extern "C" fn cpay_sender_new(
     ) else {
         return status::INVALID;
     };
-    if settings.payload_type > 127 || !ids_of(settings.extension_ids).fit() {
-        return status::INVALID;
-    }
-    let Ok(sender) = Sender::new(alloc, packetizer, settings_of(settings, rate)) else {
-        return status::OUT_OF_MEMORY;
+    let stream = match stream_by(alloc, settings, packetizer, rate) {
+        Ok(stream) => stream,
+        Err(status) => return status,
     };
-    match Box::new(alloc, Object::StreamSender(StreamSender { sender, rate })) {
+    match Box::new(alloc, Object::StreamSender(stream)) {
         Ok(object) => {
             handle.put(object);
             status::OK
@@ -287,6 +384,80 @@ pub extern "C" fn cpay_sender_counts(
     let answer = match &mut *object {
         Object::StreamSender(stream) => {
             *counts = counts_of(stream);
+            status::OK
+        }
+        _ => status::OTHER_KIND,
+    };
+    handle.put(object);
+    answer
+}
+
+/// The datagram at a place, as [`cpay_sender_datagram`] gives it, into bytes that have room for `tail` bytes after the datagram.
+#[unsafe(no_mangle)]
+pub extern "C" fn cpay_sender_datagram_with_tail(
+    alloc: Global,
+    handle: &mut Handle,
+    place: usize,
+    tail: usize,
+    bytes: &mut [u8],
+    size: &mut usize,
+) -> u32
+    ensures gives { OnStreamSender handle.old.place.value (λ r s. (s ≡ r) × GivesWithTail tail (slice_get r.sender.datagrams place) result bytes.old bytes.new size.old size.new) handle.new.place.value }
+    ensures refused { Refuses is_stream_sender handle.old.place.value result handle.new.place.value }
+    ensures untouched { result ≢ 0 → bytes.new ≡ bytes.old }
+    ensures unchanged { result ≢ 0 → result ≢ 33 → size.new ≡ size.old }
+{
+    let Some(mut object) = handle.take(alloc) else {
+        return status::EMPTY;
+    };
+    let answer = match &mut *object {
+        Object::StreamSender(stream) => datagram_with_tail(stream, place, tail, bytes, size),
+        _ => status::OTHER_KIND,
+    };
+    handle.put(object);
+    answer
+}
+
+/// The stream goes on in another format.
+#[unsafe(no_mangle)]
+pub extern "C" fn cpay_sender_set_format(
+    alloc: Global,
+    handle: &mut Handle,
+    spec: &Spec,
+    payload_type: u8,
+) -> u32
+    ensures sets { OnStreamSender handle.old.place.value (λ r s. SetsFormat (packetizer_set spec.now) spec.now payload_type r result s) handle.new.place.value }
+    ensures refused { Refuses is_stream_sender handle.old.place.value result handle.new.place.value }
+{
+    let Some(mut object) = handle.take(alloc) else {
+        return status::EMPTY;
+    };
+    let answer = match &mut *object {
+        Object::StreamSender(stream) => set_format(stream, spec, payload_type),
+        _ => status::OTHER_KIND,
+    };
+    handle.put(object);
+    answer
+}
+
+/// The fields of a sender report for the moment `now`, in ticks of the RTP clock.
+#[unsafe(no_mangle)]
+pub extern "C" fn cpay_sender_report(
+    alloc: Global,
+    handle: &mut Handle,
+    now: u64,
+    report: &mut SenderReportInfo,
+) -> u32
+    ensures tells { OnStreamSender handle.old.place.value (λ r s. (result ≡ 0) × (s ≡ r) × (report.new ≡ reported_at r now)) handle.new.place.value }
+    ensures refused { Refuses is_stream_sender handle.old.place.value result handle.new.place.value }
+    ensures unchanged { result ≢ 0 → report.new ≡ report.old }
+{
+    let Some(mut object) = handle.take(alloc) else {
+        return status::EMPTY;
+    };
+    let answer = match &mut *object {
+        Object::StreamSender(stream) => {
+            *report = report_of(stream, now);
             status::OK
         }
         _ => status::OTHER_KIND,
