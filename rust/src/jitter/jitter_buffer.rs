@@ -2,6 +2,10 @@
 
 //! A jitter buffer: the packets of one sender, in order, and waiting for what is missing by a clock.
 
+use alloc::vec::Vec;
+
+mod restarting;
+
 use crate::buffer::{Depacketized, DepacketizingBuffer, RtpMeta, UnitInfo};
 use crate::codec::{CodecDepacketizer, Depacketizer, NoBox};
 use crate::error::PacketError;
@@ -9,17 +13,16 @@ use crate::jitter::missing::MissingNumbers;
 use crate::jitter::no_media_numbers::{is_late, is_noted, note_no_media, pass_no_media_numbers};
 use crate::jitter::noted_times::{NotedTime, NotedTimes, is_soon_after};
 use crate::jitter::numbers::{
-    Extended, SequenceNumbers, kept_number, lowest_with, number_within, without_restart,
+    Extended, SequenceNumbers, lowest_with, number_within, without_restart,
 };
 pub use crate::jitter::outcome::{Outcome, PacketCounters};
 use crate::jitter::outcome::{
-    is_stored, outcome_of, packets_in, packets_into, units_in, units_into, with_again, with_kept,
+    is_stored, outcome_of, packets_in, packets_into, units_in, units_into, with_again,
     with_outcome, with_pop, with_recovered,
 };
 pub use crate::jitter::waiting::WaitLimits;
 use crate::jitter::waiting::{deadline, overdue, room_for};
 use crate::wire::{Frequency, MediaTime, RtpHeader, SeqNo, Ticks};
-use alloc::vec::Vec;
 
 /// How many packets a push stores at most: its own, and a suspect one.
 const AT_ONCE: usize = 2;
@@ -425,13 +428,6 @@ impl<B: Depacketizer> JitterBuffer<B> {
         Ok(outcome)
     }
 
-    /// Takes in the packet that confirms a restart, and the one before it, if that was kept.
-    fn restart_with(&mut self, number: u64, packet: KeptPacket) -> Result<Outcome, PacketError> {
-        self.store_and_note(number, packet)?;
-        let with_kept = self.confirm(number);
-        Ok(Outcome::Restarted(with_kept))
-    }
-
     /// Keeps a suspect packet in place of the one before.
     fn keep(&mut self, packet: KeptPacket) {
         self.kept = Some(packet);
@@ -467,10 +463,7 @@ impl<B: Depacketizer> JitterBuffer<B> {
     fn note_as(&mut self, answer: Extended) -> Result<(), PacketError> {
         match answer {
             Extended::Number(number) => self.note(number)?,
-            Extended::Restarted(number) => {
-                self.note(number)?;
-                self.confirm(number);
-            }
+            Extended::Restarted(number) => self.restart_without_media(number)?,
             Extended::Suspect => {
                 self.count_no_media();
                 self.kept = None;
@@ -492,29 +485,6 @@ impl<B: Depacketizer> JitterBuffer<B> {
         let outcome = store(&mut self.buffer, self.clock_rate, packet, number)?;
         self.counters = with_outcome(self.counters, outcome);
         Ok(outcome)
-    }
-
-    /// The sender has restarted with the packet of that number. Whether the one before it, which was suspect, goes in too.
-    fn confirm(&mut self, number: u64) -> bool {
-        self.counters.restarts = self.counters.restarts.wrapping_add(1);
-        match self.kept.take() {
-            Some(packet) => {
-                let number = kept_number(number, packet.header.sequence_number);
-                self.store_suspect(number, packet)
-            }
-            None => false,
-        }
-    }
-
-    /// The suspect packet that was kept goes in, unless memory is wanting for it.
-    fn store_suspect(&mut self, number: u64, packet: KeptPacket) -> bool {
-        match store(&mut self.buffer, self.clock_rate, packet, number) {
-            Ok(outcome) => {
-                self.counters = with_kept(self.counters, outcome);
-                true
-            }
-            Err(_) => false,
-        }
     }
 
     /// The cutoff goes on over the numbers without media that come right after it.
@@ -553,15 +523,20 @@ fn store<B: Depacketizer>(
     packet: KeptPacket,
     number: u64,
 ) -> Result<Outcome, PacketError> {
-    let meta = RtpMeta {
-        received: packet.received,
-        time: MediaTime::new(u64::from(packet.header.timestamp), clock_rate),
-        seq_no: SeqNo(number),
-        header: packet.header,
-        last_sender_info: None,
-    };
+    let meta = meta_for(clock_rate, packet.received, packet.header, number);
     let placed = buffer.store(meta, packet.payload)?;
     Ok(outcome_of(placed))
+}
+
+/// What is known of a packet of that number.
+fn meta_for(clock_rate: Frequency, received: Ticks, header: RtpHeader, number: u64) -> RtpMeta {
+    RtpMeta {
+        received,
+        time: MediaTime::new(u64::from(header.timestamp), clock_rate),
+        seq_no: SeqNo(number),
+        header,
+        last_sender_info: None,
+    }
 }
 
 /// What becomes of a packet of that number.

@@ -19,8 +19,8 @@ pub enum Outcome {
     /// Its number is far from all others. It is kept until the next packet comes: where that is its successor, the sender has
     /// restarted, and both go in; where that is suspect as well, or lies within the windows, this one is dropped.
     Suspect,
-    /// It confirms that the sender has restarted, and was taken in. The flag tells whether the suspect packet before it went in
-    /// too: it did not where it had no media, or where memory was wanting for it.
+    /// It confirms that the sender has restarted, and was taken in. The flag tells whether there was a suspect packet before it:
+    /// that went in too. There is none where the packet before it had no media.
     Restarted(bool),
     /// It carries no media of this stream: it has padding alone, or a payload type without media. No frame waits for its number.
     NoMedia,
@@ -114,6 +114,12 @@ fn count_outcome(mut counters: PacketCounters, outcome: Outcome) -> PacketCounte
 pub(crate) fn with_outcome(counters: PacketCounters, outcome: Outcome) -> PacketCounters {
     let mut counters = count_outcome(counters, outcome);
     counters.pushed = counters.pushed.wrapping_add(1);
+    counters
+}
+
+/// The sender has restarted once more.
+pub(crate) fn with_restart(mut counters: PacketCounters) -> PacketCounters {
+    counters.restarts = counters.restarts.wrapping_add(1);
     counters
 }
 
