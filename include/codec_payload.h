@@ -626,8 +626,8 @@ enum {
     CPAY_SUSPECT = 4,          /**< its number is outside the windows, or arrived before with another RTP time; it is kept aside
                                     until another suspect packet or a restart */
     CPAY_RESTARTED = 5,        /**< the sender has restarted: this packet and the suspect packet before it were stored */
-    CPAY_RESTARTED_ALONE = 6,  /**< the sender has restarted, and only this packet was stored: the suspect packet had no media,
-                                    memory ran out for it, or you called cpay_receiver_restart */
+    CPAY_RESTARTED_ALONE = 6,  /**< the sender has restarted, and only this packet was stored: the packet before it had no media,
+                                    or you called cpay_receiver_restart */
     CPAY_NO_MEDIA = 7,         /**< padding only, a payload type without media, or a packet whose RTP time a stored block of RED
                                     has; no frame waits for its number */
     CPAY_OTHER_STREAM = 8,     /**< another SSRC or payload type; ignored */

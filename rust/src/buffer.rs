@@ -10,6 +10,7 @@ pub mod frames;
 mod held_packet;
 mod known;
 mod packets;
+mod pair;
 mod placed;
 mod rows;
 mod search;
@@ -28,6 +29,7 @@ use packets::{
     copy_metas, drop_front, find_place, frame_range, give_back, hold, is_at, is_too_late,
     make_room, received_at, starts_next, unpack,
 };
+pub use pair::Incoming;
 pub use placed::Placed;
 use placed::placed_among;
 use rows::row_of_packet;

@@ -2,7 +2,7 @@
 //! with memory succeeds or fails as its input says. Nothing aborts.
 #![cfg(feature = "fallible")]
 
-use codec_payload::jitter::WaitLimits;
+use codec_payload::jitter::{JitterBuffer, Outcome, WaitLimits};
 use codec_payload::media::av1::{Av1SequenceHeader, front_obu, write_av1c};
 use codec_payload::rtp::{ExtensionIds, RtpPacket};
 use codec_payload::sender::{Sample, Sender, SenderSettings};
@@ -328,6 +328,86 @@ fn datagrams() {
     });
     println!("datagrams: {refused} refused");
     assert!(refused > 8, "{refused}");
+}
+
+/// An Opus packet of that number.
+fn header(number: u16) -> RtpHeader {
+    RtpHeader {
+        payload_type: Pt::new_with_value(111),
+        sequence_number: number,
+        timestamp: 960 * u32::from(number),
+        ssrc: 7,
+        marker: false,
+        ext_vals: ExtensionValues::default(),
+    }
+}
+
+/// A jitter buffer that received packet 100, and then the suspect packet 30,000.
+fn suspicious() -> JitterBuffer {
+    let mut it = JitterBuffer::new(
+        depacketizer(Codec::Opus),
+        Frequency::FORTY_EIGHT_KHZ,
+        WaitLimits::file(),
+    );
+    let first = it.push(Ticks(0), header(100), vec![1]);
+    assert_eq!(first, Ok(Outcome::Held));
+    let second = it.push(Ticks(1), header(30_000), vec![2]);
+    assert_eq!(second, Ok(Outcome::Suspect));
+    it
+}
+
+/// The bytes of all units, once the stream has ended.
+fn units(it: &mut JitterBuffer) -> Vec<Vec<u8>> {
+    it.finish();
+    let mut units = Vec::new();
+    while let Some(unit) = it.pop(Ticks(9)) {
+        units.push(unit.unwrap().bytes);
+    }
+    units
+}
+
+/// Refuses each allocation of the call that confirms a restart. Nothing has changed then, and no packet is lost.
+fn refuse_restart(
+    call: impl Fn(&mut JitterBuffer, Vec<u8>) -> Result<bool, PacketError>,
+    all: &[Vec<u8>],
+) {
+    let mut it = suspicious();
+    let payload = vec![3];
+    MADE.set(0);
+    assert_eq!(call(&mut it, payload), Ok(true));
+    let count = MADE.get();
+    assert_eq!(units(&mut it), all);
+    assert!(count >= 2, "{count}");
+    for place in 0..count {
+        let mut it = suspicious();
+        let before = (it.counters(), it.held());
+        let payload = vec![3];
+        LEFT.set(place);
+        let end = call(&mut it, payload);
+        LEFT.set(usize::MAX);
+        assert_eq!(end, Err(PacketError::OutOfMemory), "{place} of {count}");
+        assert_eq!((it.counters(), it.held()), before);
+        assert_eq!(call(&mut it, vec![3]), Ok(true), "{place} of {count}");
+        assert_eq!(units(&mut it), all, "{place} of {count}");
+    }
+}
+
+#[test]
+fn restarts_lose_no_packet() {
+    refuse_restart(
+        |it, payload| {
+            let outcome = it.push(Ticks(2), header(30_001), payload)?;
+            Ok(outcome == Outcome::Restarted(true))
+        },
+        &[vec![1], vec![2], vec![3]],
+    );
+    refuse_restart(
+        |it, _| {
+            it.push_no_media(30_001)?;
+            Ok(it.counters().restarts == 1 && it.held() == 2)
+        },
+        &[vec![1], vec![2]],
+    );
 }
 
 #[test]

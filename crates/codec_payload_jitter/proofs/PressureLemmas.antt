@@ -148,10 +148,9 @@ accepts a n r t o accepted =
           ∙ evicts_none s n r.counters (is_at_most s.cutoff n) (has_number n s.held) (nat_lt (length s.held) s.limit) refl refl refl (omega (arith, fits));
     })
 
--- the suspect packet is stored
-goes_in_again : (a : Arrival) (n : ℕ) (r : Receiving) (went_in : Bool) (t : Receiving) → r.kept ≡ Some a → GoesInAgain a n (restarted r) went_in t → Stores 0 r t
-goes_in_again a n r false t kept same = moved 0 r (restarted r) t same (as_it_is r (restarted r) refl refl (omega arith) refl)
-goes_in_again a n r true t kept goes =
+-- the suspect packet goes in, which was kept
+goes_in_again : (a : Arrival) (n : ℕ) (r t : Receiving) → r.kept ≡ Some a → GoesInAgain a n (restarted r) t → Stores 0 r t
+goes_in_again a n r t kept goes =
     let s : State = r.buffer in
     let one : kept_count r.kept ≡ 1 = ap kept_count kept in
     let pushes : goes.0 ≡ pushed s goes.1.0 = goes.1.2 in
@@ -166,7 +165,7 @@ goes_in_again a n r true t kept goes =
 
 confirms : (n : ℕ) (kept : Option Arrival) (r : Receiving) (with_kept : Bool) (t : Receiving) → r.kept ≡ kept → Confirms n kept (restarted r) with_kept t → Stores 0 r t
 confirms n None r with_kept t is same = moved 0 r (restarted r) t same.1 (as_it_is r (restarted r) refl refl (omega arith) refl)
-confirms n (Some a) r with_kept t is goes = goes_in_again a (kept_number n a.header.sequence_number) r with_kept t is goes
+confirms n (Some a) r with_kept t is goes = goes_in_again a (kept_number n a.header.sequence_number) r t is goes.1
 
 -- Events
 

@@ -1,6 +1,7 @@
 //! Numbers that carry no media: packets with padding only, and telephone events beside audio.
 
-ghost use Rattle.std.specs.Prelude.{◌≡◌, OnOk, OnErr};
+ghost use Rattle.std.specs.Prelude.{◌≡◌, ◌<◌, OnOk, OnErr};
+ghost use Rattle.std.specs.Vec.{vec_len, vec_capacity};
 ghost use Rattle.std.specs.Option.{option_map};
 ghost use Rattle.codec_payload_buffer.specs.Blanks.{is_right_after};
 ghost use Rattle.codec_payload_buffer.specs.Steps.{is_at_most};
@@ -20,9 +21,18 @@ pub(crate) fn note_no_media(no_media_numbers: &mut Vec<u64>, number: u64) -> Res
     ensures ok { OnOk result (no_media_numbers.new.items ≡ noted_no_media number no_media_numbers.old.items) }
     ensures err { OnErr result (no_media_numbers.new.items ≡ no_media_numbers.old.items) }
 {
-    put_in(no_media_numbers, number)?;
-    keep_few(no_media_numbers);
+    no_media_numbers.reserve(1)?;
+    note_in_room(no_media_numbers, number);
     Ok(())
+}
+
+/// Notes a number for which there is room.
+pub(crate) fn note_in_room(no_media_numbers: &mut Vec<u64>, number: u64)
+    requires { vec_len no_media_numbers.old < vec_capacity no_media_numbers.old }
+    ensures { no_media_numbers.new.items ≡ noted_no_media number no_media_numbers.old.items }
+{
+    put_in(no_media_numbers, number);
+    keep_few(no_media_numbers);
 }
 
 /// Forgets the lowest number if there are too many.
@@ -35,18 +45,15 @@ fn keep_few(no_media_numbers: &mut Vec<u64>)
 }
 
 /// Inserts a number in its place, if it is not present.
-fn put_in(no_media_numbers: &mut Vec<u64>, number: u64) -> Result<(), AllocError>
-    ensures ok { OnOk result (no_media_numbers.new.items ≡ no_media_in number no_media_numbers.old.items) }
-    ensures err { OnErr result (no_media_numbers.new.items ≡ no_media_numbers.old.items) }
+fn put_in(no_media_numbers: &mut Vec<u64>, number: u64)
+    requires { vec_len no_media_numbers.old < vec_capacity no_media_numbers.old }
+    ensures { no_media_numbers.new.items ≡ no_media_in number no_media_numbers.old.items }
 {
     let place = place_in(no_media_numbers, number);
     if place < no_media_numbers.len() && no_media_numbers[place] == number {
-        return Ok(());
+        return;
     }
-    match no_media_numbers.insert(place, number) {
-        Ok(()) => Ok(()),
-        Err(_) => Err(AllocError),
-    }
+    no_media_numbers.insert(place, number).unwrap();
 }
 
 /// Returns how many of the remembered numbers are below `number`.

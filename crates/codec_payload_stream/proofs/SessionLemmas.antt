@@ -52,8 +52,7 @@ again_balance c outcomes.Rtcp = refl
 
 confirms_balance : (n : ℕ) (k : Option Arrival) (r t : Receiving) (with_kept : Bool) → Confirms n k r with_kept t → balance_of t ≡ balance_of r
 confirms_balance n None r t with_kept got = ap balance_of got.1
-confirms_balance n (Some a) r t true got = ap balance_of got.2 ∙ again_balance r.counters _
-confirms_balance n (Some a) r t false got = ap balance_of got
+confirms_balance n (Some a) r t with_kept got = ap balance_of got.1.2 ∙ again_balance r.counters _
 
 counted_balance : (c : PacketCounters) (o : Outcome) → balance (counted c o) ≡ one_pushed (balance c)
 counted_balance c outcomes.Held = refl

@@ -3,6 +3,10 @@
 //! A jitter buffer for the packets of one sender: it restores their order and limits how long a frame waits for missing
 //! packets.
 
+use alloc::vec::Vec;
+
+mod restarting;
+
 use crate::buffer::{Depacketized, DepacketizingBuffer, RtpMeta, UnitInfo};
 use crate::codec::{CodecDepacketizer, Depacketizer, NoBox};
 use crate::error::PacketError;
@@ -10,17 +14,16 @@ use crate::jitter::missing::MissingNumbers;
 use crate::jitter::no_media_numbers::{is_late, is_noted, note_no_media, pass_no_media_numbers};
 use crate::jitter::noted_times::{NotedTime, NotedTimes, is_soon_after};
 use crate::jitter::numbers::{
-    Extended, SequenceNumbers, kept_number, lowest_with, number_within, without_restart,
+    Extended, SequenceNumbers, lowest_with, number_within, without_restart,
 };
 pub use crate::jitter::outcome::{Outcome, PacketCounters};
 use crate::jitter::outcome::{
-    is_stored, outcome_of, packets_in, packets_into, units_in, units_into, with_again, with_kept,
+    is_stored, outcome_of, packets_in, packets_into, units_in, units_into, with_again,
     with_outcome, with_pop, with_recovered,
 };
 pub use crate::jitter::waiting::WaitLimits;
 use crate::jitter::waiting::{deadline, overdue, room_for};
 use crate::wire::{Frequency, MediaTime, RtpHeader, SeqNo, Ticks};
-use alloc::vec::Vec;
 
 /// The largest number of packets that one push stores: the pushed packet, and a suspect packet.
 const AT_ONCE: usize = 2;
@@ -453,13 +456,6 @@ impl<B: Depacketizer> JitterBuffer<B> {
         Ok(outcome)
     }
 
-    /// Stores the packet that confirms a restart, and the suspect packet before it, if one is kept.
-    fn restart_with(&mut self, number: u64, packet: KeptPacket) -> Result<Outcome, PacketError> {
-        self.store_and_note(number, packet)?;
-        let with_kept = self.confirm(number);
-        Ok(Outcome::Restarted(with_kept))
-    }
-
     /// Keeps a suspect packet, in place of the previous one.
     fn keep(&mut self, packet: KeptPacket) {
         self.kept = Some(packet);
@@ -495,10 +491,7 @@ impl<B: Depacketizer> JitterBuffer<B> {
     fn note_as(&mut self, answer: Extended) -> Result<(), PacketError> {
         match answer {
             Extended::Number(number) => self.note(number)?,
-            Extended::Restarted(number) => {
-                self.note(number)?;
-                self.confirm(number);
-            }
+            Extended::Restarted(number) => self.restart_without_media(number)?,
             Extended::Suspect => {
                 self.count_no_media();
                 self.kept = None;
@@ -520,30 +513,6 @@ impl<B: Depacketizer> JitterBuffer<B> {
         let outcome = store(&mut self.buffer, self.clock_rate, packet, number)?;
         self.counters = with_outcome(self.counters, outcome);
         Ok(outcome)
-    }
-
-    /// Counts a restart at the packet with this number, and stores the suspect packet before it, if one is kept. Returns
-    /// whether a suspect packet was stored.
-    fn confirm(&mut self, number: u64) -> bool {
-        self.counters.restarts = self.counters.restarts.wrapping_add(1);
-        match self.kept.take() {
-            Some(packet) => {
-                let number = kept_number(number, packet.header.sequence_number);
-                self.store_suspect(number, packet)
-            }
-            None => false,
-        }
-    }
-
-    /// Stores the suspect packet. Returns false if memory runs out for it.
-    fn store_suspect(&mut self, number: u64, packet: KeptPacket) -> bool {
-        match store(&mut self.buffer, self.clock_rate, packet, number) {
-            Ok(outcome) => {
-                self.counters = with_kept(self.counters, outcome);
-                true
-            }
-            Err(_) => false,
-        }
     }
 
     /// Moves the cutoff past the numbers without media that come right after it.
@@ -583,15 +552,20 @@ fn store<B: Depacketizer>(
     packet: KeptPacket,
     number: u64,
 ) -> Result<Outcome, PacketError> {
-    let meta = RtpMeta {
-        received: packet.received,
-        time: MediaTime::new(u64::from(packet.header.timestamp), clock_rate),
-        seq_no: SeqNo(number),
-        header: packet.header,
-        last_sender_info: None,
-    };
+    let meta = meta_for(clock_rate, packet.received, packet.header, number);
     let placed = buffer.store(meta, packet.payload)?;
     Ok(outcome_of(placed))
+}
+
+/// Returns the metadata of a packet with this number.
+fn meta_for(clock_rate: Frequency, received: Ticks, header: RtpHeader, number: u64) -> RtpMeta {
+    RtpMeta {
+        received,
+        time: MediaTime::new(u64::from(header.timestamp), clock_rate),
+        seq_no: SeqNo(number),
+        header,
+        last_sender_info: None,
+    }
 }
 
 /// Returns the outcome that a packet with this number would have.

@@ -16,9 +16,15 @@ pub(crate) fn note_no_media(
     no_media_numbers: &mut Vec<u64>,
     number: u64,
 ) -> Result<(), AllocError> {
-    put_in(no_media_numbers, number)?;
-    keep_few(no_media_numbers);
+    no_media_numbers.try_room(1)?;
+    note_in_room(no_media_numbers, number);
     Ok(())
+}
+
+/// Notes a number for which there is room.
+pub(crate) fn note_in_room(no_media_numbers: &mut Vec<u64>, number: u64) {
+    put_in(no_media_numbers, number);
+    keep_few(no_media_numbers);
 }
 
 /// Forgets the lowest number if there are too many.
@@ -29,15 +35,12 @@ fn keep_few(no_media_numbers: &mut Vec<u64>) {
 }
 
 /// Inserts a number in its place, if it is not present.
-fn put_in(no_media_numbers: &mut Vec<u64>, number: u64) -> Result<(), AllocError> {
+fn put_in(no_media_numbers: &mut Vec<u64>, number: u64) {
     let place = place_in(no_media_numbers, number);
     if place < no_media_numbers.len() && no_media_numbers[place] == number {
-        return Ok(());
+        return;
     }
-    match no_media_numbers.try_insert(place, number) {
-        Ok(()) => Ok(()),
-        Err(_) => Err(AllocError),
-    }
+    no_media_numbers.insert(place, number);
 }
 
 /// Returns how many of the remembered numbers are below `number`.

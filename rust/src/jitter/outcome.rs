@@ -20,8 +20,7 @@ pub enum Outcome {
     /// packet replaces it or a restart stores it. Packets within the windows and retransmitted packets leave it alone.
     Suspect,
     /// The packet confirms that the sender has restarted, and was stored. True: the suspect packet before it was stored too.
-    /// False: the suspect packet had no media, memory ran out for it, or the caller announced the restart, so that there was
-    /// none.
+    /// False: there was none, since the packet before it had no media, or the caller announced the restart.
     Restarted(bool),
     /// The packet has no media to store: padding only, a payload type without media, or a repetition of a stored block of RED.
     /// No frame waits for its number.
@@ -114,6 +113,12 @@ fn count_outcome(mut counters: PacketCounters, outcome: Outcome) -> PacketCounte
 pub(crate) fn with_outcome(counters: PacketCounters, outcome: Outcome) -> PacketCounters {
     let mut counters = count_outcome(counters, outcome);
     counters.pushed = counters.pushed.wrapping_add(1);
+    counters
+}
+
+/// Counts a restart of the sender.
+pub(crate) fn with_restart(mut counters: PacketCounters) -> PacketCounters {
+    counters.restarts = counters.restarts.wrapping_add(1);
     counters
 }
 

@@ -2,7 +2,7 @@
 //!
 //! So the buffer keeps no list of rows. A push, an eviction and a pop write only to the ends of the rows that they change.
 
-ghost use Rattle.std.specs.Prelude.{◌≡◌, ◌≢◌, ◌<◌, ◌+◌, ◌==◌, true, false, ℕ, IfSome, length, map, slice_index_or, slice_set};
+ghost use Rattle.std.specs.Prelude.{◌≡◌, ◌≢◌, ◌≤◌, ◌<◌, ◌+◌, ◌==◌, true, false, ℕ, IfSome, length, map, slice_index_or, slice_set};
 ghost use Rattle.std.specs.VecDeque.{deque_len, deque_capacity};
 ghost use Rattle.codec_payload_buffer.specs.Held.{held_of, Rises, TakesLowest, has_number, placed};
 ghost use Rattle.codec_payload_buffer.specs.Frames.{frames};
@@ -113,6 +113,7 @@ fn set_mark(packets: &mut VecDeque<HeldPacket>, place: usize, other_end: u64, ro
     requires { place < deque_len packets.old }
     ensures held { map held_of packets.new.items ≡ map held_of packets.old.items }
     ensures marks { map mark_of packets.new.items ≡ slice_set (map mark_of packets.old.items) place (marked (slice_index_or (map mark_of packets.old.items) place no_mark) other_end row_head) }
+    ensures capacity { deque_capacity packets.old ≤ deque_capacity packets.new }
 {
     mark(&mut packets[place], other_end, row_head);
 }
@@ -127,6 +128,7 @@ fn set_ends(packets: &mut VecDeque<HeldPacket>, from: usize, to: usize, row: Row
     ensures held { map held_of packets.new.items ≡ map held_of packets.old.items }
     ensures told { IsTold row (map mark_of packets.new.items) }
     ensures others { (k : ℕ) → k ≢ row.first → k ≢ row.last → mark_at k (map mark_of packets.new.items) ≡ mark_at k (map mark_of packets.old.items) }
+    ensures capacity { deque_capacity packets.old ≤ deque_capacity packets.new }
 {
     set_mark(packets, from, row.last, None);
     set_mark(packets, to, row.first, row.head);
@@ -148,6 +150,7 @@ pub(super) fn place_at(
     requires row { row ≡ merged (row_of (held_of packet)) (rows (map held_of packets.old.items)) }
     ensures held { map held_of packets.new.items ≡ placed (held_of packet) (map held_of packets.old.items) }
     ensures told { AreTold (rows (map held_of packets.new.items)) (map mark_of packets.new.items) }
+    ensures capacity { deque_capacity packets.old ≤ deque_capacity packets.new }
 {
     let number = packet.number;
     packets.insert(place, packet).unwrap();
@@ -175,6 +178,7 @@ fn set_lowest_ends(packets: &mut VecDeque<HeldPacket>, rest: &Option<Row>)
     ensures held { map held_of packets.new.items ≡ map held_of packets.old.items }
     ensures told { IfSome rest.now (λ row. IsTold row (map mark_of packets.new.items)) }
     ensures others { (k : ℕ) → IsBeyond rest.now k → mark_at k (map mark_of packets.new.items) ≡ mark_at k (map mark_of packets.old.items) }
+    ensures capacity { deque_capacity packets.old ≤ deque_capacity packets.new }
 {
     match rest {
         Some(row) => set_ends(packets, 0, (row.last - row.first) as usize, *row),
@@ -194,6 +198,7 @@ pub(super) fn evict(
     ensures frames { first_mended result.1 result.2 (frames (map held_of packets.old.items)) ≡ frames (map held_of packets.new.items) }
     ensures some { IfSome result.1 (λ _. 0 < length (frames (map held_of packets.old.items))) }
     ensures told { AreTold (rows (map held_of packets.new.items)) (map mark_of packets.new.items) }
+    ensures capacity { deque_capacity packets.old ≤ deque_capacity packets.new }
 {
     let row = lowest_row(packets);
     let number = take_lowest(packets, spare);

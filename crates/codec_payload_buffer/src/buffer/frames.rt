@@ -1,6 +1,6 @@
 //! The complete frames among the held packets: an ordered list that is updated when packets arrive and leave.
 
-ghost use Rattle.std.specs.Prelude.{◌≡◌, ◌<◌, IfSome};
+ghost use Rattle.std.specs.Prelude.{◌≡◌, ◌≤◌, ◌<◌, ◌+◌, IfSome};
 ghost use Rattle.std.specs.VecDeque.{deque_len, deque_capacity};
 ghost use Rattle.codec_payload_buffer.specs.Rows.{EndsRise, frame_of_row, frame_place, noted_if, first_mended};
 
@@ -40,7 +40,9 @@ fn find_end(complete_frames: &VecDeque<CompleteFrame>, last: u64) -> usize
 pub(super) fn note(complete_frames: &mut VecDeque<CompleteFrame>, frame: Option<CompleteFrame>)
     requires rises { EndsRise complete_frames.old.items }
     requires room { deque_len complete_frames.old < deque_capacity complete_frames.old }
-    ensures { complete_frames.new.items ≡ noted_if frame complete_frames.old.items }
+    ensures items { complete_frames.new.items ≡ noted_if frame complete_frames.old.items }
+    ensures long { deque_len complete_frames.new ≤ deque_len complete_frames.old + 1 }
+    ensures capacity { deque_capacity complete_frames.old ≤ deque_capacity complete_frames.new }
 {
     if let Some(frame) = frame {
         let place = find_end(complete_frames, frame.last);
@@ -59,7 +61,9 @@ pub(super) fn mend_first(
     after: Option<CompleteFrame>,
 )
     requires { IfSome before (λ _. 0 < deque_len complete_frames.old) }
-    ensures { complete_frames.new.items ≡ first_mended before after complete_frames.old.items }
+    ensures items { complete_frames.new.items ≡ first_mended before after complete_frames.old.items }
+    ensures long { deque_len complete_frames.new ≤ deque_len complete_frames.old }
+    ensures capacity { deque_capacity complete_frames.old ≤ deque_capacity complete_frames.new }
 {
     match (before, after) {
         (Some(_), Some(frame)) => complete_frames[0] = frame,

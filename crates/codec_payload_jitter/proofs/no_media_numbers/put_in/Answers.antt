@@ -5,8 +5,8 @@ use Rattle.codec_payload_jitter.proofs.NoMediaLemmas.{below_within, in_already, 
 use Rattle.codec_payload_jitter.proofs.no_media_numbers.put_in.Goals.{else-place-len-via-then-place-len+else-index-number, else-place-len-via-else-place-len}
 use Rattle.codec_payload_jitter.proofs.no_media_numbers.put_in.Goals as goal
 
-pub returns-then-index-number-clause-ok : goal.returns-then-index-number-clause-ok
-returns-then-index-number-clause-ok c =
+pub returns-then-index-number : goal.returns-then-index-number
+returns-then-index-number c =
     let xs = c.args.no_media_numbers.now.items in
     let n = c.args.number in
     let place : c.place_in-place.result ≡ below n xs = c.place_in-place.ensures ∙ ap (below n) c.deref.ensures.value in
@@ -20,8 +20,8 @@ insert-requires c =
     let place : c.place_in-place.result ≡ below c.args.number xs = c.place_in-place.ensures ∙ ap (below c.args.number) c.deref.ensures.value in
     omega (arith, place, below_within c.args.number xs, c.args.no_media_numbers.now.ok.0)
 
-pub returns-in-Ok-clause-ok : goal.returns-in-Ok-clause-ok
-returns-in-Ok-clause-ok c =
+pub returns : goal.returns
+returns c =
     let xs = c.args.no_media_numbers.now.items in
     let n = c.args.number in
     let place : c.place_in-place.result ≡ below n xs = c.place_in-place.ensures ∙ ap (below n) c.deref.ensures.value in
@@ -31,4 +31,4 @@ returns-in-Ok-clause-ok c =
           in_anew d n xs (λ _ there. w.if-index-number.false (w.index.ensures ∙ ap (λ k. get_or xs k d) place ∙ there))
       | else-place-len-via-else-place-len w ↦ in_anew 0 n xs (λ l. absurd (omega (arith, l, place, w.if-place-len.false, c.args.no_media_numbers.now.ok.0)))
     ] in
-    c.in-Ok.ensures.items ∙ ap (λ k. insert xs k n) place ∙ put
+    rw c.unwrap.ensures at c.insert.ensures.items ∙ ap (λ k. insert xs k n) place ∙ put

@@ -54,7 +54,7 @@ mend_first-requires g c =
     ∙ ap (λ (r : Row). merged r (rows (map held_of c.reserve.new.self.items))) (c.row_of_packet.ensures ∙ ap row_of is)
     ∙ ap (λ (xs : List HeldPacket). merged (row_of packet) (rows (map held_of xs))) c.reserve.ensures.items in
     let frames_are : c.note.new.complete_frames.items ≡ frames (map held_of new) = pushed_frames packet hs (map held_of new) c.row_with-row.result c.frame_of.result c.reserve-2.new.self.items
-    c.note.new.complete_frames.items c.self.invariant.sound.rises fresh (c.reserve-2.ensures.items ∙ c.self.invariant.frames_are) put whole c.frame_of.ensures c.note.ensures in
+    c.note.new.complete_frames.items c.self.invariant.sound.rises fresh (c.reserve-2.ensures.items ∙ c.self.invariant.frames_are) put whole c.frame_of.ensures c.note.ensures.items in
     some_frames c.evict-number.result.1 (map held_of new) c.note.new.complete_frames.items _ c.note.new.complete_frames.ok.0 frames_are c.evict-number.ensures.some
 
 pub invariant_of-self-then-len-self : goal.invariant_of-self-then-len-self
@@ -75,14 +75,14 @@ invariant_of-self-then-len-self g c =
     ∙ ap (λ (r : Row). merged r (rows (map held_of c.reserve.new.self.items))) (c.row_of_packet.ensures ∙ ap row_of is)
     ∙ ap (λ (xs : List HeldPacket). merged (row_of packet) (rows (map held_of xs))) c.reserve.ensures.items in
     let frames_are : c.note.new.complete_frames.items ≡ frames (map held_of new) = pushed_frames packet hs (map held_of new) c.row_with-row.result c.frame_of.result c.reserve-2.new.self.items
-    c.note.new.complete_frames.items c.self.invariant.sound.rises fresh (c.reserve-2.ensures.items ∙ c.self.invariant.frames_are) put whole c.frame_of.ensures c.note.ensures in
+    c.note.new.complete_frames.items c.self.invariant.sound.rises fresh (c.reserve-2.ensures.items ∙ c.self.invariant.frames_are) put whole c.frame_of.ensures c.note.ensures.items in
     let out = lowest_out _ _ _ c.evict-number.ensures.lowest with.rises in
     record {
       sound = record { rises = out.rises; above = out.above; few = omega (arith, with.long, out.shorter, c.self.invariant.sound.few, length-map new held_of, length-map items held_of) };
       least = c.self.invariant.least;
       most = c.self.invariant.most;
       told = c.evict-number.ensures.told;
-      frames_are = c.mend_first.ensures ∙ ap (first_mended c.evict-number.result.1 c.evict-number.result.2) frames_are ∙ c.evict-number.ensures.frames;
+      frames_are = c.mend_first.ensures.items ∙ ap (first_mended c.evict-number.result.1 c.evict-number.result.2) frames_are ∙ c.evict-number.ensures.frames;
     }
 
 pub invariant_of-self-else-len-self : goal.invariant_of-self-else-len-self
@@ -103,7 +103,7 @@ invariant_of-self-else-len-self g c =
     ∙ ap (λ (r : Row). merged r (rows (map held_of c.reserve.new.self.items))) (c.row_of_packet.ensures ∙ ap row_of is)
     ∙ ap (λ (xs : List HeldPacket). merged (row_of packet) (rows (map held_of xs))) c.reserve.ensures.items in
     let frames_are : c.note.new.complete_frames.items ≡ frames (map held_of new) = pushed_frames packet hs (map held_of new) c.row_with-row.result c.frame_of.result c.reserve-2.new.self.items
-    c.note.new.complete_frames.items c.self.invariant.sound.rises fresh (c.reserve-2.ensures.items ∙ c.self.invariant.frames_are) put whole c.frame_of.ensures c.note.ensures in
+    c.note.new.complete_frames.items c.self.invariant.sound.rises fresh (c.reserve-2.ensures.items ∙ c.self.invariant.frames_are) put whole c.frame_of.ensures c.note.ensures.items in
     record {
       sound = record { rises = with.rises; above = with.above; few = omega (arith, c.if-len-self.false, c.len.ensures, length-map new held_of, c.place_at.new.packets.ok.0) };
       least = c.self.invariant.least;

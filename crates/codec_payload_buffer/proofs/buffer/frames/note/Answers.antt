@@ -7,14 +7,14 @@ use Rattle.codec_payload_buffer.proofs.buffer.frames.note.Goals as goal
 pub insert-requires : goal.insert-requires
 insert-requires c = omega (arith, c.find_end-place.ensures, frame_place_within c.in-Some.frame.last c.args.complete_frames.now.items, c.args.complete_frames.now.ok.0)
 
-pub returns-then-index-frame : goal.returns-then-index-frame
-returns-then-index-frame c =
+pub returns-then-index-frame-clause-items : goal.returns-then-index-frame-clause-items
+returns-then-index-frame-clause-items c =
     let items = c.args.complete_frames.now.items in
     let within : c.find_end-place.result < length items = omega (arith, c.if-place-len.true, c.len.ensures, c.args.complete_frames.now.ok.0) in
     rw c.in-Some.is (note_over c.find_end-place.result c.in-Some.frame c.index.result.now items c.find_end-place.ensures within c.index.ensures c.if-index-frame.true)
 
-pub returns-else-place-len : goal.returns-else-place-len
-returns-else-place-len c =
+pub returns-else-place-len-clause-items : goal.returns-else-place-len-clause-items
+returns-else-place-len-clause-items c =
     let items = c.args.complete_frames.now.items in
     let put = on_ok c.insert.result _ _ c.unwrap.ensures c.insert.ensures.items in
     rw c.in-Some.is (put ∙ note_new c.find_end-place.result c.in-Some.frame items c.find_end-place.ensures (λ l. elim c.else-place-len.branch [

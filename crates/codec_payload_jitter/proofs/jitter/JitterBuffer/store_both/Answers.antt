@@ -1,0 +1,40 @@
+use Rattle.std.proofs.Common.{◌≡◌, ◌∙◌, ap, sym, subst, refl, length}
+use Rattle.std.specs.Option.{option_map}
+use Rattle.codec_payload_jitter.specs.Receiving.{Receiving, IsConserved, arrival_of, counted, counted_again, counted_restart}
+use Rattle.codec_payload_jitter.specs.declared.outcome.PacketCounters.{PacketCounters}
+use Rattle.codec_payload_jitter.proofs.ReceivingLemmas.{conserved_both}
+use Rattle.codec_payload_jitter.proofs.RestartingLemmas.{stored_both}
+use Rattle.codec_payload_jitter.proofs.jitter.JitterBuffer.store_both.Goals as goal
+
+pub invariant_of-self-2 : goal.invariant_of-self-2
+invariant_of-self-2 g c =
+    let both = c.in_ok-outcomes.outcomes in
+    let counters : c.with_kept-self-inside.result ≡ counted_again (counted_restart (counted c.self.inside.counters both.0)) both.1 =
+    c.with_kept-self-inside.ensures ∙ (ap (λ (k : PacketCounters). counted_again k both.1) c.with_restart-counters.ensures
+    ∙ ap (λ (k : PacketCounters). counted_again (counted_restart k) both.1) c.with_outcome.ensures) in
+    let kept = conserved_both c.self.inside.clock_rate (arrival_of c.args.packet) c.args.number (arrival_of c.args.kept) c.kept_number-before.result c.self.inside.buffer c.store_two.new.buffer both
+    c.self.inside.counters c.in_ok-outcomes.ensures.takes c.self.invariant in
+    subst (λ (k : PacketCounters). IsConserved k (length c.store_two.new.buffer.held)) (sym counters) kept
+
+pub returns-clause-ok : goal.returns-clause-ok
+returns-clause-ok g c =
+    let r : Receiving = record {
+      numbering = c.self.inside.numbers;
+      buffer = c.self.inside.buffer;
+      no_media_numbers = c.self.inside.no_media_numbers.items;
+      noted = c.self.inside.noted_times;
+      kept = option_map arrival_of c.self.inside.kept;
+      rate = c.self.inside.clock_rate;
+      wait_limits = c.self.inside.wait_limits;
+      ended = c.self.inside.ended;
+      counters = c.self.inside.counters;
+      lowest = c.self.inside.lowest;
+      is_restarting = c.self.inside.is_restarting;
+      room = c.self.inside.room;
+    } in
+    let both = c.in_ok-outcomes.outcomes in
+    let counters : c.with_kept-self-inside.result ≡ counted_again (counted_restart (counted r.counters both.0)) both.1 =
+    c.with_kept-self-inside.ensures ∙ (ap (λ (k : PacketCounters). counted_again k both.1) c.with_restart-counters.ensures
+    ∙ ap (λ (k : PacketCounters). counted_again (counted_restart k) both.1) c.with_outcome.ensures) in
+    stored_both c.args.number (arrival_of c.args.packet) (arrival_of c.args.kept) r c.args.self.now _ c.store_two.new.buffer both c.note.new.self c.with_kept-self-inside.result c.self.view_is
+    (rw c.kept_number-before.ensures at c.in_ok-outcomes.ensures.takes) (rw c.backward-backward.ensures at c.note.ensures) counters refl

@@ -1,0 +1,167 @@
+//! The first packets after a restart: the suspect packet goes in with what confirms the restart. Where memory is wanting for one of
+//! them, nothing has changed.
+
+ghost use Rattle.std.specs.Prelude.{◌≡◌, IfOk, OnOk, OnErr, IfErr, Option};
+ghost use Rattle.std.specs.Option.{option_map};
+ghost use Rattle.codec_payload_base.specs.declared.error.PacketError.TheVariants.{OutOfMemory};
+ghost use Rattle.codec_payload_jitter.specs.Receiving.{Confirms, GoesInAgain, GoesOn, NotesAs, Restarts, TakesInBoth, arrival_of, counted, kept_number, meta_for, restarted, RestartsWith};
+ghost use Rattle.codec_payload_jitter.specs.NoMediaNumbers.{noted_no_media};
+ghost use Rattle.codec_payload_jitter.specs.declared.numbers.Extended.TheVariants as extended;
+ghost use Rattle.codec_payload_jitter.specs.declared.outcome.Outcome.TheVariants as outcomes;
+
+use super::{JitterBuffer, KeptPacket, meta_for, store};
+use crate::no_media_numbers::note_in_room;
+use crate::noted_times::NotedTime;
+use crate::numbers::kept_number;
+use crate::outcome::{Outcome, outcome_of, with_kept, with_outcome, with_restart};
+use codec_payload_base::error::PacketError;
+use codec_payload_base::wire::Frequency;
+use codec_payload_buffer::buffer::{DepacketizingBuffer, Incoming};
+use codec_payload_codec::codec::Depacketizer;
+use std::alloc::AllocError;
+
+impl<B: Depacketizer> JitterBuffer<B> {
+    /// Takes in the packet that confirms a restart, and the one before it, if that was kept: both, or neither.
+    pub(super) fn restart_with(
+        &mut self,
+        number: u64,
+        packet: KeptPacket,
+    ) -> Result<Outcome, PacketError>
+        ensures ok { IfOk result (λ outcome. Restarts number (arrival_of packet) self.old outcome self.new) }
+        ensures err { OnErr result (self.new ≡ self.old) }
+        ensures fault { IfErr result (λ f. f ≡ OutOfMemory) }
+    {
+        match self.copy_of_kept()? {
+            Some(kept) => {
+                self.store_both(number, packet, kept)?;
+                Ok(Outcome::Restarted(true))
+            }
+            None => {
+                self.store_and_note(number, packet)?;
+                self.count_restart();
+                Ok(Outcome::Restarted(false))
+            }
+        }
+    }
+
+    /// The sender has restarted with a number without media: the suspect packet goes in, if it was kept.
+    pub(super) fn restart_without_media(&mut self, number: u64) -> Result<(), PacketError>
+        ensures ok { OnOk result (NotesAs (extended.Restarted number) self.old self.new) }
+        ensures err { OnErr result (self.new ≡ self.old) }
+        ensures fault { IfErr result (λ f. f ≡ OutOfMemory) }
+    {
+        match self.copy_of_kept()? {
+            Some(kept) => self.note_and_store(number, kept),
+            None => {
+                self.note(number)?;
+                self.count_restart();
+                Ok(())
+            }
+        }
+    }
+
+    /// The suspect packet once more, if it was kept.
+    fn copy_of_kept(&self) -> Result<Option<KeptPacket>, AllocError>
+        ensures { IfOk result (λ kept. option_map arrival_of kept ≡ self.now.kept) }
+    {
+        match &self.kept {
+            Some(packet) => Ok(Some(copy_of(packet)?)),
+            None => Ok(None),
+        }
+    }
+
+    /// Takes in the packet that confirms a restart, and the suspect one before it.
+    fn store_both(
+        &mut self,
+        number: u64,
+        packet: KeptPacket,
+        kept: KeptPacket,
+    ) -> Result<(), PacketError>
+        ensures ok { OnOk result (RestartsWith number (arrival_of packet) (arrival_of kept) self.old self.new) }
+        ensures err { OnErr result (self.new ≡ self.old) }
+        ensures fault { IfErr result (λ f. f ≡ OutOfMemory) }
+    {
+        let noted = NotedTime {
+            number,
+            time: packet.header.timestamp,
+        };
+        let backward = self.numbers.backward();
+        let places = self.noted_times.first_places(backward, noted)?;
+        let before = kept_number(number, kept.header.sequence_number);
+        let outcomes = store_two(
+            &mut self.buffer,
+            self.clock_rate,
+            (packet, number),
+            (kept, before),
+        )?;
+        self.noted_times.note(places, backward, noted);
+        let counters = with_restart(with_outcome(self.counters, outcomes.0));
+        self.counters = with_kept(counters, outcomes.1);
+        self.kept = None;
+        Ok(())
+    }
+
+    /// Remembers a number without media, with which the sender has restarted, and takes in the suspect packet before it.
+    fn note_and_store(&mut self, number: u64, kept: KeptPacket) -> Result<(), PacketError>
+        ensures ok { OnOk result (GoesInAgain (arrival_of kept) (kept_number number kept.header.sequence_number) (restarted (record self.old { no_media_numbers = noted_no_media number self.old.no_media_numbers; counters = counted self.old.counters outcomes.NoMedia })) self.new) }
+        ensures err { OnErr result (self.new ≡ self.old) }
+        ensures fault { IfErr result (λ f. f ≡ OutOfMemory) }
+    {
+        self.no_media_numbers.reserve(1)?;
+        let before = kept_number(number, kept.header.sequence_number);
+        let outcome = store(&mut self.buffer, self.clock_rate, kept, before)?;
+        note_in_room(&mut self.no_media_numbers, number);
+        let counters = with_restart(with_outcome(self.counters, Outcome::NoMedia));
+        self.counters = with_kept(counters, outcome);
+        self.kept = None;
+        Ok(())
+    }
+
+    /// The sender has restarted once more. No packet is suspect any more.
+    fn count_restart(&mut self)
+        ensures { self.new ≡ restarted self.old }
+    {
+        self.counters = with_restart(self.counters);
+        self.kept = None;
+    }
+}
+
+/// The same packet once more. Takes memory for its payload.
+fn copy_of(packet: &KeptPacket) -> Result<KeptPacket, AllocError>
+    ensures { IfOk result (λ copy. arrival_of copy ≡ arrival_of packet.now) }
+{
+    Ok(KeptPacket {
+        received: packet.received,
+        header: packet.header,
+        payload: Vec::from_slice(*packet.payload.allocator(), &packet.payload)?,
+    })
+}
+
+/// The buffer takes two packets in, each under its number, or neither.
+fn store_two<B: Depacketizer>(
+    buffer: &mut DepacketizingBuffer<B>,
+    clock_rate: Frequency,
+    first: (KeptPacket, u64),
+    second: (KeptPacket, u64),
+) -> Result<(Outcome, Outcome), PacketError>
+    ensures takes { IfOk result (λ both. TakesInBoth clock_rate (arrival_of first.0) first.1 (arrival_of second.0) second.1 buffer.old both buffer.new) }
+    ensures err { OnErr result (buffer.new ≡ buffer.old) }
+    ensures fault { IfErr result (λ f. f ≡ OutOfMemory) }
+{
+    let places = buffer.store_two(
+        incoming(clock_rate, first.0, first.1),
+        incoming(clock_rate, second.0, second.1),
+    )?;
+    Ok((outcome_of(places.0), outcome_of(places.1)))
+}
+
+/// A packet of that number, as the buffer takes it in.
+fn incoming(clock_rate: Frequency, packet: KeptPacket, number: u64) -> Incoming
+    ensures meta { result.meta ≡ meta_for packet.received clock_rate packet.header number }
+    ensures payload { result.payload.items ≡ packet.payload.items }
+{
+    Incoming {
+        meta: meta_for(clock_rate, packet.received, packet.header, number),
+        payload: packet.payload,
+    }
+}
