@@ -5,3 +5,4 @@ pub mod MissingLemmas
 pub mod RunLemmas
 pub mod PressureLemmas
 pub mod RestartLemmas
+pub mod OwnLemmas

@@ -13,8 +13,8 @@ invariant_of-self g c =
     c.in-Ok.ensures.takes c.in-Ok.ensures.outcome c.self.invariant in
     subst (λ (k : PacketCounters). IsConserved k (length c.store.new.buffer.held)) (sym c.with_kept-self-inside.ensures) kept
 
-pub returns-in-Ok : goal.returns-in-Ok
-returns-in-Ok g c =
+pub returns-in-Ok-clause-again : goal.returns-in-Ok-clause-again
+returns-in-Ok-clause-again g c =
     let r : Receiving = record {
       numbering = c.self.inside.numbers;
       buffer = c.self.inside.buffer;
