@@ -13,6 +13,7 @@ pub mod receiver;
 #[doc(hidden)]
 pub mod reports;
 mod seen_times;
+mod unit_times;
 #[doc(hidden)]
 pub mod windows;
 

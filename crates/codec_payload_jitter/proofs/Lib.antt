@@ -6,3 +6,4 @@ pub mod RunLemmas
 pub mod PressureLemmas
 pub mod RestartLemmas
 pub mod RestartingLemmas
+pub mod OwnLemmas

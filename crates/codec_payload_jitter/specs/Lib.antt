@@ -7,3 +7,4 @@ pub mod Receiving
 pub mod Restarts
 pub mod Runs
 pub mod Waiting
+pub mod OwnReceiving

@@ -1,9 +1,11 @@
 //! The earlier packets that a RED packet repeats in its redundant blocks.
 
-ghost use Rattle.std.specs.Prelude.{◌≡◌, IfOk, map};
+ghost use Rattle.std.specs.Prelude.{◌≡◌, IfOk, map, false};
 ghost use Rattle.std.specs.Option.{option_map};
 ghost use Rattle.codec_payload_red.specs.RedBlocks.{block_of, blocks_of};
 ghost use Rattle.std.specs.List.{filter_map};
+ghost use Rattle.codec_payload_codec.specs.Depacketizers.{is_built_in_depacketizer};
+ghost use Rattle.codec_payload_jitter.specs.OwnReceiving.{OwnStores};
 ghost use Rattle.codec_payload_stream.specs.Kinds.{carrier_of};
 ghost use Rattle.codec_payload_stream.specs.Sessions.{RecoversAll, all_carried, block_seen, carried, copied};
 
@@ -81,7 +83,8 @@ pub(crate) fn recover_all<B: Depacketizer>(
     now: Ticks,
     mut copies: VecDeque<BlockCopy>,
 ) -> bool
-    ensures { RecoversAll result (map (copied now) copies.items) (record { packets = packets.old; seen = seen.old }) (record { packets = packets.new; seen = seen.new }) }
+    ensures all { RecoversAll result (map (copied now) copies.items) (record { packets = packets.old; seen = seen.old }) (record { packets = packets.new; seen = seen.new }) }
+    ensures own { is_built_in_depacketizer packets.old.buffer.depacketizer ≡ false → OwnStores B.is_head B.is_tail packets.old.buffer packets.new.buffer }
 {
     while let Some(copy) = copies.pop_front() {
         let time = copy.header.timestamp;

@@ -1,9 +1,11 @@
 //! Which datagrams belong to a stream, and how they reach its jitter buffer.
 
-ghost use Rattle.std.specs.Prelude.{◌≡◌, IfOk, OnErr, IfErr, true};
+ghost use Rattle.std.specs.Prelude.{◌≡◌, IfOk, OnErr, IfErr, true, false};
 ghost use Rattle.codec_payload_base.specs.declared.error.PacketError.TheVariants.{OutOfMemory};
 ghost use Rattle.codec_payload_red.specs.RedRecovery.{packet_of as recovered_of};
 ghost use Rattle.codec_payload_rtp.specs.RtpValues.{header_of, packet_of};
+ghost use Rattle.codec_payload_codec.specs.Depacketizers.{is_built_in_depacketizer};
+ghost use Rattle.codec_payload_jitter.specs.OwnReceiving.{OwnStores};
 ghost use Rattle.codec_payload_jitter.specs.Receiving.{Receives, ReceivesAgain};
 ghost use Rattle.codec_payload_stream.specs.Kinds.{again_kind, block_header, carrier_of, datagram_at, datagram_of, header_for, is_among, is_other, is_padding_only, is_sent_again, kind_for, media_kind, original_header, original_of, red_kind, red_of, retransmitted_under, ssrc_or, under};
 ghost use Rattle.codec_payload_stream.specs.Sessions.{TakesAgain, TakesDatagram, TakesMedia, TakesPrimary, TakesRed, is_own_media, is_repeat, is_restart, is_suspect, observed_in, packet_seen, ssrc_after};
@@ -325,6 +327,7 @@ impl Stream {
         ensures ok { IfOk result (λ outcome. Receives (record { now = now; header = header_for self.now (header_of header.now); bytes = payload.now }) packets.old outcome packets.new) }
         ensures err { OnErr result (packets.new ≡ packets.old) }
         ensures fault { IfErr result (λ f. f ≡ OutOfMemory) }
+        ensures own { is_built_in_depacketizer packets.old.buffer.depacketizer ≡ false → OwnStores B.is_head B.is_tail packets.old.buffer packets.new.buffer }
     {
         let payload = Vec::from_slice(self.alloc, payload)?;
         packets.push(now, self.header_for(header), payload)
@@ -340,6 +343,7 @@ impl Stream {
         ensures ok { IfOk result (λ outcome. ReceivesAgain (record { now = now; header = original_header self.now (original_of sent.now); bytes = sent.now.payload.now }) packets.old outcome packets.new) }
         ensures err { OnErr result (packets.new ≡ packets.old) }
         ensures fault { IfErr result (λ f. f ≡ OutOfMemory) }
+        ensures own { is_built_in_depacketizer packets.old.buffer.depacketizer ≡ false → OwnStores B.is_head B.is_tail packets.old.buffer packets.new.buffer }
     {
         let payload = Vec::from_slice(self.alloc, sent.payload)?;
         let mut header = self.header_for(&sent.header);
@@ -381,6 +385,7 @@ impl Stream {
         ensures ok { IfOk result (λ outcome. TakesPrimary self.now now (carrier_of red.now) seen.now packets.old outcome packets.new) }
         ensures err { OnErr result (packets.new ≡ packets.old) }
         ensures fault { IfErr result (λ f. f ≡ OutOfMemory) }
+        ensures own { is_built_in_depacketizer packets.old.buffer.depacketizer ≡ false → OwnStores B.is_head B.is_tail packets.old.buffer packets.new.buffer }
     {
         let header = &red.packet.header;
         let (time, number) = (header.timestamp, header.sequence_number);
@@ -418,6 +423,7 @@ impl Stream {
         ensures ok { IfOk result (λ taken. TakesRed self.now now (carrier_of red.now) (record { packets = packets.old; seen = seen.old }) taken.outcome taken.whole (record { packets = packets.new; seen = seen.new })) }
         ensures err { OnErr result ((packets.new ≡ packets.old) × (seen.new ≡ seen.old)) }
         ensures fault { IfErr result (λ f. f ≡ OutOfMemory) }
+        ensures own { is_built_in_depacketizer packets.old.buffer.depacketizer ≡ false → OwnStores B.is_head B.is_tail packets.old.buffer packets.new.buffer }
     {
         let copies = copy_blocks(self, red)?;
         let outcome = self.push_primary(packets, seen, now, red)?;
@@ -446,6 +452,7 @@ impl Stream {
             (record { now = now; header = header_for self.now (header_of packet.now.header); bytes = packet.now.payload.now }) packets.old outcome packets.new) }
         ensures err { OnErr result (packets.new ≡ packets.old) }
         ensures fault { IfErr result (λ f. f ≡ OutOfMemory) }
+        ensures own { is_built_in_depacketizer packets.old.buffer.depacketizer ≡ false → OwnStores B.is_head B.is_tail packets.old.buffer packets.new.buffer }
     {
         let header = &packet.header;
         if self.is_repeat(seen, packets, header.timestamp, header.sequence_number) {
@@ -467,6 +474,7 @@ impl Stream {
             (record { now = now; header = original_header self.now (original_of sent.now); bytes = sent.now.payload.now }) packets.old outcome packets.new) }
         ensures err { OnErr result (packets.new ≡ packets.old) }
         ensures fault { IfErr result (λ f. f ≡ OutOfMemory) }
+        ensures own { is_built_in_depacketizer packets.old.buffer.depacketizer ≡ false → OwnStores B.is_head B.is_tail packets.old.buffer packets.new.buffer }
     {
         if self.is_repeat(seen, packets, sent.header.timestamp, sent.number) {
             packets.push_no_media(sent.number)?;
@@ -486,6 +494,7 @@ impl Stream {
         ensures ok { IfOk result (λ taken. TakesDatagram self.now now (datagram_of datagram.now) (record { packets = packets.old; seen = seen.old }) taken.outcome taken.whole (record { packets = packets.new; seen = seen.new })) }
         ensures err { OnErr result ((packets.new ≡ packets.old) × (seen.new ≡ seen.old)) }
         ensures fault { IfErr result (λ f. f ≡ OutOfMemory) }
+        ensures own { is_built_in_depacketizer packets.old.buffer.depacketizer ≡ false → OwnStores B.is_head B.is_tail packets.old.buffer packets.new.buffer }
     {
         let outcome = match datagram {
             Datagram::Red(red) => return self.push_red(packets, seen, now, red),

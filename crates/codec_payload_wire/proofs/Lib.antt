@@ -6,3 +6,4 @@ pub mod ReceivingLemmas
 pub mod ReleaseLemmas
 pub mod SendingLemmas
 pub mod StepLemmas
+pub mod WireRunExamples

@@ -1,2 +1,3 @@
 pub mod WireRuns
 pub mod Releases
+pub mod WireRunExample

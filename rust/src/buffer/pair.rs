@@ -16,14 +16,14 @@ use crate::memory::{One, TryQueue};
 use alloc::collections::VecDeque;
 use alloc::vec::Vec;
 
-/// What is known of a packet, and its payload.
+/// The metadata of a packet, and its payload.
 #[derive(Debug)]
 pub struct Incoming {
     pub meta: RtpMeta,
     pub payload: Vec<u8>,
 }
 
-/// The number up to which packets come too late, and how many are held at most.
+/// The number up to which packets are late, and the largest number of held packets.
 #[derive(Clone, Copy, Debug)]
 struct Bounds {
     cutoff: Option<u64>,
@@ -31,8 +31,12 @@ struct Bounds {
 }
 
 impl<B: Depacketizer> DepacketizingBuffer<B> {
-    /// Stores two packets, one after the other, each as [`DepacketizingBuffer::store`] does, and says what became of each. The
-    /// only fault is want of memory; then neither is stored. Takes memory for both, also for one that is dropped.
+    /// Stores two packets, one after the other, as [`DepacketizingBuffer::store`] does, and returns the result for each.
+    /// Allocates for both, also for one that is dropped.
+    ///
+    /// # Errors
+    ///
+    /// Out of memory: neither packet is stored.
     pub fn store_two(
         &mut self,
         first: Incoming,
@@ -70,12 +74,12 @@ impl<B: Depacketizer> DepacketizingBuffer<B> {
     }
 }
 
-/// Whether a packet was evicted now or before.
+/// Returns whether a packet was evicted now or before.
 fn is_marked(gone: Option<u64>, before: bool) -> bool {
     gone.is_some() || before
 }
 
-/// A packet as it is held. Takes memory for it.
+/// Returns a packet as it is held. Allocates.
 fn entry_of<B: Depacketizer>(
     spare: &mut Vec<One<Packet>>,
     depacketizer: &CodecDepacketizer<B>,
@@ -88,7 +92,7 @@ fn entry_of<B: Depacketizer>(
     Ok(hold(spare, packet)?)
 }
 
-/// Stores a packet whose memory was found before. Says what became of it, and the number of the packet that was evicted.
+/// Stores a packet for which there is memory. Returns the result, and the number of the packet that was evicted.
 fn store_entry(
     packets: &mut VecDeque<HeldPacket>,
     complete_frames: &mut VecDeque<CompleteFrame>,

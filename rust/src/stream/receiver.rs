@@ -20,6 +20,7 @@ use crate::stream::datagram::{
 use crate::stream::gated::{follow, follow_into, gate_for};
 use crate::stream::reports::{ReceptionReport, ReceptionStatistics};
 use crate::stream::seen_times::SeenTimes;
+use crate::stream::unit_times::{extend_into, extend_with};
 use crate::wire::{Frequency, Ticks};
 use alloc::vec::Vec;
 use core::fmt;
@@ -688,19 +689,5 @@ fn answer_for(datagram: &Datagram<'_>, taken: Taken) -> Result<Outcome, ReceiveE
         Datagram::Malformed(malformation) => Err(error_of(*malformation)),
         Datagram::Red(_) if !taken.whole => Err(ReceiveError::BlocksOutOfMemory),
         _ => Ok(taken.outcome),
-    }
-}
-
-/// Extends the RTP time of a released unit.
-fn extend_with(times: &mut RtpTimes, answer: &Option<Result<Depacketized, PacketError>>) {
-    if let Some(Ok(unit)) = answer {
-        times.extend((unit.time.numer() % (1 << 32)) as u32);
-    }
-}
-
-/// Does the same for a unit that was released into the caller's memory.
-fn extend_into(times: &mut RtpTimes, answer: &Option<Result<UnitInfo, PacketError>>) {
-    if let Some(Ok(unit)) = answer {
-        times.extend((unit.time.numer() % (1 << 32)) as u32);
     }
 }

@@ -1,4 +1,4 @@
-//! A sender and a receiver of VP8.
+//! A sender and a receiver of VP8, and their settings.
 
 use crate::Fail;
 use codec_payload::codec::{CodecDepacketizer, CodecPacketizer, NoBox};
@@ -9,11 +9,9 @@ use codec_payload::sender::{Sender, SenderSettings};
 use codec_payload::stream::receiver::{Receiver, ReceiverSettings};
 use codec_payload::wire::{Codec, ExtensionValues, Frequency, MediaTime, Pt, Ticks, ToPayload};
 
-/// A sender from number 65,535 on. A payload has at most three bytes; the first is its descriptor (RFC 7741, section 4.2), so a
-/// frame of three bytes gives two datagrams.
-pub fn sender_of() -> Result<Sender<NoBox>, Fail> {
-    let pack = CodecPacketizer::from_codec(Codec::Vp8).ok_or("no packetizer")?;
-    let settings = SenderSettings {
+/// Of a sender from number 65,535 on.
+pub fn sender_settings() -> Result<SenderSettings, Fail> {
+    Ok(SenderSettings {
         ssrc: 7,
         payload_type: 96,
         first_number: 65_535,
@@ -21,14 +19,19 @@ pub fn sender_of() -> Result<Sender<NoBox>, Fail> {
         mtu: 3,
         tailroom: 0,
         extension_ids: ExtensionIds::default(),
-    };
-    Ok(Sender::new(pack, settings).map_err(|_| "settings out of range")?)
+    })
 }
 
-/// A receiver of what that sender sends.
-pub fn receiver_of(wait_limits: WaitLimits) -> Result<Receiver<NoBox>, Fail> {
-    let depack = CodecDepacketizer::from_codec(Codec::Vp8).ok_or("no depacketizer")?;
-    let settings = ReceiverSettings {
+/// A sender. A payload has at most three bytes; the first is its descriptor (RFC 7741, section 4.2), so a frame of three bytes gives
+/// two datagrams.
+pub fn sender_of() -> Result<Sender<NoBox>, Fail> {
+    let pack = CodecPacketizer::from_codec(Codec::Vp8).ok_or("no packetizer")?;
+    Ok(Sender::new(pack, sender_settings()?).map_err(|_| "settings out of range")?)
+}
+
+/// Of a receiver of what that sender sends.
+pub fn receiver_settings(wait_limits: WaitLimits) -> Result<ReceiverSettings, Fail> {
+    Ok(ReceiverSettings {
         payload_type: 96,
         no_media: Vec::new(),
         ssrc: Some(7),
@@ -42,8 +45,14 @@ pub fn receiver_of(wait_limits: WaitLimits) -> Result<Receiver<NoBox>, Fail> {
         forward: 3_000,
         backward: 1_000,
         from_keyframe: FromKeyframe::Mark,
-    };
-    Ok(Receiver::new(depack, settings).map_err(|_| "settings out of range")?)
+    })
+}
+
+/// A receiver of VP8.
+pub fn receiver_of(wait_limits: WaitLimits) -> Result<Receiver<NoBox>, Fail> {
+    let depack = CodecDepacketizer::from_codec(Codec::Vp8).ok_or("no depacketizer")?;
+    Ok(Receiver::new(depack, receiver_settings(wait_limits)?)
+        .map_err(|_| "settings out of range")?)
 }
 
 /// A frame at that many ticks of 90 kHz.

@@ -25,14 +25,14 @@ use codec_payload_codec::codec::{CodecDepacketizer, Depacketizer};
 use std::alloc::Global;
 use std::collections::VecDeque;
 
-/// What is known of a packet, and its payload.
+/// The metadata of a packet, and its payload.
 #[derive(Debug, Drop)]
 pub struct Incoming {
     pub meta: RtpMeta,
     pub payload: Vec<u8>,
 }
 
-/// The number up to which packets come too late, and how many are held at most.
+/// The number up to which packets are late, and the largest number of held packets.
 #[derive(Clone, Copy, Debug)]
 struct Bounds {
     cutoff: Option<u64>,
@@ -40,8 +40,12 @@ struct Bounds {
 }
 
 impl<B: Depacketizer> DepacketizingBuffer<B> {
-    /// Stores two packets, one after the other, each as [`DepacketizingBuffer::store`] does, and says what became of each. The
-    /// only fault is want of memory; then neither is stored. Takes memory for both, also for one that is dropped.
+    /// Stores two packets, one after the other, as [`DepacketizingBuffer::store`] does, and returns the result for each.
+    /// Allocates for both, also for one that is dropped.
+    ///
+    /// # Errors
+    ///
+    /// Out of memory: neither packet is stored.
     pub fn store_two(
         &mut self,
         first: Incoming,
@@ -51,7 +55,7 @@ impl<B: Depacketizer> DepacketizingBuffer<B> {
         ensures err { OnErr result (self.new ≡ self.old) }
         ensures fault { IfErr result (λ f. f ≡ OutOfMemory) }
         ensures limit { self.new.limit ≡ self.old.limit }
-        // A depacketizer that the caller brings tells whether the packets begin and end a unit.
+        // A custom depacketizer decides whether the packets begin and end a unit.
         ensures own { is_built_in_depacketizer self.old.depacketizer ≡ false → OnOk result ((b : B) × (self.new ≡ pushed (pushed self.old (arrived_by (B.is_head b) (B.is_tail b) first.meta first.payload.items)) (arrived_by (B.is_head b) (B.is_tail b) second.meta second.payload.items))) }
     {
         self.packets.reserve(2)?;
@@ -87,14 +91,14 @@ impl<B: Depacketizer> DepacketizingBuffer<B> {
     }
 }
 
-/// Whether a packet was evicted now or before.
+/// Returns whether a packet was evicted now or before.
 fn is_marked(gone: Option<u64>, before: bool) -> bool
     ensures { result ≡ (is_there gone || before) }
 {
     gone.is_some() || before
 }
 
-/// A packet as it is held. Takes memory for it.
+/// Returns a packet as it is held. Allocates.
 fn entry_of<B: Depacketizer>(
     alloc: Global,
     spare: &mut Vec<Box<Packet>>,
@@ -112,7 +116,7 @@ fn entry_of<B: Depacketizer>(
     Ok(hold(spare, packet)?)
 }
 
-/// Stores a packet whose memory was found before. Says what became of it, and the number of the packet that was evicted.
+/// Stores a packet for which there is memory. Returns the result, and the number of the packet that was evicted.
 fn store_entry(
     packets: &mut VecDeque<HeldPacket>,
     complete_frames: &mut VecDeque<CompleteFrame>,

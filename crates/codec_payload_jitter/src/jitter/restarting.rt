@@ -1,11 +1,13 @@
-//! The first packets after a restart: the suspect packet goes in with what confirms the restart. Where memory is wanting for one of
-//! them, nothing has changed.
+//! The first packets after a restart: the suspect packet is stored with the packet that confirms the restart. If memory runs out
+//! for one of them, nothing changes.
 
-ghost use Rattle.std.specs.Prelude.{◌≡◌, IfOk, OnOk, OnErr, IfErr, Option};
+ghost use Rattle.std.specs.Prelude.{◌≡◌, IfOk, OnOk, OnErr, IfErr, Option, false};
 ghost use Rattle.std.specs.Option.{option_map};
 ghost use Rattle.codec_payload_base.specs.declared.error.PacketError.TheVariants.{OutOfMemory};
 ghost use Rattle.codec_payload_jitter.specs.Receiving.{Confirms, GoesInAgain, GoesOn, NotesAs, Restarts, TakesInBoth, arrival_of, counted, kept_number, meta_for, restarted, RestartsWith};
+ghost use Rattle.codec_payload_codec.specs.Depacketizers.{is_built_in_depacketizer};
 ghost use Rattle.codec_payload_jitter.specs.NoMediaNumbers.{noted_no_media};
+ghost use Rattle.codec_payload_jitter.specs.OwnReceiving.{OwnStores};
 ghost use Rattle.codec_payload_jitter.specs.declared.numbers.Extended.TheVariants as extended;
 ghost use Rattle.codec_payload_jitter.specs.declared.outcome.Outcome.TheVariants as outcomes;
 
@@ -21,7 +23,7 @@ use codec_payload_codec::codec::Depacketizer;
 use std::alloc::AllocError;
 
 impl<B: Depacketizer> JitterBuffer<B> {
-    /// Takes in the packet that confirms a restart, and the one before it, if that was kept: both, or neither.
+    /// Stores the packet that confirms a restart, and the suspect packet before it, if one was kept: both, or neither.
     pub(super) fn restart_with(
         &mut self,
         number: u64,
@@ -30,6 +32,7 @@ impl<B: Depacketizer> JitterBuffer<B> {
         ensures ok { IfOk result (λ outcome. Restarts number (arrival_of packet) self.old outcome self.new) }
         ensures err { OnErr result (self.new ≡ self.old) }
         ensures fault { IfErr result (λ f. f ≡ OutOfMemory) }
+        ensures own { is_built_in_depacketizer self.old.buffer.depacketizer ≡ false → OwnStores B.is_head B.is_tail self.old.buffer self.new.buffer }
     {
         match self.copy_of_kept()? {
             Some(kept) => {
@@ -44,11 +47,12 @@ impl<B: Depacketizer> JitterBuffer<B> {
         }
     }
 
-    /// The sender has restarted with a number without media: the suspect packet goes in, if it was kept.
+    /// Notes a number without media that confirms a restart, and stores the suspect packet before it, if one was kept.
     pub(super) fn restart_without_media(&mut self, number: u64) -> Result<(), PacketError>
         ensures ok { OnOk result (NotesAs (extended.Restarted number) self.old self.new) }
         ensures err { OnErr result (self.new ≡ self.old) }
         ensures fault { IfErr result (λ f. f ≡ OutOfMemory) }
+        ensures own { is_built_in_depacketizer self.old.buffer.depacketizer ≡ false → OwnStores B.is_head B.is_tail self.old.buffer self.new.buffer }
     {
         match self.copy_of_kept()? {
             Some(kept) => self.note_and_store(number, kept),
@@ -60,7 +64,7 @@ impl<B: Depacketizer> JitterBuffer<B> {
         }
     }
 
-    /// The suspect packet once more, if it was kept.
+    /// Returns a copy of the suspect packet, if one was kept.
     fn copy_of_kept(&self) -> Result<Option<KeptPacket>, AllocError>
         ensures { IfOk result (λ kept. option_map arrival_of kept ≡ self.now.kept) }
     {
@@ -70,7 +74,7 @@ impl<B: Depacketizer> JitterBuffer<B> {
         }
     }
 
-    /// Takes in the packet that confirms a restart, and the suspect one before it.
+    /// Stores the packet that confirms a restart, and the suspect packet before it.
     fn store_both(
         &mut self,
         number: u64,
@@ -80,6 +84,7 @@ impl<B: Depacketizer> JitterBuffer<B> {
         ensures ok { OnOk result (RestartsWith number (arrival_of packet) (arrival_of kept) self.old self.new) }
         ensures err { OnErr result (self.new ≡ self.old) }
         ensures fault { IfErr result (λ f. f ≡ OutOfMemory) }
+        ensures own { is_built_in_depacketizer self.old.buffer.depacketizer ≡ false → OwnStores B.is_head B.is_tail self.old.buffer self.new.buffer }
     {
         let noted = NotedTime {
             number,
@@ -101,11 +106,12 @@ impl<B: Depacketizer> JitterBuffer<B> {
         Ok(())
     }
 
-    /// Remembers a number without media, with which the sender has restarted, and takes in the suspect packet before it.
+    /// Notes a number without media that confirms a restart, and stores the suspect packet before it.
     fn note_and_store(&mut self, number: u64, kept: KeptPacket) -> Result<(), PacketError>
         ensures ok { OnOk result (GoesInAgain (arrival_of kept) (kept_number number kept.header.sequence_number) (restarted (record self.old { no_media_numbers = noted_no_media number self.old.no_media_numbers; counters = counted self.old.counters outcomes.NoMedia })) self.new) }
         ensures err { OnErr result (self.new ≡ self.old) }
         ensures fault { IfErr result (λ f. f ≡ OutOfMemory) }
+        ensures own { is_built_in_depacketizer self.old.buffer.depacketizer ≡ false → OwnStores B.is_head B.is_tail self.old.buffer self.new.buffer }
     {
         self.no_media_numbers.reserve(1)?;
         let before = kept_number(number, kept.header.sequence_number);
@@ -117,7 +123,7 @@ impl<B: Depacketizer> JitterBuffer<B> {
         Ok(())
     }
 
-    /// The sender has restarted once more. No packet is suspect any more.
+    /// Counts a restart. No packet is suspect any more.
     fn count_restart(&mut self)
         ensures { self.new ≡ restarted self.old }
     {
@@ -126,7 +132,7 @@ impl<B: Depacketizer> JitterBuffer<B> {
     }
 }
 
-/// The same packet once more. Takes memory for its payload.
+/// Copies a packet. Allocates for its payload.
 fn copy_of(packet: &KeptPacket) -> Result<KeptPacket, AllocError>
     ensures { IfOk result (λ copy. arrival_of copy ≡ arrival_of packet.now) }
 {
@@ -137,7 +143,7 @@ fn copy_of(packet: &KeptPacket) -> Result<KeptPacket, AllocError>
     })
 }
 
-/// The buffer takes two packets in, each under its number, or neither.
+/// Stores two packets in the buffer, each under its number, or neither.
 fn store_two<B: Depacketizer>(
     buffer: &mut DepacketizingBuffer<B>,
     clock_rate: Frequency,
@@ -147,6 +153,7 @@ fn store_two<B: Depacketizer>(
     ensures takes { IfOk result (λ both. TakesInBoth clock_rate (arrival_of first.0) first.1 (arrival_of second.0) second.1 buffer.old both buffer.new) }
     ensures err { OnErr result (buffer.new ≡ buffer.old) }
     ensures fault { IfErr result (λ f. f ≡ OutOfMemory) }
+    ensures own { is_built_in_depacketizer buffer.old.depacketizer ≡ false → OwnStores B.is_head B.is_tail buffer.old buffer.new }
 {
     let places = buffer.store_two(
         incoming(clock_rate, first.0, first.1),
@@ -155,7 +162,7 @@ fn store_two<B: Depacketizer>(
     Ok((outcome_of(places.0), outcome_of(places.1)))
 }
 
-/// A packet of that number, as the buffer takes it in.
+/// Returns a packet with this number, as the buffer takes it.
 fn incoming(clock_rate: Frequency, packet: KeptPacket, number: u64) -> Incoming
     ensures meta { result.meta ≡ meta_for packet.received clock_rate packet.header number }
     ensures payload { result.payload.items ≡ packet.payload.items }

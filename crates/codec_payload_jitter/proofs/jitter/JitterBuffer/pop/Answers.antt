@@ -1,9 +1,12 @@
-use Rattle.std.proofs.Common.{◌≡◌, ◌≤◌, ◌∙◌, ap, sym, subst, arith, length, None, Option, Result}
+use Rattle.std.proofs.Common.{◌≡◌, ◌≤◌, ℕ, false, Some, ◌∙◌, ap, sym, subst, arith, length, None, Option, Result}
 use Rattle.codec_payload_base.specs.declared.error.PacketError.{PacketError}
+use Rattle.codec_payload_codec.specs.Depacketizers.{is_built_in_depacketizer}
 use Rattle.codec_payload_buffer.specs.Frames.{frames}
 use Rattle.codec_payload_buffer.specs.Release.{Release}
-use Rattle.codec_payload_buffer.specs.Steps.{State, Pops}
-use Rattle.codec_payload_jitter.specs.Receiving.{Receiving, is_pressed, waiting_at}
+use Rattle.codec_payload_buffer.specs.Steps.{State, OwnPops, Pops}
+use Rattle.codec_payload_jitter.specs.Receiving.{Receiving, is_pressed, settled, waiting_at}
+use Rattle.codec_payload_jitter.specs.OwnReceiving.{OwnPopsWith}
+use Rattle.codec_payload_jitter.proofs.OwnLemmas.{settled_stays}
 use Rattle.codec_payload_jitter.proofs.ReceivingLemmas.{pressed_waits_for_none}
 use Rattle.codec_payload_jitter.proofs.PressureLemmas.{crowded_presses, crowded_waits, none_left, settled_holds, taken_from}
 use Rattle.codec_payload_jitter.proofs.jitter.JitterBuffer.pop.Goals as goal
@@ -40,3 +43,16 @@ returns-clause-fewer g c =
 
 pub returns-in_default-clause-crowded : goal.returns-in_default-clause-crowded
 returns-in_default-clause-crowded g c = λ crowded none. absurd (crowded_waits c.args.self.now c.args.now.0 crowded (ap (λ (r : Receiving). waiting_at r c.args.now.0) (sym c.settle.ensures) ∙ (sym c.waiting.ensures ∙ c.in_default.is)))
+
+pub returns-clause-own : goal.returns-clause-own
+returns-clause-own g c = λ other.
+    let h : ℕ = c.in-Some.hold_back in
+    let r : Receiving = settled c.args.self.now in
+    let answer = c.pop-answer.result in
+    let set : c.set_hold_back.new.self ≡ record r.buffer { hold_back = h } =
+    c.set_hold_back.ensures ∙ ap (λ (x : Receiving). record x.buffer { hold_back = h }) (c.self.view_is ∙ c.settle.ensures) in
+    let custom : is_built_in_depacketizer c.set_hold_back.new.self.depacketizer ≡ false =
+    ap (λ (x : State). is_built_in_depacketizer x.depacketizer) set ∙ (ap is_built_in_depacketizer (settled_stays c.args.self.now) ∙ other) in
+    let waits : waiting_at r c.args.now.0 ≡ Some h = ap (λ (x : Receiving). waiting_at x c.args.now.0) (sym c.settle.ensures) ∙ (sym c.waiting.ensures ∙ c.in-Some.is) in
+    subst (λ (w : Option ℕ). OwnPopsWith g.B.Depacketizer.state g.B.Depacketizer.depacketize_step w r answer) (sym waits)
+    (subst (λ (x : State). OwnPops g.B.Depacketizer.state g.B.Depacketizer.depacketize_step x answer) set (c.pop-answer.ensures.own custom))

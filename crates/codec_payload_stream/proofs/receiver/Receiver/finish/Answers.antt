@@ -3,8 +3,8 @@ use Rattle.codec_payload_jitter.specs.Receiving.{Receiving}
 use Rattle.codec_payload_stream.specs.Sessions.{Session, ended}
 use Rattle.codec_payload_stream.proofs.receiver.Receiver.finish.Goals as goal
 
-pub returns : goal.returns
-returns g c =
+pub returns-clause-finished : goal.returns-clause-finished
+returns-clause-finished g c =
     let s : Session = record {
       stream = c.self.inside.stream;
       named = c.self.inside.named;
@@ -20,6 +20,6 @@ returns g c =
     } in (
       c.settle_first-with_memory.result,
       c.settle_first-with_memory.new.self,
-      c.settle_first-with_memory.ensures,
+      c.settle_first-with_memory.ensures.settled,
       ap (λ (p : Receiving). record s { packets = p }) c.finish.ensures ∙ ap ended c.self.view_is,
     )

@@ -15,8 +15,8 @@ invariant_of-self-2 g c =
     takes_balanced c.self.inside.stream c.args.now c.self.inside.arrived d (record { packets = c.self.inside.packets; seen = c.self.inside.seen }) (record { packets = c.take.new.packets; seen = c.take.new.seen }) c.in-Ok-take.taken.outcome c.in-Ok-take.taken.whole c.in-Ok-take.ensures.ok c.self.invariant in
     subst (λ (a : Arrived). IsSorted a c.take.new.packets.counters) (sym c.with_datagram-self-inside.ensures) kept
 
-pub returns : goal.returns
-returns g c =
+pub returns-clause-heard : goal.returns-clause-heard
+returns-clause-heard g c =
     let s : Session = record {
       stream = c.self.inside.stream;
       named = c.self.inside.named;

@@ -1,0 +1,28 @@
+//! What a receiver learns from each pop of the RTP times of units.
+
+ghost use Rattle.std.specs.Prelude.{◌≡◌, ℕ, List};
+ghost use Rattle.codec_payload_buffer.specs.Steps.{popped_into};
+ghost use Rattle.codec_payload_buffer.specs.declared.buffer.unit.RtpMeta.{RtpMeta};
+ghost use Rattle.codec_payload_stream.specs.Sessions.{time_with};
+
+use codec_payload_base::error::PacketError;
+use codec_payload_buffer::buffer::{Depacketized, UnitInfo};
+use codec_payload_rtp::times::RtpTimes;
+
+/// Extends the RTP time of a unit that came out.
+pub(crate) fn extend_with(times: &mut RtpTimes, answer: &Option<Result<Depacketized, PacketError>>)
+    ensures { times.new ≡ time_with times.old answer.now }
+{
+    if let Some(Ok(unit)) = answer {
+        times.extend((unit.time.numer() % (1 << 32)) as u32);
+    }
+}
+
+/// The same of one that came out into memory of the caller's.
+pub(crate) fn extend_into(times: &mut RtpTimes, answer: &Option<Result<UnitInfo, PacketError>>)
+    ensures { (bytes : List ℕ) (metas : List RtpMeta) → times.new ≡ time_with times.old (popped_into answer.now bytes metas) }
+{
+    if let Some(Ok(unit)) = answer {
+        times.extend((unit.time.numer() % (1 << 32)) as u32);
+    }
+}

@@ -1,0 +1,9 @@
+//! Theorems on runs over datagrams. These functions exist for their proofs and do nothing.
+
+ghost use Rattle.codec_payload_wire.specs.WireRunExample.{CanBeMet};
+
+/// The premises of a run over datagrams can be met: datagrams of Opus that come out of order, one of them twice, come within the
+/// windows, and all come before the stream ends.
+pub fn premises_can_be_met()
+    ensures { CanBeMet }
+{}
