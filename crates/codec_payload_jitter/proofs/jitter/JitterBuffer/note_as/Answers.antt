@@ -4,7 +4,7 @@ use Rattle.codec_payload_buffer.specs.Steps.{State}
 use Rattle.codec_payload_jitter.specs.Receiving.{Receiving}
 use Rattle.codec_payload_jitter.proofs.OwnLemmas.{stores_none, stores_then}
 use Rattle.codec_payload_jitter.proofs.jitter.JitterBuffer.note_as.Goals as goal
-use Rattle.codec_payload_jitter.proofs.jitter.JitterBuffer.note_as.Goals.{in-Number+in_ok-note-in-Number, in-Restarted+in_ok-note-in-Restarted, in-Suspect+in-Some-1, in-Suspect+in-None-1, in-Spent}
+use Rattle.codec_payload_jitter.proofs.jitter.JitterBuffer.note_as.Goals.{in-Number+in_ok-note-in-Number, in-Restarted+in_ok-restart_without_media-in-Restarted, in-Suspect+in-Some-1, in-Suspect+in-None-1, in-Spent}
 
 pub returns-clause-own : goal.returns-clause-own
 returns-clause-own g c = λ other.
@@ -12,12 +12,10 @@ returns-clause-own g c = λ other.
     let after : State = c.match-answer.self.buffer in
     elim c.match-answer.branch [
       | in-Number+in_ok-note-in-Number w ↦ stores_none _ _ before after (ap (λ (x : Receiving). x.buffer) (w.self-is ∙ w.in_ok-note-in-Number.ensures.ok))
-      | in-Restarted+in_ok-note-in-Restarted w ↦
-          let first = stores_none _ _ before w.note-in-Restarted.new.self.buffer (ap (λ (x : Receiving). x.buffer) w.in_ok-note-in-Restarted.ensures.ok) in
-          let second = w.confirm.ensures.own (ap is_built_in_depacketizer first.stays ∙ other) in
-          stores_then _ _ before w.note-in-Restarted.new.self.buffer after first
-          (stores_then _ _ w.note-in-Restarted.new.self.buffer w.confirm.new.self.buffer after second
-          (stores_none _ _ w.confirm.new.self.buffer after (ap (λ (x : Receiving). x.buffer) w.self-is)))
+      | in-Restarted+in_ok-restart_without_media-in-Restarted w ↦
+          let first = w.in_ok-restart_without_media-in-Restarted.ensures.own other in
+          stores_then _ _ before w.restart_without_media-in-Restarted.new.self.buffer after first
+          (stores_none _ _ w.restart_without_media-in-Restarted.new.self.buffer after (ap (λ (x : Receiving). x.buffer) w.self-is))
       | in-Suspect+in-Some-1 w ↦
           stores_none _ _ before after (ap (λ (x : Receiving). x.buffer) w.self-is ∙ ap (λ (x : Receiving). x.buffer) (w.self.view_is ∙ w.count_no_media.ensures))
       | in-Suspect+in-None-1 w ↦
