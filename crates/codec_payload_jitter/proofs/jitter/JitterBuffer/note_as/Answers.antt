@@ -14,8 +14,8 @@ returns-clause-own g c = λ other.
       | in-Number+in_ok-note-in-Number w ↦ stores_none _ _ before after (ap (λ (x : Receiving). x.buffer) (w.self-is ∙ w.in_ok-note-in-Number.ensures.ok))
       | in-Restarted+in_ok-restart_without_media-in-Restarted w ↦
           let first = w.in_ok-restart_without_media-in-Restarted.ensures.own other in
-          stores_then _ _ before w.restart_without_media-in-Restarted.new.self.buffer after first
-          (stores_none _ _ w.restart_without_media-in-Restarted.new.self.buffer after (ap (λ (x : Receiving). x.buffer) w.self-is))
+          stores_then _ _ before w.restart_without_media.new.self.buffer after first
+          (stores_none _ _ w.restart_without_media.new.self.buffer after (ap (λ (x : Receiving). x.buffer) w.self-is))
       | in-Suspect+in-Some-1 w ↦
           stores_none _ _ before after (ap (λ (x : Receiving). x.buffer) w.self-is ∙ ap (λ (x : Receiving). x.buffer) (w.self.view_is ∙ w.count_no_media.ensures))
       | in-Suspect+in-None-1 w ↦
