@@ -91,15 +91,18 @@ fn chance(number: u64, seed: u32) -> u32 {
     ((bits ^ bits >> 33) % 1_000) as u32
 }
 
-/// The datagrams by their time of arrival, and how many frames they are.
-fn sent_by(case: Case) -> Result<(BTreeMap<u64, Vec<Vec<u8>>>, u64), Box<dyn Error>> {
+/// Datagrams by their time of arrival.
+type Arriving = BTreeMap<u64, Vec<Vec<u8>>>;
+
+/// The datagrams of a stream, and the number of its frames.
+fn sent_by(case: Case) -> Result<(Arriving, u64), Box<dyn Error>> {
     let clock_rate = Frequency::make(case.clock_rate).ok_or("the rate is 0")?;
     let packetizer = CodecPacketizer::from_codec(case.codec).ok_or("no packetizer")?;
     let mut settings = SenderSettings::for_stream(96, 7, clock_rate);
     settings.mtu = 200;
     let mut sender = Sender::new(packetizer, settings)?;
     let frame = vec![0; 190 * case.packets];
-    let (mut arriving, mut number, mut frames) = (BTreeMap::<u64, Vec<Vec<u8>>>::new(), 0, 0);
+    let (mut arriving, mut number, mut frames) = (Arriving::new(), 0, 0);
     for now in (0..LENGTH).step_by(case.interval as usize) {
         sender.send(&Sample {
             rtp_time: MediaTime::new(now * u64::from(case.clock_rate) / 1_000, clock_rate),
