@@ -5,7 +5,7 @@
 #                                 patch), and the header has what C programs name
 #   scripts/toy_codec.sh prove    also with rt: the proofs of the crates that the patch touches, below the library for C
 #
-# The patch touches at most 20 files outside of the crate of the codec, besides its test and what the eraser writes. The last
+# The patch touches at most 20 files outside of the crate of the codec, not counting its test and the output of the eraser. The last
 # line says how many; the status is 0 if all passed. If the patch does not apply, mend it: it is the example of
 # docs/ARCHITECTURE.md, "How to add a codec".
 set -eu

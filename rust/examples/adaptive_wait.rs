@@ -5,7 +5,7 @@
 //! cargo run --release --example adaptive_wait
 //! ```
 //!
-//! The clock is simulated. A packet takes 20 ms. A lost packet is sent again, and arrives a given time after the others, or never.
+//! The clock is simulated. A packet takes 20 ms. A lost packet is retransmitted, and arrives a given time after the others, or never.
 
 use codec_payload::sender::{Sample, Sender, SenderSettings};
 use codec_payload::stream::{Receiver, ReceiverSettings};

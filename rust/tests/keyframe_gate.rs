@@ -7,7 +7,7 @@ use std::error::Error;
 
 const VP8: u8 = 96;
 
-/// A frame of VP8 (RFC 6386, section 9.1), told apart by its last byte.
+/// A frame of VP8 (RFC 6386, section 9.1), identified by its last byte.
 fn frame(is_key: bool, mark: u8) -> Vec<u8> {
     let mut frame = if is_key {
         vec![0x10, 0, 0, 0x9D, 0x01, 0x2A, 0x10, 0, 0x10, 0]

@@ -450,7 +450,7 @@ fn hostile_datagrams_are_counted() -> Result<(), Fail> {
     Ok(())
 }
 
-/// A frame of VP8 (RFC 6386, section 9.1) in one packet without picture ids (RFC 7741, section 4.2), told apart by its last byte.
+/// A frame of VP8 (RFC 6386, section 9.1) in one packet without picture ids (RFC 7741, section 4.2), identified by its last byte.
 fn vp8(number: u16, is_key: bool) -> Vec<u8> {
     let frame: &[u8] = if is_key {
         &[0x10, 0x10, 0, 0, 0x9D, 0x01, 0x2A, 0x10, 0, 0x10, 0]

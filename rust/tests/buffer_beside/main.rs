@@ -1,5 +1,5 @@
-//! The buffer beside a copy of an earlier form, whose packets and frames stand in two plain queues, over random schedules. Whatever
-//! form the buffer has, both have to give the same answers.
+//! The buffer beside a copy of an earlier form, which keeps packets and frames in two plain queues, over random schedules. Whatever
+//! form the buffer has, both must return the same results.
 //!
 //! `OPERATIONS=30000000 cargo test --release --test buffer_beside` tries more operations than a plain run. `SEED` chooses others.
 
@@ -100,7 +100,7 @@ fn meta(random: &mut Random, number: u64, time: u64, marker: bool) -> RtpMeta {
     meta
 }
 
-/// What became of a packet that was pushed, of the two forms.
+/// Whether both forms return the same result for a pushed packet.
 fn is_same(now: Placed, before: before::Placed) -> bool {
     matches!(
         (now, before),

@@ -1,5 +1,5 @@
-//! A custom codec behind a jitter buffer, a receiver and a run over datagrams. Its payloads tell by a byte of their own where a frame
-//! begins and ends, and no payload is marked as the last of its frame.
+//! A custom codec behind a jitter buffer, a receiver and a run over datagrams. The first byte of a payload says where a
+//! frame begins and ends, and no payload is marked as the last of its frame.
 
 use crate::Fail;
 use crate::sides::{receiver_settings, sample_of, sender_settings};
@@ -28,7 +28,7 @@ const AT_ONCE: WaitLimits = WaitLimits {
     max_wait: Some(0),
 };
 
-/// Sends each byte of a frame in a separate payload, behind a byte that tells its place in the frame.
+/// Sends each byte of a frame in a separate payload, after a byte that says its place in the frame.
 #[derive(Debug)]
 struct ByPlaces;
 
