@@ -6,12 +6,13 @@
 //! ```
 //!
 //! - `Session::receiver_of` lends the receiver of a stream: it reports what is missing and whether a keyframe is needed.
-//! - `NackSchedule` and `KeyframeRequests` decide when to request. Keep one of each for each stream.
+//! - `StreamRequests` decides when to request, and returns the RTCP packet to send. Keep one for each stream.
 //! - Wait for at least four round trips: `Session::set_wait_limits`.
 
+use codec_payload::feedback::{FeedbackSource, StreamRequests};
 use codec_payload::history::{History, HistorySettings, Request, read_requests};
-use codec_payload::requests::{KeyframeRequests, NackSchedule, NackSettings};
-use codec_payload::rtcp::{CompoundRule, Nack, PictureLoss, pack_numbers};
+use codec_payload::requests::NackSettings;
+use codec_payload::rtcp::CompoundRule;
 use codec_payload::sender::{Sample, Sender, SenderSettings};
 use codec_payload::session::{Event, Format, Session, SessionSettings};
 use codec_payload::{
@@ -145,16 +146,15 @@ impl SendingSide {
 /// The receiving side: a session, and the requests for its stream.
 struct ReceivingSide {
     session: Session,
-    nack: NackSchedule,
-    keyframe: KeyframeRequests,
+    source: FeedbackSource,
+    stream: StreamRequests,
     missing: Vec<u64>,
-    numbers: Vec<u16>,
     released: u64,
     decodable: u64,
 }
 
 impl ReceivingSide {
-    fn new() -> ReceivingSide {
+    fn new() -> Result<ReceivingSide, Box<dyn Error>> {
         let mut settings = SessionSettings::live();
         settings.formats.push(Format {
             payload_type: VP8,
@@ -166,22 +166,19 @@ impl ReceivingSide {
             red: None,
             retransmission: None,
         });
-        ReceivingSide {
+        Ok(ReceivingSide {
             session: Session::new(settings),
-            nack: NackSchedule::new(NackSettings::live()),
-            keyframe: KeyframeRequests::new(500),
+            source: FeedbackSource::new(OWN_SSRC, Vec::new(), false).ok_or("no name is short")?,
+            stream: StreamRequests::new(SSRC, NackSettings::live(), 500),
             missing: Vec::new(),
-            numbers: Vec::new(),
             released: 0,
             decodable: 0,
-        }
+        })
     }
 
     fn receive(&mut self, now: u64, datagram: &[u8]) -> Result<(), Box<dyn Error>> {
         let number = u16::from_be_bytes([datagram[2], datagram[3]]);
-        if self.nack.has_requested(number) {
-            self.nack.answered(Ticks(now), number);
-        }
+        self.stream.answered(Ticks(now), number);
         self.session.receive(Ticks(now), datagram)?;
         Ok(())
     }
@@ -200,36 +197,16 @@ impl ReceivingSide {
         }
     }
 
-    /// The feedback that is due now: a reduced-size compound packet (RFC 5506). Empty: none.
-    fn feedback(&mut self, now: u64) -> Result<Vec<u8>, Box<dyn Error>> {
-        let mut feedback = Vec::new();
+    /// The feedback that is due now: a reduced-size compound packet (RFC 5506).
+    fn feedback(&mut self, now: u64) -> Result<Option<Vec<u8>>, Box<dyn Error>> {
         let Some(receiver) = self.session.receiver_of(SSRC, VP8) else {
-            return Ok(feedback);
+            return Ok(None);
         };
         self.missing.clear();
         self.missing.extend(receiver.missing(512));
-        self.keyframe.set_wanted(receiver.wants_keyframe());
-        self.nack.refresh(Ticks(now), &self.missing)?;
-        self.numbers.clear();
-        self.nack.take_due(Ticks(now), &mut self.numbers)?;
-        if !self.numbers.is_empty() {
-            let mut pairs = Vec::new();
-            pack_numbers(&self.numbers, &mut pairs)?;
-            Nack {
-                sender_ssrc: OWN_SSRC,
-                media_ssrc: SSRC,
-                pairs: &pairs,
-            }
-            .write(&mut feedback)?;
-        }
-        if self.keyframe.take_due(Ticks(now)) {
-            PictureLoss {
-                sender_ssrc: OWN_SSRC,
-                media_ssrc: SSRC,
-            }
-            .write(&mut feedback)?;
-        }
-        Ok(feedback)
+        self.stream
+            .update(Ticks(now), &self.missing, receiver.wants_keyframe())?;
+        Ok(self.stream.take_due(Ticks(now), &self.source)?)
     }
 
     /// Waits for four round trips, if the round trip is known.
@@ -238,7 +215,7 @@ impl ReceivingSide {
             return;
         };
         let mut limits = receiver.wait_limits();
-        let wait = NackSettings::live().first_wait + 4 * self.nack.round_trip().unwrap_or(0);
+        let wait = NackSettings::live().first_wait + 4 * self.stream.round_trip().unwrap_or(0);
         limits.max_wait = Some(wait.clamp(200, LONGEST_WAIT));
         self.session.set_wait_limits(SSRC, VP8, limits);
     }
@@ -249,7 +226,7 @@ fn run(round_trip: u64, lost: u64, requests: Requests) -> Result<[u64; 2], Box<d
     let mut there = Way::new(1, lost, round_trip / 2);
     let mut back = Way::new(2, lost, round_trip / 2);
     let mut sending = SendingSide::new()?;
-    let mut receiving = ReceivingSide::new();
+    let mut receiving = ReceivingSide::new()?;
     for now in 0..LENGTH + 2_000 {
         for feedback in back.arrived(now) {
             sending.answer(&mut there, now, &feedback)?;
@@ -261,11 +238,10 @@ fn run(round_trip: u64, lost: u64, requests: Requests) -> Result<[u64; 2], Box<d
             receiving.receive(now, &datagram)?;
         }
         receiving.poll(now);
-        if requests != Requests::None {
-            let feedback = receiving.feedback(now)?;
-            if !feedback.is_empty() {
-                back.send(now, &feedback);
-            }
+        if requests != Requests::None
+            && let Some(feedback) = receiving.feedback(now)?
+        {
+            back.send(now, &feedback);
         }
         if requests == Requests::ByRoundTrip {
             receiving.follow_round_trip();

@@ -1,6 +1,6 @@
 //! The requests of one stream, and the compound packets that carry them.
 
-ghost use Rattle.std.specs.Prelude.{◌≡◌, ◌≤◌, IfErr, IfOk, OnErr, OnOk, length};
+ghost use Rattle.std.specs.Prelude.{◌≡◌, ◌≤◌, ◌/◌, IfErr, IfOk, OnErr, OnOk, length};
 ghost use Rattle.std.specs.Option.{option_map};
 ghost use Rattle.codec_payload_requests.specs.Requests.{earlier};
 ghost use Rattle.codec_payload_feedback.specs.Feedback.{AppendsAll, AppendsNack, IsFeedback, after_answered, after_feedback, cname_part, deadline_of, has_any, keyframe_is_due, keyframe_part, new_requests, numbers_due, report_part, source_by, updated};
@@ -14,7 +14,7 @@ use codec_payload_rtcp::writing::write_cname;
 use std::alloc::{AllocError, Global};
 use std::marker::Model;
 
-/// How many missing numbers are followed at most: so many fit into one NACK.
+/// The largest number of missing packets that are followed: one NACK has room for them.
 const MOST_NUMBERS: usize = 65_533;
 
 /// Who sends feedback, and in which form.
@@ -240,6 +240,13 @@ impl StreamRequests {
         ensures { self.new ≡ after_answered now.0 number self.old }
     {
         self.nack.answered(now, number);
+    }
+
+    /// Returns the measured round-trip time in ticks, once a request was answered.
+    pub fn round_trip(&self) -> Option<u64>
+        ensures { result ≡ option_map (λ eighths. eighths / 8) self.now.nack.round_trip }
+    {
+        self.nack.round_trip()
     }
 
     /// Returns when the next request is due. `None`: none is without an `update`.

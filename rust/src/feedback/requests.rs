@@ -11,7 +11,7 @@ use crate::rtcp::writing::write_cname;
 use crate::wire::Ticks;
 use alloc::vec::Vec;
 
-/// How many missing numbers are followed at most: so many fit into one NACK.
+/// The largest number of missing packets that are followed: one NACK has room for them.
 const MOST_NUMBERS: usize = 65_533;
 
 /// Who sends feedback, and in which form.
@@ -182,6 +182,11 @@ impl StreamRequests {
     /// `update` after that datagram.
     pub fn answered(&mut self, now: Ticks, number: u16) {
         self.nack.answered(now, number);
+    }
+
+    /// Returns the measured round-trip time in ticks, once a request was answered.
+    pub fn round_trip(&self) -> Option<u64> {
+        self.nack.round_trip()
     }
 
     /// Returns when the next request is due. `None`: none is without an `update`.
