@@ -249,7 +249,7 @@ enum Network {
 
 const NETWORKS: [(Network, &str); 7] = [
     (Network::BurstWhole, "a burst that arrives late, at once"),
-    (Network::BurstSpread, "a burst of which each packet is late"),
+    (Network::BurstSpread, "a burst in which each packet is late"),
     (
         Network::BurstAndSilence,
         "a late burst, and silence meanwhile",
