@@ -2,9 +2,10 @@
 
 //! Puts received packets in order and their payloads together, in a buffer of bounded size.
 
-use crate::memory::{One, TryQueue};
+use crate::memory::One;
 use alloc::vec::Vec;
 
+mod blocks;
 mod ends;
 pub mod frames;
 mod held_packet;
@@ -20,13 +21,13 @@ use crate::contiguity::Contiguity;
 use crate::error::PacketError;
 use crate::interface::CodecExtra;
 use crate::wire::{SeqNo, Ticks};
-use alloc::collections::VecDeque;
+use blocks::Blocks;
 use ends::{evict, place_at, row_with};
 use frames::{CompleteFrame, frame_of, mend_first, note};
 use held_packet::{HeldPacket, Packet};
 use packets::{
-    copy_metas, drop_front, find_place, frame_range, give_back, hold, is_at, is_too_late,
-    make_room, received_at, starts_next, unpack,
+    copy_metas, drop_front, find_place, frame_range, hold, is_at, is_too_late, make_room,
+    received_at, starts_next, unpack,
 };
 pub use placed::Placed;
 use placed::placed_among;
@@ -42,11 +43,11 @@ const HELD_LIMIT: usize = 4_096;
 /// was taken or the latest packet that was evicted, come too late and are dropped.
 #[derive(Debug)]
 pub struct DepacketizingBuffer<B = NoBox> {
-    packets: VecDeque<HeldPacket>,
+    packets: Blocks<HeldPacket>,
     /// Memory blocks of packets that have left, for packets to come.
     spare: Vec<One<Packet>>,
     /// The complete frames, in order.
-    complete_frames: VecDeque<CompleteFrame>,
+    complete_frames: Blocks<CompleteFrame>,
     /// The number up to which packets come too late.
     cutoff: Option<u64>,
     /// Whether a packet was evicted since the latest release.
@@ -79,9 +80,9 @@ impl<B: Depacketizer> DepacketizingBuffer<B> {
     pub fn with_limit(depacketizer: CodecDepacketizer<B>, hold_back: usize, limit: usize) -> Self {
         assert!((1..=65_536).contains(&limit));
         DepacketizingBuffer {
-            packets: VecDeque::new(),
+            packets: Blocks::new(),
             spare: Vec::new(),
-            complete_frames: VecDeque::new(),
+            complete_frames: Blocks::new(),
             cutoff: None,
             evicted: false,
             contiguity: Contiguity::of(&depacketizer),
@@ -122,13 +123,12 @@ impl<B: Depacketizer> DepacketizingBuffer<B> {
         let tail = self
             .depacketizer
             .is_partition_tail(meta.header.marker, &data);
-        self.packets.try_room(1)?;
-        self.complete_frames.try_room(1)?;
         let packet = Packet::of(meta, data, head, tail)?;
         let entry = hold(&mut self.spare, packet)?;
         let row = row_with(&self.packets, place, row_of_packet(&entry));
-        place_at(&mut self.packets, place, entry, row);
-        note(&mut self.complete_frames, frame_of(&row));
+        let room = self.packets.find_room(place)?;
+        note(&mut self.complete_frames, frame_of(&row))?;
+        place_at(&mut self.packets, place, room, entry, row);
         if self.packets.len() > self.limit {
             let (number, before, after) = evict(&mut self.packets, &mut self.spare);
             mend_first(&mut self.complete_frames, before, after);
@@ -283,8 +283,8 @@ impl<B: Depacketizer> DepacketizingBuffer<B> {
     fn leave(&mut self, frame: CompleteFrame, count: usize) {
         drop_front(&mut self.packets, &mut self.spare, count);
         self.complete_frames.pop_front();
-        give_back(&mut self.packets);
-        give_back(&mut self.complete_frames);
+        self.packets.give_back();
+        self.complete_frames.give_back();
         self.cutoff = Some(frame.last);
     }
 }

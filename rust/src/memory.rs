@@ -205,6 +205,8 @@ pub trait TryQueue<T> {
     fn try_insert(&mut self, place: usize, value: T) -> Result<(), AllocError>;
     /// Makes room for at least `count` more items.
     fn try_room(&mut self, count: usize) -> Result<(), AllocError>;
+    /// Takes the items from a place on out, into a queue of their own.
+    fn try_split(&mut self, place: usize) -> Result<VecDeque<T>, AllocError>;
     /// Gives memory back, down to room for `count` items, if that needs no memory that is refused.
     fn shrink_if_possible(&mut self, count: usize);
 }
@@ -229,6 +231,13 @@ impl<T> TryQueue<T> for VecDeque<T> {
         room!(self, 1);
         self.insert(place, value);
         Ok(())
+    }
+
+    fn try_split(&mut self, place: usize) -> Result<VecDeque<T>, AllocError> {
+        let mut later = VecDeque::new();
+        later.try_room(self.len() - place)?;
+        later.extend(self.drain(place..));
+        Ok(later)
     }
 
     fn shrink_if_possible(&mut self, count: usize) {

@@ -2,6 +2,7 @@
 use Rattle.std.specs.Prelude.{◌≡◌, ◌≤◌, List, map}
 use Rattle.codec_payload_codec.specs.Depacketizers.{depacketizer_state_of}
 use Rattle.codec_payload_buffer.specs.Held.{held_of}
+use Rattle.codec_payload_buffer.specs.Blocks.{all_of}
 use Rattle.codec_payload_buffer.specs.Steps.{State, IsSound}
 use Rattle.codec_payload_buffer.specs.Frames.{frames}
 use Rattle.codec_payload_buffer.specs.Rows.{rows}
@@ -12,7 +13,7 @@ use Rattle.codec_payload_buffer.specs.declared.buffer.frames.CompleteFrame.{Comp
 -- what the fields say of the buffer
 abbrev pub state_of : {B : _} → Inside B → State
 state_of b = record {
-  held = map held_of b.packets.items;
+  held = map held_of (all_of b.packets);
   cutoff = b.cutoff;
   evicted = b.evicted;
   contiguity = b.contiguity;

@@ -4,6 +4,7 @@
 //!
 //! So no list of rows is kept. A push, an eviction and a pop write to the ends of the rows that they change.
 
+use super::blocks::{Blocks, Room, spot_of};
 use super::frames::{CompleteFrame, frame_of};
 use super::held_packet::{HeldPacket, Packet};
 use super::packets::take_lowest;
@@ -13,7 +14,7 @@ use alloc::collections::VecDeque;
 use alloc::vec::Vec;
 
 /// The row from a number to the packet at a place, its last.
-fn row_to(packets: &VecDeque<HeldPacket>, first: u64, place: usize) -> Row {
+fn row_to(packets: &Blocks<HeldPacket>, first: u64, place: usize) -> Row {
     let last = &packets[place];
     Row {
         first,
@@ -30,7 +31,7 @@ fn is_next(earlier: u64, later: u64) -> bool {
 }
 
 /// A row with the row that begins at a place, where they meet.
-fn join_next(packets: &VecDeque<HeldPacket>, place: usize, row: Row) -> Row {
+fn join_next(packets: &Blocks<HeldPacket>, place: usize, row: Row) -> Row {
     if place == packets.len() {
         return row;
     }
@@ -48,7 +49,7 @@ fn join_next(packets: &VecDeque<HeldPacket>, place: usize, row: Row) -> Row {
 }
 
 /// A row with the row that ends before a place, where they meet.
-fn join_previous(packets: &VecDeque<HeldPacket>, place: usize, row: Row) -> Row {
+fn join_previous(packets: &Blocks<HeldPacket>, place: usize, row: Row) -> Row {
     if place == 0 {
         return row;
     }
@@ -65,7 +66,7 @@ fn join_previous(packets: &VecDeque<HeldPacket>, place: usize, row: Row) -> Row 
 }
 
 /// The row that a packet is in once it stands at its place: `row` is the packet alone.
-pub(super) fn row_with(packets: &VecDeque<HeldPacket>, place: usize, row: Row) -> Row {
+pub(super) fn row_with(packets: &Blocks<HeldPacket>, place: usize, row: Row) -> Row {
     let row = join_next(packets, place, row);
     join_previous(packets, place, row)
 }
@@ -76,18 +77,29 @@ fn mark(entry: &mut HeldPacket, other_end: u64, row_head: Option<u64>) {
     entry.packet.row_head = row_head;
 }
 
+/// What the packet at an index of a block says of its row.
+fn mark_in(block: &mut VecDeque<HeldPacket>, index: usize, other_end: u64, row_head: Option<u64>) {
+    mark(&mut block[index], other_end, row_head);
+}
+
 /// What the packet at a place says of its row.
-fn set_mark(
-    packets: &mut VecDeque<HeldPacket>,
-    place: usize,
-    other_end: u64,
-    row_head: Option<u64>,
-) {
-    mark(&mut packets[place], other_end, row_head);
+fn set_mark(packets: &mut Blocks<HeldPacket>, place: usize, other_end: u64, row_head: Option<u64>) {
+    let before = packets.len - packets.last.len();
+    if place >= before {
+        mark_in(&mut packets.last, place - before, other_end, row_head);
+    } else {
+        let spot = spot_of(&packets.earlier, place);
+        mark_in(
+            &mut packets.earlier[spot.block],
+            spot.index,
+            other_end,
+            row_head,
+        );
+    }
 }
 
 /// The packets at two places are the ends of a row from now on.
-fn set_ends(packets: &mut VecDeque<HeldPacket>, from: usize, to: usize, row: Row) {
+fn set_ends(packets: &mut Blocks<HeldPacket>, from: usize, to: usize, row: Row) {
     set_mark(packets, from, row.last, None);
     set_mark(packets, to, row.first, row.head);
 }
@@ -95,27 +107,28 @@ fn set_ends(packets: &mut VecDeque<HeldPacket>, from: usize, to: usize, row: Row
 /// Puts a packet at its place; `row` is the row that it is in then. The room was found before. Nothing moves where it is
 /// the last.
 pub(super) fn place_at(
-    packets: &mut VecDeque<HeldPacket>,
+    packets: &mut Blocks<HeldPacket>,
     place: usize,
+    room: Room,
     packet: HeldPacket,
     row: Row,
 ) {
     let number = packet.number;
-    packets.insert(place, packet);
+    packets.add(room, packet);
     let from = place - (number - row.first) as usize;
     let to = place + (row.last - number) as usize;
     set_ends(packets, from, to, row);
 }
 
 /// The lowest row.
-fn lowest_row(packets: &VecDeque<HeldPacket>) -> Row {
+fn lowest_row(packets: &Blocks<HeldPacket>) -> Row {
     let entry = &packets[0];
     let after = (entry.packet.other_end - entry.number) as usize;
     row_to(packets, entry.number, after)
 }
 
 /// The packets of what is left of the lowest row tell it from now on.
-fn set_lowest_ends(packets: &mut VecDeque<HeldPacket>, rest: &Option<Row>) {
+fn set_lowest_ends(packets: &mut Blocks<HeldPacket>, rest: &Option<Row>) {
     match rest {
         Some(row) => set_ends(packets, 0, (row.last - row.first) as usize, *row),
         None => {}
@@ -124,7 +137,7 @@ fn set_lowest_ends(packets: &mut VecDeque<HeldPacket>, rest: &Option<Row>) {
 
 /// The lowest packet leaves. Says its number, and which frame its row had before and which it has after.
 pub(super) fn evict(
-    packets: &mut VecDeque<HeldPacket>,
+    packets: &mut Blocks<HeldPacket>,
     spare: &mut Vec<One<Packet>>,
 ) -> (u64, Option<CompleteFrame>, Option<CompleteFrame>) {
     let row = lowest_row(packets);

@@ -2,9 +2,10 @@
 
 //! The complete frames among packets, in an ordered list that is mended as packets come and go.
 
+use super::blocks::Blocks;
 use super::rows::Row;
 use super::search::place_of_number;
-use alloc::collections::VecDeque;
+use crate::memory::AllocError;
 
 /// A complete frame: the sequence numbers of its first packet and its last.
 #[derive(Clone, Copy, Debug, PartialEq, Eq)]
@@ -25,30 +26,36 @@ pub(super) fn frame_of(row: &Row) -> Option<CompleteFrame> {
 }
 
 /// Where the first frame that ends at that number or above stands or would stand.
-fn find_end(complete_frames: &VecDeque<CompleteFrame>, last: u64) -> usize {
+fn find_end(complete_frames: &Blocks<CompleteFrame>, last: u64) -> usize {
     place_of_number(complete_frames, last)
 }
 
-/// Takes a frame into the list, in the stead of the one with the same end, if there is one. The room was found before.
-pub(super) fn note(complete_frames: &mut VecDeque<CompleteFrame>, frame: Option<CompleteFrame>) {
+/// Takes a frame into the list, in the stead of the one with the same end, if there is one. On want of memory nothing has
+/// changed.
+pub(super) fn note(
+    complete_frames: &mut Blocks<CompleteFrame>,
+    frame: Option<CompleteFrame>,
+) -> Result<(), AllocError> {
     if let Some(frame) = frame {
         let place = find_end(complete_frames, frame.last);
         if place < complete_frames.len() && complete_frames[place].last == frame.last {
-            complete_frames[place] = frame;
+            complete_frames.set(place, frame);
         } else {
-            complete_frames.insert(place, frame);
+            let room = complete_frames.find_room(place)?;
+            complete_frames.add(room, frame);
         }
     }
+    Ok(())
 }
 
 /// The lowest frame, if it was there before, becomes the one that is there after, or leaves.
 pub(super) fn mend_first(
-    complete_frames: &mut VecDeque<CompleteFrame>,
+    complete_frames: &mut Blocks<CompleteFrame>,
     before: Option<CompleteFrame>,
     after: Option<CompleteFrame>,
 ) {
     match (before, after) {
-        (Some(_), Some(frame)) => complete_frames[0] = frame,
+        (Some(_), Some(frame)) => complete_frames.set(0, frame),
         (Some(_), None) => {
             complete_frames.pop_front();
         }

@@ -2,6 +2,7 @@
 
 //! The packets that a buffer holds, in rising order of sequence number.
 
+use super::blocks::Blocks;
 use super::frames::CompleteFrame;
 use super::held_packet::{HeldPacket, Packet, Tells};
 use super::search::place_of_number;
@@ -9,9 +10,8 @@ use super::unit::RtpMeta;
 use crate::codec::{CodecDepacketizer, Depacketizer};
 use crate::error::PacketError;
 use crate::interface::CodecExtra;
-use crate::memory::{AllocError, One, TryQueue, TryVec};
+use crate::memory::{AllocError, One, TryVec};
 use crate::wire::Ticks;
-use alloc::collections::VecDeque;
 use alloc::vec::Vec;
 
 /// How many memory blocks of packets that have left are kept for packets to come.
@@ -62,17 +62,17 @@ pub(super) fn starts_next(cutoff: Option<u64>, first: u64) -> bool {
 }
 
 /// Where the first packet of at least that number stands or would stand.
-pub(super) fn find_place(packets: &VecDeque<HeldPacket>, number: u64) -> usize {
+pub(super) fn find_place(packets: &Blocks<HeldPacket>, number: u64) -> usize {
     place_of_number(packets, number)
 }
 
 /// Whether a packet of that number stands at its place.
-pub(super) fn is_at(packets: &VecDeque<HeldPacket>, place: usize, number: u64) -> bool {
+pub(super) fn is_at(packets: &Blocks<HeldPacket>, place: usize, number: u64) -> bool {
     place < packets.len() && packets[place].number == number
 }
 
 /// When the packet of that number was received, if it is held.
-pub(super) fn received_at(packets: &VecDeque<HeldPacket>, number: u64) -> Option<Ticks> {
+pub(super) fn received_at(packets: &Blocks<HeldPacket>, number: u64) -> Option<Ticks> {
     let place = find_place(packets, number);
     if place >= packets.len() {
         return None;
@@ -86,7 +86,7 @@ pub(super) fn received_at(packets: &VecDeque<HeldPacket>, number: u64) -> Option
 }
 
 /// Takes the lowest packet out, and says its number.
-pub(super) fn take_lowest(packets: &mut VecDeque<HeldPacket>, spare: &mut Vec<One<Packet>>) -> u64 {
+pub(super) fn take_lowest(packets: &mut Blocks<HeldPacket>, spare: &mut Vec<One<Packet>>) -> u64 {
     let lowest = packets.pop_front().unwrap();
     let number = lowest.number;
     keep(spare, lowest.packet);
@@ -94,7 +94,7 @@ pub(super) fn take_lowest(packets: &mut VecDeque<HeldPacket>, spare: &mut Vec<On
 }
 
 /// Where the packets of a frame begin and end. Their numbers follow one another, so how many there are need not be searched.
-pub(super) fn frame_range(packets: &VecDeque<HeldPacket>, frame: CompleteFrame) -> (usize, usize) {
+pub(super) fn frame_range(packets: &Blocks<HeldPacket>, frame: CompleteFrame) -> (usize, usize) {
     let from = find_place(packets, frame.first);
     (from, from + (frame.last - frame.first) as usize + 1)
 }
@@ -108,23 +108,23 @@ fn push_told<T, I: Tells<T>>(all: &mut Vec<T>, item: &I) -> Result<(), AllocErro
 /// Writes what is known of the packets from one place to another, in the stead of what is there.
 pub(super) fn copy_metas(
     metas: &mut Vec<RtpMeta>,
-    packets: &VecDeque<HeldPacket>,
+    packets: &Blocks<HeldPacket>,
     from: usize,
     to: usize,
 ) -> Result<(), AllocError> {
     metas.clear();
     metas.try_exact(to - from)?;
-    for packet in packets.range(from..to) {
-        push_told(metas, packet)?;
+    for place in from..to {
+        push_told(metas, &packets[place])?;
     }
     Ok(())
 }
 
 /// How many bytes these packets carry, at most the greatest `usize`.
-fn payload_size(packets: &VecDeque<HeldPacket>, from: usize, to: usize) -> usize {
+fn payload_size(packets: &Blocks<HeldPacket>, from: usize, to: usize) -> usize {
     let mut size = 0usize;
-    for packet in packets.range(from..to) {
-        size = size.saturating_add(packet.packet.bytes.len());
+    for place in from..to {
+        size = size.saturating_add(packets[place].packet.bytes.len());
     }
     size
 }
@@ -133,7 +133,7 @@ fn payload_size(packets: &VecDeque<HeldPacket>, from: usize, to: usize) -> usize
 pub(super) fn make_room<B: Depacketizer>(
     bytes: &mut Vec<u8>,
     depacketizer: &CodecDepacketizer<B>,
-    packets: &VecDeque<HeldPacket>,
+    packets: &Blocks<HeldPacket>,
     from: usize,
     to: usize,
 ) -> Result<(), AllocError> {
@@ -147,14 +147,14 @@ pub(super) fn make_room<B: Depacketizer>(
 /// The payloads of these packets to the depacketizer, in order, up to the first that it refuses.
 pub(super) fn unpack<B: Depacketizer>(
     depacketizer: &mut CodecDepacketizer<B>,
-    packets: &VecDeque<HeldPacket>,
+    packets: &Blocks<HeldPacket>,
     from: usize,
     to: usize,
     bytes: &mut Vec<u8>,
     codec_extra: &mut CodecExtra,
 ) -> Result<(), PacketError> {
-    for packet in packets.range(from..to) {
-        match depacketizer.depacketize(&packet.packet.bytes, bytes, codec_extra) {
+    for place in from..to {
+        match depacketizer.depacketize(&packets[place].packet.bytes, bytes, codec_extra) {
             Ok(()) => {}
             Err(fault) => return Err(fault),
         }
@@ -162,20 +162,9 @@ pub(super) fn unpack<B: Depacketizer>(
     Ok(())
 }
 
-/// The least entries for which a queue keeps memory.
-const KEPT_ENTRIES: usize = 64;
-
-/// Gives back memory of a queue that is at most a quarter full, but for 64 entries, and keeps twice what it needs. So a call
-/// that moves entries comes after at least as many that left. Where no smaller memory is found, the queue keeps its own.
-pub(super) fn give_back<T>(queue: &mut VecDeque<T>) {
-    if queue.capacity() > KEPT_ENTRIES && queue.len() <= queue.capacity() / 4 {
-        queue.shrink_if_possible((2 * queue.len()).max(KEPT_ENTRIES));
-    }
-}
-
 /// The first `count` packets leave.
 pub(super) fn drop_front(
-    packets: &mut VecDeque<HeldPacket>,
+    packets: &mut Blocks<HeldPacket>,
     spare: &mut Vec<One<Packet>>,
     count: usize,
 ) {

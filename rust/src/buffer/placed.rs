@@ -2,8 +2,8 @@
 
 //! What became of packets that were pushed.
 
+use super::blocks::Blocks;
 use super::held_packet::HeldPacket;
-use alloc::collections::VecDeque;
 
 /// What became of a packet that was pushed.
 #[derive(Clone, Copy, Debug, PartialEq, Eq)]
@@ -19,7 +19,7 @@ pub enum Placed {
 }
 
 /// What becomes of a packet whose number is not there yet, beside those that are held.
-pub(super) fn placed_among(packets: &VecDeque<HeldPacket>, limit: usize) -> Placed {
+pub(super) fn placed_among(packets: &Blocks<HeldPacket>, limit: usize) -> Placed {
     if packets.len() < limit {
         Placed::Held
     } else {

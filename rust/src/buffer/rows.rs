@@ -2,10 +2,10 @@
 
 //! The rows of held packets: where packets stand together, and from where a frame can begin.
 
+use super::blocks::Blocks;
 use super::frames::{CompleteFrame, frame_of};
 use super::held_packet::HeldPacket;
 use crate::wire::MediaTime;
-use alloc::collections::VecDeque;
 
 /// Packets of consecutive numbers and one time, with no tail but the last: as many of them as stand together.
 #[derive(Clone, Copy, Debug)]
@@ -55,8 +55,9 @@ pub(super) fn join(earlier: Row, later: Row) -> Row {
 }
 
 /// The lowest number, up to `last`, of a packet that begins a unit.
-fn find_head(packets: &VecDeque<HeldPacket>, last: u64) -> Option<u64> {
-    for packet in packets {
+fn find_head(packets: &Blocks<HeldPacket>, last: u64) -> Option<u64> {
+    for place in 0..packets.len() {
+        let packet = &packets[place];
         if packet.number > last {
             return None;
         }
@@ -69,7 +70,7 @@ fn find_head(packets: &VecDeque<HeldPacket>, last: u64) -> Option<u64> {
 
 /// What is left of a row once its first packet has left; `packets` are those that are left. Looks for the next packet
 /// that begins a unit only where the one that has left did.
-pub(super) fn shorten(row: &Row, packets: &VecDeque<HeldPacket>) -> Option<Row> {
+pub(super) fn shorten(row: &Row, packets: &Blocks<HeldPacket>) -> Option<Row> {
     if row.first == row.last {
         return None;
     }

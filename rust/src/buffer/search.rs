@@ -2,6 +2,7 @@
 
 //! Searches of queues that are ordered by a number.
 
+use super::blocks::Blocks;
 use super::frames::CompleteFrame;
 use super::held_packet::HeldPacket;
 use alloc::collections::VecDeque;
@@ -24,9 +25,46 @@ impl Numbered for CompleteFrame {
     }
 }
 
-/// How many items have a lower number. Looks at the first item, and then back from the last one in steps that double, so the
-/// cost grows with the logarithm of how far from the end the place is, and not with the length of the queue.
-pub(super) fn place_of_number<T: Numbered>(items: &VecDeque<T>, number: u64) -> usize {
+/// How many items have a lower number. Looks in the last block, or else at the first item of all, and then at the first of each
+/// block, from the last one back to that of the place.
+pub(super) fn place_of_number<T: Numbered>(items: &Blocks<T>, number: u64) -> usize {
+    let before = items.len - items.last.len();
+    if before == 0 || begins_below(&items.last, number) {
+        return before + place_in_block(&items.last, number);
+    }
+    if number <= items[0].number() {
+        return 0;
+    }
+    place_in_earlier(&items.earlier, before, number)
+}
+
+/// The same in the earlier blocks, which have `count` items.
+fn place_in_earlier<T: Numbered>(
+    blocks: &VecDeque<VecDeque<T>>,
+    count: usize,
+    number: u64,
+) -> usize {
+    let mut block = blocks.len();
+    let mut before = count;
+    while block > 0 {
+        block -= 1;
+        let part = &blocks[block];
+        before -= part.len();
+        if begins_below(part, number) {
+            return before + place_in_block(part, number);
+        }
+    }
+    0
+}
+
+/// Whether the first item of a block, if there is one, has a lower number.
+fn begins_below<T: Numbered>(block: &VecDeque<T>, number: u64) -> bool {
+    !block.is_empty() && block[0].number() < number
+}
+
+/// How many items of a block have a lower number. Looks back from the last one in steps that double, so the cost grows with
+/// the logarithm of how far from the end the place is.
+fn place_in_block<T: Numbered>(items: &VecDeque<T>, number: u64) -> usize {
     if items.is_empty() || number <= items[0].number() {
         return 0;
     }

@@ -1,13 +1,14 @@
 //! The rows of held packets: where packets stand together, and from where a frame can begin.
 
 ghost use Rattle.std.specs.Prelude.{◌≡◌, ◌≤◌, map};
+ghost use Rattle.codec_payload_buffer.specs.Blocks.{all_of};
 ghost use Rattle.codec_payload_buffer.specs.Held.{held_of};
 ghost use Rattle.codec_payload_buffer.specs.Rows.{row_of, meet, joined, next_head, shortened, frame_of_rest, IsHeadKept};
 
+use super::blocks::Blocks;
 use super::frames::{CompleteFrame, frame_of};
 use super::held_packet::HeldPacket;
 use codec_payload_base::wire::MediaTime;
-use std::collections::VecDeque;
 
 /// Packets of consecutive numbers and one time, with no tail but the last: as many of them as stand together.
 #[derive(Clone, Copy, Debug)]
@@ -63,10 +64,11 @@ pub(super) fn join(earlier: Row, later: Row) -> Row
 }
 
 /// The lowest number, up to `last`, of a packet that begins a unit.
-fn find_head(packets: &VecDeque<HeldPacket>, last: u64) -> Option<u64>
-    ensures { result ≡ next_head last (map held_of packets.now.items) }
+fn find_head(packets: &Blocks<HeldPacket>, last: u64) -> Option<u64>
+    ensures { result ≡ next_head last (map held_of (all_of packets.now)) }
 {
-    for packet in packets {
+    for place in 0..packets.len() {
+        let packet = &packets[place];
         if packet.number > last {
             return None;
         }
@@ -79,10 +81,10 @@ fn find_head(packets: &VecDeque<HeldPacket>, last: u64) -> Option<u64>
 
 /// What is left of a row once its first packet has left; `packets` are those that are left. Looks for the next packet
 /// that begins a unit only where the one that has left did.
-pub(super) fn shorten(row: &Row, packets: &VecDeque<HeldPacket>) -> Option<Row>
+pub(super) fn shorten(row: &Row, packets: &Blocks<HeldPacket>) -> Option<Row>
     requires ends { row.now.first ≤ row.now.last }
-    requires head { IsHeadKept row.now (map held_of packets.now.items) }
-    ensures { result ≡ shortened row.now (map held_of packets.now.items) }
+    requires head { IsHeadKept row.now (map held_of (all_of packets.now)) }
+    ensures { result ≡ shortened row.now (map held_of (all_of packets.now)) }
 {
     if row.first == row.last {
         return None;

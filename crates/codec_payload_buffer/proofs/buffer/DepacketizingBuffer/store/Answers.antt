@@ -1,5 +1,6 @@
 use Rattle.std.proofs.Common.{List, rules, refl, ap, map, ◌≡◌, ◌∙◌, arith, sym, false, Bool}
 use Rattle.std.proofs.lemmas.List.{length-map}
+use Rattle.codec_payload_buffer.specs.Blocks.{all_of}
 use Rattle.codec_payload_buffer.specs.Buffer.{state_of}
 use Rattle.codec_payload_codec.specs.Depacketizers.{depacketizer_state_of, is_built_in_depacketizer}
 use Rattle.codec_payload_buffer.specs.Steps.{State, arrived, arrived_by, pushed, is_at_most}
@@ -17,14 +18,14 @@ use Rattle.codec_payload_buffer.proofs.buffer.DepacketizingBuffer.store.Goals.{t
 use Rattle.codec_payload_buffer.proofs.buffer.DepacketizingBuffer.store.Goals as goal
 
 pub note-requires-clause-rises : goal.note-requires-clause-rises
-note-requires-clause-rises g c = complete_frames_rise (map held_of c.self.inside.packets.items) c.reserve-2.new.self.items c.self.invariant.sound.rises
+note-requires-clause-rises g c = complete_frames_rise (map held_of (all_of c.self.inside.packets)) c.reserve-2.new.self.items c.self.invariant.sound.rises
     (c.reserve-2.ensures.items ∙ c.self.invariant.frames_are)
 
 pub evict-number-requires-clause-rises : goal.evict-number-requires-clause-rises
 evict-number-requires-clause-rises g c =
-    let items = c.self.inside.packets.items in
+    let items = (all_of c.self.inside.packets) in
     let hs = map held_of items in
-    let new = c.place_at.new.packets.items in
+    let new = (all_of c.place_at.new.packets) in
     let packet : Held = record { meta = c.args.meta; bytes = c.args.«data».items; head = c.is_partition_head-head.result; tail = c.is_partition_tail-tail.result } in
     let as_held : Packet → Held = λ p. record { meta = p.known; bytes = p.bytes.items; head = p.head; tail = p.tail } in
     let told : as_held c.in_ok-packet.packet ≡ packet = rw (c.in_ok-packet.ensures.known, c.in_ok-packet.ensures.bytes, c.in_ok-packet.ensures.head, c.in_ok-packet.ensures.tail) refl in
@@ -38,9 +39,9 @@ evict-number-requires-clause-rises g c =
 
 pub mend_first-requires : goal.mend_first-requires
 mend_first-requires g c =
-    let items = c.self.inside.packets.items in
+    let items = (all_of c.self.inside.packets) in
     let hs = map held_of items in
-    let new = c.place_at.new.packets.items in
+    let new = (all_of c.place_at.new.packets) in
     let packet : Held = record { meta = c.args.meta; bytes = c.args.«data».items; head = c.is_partition_head-head.result; tail = c.is_partition_tail-tail.result } in
     let as_held : Packet → Held = λ p. record { meta = p.known; bytes = p.bytes.items; head = p.head; tail = p.tail } in
     let told : as_held c.in_ok-packet.packet ≡ packet = rw (c.in_ok-packet.ensures.known, c.in_ok-packet.ensures.bytes, c.in_ok-packet.ensures.head, c.in_ok-packet.ensures.tail) refl in
@@ -53,15 +54,15 @@ mend_first-requires g c =
     let whole : c.row_with-row.result ≡ merged (row_of packet) (rows hs) = c.row_with-row.ensures
     ∙ ap (λ (r : Row). merged r (rows (map held_of c.reserve.new.self.items))) (c.row_of_packet.ensures ∙ ap row_of is)
     ∙ ap (λ (xs : List HeldPacket). merged (row_of packet) (rows (map held_of xs))) c.reserve.ensures.items in
-    let frames_are : c.note.new.complete_frames.items ≡ frames (map held_of new) = pushed_frames packet hs (map held_of new) c.row_with-row.result c.frame_of.result c.reserve-2.new.self.items
-    c.note.new.complete_frames.items c.self.invariant.sound.rises fresh (c.reserve-2.ensures.items ∙ c.self.invariant.frames_are) put whole c.frame_of.ensures c.note.ensures in
-    some_frames c.evict-number.result.1 (map held_of new) c.note.new.complete_frames.items _ c.note.new.complete_frames.ok.0 frames_are c.evict-number.ensures.some
+    let frames_are : (all_of c.note.new.complete_frames) ≡ frames (map held_of new) = pushed_frames packet hs (map held_of new) c.row_with-row.result c.frame_of.result c.reserve-2.new.self.items
+    (all_of c.note.new.complete_frames) c.self.invariant.sound.rises fresh (c.reserve-2.ensures.items ∙ c.self.invariant.frames_are) put whole c.frame_of.ensures c.note.ensures in
+    some_frames c.evict-number.result.1 (map held_of new) (all_of c.note.new.complete_frames) _ c.note.new.complete_frames.counted frames_are c.evict-number.ensures.some
 
 pub invariant_of-self-then-len-self : goal.invariant_of-self-then-len-self
 invariant_of-self-then-len-self g c =
-    let items = c.self.inside.packets.items in
+    let items = (all_of c.self.inside.packets) in
     let hs = map held_of items in
-    let new = c.place_at.new.packets.items in
+    let new = (all_of c.place_at.new.packets) in
     let packet : Held = record { meta = c.args.meta; bytes = c.args.«data».items; head = c.is_partition_head-head.result; tail = c.is_partition_tail-tail.result } in
     let as_held : Packet → Held = λ p. record { meta = p.known; bytes = p.bytes.items; head = p.head; tail = p.tail } in
     let told : as_held c.in_ok-packet.packet ≡ packet = rw (c.in_ok-packet.ensures.known, c.in_ok-packet.ensures.bytes, c.in_ok-packet.ensures.head, c.in_ok-packet.ensures.tail) refl in
@@ -74,8 +75,8 @@ invariant_of-self-then-len-self g c =
     let whole : c.row_with-row.result ≡ merged (row_of packet) (rows hs) = c.row_with-row.ensures
     ∙ ap (λ (r : Row). merged r (rows (map held_of c.reserve.new.self.items))) (c.row_of_packet.ensures ∙ ap row_of is)
     ∙ ap (λ (xs : List HeldPacket). merged (row_of packet) (rows (map held_of xs))) c.reserve.ensures.items in
-    let frames_are : c.note.new.complete_frames.items ≡ frames (map held_of new) = pushed_frames packet hs (map held_of new) c.row_with-row.result c.frame_of.result c.reserve-2.new.self.items
-    c.note.new.complete_frames.items c.self.invariant.sound.rises fresh (c.reserve-2.ensures.items ∙ c.self.invariant.frames_are) put whole c.frame_of.ensures c.note.ensures in
+    let frames_are : (all_of c.note.new.complete_frames) ≡ frames (map held_of new) = pushed_frames packet hs (map held_of new) c.row_with-row.result c.frame_of.result c.reserve-2.new.self.items
+    (all_of c.note.new.complete_frames) c.self.invariant.sound.rises fresh (c.reserve-2.ensures.items ∙ c.self.invariant.frames_are) put whole c.frame_of.ensures c.note.ensures in
     let out = lowest_out _ _ _ c.evict-number.ensures.lowest with.rises in
     record {
       sound = record { rises = out.rises; above = out.above; few = omega (arith, with.long, out.shorter, c.self.invariant.sound.few, length-map new held_of, length-map items held_of) };
@@ -87,9 +88,9 @@ invariant_of-self-then-len-self g c =
 
 pub invariant_of-self-else-len-self : goal.invariant_of-self-else-len-self
 invariant_of-self-else-len-self g c =
-    let items = c.self.inside.packets.items in
+    let items = (all_of c.self.inside.packets) in
     let hs = map held_of items in
-    let new = c.place_at.new.packets.items in
+    let new = (all_of c.place_at.new.packets) in
     let packet : Held = record { meta = c.args.meta; bytes = c.args.«data».items; head = c.is_partition_head-head.result; tail = c.is_partition_tail-tail.result } in
     let as_held : Packet → Held = λ p. record { meta = p.known; bytes = p.bytes.items; head = p.head; tail = p.tail } in
     let told : as_held c.in_ok-packet.packet ≡ packet = rw (c.in_ok-packet.ensures.known, c.in_ok-packet.ensures.bytes, c.in_ok-packet.ensures.head, c.in_ok-packet.ensures.tail) refl in
@@ -102,10 +103,10 @@ invariant_of-self-else-len-self g c =
     let whole : c.row_with-row.result ≡ merged (row_of packet) (rows hs) = c.row_with-row.ensures
     ∙ ap (λ (r : Row). merged r (rows (map held_of c.reserve.new.self.items))) (c.row_of_packet.ensures ∙ ap row_of is)
     ∙ ap (λ (xs : List HeldPacket). merged (row_of packet) (rows (map held_of xs))) c.reserve.ensures.items in
-    let frames_are : c.note.new.complete_frames.items ≡ frames (map held_of new) = pushed_frames packet hs (map held_of new) c.row_with-row.result c.frame_of.result c.reserve-2.new.self.items
-    c.note.new.complete_frames.items c.self.invariant.sound.rises fresh (c.reserve-2.ensures.items ∙ c.self.invariant.frames_are) put whole c.frame_of.ensures c.note.ensures in
+    let frames_are : (all_of c.note.new.complete_frames) ≡ frames (map held_of new) = pushed_frames packet hs (map held_of new) c.row_with-row.result c.frame_of.result c.reserve-2.new.self.items
+    (all_of c.note.new.complete_frames) c.self.invariant.sound.rises fresh (c.reserve-2.ensures.items ∙ c.self.invariant.frames_are) put whole c.frame_of.ensures c.note.ensures in
     record {
-      sound = record { rises = with.rises; above = with.above; few = omega (arith, c.if-len-self.false, c.len.ensures, length-map new held_of, c.place_at.new.packets.ok.0) };
+      sound = record { rises = with.rises; above = with.above; few = omega (arith, c.if-len-self.false, c.len.ensures, length-map new held_of, c.place_at.new.packets.counted) };
       least = c.self.invariant.least;
       most = c.self.invariant.most;
       told = c.place_at.ensures.told;
@@ -121,9 +122,9 @@ returns-then-is_at-clause-ok g c = (arrived c.args.self.now.depacketizer c.args.
 
 pub returns-clause-ok : goal.returns-clause-ok
 returns-clause-ok g c =
-    let items = c.self.inside.packets.items in
+    let items = (all_of c.self.inside.packets) in
     let hs = map held_of items in
-    let new = c.place_at.new.packets.items in
+    let new = (all_of c.place_at.new.packets) in
     let packet : Held = record { meta = c.args.meta; bytes = c.args.«data».items; head = c.is_partition_head-head.result; tail = c.is_partition_tail-tail.result } in
     let as_held : Packet → Held = λ p. record { meta = p.known; bytes = p.bytes.items; head = p.head; tail = p.tail } in
     let told : as_held c.in_ok-packet.packet ≡ packet = rw (c.in_ok-packet.ensures.known, c.in_ok-packet.ensures.bytes, c.in_ok-packet.ensures.head, c.in_ok-packet.ensures.tail) refl in
@@ -137,8 +138,8 @@ returns-clause-ok g c =
     let before = state_of c.self.inside in
     let whole : c.if-len-self.self ≡ pushed before packet = elim c.if-len-self.branch [
       | then-len-self w ↦ w.self-is ∙ sym (pushed_over before packet _ _ _ late fresh put
-          (omega (arith, w.if-len-self.true, c.len.ensures, length-map c.place_at.new.packets.items held_of)) w.evict-number.ensures.lowest)
-      | else-len-self w ↦ w.self-is ∙ sym (pushed_within before packet _ late fresh put (omega (arith, w.if-len-self.false, c.len.ensures, length-map c.place_at.new.packets.items held_of)))
+          (omega (arith, w.if-len-self.true, c.len.ensures, length-map (all_of c.place_at.new.packets) held_of)) w.evict-number.ensures.lowest)
+      | else-len-self w ↦ w.self-is ∙ sym (pushed_within before packet _ late fresh put (omega (arith, w.if-len-self.false, c.len.ensures, length-map (all_of c.place_at.new.packets) held_of)))
     ] in (
       packet,
       is_arrived c.args.self.now.depacketizer _ view c.args.meta c.args.«data».items _ _ c.deref.ensures.value c.deref-2.ensures.value _ _
@@ -161,9 +162,9 @@ returns-then-is_at-clause-own g c = λ other.
 
 pub returns-clause-own : goal.returns-clause-own
 returns-clause-own g c = λ other.
-    let items = c.self.inside.packets.items in
+    let items = (all_of c.self.inside.packets) in
     let hs = map held_of items in
-    let new = c.place_at.new.packets.items in
+    let new = (all_of c.place_at.new.packets) in
     let packet : Held = record { meta = c.args.meta; bytes = c.args.«data».items; head = c.is_partition_head-head.result; tail = c.is_partition_tail-tail.result } in
     let as_held : Packet → Held = λ p. record { meta = p.known; bytes = p.bytes.items; head = p.head; tail = p.tail } in
     let told : as_held c.in_ok-packet.packet ≡ packet = rw (c.in_ok-packet.ensures.known, c.in_ok-packet.ensures.bytes, c.in_ok-packet.ensures.head, c.in_ok-packet.ensures.tail) refl in
@@ -177,8 +178,8 @@ returns-clause-own g c = λ other.
     let before = state_of c.self.inside in
     let whole : c.if-len-self.self ≡ pushed before packet = elim c.if-len-self.branch [
       | then-len-self w ↦ w.self-is ∙ sym (pushed_over before packet _ _ _ late fresh put
-          (omega (arith, w.if-len-self.true, c.len.ensures, length-map c.place_at.new.packets.items held_of)) w.evict-number.ensures.lowest)
-      | else-len-self w ↦ w.self-is ∙ sym (pushed_within before packet _ late fresh put (omega (arith, w.if-len-self.false, c.len.ensures, length-map c.place_at.new.packets.items held_of)))
+          (omega (arith, w.if-len-self.true, c.len.ensures, length-map (all_of c.place_at.new.packets) held_of)) w.evict-number.ensures.lowest)
+      | else-len-self w ↦ w.self-is ∙ sym (pushed_within before packet _ late fresh put (omega (arith, w.if-len-self.false, c.len.ensures, length-map (all_of c.place_at.new.packets) held_of)))
     ] in
     let b = own_depacketizer c.self.inside.depacketizer (ap is_built_in_depacketizer view ∙ other) in
     let head : c.is_partition_head-head.result ≡ g.B.Depacketizer.is_head b.0 c.args.«data».items = rw (c.deref.ensures.value, b.1) at c.is_partition_head-head.ensures.step in

@@ -3,6 +3,7 @@ use Rattle.std.specs.Prelude.{slice_set}
 use Rattle.std.proofs.lemmas.List.{length-map}
 use Rattle.std.proofs.lemmas.Bool.Decides.{nat_tests}
 use Rattle.codec_payload_codec.proofs.CaseLemmas.{on_ok}
+use Rattle.codec_payload_buffer.specs.Blocks.{all_of}
 use Rattle.codec_payload_buffer.specs.Held.{Held, held_of, has_number, placed}
 use Rattle.codec_payload_buffer.specs.Scan.{place_of}
 use Rattle.codec_payload_buffer.specs.Rows.{row_of, rows, meet}
@@ -17,28 +18,28 @@ use Rattle.codec_payload_buffer.proofs.buffer.ends.join_previous.Goals as goal
 
 pub returns-then-place-eq0 : goal.returns-then-place-eq0
 returns-then-place-eq0 c =
-    let xs = c.args.packets.now.items in
+    let xs = (all_of c.args.packets.now) in
     sym (ap (behind c.args.row) (previous_past xs c.args.row.first c.requires.rises c.requires.told (omega (arith, c.requires.place, c.if-place-eq0.true))))
 
 pub index-entry-requires : goal.index-entry-requires
 index-entry-requires c =
-    let xs = c.args.packets.now.items in
-    omega (arith, c.if-place-eq0.false, c.requires.place, place_within c.args.row.first (map held_of xs), length-map xs held_of, c.args.packets.now.ok.0)
+    let xs = (all_of c.args.packets.now) in
+    omega (arith, c.if-place-eq0.false, c.requires.place, place_within c.args.row.first (map held_of xs), length-map xs held_of, c.args.packets.now.counted)
 
 pub returns-then-not-is_next : goal.returns-then-not-is_next
 returns-then-not-is_next c =
-    let xs = c.args.packets.now.items in
+    let xs = (all_of c.args.packets.now) in
     sym (ap (behind c.args.row) (previous_apart xs c.args.row.first (c.args.place - 1) c.index-entry.result.now c.requires.rises c.requires.told
     (omega (arith, c.requires.place, c.if-place-eq0.false)) c.index-entry.ensures (sym c.is_next.ensures ∙ c.if-not-is_next.true)))
 
 pub row_to-previous-requires : goal.row_to-previous-requires
 row_to-previous-requires c =
-    let xs = c.args.packets.now.items in
-    omega (arith, c.if-place-eq0.false, c.requires.place, place_within c.args.row.first (map held_of xs), length-map xs held_of, c.args.packets.now.ok.0)
+    let xs = (all_of c.args.packets.now) in
+    omega (arith, c.if-place-eq0.false, c.requires.place, place_within c.args.row.first (map held_of xs), length-map xs held_of, c.args.packets.now.counted)
 
 pub returns-then-meets : goal.returns-then-meets
 returns-then-meets c =
-    let xs = c.args.packets.now.items in
+    let xs = (all_of c.args.packets.now) in
     let n = c.args.row.first in
     let i = c.args.place - 1 in
     let x = c.index-entry.result.now in
@@ -53,7 +54,7 @@ returns-then-meets c =
 
 pub returns-else-meets : goal.returns-else-meets
 returns-else-meets c =
-    let xs = c.args.packets.now.items in
+    let xs = (all_of c.args.packets.now) in
     let n = c.args.row.first in
     let i = c.args.place - 1 in
     let x = c.index-entry.result.now in

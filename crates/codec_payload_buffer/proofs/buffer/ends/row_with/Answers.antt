@@ -3,6 +3,7 @@ use Rattle.std.specs.Prelude.{slice_set}
 use Rattle.std.proofs.lemmas.List.{length-map}
 use Rattle.std.proofs.lemmas.Bool.Decides.{nat_tests}
 use Rattle.codec_payload_codec.proofs.CaseLemmas.{on_ok}
+use Rattle.codec_payload_buffer.specs.Blocks.{all_of}
 use Rattle.codec_payload_buffer.specs.Held.{Held, held_of, has_number, placed}
 use Rattle.codec_payload_buffer.specs.Scan.{place_of}
 use Rattle.codec_payload_buffer.specs.Rows.{row_of, rows, meet}
@@ -16,7 +17,7 @@ use Rattle.codec_payload_buffer.proofs.buffer.ends.row_with.Goals as goal
 
 pub returns : goal.returns
 returns c =
-    let hs = map held_of c.args.packets.now.items in
+    let hs = map held_of (all_of c.args.packets.now) in
     let p = c.args.row in
     let o = next_of p.last (rows hs) in
     let fresh : has_number p.first hs ≡ false = ap (λ k. has_number k hs) c.requires.one ∙ c.requires.fresh in

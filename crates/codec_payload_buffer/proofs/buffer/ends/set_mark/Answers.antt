@@ -3,6 +3,7 @@ use Rattle.std.specs.Prelude.{slice_set}
 use Rattle.std.proofs.lemmas.List.{length-map}
 use Rattle.std.proofs.lemmas.Bool.Decides.{nat_tests}
 use Rattle.codec_payload_codec.proofs.CaseLemmas.{on_ok}
+use Rattle.codec_payload_buffer.specs.Blocks.{all_of}
 use Rattle.codec_payload_buffer.specs.Held.{Held, held_of, has_number, placed}
 use Rattle.codec_payload_buffer.specs.Scan.{place_of}
 use Rattle.codec_payload_buffer.specs.Rows.{row_of, rows, meet}
@@ -14,11 +15,11 @@ use Rattle.codec_payload_buffer.proofs.RowEnds.{held_set, marks_set, mark_there}
 use Rattle.codec_payload_buffer.proofs.buffer.ends.set_mark.Goals as goal
 
 pub returns-clause-held : goal.returns-clause-held
-returns-clause-held c = held_set c.args.packets.now.items c.args.place c.index_mut.result.now c.mark.new.entry c.index_mut.ensures.value c.mark.ensures.held
+returns-clause-held c = held_set (all_of c.args.packets.now) c.args.place c.index_mut.result.now c.mark.new.entry c.index_mut.ensures.value c.mark.ensures.held
 
 pub returns-clause-marks : goal.returns-clause-marks
 returns-clause-marks c =
-    let xs = c.args.packets.now.items in
-    let l : c.args.place < length xs = omega (arith, c.requires, c.args.packets.now.ok.0) in
+    let xs = (all_of c.args.packets.now) in
+    let l : c.args.place < length xs = omega (arith, c.requires, c.args.packets.now.counted) in
     marks_set xs c.args.place c.mark.new.entry
     ∙ ap (slice_set (map mark_of xs) c.args.place) (c.mark.ensures.mark ∙ ap (λ (m : Mark). marked m c.args.other_end c.args.row_head) (mark_there xs c.args.place c.index_mut.result.now l c.index_mut.ensures.value))
