@@ -1,6 +1,6 @@
 -- Lists in blocks: what stands where, and what a change of one block does to the whole.
-use Rattle.std.proofs.Common.{◌≡◌, ℕ, zero, suc, ◌<◌, ◌≤◌, ◌+◌, ◌-◌, ◌++◌, [], ◌∷◌, List, length, get_or, set, take, drop, map, refl, ap, sym, ◌∙◌, arith, true, false, ltb}
-use Rattle.std.proofs.lemmas.List.{append-nil, append_assoc, length-append, length-take-le, take-append-drop, take_more, take_more_set, take_all, take_at, drop-set-lt, get_or_at, get_or_append_left, get_or-append-add, get_or_default, drop_more, set-append_left, set-append_right, map-append, map-set}
+use Rattle.std.proofs.Common.{◌≡◌, ℕ, zero, suc, ◌<◌, ◌≤◌, ◌+◌, ◌-◌, ◌++◌, [], ◌∷◌, List, length, get_or, set, take, drop, map, refl, ap, sym, ◌∙◌, arith, true, false, ltb, add-one, min}
+use Rattle.std.proofs.lemmas.List.{append-nil, append_assoc, length-append, length-take, length-drop, length_push, length-take-le, take-append-drop, take_more, take_more_set, take_all, take_at, drop-set-lt, get_or_at, get_or_append_left, get_or-append-add, get_or_default, drop_more, set-append_left, set-append_right, map-append, map-set}
 use Rattle.std.proofs.lemmas.List.Concat.{flat_map-append}
 use Rattle.std.proofs.lemmas.List.Edits.{insert-append_left, insert-append_right}
 use Rattle.std.specs.List.{insert}
@@ -62,7 +62,7 @@ pub count_more : {X Q : Type 0} (items : Q → List X) (bs : List Q) (k : ℕ) (
 count_more {X} {Q} items bs k part l is = ap (λ (ys : List Q). length (flat items ys)) (take_more bs k part l)
     ∙ ap length (flat_map-append items (take k bs) (get_or bs k part ∷ []))
     ∙ length-append (flat items (take k bs)) (flat items (get_or bs k part ∷ []))
-    ∙ ap (λ (ys : List X). length (flat items (take k bs)) + length ys) (append-nil (get_or bs k part).items)
+    ∙ ap (λ (ys : List X). length (flat items (take k bs)) + length ys) (append-nil (items (get_or bs k part)))
     ∙ ap (λ (p : Q). length (flat items (take k bs)) + length (items p)) (sym is)
 
 -- and up to the end of the last one
@@ -83,12 +83,14 @@ cut_is {X} {Q} items old new k at c = c.whole
     ∙ append_assoc (take k old) (c.earlier ∷ []) (c.later ∷ drop (k + 1) old)
 
 pub cut_flat : {X Q : Type 0} (items : Q → List X) (old new : List Q) (k at : ℕ) (c : IsCut items old new k at) → flat items new ≡ flat items old
-cut_flat {X} {Q} items old new k at c = ap flat items (cut_is items old new k at c) ∙ flat_map-append items (take k old) (c.earlier ∷ c.later ∷ drop (k + 1) old)
+cut_flat {X} {Q} items old new k at c = ap (flat items) (cut_is items old new k at c) ∙ flat_map-append items (take k old) (c.earlier ∷ c.later ∷ drop (k + 1) old)
     ∙ ap (λ (ys : List X). flat items (take k old) ++ ys) (sym (append_assoc (items c.earlier) (items c.later) (flat items (drop (k + 1) old))))
     ∙ ap (λ (ys : List X). flat items (take k old) ++ (ys ++ flat items (drop (k + 1) old))) (both ∙ take-append-drop at (items c.part))
-    ∙ ap (λ j. flat items (take k old) ++ ((items c.part) ++ flat items (drop j old))) (omega arith)
+    ∙ next
     ∙ sym (split_at items old k c.part c.block_within c.is)
   where
+    next : flat items (take k old) ++ (items c.part ++ flat items (drop (k + 1) old)) ≡ flat items (take k old) ++ (items c.part ++ flat items (drop (suc k) old))
+    next = rw add-one refl
     both : (items c.earlier) ++ (items c.later) ≡ take at (items c.part) ++ drop at (items c.part)
     both = ap (λ (ys : List X). ys ++ (items c.later)) c.earlier_items ∙ ap (λ (ys : List X). take at (items c.part) ++ ys) c.later_items
 
@@ -118,3 +120,44 @@ pub block_left : {X Q : Type 0} (items : Q → List X) (bs : List Q) (k i place 
 block_left items bs k i place le at within = by_test (ltb k (length bs)) (λ b. ltb k (length bs) ≡ b → k < length bs)
     (λ t e. grind (arith, nat_tests, e))
     (λ t e. let past : length bs ≤ k = grind (arith, nat_tests, e) in let all = count_all items bs k past in absurd (omega (arith, all, at, within))) refl
+
+-- a block of which only the items from an index on are left apart
+
+-- where an item goes in once its block was cut
+pub cut_earlier : {X Q : Type 0} (items : Q → List X) (old new : List Q) (k at i place : ℕ) → IsCut items old new k at → IsSpot items old k i place → i < at → IsGap items new k i place
+cut_earlier {X} {Q} items old new k at i place c s l =
+    let is = cut_is items old new k at c in
+    let len : length (take k old) ≡ k = length-take-le k old (omega (arith, c.block_within)) in
+    let same : s.part ≡ c.part = s.is ∙ get_or_default old k s.part c.part c.block_within ∙ sym c.is in
+    let long : length (items c.earlier) ≡ min at (length (items c.part)) = ap length c.earlier_items ∙ length-take at (items c.part) in
+    let within : i < length (items c.part) = rw (sym same) s.index_within in
+    record {
+      part = c.earlier;
+      is = rw is (sym (get_or_at (take k old) c.earlier (c.later ∷ drop (k + 1) old) c.earlier k len));
+      block_within = rw is (omega (arith, length-append (take k old) (c.earlier ∷ c.later ∷ drop (k + 1) old), len));
+      index_within = omega (arith, long, within, l);
+      at = s.at ∙ ap (λ (ys : List Q). length (flat items ys) + i) (sym (ap (take k) is ∙ take_at (take k old) (c.earlier ∷ c.later ∷ drop (k + 1) old) k len));
+    }
+
+pub cut_later : {X Q : Type 0} (items : Q → List X) (old new : List Q) (k at i place : ℕ) → IsCut items old new k at → IsSpot items old k i place → at ≤ i → IsGap items new (k + 1) (i - at) place
+cut_later {X} {Q} items old new k at i place c s l =
+    let is = cut_is items old new k at c in
+    let front : new ≡ (take k old ++ (c.earlier ∷ [])) ++ (c.later ∷ drop (k + 1) old) = is ∙ sym (append_assoc (take k old) (c.earlier ∷ []) (c.later ∷ drop (k + 1) old)) in
+    let len : length (take k old) ≡ k = length-take-le k old (omega (arith, c.block_within)) in
+    let len_more : length (take k old ++ (c.earlier ∷ [])) ≡ k + 1 = length_push (take k old) c.earlier ∙ ap (λ n. n + 1) len in
+    let same : s.part ≡ c.part = s.is ∙ get_or_default old k s.part c.part c.block_within ∙ sym c.is in
+    let earlier_long : length (items c.earlier) ≡ min at (length (items c.part)) = ap length c.earlier_items ∙ length-take at (items c.part) in
+    let later_long : length (items c.later) ≡ length (items c.part) - at = ap length c.later_items ∙ length-drop at (items c.part) in
+    let within : i < length (items c.part) = rw (sym same) s.index_within in
+    let before : length (flat items (take (k + 1) new)) ≡ length (flat items (take k old)) + length (items c.earlier) =
+        ap (λ (ys : List Q). length (flat items ys)) (ap (take (k + 1)) front ∙ take_at (take k old ++ (c.earlier ∷ [])) (c.later ∷ drop (k + 1) old) (k + 1) len_more)
+        ∙ ap length (flat_map-append items (take k old) (c.earlier ∷ []))
+        ∙ length-append (flat items (take k old)) (flat items (c.earlier ∷ []))
+        ∙ ap (λ (ys : List X). length (flat items (take k old)) + length ys) (append-nil (items c.earlier)) in
+    record {
+      part = c.later;
+      is = rw front (sym (get_or_at (take k old ++ (c.earlier ∷ [])) c.later (drop (k + 1) old) c.later (k + 1) len_more));
+      block_within = rw front (omega (arith, length-append (take k old ++ (c.earlier ∷ [])) (c.later ∷ drop (k + 1) old), len_more));
+      index_within = omega (arith, later_long, within, l);
+      at = omega (arith, s.at, before, earlier_long, within, l);
+    }
