@@ -1,6 +1,6 @@
 -- Lists in blocks: what stands where, and what a change of one block does to the whole.
 use Rattle.std.proofs.Common.{◌≡◌, ℕ, zero, suc, ◌<◌, ◌≤◌, ◌+◌, ◌-◌, ◌++◌, [], ◌∷◌, List, length, get_or, set, take, drop, map, refl, ap, sym, ◌∙◌, arith, true, false, ltb, add-one, min}
-use Rattle.std.proofs.lemmas.List.{append-nil, append_assoc, length-append, length-take, length-drop, length_push, length-take-le, take-append-drop, take_more, take_more_set, take_all, take_at, drop-set-lt, get_or_at, get_or_append_left, get_or-append-add, get_or_default, drop_more, set-append_left, set-append_right, map-append, map-set}
+use Rattle.std.proofs.lemmas.List.{append-nil, append_assoc, length-append, length-take, length-drop, length_push, length-take-le, take-append-drop, take_more, take_more_set, take_all, take_at, drop-set-lt, get_or_at, get_or_append_left, get_or-append-add, get_or-set_same, length-set, take-set, get_or_default, drop_more, set-append_left, set-append_right, map-append, map-set}
 use Rattle.std.proofs.lemmas.List.Concat.{flat_map-append}
 use Rattle.std.proofs.lemmas.List.Edits.{insert-append_left, insert-append_right}
 use Rattle.std.specs.List.{insert}
@@ -161,3 +161,35 @@ cut_later {X} {Q} items old new k at i place c s l =
       index_within = omega (arith, later_long, within, l);
       at = omega (arith, s.at, before, earlier_long, within, l);
     }
+
+-- What is read twice is the same
+
+pub same_part : {Q : Type 0} (bs : List Q) (k : ℕ) (p q : Q) → k < length bs → p ≡ get_or bs k p → q ≡ get_or bs k q → p ≡ q
+same_part bs k p q l is also = is ∙ get_or_default bs k p q l ∙ sym also
+
+-- a block with the same items keeps its places
+pub gap_kept : {X Q : Type 0} (items : Q → List X) (bs : List Q) (k i place : ℕ) (part q : Q) → part ≡ get_or bs k part → items q ≡ items part → IsGap items bs k i place → IsGap items (set bs k q) k i place
+gap_kept {X} {Q} items bs k i place part q is e g = record {
+  part = q;
+  is = sym (get_or-set_same bs k q q g.block_within);
+  block_within = omega (arith, g.block_within, length-set bs k q);
+  index_within = let same : items q ≡ items g.part = e ∙ ap items (sym (same_part bs k g.part part g.block_within g.is is)) in rw same g.index_within;
+  at = g.at ∙ ap (λ (ys : List Q). length (flat items ys) + i) (sym (take-set bs k q));
+}
+
+pub gap_of_spot : {X Q : Type 0} (items : Q → List X) (bs : List Q) (k i place : ℕ) → IsSpot items bs k i place → IsGap items bs k i place
+gap_of_spot items bs k i place s = record { part = s.part; is = s.is; block_within = s.block_within; index_within = omega (arith, s.index_within); at = s.at }
+
+-- a block was cut once there was memory for one more block
+pub cut_after : {X Q : Type 0} (items : Q → List X) (old wide new : List Q) (k at : ℕ) (part earlier later : Q) {n : ℕ} → wide ≡ old → k < n → n ≡ length old → part ≡ get_or wide k part
+    → items earlier ≡ take at (items part) → items later ≡ drop at (items part) → new ≡ insert (set wide k earlier) (k + 1) later → IsCut items old new k at
+cut_after {X} {Q} items old wide new k at part earlier later same l count is first second put = record {
+  part = part;
+  is = is ∙ ap (λ (bs : List Q). get_or bs k part) same;
+  block_within = omega (arith, l, count);
+  earlier = earlier;
+  later = later;
+  earlier_items = first;
+  later_items = second;
+  whole = put ∙ ap (λ (bs : List Q). insert (set bs k earlier) (k + 1) later) same;
+}
