@@ -193,3 +193,11 @@ cut_after {X} {Q} items old wide new k at part earlier later same l count is fir
   later_items = second;
   whole = put ∙ ap (λ (bs : List Q). insert (set bs k earlier) (k + 1) later) same;
 }
+
+-- the last block was cut: its first items are a block before it
+pub cut_end : {X Q : Type 0} (items : Q → List X) (es : List Q) (earlier later part : Q) (at : ℕ) → items earlier ≡ take at (items part) → items later ≡ drop at (items part)
+    → flat items (es ++ (earlier ∷ [])) ++ items later ≡ flat items es ++ items part
+cut_end {X} {Q} items es earlier later part at first second =
+    ap (λ (ys : List X). ys ++ items later) (flat_map-append items es (earlier ∷ []) ∙ ap (λ (ys : List X). flat items es ++ ys) (append-nil (items earlier)))
+    ∙ append_assoc (flat items es) (items earlier) (items later)
+    ∙ ap (λ (ys : List X). flat items es ++ ys) (ap (λ (ys : List X). ys ++ items later) first ∙ ap (λ (ys : List X). take at (items part) ++ ys) second ∙ take-append-drop at (items part))
