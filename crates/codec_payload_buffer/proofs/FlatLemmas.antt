@@ -1,6 +1,6 @@
 -- Lists in blocks: what stands where, and what a change of one block does to the whole.
 use Rattle.std.proofs.Common.{◌≡◌, ℕ, zero, suc, ◌<◌, ◌≤◌, ◌+◌, ◌-◌, ◌++◌, [], ◌∷◌, List, length, get_or, set, take, drop, map, refl, ap, sym, ◌∙◌, arith, true, false, ltb, add-one, min}
-use Rattle.std.proofs.lemmas.List.{append-nil, append_assoc, length-append, length-take, length-drop, length_push, length-take-le, take-append-drop, take_more, take_more_set, take_all, take_at, drop-set-lt, get_or_at, get_or_append_left, get_or-append-add, get_or-set_same, length-set, take-set, get_or_default, drop_more, set-append_left, set-append_right, map-append, map-set}
+use Rattle.std.proofs.lemmas.List.{append-nil, append_assoc, length-append, nil_from_length, length-take, length-drop, length_push, length-take-le, take-append-drop, take_more, take_more_set, take_all, take_at, drop-set-lt, get_or_at, get_or_append_left, get_or-append-add, get_or-set_same, length-set, take-set, get_or_default, drop_more, set-append_left, set-append_right, map-append, map-set}
 use Rattle.std.proofs.lemmas.List.Concat.{flat_map-append}
 use Rattle.std.proofs.lemmas.List.Edits.{insert-append_left, insert-append_right}
 use Rattle.std.specs.List.{insert}
@@ -201,3 +201,18 @@ cut_end {X} {Q} items es earlier later part at first second =
     ap (λ (ys : List X). ys ++ items later) (flat_map-append items es (earlier ∷ []) ∙ ap (λ (ys : List X). flat items es ++ ys) (append-nil (items earlier)))
     ∙ append_assoc (flat items es) (items earlier) (items later)
     ∙ ap (λ (ys : List X). flat items es ++ ys) (ap (λ (ys : List X). ys ++ items later) first ∙ ap (λ (ys : List X). take at (items part) ++ ys) second ∙ take-append-drop at (items part))
+
+-- an empty first block leaves
+pub first_left : {X Q : Type 0} (items : Q → List X) (bs : List Q) (part q : Q) → 0 < length bs → part ≡ get_or bs 0 part → length (items part) ≡ 0 → flat items (drop 1 (set bs 0 q)) ≡ flat items bs
+first_left items [] part q l is none = absurd (omega arith)
+first_left {X} {Q} items (b ∷ bs) part q l is none = sym (ap (λ (xs : List X). xs ++ flat items bs) (nil_from_length (items b) (ap (λ (p : Q). length (items p)) (sym is) ∙ none)))
+
+-- an item more behind all earlier blocks, or in them
+pub insert_last : {X : Type 0} (front ps : List X) (i place : ℕ) (x : X) → place ≡ length front + i → i ≤ length ps → front ++ insert ps i x ≡ insert (front ++ ps) place x
+insert_last {X} front ps i place x at l = rw at (sym (insert-append_right front ps (length front) (length front + i) x refl (omega arith) ∙ ap (λ j. front ++ insert ps j x) (behind (length front) i)))
+
+pub gap_within : {X Q : Type 0} (items : Q → List X) (bs : List Q) (k i place : ℕ) → IsGap items bs k i place → place ≤ length (flat items bs)
+gap_within items bs k i place g = omega (arith, g.at, g.index_within, count_within items bs k g.part g.block_within g.is)
+
+pub spot_below : {X Q : Type 0} (items : Q → List X) (bs : List Q) (k i place : ℕ) → IsSpot items bs k i place → place < length (flat items bs)
+spot_below items bs k i place s = omega (arith, s.at, s.index_within, count_within items bs k s.part s.block_within s.is)

@@ -159,6 +159,7 @@ pub(super) fn take_first<T: Drop>(blocks: &mut VecDeque<VecDeque<T>>) -> Option<
 /// The first item of a block leaves, if there is one.
 fn take_in<T: Drop>(block: &mut VecDeque<T>) -> Option<T>
     ensures items { block.old.items ≡ option_to_list result ++ block.new.items }
+    ensures variant { IsSome result ↔ (0 < length block.old.items) }
 {
     block.pop_front()
 }
