@@ -11,10 +11,10 @@ returns g c =
     let spot = c.spot_of-spot.ensures in
     let k = c.spot_of-spot.result.block in
     let i = c.spot_of-spot.result.index in
-    let part = c.index.result.now in
-    let x = c.index-2.result.now in
-    let same : spot.part ≡ part = same_part es k spot.part part spot.block_within spot.is c.index.ensures in
+    let part = c.index-2.result.now in
+    let x = c.index-3.result.now in
+    let same : spot.part ≡ part = same_part es k spot.part part spot.block_within spot.is c.index-2.ensures in
     let within : i < length part.items = rw (sym same) spot.index_within in
-    flat_item deque_items es k i part x spot.block_within c.index.ensures within c.index-2.ensures
+    flat_item deque_items es k i part x spot.block_within c.index-2.ensures within c.index-3.ensures
     ∙ ap (λ n. get_or (flat deque_items es) n x) (sym spot.at)
     ∙ sym (get_or_append_left (flat deque_items es) c.args.self.now.last.items x c.args.index (spot_below deque_items es k i c.args.index spot))
